@@ -6,7 +6,6 @@ pub mod Framing
 pub mod Faults
 pub mod Reading
 pub mod Laws
-
 -- Private: what the functions behind these promise one another. Nothing outside the crate names them.
 pub mod Summary
 pub mod Steps
