@@ -1,1 +1,3 @@
 pub mod Chunked
+pub mod ChunkedPlace
+pub mod ChunkedScan

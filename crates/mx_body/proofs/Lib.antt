@@ -1,0 +1,5 @@
+pub mod ChunkedRun
+pub mod ChunkedSound
+pub mod ChunkedComplete
+pub mod ChunkedLemmas
+pub mod ChunkedSteps
