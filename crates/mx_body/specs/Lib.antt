@@ -1,0 +1,10 @@
+-- What the crate promises, in the order to read it.
+pub mod Chunked
+pub mod Response
+pub mod Causes
+pub mod Decision
+pub mod ChunkedScan
+
+-- Private: what the functions behind these promise one another.
+pub mod ChunkedPlace
+pub mod Steps

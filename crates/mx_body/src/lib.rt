@@ -1,6 +1,12 @@
 //! Bodies of responses: what the bytes of an exchange decide.
 #![tactic(auto)]
 
+pub mod chunked;
+mod heads;
 mod part;
+mod verdict;
+mod whole;
 
 pub use crate::part::Part;
+pub use crate::verdict::Verdict;
+pub use crate::whole::decode_whole;

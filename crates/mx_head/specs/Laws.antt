@@ -1,13 +1,12 @@
 -- Laws of the definitions. Each is the contract of a function of `laws`.
-use Rattle.std.specs.Prelude.{◌≡◌, ℕ, ◌≤◌, List, [], ◌++◌, length}
+use Rattle.std.specs.Prelude.{◌≡◌, ◌≢◌, ℕ, ◌≤◌, List, [], ◌++◌, length}
 use Rattle.httparse.specs.Grammar.{ResponseHead, print_response}
 use Rattle.mx_types.specs.declared.code.Code.{Code}
-use Rattle.mx_head.specs.declared.types.Head.{Head}
 use Rattle.mx_head.specs.declared.types.HeadStep.{HeadStep}
-use Rattle.mx_head.specs.declared.types.HeadStep.TheVariants.{Fault}
+use Rattle.mx_head.specs.declared.types.HeadStep.TheVariants.{More}
 use Rattle.mx_head.specs.Heads.{IsHead, ReadsHead}
 use Rattle.mx_head.specs.Faults.{HeadCause, head_code, head_line, MeetsAtHead, ComesFirst, MeetsNothing}
-use Rattle.mx_head.specs.Reading.{Describes, IsStepOn}
+use Rattle.mx_head.specs.Reading.{IsStepOn}
 
 -- causes of one line have one code
 abbrev pub HasOneCodePerLine : {Cause : Type 0} → (Cause → Code) → (Cause → ℕ) → Type 0
@@ -32,12 +31,19 @@ ShortestComesFirst code_of line_of Meets =
     (input p : List ℕ) (cause : _) → IsShortest line_of Meets input p cause
     → ComesFirst code_of line_of Meets input (code_of cause)
 
--- and a code that comes first is that of the shortest prefix's cause
+-- a code that comes first is that of the shortest prefix's cause
 abbrev pub FirstIsShortest
     : {Cause : Type 0} → (Cause → Code) → (Cause → ℕ) → (List ℕ → Cause → Type 0) → Type 0
 FirstIsShortest code_of line_of Meets =
     (input p : List ℕ) (cause : _) (code : Code) → IsShortest line_of Meets input p cause
     → ComesFirst code_of line_of Meets input code → code ≡ code_of cause
+
+-- where a code comes first, it can't be that there is no shortest prefix with a cause of that code
+abbrev pub FirstHasShortest
+    : {Cause : Type 0} → (Cause → Code) → (Cause → ℕ) → (List ℕ → Cause → Type 0) → Type 0
+FirstHasShortest code_of line_of Meets =
+    (input : List ℕ) (code : Code) → ComesFirst code_of line_of Meets input code
+    → ¬ ((p : List ℕ) (cause : _) → ¬ (IsShortest line_of Meets input p cause × (code ≡ code_of cause)))
 
 -- no two codes come first
 abbrev pub HasOneFirst
@@ -68,8 +74,7 @@ HeadMeetsNothing =
     (input : List ℕ) (h : ResponseHead) (rest : List ℕ) → ReadsHead input h rest
     → MeetsNothing MeetsAtHead input
 
--- a fault at a head stays the same whatever follows
-abbrev pub FaultStaysSame : Type 0
-FaultStaysSame =
-    (input more : List ℕ) (code : Code) → IsStepOn input (Fault code)
-    → IsStepOn (input ++ more) (Fault code)
+-- a head and a fault stay the same whatever follows
+abbrev pub StepStaysSame : Type 0
+StepStaysSame =
+    (input more : List ℕ) (s : HeadStep) → s ≢ More → IsStepOn input s → IsStepOn (input ++ more) s

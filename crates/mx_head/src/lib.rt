@@ -3,6 +3,7 @@
 
 mod elements;
 mod fields;
+pub mod laws;
 mod lines;
 mod reading;
 mod rules;

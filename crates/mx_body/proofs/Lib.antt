@@ -1,0 +1,9 @@
+pub mod ChunkedRun
+pub mod ChunkedSound
+pub mod ChunkedComplete
+pub mod ChunkedLemmas
+pub mod ChunkedSteps
+pub mod HeadsLemmas
+pub mod MeetsLemmas
+pub mod FirstBytesLemmas
+pub mod VerdictLemmas

@@ -1,0 +1,4 @@
+//! Chunked bodies (RFC 9112, section 7.1).
+
+pub mod place;
+pub mod scan;
