@@ -1,3 +1,4 @@
 pub mod Text
 pub mod Ends
 pub mod Reading
+pub mod Run

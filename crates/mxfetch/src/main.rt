@@ -1,6 +1,7 @@
 //! `mxfetch`: HTTP/1.1 responses, from bytes to bodies.
 #![tactic(auto)]
 
+mod body;
 mod command;
 mod input;
 mod output;
