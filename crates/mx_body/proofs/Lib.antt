@@ -3,3 +3,5 @@ pub mod ChunkedSound
 pub mod ChunkedComplete
 pub mod ChunkedLemmas
 pub mod ChunkedSteps
+pub mod ChunkedUnique
+pub mod ChunkedParts
