@@ -1,10 +1,11 @@
 -- How the reader of a chunked body goes over several bytes.
-use Rattle.std.proofs.Common.{◌≡◌, ℕ, suc, ◌-◌, ◌<◌, true, List, [], ◌∷◌, ◌++◌, length, get_or, take, refl, ap, ◌∙◌, arith}
+use Rattle.std.proofs.Common.{◌≡◌, ℕ, suc, ◌+◌, ◌-◌, ◌<◌, ◌≤◌, true, List, [], ◌∷◌, ◌++◌, length, get_or, take, refl, sym, ap, ◌∙◌, arith}
 use Rattle.std.proofs.lemmas.List.Sums.{fold-append}
+use Rattle.std.proofs.lemmas.List.{append_assoc, append-nil}
 use Rattle.std.proofs.lemmas.Bool.Decides.{nat_tests}
 use Rattle.mx_body.specs.declared.chunked.place.Place.{Place}
 use Rattle.mx_body.specs.declared.chunked.place.Place.TheVariants.{Start, Size, Extension, SizeLf, Data, DataCr, DataLf, TrailerStart, Trailer, TrailerLf, EndLf, Done, Bad, TooLarge}
-use Rattle.mx_body.specs.ChunkedPlace.{next_place, place_after, is_settled}
+use Rattle.mx_body.specs.ChunkedPlace.{next_place, place_after, is_settled, begun, parts_begun}
 
 module _ (limit : ℕ) where
   pub place_after-nil : (place : Place) → place_after limit place [] ≡ place
@@ -23,7 +24,7 @@ module _ (limit : ℕ) where
   pub by_byte : (place next : Place) (b : ℕ) (bytes : List ℕ) → next_place limit place b ≡ next → place_after limit place (b ∷ bytes) ≡ place_after limit next bytes
   by_byte place next b bytes e = place_after-cons place b bytes ∙ ap (λ p. place_after limit p bytes) e
 
-  data_more : (left b : ℕ) → 1 < left → next_place limit (Data left) b ≡ Data (left - 1)
+  pub data_more : (left b : ℕ) → 1 < left → next_place limit (Data left) b ≡ Data (left - 1)
   data_more left b more = grind (arith, nat_tests)
 
   data_last : (left b : ℕ) → left ≡ 1 → next_place limit (Data left) b ≡ DataCr
@@ -81,3 +82,41 @@ module _ (limit : ℕ) where
   unfolding place_after
   first_byte place [] some = absurd (omega arith)
   first_byte place (b ∷ xs) some = refl
+
+  -- the parts that no byte, a byte and what is behind it, and two texts begin
+  pub parts_begun-nil : (place : Place) (at : ℕ) → parts_begun limit place at [] ≡ []
+  unfolding parts_begun
+  parts_begun-nil place at = refl
+
+  pub parts_begun-cons : (place : Place) (at b : ℕ) (bytes : List ℕ)
+      → parts_begun limit place at (b ∷ bytes) ≡ begun place (next_place limit place b) (at + 1) ++ parts_begun limit (next_place limit place b) (at + 1) bytes
+  unfolding parts_begun
+  parts_begun-cons place at b bytes = refl
+
+  pub parts_begun-append : (place : Place) (at : ℕ) (xs ys : List ℕ)
+      → parts_begun limit place at (xs ++ ys) ≡ parts_begun limit place at xs ++ parts_begun limit (place_after limit place xs) (at + length xs) ys
+  unfolding parts_begun place_after
+  parts_begun-append place at [] ys =
+      let same : at ≡ at + 0 = omega arith in
+      ap (λ n. parts_begun limit place n ys) same
+  parts_begun-append place at (b ∷ xs) ys =
+      let next = next_place limit place b in
+      let same : at + 1 + length xs ≡ at + suc (length xs) = omega arith in
+      ap (λ ps. begun place next (at + 1) ++ ps) (parts_begun-append next (at + 1) xs ys ∙ ap (λ n. parts_begun limit next (at + 1) xs ++ parts_begun limit (place_after limit next xs) n ys) same)
+      ∙ sym (append_assoc (begun place next (at + 1)) _ _)
+
+  -- data begins no part
+  pub data_begins_none : (xs : List ℕ) (left at : ℕ) → length xs ≤ left → parts_begun limit (Data left) at xs ≡ []
+  data_begins_none [] left at fits = parts_begun-nil (Data left) at
+  data_begins_none (b ∷ []) left at fits = parts_begun-cons (Data left) at b [] ∙ parts_begun-nil _ (at + 1)
+  data_begins_none (b ∷ d ∷ xs) left at fits =
+      parts_begun-cons (Data left) at b (d ∷ xs)
+      ∙ ap (λ p. parts_begun limit p (at + 1) (d ∷ xs)) (data_more left b (omega arith))
+      ∙ data_begins_none (d ∷ xs) (left - 1) (at + 1) (omega arith)
+
+  -- what the first byte begins
+  pub first_begins : (place : Place) (at : ℕ) (xs : List ℕ) → 0 < length xs → parts_begun limit place at (take 1 xs) ≡ begun place (next_place limit place (get_or xs 0 0)) (at + 1)
+  first_begins place at [] some = absurd (omega arith)
+  first_begins place at (b ∷ xs) some =
+      let next = next_place limit place b in
+      parts_begun-cons place at b [] ∙ ap (λ ps. begun place next (at + 1) ++ ps) (parts_begun-nil next (at + 1)) ∙ append-nil (begun place next (at + 1))

@@ -15,7 +15,7 @@ use Rattle.mx_body.specs.declared.chunked.place.Place.{Place}
 use Rattle.mx_body.specs.declared.chunked.place.Place.TheVariants.{Start, Size, Extension, SizeLf, Data, DataCr, DataLf, TrailerStart, Trailer, TrailerLf, EndLf, Done, Bad, TooLarge}
 use Rattle.mx_body.specs.Chunked.{is_line_byte, IsChunkSize, IsChunkExtension, SizeLine, print_size_line, chunk_size, IsSizeLine, Chunk, print_chunk, IsChunk, IsTrailer, ChunkedBody, print_chunks, print_chunked, IsChunkedBody, HasSizes, chunk_parts, EndsInLargeSize}
 use Rattle.mx_body.specs.ChunkedPlace.{sized, after_digits, in_line, expect, after_line, next_place, place_after, is_settled, begun, parts_begun}
-use Rattle.mx_body.proofs.ChunkedRun.{place_after-nil, place_after-cons, bad_stays, too_large_stays, done_ends}
+use Rattle.mx_body.proofs.ChunkedRun.{parts_begun-nil, parts_begun-cons, place_after-nil, place_after-cons, bad_stays, too_large_stays, done_ends}
 
 -- a part of so many bytes at an offset
 abbrev pub part_at : ℕ → ℕ → Part
@@ -369,16 +369,7 @@ module _ (limit at : ℕ) where
     reads_byte Bad live h = cc
     reads_byte TooLarge live h = cc
 
-  -- the parts begun by the byte and by those behind it
-  parts_begun-cons : (place : Place) (n b : ℕ) (bs : List ℕ) → parts_begun limit place n (b ∷ bs) ≡ begun place (next_place limit place b) (n + 1) ++ parts_begun limit (next_place limit place b) (n + 1) bs
-  unfolding parts_begun
-  parts_begun-cons place n b bs = refl
-
-  parts_begun-nil : (place : Place) (n : ℕ) → parts_begun limit place n [] ≡ []
-  unfolding parts_begun
-  parts_begun-nil place n = refl
-
-  -- the two ways to take a byte off the front of what is still to come
+  -- a byte taken off the front of what is still to come
   module _ (place : Place) (b : ℕ) (front bs : List ℕ) (parts : List Part) where
     abbrev next : Place
     next = next_place limit place b
@@ -391,14 +382,14 @@ module _ (limit at : ℕ) where
         let offset : at + length (front ++ b ∷ []) ≡ at + length front + 1 = omega (arith, length_push front b) in
         append_assoc parts _ _
         ∙ ap (λ n. parts ++ (begun place next (at + length front + 1) ++ parts_begun limit next n bs)) offset
-        ∙ ap (λ ps. parts ++ ps) (sym (parts_begun-cons place (at + length front) b bs))
+        ∙ ap (λ ps. parts ++ ps) (sym (parts_begun-cons limit place (at + length front) b bs))
 
   -- the same of equal places, bytes and parts
   moved : (p q : Place) (xs ys : List ℕ) (ps qs : List Part) → p ≡ q → xs ≡ ys → ps ≡ qs → Reads p xs ps → Reads q ys qs
   moved p q xs ys ps qs e f g h = subst (λ p. Reads p ys qs) e (subst (λ t. Reads p t qs) f (subst (λ ps. Reads p xs ps) g h))
 
   after_done : (bs xs : List ℕ) (ps : List Part) → IsRead xs ps → Reads (place_after limit Done bs) (xs ++ bs) (ps ++ parts_begun limit Done (at + length xs) bs)
-  after_done [] xs ps h = moved Done _ xs _ ps _ (sym (place_after-nil limit Done)) (sym (append-nil xs)) (sym (ap (λ qs. ps ++ qs) (parts_begun-nil Done (at + length xs)) ∙ append-nil ps)) h
+  after_done [] xs ps h = moved Done _ xs _ ps _ (sym (place_after-nil limit Done)) (sym (append-nil xs)) (sym (ap (λ qs. ps ++ qs) (parts_begun-nil limit Done (at + length xs)) ∙ append-nil ps)) h
   after_done (b ∷ bs) xs ps h = moved Bad _ (xs ++ b ∷ bs) _ (ps ++ parts_begun limit Done (at + length xs) (b ∷ bs)) _ (sym (done_ends limit b bs)) refl refl tt
 
   -- what some bytes are, unless a size among them is over the limit
@@ -407,7 +398,7 @@ module _ (limit at : ℕ) where
       → Reads (place_after limit place bs) (front ++ bs) (parts ++ parts_begun limit place (at + length front) bs)
   reads_on [] front place parts live h small =
       moved place _ front _ parts _ (sym (place_after-nil limit place)) (sym (append-nil front))
-      (sym (ap (λ ps. parts ++ ps) (parts_begun-nil place (at + length front)) ∙ append-nil parts)) h
+      (sym (ap (λ ps. parts ++ ps) (parts_begun-nil limit place (at + length front)) ∙ append-nil parts)) h
   reads_on (b ∷ bs) front place parts live h small =
       let n = next_place limit place b in
       let one = reads_byte b front parts place live h in

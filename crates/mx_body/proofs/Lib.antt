@@ -3,7 +3,12 @@ pub mod ChunkedSound
 pub mod ChunkedComplete
 pub mod ChunkedLemmas
 pub mod ChunkedSteps
+pub mod ChunkedUnique
+pub mod ChunkedParts
 pub mod HeadsLemmas
 pub mod MeetsLemmas
 pub mod FirstBytesLemmas
 pub mod VerdictLemmas
+pub mod ResponseLemmas
+pub mod ContentLemmas
+pub mod LawLemmas

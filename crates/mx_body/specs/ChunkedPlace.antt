@@ -59,6 +59,11 @@ is_settled Bad = true
 is_settled TooLarge = true
 is_settled _ = false
 
+-- how many bytes of data are still to come
+abbrev pub data_left : Place → ℕ
+data_left (Data left) = left
+data_left _ = 0
+
 -- the part that a byte begins, by the places before and after it, where `at` is the offset behind it
 abbrev pub begun : Place → Place → ℕ → List Part
 begun (SizeLf size) (Data left) at = record { start = at; end = at + left } ∷ []

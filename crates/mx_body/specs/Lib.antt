@@ -3,6 +3,7 @@ pub mod Chunked
 pub mod Response
 pub mod Causes
 pub mod Decision
+pub mod Laws
 pub mod ChunkedScan
 
 -- Private: what the functions behind these promise one another.

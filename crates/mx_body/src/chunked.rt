@@ -1,4 +1,5 @@
 //! Chunked bodies (RFC 9112, section 7.1).
 
+pub mod parts;
 pub mod place;
 pub mod scan;

@@ -3,6 +3,7 @@
 
 pub mod chunked;
 mod heads;
+pub mod laws;
 mod part;
 mod verdict;
 mod whole;

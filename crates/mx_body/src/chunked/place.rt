@@ -1,7 +1,7 @@
 //! A reader of a chunked body that takes a byte at a time, or a run of data at once. It keeps no bytes.
 
-ghost use Rattle.std.specs.Prelude.{◌≡◌, ◌<◌, ◌≤◌, ◌⊎◌, ◌↔◌, IsTrue, length, take, true, false};
-ghost use Rattle.mx_body.specs.ChunkedPlace.{sized, after_digits, in_line, expect, after_line, next_place, place_after, is_settled};
+ghost use Rattle.std.specs.Prelude.{◌≡◌, ℕ, ◌+◌, ◌<◌, ◌≤◌, length, take, true};
+ghost use Rattle.mx_body.specs.ChunkedPlace.{sized, after_digits, in_line, expect, after_line, next_place, place_after, is_settled, begun, parts_begun};
 
 use httparse::parse_hex_digit;
 
@@ -127,6 +127,9 @@ impl Place {
         ensures moved { 0 < result.1 }
         ensures within { result.1 ≤ length input.now }
         ensures place { result.0 ≡ place_after limit self (take result.1 input.now) }
+        // a part can begin only with the last of these bytes
+        ensures part { (at : ℕ) → parts_begun limit self at (take result.1 input.now)
+            ≡ begun self result.0 (at + result.1) }
         // what settles the bytes is one byte, so that nothing was settled before it
         ensures by_one_byte { is_settled result.0 ≡ true → result.1 ≡ 1 }
     {
