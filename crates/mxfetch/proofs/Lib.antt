@@ -1,1 +1,3 @@
+mod PartsLemmas
 mod ReadingLemmas
+mod RunLemmas

@@ -1,12 +1,15 @@
 -- What `body` prints: the text of the verdict on what was read.
-use Rattle.std.specs.Prelude.{◌≡◌, ℕ, ◌-◌, ◌≤◌, true, List, [], ◌++◌, length, Option}
+use Rattle.std.specs.Prelude.{◌≡◌, ℕ, ◌-◌, ◌≤◌, ◌⊎◌, true, List, [], ◌++◌, length, Option, IfSome}
 use Rattle.std.specs.Io.KnownBytes.{Appends}
 use Rattle.mx_types.specs.Code.{code_number}
+use Rattle.mx_types.specs.declared.code.Code.TheVariants as codes
 use Rattle.mx_types.specs.declared.method.Method.{Method}
 use Rattle.mx_body.specs.declared.verdict.Verdict.{Verdict}
 use Rattle.mx_body.specs.declared.verdict.Verdict.TheVariants as verdict
 use Rattle.mx_body.specs.Decision.{IsVerdict}
 use Rattle.mx_body.specs.Laws.{ArePartsWithin, ContentIs, joined}
+use Rattle.mx_head.specs.Limits.{most_bytes}
+use Rattle.mxfetch.specs.Reading.{bytes_read}
 use Rattle.mxfetch.specs.Text.{response_line, fault_line}
 
 -- the text of a verdict on that input: a line and the body, or the line of a fault
@@ -41,3 +44,13 @@ abbrev pub FitsIn : List ℕ → Verdict → Type 0
 FitsIn input (verdict.Complete status len parts keep) = ArePartsWithin 0 len parts.items × (len ≤ length input)
 FitsIn input verdict.More = ⊥
 FitsIn input (verdict.Fault code) = Unit {0}
+
+-- what was read of the bytes that the input had, where they are known: all, or one more than a response has
+abbrev pub IsRead : Option (List ℕ) → List ℕ → Type 0
+IsRead known bytes = IfSome known (λ input. bytes ≡ bytes_read most_bytes input)
+
+-- The verdict on what was read is printed, or the want of memory.
+abbrev pub AnswersRead : Method → Option (List ℕ) → Option (List ℕ) → Option (List ℕ) → ℕ → Type 0
+AnswersRead m known old new ends_with =
+    PrintsFault (code_number codes.OutOfMemory) old new ends_with
+    ⊎ ((bytes : List ℕ) × IsRead known bytes × PrintsVerdict m bytes old new ends_with)

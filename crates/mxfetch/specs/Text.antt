@@ -1,5 +1,6 @@
-use Rattle.std.specs.Prelude.{ℕ, ◌-◌, Bool, List, [], ◌∷◌, ◌++◌, length, replicate, codes, if◌then◌else◌}
+use Rattle.std.specs.Prelude.{ℕ, ◌≤◌, ◌-◌, Bool, List, [], ◌∷◌, ◌++◌, length, replicate, codes, if◌then◌else◌}
 use Rattle.std.specs.Fmt.{decimal}
+use Rattle.mx_body.specs.declared.part.Part.{Part}
 
 -- a status in three digits
 abbrev pub three_digits : ℕ → List ℕ
@@ -18,3 +19,11 @@ response_line status body keep left =
 -- the line of a fault
 abbrev pub fault_line : ℕ → List ℕ
 fault_line number = codes "FAULT " ++ (decimal number ++ 10 ∷ [])
+
+-- the piece stands within n bytes
+abbrev pub StandsWithin : ℕ → Part → Type 0
+StandsWithin n part = (part.start ≤ part.end) × (part.end ≤ n)
+
+-- how many bytes it has
+abbrev pub part_len : Part → ℕ
+part_len part = part.end - part.start

@@ -13,7 +13,8 @@ pub enum Task {
 
 static METHODS: [&str; 6] = ["GET", "HEAD", "POST", "PUT", "DELETE", "OPTIONS"];
 
-const BODY: &str = "Decode one HTTP/1.1 response that stands whole on standard input, as the answer to a \
+const BODY: &str =
+    "Decode one HTTP/1.1 response that stands whole on standard input, as the answer to a \
 request of METHOD. A whole response prints `OK status=S body=B keep=K left=R` and then its B bytes of body: K says \
 whether the connection may be kept, R how many bytes stand behind the response. Anything else prints `FAULT C`, \
 where C is the number of a CURLcode.";

@@ -6,35 +6,34 @@ mod command;
 mod input;
 mod output;
 mod reading;
+#[cfg(test)]
+mod tests;
 mod text;
 
+use crate::body::{MOST_READS, UNWRITTEN, run_body};
 use crate::command::{Task, read_command};
+use crate::input::Input;
 use crate::output::Output;
 use crate::text::print_fault;
 use clap::Error;
 use clap::error::ErrorKind;
-use mx_types::Code;
-use std::alloc::Global;
-use std::env;
-use std::io;
+use mx_types::{Code, Method};
+use std::io::BufWriter;
 use std::process::ExitCode;
+use std::{env, io};
 
 /// The exit status of a command line that is refused.
 const REFUSED: u8 = 120;
 
-/// The exit status where the output couldn't be written.
-const UNWRITTEN: u8 = 121;
-
 /// Prints the want of memory, which takes none.
 fn out_of_memory(rt: &impl Print) -> u8 {
-    let mut output = Output::new(io::writer(rt));
-    match print_fault(&mut output, Code::OutOfMemory.number()) {
+    match print_fault(&mut Output::new(io::writer(rt)), Code::OutOfMemory.number()) {
         Ok(()) => Code::OutOfMemory.number() as u8,
         Err(_) => UNWRITTEN,
     }
 }
 
-/// Prints what clap has to say, and answers the exit status.
+/// Prints what clap has to say: help and the version on standard output, a refusal on standard error.
 fn explain(rt: &(impl Print + Eprint), error: &Error) -> u8 {
     if error.kind() == ErrorKind::OutOfMemory {
         return out_of_memory(rt);
@@ -49,13 +48,22 @@ fn explain(rt: &(impl Print + Eprint), error: &Error) -> u8 {
     }
 }
 
+/// Runs `body` from standard input to standard output.
+fn decode_stdin<R: io::Input + Print + AllocGlobal>(rt: &R, method: Method) -> u8 {
+    let mut input = Input::new(rt.reader(), MOST_READS);
+    match BufWriter::new(rt.alloc(), io::writer(rt)) {
+        Ok(writer) => run_body(rt.alloc(), method, &mut input, &mut Output::new(writer)),
+        Err(_) => out_of_memory(rt),
+    }
+}
+
 fn main(rt: HostRuntime) -> ExitCode {
     let words: Vec<String> = match env::args(&rt).and_then(|words| Ok(words.collect(rt.alloc())?)) {
         Ok(words) => words,
         Err(_) => return ExitCode::from(out_of_memory(&rt)),
     };
-    match read_command(rt.alloc(), words.as_slice()) {
-        Ok(Task::Body(_method)) => ExitCode::from(0),
-        Err(error) => ExitCode::from(explain(&rt, &error)),
-    }
+    ExitCode::from(match read_command(rt.alloc(), words.as_slice()) {
+        Ok(Task::Body(method)) => decode_stdin(&rt, method),
+        Err(error) => explain(&rt, &error),
+    })
 }

@@ -1,9 +1,9 @@
 //! The lines that are printed.
-ghost use Rattle.std.specs.Prelude.{◌≡◌, true, IsErr, OnOk, ◌↔◌, length};
+ghost use Rattle.std.specs.Prelude.{◌≡◌, true, IsErr, OnOk, ◌↔◌, All, length};
 ghost use Rattle.std.specs.Io.KnownBytes.{Appends};
 ghost use Rattle.mxfetch.specs.Ends.{writer_of, has_failed_write};
-ghost use Rattle.mxfetch.specs.Text.{response_line, fault_line, yes_or_no};
-ghost use Rattle.mx_body.specs.Laws.{joined, ArePartsWithin};
+ghost use Rattle.mxfetch.specs.Text.{response_line, fault_line, yes_or_no, StandsWithin};
+ghost use Rattle.mx_body.specs.Laws.{joined};
 
 use crate::output::{Output, WriteFailed};
 use mx_body::Part;
@@ -46,7 +46,7 @@ pub fn print_parts<W: Write>(
     input: &[u8],
     parts: &[Part],
 ) -> Result<(), WriteFailed>
-    requires { ArePartsWithin 0 (length input.now) parts.now }
+    requires { All (StandsWithin (length input.now)) parts.now }
     ensures bytes { OnOk result (Appends (W.contents (writer_of output.old)) (W.contents (writer_of output.new))
         (joined input.now parts.now)) }
     ensures failed { IsErr result → has_failed_write output.new ≡ true }

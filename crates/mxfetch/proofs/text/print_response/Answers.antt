@@ -16,6 +16,6 @@ unfolding response_line
 returns-clause-bytes g c =
     let status = c.args.status in
     let styled : styled_decimal c.laid_out.result status ≡ three_digits status =
-        subst (λ spec. styled_decimal spec status ≡ three_digits status) (sym c.laid_out.ensures)
-        (padded_three (decimal status)) in
+    subst (λ spec. styled_decimal spec status ≡ three_digits status) (sym c.laid_out.ensures)
+    (padded_three (decimal status)) in
     rw (← c.yes_or_no-keep.ensures, ← styled) c.print.ensures.bytes
