@@ -22,6 +22,12 @@ fn prints(rt: &impl Abort, alloc: Global, method: Method, input: &[u8], status: 
     assert!(rt; written.as_slice() == output);
 }
 
+fn joined(alloc: Global, front: &[u8], rest: &[u8]) -> Result<Vec<u8>, Fail> {
+    let mut bytes = front.to_vec(alloc)?;
+    bytes.extend_from_slice(rest)?;
+    Ok(bytes)
+}
+
 /// A response head with so many field lines, and then the end.
 fn with_fields(alloc: Global, count: usize, end: &[u8]) -> Result<Vec<u8>, Fail> {
     let mut bytes = b"HTTP/1.1 200 OK\r\n".to_vec(alloc)?;
@@ -91,6 +97,52 @@ fn bodies_that_the_end_ends(rt: HostRuntime) -> Result<(), Fail> {
 }
 
 #[test]
+fn chunked_bodies(rt: HostRuntime) -> Result<(), Fail> {
+    let alloc = rt.alloc();
+    let answer = b"OK status=200 body=5 keep=yes left=0\nhello";
+    let head = b"HTTP/1.1 200 OK\r\nTransfer-Encoding: chunked\r\n\r\n".as_slice();
+    let whole = joined(alloc, head, b"5;x=y\r\nhello\r\n0\r\nA: b\r\n\r\n")?;
+    prints(&rt, alloc, Method::Get, &whole, 0, answer);
+    let sized = b"HTTP/1.1 200 OK\r\nTransfer-Encoding: chunked\r\nContent-Length: 3\r\n\r\n\
+        5\r\nhello\r\n0\r\n\r\n";
+    let not_kept = b"OK status=200 body=5 keep=no left=0\nhello";
+    prints(&rt, alloc, Method::Get, sized, 0, not_kept);
+    let large = joined(alloc, head, b"FFFFFFFFFFFFFFFFF\r\n")?;
+    prints(&rt, alloc, Method::Get, &large, 63, b"FAULT 63\n");
+    let unended = joined(alloc, head, b"5\r\nhelloX")?;
+    prints(&rt, alloc, Method::Get, &unended, 56, b"FAULT 56\n");
+    let bare = joined(alloc, head, b"5\nhello")?;
+    prints(&rt, alloc, Method::Get, &bare, 56, b"FAULT 56\n");
+    let fits = joined(alloc, head, b"4000000\r\n")?;
+    prints(&rt, alloc, Method::Get, &fits, 18, b"FAULT 18\n");
+    let over = joined(alloc, head, b"4000001\r\n")?;
+    prints(&rt, alloc, Method::Get, &over, 63, b"FAULT 63\n");
+    let two = joined(alloc, head, b"2\r\nhe\r\n3\r\nllo\r\n0\r\n\r\nHTTP")?;
+    prints(&rt, alloc, Method::Get, &two, 0, b"OK status=200 body=5 keep=yes left=4\nhello");
+    Ok(())
+}
+
+#[test]
+fn interim_heads(rt: HostRuntime) -> Result<(), Fail> {
+    let alloc = rt.alloc();
+    let hints = b"HTTP/1.1 103 Early Hints\r\n\r\nHTTP/1.1 204 No Content\r\n\r\n";
+    prints(&rt, alloc, Method::Get, hints, 0, b"OK status=204 body=0 keep=yes left=0\n");
+    let switching = b"HTTP/1.1 101 Switching Protocols\r\n\r\n";
+    prints(&rt, alloc, Method::Get, switching, 8, b"FAULT 8\n");
+    let mut many = Vec::new(alloc);
+    for _ in 0..16 {
+        many.extend_from_slice(b"HTTP/1.1 103 Early Hints\r\n\r\n")?;
+    }
+    let whole = b"HTTP/1.1 200 OK\r\nContent-Length: 5\r\n\r\nhello";
+    let sixteen = joined(alloc, &many, whole)?;
+    prints(&rt, alloc, Method::Get, &sixteen, 0, b"OK status=200 body=5 keep=yes left=0\nhello");
+    many.extend_from_slice(b"HTTP/1.1 103 Early Hints\r\n\r\n")?;
+    let seventeen = joined(alloc, &many, whole)?;
+    prints(&rt, alloc, Method::Get, &seventeen, 8, b"FAULT 8\n");
+    Ok(())
+}
+
+#[test]
 fn refused_heads(rt: HostRuntime) -> Result<(), Fail> {
     let alloc = rt.alloc();
     prints(&rt, alloc, Method::Get, b"", 52, b"FAULT 52\n");
@@ -108,7 +160,7 @@ fn refused_heads(rt: HostRuntime) -> Result<(), Fail> {
     Ok(())
 }
 
-/// What nginx 1.22 and Python's `http.server` sent on loopback: with a length, and until the end.
+/// What nginx 1.22 and Python's `http.server` sent on loopback: with a length, until the end, and in chunks.
 #[test]
 fn captures_of_real_servers(rt: HostRuntime) {
     let alloc = rt.alloc();
@@ -135,6 +187,10 @@ fn captures_of_real_servers(rt: HostRuntime) {
         0,
         b"OK status=200 body=11 keep=no left=0\ntime: none\n",
     );
+    let chunks = b"HTTP/1.1 200 OK\r\nServer: nginx/1.22.1\r\nDate: Sun, 22 Nov 2026 08:49:55 GMT\r\n\
+        Content-Type: text/html\r\nTransfer-Encoding: chunked\r\nConnection: close\r\n\r\n\
+        b\r\ntime: none\n\r\n0\r\n\r\n";
+    prints(&rt, alloc, Method::Get, chunks, 0, b"OK status=200 body=11 keep=no left=0\ntime: none\n");
     let python = b"HTTP/1.0 200 OK\r\nServer: SimpleHTTP/0.6 Python/3.11.7\r\n\
         Date: Sun, 22 Nov 2026 08:49:56 GMT\r\nContent-type: text/plain\r\nContent-Length: 14\r\n\
         Last-Modified: Sun, 22 Nov 2026 08:49:52 GMT\r\n\r\nhello, world.\n";
