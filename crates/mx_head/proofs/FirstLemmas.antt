@@ -1,9 +1,8 @@
 -- Laws of any table of causes: the code that comes first is that of the shortest prefix.
-use Rattle.std.proofs.Common.{◌≡◌, ◌≢◌, ℕ, zero, suc, ◌+◌, ◌<◌, ◌≤◌, inl, inr, List, [], ◌∷◌, ◌++◌, length, refl, sym, ap, subst, ◌∙◌, arith, append_assoc, length-append}
+use Rattle.std.proofs.Common.{◌≡◌, ℕ, zero, suc, ◌+◌, ◌<◌, ◌≤◌, inl, inr, List, [], ◌∷◌, ◌++◌, length, refl, sym, ap, subst, ◌∙◌, arith, length-append}
 use Rattle.std.proofs.lemmas.List.{append-nil}
 use Rattle.std.proofs.lemmas.Bool.{cases_lt}
 use Rattle.mx_types.specs.declared.code.Code.{Code}
-use Rattle.mx_head.specs.Faults.{ComesFirst}
 use Rattle.mx_head.specs.Laws.{HasOneCodePerLine, IsShortest, ShortestComesFirst, FirstIsShortest, FirstHasShortest, HasOneFirst}
 use Rattle.mx_head.proofs.CodeLemmas.{same_code}
 use Rattle.mx_head.proofs.LineLemmas.{front_of}
@@ -44,11 +43,13 @@ module _ {Cause : Type 0} (code_of : Cause → Code) (line_of : Cause → ℕ) (
     first = λ q more other at x ne le.
         let same : length q ≡ length p = omega (arith, le, s.shortest q more other at x) in
         let here = same_front q p more s.after (sym at ∙ s.is_prefix) same in
-        let up = s.upper other (subst (λ (t : List ℕ). Meets t other) here x) in
-        (same, (elim (cases_lt (line_of cause) (line_of other)) [
-          | inl lower ↦ lower
-          | inr upper ↦ absurd (ne (one_code other cause (omega (arith, up, upper))))
-        ]));
+        let up = s.upper other (subst (λ (t : List ℕ). Meets t other) here x) in (
+          same,
+          (elim (cases_lt (line_of cause) (line_of other)) [
+            | inl lower ↦ lower
+            | inr upper ↦ absurd (ne (one_code other cause (omega (arith, up, upper))))
+          ]),
+        );
   }
 
   pub first_is_shortest : HasOneCodePerLine code_of line_of → FirstIsShortest code_of line_of Meets

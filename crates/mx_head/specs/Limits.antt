@@ -1,5 +1,5 @@
--- The limits of a response, in one place. The standard leaves them to the recipient (RFC 9112, sections
--- 2.2 and 5; RFC 9110, section 2.3); these are the engine's own.
+-- The limits of a response, in one place. The standard leaves them to the recipient (RFC 9110, sections
+-- 2.3 and 5.4); these are the engine's own.
 use Rattle.std.specs.Prelude.{ℕ}
 
 -- the bytes of one head, its empty line among them
