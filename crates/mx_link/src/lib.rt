@@ -7,6 +7,8 @@ mod history;
 mod links;
 mod scripted;
 mod sockets;
+#[cfg(test)]
+mod tests;
 
 pub use crate::answers::{Answer, Connect, Read, Write};
 pub use crate::history::{History, bytes_of};

@@ -72,34 +72,23 @@ impl ReadPlan {
         if self.next >= self.entries.len() {
             return Read::End;
         }
-        match &self.entries[self.next] {
+        let read = match &self.entries[self.next] {
             Planned::Bytes(bytes) => {
                 let left = &bytes[self.given..];
                 let n = copy_front(left, buffer);
                 if n < left.len() {
                     self.given += n;
-                } else {
-                    self.next += 1;
-                    self.given = 0;
+                    return Read::Bytes(n);
                 }
                 Read::Bytes(n)
             }
-            Planned::WouldBlock => {
-                self.next += 1;
-                self.given = 0;
-                Read::WouldBlock
-            }
-            Planned::End => {
-                self.next += 1;
-                self.given = 0;
-                Read::End
-            }
-            Planned::Fault => {
-                self.next += 1;
-                self.given = 0;
-                Read::Fault
-            }
-        }
+            Planned::WouldBlock => Read::WouldBlock,
+            Planned::End => Read::End,
+            Planned::Fault => Read::Fault,
+        };
+        self.next += 1;
+        self.given = 0;
+        read
     }
 }
 
