@@ -1,0 +1,28 @@
+#!/usr/bin/env bash
+# What the history of a link costs a running program: instructions per byte for reads of 16 KiB through a ScriptLink,
+# beside the same copy with no history. It needs valgrind, and builds in a folder of its own, which it removes.
+set -eu
+top=$(cd "$(dirname "$0")/.." && pwd)
+work=$(mktemp -d)
+trap 'rm -rf "$work"' EXIT
+mkdir -p "$work/crates/link_bench/src" "$work/crates/link_bench/specs"
+cp -r "$top/crates/mx_types" "$top/crates/mx_link" "$work/crates/"
+cp "$top/bench/link/main.rt" "$work/crates/link_bench/src/"
+touch "$work/crates/link_bench/specs/Lib.antt"
+printf 'mx_types:\nmx_link: mx_types mio\nlink_bench: mx_types mx_link\n' > "$work/crates.txt"
+cp "$top/HANDLES" "$work/"
+cd "$work/crates/link_bench"
+rt run -- copy 0 > "$work/build.log" 2>&1 || { tail -20 "$work/build.log"; exit 1; }
+
+reads=1024
+bytes=$((reads * 16384))
+instructions() {
+    valgrind --tool=callgrind --callgrind-out-file=/dev/null out/link_bench "$@" 2>&1 >/dev/null |
+        awk '/Collected/ { print $4 }'
+}
+for way in copy script; do
+    before=$(instructions "$way" 0)
+    after=$(instructions "$way" "$reads")
+    awk -v way="$way" -v n=$((after - before)) -v bytes="$bytes" -v reads="$reads" \
+        'BEGIN { printf "%s: %d instructions for %d reads, %.5f a byte, %.1f a read\n", way, n, reads, n / bytes, n / reads }'
+done

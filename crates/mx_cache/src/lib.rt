@@ -1,0 +1,8 @@
+//! Idle links: connections that were kept after a transfer, for the next one to the same endpoint.
+#![tactic(auto)]
+
+mod idle;
+#[cfg(test)]
+mod tests;
+
+pub use crate::idle::IdleCache;
