@@ -20,15 +20,16 @@ use Rattle.mx_journal.specs.History.{Message}
 use Rattle.mx_journal.specs.History.{same_ticket, occurs, addition_of, message_of, removes, ends, reads, added, waiting, running, additions, has_ticket, may_follow, is_legal, is_legal_after, has_room, same_handle}
 use Rattle.mx_journal.specs.JournalTable.{needs}
 use Rattle.mx_journal.specs.History.{HasRoomForDue}
-use Rattle.mx_journal.specs.Answers.{ticket_of, next_ticket}
+use Rattle.mx_journal.specs.Answers.{ticket_of, handle_of, next_ticket}
 use Rattle.mx_journal.specs.declared.row.Row.{Row}
 use Rattle.std.proofs.lemmas.Bool.Decides.{nat_tests}
-use Rattle.mx_journal.specs.Core.{IsInOrder, queued, message, IsControl}
+use Rattle.mx_journal.specs.Core.{IsInOrder, queued, claimed, message, IsControl}
 use Rattle.mx_journal.proofs.Snoc.{occurs-snoc, or_false, phase_of-snoc}
 use Rattle.mx_journal.proofs.Lists.{Each-map, Each-append, Each-filter, filter_idle, filter_true, has-stays, has-filter, has-append_left, same-refl, same-is, at_ticket, Each-both}
-use Rattle.mx_journal.proofs.Laws.{then, tickets, Laws, laws, added-then, waiting-then, below, running-has, map-filter_tickets, laws-then, laws_none}
+use Rattle.mx_journal.proofs.Histories.{tickets, Laws, laws, added-then, waiting-then, below, running-has, map-filter_tickets, laws-then, laws_none}
+use Rattle.mx_journal.specs.Laws.{then, IsOncePerTicket}
 use Rattle.mx_journal.proofs.JournalTables.{kept-then, few}
-use Rattle.mx_journal.proofs.Tables.{runs-phase, not_found}
+use Rattle.mx_journal.proofs.Tables.{runs-phase, not_found, has-kept}
 use Rattle.mx_journal.specs.Rows.{is_open}
 use Rattle.mx_journal.specs.History.{phase_of}
 use Rattle.mx_journal.specs.declared.row.Phase.TheVariants as phase
@@ -203,7 +204,7 @@ may_add j h t o none is full new =
 pub room_none : (history : ℕ) (j : List Event) → HasRoomForDue history j → has_room history j 0 ≡ true
 room_none history j k = let r = k.room in le-leb _ history (omega arith)
 
-found_any : (p : Addition → Bool) (t : Ticket) (xs : List Addition) → Some t ≡ option_map (λ a. a.ticket) (find p xs) → list_any (λ a. p a && same_ticket t a.ticket) xs ≡ true
+pub found_any : (p : Addition → Bool) (t : Ticket) (xs : List Addition) → Some t ≡ option_map (λ a. a.ticket) (find p xs) → list_any (λ a. p a && same_ticket t a.ticket) xs ≡ true
 found_any p t [] h = cc
 found_any p t (x ∷ xs) h = go (p x) h (found_any p t xs) where
   go : (b : Bool) → Some t ≡ option_map (λ a. a.ticket) (cond b (Some x) (find p xs)) → (Some t ≡ option_map (λ a. a.ticket) (find p xs) → list_any (λ a. p a && same_ticket t a.ticket) xs ≡ true)
@@ -254,15 +255,11 @@ control-removed code size history j w h t queue endings cq ce c m =
 
 -- 7. Messages wait once each.
 
-abbrev pub IsOnce : List Ticket → Type 0
-IsOnce [] = Unit {0}
-IsOnce (t ∷ ts) = (has_ticket t ts ≡ false) × IsOnce ts
-
-once_kept : (t : Ticket) (p : Ticket → Bool) (ts : List Ticket) (b : Bool) → has_ticket t ts ≡ false → IsOnce (filter p ts) → IsOnce (cond b (t ∷ filter p ts) (filter p ts))
+once_kept : (t : Ticket) (p : Ticket → Bool) (ts : List Ticket) (b : Bool) → has_ticket t ts ≡ false → IsOncePerTicket (filter p ts) → IsOncePerTicket (cond b (t ∷ filter p ts) (filter p ts))
 once_kept t p ts true h o = (false_from_ne_true _ (λ k. false≢true (sym h ∙ (has-filter t p ts k).0)), o)
 once_kept t p ts false h o = o
 
-once-filter : (p : Ticket → Bool) (ts : List Ticket) → IsOnce ts → IsOnce (filter p ts)
+once-filter : (p : Ticket → Bool) (ts : List Ticket) → IsOncePerTicket ts → IsOncePerTicket (filter p ts)
 once-filter p [] h = tt
 once-filter p (t ∷ ts) h = once_kept t p ts (p t) h.0 (once-filter p ts h.1)
 
@@ -277,7 +274,7 @@ parts_false false false h = (refl, refl)
 parts_false false true h = absurd (false≢true (sym h))
 parts_false true b h = absurd (false≢true (sym h))
 
-once-push : (ts : List Ticket) (t : Ticket) → IsOnce ts → has_ticket t ts ≡ false → IsOnce (ts ++ t ∷ [])
+once-push : (ts : List Ticket) (t : Ticket) → IsOncePerTicket ts → has_ticket t ts ≡ false → IsOncePerTicket (ts ++ t ∷ [])
 once-push [] t o h = (refl, tt)
 once-push (u ∷ ts) t o h =
     let k = parts_false (same_ticket t u) (has_ticket t ts) h in
@@ -304,14 +301,14 @@ waits_done j (m ∷ ms) a = (ap is_open a.0.0, waits_done j ms a.1)
 pub runs_unread : (j : List Event) → Laws j → (t : Ticket) → has_ticket t (running j) ≡ true → has_ticket t (wait_tickets j) ≡ false
 runs_unread j l t h = false_from_ne_true _ (λ k. false≢true (sym (at_ticket (λ u. is_open (phase_of u j) ≡ false) t (wait_tickets j) (waits_done j (waiting j) l.waits) k) ∙ (running-has j t h).1))
 
-once-then : (j : List Event) (w : Who) (e : What) → Laws j → may_follow j e ≡ true → IsOnce (wait_tickets j) → IsOnce (wait_tickets (then j w e))
+once-then : (j : List Event) (w : Who) (e : What) → Laws j → may_follow j e ≡ true → IsOncePerTicket (wait_tickets j) → IsOncePerTicket (wait_tickets (then j w e))
 once-then j w e l m o =
     rw (waiting-then j w e)
     (rw (map-append (λ (x : Message). x.ticket) (filter (λ x. not (reads x.ticket e || removes x.ticket e)) (waiting j)) (option_to_list (message_of e)), filter_messages (λ t. not (reads t e || removes t e)) (waiting j))
     (go e m (once-filter (λ t. not (reads t e || removes t e)) (wait_tickets j) o)))
   where
-    go : (e : What) → may_follow j e ≡ true → IsOnce (filter (λ t. not (reads t e || removes t e)) (wait_tickets j))
-        → IsOnce (filter (λ t. not (reads t e || removes t e)) (wait_tickets j) ++ map (λ m. m.ticket) (option_to_list (message_of e)))
+    go : (e : What) → may_follow j e ≡ true → IsOncePerTicket (filter (λ t. not (reads t e || removes t e)) (wait_tickets j))
+        → IsOncePerTicket (filter (λ t. not (reads t e || removes t e)) (wait_tickets j) ++ map (λ m. m.ticket) (option_to_list (message_of e)))
     go (what.Done t c n) m x = once-push _ t x (false_from_ne_true _ (λ k. false≢true (sym (runs_unread j l t m) ∙ (has-filter t (λ u. true) (wait_tickets j) k).0)))
     go (what.Added h t) m x = rw (append-nil (filter (λ u. true) (wait_tickets j))) x
     go (what.Removed h t) m x = rw (append-nil (filter (λ u. not (same_ticket u t)) (wait_tickets j))) x
@@ -320,13 +317,13 @@ once-then j w e l m o =
     go (what.Resumed t) m x = rw (append-nil (filter (λ u. true) (wait_tickets j))) x
     go what.Wake m x = rw (append-nil (filter (λ u. true) (wait_tickets j))) x
 
-once_from : (f j : List Event) → Laws f → IsOnce (wait_tickets f) → is_legal_after f j ≡ true → IsOnce (wait_tickets (f ++ j))
+once_from : (f j : List Event) → Laws f → IsOncePerTicket (wait_tickets f) → is_legal_after f j ≡ true → IsOncePerTicket (wait_tickets (f ++ j))
 once_from f [] l o h = rw (append-nil f) o
 once_from f (e ∷ j) l o h =
     let k = and_parts (may_follow f e.what) (is_legal_after (f ++ e ∷ []) j) h in
     rw (← append_assoc f (e ∷ []) j) (once_from (f ++ e ∷ []) j (laws-then f e.who e.what l k.0) (once-then f e.who e.what l k.0 o) k.1)
 
-pub once : (j : List Event) → is_legal j ≡ true → IsOnce (wait_tickets j)
+pub once : (j : List Event) → is_legal j ≡ true → IsOncePerTicket (wait_tickets j)
 once j h = once_from [] j laws_none tt h
 
 -- 8. An end.
@@ -352,7 +349,7 @@ each_off x [] h = tt
 each_off x (u ∷ xs) h = let k = parts_false (same_ticket x u) (has_ticket x xs) h in (k.0, each_off x xs k.1)
 
 -- tickets that differ, each in a list, are no more than that list has
-pub pigeons : (xs ys : List Ticket) → IsOnce xs → AllByRecursion (λ t. has_ticket t ys ≡ true) xs → length xs ≤ length ys
+pub pigeons : (xs ys : List Ticket) → IsOncePerTicket xs → AllByRecursion (λ t. has_ticket t ys ≡ true) xs → length xs ≤ length ys
 pigeons [] ys o h = omega arith
 pigeons (x ∷ xs) ys o h =
     let rest = Each-both (λ u. same_ticket x u ≡ false) (λ u. has_ticket u ys ≡ true) (λ u. has_ticket u (filter (λ z. not (same_ticket x z)) ys) ≡ true)
@@ -404,7 +401,7 @@ off_kept t (m ∷ ms) h =
     let k = parts_false (same_ticket t m.ticket) (has_ticket t (map (λ m. m.ticket) ms)) h in
     rw (same-sym t m.ticket k.0) (ap (λ z. m ∷ z) (off_kept t ms k.1))
 
-read_rest : (m : Message) (ms : List Message) → IsOnce (map (λ m. m.ticket) (m ∷ ms)) → filter (λ x. not (same_ticket x.ticket m.ticket || false)) (m ∷ ms) ++ [] ≡ ms
+read_rest : (m : Message) (ms : List Message) → IsOncePerTicket (map (λ m. m.ticket) (m ∷ ms)) → filter (λ x. not (same_ticket x.ticket m.ticket || false)) (m ∷ ms) ++ [] ≡ ms
 read_rest m ms o = append-nil _ ∙ rw (same-refl m.ticket) (off_kept m.ticket ms o.0)
 
 pub control-read : {Q O : Type 0} (code : O → Code) (size : O → ℕ) (history : ℕ) (j : List Event) (w : Who) (x : Ticket × O) (xs : List (Ticket × O)) (queue : List (Ticket × Q)) (cq ce : ℕ)
@@ -447,3 +444,38 @@ endings_few code size j endings l w =
     let k = pigeons (wait_tickets j) (tickets j) (once j l) (waits_added j (waiting j) x.waits) in
     let f = few j l in
     omega (arith, k, length-map (waiting j) (λ m. m.ticket), length-map (added j) (λ a. a.ticket), length-map endings (message code size), ap length w)
+
+-- 10. A claim.
+
+above_off : (t : Ticket) (ts : List Ticket) → AllByRecursion (λ u. t.0 < u.0) ts → has_ticket t ts ≡ false
+above_off t [] a = refl
+above_off t (u ∷ ts) a = let lt = a.0 in rw (ne_eqb t.0 u.0 (λ e. omega arith)) (above_off t ts a.1)
+
+pub least_first : (u t : Ticket) (ts : List Ticket) → u ≡ t → AllByRecursion (λ v. t.0 < v.0) ts → AllByRecursion (λ v. u.0 ≤ v.0) (t ∷ ts)
+least_first u t ts e a = let n = ap (λ (x : Ticket). x.0) e in (omega (arith, n), Each-map (λ v. t.0 < v.0) (λ v. u.0 ≤ v.0) (λ v lt. omega (arith, n)) ts a)
+
+pub claimed_first : {Q : Type 0} (j : List Event) (t : Ticket) (queue : List (Ticket × Q)) → AllByRecursion (λ u. t.0 < u.0) (queued queue) → has_ticket t (running j) ≡ true
+    → has_ticket t (claimed j queue) ≡ true
+claimed_first j t queue a r = has-kept t (λ u. not (has_ticket u (queued queue))) (running j) r ∙ ap not (above_off t (queued queue) a)
+
+pub none_added : (j : List Event) → is_legal j ≡ true → (t : Ticket) → None ≡ handle_of t j → has_ticket t (tickets j) ≡ false
+none_added j l t e = has_added (added j) ∙ not_found (λ (a : Addition). same_ticket t a.ticket) (added j) ∙ go (find (λ a. same_ticket t a.ticket) (added j)) e where
+  has_added : (xs : List Addition) → has_ticket t (map (λ a. a.ticket) xs) ≡ list_any (λ a. same_ticket t a.ticket) xs
+  has_added [] = refl
+  has_added (a ∷ xs) = ap (λ b. same_ticket t a.ticket || b) (has_added xs)
+
+  go : (o : Option Addition) → None ≡ option_map (λ a. a.handle) o → not (is_none o) ≡ false
+  go None k = refl
+  go (Some a) k = cc
+
+-- the first message's handle is added
+pub message_has_row : {O : Type 0} (code : O → Code) (size : O → ℕ) (j : List Event) (endings : List (Ticket × O)) (d : Ticket × O) (t : Ticket)
+    → is_legal j ≡ true → map (message code size) endings ≡ waiting j → 0 < length endings → t ≡ (slice_index_or endings 0 d).0 → None ≡ handle_of t j → ⊥
+message_has_row code size j [] d t l w h e n = absurd (omega arith)
+message_has_row code size j (x ∷ xs) d t l w h e n =
+    let u = rw (← w) at (laws j l).waits in
+    false≢true (sym (none_added j l x.0 (n ∙ ap (λ z. handle_of z j) e)) ∙ u.0.1)
+
+pub split_first : {X : Type 0} (xs ys : List X) (x : X) → 0 < length xs → x ≡ slice_index_or xs 0 x → ys ≡ remove xs 0 → xs ≡ x ∷ ys
+split_first [] ys x h v r = absurd (omega arith)
+split_first (z ∷ zs) ys x h v r = rw (v, r) refl

@@ -24,7 +24,8 @@ use Rattle.mx_journal.specs.Table.{TableView, IsTableOf, IsRow, count_of}
 use Rattle.mx_journal.specs.JournalTable.{needs, IsJournalTable}
 use Rattle.mx_journal.proofs.Snoc.{legal-snoc}
 use Rattle.mx_journal.proofs.Lists.{Each-map, filter_idle, filter_true, has-filter, same-refl, same-is}
-use Rattle.mx_journal.proofs.Laws.{then, tickets, Laws, laws, laws_none, laws-then, added-then, additions-then, ends-phase, has_addition, running-has, first_unread, is_done}
+use Rattle.mx_journal.proofs.Histories.{tickets, Laws, laws, laws_none, laws-then, added-then, additions-then, ends-phase, has_addition, running-has, first_unread, is_done}
+use Rattle.mx_journal.specs.Laws.{then}
 use Rattle.mx_journal.proofs.Tables.{Tabled, tabled-then, table-then, tickets-rows, ticket_of-rows, handle_of-rows, due-rows, length-rows, found, not_found, has-kept, runs-phase, both, sum-agrees, not_not}
 
 -- 1. The table of a legal journal.

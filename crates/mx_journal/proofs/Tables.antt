@@ -22,7 +22,8 @@ use Rattle.mx_journal.specs.Answers.{ticket_of, handle_of}
 use Rattle.mx_journal.specs.Rows.{phase_after, is_open, is_paused, is_read, turned, rows_after, table_from, table_of, places_of, places}
 use Rattle.mx_journal.proofs.Snoc.{phase_of-snoc}
 use Rattle.mx_journal.proofs.Lists.{Each-map, Each-append, Each-filter, filter_idle, filter_true, has-stays, has-filter}
-use Rattle.mx_journal.proofs.Laws.{then, tickets, Laws, added-then, ends-phase}
+use Rattle.mx_journal.proofs.Histories.{tickets, Laws, added-then, ends-phase}
+use Rattle.mx_journal.specs.Laws.{then}
 
 abbrev pub addition_in : Row → Addition
 addition_in r = record { handle = r.handle; ticket = r.ticket }

@@ -1,5 +1,5 @@
 -- What the core's state is, for contracts, and when it is sound.
-use Rattle.std.specs.Prelude.{ℕ, ◌<◌, ◌≤◌, ◌≡◌, List, [], ◌∷◌, map, true}
+use Rattle.std.specs.Prelude.{ℕ, ◌<◌, ◌≤◌, ◌≡◌, List, [], ◌∷◌, map, true, not}
 use Rattle.std.specs.List.{AllByRecursion, filter, list_any}
 use Rattle.mx_types.specs.declared.code.Code.{Code}
 use Rattle.mx_types.specs.declared.names.HandleId.{HandleId}
@@ -28,6 +28,10 @@ IsInOrder (t ∷ ts) = AllByRecursion (λ u. t.0 < u.0) ts × IsInOrder ts
 
 abbrev pub queued : {Q : Type 0} → List (Ticket × Q) → List Ticket
 queued queue = map (λ x. x.0) queue
+
+-- the tickets that run and don't wait for a worker: a worker has claimed them
+abbrev pub claimed : {Q : Type 0} → List Event → List (Ticket × Q) → List Ticket
+claimed j queue = filter (λ t. not (has_ticket t (queued queue))) (running j)
 
 -- the message of an ending, by what its type says of it
 abbrev pub message : {O : Type 0} → (O → Code) → (O → ℕ) → Ticket × O → Message

@@ -1,9 +1,10 @@
 //! The control state of a multi handle.
 ghost use Rattle.std.specs.Prelude.{map, ◌≡◌, ◌≤◌, ◌++◌, ◌∷◌, [], List, length, true, drop, OnOk, OnErr, IfOk, IfSome, IfNone};
+ghost use Rattle.std.specs.List.{AllByRecursion};
 ghost use Rattle.mx_types.specs.declared.call.Call.{Call};
-ghost use Rattle.mx_journal.specs.History.{may_follow, has_room, is_maker, made_by, running, added, waiting};
+ghost use Rattle.mx_journal.specs.History.{may_follow, has_room, has_ticket, is_maker, made_by, running, added};
 ghost use Rattle.mx_journal.specs.Answers.{ticket_of, handle_of, Answers, is_ready, look_of, state_of};
-ghost use Rattle.mx_journal.specs.Core.{still_running, still_waiting, IsSound};
+ghost use Rattle.mx_journal.specs.Core.{claimed, queued, IsSound};
 ghost use Rattle.mx_journal.specs.Replies.{is_pausing, journal_after_pausing, IsPausingAnswer, reply_of_info, ending_read, recorded, endings_finished, IsHandedBack, reply_of_finish, without, removed, queue_added, handed_back, work_back, reply_of_add, reply_of_remove, reply_of_pause, reply_of_wakeup};
 ghost use Rattle.mx_journal.specs.Slots.{slot_of};
 
@@ -47,6 +48,15 @@ impl<Q: Work + Drop, O: Ending + Drop> Control<Q, O> {
             queue: Vec::with_capacity(alloc, 256)?,
             endings: Vec::with_capacity(alloc, 256)?,
         })
+    }
+
+    /// What is true of every core: its journal is legal and has room for what is due; its queue has running tickets,
+    /// each once, by ticket; its endings are those of the messages that wait, in their order. That the table is the
+    /// one of the journal is seen through `state`, `look`, `made` and the slots of claims.
+    pub fn sound(&self)
+        ensures { IsSound O.code_of O.size_of self.now.opening.history self.now.journal self.now.queue self.now.endings }
+    {
+        let _ = &self.table;
     }
 
     /// Adds a handle, and puts its work at the end of the queue.
@@ -202,14 +212,13 @@ impl<Q: Work + Drop, O: Ending + Drop> Control<Q, O> {
         if log.append(event).is_err() {
             return InfoReply::OutOfMemory;
         }
-        let handle = match self.table.row_of_ticket(ticket) {
-            Some(row) => row.handle,
-            None => HandleId(0),
+        let Some(row) = self.table.row_of_ticket(ticket) else {
+            unreachable!()
         };
         self.table.enter(event);
         let (_, ending) = self.endings.remove(0);
         InfoReply::Message {
-            handle,
+            handle: row.handle,
             ticket,
             ending,
             left: self.endings.len() as u32,
@@ -274,13 +283,16 @@ impl<Q: Work + Drop, O: Ending + Drop> Control<Q, O> {
         FinishReply::Recorded
     }
 
-    /// The work of the lowest ticket in the queue.
+    /// Takes the work of the lowest ticket in the queue, paused or not; the ticket is then claimed. None where the
+    /// queue is empty.
     pub fn claim(&mut self) -> Option<(Claim<Q>, Q)>
         ensures opening { self.new.opening ≡ self.old.opening }
         ensures journal { self.new.journal ≡ self.old.journal }
         ensures endings { self.new.endings ≡ self.old.endings }
         ensures none { IfNone result ((self.old.queue ≡ []) × (self.new.queue ≡ [])) }
         ensures some { IfSome result (λ r. self.old.queue ≡ (r.0.ticket, r.1) ∷ self.new.queue) }
+        ensures least { IfSome result (λ r. AllByRecursion (λ t. r.0.ticket.0 ≤ t.0) (queued self.old.queue)) }
+        ensures claimed { IfSome result (λ r. has_ticket r.0.ticket (claimed self.new.journal self.new.queue) ≡ true) }
         ensures origin { IfSome result (λ r. r.0.origin ≡ Q.origin r.1) }
         ensures handle { IfSome result (λ r. handle_of r.0.ticket self.old.journal ≡ Some r.0.handle) }
         ensures slot { IfSome result (λ r. slot_of r.0.ticket self.old.journal ≡ Some r.0.slot) }
@@ -289,11 +301,10 @@ impl<Q: Work + Drop, O: Ending + Drop> Control<Q, O> {
             return None;
         }
         let (ticket, work) = self.queue.remove(0);
-        let (handle, slot) = match self.table.row_of_ticket(ticket) {
-            Some(row) => (row.handle, row.slot),
-            None => (HandleId(0), 0),
+        let Some(row) = self.table.row_of_ticket(ticket) else {
+            unreachable!()
         };
-        let claim = Claim::of(handle, ticket, slot, &work);
+        let claim = Claim::of(row.handle, ticket, row.slot, &work);
         Some((claim, work))
     }
 

@@ -4,6 +4,7 @@
 mod claim;
 mod control;
 mod journal_table;
+pub mod laws;
 mod log;
 mod makers;
 mod pairs;

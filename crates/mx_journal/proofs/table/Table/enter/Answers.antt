@@ -1,7 +1,7 @@
 use Rattle.std.proofs.Common.{◌≡◌, ◌∙◌, ◌+◌, ap, sym, subst, arith, length, true, refl}
 use Rattle.mx_journal.specs.History.{may_follow}
 use Rattle.mx_journal.specs.Rows.{rows_after}
-use Rattle.mx_journal.proofs.Laws.{then}
+use Rattle.mx_journal.specs.Laws.{then}
 use Rattle.mx_journal.proofs.Tables.{table-then}
 use Rattle.mx_journal.proofs.JournalTables.{few_rows, row_fits, legal-then, table-of-then}
 use Rattle.mx_journal.proofs.table.Table.enter.Goals as goal

@@ -19,11 +19,9 @@ use Rattle.mx_journal.specs.declared.row.Phase.{Phase}
 use Rattle.mx_journal.specs.declared.row.Phase.TheVariants as phase
 use Rattle.mx_journal.specs.History.{same_ticket, same_handle, occurs, addition_of, message_of, removes, ends, reads, added, waiting, running, paused, additions, has_ticket, has_handle, is_first, last_is_pause, end_by, end_of, phase_by, phase_of, may_follow, is_legal_after, is_legal}
 use Rattle.mx_journal.specs.Rows.{phase_after, ended_phase, read_phase, is_open, is_read}
+use Rattle.mx_journal.specs.Laws.{then}
 use Rattle.mx_journal.proofs.Snoc.{occurs-snoc, standing-snoc, phase_of-snoc, or_false}
 use Rattle.mx_journal.proofs.Lists.{Each-map, Each-append, Each-filter, filter_true, filter_idle, same-is, same-refl, at_ticket, has-filter, has-append_left, has-stays}
-
-abbrev pub then : List Event → Who → What → List Event
-then j w e = j ++ record { who = w; what = e } ∷ []
 
 abbrev pub tickets : List Event → List Ticket
 tickets j = map (λ a. a.ticket) (added j)
