@@ -12,6 +12,8 @@ mod replies;
 mod row;
 mod rows;
 mod table;
+#[cfg(test)]
+mod tests;
 
 pub use crate::claim::Claim;
 pub use crate::control::Control;

@@ -1,0 +1,3 @@
+pub mod PlayScript
+pub mod PlayTexts
+pub mod PlayTurns
