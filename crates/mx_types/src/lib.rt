@@ -1,14 +1,24 @@
-//! The names that every layer speaks of: methods, codes, and the want of memory.
+//! The names that every layer speaks of: methods, codes, events, calls and replies, and the want of memory.
 #![tactic(auto)]
 
+mod call;
 mod code;
+mod event;
 mod memory;
 mod method;
+mod multi_code;
 mod names;
+mod reply;
 mod settings;
+mod work;
 
+pub use crate::call::{Call, Receipt};
 pub use crate::code::Code;
+pub use crate::event::{Event, What, Who};
 pub use crate::memory::OutOfMemory;
 pub use crate::method::{Method, ParseMethodError};
+pub use crate::multi_code::MCode;
 pub use crate::names::{HandleId, Ticket};
+pub use crate::reply::{AddedHandles, Look, Reply, State};
 pub use crate::settings::Settings;
+pub use crate::work::{Ending, Work};

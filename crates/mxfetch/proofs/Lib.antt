@@ -1,3 +1,4 @@
-mod PartsLemmas
-mod ReadingLemmas
-mod RunLemmas
+mod BodyParts
+mod BodyReading
+mod BodyRun
+mod PlayClaims

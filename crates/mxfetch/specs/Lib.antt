@@ -1,4 +1,12 @@
-pub mod Text
+-- What contracts cite. Of the input and the output of a run:
 pub mod Ends
-pub mod Reading
-pub mod Run
+-- of the command line:
+pub mod Command
+-- of the command `body`:
+pub mod BodyReading
+pub mod BodyTexts
+pub mod BodyRun
+-- of the command `play`:
+pub mod PlayScript
+pub mod PlayTexts
+pub mod PlayTurns

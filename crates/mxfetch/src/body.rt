@@ -5,13 +5,18 @@ ghost use Rattle.mx_types.specs.Code.{code_number};
 ghost use Rattle.mx_head.specs.Limits.{most_bytes};
 ghost use Rattle.mxfetch.specs.Ends.{reader_of, reads_of, has_failed_read, writer_of, has_failed_write};
 ghost use Rattle.mx_body.specs.Laws.{joined};
-ghost use Rattle.mxfetch.specs.Text.{part_len, response_line, StandsWithin};
-ghost use Rattle.mxfetch.specs.Run.{text_of, exit_status, PrintsFault, AnswersRead, FitsIn};
+ghost use Rattle.mxfetch.specs.BodyTexts.{part_len, response_line, StandsWithin};
+ghost use Rattle.mxfetch.specs.BodyRun.{text_of, exit_status, PrintsFault, AnswersRead, FitsIn};
+
+pub mod reading;
+#[cfg(test)]
+mod tests;
+pub mod text;
 
 use crate::input::Input;
 use crate::output::{Output, WriteFailed};
-use crate::reading::{InputError, read_input};
-use crate::text::{print_fault, print_parts, print_response};
+use crate::body::reading::{InputError, read_input};
+use crate::body::text::{print_fault, print_parts, print_response};
 use mx_body::laws::parts_are_content;
 use mx_body::{Part, Verdict, decode_whole};
 use mx_types::{Code, Method};
@@ -51,7 +56,7 @@ fn end_with<W: Write>(output: &mut Output<W>, code: Code) -> Result<u8, WriteFai
 }
 
 /// Prints the line of a whole response, and then its body.
-#[tactic(auto, using(crate::proofs::RunLemmas::appended_twice))]
+#[tactic(auto, using(crate::proofs::BodyRun::appended_twice))]
 fn print_whole<W: Write>(
     output: &mut Output<W>,
     input: &[u8],

@@ -1,20 +1,20 @@
 //! `mxfetch`: HTTP/1.1 responses, from bytes to bodies.
 #![tactic(auto)]
 
+ghost use Rattle.std.specs.Prelude.{◌≤◌};
+
 mod body;
 mod command;
 mod input;
 mod output;
-mod reading;
-#[cfg(test)]
-mod tests;
-mod text;
+mod play;
 
+use crate::body::text::print_fault;
 use crate::body::{MOST_READS, UNWRITTEN, run_body};
 use crate::command::{Task, read_command};
 use crate::input::Input;
 use crate::output::Output;
-use crate::text::print_fault;
+use crate::play::run_play;
 use clap::Error;
 use clap::error::ErrorKind;
 use mx_types::{Code, Method};
@@ -57,6 +57,16 @@ fn decode_stdin<R: io::Input + Print + AllocGlobal>(rt: &R, method: Method) -> u
     }
 }
 
+/// Runs `play` from standard input to standard output.
+fn play_stdin<R: io::Input + Print + AllocGlobal>(rt: &R, history: u32) -> u8
+    requires { (4 ≤ history) × (history ≤ 1048576) }
+{
+    match BufWriter::new(rt.alloc(), io::writer(rt)) {
+        Ok(mut writer) => run_play(rt.alloc(), history, &mut rt.reader(), &mut writer) as u8,
+        Err(_) => out_of_memory(rt),
+    }
+}
+
 fn main(rt: HostRuntime) -> ExitCode {
     let words: Vec<String> = match env::args(&rt).and_then(|words| Ok(words.collect(rt.alloc())?)) {
         Ok(words) => words,
@@ -64,6 +74,7 @@ fn main(rt: HostRuntime) -> ExitCode {
     };
     ExitCode::from(match read_command(rt.alloc(), words.as_slice()) {
         Ok(Task::Body(method)) => decode_stdin(&rt, method),
+        Ok(Task::Play(history)) => play_stdin(&rt, history),
         Err(error) => explain(&rt, &error),
     })
 }

@@ -1,6 +1,6 @@
 use Rattle.std.proofs.Common.{◌≡◌, take}
 use Rattle.std.specs.Prelude.{sum_by}
-use Rattle.mxfetch.specs.Text.{part_len}
+use Rattle.mxfetch.specs.BodyTexts.{part_len}
 use Rattle.mxfetch.proofs.body.body_len.Given as goal
 
 abbrev pub invariant-loop-part : goal.invariant-loop-part

@@ -1,4 +1,4 @@
-use Rattle.mxfetch.proofs.RunLemmas.{answers_read}
+use Rattle.mxfetch.proofs.BodyRun.{answers_read}
 use Rattle.mxfetch.proofs.body.print_body.Goals as goal
 
 pub returns-clause-answered : goal.returns-clause-answered

@@ -1,9 +1,9 @@
 use Rattle.std.proofs.Common.{◌≡◌, ◌≤◌, ◌+◌, ◌-◌, ◌++◌, ℕ, length, subst, arith, ap, sym, ◌∙◌}
 use Rattle.std.specs.Prelude.{sum_by}
 use Rattle.mx_body.specs.Laws.{joined}
-use Rattle.mxfetch.specs.Text.{part_len, response_line}
-use Rattle.mxfetch.specs.Run.{FitsIn, text_of}
-use Rattle.mxfetch.proofs.PartsLemmas.{stand_within, sum_within, length-joined}
+use Rattle.mxfetch.specs.BodyTexts.{part_len, response_line}
+use Rattle.mxfetch.specs.BodyRun.{FitsIn, text_of}
+use Rattle.mxfetch.proofs.BodyParts.{stand_within, sum_within, length-joined}
 use Rattle.mxfetch.proofs.body.print_verdict.Goals as goal
 
 pub print_whole-requires-clause-within : goal.print_whole-requires-clause-within

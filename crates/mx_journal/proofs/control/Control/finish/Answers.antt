@@ -1,0 +1,23 @@
+use Rattle.std.proofs.Common.{◌≡◌, ◌<◌, ◌∙◌, sym, true, arith, length}
+use Rattle.mx_journal.specs.History.{has_ticket, running}
+use Rattle.mx_journal.proofs.Controls.{control-finished, may_finish, endings_short}
+use Rattle.mx_journal.proofs.control.Control.finish.Goals as goal
+
+pub push_reserved-requires : goal.push_reserved-requires
+push_reserved-requires g c =
+    let s = c.self.invariant.sound in
+    let j = c.self.inside.table.journal in
+    let may : has_ticket c.ticket-ticket.result (running j) ≡ true =
+    may_finish j c.ticket-ticket.result c.in-Some.row c.in-Some.ensures.same c.in-Some.ensures.row.runs (sym c.is_open.ensures ∙ c.if-is_open.true) in
+    let short : length c.self.inside.endings.items < 256 =
+    endings_short g.O.Ending.code_of g.O.Ending.size_of j c.self.inside.endings.items c.ticket-ticket.result s.kept.legal s.waits may in
+    omega (arith, short, c.self.inside.endings.ok.0, c.self.invariant.endings_fit)
+
+pub invariant_of-self : goal.invariant_of-self
+invariant_of-self g c =
+    let j = c.self.inside.table.journal in
+    let may : has_ticket c.ticket-ticket.result (running j) ≡ true =
+    may_finish j c.ticket-ticket.result c.in-Some.row c.in-Some.ensures.same c.in-Some.ensures.row.runs (sym c.is_open.ensures ∙ c.if-is_open.true) in
+    rw (c.enter.ensures.history, c.enter.ensures.journal, c.drop_ticket.ensures.items, c.drop_ticket.ensures.capacity, c.push_reserved.ensures.items, c.push_reserved.ensures.capacity, c.code.ensures, c.size.ensures)
+    (control-finished g.O.Ending.code_of g.O.Ending.size_of c.self.inside.table.history j c.args.who c.ticket-ticket.result c.args.ending c.self.inside.queue.items c.self.inside.endings.items _ _
+    c.self.invariant may)

@@ -1,0 +1,16 @@
+use Rattle.std.proofs.Common.{◌∙◌, ap}
+use Rattle.std.specs.List.{find}
+use Rattle.mx_journal.specs.declared.row.Row.{Row}
+use Rattle.mx_journal.specs.History.{same_handle}
+use Rattle.mx_journal.proofs.JournalTables.{handle_found, row_only}
+use Rattle.mx_journal.proofs.table.Table.row_of_handle.Goals as goal
+
+pub returns-clause-ticket : goal.returns-clause-ticket
+returns-clause-ticket c j x =
+    let y = rw (← c.self.view_is) at x in
+    handle_found j x.legal c.args.handle c.row_of_handle.result (c.row_of_handle.ensures ∙ ap (find (λ (r : Row). same_handle c.args.handle r.handle)) (c.deref.ensures.value ∙ y.rowed))
+
+pub returns-clause-row : goal.returns-clause-row
+returns-clause-row c j x =
+    let y = rw (← c.self.view_is) at x in
+    row_only j x.legal (λ r. same_handle c.args.handle r.handle) c.row_of_handle.result (c.row_of_handle.ensures ∙ ap (find (λ (r : Row). same_handle c.args.handle r.handle)) (c.deref.ensures.value ∙ y.rowed))

@@ -1,0 +1,86 @@
+-- What every legal history keeps: the statements of the laws.
+use Rattle.std.specs.Prelude.{ℕ, ◌≤◌, ◌≡◌, ◌||◌, Bool, true, false, Some, List, [], ◌∷◌, ◌++◌, length, map}
+use Rattle.std.specs.List.{AllByRecursion, count_by, list_any}
+use Rattle.std.specs.Option.{is_some}
+use Rattle.mx_types.specs.declared.names.HandleId.{HandleId}
+use Rattle.mx_types.specs.declared.names.Ticket.{Ticket}
+use Rattle.mx_types.specs.declared.event.Who.{Who}
+use Rattle.mx_types.specs.declared.event.What.{What}
+use Rattle.mx_types.specs.declared.event.What.TheVariants as what
+use Rattle.mx_types.specs.declared.event.Event.{Event}
+use Rattle.mx_types.specs.declared.call.Call.{Call}
+use Rattle.mx_journal.specs.History.{HasRoomForDue, Opening, same_handle, same_ticket, occurs, removes, ends, reads, pauses, resumes, added, waiting, is_legal, may_follow, has_ticket}
+use Rattle.mx_journal.specs.Core.{IsInOrder}
+use Rattle.mx_journal.specs.Answers.{answer, handle_of, is_ready}
+
+-- the history with one more event of a maker
+abbrev pub then : List Event → Who → What → List Event
+then j w e = j ++ record { who = w; what = e } ∷ []
+
+-- what comes first in a legal history is one
+abbrev pub PrefixIsLegal : Type 0
+PrefixIsLegal = (j k : List Event) → is_legal (j ++ k) ≡ true → is_legal j ≡ true
+
+-- the event of an answer is legal, and leaves room for what is then due
+abbrev pub AnswerIsLegal : Type 0
+AnswerIsLegal = (opening : Opening) (j : List Event) (call : Call) (e : What) → HasRoomForDue opening.history j → (answer opening j call).1 ≡ Some e
+    → (may_follow j e ≡ true) × ((w : Who) → HasRoomForDue opening.history (then j w e))
+
+-- the event is an end, a reading or a removal
+abbrev pub is_closing : What → Bool
+is_closing (what.Done _ _ _) = true
+is_closing (what.Read _) = true
+is_closing (what.Removed _ _) = true
+is_closing _ = false
+
+-- an end, a reading and a removal always find room
+abbrev pub ClosingFindsRoom : Type 0
+ClosingFindsRoom = (history : ℕ) (j : List Event) (w : Who) (e : What) → HasRoomForDue history j → is_closing e ≡ true → may_follow j e ≡ true
+    → HasRoomForDue history (then j w e)
+
+-- it adds under the ticket
+abbrev pub adds : Ticket → What → Bool
+adds t (what.Added _ u) = same_ticket t u
+adds t _ = false
+
+abbrev pub count_of_events : (What → Bool) → List Event → ℕ
+count_of_events test j = count_by (λ e. test e.what) j
+
+-- each ticket is added, ended, read and removed at most once
+abbrev pub EachAtMostOnce : Type 0
+EachAtMostOnce = (j : List Event) → is_legal j ≡ true → (t : Ticket)
+    → (count_of_events (adds t) j ≤ 1) × (count_of_events (ends t) j ≤ 1) × (count_of_events (reads t) j ≤ 1) × (count_of_events (removes t) j ≤ 1)
+
+-- the event is one of the ticket
+abbrev pub is_of : Ticket → What → Bool
+is_of t e = adds t e || (removes t e || (ends t e || (reads t e || (pauses t e || resumes t e))))
+
+-- after its removal a ticket has no event
+abbrev pub NothingAfterRemoval : Type 0
+NothingAfterRemoval = (f later : List Event) (w : Who) (h : HandleId) (t : Ticket)
+    → is_legal (f ++ record { who = w; what = what.Removed h t } ∷ later) ≡ true → occurs (is_of t) later ≡ false
+
+-- no handle stands twice
+abbrev pub IsOnceEach : List HandleId → Type 0
+IsOnceEach [] = Unit {0}
+IsOnceEach (h ∷ hs) = (list_any (same_handle h) hs ≡ false) × IsOnceEach hs
+
+-- no ticket stands twice
+abbrev pub IsOncePerTicket : List Ticket → Type 0
+IsOncePerTicket [] = Unit {0}
+IsOncePerTicket (t ∷ ts) = (has_ticket t ts ≡ false) × IsOncePerTicket ts
+
+-- the added handles: at most 256, each once, by rising tickets
+pub record IsTidy (j : List Event) : Type 0 where
+  pub few : length (added j) ≤ 256
+  pub handles : IsOnceEach (map (λ a. a.handle) (added j))
+  pub rising : IsInOrder (map (λ a. a.ticket) (added j))
+  pub waiting_once : IsOncePerTicket (map (λ m. m.ticket) (waiting j))
+  pub waiting_added : AllByRecursion (λ m. is_some (handle_of m.ticket j) ≡ true) (waiting j)
+
+abbrev pub LegalIsTidy : Type 0
+LegalIsTidy = (j : List Event) → is_legal j ≡ true → IsTidy j
+
+-- a poll that may return may return later too
+abbrev pub ReadyStays : Type 0
+ReadyStays = (mark : ℕ) (j k : List Event) → is_ready mark j ≡ true → is_ready mark (j ++ k) ≡ true

@@ -1,0 +1,130 @@
+-- The reply that a call's answer stands for.
+use Rattle.std.specs.Prelude.{ℕ, ◌≡◌, Bool, true, false, not, List, [], ◌∷◌, ◌++◌, Option, Some, None}
+use Rattle.mx_types.specs.declared.code.Code.{Code}
+use Rattle.mx_types.specs.declared.event.What.{What}
+use Rattle.mx_types.specs.declared.event.What.TheVariants as what
+use Rattle.mx_types.specs.declared.event.Event.{Event}
+use Rattle.mx_journal.specs.declared.replies.InfoReply.{InfoReply}
+use Rattle.mx_journal.specs.declared.replies.InfoReply.TheVariants as info
+use Rattle.mx_journal.specs.declared.replies.FinishReply.{FinishReply}
+use Rattle.mx_journal.specs.declared.replies.FinishReply.TheVariants as finish
+use Rattle.mx_journal.specs.Core.{Claimed}
+use Rattle.std.specs.List.{filter}
+use Rattle.mx_journal.specs.History.{same_ticket}
+use Rattle.mx_types.specs.declared.names.Ticket.{Ticket}
+use Rattle.mx_types.specs.declared.reply.Reply.{Reply}
+use Rattle.mx_types.specs.declared.reply.Reply.TheVariants as reply
+use Rattle.mx_journal.specs.declared.replies.AddReply.{AddReply}
+use Rattle.mx_journal.specs.declared.replies.AddReply.TheVariants as add
+use Rattle.mx_journal.specs.declared.replies.RemoveReply.{RemoveReply}
+use Rattle.mx_journal.specs.declared.replies.RemoveReply.TheVariants as remove
+use Rattle.mx_journal.specs.declared.replies.PauseReply.{PauseReply}
+use Rattle.mx_journal.specs.declared.replies.PauseReply.TheVariants as pausing
+use Rattle.mx_journal.specs.declared.replies.WakeupReply.{WakeupReply}
+use Rattle.mx_journal.specs.declared.replies.WakeupReply.TheVariants as wakeup
+
+abbrev pub reply_of_add : {Q : Type 0} → AddReply Q → Reply
+reply_of_add (add.Added t) = reply.Added t
+reply_of_add (add.AddedAlready _) = reply.AddedAlready
+reply_of_add (add.TableFull _) = reply.TableFull
+reply_of_add (add.HistoryFull _) = reply.HistoryFull
+reply_of_add (add.OutOfMemory _) = reply.OutOfMemory
+
+-- the queue after an addition: its work comes last
+abbrev pub queue_added : {Q : Type 0} → AddReply Q → List (Ticket × Q) → Q → List (Ticket × Q)
+queue_added (add.Added t) queue work = queue ++ (t, work) ∷ []
+queue_added _ queue work = queue
+
+-- what a refused addition hands back
+abbrev pub handed_back : {Q : Type 0} → AddReply Q → Option Q
+handed_back (add.Added t) = None
+handed_back (add.AddedAlready work) = Some work
+handed_back (add.TableFull work) = Some work
+handed_back (add.HistoryFull work) = Some work
+handed_back (add.OutOfMemory work) = Some work
+
+abbrev pub work_back : {Q : Type 0} → AddReply Q → Q → Option Q
+work_back (add.Added t) work = None
+work_back _ work = Some work
+
+abbrev pub reply_of_remove : RemoveReply → Reply
+reply_of_remove remove.Removed = reply.Removed
+reply_of_remove remove.NotAdded = reply.RemoveNotAdded
+reply_of_remove remove.OutOfMemory = reply.OutOfMemory
+
+abbrev pub reply_of_pause : PauseReply → Reply
+reply_of_pause pausing.Changed = reply.Changed
+reply_of_pause pausing.NotAdded = reply.NotAdded
+reply_of_pause pausing.NotRunning = reply.NotRunning
+reply_of_pause pausing.NoChange = reply.NoChange
+reply_of_pause pausing.HistoryFull = reply.HistoryFull
+reply_of_pause pausing.OutOfMemory = reply.OutOfMemory
+
+abbrev pub reply_of_wakeup : WakeupReply → Reply
+reply_of_wakeup wakeup.Ok = reply.Ok
+reply_of_wakeup wakeup.Failure = reply.Failure
+reply_of_wakeup wakeup.OutOfMemory = reply.OutOfMemory
+
+-- what is not under the ticket
+abbrev pub without : {X : Type 0} → Option Ticket → List (Ticket × X) → List (Ticket × X)
+without None xs = xs
+without (Some t) xs = filter (λ x. not (same_ticket x.0 t)) xs
+
+-- the ticket, where it was removed
+abbrev pub removed : RemoveReply → Option Ticket → Option Ticket
+removed remove.Removed t = t
+removed remove.NotAdded t = None
+removed remove.OutOfMemory t = None
+
+abbrev pub reply_of_finish : {Q O : Type 0} → FinishReply Q O → Reply
+reply_of_finish finish.Recorded = reply.Recorded
+reply_of_finish (finish.Stale _) = reply.Stale
+reply_of_finish (finish.OutOfMemory _ _) = reply.OutOfMemory
+
+-- the ticket, where its end was recorded
+abbrev pub recorded : {Q O : Type 0} → FinishReply Q O → Ticket → Option Ticket
+recorded finish.Recorded t = Some t
+recorded (finish.Stale _) t = None
+recorded (finish.OutOfMemory _ _) t = None
+
+-- the endings after an end: a recorded one comes last
+abbrev pub endings_finished : {Q O : Type 0} → FinishReply Q O → Ticket → O → List (Ticket × O) → List (Ticket × O)
+endings_finished finish.Recorded t o endings = endings ++ (t, o) ∷ []
+endings_finished (finish.Stale _) t o endings = endings
+endings_finished (finish.OutOfMemory _ _) t o endings = endings
+
+-- what is not recorded is handed back
+abbrev pub IsHandedBack : {Q O : Type 0} → Claimed → O → FinishReply Q O → Type 0
+IsHandedBack claim ending finish.Recorded = Unit {0}
+IsHandedBack claim ending (finish.Stale o) = o ≡ ending
+IsHandedBack claim ending (finish.OutOfMemory c o) = (c ≡ claim) × (o ≡ ending)
+
+abbrev pub reply_of_info : {O : Type 0} → (O → Code) → (O → ℕ) → InfoReply O → Reply
+reply_of_info code size (info.Message h t o left) = reply.Message h t (code o) (size o) left
+reply_of_info code size info.Empty = reply.Empty
+reply_of_info code size info.OutOfMemory = reply.OutOfMemory
+
+-- the ending that a message took
+abbrev pub ending_read : {O : Type 0} → InfoReply O → List (Ticket × O)
+ending_read (info.Message h t o left) = (t, o) ∷ []
+ending_read info.Empty = []
+ending_read info.OutOfMemory = []
+
+abbrev pub is_pausing : What → Bool
+is_pausing (what.Paused _) = true
+is_pausing (what.Resumed _) = true
+is_pausing _ = false
+
+-- the journal after a pause or a resumption that may follow
+abbrev pub journal_after_pausing : PauseReply → List Event → Event → List Event
+journal_after_pausing pausing.Changed j e = j ++ e ∷ []
+journal_after_pausing _ j e = j
+
+-- which answers a pause or a resumption that may follow gives, with room and without
+abbrev pub IsPausingAnswer : PauseReply → Bool → Type 0
+IsPausingAnswer pausing.Changed room = room ≡ true
+IsPausingAnswer pausing.OutOfMemory room = room ≡ true
+IsPausingAnswer pausing.HistoryFull room = room ≡ false
+IsPausingAnswer pausing.NotAdded room = ⊥
+IsPausingAnswer pausing.NotRunning room = ⊥
+IsPausingAnswer pausing.NoChange room = ⊥

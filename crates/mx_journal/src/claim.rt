@@ -1,0 +1,54 @@
+//! What a worker holds for the work that it was given.
+ghost use Rattle.std.specs.Prelude.{◌≡◌};
+
+use mx_types::{HandleId, Ticket, Work};
+use std::marker::Model;
+use std::snapshot::Snapshot;
+
+/// The right to finish or to give back one addition's work.
+#[derive(Drop)]
+pub struct Claim<Q: Work> {
+    handle: HandleId,
+    ticket: Ticket,
+    slot: u8,
+    work: Snapshot<Q>,
+}
+
+impl<Q: Work> Model for Claim<Q> {
+    ghost use Rattle.mx_journal.specs.Core.{Claimed};
+
+    ghost Value = { Claimed };
+
+    ghost view = { λ c. record { handle = c.handle; ticket = c.ticket; slot = c.slot; origin = Q.origin c.work.value } };
+}
+
+impl<Q: Work> Claim<Q> {
+    pub(crate) fn of(handle: HandleId, ticket: Ticket, slot: u8, work: &Q) -> Claim<Q>
+        ensures { result ≡ record { handle = handle; ticket = ticket; slot = slot; origin = Q.origin work.now } }
+    {
+        Claim {
+            handle,
+            ticket,
+            slot,
+            work: Snapshot::of(work),
+        }
+    }
+
+    pub fn handle(&self) -> HandleId
+        ensures { result ≡ self.now.handle }
+    {
+        self.handle
+    }
+
+    pub fn ticket(&self) -> Ticket
+        ensures { result ≡ self.now.ticket }
+    {
+        self.ticket
+    }
+
+    pub fn slot(&self) -> u8
+        ensures { result ≡ self.now.slot }
+    {
+        self.slot
+    }
+}

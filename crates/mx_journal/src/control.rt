@@ -1,0 +1,360 @@
+//! The control state of a multi handle.
+ghost use Rattle.std.specs.Prelude.{map, ◌≡◌, ◌≤◌, ◌++◌, ◌∷◌, [], List, length, true, drop, OnOk, OnErr, IfOk, IfSome, IfNone};
+ghost use Rattle.std.specs.List.{AllByRecursion};
+ghost use Rattle.mx_types.specs.declared.call.Call.{Call};
+ghost use Rattle.mx_journal.specs.History.{may_follow, has_room, has_ticket, is_maker, made_by, running, added};
+ghost use Rattle.mx_journal.specs.Answers.{ticket_of, handle_of, Answers, is_ready, look_of, state_of};
+ghost use Rattle.mx_journal.specs.Core.{claimed, queued, IsSound};
+ghost use Rattle.mx_journal.specs.Replies.{is_pausing, journal_after_pausing, IsPausingAnswer, reply_of_info, ending_read, recorded, endings_finished, IsHandedBack, reply_of_finish, without, removed, queue_added, handed_back, work_back, reply_of_add, reply_of_remove, reply_of_pause, reply_of_wakeup};
+ghost use Rattle.mx_journal.specs.Slots.{slot_of};
+
+use crate::claim::Claim;
+use crate::journal_table::JournalTable;
+use crate::log::Log;
+use crate::pairs::drop_ticket;
+use crate::replies::{AddReply, FinishReply, InfoReply, PauseReply, RemoveReply, WakeupReply};
+use mx_types::{
+    AddedHandles, Ending, Event, HandleId, Look, OutOfMemory, State, Ticket, What, Who, Work,
+};
+use std::alloc::Global;
+use std::marker::Model;
+
+#[derive(Drop)]
+pub struct Control<Q: Work, O: Ending> {
+    table: JournalTable,
+    queue: Vec<(Ticket, Q)>,
+    endings: Vec<(Ticket, O)>,
+}
+
+impl<Q: Work, O: Ending> Model for Control<Q, O> {
+    ghost use Rattle.std.specs.Prelude.{vec_capacity};
+    ghost use Rattle.mx_journal.specs.Core.{Core, IsControl};
+
+    ghost Value = { Core Q O };
+
+    ghost view = { λ c. record { opening = record { history = c.table.history }; journal = c.table.journal; queue = c.queue.items; endings = c.endings.items } };
+
+    ghost invariant = { λ c. IsControl O.code_of O.size_of c.table.history c.table.journal c.queue.items c.endings.items (vec_capacity c.queue) (vec_capacity c.endings) };
+}
+
+impl<Q: Work + Drop, O: Ending + Drop> Control<Q, O> {
+    /// An empty control state, with the space for so many events.
+    pub fn new(alloc: Global, history: u32) -> Result<Control<Q, O>, OutOfMemory>
+        requires { (4 ≤ history) × (history ≤ 1048576) }
+        ensures { IfOk result (λ c. c ≡ record { opening = record { history = history }; journal = []; queue = []; endings = [] }) }
+    {
+        Ok(Control {
+            table: JournalTable::new(alloc, history)?,
+            queue: Vec::with_capacity(alloc, 256)?,
+            endings: Vec::with_capacity(alloc, 256)?,
+        })
+    }
+
+    /// What is true of every core: its journal is legal and has room for what is due; its queue has running tickets,
+    /// each once, by ticket; its endings are those of the messages that wait, in their order. That the table is the
+    /// one of the journal is seen through `state`, `look`, `made` and the slots of claims.
+    pub fn sound(&self)
+        ensures { IsSound O.code_of O.size_of self.now.opening.history self.now.journal self.now.queue self.now.endings }
+    {
+        let _ = &self.table;
+    }
+
+    /// Adds a handle, and puts its work at the end of the queue.
+    pub fn add<L: Log>(&mut self, log: &mut L, who: Who, handle: HandleId, work: Q) -> AddReply<Q>
+        requires { is_maker who ≡ true }
+        ensures answers { Answers self.old.opening who (Call.Add handle) self.old.journal (reply_of_add result) self.new.journal }
+        ensures logged { L.events log.new ≡ L.events log.old ++ drop (length self.old.journal) self.new.journal }
+        ensures opening { self.new.opening ≡ self.old.opening }
+        ensures endings { self.new.endings ≡ self.old.endings }
+        ensures queue { self.new.queue ≡ queue_added result self.old.queue work }
+        ensures back { handed_back result ≡ work_back result work }
+    {
+        if self.table.row_of_handle(handle).is_some() {
+            return AddReply::AddedAlready(work);
+        }
+        if self.table.is_full() {
+            return AddReply::TableFull(work);
+        }
+        if !self.table.has_room(4) {
+            return AddReply::HistoryFull(work);
+        }
+        let ticket = self.table.next_ticket();
+        let event = Event {
+            who,
+            what: What::Added(handle, ticket),
+        };
+        if log.append(event).is_err() {
+            return AddReply::OutOfMemory(work);
+        }
+        self.table.enter(event);
+        self.queue.push_reserved((ticket, work));
+        AddReply::Added(ticket)
+    }
+
+    /// Removes a handle, with its queued work or its unread ending.
+    pub fn remove<L: Log>(&mut self, log: &mut L, who: Who, handle: HandleId) -> RemoveReply
+        requires { is_maker who ≡ true }
+        ensures answers { Answers self.old.opening who (Call.Remove handle) self.old.journal (reply_of_remove result) self.new.journal }
+        ensures logged { L.events log.new ≡ L.events log.old ++ drop (length self.old.journal) self.new.journal }
+        ensures opening { self.new.opening ≡ self.old.opening }
+        ensures queue { self.new.queue ≡ without (removed result (ticket_of handle self.old.journal)) self.old.queue }
+        ensures endings { self.new.endings ≡ without (removed result (ticket_of handle self.old.journal)) self.old.endings }
+    {
+        let Some(row) = self.table.row_of_handle(handle) else {
+            return RemoveReply::NotAdded;
+        };
+        let event = Event {
+            who,
+            what: What::Removed(handle, row.ticket),
+        };
+        if log.append(event).is_err() {
+            return RemoveReply::OutOfMemory;
+        }
+        self.table.enter(event);
+        drop_ticket(&mut self.queue, row.ticket);
+        drop_ticket(&mut self.endings, row.ticket);
+        RemoveReply::Removed
+    }
+
+    /// Pauses a handle.
+    pub fn pause<L: Log>(&mut self, log: &mut L, who: Who, handle: HandleId) -> PauseReply
+        requires { is_maker who ≡ true }
+        ensures answers { Answers self.old.opening who (Call.Pause handle) self.old.journal (reply_of_pause result) self.new.journal }
+        ensures logged { L.events log.new ≡ L.events log.old ++ drop (length self.old.journal) self.new.journal }
+        ensures opening { self.new.opening ≡ self.old.opening }
+        ensures queue { self.new.queue ≡ self.old.queue }
+        ensures endings { self.new.endings ≡ self.old.endings }
+    {
+        let Some(row) = self.table.row_of_handle(handle) else {
+            return PauseReply::NotAdded;
+        };
+        if !row.phase.is_open() {
+            return PauseReply::NotRunning;
+        }
+        if row.phase.is_paused() {
+            return PauseReply::NoChange;
+        }
+        self.append_pausing(
+            log,
+            Event {
+                who,
+                what: What::Paused(row.ticket),
+            },
+        )
+    }
+
+    /// Resumes a handle.
+    pub fn unpause<L: Log>(&mut self, log: &mut L, who: Who, handle: HandleId) -> PauseReply
+        requires { is_maker who ≡ true }
+        ensures answers { Answers self.old.opening who (Call.Unpause handle) self.old.journal (reply_of_pause result) self.new.journal }
+        ensures logged { L.events log.new ≡ L.events log.old ++ drop (length self.old.journal) self.new.journal }
+        ensures opening { self.new.opening ≡ self.old.opening }
+        ensures queue { self.new.queue ≡ self.old.queue }
+        ensures endings { self.new.endings ≡ self.old.endings }
+    {
+        let Some(row) = self.table.row_of_handle(handle) else {
+            return PauseReply::NotAdded;
+        };
+        if !row.phase.is_open() {
+            return PauseReply::NotRunning;
+        }
+        if !row.phase.is_paused() {
+            return PauseReply::NoChange;
+        }
+        self.append_pausing(
+            log,
+            Event {
+                who,
+                what: What::Resumed(row.ticket),
+            },
+        )
+    }
+
+    // Writes a pause or a resumption that may follow, where it has room.
+    fn append_pausing<L: Log>(&mut self, log: &mut L, event: Event) -> PauseReply
+        requires maker { is_maker event.who ≡ true }
+        requires may { may_follow self.old.journal event.what ≡ true }
+        requires kind { is_pausing event.what ≡ true }
+        ensures journal { self.new.journal ≡ journal_after_pausing result self.old.journal event }
+        ensures room { IsPausingAnswer result (has_room self.old.opening.history self.old.journal 1) }
+        ensures logged { L.events log.new ≡ L.events log.old ++ drop (length self.old.journal) self.new.journal }
+        ensures opening { self.new.opening ≡ self.old.opening }
+        ensures queue { self.new.queue ≡ self.old.queue }
+        ensures endings { self.new.endings ≡ self.old.endings }
+    {
+        if !self.table.has_room(1) {
+            return PauseReply::HistoryFull;
+        }
+        if log.append(event).is_err() {
+            return PauseReply::OutOfMemory;
+        }
+        self.table.enter(event);
+        PauseReply::Changed
+    }
+
+    /// Reads the first message.
+    pub fn info_read<L: Log>(&mut self, log: &mut L, who: Who) -> InfoReply<O>
+        requires { is_maker who ≡ true }
+        ensures answers { Answers self.old.opening who Call.InfoRead self.old.journal (reply_of_info O.code_of O.size_of result) self.new.journal }
+        ensures logged { L.events log.new ≡ L.events log.old ++ drop (length self.old.journal) self.new.journal }
+        ensures opening { self.new.opening ≡ self.old.opening }
+        ensures queue { self.new.queue ≡ self.old.queue }
+        ensures endings { self.old.endings ≡ ending_read result ++ self.new.endings }
+    {
+        if self.endings.is_empty() {
+            return InfoReply::Empty;
+        }
+        let ticket = self.endings[0].0;
+        let event = Event {
+            who,
+            what: What::Read(ticket),
+        };
+        if log.append(event).is_err() {
+            return InfoReply::OutOfMemory;
+        }
+        let Some(row) = self.table.row_of_ticket(ticket) else {
+            unreachable!()
+        };
+        self.table.enter(event);
+        let (_, ending) = self.endings.remove(0);
+        InfoReply::Message {
+            handle: row.handle,
+            ticket,
+            ending,
+            left: self.endings.len() as u32,
+        }
+    }
+
+    /// Wakes those that poll.
+    pub fn wakeup<L: Log>(&mut self, log: &mut L, who: Who) -> WakeupReply
+        requires { is_maker who ≡ true }
+        ensures answers { Answers self.old.opening who Call.Wakeup self.old.journal (reply_of_wakeup result) self.new.journal }
+        ensures logged { L.events log.new ≡ L.events log.old ++ drop (length self.old.journal) self.new.journal }
+        ensures opening { self.new.opening ≡ self.old.opening }
+        ensures queue { self.new.queue ≡ self.old.queue }
+        ensures endings { self.new.endings ≡ self.old.endings }
+    {
+        if !self.table.has_room(1) {
+            return WakeupReply::Failure;
+        }
+        let event = Event {
+            who,
+            what: What::Wake,
+        };
+        if log.append(event).is_err() {
+            return WakeupReply::OutOfMemory;
+        }
+        self.table.enter(event);
+        WakeupReply::Ok
+    }
+
+    /// Records the end of a claimed transfer.
+    pub fn finish<L: Log>(
+        &mut self,
+        log: &mut L,
+        who: Who,
+        claim: Claim<Q>,
+        ending: O,
+    ) -> FinishReply<Q, O>
+        requires maker { is_maker who ≡ true }
+        requires origin { O.origin ending ≡ claim.origin }
+        ensures answers { Answers self.old.opening who (Call.Finish claim.ticket (O.code_of ending) (O.size_of ending)) self.old.journal (reply_of_finish result) self.new.journal }
+        ensures logged { L.events log.new ≡ L.events log.old ++ drop (length self.old.journal) self.new.journal }
+        ensures opening { self.new.opening ≡ self.old.opening }
+        ensures queue { self.new.queue ≡ without (recorded result claim.ticket) self.old.queue }
+        ensures endings { self.new.endings ≡ endings_finished result claim.ticket ending self.old.endings }
+        ensures back { IsHandedBack claim ending result }
+    {
+        let ticket = claim.ticket();
+        match self.table.row_of_ticket(ticket) {
+            Some(row) if row.phase.is_open() => {}
+            _ => return FinishReply::Stale(ending),
+        }
+        let event = Event {
+            who,
+            what: What::Done(ticket, ending.code(), ending.size()),
+        };
+        if log.append(event).is_err() {
+            return FinishReply::OutOfMemory(claim, ending);
+        }
+        self.table.enter(event);
+        drop_ticket(&mut self.queue, ticket);
+        self.endings.push_reserved((ticket, ending));
+        FinishReply::Recorded
+    }
+
+    /// Takes the work of the lowest ticket in the queue, paused or not; the ticket is then claimed. None where the
+    /// queue is empty.
+    pub fn claim(&mut self) -> Option<(Claim<Q>, Q)>
+        ensures opening { self.new.opening ≡ self.old.opening }
+        ensures journal { self.new.journal ≡ self.old.journal }
+        ensures endings { self.new.endings ≡ self.old.endings }
+        ensures none { IfNone result ((self.old.queue ≡ []) × (self.new.queue ≡ [])) }
+        ensures some { IfSome result (λ r. self.old.queue ≡ (r.0.ticket, r.1) ∷ self.new.queue) }
+        ensures least { IfSome result (λ r. AllByRecursion (λ t. r.0.ticket.0 ≤ t.0) (queued self.old.queue)) }
+        ensures claimed { IfSome result (λ r. has_ticket r.0.ticket (claimed self.new.journal self.new.queue) ≡ true) }
+        ensures origin { IfSome result (λ r. r.0.origin ≡ Q.origin r.1) }
+        ensures handle { IfSome result (λ r. handle_of r.0.ticket self.old.journal ≡ Some r.0.handle) }
+        ensures slot { IfSome result (λ r. slot_of r.0.ticket self.old.journal ≡ Some r.0.slot) }
+    {
+        if self.queue.is_empty() {
+            return None;
+        }
+        let (ticket, work) = self.queue.remove(0);
+        let Some(row) = self.table.row_of_ticket(ticket) else {
+            unreachable!()
+        };
+        let claim = Claim::of(row.handle, ticket, row.slot, &work);
+        Some((claim, work))
+    }
+
+    /// Whether an event at or after the mark lets a poll return.
+    pub fn poll_ready(&self, since: u32) -> bool
+        ensures { result ≡ is_ready since self.now.journal }
+    {
+        self.table.is_ready(since)
+    }
+
+    /// How many events the journal has.
+    pub fn len(&self) -> u32
+        ensures { result ≡ length self.now.journal }
+    {
+        self.table.len()
+    }
+
+    /// The handles that are added, in the order of their addition.
+    pub fn handles(&self) -> AddedHandles
+        ensures { result ≡ map (λ a. a.handle) (added self.now.journal) }
+    {
+        self.table.handles()
+    }
+
+    /// How many transfers run, paused ones too.
+    pub fn running(&self) -> u32
+        ensures { result ≡ length (running self.now.journal) }
+    {
+        self.table.running()
+    }
+
+    /// Where a handle stands.
+    pub fn state(&self, handle: HandleId) -> State
+        ensures { result ≡ state_of handle self.now.journal }
+    {
+        self.table.state(handle)
+    }
+
+    /// What a worker is told of a ticket.
+    pub fn look(&self, ticket: Ticket) -> Look
+        ensures { result ≡ look_of ticket self.now.journal }
+    {
+        self.table.look(ticket)
+    }
+
+    /// How many events the maker made.
+    pub fn made(&self, who: Who) -> u32
+        requires { is_maker who ≡ true }
+        ensures { result ≡ made_by who self.now.journal }
+    {
+        self.table.made(who)
+    }
+}

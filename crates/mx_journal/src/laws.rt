@@ -1,0 +1,39 @@
+//! What every legal history keeps. Each law is the contract of a function that does nothing: a caller that calls it
+//! may use it in its own proof.
+ghost use Rattle.mx_journal.specs.Laws.{AnswerIsLegal, ClosingFindsRoom, EachAtMostOnce, LegalIsTidy, NothingAfterRemoval, PrefixIsLegal, ReadyStays};
+
+/// What comes first in a legal history is one.
+pub fn prefix_is_legal()
+    ensures { PrefixIsLegal }
+{}
+
+/// The event of an answer is legal, and leaves room for what is then due.
+pub fn answer_is_legal()
+    ensures { AnswerIsLegal }
+{}
+
+/// An end, a reading and a removal always find room.
+pub fn closing_finds_room()
+    ensures { ClosingFindsRoom }
+{}
+
+/// Each ticket is added, ended, read and removed at most once: at most one message, read at most once.
+pub fn each_at_most_once()
+    ensures { EachAtMostOnce }
+{}
+
+/// After its removal a ticket has no event: no message, and none is read.
+pub fn nothing_after_removal()
+    ensures { NothingAfterRemoval }
+{}
+
+/// At most 256 handles are added, each once, by rising tickets; each message that waits is of one of them, and
+/// waits once.
+pub fn legal_is_tidy()
+    ensures { LegalIsTidy }
+{}
+
+/// A poll that may return may return later too.
+pub fn ready_stays()
+    ensures { ReadyStays }
+{}

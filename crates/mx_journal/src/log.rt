@@ -1,0 +1,56 @@
+//! Where events are appended.
+ghost use Rattle.std.specs.Prelude.{◌≡◌, ◌++◌, ◌∷◌, [], List, OnOk, OnErr, IfOk};
+ghost use Rattle.mx_types.specs.declared.event.Event.{Event};
+
+use mx_types::{Event, OutOfMemory};
+use std::alloc::Global;
+
+/// A list of events that only grows.
+pub trait Log {
+    ghost events: { Self → List Event };
+
+    /// Appends the event, or changes nothing where memory is refused.
+    fn append(&mut self, event: Event) -> Result<(), OutOfMemory>
+        ensures ok { OnOk result (events self.new ≡ events self.old ++ event ∷ []) }
+        ensures err { OnErr result (events self.new ≡ events self.old) };
+}
+
+/// A log in a vector.
+#[derive(Drop)]
+pub struct VecLog {
+    list: Vec<Event>,
+}
+
+impl std::marker::Model for VecLog {
+    ghost use Rattle.std.specs.Prelude.{List};
+    ghost use Rattle.mx_types.specs.declared.event.Event.{Event};
+
+    ghost Value = { List Event };
+
+    ghost view = { λ l. l.list.items };
+}
+
+impl VecLog {
+    pub fn new(alloc: Global) -> VecLog
+        ensures { result ≡ [] }
+    {
+        VecLog {
+            list: Vec::new(alloc),
+        }
+    }
+
+    pub fn events(&self) -> &[Event]
+        ensures { result.now ≡ self.now }
+    {
+        self.list.as_slice()
+    }
+}
+
+impl Log for VecLog {
+    ghost events = { λ l. l };
+
+    fn append(&mut self, event: Event) -> Result<(), OutOfMemory> {
+        self.list.push(event)?;
+        Ok(())
+    }
+}

@@ -1,0 +1,152 @@
+//! The table of a multi handle: what its events come to.
+ghost use Rattle.std.specs.Prelude.{◌≡◌, ◌++◌, ◌∷◌, [], List, length, true, false, map, IfOk, IfSome, IfNone, nat_le};
+ghost use Rattle.std.specs.Option.{option_map};
+ghost use Rattle.mx_types.specs.declared.event.Event.{Event};
+ghost use Rattle.mx_journal.specs.History.{added, running, due, has_ticket, may_follow, is_maker, made_by};
+ghost use Rattle.mx_journal.specs.Answers.{ticket_of, handle_of, next_ticket, state_of, look_of};
+ghost use Rattle.mx_journal.specs.Slots.{slot_of};
+ghost use Rattle.mx_journal.specs.Table.{IsTableOf, MayEnter, IsRow};
+
+use crate::makers::MakerCounts;
+use crate::row::Row;
+use crate::rows;
+use mx_types::{AddedHandles, Event, HandleId, Look, OutOfMemory, State, Ticket, Who};
+use std::alloc::Global;
+use std::marker::Model;
+
+/// The fold of events: the added handles in order with their tickets, slots and phases, how many events there
+/// were, and who made how many. Each answer speaks of any events of which this is the table.
+#[derive(Drop)]
+pub struct Table {
+    rows: Vec<Row>,
+    added: u32,
+    events: u32,
+    makers: MakerCounts,
+}
+
+impl Model for Table {
+    ghost use Rattle.std.specs.Prelude.{◌≤◌, length, vec_capacity};
+    ghost use Rattle.mx_journal.specs.Table.{TableView};
+
+    ghost Value = { TableView };
+
+    ghost view = { λ t. record { rows = t.rows.items; added = t.added; events = t.events; makers = t.makers } };
+
+    ghost invariant = { λ t. (length t.rows.items ≤ 256) × (256 ≤ vec_capacity t.rows) };
+}
+
+impl Table {
+    /// The table of no events, with space for all the rows that it can ever have.
+    pub fn new(alloc: Global) -> Result<Table, OutOfMemory>
+        ensures { IfOk result (λ t. IsTableOf [] t) }
+    {
+        Ok(Table {
+            rows: Vec::with_capacity(alloc, 256)?,
+            added: 0,
+            events: 0,
+            makers: MakerCounts::new(),
+        })
+    }
+
+    /// The row of a handle that is added.
+    pub fn row_of_handle(&self, handle: HandleId) -> Option<Row>
+        ensures ticket { (j : List Event) → IsTableOf j self.now → option_map (λ r. r.ticket) result ≡ ticket_of handle j }
+        ensures row { (j : List Event) → IsTableOf j self.now → IfSome result (IsRow j) }
+    {
+        rows::row_of_handle(&self.rows, handle)
+    }
+
+    /// The row of a ticket that is added.
+    pub fn row_of_ticket(&self, ticket: Ticket) -> Option<Row>
+        ensures handle { (j : List Event) → IsTableOf j self.now → option_map (λ r. r.handle) result ≡ handle_of ticket j }
+        ensures slot { (j : List Event) → IsTableOf j self.now → option_map (λ r. r.slot) result ≡ slot_of ticket j }
+        ensures row { (j : List Event) → IsTableOf j self.now → IfSome result (IsRow j) }
+        ensures same { IfSome result (λ r. r.ticket ≡ ticket) }
+        ensures none { (j : List Event) → IsTableOf j self.now → IfNone result (has_ticket ticket (running j) ≡ false) }
+    {
+        rows::row_of_ticket(&self.rows, ticket)
+    }
+
+    /// Where a handle stands.
+    pub fn state(&self, handle: HandleId) -> State
+        ensures { (j : List Event) → IsTableOf j self.now → result ≡ state_of handle j }
+    {
+        match self.row_of_handle(handle) {
+            None => State::NotAdded,
+            Some(row) => row.state(),
+        }
+    }
+
+    /// What a worker is told of a ticket.
+    pub fn look(&self, ticket: Ticket) -> Look
+        ensures { (j : List Event) → IsTableOf j self.now → result ≡ look_of ticket j }
+    {
+        match self.row_of_ticket(ticket) {
+            Some(row) if row.phase.is_paused() => Look::Paused,
+            Some(row) if row.phase.is_open() => Look::Go,
+            _ => Look::Gone,
+        }
+    }
+
+    /// The handles that are added, in order.
+    pub fn handles(&self) -> AddedHandles
+        ensures { (j : List Event) → IsTableOf j self.now → result ≡ map (λ a. a.handle) (added j) }
+    {
+        AddedHandles::new(rows::handles(&self.rows))
+    }
+
+    /// How many transfers run, paused ones too.
+    pub fn running(&self) -> u32
+        ensures { (j : List Event) → IsTableOf j self.now → result ≡ length (running j) }
+    {
+        rows::running(&self.rows) as u32
+    }
+
+    /// Whether 256 handles are added.
+    pub fn is_full(&self) -> bool
+        ensures { (j : List Event) → IsTableOf j self.now → result ≡ nat_le 256 (length (added j)) }
+    {
+        self.rows.len() >= 256
+    }
+
+    /// How many events the added handles have to come.
+    pub fn due(&self) -> u32
+        ensures { (j : List Event) → IsTableOf j self.now → result ≡ due j }
+    {
+        rows::places(&self.rows)
+    }
+
+    /// The ticket of the next addition.
+    pub fn next_ticket(&self) -> Ticket
+        ensures { (j : List Event) → IsTableOf j self.now → result ≡ next_ticket j }
+    {
+        Ticket(self.added)
+    }
+
+    /// How many events there were.
+    pub fn len(&self) -> u32
+        ensures { (j : List Event) → IsTableOf j self.now → result ≡ length j }
+    {
+        self.events
+    }
+
+    /// How many events the maker made.
+    pub fn made(&self, who: Who) -> u32
+        requires { is_maker who ≡ true }
+        ensures { (j : List Event) → IsTableOf j self.now → result ≡ made_by who j }
+    {
+        self.makers.get(who)
+    }
+
+    /// Takes in an event that may follow.
+    pub fn enter(&mut self, event: Event)
+        requires maker { is_maker event.who ≡ true }
+        requires may { MayEnter self.old event }
+        ensures { (j : List Event) → IsTableOf j self.old → may_follow j event.what ≡ true → IsTableOf (j ++ event ∷ []) self.new }
+    {
+        self.events += 1;
+        self.added += rows::additions_by(&event.what);
+        self.makers.add_one(event.who);
+        rows::enter(&mut self.rows, &event.what);
+    }
+}

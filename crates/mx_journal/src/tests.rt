@@ -1,0 +1,188 @@
+//! Want of memory: a log that refuses one append, over a script of all calls.
+ghost use Rattle.std.specs.Prelude.{◌≡◌, ◌≤◌, [], List, ℕ};
+
+use crate::claim::Claim;
+use crate::control::Control;
+use crate::log::{Log, VecLog};
+use crate::replies::{AddReply, FinishReply, InfoReply, PauseReply, RemoveReply, WakeupReply};
+use mx_types::{Code, Ending, Event, HandleId, OutOfMemory, State, Ticket, Who, Work};
+use std::alloc::Global;
+use std::process::Abort;
+use std::test::Fail;
+
+/// Work without a request.
+#[derive(Drop)]
+struct Job;
+
+impl Work for Job {
+    ghost origin = { λ _. [] };
+}
+
+/// An ending without a request.
+#[derive(Drop)]
+struct End {
+    code: Code,
+}
+
+impl Ending for End {
+    ghost origin = { λ _. [] };
+
+    ghost code_of = { λ e. e.code };
+
+    ghost size_of = { λ _. 0 };
+
+    fn code(&self) -> Code {
+        self.code
+    }
+
+    fn size(&self) -> u32 {
+        0
+    }
+}
+
+/// A log that refuses one append: the one that finds `accepts` at 0.
+#[derive(Drop)]
+struct RefusesOnce {
+    list: VecLog,
+    accepts: u32,
+    refused: bool,
+}
+
+impl Log for RefusesOnce {
+    ghost events = { λ l. l.list };
+
+    fn append(&mut self, event: Event) -> Result<(), OutOfMemory> {
+        if self.accepts == 0 && !self.refused {
+            self.refused = true;
+            return Err(OutOfMemory);
+        }
+        self.accepts = self.accepts.saturating_sub(1);
+        self.list.append(event)
+    }
+}
+
+const SEAT: Who = Who::Seat(3);
+
+/// A call of the script.
+#[derive(Clone, Copy)]
+enum Step {
+    Add(u32),
+    Remove(u32),
+    Pause(u32),
+    Unpause(u32),
+    Read,
+    Wakeup,
+    Finish(u32),
+}
+
+/// A core, its log, and the claims that are held.
+#[derive(Drop)]
+struct Caller {
+    control: Control<Job, End>,
+    log: RefusesOnce,
+    claims: Vec<Claim<Job>>,
+}
+
+fn pause_memory(reply: PauseReply) -> bool {
+    matches!(reply, PauseReply::OutOfMemory)
+}
+
+impl Caller {
+    /// Whether the call found no memory.
+    fn lacks_memory(&mut self, step: Step) -> Result<bool, Fail> {
+        let log = &mut self.log;
+        Ok(match step {
+            Step::Add(h) => {
+                let reply = self.control.add(log, SEAT, HandleId(h), Job);
+                if let Some((claim, _job)) = self.control.claim() {
+                    self.claims.push(claim)?;
+                }
+                matches!(reply, AddReply::OutOfMemory(_))
+            }
+            Step::Remove(h) => {
+                let reply = self.control.remove(log, SEAT, HandleId(h));
+                matches!(reply, RemoveReply::OutOfMemory)
+            }
+            Step::Pause(h) => pause_memory(self.control.pause(log, SEAT, HandleId(h))),
+            Step::Unpause(h) => pause_memory(self.control.unpause(log, SEAT, HandleId(h))),
+            Step::Read => {
+                let reply = self.control.info_read(log, SEAT);
+                matches!(reply, InfoReply::OutOfMemory)
+            }
+            Step::Wakeup => {
+                let reply = self.control.wakeup(log, SEAT);
+                matches!(reply, WakeupReply::OutOfMemory)
+            }
+            Step::Finish(t) => match self.claims.iter().position(|c| c.ticket() == Ticket(t)) {
+                None => false,
+                Some(at) => {
+                    let claim = self.claims.remove(at);
+                    let end = End { code: Code::Ok };
+                    match self.control.finish(&mut self.log, SEAT, claim, end) {
+                        FinishReply::OutOfMemory(claim, _end) => {
+                            self.claims.push(claim)?;
+                            true
+                        }
+                        _ => false,
+                    }
+                }
+            },
+        })
+    }
+}
+
+/// Each of these calls makes an event.
+const SCRIPT: [Step; 14] = [
+    Step::Add(7),
+    Step::Add(9),
+    Step::Pause(7),
+    Step::Unpause(7),
+    Step::Pause(9),
+    Step::Wakeup,
+    Step::Finish(1),
+    Step::Finish(0),
+    Step::Read,
+    Step::Remove(9),
+    Step::Add(9),
+    Step::Read,
+    Step::Wakeup,
+    Step::Remove(7),
+];
+
+/// Runs the script with a log that refuses its append number `refused`; the call that finds no memory changes
+/// nothing, and is made again.
+fn refuses_at(rt: &impl Abort, alloc: Global, refused: u32) -> Result<(), Fail> {
+    let mut caller = Caller {
+        control: Control::new(alloc, 64)?,
+        log: RefusesOnce {
+            list: VecLog::new(alloc),
+            accepts: refused,
+            refused: false,
+        },
+        claims: Vec::new(alloc),
+    };
+    let mut events = 0;
+    for step in SCRIPT {
+        let before = caller.control.handles();
+        let lacks = caller.lacks_memory(step)?;
+        assert_eq!(rt; lacks, events == refused);
+        if lacks {
+            assert_eq!(rt; caller.control.handles().as_slice(), before.as_slice());
+            assert_eq!(rt; caller.log.list.events().len() as u32, events);
+            assert!(rt; !caller.lacks_memory(step)?);
+        }
+        events += 1;
+        assert_eq!(rt; caller.control.len(), events);
+    }
+    assert!(rt; matches!(caller.control.state(HandleId(9)), State::Running(Ticket(2))));
+    assert_eq!(rt; caller.control.made(SEAT), 14);
+    Ok(())
+}
+
+#[test]
+fn a_refused_log_changes_nothing(rt: HostRuntime) -> Result<(), Fail> {
+    for refused in 0..15 {
+        refuses_at(&rt, rt.alloc(), refused)?;
+    }
+    Ok(())
+}
