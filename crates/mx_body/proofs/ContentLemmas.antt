@@ -53,8 +53,7 @@ chunks_within at to (c ∷ cs) are le =
     let is = All-head IsChunk c cs are in
     let long = length-append (print_chunk c) (print_chunks cs) in
     let one : length (print_chunk c) ≡ length (print_size_line c.line) + (length c.bytes + 2) = omega (arith, length-append (print_size_line c.line) (c.bytes ++ crlf_bytes), length-append c.bytes crlf_bytes) in
-    let later = chunks_within (at + length (print_chunk c)) to cs (All-tail IsChunk c cs are) (omega (arith, le, long)) in
-    (
+    let later = chunks_within (at + length (print_chunk c)) to cs (All-tail IsChunk c cs are) (omega (arith, le, long)) in (
       omega arith,
       omega (arith, is.not_empty),
       lower (at + length (print_chunk c)) (at + length (print_size_line c.line) + length c.bytes) to (chunk_parts (at + length (print_chunk c)) cs) (omega (arith, one)) later,
@@ -74,9 +73,9 @@ chunks_joined text front at (c ∷ cs) back e is =
     let next : text ≡ (front ++ print_chunk c) ++ later = is ∙ second front (print_chunk c) (print_chunks cs) back in
     let from : at + length line ≡ length (front ++ line) = omega (arith, e, length-append front line) in
     let one : slice_range text (at + length line) (at + length line + length c.bytes) ≡ c.bytes =
-        ap (λ (t : List ℕ). slice_range t (at + length line) (at + length line + length c.bytes)) here
-        ∙ ap (λ n. slice_range ((front ++ line) ++ (c.bytes ++ (crlf_bytes ++ later))) n (n + length c.bytes)) from
-        ∙ slice_at (front ++ line) c.bytes (crlf_bytes ++ later) in
+    ap (λ (t : List ℕ). slice_range t (at + length line) (at + length line + length c.bytes)) here
+    ∙ ap (λ n. slice_range ((front ++ line) ++ (c.bytes ++ (crlf_bytes ++ later))) n (n + length c.bytes)) from
+    ∙ slice_at (front ++ line) c.bytes (crlf_bytes ++ later) in
     let rest = chunks_joined text (front ++ print_chunk c) (at + length (print_chunk c)) cs back (omega (arith, e, length-append front (print_chunk c))) next in
     ap (λ (t : List ℕ). t ++ joined text (chunk_parts (at + length (print_chunk c)) cs)) one ∙ ap (λ (t : List ℕ). c.bytes ++ t) rest
   where
@@ -99,7 +98,7 @@ body_content Chunked ended text front body back parts content e x =
     let tree = x.0 in
     let long : length body ≡ length (print_chunked tree) = ap length x.3 in
     let whole : text ≡ front ++ (print_chunks tree.chunks ++ ((print_size_line tree.last ++ print_trailers tree.trailers) ++ back)) =
-        e ∙ ap (λ (t : List ℕ). front ++ (t ++ back)) x.3 ∙ ap (λ (t : List ℕ). front ++ t) (append_assoc (print_chunks tree.chunks) (print_size_line tree.last ++ print_trailers tree.trailers) back) in
+    e ∙ ap (λ (t : List ℕ). front ++ (t ++ back)) x.3 ∙ ap (λ (t : List ℕ). front ++ t) (append_assoc (print_chunks tree.chunks) (print_size_line tree.last ++ print_trailers tree.trailers) back) in
     subst (λ (p : List Part × List ℕ). HasContent text (length front) (length front + length body) p.0 p.1) (λ i. (sym x.4 i, sym x.5 i))
     (record {
       within = chunks_within (length front) (length front + length body) tree.chunks x.1.chunks
@@ -119,7 +118,7 @@ response_content m input ended r left b =
     let whole : input ≡ front ++ (r.body ++ left) = b.whole ∙ ap (λ (t : List ℕ). t ++ left) s ∙ regroup (print_heads r.interim) (print_response r.head) r.body left in
     let c = body_content r.framing ended input front r.body left r.parts r.content whole b.response.body in
     let long : length b.bytes ≡ length front + length r.body =
-        omega (arith, ap length s, length-append (print_heads r.interim) (print_response r.head ++ r.body), length-append (print_response r.head) r.body, length-append (print_heads r.interim) (print_response r.head)) in
+    omega (arith, ap length s, length-append (print_heads r.interim) (print_response r.head ++ r.body), length-append (print_response r.head) r.body, length-append (print_heads r.interim) (print_response r.head)) in
     record {
       within = subst (λ n. ArePartsWithin 0 n r.parts) (sym long) (lower (length front) (length front + length r.body) r.parts c.within);
       joins = c.joins;

@@ -51,7 +51,7 @@ compare_heads (h ∷ hs) [] a b x y e = inr (inl (record {
 }))
 compare_heads (h ∷ hs) (k ∷ ks) a b x y e =
     let same = same_head h k (print_heads hs ++ a) (print_heads ks ++ b) (x 0 h (omega arith)).head (y 0 k (omega arith)).head
-        (sym (append_assoc (print_response h) (print_heads hs) a) ∙ e ∙ append_assoc (print_response k) (print_heads ks) b) in
+    (sym (append_assoc (print_response h) (print_heads hs) a) ∙ e ∙ append_assoc (print_response k) (print_heads ks) b) in
     elim (compare_heads hs ks a b (tail_each h hs x) (tail_each k ks y) same.1) [
       | inl both ↦ inl ((λ i. sym same.0 i ∷ both.0 i), both.1)
       | inr one ↦ elim one [

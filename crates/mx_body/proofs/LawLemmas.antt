@@ -99,8 +99,7 @@ fault_or_more m input ended c (inr (inr a)) w = let both : false ≡ true = sym 
 
 pub one_verdict : HasOneVerdict
 one_verdict m input ended (verdict.Complete status len parts keep) (verdict.Complete status' len' parts' keep') v w =
-    let same = one_response m input ended ended v.0 w.0 v.1 w.1 v.2 w.2 in
-    (
+    let same = one_response m input ended ended v.0 w.0 v.1 w.1 v.2 w.2 in (
       v.3 ∙ ap (λ (r : Response). status_code r.head) same.0 ∙ sym w.3,
       omega (arith, v.4, w.4, ap length same.1),
       v.5 ∙ ap (λ (r : Response). r.parts) same.0 ∙ sym w.5,
@@ -143,7 +142,7 @@ fault_hopeless m input code v more r left b = by_fault v.1
     by_fault (inl first) =
         let s = first_split input in
         let whole : input ++ more ≡ first.front ++ (first.after ++ (s.0 ++ more)) =
-            ap (λ (t : List ℕ). t ++ more) (s.1 ∙ ap (λ (t : List ℕ). t ++ s.0) first.is_prefix) ∙ regroup first.front first.after s.0 more in
+        ap (λ (t : List ℕ). t ++ more) (s.1 ∙ ap (λ (t : List ℕ). t ++ s.0) first.is_prefix) ∙ regroup first.front first.after s.0 more in
         elim (cases_lt (length b.bytes) (length first.front)) [
           | inl short ↦ early (omega (arith, short, ap length s.1, ap length first.is_prefix, length-append (first_bytes input) s.0, length-append first.front first.after))
           | inr long ↦
@@ -163,7 +162,7 @@ fault_same m input more ended code v = (none, by_fault v.1)
     by_fault (inl first) =
         let s = first_split input in
         let whole : input ++ more ≡ first.front ++ (first.after ++ (s.0 ++ more)) =
-            ap (λ (t : List ℕ). t ++ more) (s.1 ∙ ap (λ (t : List ℕ). t ++ s.0) first.is_prefix) ∙ regroup first.front first.after s.0 more in
+        ap (λ (t : List ℕ). t ++ more) (s.1 ∙ ap (λ (t : List ℕ). t ++ s.0) first.is_prefix) ∙ regroup first.front first.after s.0 more in
         let f = first_front (input ++ more) first.front (first.after ++ (s.0 ++ more)) whole (omega (arith, length-first_bytes input, ap length first.is_prefix, length-append first.front first.after)) in
         inl (record {
           front = first.front;
@@ -178,10 +177,10 @@ fault_same m input more ended code v = (none, by_fault v.1)
         })
     by_fault (inr (inl long)) =
         inr (inl (
-            record { unfinished = none; faultless = subst (MeetsNothing (Meets m)) (sym (first_same input more long.1)) long.0.faultless },
-            omega (arith, long.1, length-append input more),
-            long.2,
-          ))
+          record { unfinished = none; faultless = subst (MeetsNothing (Meets m)) (sym (first_same input more long.1)) long.0.faultless },
+          omega (arith, long.1, length-append input more),
+          long.2,
+        ))
     by_fault (inr (inr cut)) = let both : false ≡ true = cut.2 in absurd (cc)
 
 -- ---- a complete response stays
@@ -209,8 +208,7 @@ complete_content m input ended (verdict.Complete status len parts keep) v =
     let b = v.2 in
     let long : len ≡ length b.bytes = omega (arith, v.4, ap length b.whole, length-append b.bytes v.1) in
     let c = response_content m input ended v.0 v.1 b in
-    let front : take len input ≡ b.bytes = ap (λ n. take n input) long ∙ ap (λ (t : List ℕ). take (length b.bytes) t) b.whole ∙ upto b.bytes v.1 in
-    (
+    let front : take len input ≡ b.bytes = ap (λ n. take n input) long ∙ ap (λ (t : List ℕ). take (length b.bytes) t) b.whole ∙ upto b.bytes v.1 in (
       subst (λ (p : List Part). ArePartsWithin 0 len p) (sym v.5) (subst (λ n. ArePartsWithin 0 n v.0.parts) (sym long) c.within),
       omega (arith, v.4),
       (

@@ -88,8 +88,7 @@ headless_first m text hs rest code s none f = record {
       let n = headless_meets m text hs rest s none q more other e x in
       let long = ap length n.stands.1 in
       let one = f.first n.part more n.here n.splits n.meets (λ same. ne (ap cause_code n.cause_is ∙ same))
-          (omega (arith, le, long, length-append (print_heads hs) n.part, length-append (print_heads hs) f.front)) in
-      (
+      (omega (arith, le, long, length-append (print_heads hs) n.part, length-append (print_heads hs) f.front)) in (
         omega (arith, one.0, long, length-append (print_heads hs) n.part, length-append (print_heads hs) f.front),
         subst (λ (c : Cause). head_line f.cause < cause_line c) (sym n.cause_is) one.1,
       );
@@ -186,8 +185,7 @@ body_first m text hs h rest code s f = record {
       let n = body_meets m text hs h rest s q more other e x in
       let long = ap length n.stands.1.1 in
       let one = f.first n.part more n.here n.splits n.meets (λ same. ne (ap cause_code n.cause_is ∙ same))
-          (omega (arith, le, long, lengths (print_heads hs) (print_response h) n.part, lengths (print_heads hs) (print_response h) f.front)) in
-      (
+      (omega (arith, le, long, lengths (print_heads hs) (print_response h) n.part, lengths (print_heads hs) (print_response h) f.front)) in (
         omega (arith, one.0, long, lengths (print_heads hs) (print_response h) n.part, lengths (print_heads hs) (print_response h) f.front),
         subst (λ (c : Cause). body_line f.cause < cause_line c) (sym n.cause_is) one.1,
       );
@@ -222,14 +220,20 @@ response_body m text ended hs h rest s r left b =
     let t = b.response.stands in
     let same = same_body text hs r.interim h r.head rest (r.body ++ left) s (body_stands text b.bytes left r.interim r.head r.body b.whole t) in
     let long = ap length t.1.1 in
-    let long_heads : length (heads_of r) ≡ body_start hs h = λ i. body_start (same.0 i) (same.1 i) in
-    (
+    let long_heads : length (heads_of r) ≡ body_start hs h = λ i. body_start (same.0 i) (same.1 i) in (
       same.0,
       same.1,
       record {
         splits = sym same.2;
-        fits = omega (arith, b.response.fits, long, long_heads, length-append (print_heads r.interim) (print_response r.head),
-            length-append (print_heads r.interim) (print_response r.head ++ r.body), length-append (print_response r.head) r.body);
+        fits = omega (
+          arith,
+          b.response.fits,
+          long,
+          long_heads,
+          length-append (print_heads r.interim) (print_response r.head),
+          length-append (print_heads r.interim) (print_response r.head ++ r.body),
+          length-append (print_response r.head) r.body,
+        );
         is_asked = sym (ap (framing_of m) same.1) ∙ b.response.asked;
         is = subst (λ (n : ℕ). IsBody r.framing ended n r.body r.parts r.content) long_heads b.response.body;
         ends = b.ends;
@@ -305,8 +309,7 @@ refused_next text start passed h rest b head e interim why =
         | inl leaves ↦ inl leaves
         | inr all ↦ inr (sym b.passed_is ∙ all, interim)
       ];
-    } in
-    (
+    } in (
       λ final. same_refused text b.interim h rest s refused final.0 final.1 final.2 final.3,
       λ m. refused_first m text b.interim h rest s refused,
     )

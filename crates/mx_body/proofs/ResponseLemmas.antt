@@ -56,8 +56,7 @@ one_body (Counted n) ended later at body other left after parts pieces content m
     let same = same_split body other left after e (omega (arith, x.0, y.0)) in
     (same.0, x.1 ∙ sym y.1, x.2 ∙ same.0 ∙ sym y.2, same.1)
 one_body Chunked ended later at body other left after parts pieces content more x y p q e =
-    let same = body_unique x.0 y.0 left after x.1 y.1 (ap (λ (t : List ℕ). t ++ left) (sym x.3) ∙ e ∙ ap (λ (t : List ℕ). t ++ after) y.3) in
-    (
+    let same = body_unique x.0 y.0 left after x.1 y.1 (ap (λ (t : List ℕ). t ++ left) (sym x.3) ∙ e ∙ ap (λ (t : List ℕ). t ++ after) y.3) in (
       x.3 ∙ ap print_chunked same.0 ∙ sym y.3,
       x.4 ∙ ap (λ (b : ChunkedBody). chunk_parts at b.chunks) same.0 ∙ sym y.4,
       x.5 ∙ ap chunked_data same.0 ∙ sym y.5,
@@ -84,9 +83,8 @@ one_response m input ended later r s left after b c =
     let asked : Ok r.framing ≡ Ok s.framing = sym mine.is_asked ∙ other.2.is_asked in
     let framing : s.framing ≡ r.framing = cc in
     let same = one_body r.framing ended later (body_start r.interim r.head) r.body s.body left after r.parts s.parts r.content s.content
-        mine.is (subst (λ (f : Framing). IsBody f later (body_start r.interim r.head) s.body s.parts s.content) framing other.2.is)
-        mine.ends (λ e. other.2.ends (framing ∙ e)) other.2.splits in
-    (
+    mine.is (subst (λ (f : Framing). IsBody f later (body_start r.interim r.head) s.body s.parts s.content) framing other.2.is)
+    mine.ends (λ e. other.2.ends (framing ∙ e)) other.2.splits in (
       (λ i. record { interim = sym other.0 i; head = sym other.1 i; framing = sym framing i; body = same.0 i; parts = same.1 i; content = same.2 i }),
       same.3,
     )
@@ -137,16 +135,18 @@ response_stays_same m input more left ended later r open_end b = record {
 pub response_early : (m : Method) (input more : List ℕ) (ended : Bool) (r : Response) (left : List ℕ) → (b : BeginsWithResponse m (input ++ more) ended r left)
     → length b.bytes < length input → (later : Bool) → (after : List ℕ) × BeginsWithResponse m input later r after
 response_early m input more ended r left b short later =
-    let f = front_of b.bytes input left more (sym b.whole) (omega (arith, short)) in
-    (f.0, elim (close_or_not r.framing) [
-      | inl closes ↦ absurd (omega (arith, short, ap length (b.ends closes), ap length b.whole, length-append input more, length-append b.bytes left))
-      | inr open_end ↦ record {
-        bytes = b.bytes;
-        whole = f.1;
-        response = response_any m b.bytes ended later r open_end b.response;
-        ends = λ e. absurd (open_end e);
-      }
-    ])
+    let f = front_of b.bytes input left more (sym b.whole) (omega (arith, short)) in (
+      f.0,
+      elim (close_or_not r.framing) [
+        | inl closes ↦ absurd (omega (arith, short, ap length (b.ends closes), ap length b.whole, length-append input more, length-append b.bytes left))
+        | inr open_end ↦ record {
+          bytes = b.bytes;
+          whole = f.1;
+          response = response_any m b.bytes ended later r open_end b.response;
+          ends = λ e. absurd (open_end e);
+        }
+      ],
+    )
 
 pub responses_prefix_free : ResponsesArePrefixFree
 responses_prefix_free m bytes rest ended later r s open_end x y =
@@ -161,7 +161,7 @@ small_sizes : (limit : ℕ) (body : ChunkedBody) (front rest : List ℕ) → IsC
 small_sizes limit body front rest is sizes e large =
     let done : place_after limit Start (print_chunked body) ≡ Done = ap (place_after limit Start) (sym (append-nil (print_chunked body))) ∙ run_body limit body [] is sizes ∙ place_after-nil limit Done in
     let over : place_after limit Start (print_chunked body) ≡ TooLarge = ap (place_after limit Start) e ∙ place_after-append limit Start front rest
-        ∙ ap (λ p. place_after limit p rest) (large_is limit front large) ∙ too_large_stays limit rest in
+    ∙ ap (λ p. place_after limit p rest) (large_is limit front large) ∙ too_large_stays limit rest in
     cc
 
 body_refutes : (framing : Framing) (ended : Bool) (at : ℕ) (body part more : List ℕ) (parts : List Part) (content : List ℕ) (cause : BodyCause)

@@ -137,12 +137,12 @@ refused_framing m input ended hs h rest code s f = by_kind (framing_of m h) (fra
         let same : WeirdServerReply ≡ code = cc in
         subst (λ (c : Code). IsVerdict m input ended (verdict.Fault c)) same
         (body_fault m input ended hs h rest (Err WeirdServerReply) WeirdServerReply s e (none_begins WeirdServerReply (body_start hs h))
-            (front_first (Err WeirdServerReply) (body_start hs h) (first_body input hs h rest s).seen bad_framing (refl, refl) (λ q other y. all_same WeirdServerReply (body_start hs h) q other y)))
+        (front_first (Err WeirdServerReply) (body_start hs h) (first_body input hs h rest s).seen bad_framing (refl, refl) (λ q other y. all_same WeirdServerReply (body_start hs h) q other y)))
     by_kind r is_coded e x =
         let same : BadContentEncoding ≡ code = cc in
         subst (λ (c : Code). IsVerdict m input ended (verdict.Fault c)) same
         (body_fault m input ended hs h rest (Err BadContentEncoding) BadContentEncoding s e (none_begins BadContentEncoding (body_start hs h))
-            (front_first (Err BadContentEncoding) (body_start hs h) (first_body input hs h rest s).seen unknown_coding (refl, refl) (λ q other y. all_same BadContentEncoding (body_start hs h) q other y)))
+        (front_first (Err BadContentEncoding) (body_start hs h) (first_body input hs h rest s).seen unknown_coding (refl, refl) (λ q other y. all_same BadContentEncoding (body_start hs h) q other y)))
 
 -- ---- a counted body
 
@@ -170,7 +170,7 @@ counted_too_big m input ended hs h rest n s f large =
     body_fault m input ended hs h rest (Ok (Counted n)) FilesizeExceeded s f
     (λ framing body parts content left b. absurd (omega (arith, large, (counted_fits n (body_start hs h) rest ended framing body parts content left b).0)))
     (front_first (Ok (Counted n)) (body_start hs h) (first_body input hs h rest s).seen too_big (inl (refl, (n, refl, large)))
-        (λ q other x. (counted_meets n (body_start hs h) q other x).0))
+    (λ q other x. (counted_meets n (body_start hs h) q other x).0))
 
 pub counted_short : (m : Method) (input : List ℕ) (ended : Bool) (hs : List ResponseHead) (h : ResponseHead) (rest : List ℕ) (n : ℕ)
     → StandsAtBody input hs h rest → framing_of m h ≡ Ok (Counted n) → body_start hs h + n ≤ most_bytes → length rest < n
@@ -239,8 +239,16 @@ plain_verdict m input ended hs h n p keep (verdict.Complete status len parts k) 
   p.left,
   body_response m input ended hs h (p.body ++ p.left) p.stands p.framing p.body (one_part (body_start hs h) n) p.content p.left p.begins,
   w.0,
-  omega (arith, w.1, p.long, ap length p.stands.1.1, length-append (print_heads hs) (print_response h), length-append (print_heads hs) (print_response h ++ (p.body ++ p.left)),
-      length-append (print_response h) (p.body ++ p.left), length-append p.body p.left),
+  omega (
+    arith,
+    w.1,
+    p.long,
+    ap length p.stands.1.1,
+    length-append (print_heads hs) (print_response h),
+    length-append (print_heads hs) (print_response h ++ (p.body ++ p.left)),
+    length-append (print_response h) (p.body ++ p.left),
+    length-append p.body p.left,
+  ),
   w.2,
   w.3 ∙ kept,
 )

@@ -105,7 +105,7 @@ abbrev pub ContentIs : Method → List ℕ → Bool → Verdict → Type 0
 ContentIs m input ended (Complete status len parts keep) =
     ArePartsWithin 0 len parts.items × (len ≤ length input)
     × ((r : Response) × IsResponse m (take len input) ended r × (r.parts ≡ parts.items)
-        × (joined input parts.items ≡ r.content))
+    × (joined input parts.items ≡ r.content))
 ContentIs m input ended More = Unit {0}
 ContentIs m input ended (Fault code) = Unit {0}
 

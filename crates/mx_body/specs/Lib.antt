@@ -5,7 +5,6 @@ pub mod Causes
 pub mod Decision
 pub mod Laws
 pub mod ChunkedScan
-
 -- Private: what the functions behind these promise one another.
 pub mod ChunkedPlace
 pub mod Steps

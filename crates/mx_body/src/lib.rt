@@ -5,6 +5,8 @@ pub mod chunked;
 mod heads;
 pub mod laws;
 mod part;
+#[cfg(test)]
+mod tests;
 mod verdict;
 mod whole;
 
