@@ -5,3 +5,5 @@ pub mod ChunkedLemmas
 pub mod ChunkedSteps
 pub mod ChunkedUnique
 pub mod ChunkedParts
+pub mod ChunkedLawProofs
+pub mod ChunkedRfcLemmas
