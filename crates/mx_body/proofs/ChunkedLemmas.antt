@@ -91,16 +91,21 @@ module _ (limit : ℕ) where
       done_same [] = place_after-nil _ Done ∙ sym (place_after-nil limit Done)
       done_same (b ∷ rest) = done_ends _ b rest ∙ sym (done_ends limit b rest)
 
+  -- bytes that end in a size, where the limit is no less than any size
+  pub large_leads : (bs : List ℕ) (high : ℕ) (h : EndsInLargeSize limit bs) → digits_value 16 h.1 + length (print_chunks h.0) ≤ high
+      → place_after high Start bs ≡ Size (digits_value 16 h.1)
+  large_leads bs high (chunks, digits, are, is_size, text, large) above =
+      ap (place_after high Start) (text ∙ sym (ap (λ t. print_chunks chunks ++ t) (append-nil digits)))
+      ∙ run_chunks high chunks (digits ++ []) are (sizes_fit chunks high are (omega arith))
+      ∙ run_size high digits [] is_size (omega arith)
+      ∙ place_after-nil high (Size (digits_value 16 digits))
+
   -- bytes that end in a size over the limit
   pub large_is : (bs : List ℕ) → EndsInLargeSize limit bs → At bs ≡ TooLarge
   large_is bs (chunks, digits, are, is_size, text, large) =
       let value = digits_value 16 digits in
       let high = value + length (print_chunks chunks) in
-      let leads : place_after high Start bs ≡ Size value =
-      ap (place_after high Start) (text ∙ sym (ap (λ t. print_chunks chunks ++ t) (append-nil digits)))
-      ∙ run_chunks high chunks (digits ++ []) are (sizes_fit chunks high are (omega arith))
-      ∙ run_size high digits [] is_size (omega arith)
-      ∙ place_after-nil high (Size value) in
+      let leads : place_after high Start bs ≡ Size value = large_leads bs high (chunks, digits, are, is_size, text, large) (omega arith) in
       ⊎_elim (λ e. e)
       (λ same. let at : At bs ≡ Size value = sym same ∙ leads in
       let read : Reads limit 0 (Size value) bs (parts_begun limit Start 0 bs) =
@@ -196,7 +201,7 @@ module _ (limit : ℕ) where
       }
 
   -- two ways to cut a text: the first cut is not behind the byte, or it is
-  cut : (p rest front z : List ℕ) (b : ℕ) → p ++ rest ≡ front ++ b ∷ z → ((x : List ℕ) × (front ≡ p ++ x)) ⊎ ((x : List ℕ) × (p ≡ (front ++ b ∷ []) ++ x))
+  pub cut : (p rest front z : List ℕ) (b : ℕ) → p ++ rest ≡ front ++ b ∷ z → ((x : List ℕ) × (front ≡ p ++ x)) ⊎ ((x : List ℕ) × (p ≡ (front ++ b ∷ []) ++ x))
   cut [] rest front z b e = inl (front, refl)
   cut (a ∷ p) rest [] z b e = let h : a ≡ b = cc in inr (p, ap (λ x. x ∷ p) h)
   cut (a ∷ p) rest (d ∷ front) z b e =

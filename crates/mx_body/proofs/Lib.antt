@@ -5,6 +5,8 @@ pub mod ChunkedLemmas
 pub mod ChunkedSteps
 pub mod ChunkedUnique
 pub mod ChunkedParts
+pub mod ChunkedLawProofs
+pub mod ChunkedRfcLemmas
 pub mod HeadsLemmas
 pub mod MeetsLemmas
 pub mod FirstBytesLemmas

@@ -5,6 +5,9 @@ pub mod Causes
 pub mod Decision
 pub mod Laws
 pub mod ChunkedScan
+pub mod ChunkedLaws
+pub mod ChunkedRfc
+
 -- Private: what the functions behind these promise one another.
 pub mod ChunkedPlace
 pub mod Steps
