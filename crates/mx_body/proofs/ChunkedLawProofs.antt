@@ -96,14 +96,13 @@ parts_are_the_data limit front bytes back parts data_bytes (body, is, small, tex
 
 -- a prefix of a body
 pub body_is_sound : BodyIsSound
-body_is_sound limit body front rest is small e =
-    (
-      (body, rest, is, sym e),
-      λ large.
-        let done : place_after limit Start (print_chunked body) ≡ Done = ap (place_after limit Start) (sym (append-nil (print_chunked body))) ∙ run_body limit body [] is small ∙ place_after-nil limit Done in
-        let over : place_after limit Start (print_chunked body) ≡ TooLarge = ap (place_after limit Start) e ∙ place_after-append limit Start front rest ∙ ap (λ p. place_after limit p rest) (large_is limit front large) ∙ too_large_stays limit rest in
-        cc,
-    )
+body_is_sound limit body front rest is small e = (
+  (body, rest, is, sym e),
+  λ large.
+      let done : place_after limit Start (print_chunked body) ≡ Done = ap (place_after limit Start) (sym (append-nil (print_chunked body))) ∙ run_body limit body [] is small ∙ place_after-nil limit Done in
+      let over : place_after limit Start (print_chunked body) ≡ TooLarge = ap (place_after limit Start) e ∙ place_after-append limit Start front rest ∙ ap (λ p. place_after limit p rest) (large_is limit front large) ∙ too_large_stays limit rest in
+      cc,
+)
 
 pub large_may_become : LargeMayBecome
 large_may_become limit bytes large =

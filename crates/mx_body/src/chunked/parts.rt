@@ -4,12 +4,10 @@ ghost use Rattle.std.specs.Prelude.{◌≡◌, ◌+◌, ◌<◌, ◌^◌, length
 ghost use Rattle.mx_body.specs.Chunked.{ChunkedBody, IsChunkedBody, print_chunked, chunk_parts};
 ghost use Rattle.mx_body.specs.ChunkedPlace.{begun, data_left};
 
-use std::alloc::Global;
-
-use mx_types::OutOfMemory;
-
 use crate::Part;
 use crate::chunked::place::Place;
+use mx_types::OutOfMemory;
+use std::alloc::Global;
 
 fn begun(place: Place, next: Place, at: u32) -> Option<Part>
     requires { at + data_left next < 2 ^ 32 }

@@ -32,7 +32,7 @@ loop-read-preserved-in_ok-push c =
       within = omega arith;
       place = further 4294967295 c.args.input.now c.loop-read.read c.advance-next.result.1 c.loop-read.place _ c.loop-read.invariant.place c.advance-next.ensures.place;
       parts = c.in_ok-push.ensures.items ∙ ap (λ ps. ps ++ c.in-Some.part ∷ []) c.loop-read.invariant.parts
-        ∙ ap (λ ps. front ++ ps) (ap option_to_list (sym c.in-Some.is) ∙ c.begun.ensures) ∙ sym more;
+          ∙ ap (λ ps. front ++ ps) (ap option_to_list (sym c.in-Some.is) ∙ c.begun.ensures) ∙ sym more;
     }
 
 pub loop-read-preserved : goal.loop-read-preserved
@@ -43,7 +43,7 @@ loop-read-preserved c =
       within = omega arith;
       place = further 4294967295 c.args.input.now c.loop-read.read c.advance-next.result.1 c.loop-read.place _ c.loop-read.invariant.place c.advance-next.ensures.place;
       parts = c.loop-read.invariant.parts ∙ sym (append-nil front)
-        ∙ ap (λ ps. front ++ ps) (nothing c.begun.result c.in_default.not-Some ∙ c.begun.ensures) ∙ sym more;
+          ∙ ap (λ ps. front ++ ps) (nothing c.begun.result c.in_default.not-Some ∙ c.begun.ensures) ∙ sym more;
     }
   where
     nothing : (o : Option Part) → ((p : Part) → ¬ (o ≡ Some p)) → [] ≡ option_to_list o
