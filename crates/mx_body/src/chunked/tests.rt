@@ -200,5 +200,6 @@ fn laws_are_there(rt: HostRuntime) {
     laws::one_scan();
     laws::rfc_chunked_is_chunked();
     laws::framing_is_strict();
+    laws::places_tell();
     assert_eq!(rt; scan_chunked(b"", LIMIT), ChunkedScan::Short);
 }
