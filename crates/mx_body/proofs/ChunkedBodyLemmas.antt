@@ -1,5 +1,5 @@
 -- The verdict on an input whose final head asks for a chunked body, by what a scan of the bytes found.
-use Rattle.std.proofs.Common.{◌≡◌, ◌≢◌, ℕ, ◌+◌, ◌<◌, ◌≤◌, ◌⊎◌, inl, inr, Bool, List, [], ◌∷◌, ◌++◌, min, length, take, drop, ◌-◌, slice_range, refl, sym, ap, subst, ◌∙◌, arith, append_assoc, length-append, Result, Ok, Err}
+use Rattle.std.proofs.Common.{◌≡◌, ◌≢◌, ℕ, ◌+◌, ◌<◌, ◌≤◌, ◌⊎◌, inl, inr, Bool, List, [], ◌∷◌, ◌++◌, min, length, take, drop, ◌-◌, slice_range, refl, sym, ap, subst, ◌∙◌, arith, append_assoc, length-append, Result, Ok, Err, OnErr}
 use Rattle.std.proofs.lemmas.List.{append-nil}
 use Rattle.std.proofs.lemmas.Bool.{cases_lt}
 use Rattle.httparse.specs.Grammar.{ResponseHead, print_response, status_code}
@@ -14,7 +14,7 @@ use Rattle.mx_head.specs.Faults.{ComesFirst, MeetsNothing}
 use Rattle.mx_head.proofs.LineLemmas.{front_of}
 use Rattle.mx_body.specs.declared.part.Part.{Part}
 use Rattle.mx_body.specs.declared.verdict.Verdict.TheVariants as verdict
-use Rattle.mx_body.specs.Chunked.{ChunkedBody, IsChunkedBody, HasSizes, print_chunked, chunk_parts, chunked_data, MayBecomeChunked, EndsInLargeSize}
+use Rattle.mx_body.specs.Chunked.{Chunk, ChunkedBody, IsChunkedBody, HasSizes, print_chunked, chunk_parts, chunked_data, MayBecomeChunked, EndsInLargeSize}
 use Rattle.mx_body.specs.ChunkedScan.{BeginsWithChunked, IsUndecidedChunked, NeverHasChunked, IsDecidedBy}
 use Rattle.mx_body.specs.Response.{print_heads, StandsAtBody, IsBody}
 use Rattle.mx_body.specs.Causes.{BodyCause, bad_framing, unknown_coding, too_big, bad_chunk, body_code, body_line, MeetsAtBody}
@@ -24,6 +24,7 @@ use Rattle.mx_body.proofs.MeetsLemmas.{body_start, BeginsWithBody}
 use Rattle.mx_body.proofs.FirstBytesLemmas.{FirstBody, first_body, length-first_bytes, first_split}
 use Rattle.mx_body.proofs.VerdictLemmas.{body_fault, body_undecided, input_length}
 use Rattle.mx_body.proofs.ResponseLemmas.{same_split}
+use Rattle.mx_body.proofs.ContentLemmas.{slice_at}
 
 -- what the bytes behind the final head meet
 abbrev ChunkedCause : List ℕ → BodyCause → Type 0
@@ -178,3 +179,37 @@ whole_body m input ended hs h rest s f tree left x =
       is = (tree, x.0, x.1, refl, refl, refl);
       ends = λ e. absurd (let both : Chunked ≡ Close = e in cc);
     }
+
+-- the bytes that the code scans
+pub seen_is : (input : List ℕ) (hs : List ResponseHead) (h : ResponseHead) (rest : List ℕ) (s : StandsAtBody input hs h rest) (at n : ℕ)
+    → at ≡ body_start hs h → n ≡ min (length input) most_bytes → slice_range input at n ≡ (first_body input hs h rest s).seen
+seen_is input hs h rest s at n start end =
+    let g = first_body input hs h rest s in
+    let front = print_heads hs ++ print_response h in
+    let whole : input ≡ front ++ (g.seen ++ g.after) =
+        s.1.1 ∙ ap (λ (t : List ℕ). print_heads hs ++ (print_response h ++ t)) g.splits ∙ sym (append_assoc (print_heads hs) (print_response h) (g.seen ++ g.after)) in
+    let last : n ≡ length front + length g.seen = omega (arith, end, input_length (first_bytes input) hs h g.seen g.stands, length-first_bytes input) in
+    ap (λ (t : List ℕ). slice_range t at n) whole
+    ∙ (λ i. slice_range (front ++ (g.seen ++ g.after)) (start i) (last i))
+    ∙ slice_at front g.seen g.after
+
+-- the whole body in them
+pub whole_text : (seen : List ℕ) (tree : ChunkedBody) (left : List ℕ) (len : ℕ) → seen ≡ print_chunked tree ++ left → len ≡ length (print_chunked tree) → take len seen ≡ print_chunked tree
+whole_text seen tree left len e long =
+    ap (λ n. take n seen) long ∙ ap (take (length (print_chunked tree))) e ∙ upto (print_chunked tree) left
+  where
+    upto : (a b : List ℕ) → take (length a) (a ++ b) ≡ a
+    upto [] b = refl
+    upto (z ∷ a) b = ap (λ (t : List ℕ). z ∷ t) (upto a b)
+
+-- where it has a chunk, its response has a part
+pub some_parts : (at : ℕ) (tree : ChunkedBody) → tree.chunks ≢ [] → chunk_parts at tree.chunks ≢ []
+some_parts at tree some = by_chunks tree.chunks some
+  where
+    by_chunks : (chunks : List Chunk) → chunks ≢ [] → chunk_parts at chunks ≢ []
+    by_chunks [] some e = some refl
+    by_chunks (c ∷ cs) some e = omega (arith, ap length e)
+
+pub any_err : {A E : Type 0} (r : Result A E) (P : Type 0) → P → OnErr r P
+any_err (Ok v) P p = tt
+any_err (Err e) P p = p

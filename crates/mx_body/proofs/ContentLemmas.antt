@@ -15,7 +15,7 @@ use Rattle.mx_body.proofs.ChunkedLawProofs.{parts_are_the_data}
 use Rattle.mx_body.proofs.VerdictLemmas.{one_part-some}
 
 -- the piece in the middle
-slice_at : (front mid back : List ℕ) → slice_range (front ++ (mid ++ back)) (length front) (length front + length mid) ≡ mid
+pub slice_at : (front mid back : List ℕ) → slice_range (front ++ (mid ++ back)) (length front) (length front + length mid) ≡ mid
 slice_at front mid back =
     let n : (length front + length mid) - length front ≡ length mid = omega arith in
     ap (λ k. take k (drop (length front) (front ++ (mid ++ back)))) n ∙ ap (take (length mid)) (past front (mid ++ back)) ∙ upto mid back

@@ -20,7 +20,7 @@ use Rattle.mx_body.specs.Response.{IsInterimStatus, IsInterim, IsFinal, print_he
 use Rattle.mx_body.specs.Causes.{BodyCause, Cause, at_head, refused_status, at_body, body_code, body_line, cause_code, cause_line, IsRefused, MeetsAtBody, Meets}
 use Rattle.mx_body.specs.Decision.{BeginsWithResponse, IsNoResponse, HasFinalHead}
 use Rattle.mx_body.specs.Steps.{IsBehind, HasHeadAt}
-use Rattle.mx_body.proofs.HeadsLemmas.{same_head, print_heads-append, IsEarlier, head_stands, body_stands, Stops, none_stops, final_stops, refused_stops, stand_there, earlier_meets, earlier_refused, earlier_final, same_body}
+use Rattle.mx_body.proofs.HeadsLemmas.{same_head, print_heads-append, IsEarlier, head_stands, body_stands, Stops, none_stops, final_stops, refused_stops, stand_there, earlier_meets, earlier_refused, earlier_final, same_body, body_start_small, body_start_within}
 
 -- the offset behind the final head
 abbrev pub body_start : List ResponseHead → ResponseHead → ℕ
@@ -316,14 +316,19 @@ refused_next text start passed h rest b head e interim why =
 
 pub final_next : (text : List ℕ) (start passed : ℕ) (x : Head) (end : ℕ) (h : ResponseHead) (rest : List ℕ) → (b : IsBehind text start passed) → IsHead h → tail_from start text ≡ print_response h ++ rest
     → (IsInterimStatus (status_code h) → ⊥) → Describes x h → end ≡ start + length (print_response h) → HasHeadAt text x end
-final_next text start passed x end h rest b head e final describes ends = record {
-  interim = b.interim;
-  head = h;
-  rest = rest;
-  stands = (record { head = head; status = final }, head_next text start passed h rest b e);
-  describes = describes;
-  end_is = omega (arith, ends, b.start_is, length-append (print_heads b.interim) (print_response h));
-}
+final_next text start passed x end h rest b head e final describes ends =
+    let stands : StandsAtBody text b.interim h rest = (record { head = head; status = final }, head_next text start passed h rest b e) in
+    let end_is : end ≡ body_start b.interim h = omega (arith, ends, b.start_is, length-append (print_heads b.interim) (print_response h)) in
+    record {
+      interim = b.interim;
+      head = h;
+      rest = rest;
+      stands = stands;
+      describes = describes;
+      end_is = end_is;
+      within = omega (arith, end_is, body_start_within text b.interim h rest stands);
+      small = omega (arith, end_is, body_start_small text b.interim h rest stands);
+    }
 
 pub passed_next : (text : List ℕ) (start passed end : ℕ) (h : ResponseHead) (rest : List ℕ) → (b : IsBehind text start passed) → IsHead h → tail_from start text ≡ print_response h ++ rest
     → IsInterimStatus (status_code h) → status_code h ≢ 101 → passed ≢ most_interim → end ≡ start + length (print_response h) → IsBehind text end (passed + 1)

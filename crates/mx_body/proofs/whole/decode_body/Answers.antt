@@ -1,8 +1,8 @@
 use Rattle.std.proofs.Common.{◌≡◌, true, false, inl, inr, length, refl, sym, ap, ◌∙◌, arith, length-append, not, ◌&&◌, Ok}
 use Rattle.httparse.specs.Grammar.{print_response}
 use Rattle.mx_body.specs.Response.{print_heads}
-use Rattle.mx_body.proofs.VerdictLemmas.{framing_kind, never_chunked, refused_framing, counted_too_big, counted_short, close_short, empty_body, counted_body, close_body, plain_verdict, plain_parts, whole_at, ok_map, err_map, input_length}
-use Rattle.mx_body.proofs.FirstBytesLemmas.{body_start_small}
+use Rattle.mx_body.proofs.VerdictLemmas.{refused_framing, counted_too_big, counted_short, close_short, empty_body, counted_body, close_body, plain_verdict, plain_parts, whole_at, ok_map, err_map, input_length}
+use Rattle.mx_body.proofs.HeadsLemmas.{body_start_small}
 use Rattle.mx_body.proofs.whole.decode_body.Goals as goal
 
 pub returns-in-Err-clause-verdict : goal.returns-in-Err-clause-verdict
@@ -98,7 +98,6 @@ returns-else-ended-2-clause-verdict c =
     let u = close_short c.args.method c.args.input.now c.args.ended d.interim d.head d.rest d.stands f (λ end few. let both : false ≡ true = sym c.if-ended-2.false ∙ end in cc) in
     (u, c.if-input-gt-MOST_BYTES.false, c.if-ended-2.false)
 
-pub returns-in-Ok-Chunked-clause-verdict : goal.returns-in-Ok-Chunked-clause-verdict
-returns-in-Ok-Chunked-clause-verdict c =
-    let d = c.requires in
-    absurd (never_chunked _ (framing_kind c.args.method d.head) (sym (c.framing.ensures d.head d.describes) ∙ c.in-Ok-Chunked.is ∙ ap Ok c.in-Ok-Chunked.field-0-is))
+pub decode_chunked-requires-clause-chunked : goal.decode_chunked-requires-clause-chunked
+decode_chunked-requires-clause-chunked c h d =
+    sym (c.framing.ensures h d) ∙ c.in-Ok-Chunked.is ∙ ap Ok c.in-Ok-Chunked.field-0-is
