@@ -187,11 +187,11 @@ fn empty_and_open_bodies(rt: HostRuntime) {
     );
 }
 
-/// A head whose body ends with the input, and then bytes of it, so that there are `len` bytes in all.
-fn open_body(alloc: Global, len: usize) -> Result<Vec<u8>, OutOfMemory> {
+/// The front, and then as many bytes that there are `len` in all.
+fn filled(alloc: Global, front: &[u8], len: usize) -> Result<Vec<u8>, OutOfMemory> {
     let block = [b'x'; 65536];
     let mut bytes = Vec::with_capacity(alloc, len)?;
-    bytes.extend_from_slice(b"HTTP/1.0 200 OK\r\n\r\n")?;
+    bytes.extend_from_slice(front)?;
     for _ in 0..1025 {
         let left = len.saturating_sub(bytes.len());
         bytes.extend_from_slice(&block[..left.min(65536)])?;
@@ -202,7 +202,8 @@ fn open_body(alloc: Global, len: usize) -> Result<Vec<u8>, OutOfMemory> {
 #[test]
 fn bodies_up_to_the_end_at_the_limit(rt: HostRuntime) {
     let alloc = rt.alloc();
-    let fits = open_body(alloc, MOST_BYTES).expect(&rt, "memory");
+    let open = b"HTTP/1.0 200 OK\r\n\r\n";
+    let fits = filled(alloc, open, MOST_BYTES).expect(&rt, "memory");
     let there = [Part {
         start: 19,
         end: 67_108_864,
@@ -217,7 +218,7 @@ fn bodies_up_to_the_end_at_the_limit(rt: HostRuntime) {
         )
     );
     assert!(rt; waits(decode_whole(alloc, Method::Get, &fits, false)));
-    let long = open_body(alloc, MOST_BYTES + 1).expect(&rt, "memory");
+    let long = filled(alloc, open, MOST_BYTES + 1).expect(&rt, "memory");
     assert!(rt; long.len() == MOST_BYTES + 1);
     assert!(rt;
         faults(
@@ -241,6 +242,77 @@ fn with_fields(alloc: Global, count: usize, end: &[u8]) -> Result<Vec<u8>, OutOf
     }
     bytes.extend_from_slice(end)?;
     Ok(bytes)
+}
+
+const CHUNKED: &[u8] =
+    b"HTTP/1.1 200 OK\r\nTransfer-Encoding: chunked\r\n\r\n5;x=y\r\nhello\r\n0\r\nA: b\r\n\r\n";
+
+#[test]
+fn chunked_bodies(rt: HostRuntime) {
+    let alloc = rt.alloc();
+    let get = Method::Get;
+    let hello = [Part { start: 54, end: 59 }];
+    assert!(rt; completes(decode_whole(alloc, get, CHUNKED, false), 200, 72, &hello, true));
+    for end in 0..72 {
+        assert!(rt; waits(decode_whole(alloc, get, &CHUNKED[..end], false)), "{end}");
+    }
+    assert!(rt; faults(decode_whole(alloc, get, &CHUNKED[..71], true), Code::PartialFile));
+    let bad = b"HTTP/1.1 200 OK\r\nTransfer-Encoding: chunked\r\n\r\n5\r\nhelloX";
+    assert!(rt; faults(decode_whole(alloc, get, bad, false), Code::RecvError));
+    let large = b"HTTP/1.1 200 OK\r\nTransfer-Encoding: chunked\r\n\r\nFFFFFFFFFFFFFFFFF\r\n";
+    assert!(rt; faults(decode_whole(alloc, get, large, false), Code::FilesizeExceeded));
+    let both =
+        b"HTTP/1.1 200 OK\r\nTransfer-Encoding: chunked\r\nContent-Length: 3\r\n\r\n5\r\nhello\r\n0\r\n\r\n";
+    let there = [Part { start: 69, end: 74 }];
+    assert!(rt; completes(decode_whole(alloc, get, both, true), 200, 81, &there, false));
+    let two =
+        b"HTTP/1.1 200 OK\r\nTransfer-Encoding: chunked\r\n\r\n2\r\nhe\r\n3\r\nllo\r\n0\r\n\r\nHTTP/1.1";
+    let pieces = [Part { start: 50, end: 52 }, Part { start: 57, end: 60 }];
+    assert!(rt; completes(decode_whole(alloc, get, two, true), 200, 67, &pieces, true));
+}
+
+#[test]
+fn chunked_bodies_at_the_limit(rt: HostRuntime) {
+    let alloc = rt.alloc();
+    // the greatest size, which can't fit behind a head
+    let head = b"HTTP/1.1 200 OK\r\nTransfer-Encoding: chunked\r\n\r\n4000000\r\n";
+    let fits = filled(alloc, head, MOST_BYTES).expect(&rt, "memory");
+    assert!(rt; waits(decode_whole(alloc, Method::Get, &fits, false)));
+    assert!(rt; faults(decode_whole(alloc, Method::Get, &fits, true), Code::PartialFile));
+    let long = filled(alloc, head, MOST_BYTES + 1).expect(&rt, "memory");
+    assert!(rt; faults(decode_whole(alloc, Method::Get, &long, false), Code::FilesizeExceeded));
+    let over = b"HTTP/1.1 200 OK\r\nTransfer-Encoding: chunked\r\n\r\n4000001";
+    assert!(rt; faults(decode_whole(alloc, Method::Get, over, false), Code::FilesizeExceeded));
+}
+
+/// So many interim heads, and then another head.
+fn with_interim(alloc: Global, count: usize, last: &[u8]) -> Result<Vec<u8>, OutOfMemory> {
+    let mut bytes = Vec::new(alloc);
+    for _ in 0..count {
+        bytes.extend_from_slice(b"HTTP/1.1 103 Early Hints\r\n\r\n")?;
+    }
+    bytes.extend_from_slice(last)?;
+    Ok(bytes)
+}
+
+#[test]
+fn interim_heads(rt: HostRuntime) {
+    let alloc = rt.alloc();
+    let last = b"HTTP/1.1 204 No Content\r\n\r\n";
+    let one = with_interim(alloc, 1, last).expect(&rt, "memory");
+    assert!(rt; completes(decode_whole(alloc, Method::Get, &one, true), 204, 55, &[], true));
+    let most = with_interim(alloc, 16, last).expect(&rt, "memory");
+    assert!(rt; completes(decode_whole(alloc, Method::Get, &most, true), 204, 475, &[], true));
+    let over = with_interim(alloc, 17, last).expect(&rt, "memory");
+    assert!(rt; faults(decode_whole(alloc, Method::Get, &over, false), Code::WeirdServerReply));
+    assert!(rt; faults(decode_whole(alloc, Method::Get, &over[..476], false), Code::WeirdServerReply));
+    assert!(rt; waits(decode_whole(alloc, Method::Get, &over[..475], false)));
+    let switching = b"HTTP/1.1 101 Switching Protocols\r\n\r\n";
+    let later = with_interim(alloc, 1, switching).expect(&rt, "memory");
+    assert!(rt; faults(decode_whole(alloc, Method::Get, &later, false), Code::WeirdServerReply));
+    let none = with_interim(alloc, 1, b"").expect(&rt, "memory");
+    assert!(rt; waits(decode_whole(alloc, Method::Get, &none, false)));
+    assert!(rt; faults(decode_whole(alloc, Method::Get, &none, true), Code::WeirdServerReply));
 }
 
 #[test]

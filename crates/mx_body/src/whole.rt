@@ -168,10 +168,22 @@ fn decode_no_head(method: Method, input: &[u8], ended: bool) -> Verdict
 }
 
 /// The verdict on the bytes that the exchange for a request of that method gave, and whether they have
-/// ended. Only the first 67,108,864 bytes are looked at.
+/// ended (RFC 9112, sections 6 to 8). Only the first 67,108,864 bytes are looked at.
 ///
 /// It is `Complete` exactly where the input begins with a whole response, or, where only the end of the
-/// input ends the body, is one. A `Fault` of an input that hasn't ended is that of every continuation.
+/// input ends the body, is one. Else it is the fault of the shortest prefix that meets one:
+/// - `WeirdServerReply`: bytes that begin no head, a status of 101, the 17th interim head, or a framing that
+///   is refused;
+/// - `TooLarge`: a head of more than 128 field lines or 65,536 bytes;
+/// - `BadContentEncoding`: a transfer coding other than one `chunked`;
+/// - `FilesizeExceeded`: a Content-Length with which the response is too large, or a chunk's size over
+///   67,108,864;
+/// - `RecvError`: a byte in a chunked body that can't stand at its place.
+///
+/// Where none of these comes, an input of more than 67,108,864 bytes is `FilesizeExceeded`, and one that
+/// hasn't ended is `More`. One that has ended is `GotNothing` without a byte, `WeirdServerReply` in or before
+/// a head, and `PartialFile` in a body. The fault of an input that hasn't ended is that of every continuation.
+///
 /// `OutOfMemory` comes only in place of `Complete`, and only where the body isn't empty.
 pub fn decode_whole(
     alloc: Global,
