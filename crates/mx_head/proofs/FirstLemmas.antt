@@ -1,9 +1,8 @@
 -- Laws of any table of causes: the code that comes first is that of the shortest prefix.
-use Rattle.std.proofs.Common.{◌≡◌, ◌≢◌, ℕ, zero, suc, ◌+◌, ◌<◌, ◌≤◌, inl, inr, List, [], ◌∷◌, ◌++◌, length, refl, sym, ap, subst, ◌∙◌, arith, append_assoc, length-append}
+use Rattle.std.proofs.Common.{◌≡◌, ℕ, zero, suc, ◌+◌, ◌<◌, ◌≤◌, inl, inr, List, [], ◌∷◌, ◌++◌, length, refl, sym, ap, subst, ◌∙◌, arith, length-append}
 use Rattle.std.proofs.lemmas.List.{append-nil}
 use Rattle.std.proofs.lemmas.Bool.{cases_lt}
 use Rattle.mx_types.specs.declared.code.Code.{Code}
-use Rattle.mx_head.specs.Faults.{ComesFirst}
 use Rattle.mx_head.specs.Laws.{HasOneCodePerLine, IsShortest, ShortestComesFirst, FirstIsShortest, FirstHasShortest, HasOneFirst}
 use Rattle.mx_head.proofs.CodeLemmas.{same_code}
 use Rattle.mx_head.proofs.LineLemmas.{front_of}

@@ -1,14 +1,12 @@
 -- Laws of heads and of the answers of `read_head`.
-use Rattle.std.proofs.Common.{◌≡◌, ◌≢◌, ℕ, List, [], ◌∷◌, ◌++◌, length, refl, sym, ap, subst, ◌∙◌, arith, append_assoc}
+use Rattle.std.proofs.Common.{◌≡◌, ℕ, List, [], ◌++◌, refl, sym, ap, subst, ◌∙◌, arith, append_assoc}
 use Rattle.std.proofs.lemmas.List.{append-nil}
 use Rattle.httparse.specs.Grammar.{ResponseHead, print_response}
 use Rattle.httparse.proofs.GrammarLemmas.{response_unique}
 use Rattle.mx_head.specs.declared.types.Head.{Head}
-use Rattle.mx_head.specs.declared.types.HeadStep.{HeadStep}
 use Rattle.mx_head.specs.declared.types.HeadStep.TheVariants as step
-use Rattle.mx_head.specs.Heads.{HasNoHead}
-use Rattle.mx_head.specs.Faults.{HeadCause, many_fields, never_head, long_head, head_code, head_line, MeetsAtHead, ComesFirst}
-use Rattle.mx_head.specs.Reading.{Describes, IsStepOn}
+use Rattle.mx_head.specs.Faults.{many_fields, never_head, long_head, head_code, head_line, MeetsAtHead}
+use Rattle.mx_head.specs.Reading.{Describes}
 use Rattle.mx_head.specs.Laws.{HasOneCodePerLine, HasOneStep, HasOneHead, HeadsArePrefixFree, StepStaysSame}
 use Rattle.mx_head.proofs.FaultLemmas.{head_meets_nothing}
 use Rattle.mx_head.proofs.FirstLemmas.{one_first}

@@ -5,7 +5,7 @@ use Rattle.mx_types.specs.declared.code.Code.{Code}
 use Rattle.mx_head.specs.declared.types.HeadStep.{HeadStep}
 use Rattle.mx_head.specs.declared.types.HeadStep.TheVariants.{More}
 use Rattle.mx_head.specs.Heads.{IsHead, ReadsHead}
-use Rattle.mx_head.specs.Faults.{HeadCause, head_code, head_line, MeetsAtHead, ComesFirst, MeetsNothing}
+use Rattle.mx_head.specs.Faults.{MeetsAtHead, ComesFirst, MeetsNothing}
 use Rattle.mx_head.specs.Reading.{IsStepOn}
 
 -- causes of one line have one code

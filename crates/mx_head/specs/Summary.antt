@@ -1,5 +1,5 @@
 -- What a `Head` keeps of the fields, and the rules of framing and of keeping from that.
-use Rattle.std.specs.Prelude.{ℕ, min, ◌^◌, ◌-◌, Bool, true, false, not, ◌&&◌, ◌||◌, List, [], ◌∷◌, if◌then◌else◌, ◌==◌, Result, Ok, Err, filter}
+use Rattle.std.specs.Prelude.{ℕ, min, ◌^◌, ◌-◌, Bool, true, false, not, ◌&&◌, List, [], ◌∷◌, if◌then◌else◌, ◌==◌, Result, Ok, Err, filter}
 use Rattle.std.specs.List.{list_all}
 use Rattle.std.specs.Str.Parse.{digits_value}
 use Rattle.mx_types.specs.declared.code.Code.{Code}
