@@ -38,10 +38,10 @@ module _ (limit : ℕ) where
   step_digit : (n b : ℕ) → is_ascii_hexdigit b ≡ true → n * 16 + digit_value b ≤ limit → next_place limit (Size n) b ≡ Size (n * 16 + digit_value b)
   step_digit n b hex fits = grind (arith, nat_tests)
 
-  step_opens : (n b : ℕ) → is_ascii_hexdigit b ≡ false → (is_ows b || b == semicolon) ≡ true → next_place limit (Size n) b ≡ Extension n
+  pub step_opens : (n b : ℕ) → is_ascii_hexdigit b ≡ false → (is_ows b || b == semicolon) ≡ true → next_place limit (Size n) b ≡ Extension n
   step_opens n b not_hex is = cc
 
-  step_line : (b : ℕ) (on ends : Place) → is_line_byte b ≡ true → in_line b on ends ≡ on
+  pub step_line : (b : ℕ) (on ends : Place) → is_line_byte b ≡ true → in_line b on ends ≡ on
   step_line b on ends is = grind (arith, nat_tests)
 
   run_digits : (ds : List ℕ) (n : ℕ) (rest : List ℕ) → AllPass is_ascii_hexdigit ds → digits_value_after 16 n ds ≤ limit
@@ -61,12 +61,12 @@ module _ (limit : ℕ) where
       ∙ ap (λ n. place_after limit (Size n) (ds ++ rest)) (sym zero)
       ∙ run_digits ds (0 * 16 + digit_value d) rest (pass_tail is_ascii_hexdigit d ds is.1) fits
 
-  run_line : (bs : List ℕ) (n : ℕ) (rest : List ℕ) → AllPass is_line_byte bs → place_after limit (Extension n) (bs ++ rest) ≡ place_after limit (Extension n) rest
+  pub run_line : (bs : List ℕ) (n : ℕ) (rest : List ℕ) → AllPass is_line_byte bs → place_after limit (Extension n) (bs ++ rest) ≡ place_after limit (Extension n) rest
   run_line [] n rest is = refl
   run_line (b ∷ bs) n rest is =
       by_byte limit _ (Extension n) b (bs ++ rest) (step_line b (Extension n) (SizeLf n) (pass_head is_line_byte b bs is)) ∙ run_line bs n rest (pass_tail is_line_byte b bs is)
 
-  run_extension : (extension : List ℕ) (n : ℕ) (rest : List ℕ) → IsChunkExtension extension
+  pub run_extension : (extension : List ℕ) (n : ℕ) (rest : List ℕ) → IsChunkExtension extension
       → place_after limit (Size n) (extension ++ (crlf_bytes ++ rest)) ≡ place_after limit (after_line n) rest
   run_extension [] n rest is = by_byte limit (Size n) (SizeLf n) 13 _ refl ∙ by_byte limit (SizeLf n) (after_line n) 10 _ refl
   run_extension (b ∷ bs) n rest is =
@@ -75,16 +75,16 @@ module _ (limit : ℕ) where
       ∙ by_byte limit (Extension n) (SizeLf n) 13 _ refl
       ∙ by_byte limit (SizeLf n) (after_line n) 10 _ refl
 
-  run_size_line : (l : SizeLine) (rest : List ℕ) → IsSizeLine l → chunk_size l ≤ limit
+  pub run_size_line : (l : SizeLine) (rest : List ℕ) → IsSizeLine l → chunk_size l ≤ limit
       → place_after limit Start (print_size_line l ++ rest) ≡ place_after limit (after_line (chunk_size l)) rest
   run_size_line l rest is fits =
       let regrouped : print_size_line l ++ rest ≡ l.digits ++ (l.extension ++ (crlf_bytes ++ rest)) = simp append_assoc in
       ap (place_after limit Start) regrouped ∙ run_size l.digits _ is.digits fits ∙ run_extension l.extension _ rest is.extension
 
-  after_some : (n : ℕ) → 0 < n → after_line n ≡ Data n
+  pub after_some : (n : ℕ) → 0 < n → after_line n ≡ Data n
   after_some n some = grind (arith, nat_tests)
 
-  run_chunk : (c : Chunk) (rest : List ℕ) → IsChunk c → chunk_size c.line ≤ limit → place_after limit Start (print_chunk c ++ rest) ≡ place_after limit Start rest
+  pub run_chunk : (c : Chunk) (rest : List ℕ) → IsChunk c → chunk_size c.line ≤ limit → place_after limit Start (print_chunk c ++ rest) ≡ place_after limit Start rest
   run_chunk c rest is fits =
       let size = chunk_size c.line in
       let regrouped : print_chunk c ++ rest ≡ print_size_line c.line ++ (c.bytes ++ (crlf_bytes ++ rest)) = append_assoc (print_size_line c.line) _ rest ∙ ap (λ t. print_size_line c.line ++ t) (append_assoc c.bytes crlf_bytes rest) in
@@ -105,7 +105,7 @@ module _ (limit : ℕ) where
       ∙ run_chunk c _ (All-head IsChunk c chunks are) (All-head (λ (c : Chunk). chunk_size c.line ≤ limit) c chunks fit)
       ∙ run_chunks chunks rest (All-tail IsChunk c chunks are) (All-tail (λ (c : Chunk). chunk_size c.line ≤ limit) c chunks fit)
 
-  run_trailer_bytes : (bs rest : List ℕ) → AllPass is_line_byte bs → place_after limit Trailer (bs ++ rest) ≡ place_after limit Trailer rest
+  pub run_trailer_bytes : (bs rest : List ℕ) → AllPass is_line_byte bs → place_after limit Trailer (bs ++ rest) ≡ place_after limit Trailer rest
   run_trailer_bytes [] rest is = refl
   run_trailer_bytes (b ∷ bs) rest is =
       by_byte limit Trailer Trailer b (bs ++ rest) (step_line b Trailer TrailerLf (pass_head is_line_byte b bs is)) ∙ run_trailer_bytes bs rest (pass_tail is_line_byte b bs is)
@@ -118,7 +118,7 @@ module _ (limit : ℕ) where
       ∙ by_byte limit Trailer TrailerLf 13 _ refl
       ∙ by_byte limit TrailerLf TrailerStart 10 _ refl
 
-  run_trailer_lines : (ts : List (List ℕ)) (rest : List ℕ) → All IsTrailer ts
+  pub run_trailer_lines : (ts : List (List ℕ)) (rest : List ℕ) → All IsTrailer ts
       → place_after limit TrailerStart (flat_map (λ t. t ++ crlf_bytes) ts ++ rest) ≡ place_after limit TrailerStart rest
   run_trailer_lines [] rest are = refl
   run_trailer_lines (t ∷ ts) rest are =

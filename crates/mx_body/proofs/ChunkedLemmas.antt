@@ -91,16 +91,21 @@ module _ (limit : ℕ) where
       done_same [] = place_after-nil _ Done ∙ sym (place_after-nil limit Done)
       done_same (b ∷ rest) = done_ends _ b rest ∙ sym (done_ends limit b rest)
 
+  -- bytes that end in a size, where the limit is no less than any size
+  pub large_leads : (bs : List ℕ) (high : ℕ) (h : EndsInLargeSize limit bs) → digits_value 16 h.1 + length (print_chunks h.0) ≤ high
+      → place_after high Start bs ≡ Size (digits_value 16 h.1)
+  large_leads bs high (chunks, digits, are, is_size, text, large) above =
+      ap (place_after high Start) (text ∙ sym (ap (λ t. print_chunks chunks ++ t) (append-nil digits)))
+      ∙ run_chunks high chunks (digits ++ []) are (sizes_fit chunks high are (omega arith))
+      ∙ run_size high digits [] is_size (omega arith)
+      ∙ place_after-nil high (Size (digits_value 16 digits))
+
   -- bytes that end in a size over the limit
   pub large_is : (bs : List ℕ) → EndsInLargeSize limit bs → At bs ≡ TooLarge
   large_is bs (chunks, digits, are, is_size, text, large) =
       let value = digits_value 16 digits in
       let high = value + length (print_chunks chunks) in
-      let leads : place_after high Start bs ≡ Size value =
-      ap (place_after high Start) (text ∙ sym (ap (λ t. print_chunks chunks ++ t) (append-nil digits)))
-      ∙ run_chunks high chunks (digits ++ []) are (sizes_fit chunks high are (omega arith))
-      ∙ run_size high digits [] is_size (omega arith)
-      ∙ place_after-nil high (Size value) in
+      let leads : place_after high Start bs ≡ Size value = large_leads bs high (chunks, digits, are, is_size, text, large) (omega arith) in
       ⊎_elim (λ e. e)
       (λ same. let at : At bs ≡ Size value = sym same ∙ leads in
       let read : Reads limit 0 (Size value) bs (parts_begun limit Start 0 bs) =
@@ -147,10 +152,12 @@ module _ (limit : ℕ) where
           finish_by 0 (Data left) DataCr last finish_data_cr
       by_test false some =
           let xs = replicate {A = ℕ} left 0 in
-          let long : length xs ≡ left = length-replicate left 0 in
-          (xs ++ finish_data_cr.0, place_after-append limit (Data left) xs finish_data_cr.0
-          ∙ ap (λ p. place_after limit p finish_data_cr.0) (data_all limit xs left (omega (arith, eqb-false left 0 some)) long)
-          ∙ finish_data_cr.1)
+          let long : length xs ≡ left = length-replicate left 0 in (
+            xs ++ finish_data_cr.0,
+            place_after-append limit (Data left) xs finish_data_cr.0
+                ∙ ap (λ p. place_after limit p finish_data_cr.0) (data_all limit xs left (omega (arith, eqb-false left 0 some)) long)
+                ∙ finish_data_cr.1,
+          )
 
   finish_line : (size : ℕ) → CanFinish (SizeLf size)
   finish_line size = by_test (eqb size 0) refl
@@ -184,19 +191,19 @@ module _ (limit : ℕ) where
       record {
         may_become = (read.body, f.0, read.is_body, read.text);
         not_whole = λ body rest is text.
-          let here : At bs ≡ At (print_chunked body ++ rest) = ap (place_after limit Start) text in
-          let settled = settled_stays limit Done rest refl in
-          ⊎_elim (λ large. let e : is_settled (At bs) ≡ true = ap is_settled (here ∙ large) in cc)
-          (λ done. let e : is_settled (At bs) ≡ true = ap is_settled (here ∙ done) ∙ settled in cc)
-          (behind_body body rest is);
+            let here : At bs ≡ At (print_chunked body ++ rest) = ap (place_after limit Start) text in
+            let settled = settled_stays limit Done rest refl in
+            ⊎_elim (λ large. let e : is_settled (At bs) ≡ true = ap is_settled (here ∙ large) in cc)
+            (λ done. let e : is_settled (At bs) ≡ true = ap is_settled (here ∙ done) ∙ settled in cc)
+            (behind_body body rest is);
         small = λ front rest text large.
-          let e : At bs ≡ TooLarge = ap (place_after limit Start) text ∙ place_after-append limit Start front rest ∙ ap (λ p. place_after limit p rest) (large_is front large) ∙ too_large_stays limit rest in
-          let settled : is_settled (At bs) ≡ true = ap is_settled e in
-          cc;
+            let e : At bs ≡ TooLarge = ap (place_after limit Start) text ∙ place_after-append limit Start front rest ∙ ap (λ p. place_after limit p rest) (large_is front large) ∙ too_large_stays limit rest in
+            let settled : is_settled (At bs) ≡ true = ap is_settled e in
+            cc;
       }
 
   -- two ways to cut a text: the first cut is not behind the byte, or it is
-  cut : (p rest front z : List ℕ) (b : ℕ) → p ++ rest ≡ front ++ b ∷ z → ((x : List ℕ) × (front ≡ p ++ x)) ⊎ ((x : List ℕ) × (p ≡ (front ++ b ∷ []) ++ x))
+  pub cut : (p rest front z : List ℕ) (b : ℕ) → p ++ rest ≡ front ++ b ∷ z → ((x : List ℕ) × (front ≡ p ++ x)) ⊎ ((x : List ℕ) × (p ≡ (front ++ b ∷ []) ++ x))
   cut [] rest front z b e = inl (front, refl)
   cut (a ∷ p) rest [] z b e = let h : a ≡ b = cc in inr (p, ap (λ x. x ∷ p) h)
   cut (a ∷ p) rest (d ∷ front) z b e =
@@ -218,11 +225,13 @@ module _ (limit : ℕ) where
         ((front, b, rest, is, undecided, not_one), never (λ body x is_body fits e. not_one (body, x, is_body, sym e)))
 
     pub large_decides : At (front ++ b ∷ []) ≡ TooLarge → EndsInLargeSize limit (front ++ b ∷ []) → IsDecidedBy limit input (EndsInLargeSize limit) × NeverHasChunked limit input
-    large_decides large ends =
-        ((front, b, rest, is, undecided, ends), never (λ body x is_body fits e.
-        let done : At (print_chunked body) ≡ Done = ap (place_after limit Start) (sym (append-nil (print_chunked body))) ∙ run_body limit body [] is_body fits ∙ place_after-nil limit Done in
-        let over : At (print_chunked body) ≡ TooLarge = ap (place_after limit Start) e ∙ place_after-append limit Start (front ++ b ∷ []) x ∙ ap (λ p. place_after limit p x) large ∙ too_large_stays limit x in
-        cc))
+    large_decides large ends = (
+      (front, b, rest, is, undecided, ends),
+      never (λ body x is_body fits e.
+          let done : At (print_chunked body) ≡ Done = ap (place_after limit Start) (sym (append-nil (print_chunked body))) ∙ run_body limit body [] is_body fits ∙ place_after-nil limit Done in
+          let over : At (print_chunked body) ≡ TooLarge = ap (place_after limit Start) e ∙ place_after-append limit Start (front ++ b ∷ []) x ∙ ap (λ p. place_after limit p x) large ∙ too_large_stays limit x in
+          cc),
+    )
 
   -- the byte with which a size goes over the limit
   pub ends_in_large : (front : List ℕ) (b : ℕ) → is_settled (At front) ≡ false → At (front ++ b ∷ []) ≡ TooLarge → EndsInLargeSize limit (front ++ b ∷ [])

@@ -11,7 +11,7 @@ use Rattle.mx_head.specs.declared.types.Head.{Head}
 use Rattle.mx_body.specs.Steps.{HasHeadAt}
 use Rattle.mx_body.specs.Causes.{Meets}
 use Rattle.mx_body.specs.Decision.{first_bytes, IsUndecided, HasFinalHead}
-use Rattle.mx_body.proofs.HeadsLemmas.{body_stands}
+use Rattle.mx_body.proofs.HeadsLemmas.{body_stands, body_start_small}
 use Rattle.mx_body.proofs.MeetsLemmas.{headless_no_response}
 
 -- what stands behind the bytes that are looked at
@@ -42,18 +42,6 @@ first_front input p rest e small =
     let long : length p ≤ length (first_bytes input) = omega (arith, small, length-first_bytes input, ap length e, length-append p rest) in
     let r = front_of p (first_bytes input) rest s.0 (sym e ∙ s.1) long in
     (r.0, r.1, r.2)
-
--- the heads before a body are short enough
-pub heads_small : (hs : List ResponseHead) → All IsInterim hs → length (print_heads hs) ≤ 65536 * length hs
-heads_small [] each = omega arith
-heads_small (h ∷ hs) each =
-    let one = (each 0 h (omega arith)).head.bytes in
-    omega (arith, one, length-append (print_response h) (print_heads hs), heads_small hs (λ k d lt. each (suc k) d (omega (arith, lt))))
-
-pub body_start_small : (text : List ℕ) (hs : List ResponseHead) (h : ResponseHead) (rest : List ℕ) → StandsAtBody text hs h rest
-    → length (print_heads hs ++ print_response h) ≤ 1114112
-body_start_small text hs h rest s =
-    omega (arith, heads_small hs s.1.0.each, s.1.0.few, s.0.head.bytes, length-append (print_heads hs) (print_response h))
 
 -- so the bytes that are looked at have the same final head
 pub record FirstBody (input : List ℕ) (hs : List ResponseHead) (h : ResponseHead) (rest : List ℕ) : Type 0 where
@@ -99,4 +87,6 @@ head_from input x end d = record {
   stands = final_from input d.interim d.head d.rest d.stands;
   describes = d.describes;
   end_is = d.end_is;
+  within = omega (arith, d.within, length-first_bytes input);
+  small = d.small;
 }

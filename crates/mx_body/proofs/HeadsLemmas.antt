@@ -1,5 +1,5 @@
 -- Which heads stand at the front of an input.
-use Rattle.std.proofs.Common.{suc, get_or, ◌≡◌, ◌≢◌, ℕ, ◌+◌, ◌<◌, ◌≤◌, ◌⊎◌, inl, inr, List, [], ◌∷◌, ◌++◌, length, refl, sym, ap, subst, ◌∙◌, arith, append_assoc, length-append, All}
+use Rattle.std.proofs.Common.{suc, get_or, ◌≡◌, ◌≢◌, ℕ, ◌+◌, ◌*◌, ◌<◌, ◌≤◌, ◌⊎◌, inl, inr, List, [], ◌∷◌, ◌++◌, length, refl, sym, ap, subst, ◌∙◌, arith, append_assoc, length-append, All}
 use Rattle.std.proofs.lemmas.List.{append-nil}
 use Rattle.httparse.specs.Grammar.{ResponseHead, print_response, status_code}
 use Rattle.httparse.proofs.GrammarLemmas.{response_unique}
@@ -51,7 +51,7 @@ compare_heads (h ∷ hs) [] a b x y e = inr (inl (record {
 }))
 compare_heads (h ∷ hs) (k ∷ ks) a b x y e =
     let same = same_head h k (print_heads hs ++ a) (print_heads ks ++ b) (x 0 h (omega arith)).head (y 0 k (omega arith)).head
-        (sym (append_assoc (print_response h) (print_heads hs) a) ∙ e ∙ append_assoc (print_response k) (print_heads ks) b) in
+    (sym (append_assoc (print_response h) (print_heads hs) a) ∙ e ∙ append_assoc (print_response k) (print_heads ks) b) in
     elim (compare_heads hs ks a b (tail_each h hs x) (tail_each k ks y) same.1) [
       | inl both ↦ inl ((λ i. sym same.0 i ∷ both.0 i), both.1)
       | inr one ↦ elim one [
@@ -128,3 +128,20 @@ same_body text hs ks h k a b s t =
           (both.0, same.0, same.1)
       | inr earlier ↦ absurd (earlier_final earlier k b refl t.0)
     ]
+
+-- the heads before a body are short enough
+pub heads_small : (hs : List ResponseHead) → All IsInterim hs → length (print_heads hs) ≤ 65536 * length hs
+heads_small [] each = omega arith
+heads_small (h ∷ hs) each =
+    let one = (each 0 h (omega arith)).head.bytes in
+    omega (arith, one, length-append (print_response h) (print_heads hs), heads_small hs (λ k d lt. each (suc k) d (omega (arith, lt))))
+
+pub body_start_small : (text : List ℕ) (hs : List ResponseHead) (h : ResponseHead) (rest : List ℕ) → StandsAtBody text hs h rest
+    → length (print_heads hs ++ print_response h) ≤ 1114112
+body_start_small text hs h rest s =
+    omega (arith, heads_small hs s.1.0.each, s.1.0.few, s.0.head.bytes, length-append (print_heads hs) (print_response h))
+
+pub body_start_within : (text : List ℕ) (hs : List ResponseHead) (h : ResponseHead) (rest : List ℕ) → StandsAtBody text hs h rest
+    → length (print_heads hs ++ print_response h) ≤ length text
+body_start_within text hs h rest s =
+    omega (arith, ap length s.1.1, length-append (print_heads hs) (print_response h ++ rest), length-append (print_response h) rest, length-append (print_heads hs) (print_response h))

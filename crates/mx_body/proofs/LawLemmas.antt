@@ -19,10 +19,11 @@ use Rattle.mx_head.proofs.LineLemmas.{front_of}
 use Rattle.mx_body.specs.declared.part.Part.{Part}
 use Rattle.mx_body.specs.declared.verdict.Verdict.{Verdict}
 use Rattle.mx_body.specs.declared.verdict.Verdict.TheVariants as verdict
+use Rattle.mx_body.specs.ChunkedLaws.{AreOrdered, joined}
 use Rattle.mx_body.specs.Response.{print_heads, StandsAtBody, Response, IsResponse}
 use Rattle.mx_body.specs.Causes.{Cause, at_head, refused_status, at_body, BodyCause, bad_framing, unknown_coding, too_big, bad_chunk, cause_code, cause_line, Meets}
 use Rattle.mx_body.specs.Decision.{BeginsWithResponse, IsNoResponse, first_bytes, HasFinalHead, EndsTooSoon, FailsWith, is_close, IsVerdict, HasStatus}
-use Rattle.mx_body.specs.Laws.{IsSameVerdict, HasOneVerdict, HasOneStatus, StatusIs, CompleteHasStatus, FaultStaysSame, FaultIsHopeless, IsComplete, CompleteStaysSame, ArePartsWithin, joined, CompleteHasContent}
+use Rattle.mx_body.specs.Laws.{IsSameVerdict, HasOneVerdict, HasOneStatus, StatusIs, CompleteHasStatus, FaultStaysSame, FaultIsHopeless, IsComplete, CompleteStaysSame, CompleteHasContent}
 use Rattle.mx_body.proofs.HeadsLemmas.{same_body}
 use Rattle.mx_body.proofs.FirstBytesLemmas.{first_split, length-first_bytes, first_same, first_front}
 use Rattle.mx_body.proofs.ResponseLemmas.{response_stands, one_response, response_ended, never_close, response_stays_same, response_early, response_meets_nothing}
@@ -99,8 +100,7 @@ fault_or_more m input ended c (inr (inr a)) w = let both : false ≡ true = sym 
 
 pub one_verdict : HasOneVerdict
 one_verdict m input ended (verdict.Complete status len parts keep) (verdict.Complete status' len' parts' keep') v w =
-    let same = one_response m input ended ended v.0 w.0 v.1 w.1 v.2 w.2 in
-    (
+    let same = one_response m input ended ended v.0 w.0 v.1 w.1 v.2 w.2 in (
       v.3 ∙ ap (λ (r : Response). status_code r.head) same.0 ∙ sym w.3,
       omega (arith, v.4, w.4, ap length same.1),
       v.5 ∙ ap (λ (r : Response). r.parts) same.0 ∙ sym w.5,
@@ -143,7 +143,7 @@ fault_hopeless m input code v more r left b = by_fault v.1
     by_fault (inl first) =
         let s = first_split input in
         let whole : input ++ more ≡ first.front ++ (first.after ++ (s.0 ++ more)) =
-            ap (λ (t : List ℕ). t ++ more) (s.1 ∙ ap (λ (t : List ℕ). t ++ s.0) first.is_prefix) ∙ regroup first.front first.after s.0 more in
+        ap (λ (t : List ℕ). t ++ more) (s.1 ∙ ap (λ (t : List ℕ). t ++ s.0) first.is_prefix) ∙ regroup first.front first.after s.0 more in
         elim (cases_lt (length b.bytes) (length first.front)) [
           | inl short ↦ early (omega (arith, short, ap length s.1, ap length first.is_prefix, length-append (first_bytes input) s.0, length-append first.front first.after))
           | inr long ↦
@@ -163,7 +163,7 @@ fault_same m input more ended code v = (none, by_fault v.1)
     by_fault (inl first) =
         let s = first_split input in
         let whole : input ++ more ≡ first.front ++ (first.after ++ (s.0 ++ more)) =
-            ap (λ (t : List ℕ). t ++ more) (s.1 ∙ ap (λ (t : List ℕ). t ++ s.0) first.is_prefix) ∙ regroup first.front first.after s.0 more in
+        ap (λ (t : List ℕ). t ++ more) (s.1 ∙ ap (λ (t : List ℕ). t ++ s.0) first.is_prefix) ∙ regroup first.front first.after s.0 more in
         let f = first_front (input ++ more) first.front (first.after ++ (s.0 ++ more)) whole (omega (arith, length-first_bytes input, ap length first.is_prefix, length-append first.front first.after)) in
         inl (record {
           front = first.front;
@@ -178,10 +178,10 @@ fault_same m input more ended code v = (none, by_fault v.1)
         })
     by_fault (inr (inl long)) =
         inr (inl (
-            record { unfinished = none; faultless = subst (MeetsNothing (Meets m)) (sym (first_same input more long.1)) long.0.faultless },
-            omega (arith, long.1, length-append input more),
-            long.2,
-          ))
+          record { unfinished = none; faultless = subst (MeetsNothing (Meets m)) (sym (first_same input more long.1)) long.0.faultless },
+          omega (arith, long.1, length-append input more),
+          long.2,
+        ))
     by_fault (inr (inr cut)) = let both : false ≡ true = cut.2 in absurd (cc)
 
 -- ---- a complete response stays
@@ -209,9 +209,8 @@ complete_content m input ended (verdict.Complete status len parts keep) v =
     let b = v.2 in
     let long : len ≡ length b.bytes = omega (arith, v.4, ap length b.whole, length-append b.bytes v.1) in
     let c = response_content m input ended v.0 v.1 b in
-    let front : take len input ≡ b.bytes = ap (λ n. take n input) long ∙ ap (λ (t : List ℕ). take (length b.bytes) t) b.whole ∙ upto b.bytes v.1 in
-    (
-      subst (λ (p : List Part). ArePartsWithin 0 len p) (sym v.5) (subst (λ n. ArePartsWithin 0 n v.0.parts) (sym long) c.within),
+    let front : take len input ≡ b.bytes = ap (λ n. take n input) long ∙ ap (λ (t : List ℕ). take (length b.bytes) t) b.whole ∙ upto b.bytes v.1 in (
+      subst (λ (p : List Part). AreOrdered 0 len p) (sym v.5) (subst (λ n. AreOrdered 0 n v.0.parts) (sym long) c.within),
       omega (arith, v.4),
       (
         v.0,

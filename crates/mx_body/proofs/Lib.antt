@@ -5,10 +5,13 @@ pub mod ChunkedLemmas
 pub mod ChunkedSteps
 pub mod ChunkedUnique
 pub mod ChunkedParts
+pub mod ChunkedLawProofs
+pub mod ChunkedRfcLemmas
 pub mod HeadsLemmas
 pub mod MeetsLemmas
 pub mod FirstBytesLemmas
 pub mod VerdictLemmas
 pub mod ResponseLemmas
 pub mod ContentLemmas
+pub mod ChunkedBodyLemmas
 pub mod LawLemmas

@@ -20,7 +20,7 @@ use Rattle.mx_body.specs.Response.{IsInterimStatus, IsInterim, IsFinal, print_he
 use Rattle.mx_body.specs.Causes.{BodyCause, Cause, at_head, refused_status, at_body, body_code, body_line, cause_code, cause_line, IsRefused, MeetsAtBody, Meets}
 use Rattle.mx_body.specs.Decision.{BeginsWithResponse, IsNoResponse, HasFinalHead}
 use Rattle.mx_body.specs.Steps.{IsBehind, HasHeadAt}
-use Rattle.mx_body.proofs.HeadsLemmas.{same_head, print_heads-append, IsEarlier, head_stands, body_stands, Stops, none_stops, final_stops, refused_stops, stand_there, earlier_meets, earlier_refused, earlier_final, same_body}
+use Rattle.mx_body.proofs.HeadsLemmas.{same_head, print_heads-append, IsEarlier, head_stands, body_stands, Stops, none_stops, final_stops, refused_stops, stand_there, earlier_meets, earlier_refused, earlier_final, same_body, body_start_small, body_start_within}
 
 -- the offset behind the final head
 abbrev pub body_start : List ResponseHead → ResponseHead → ℕ
@@ -88,8 +88,7 @@ headless_first m text hs rest code s none f = record {
       let n = headless_meets m text hs rest s none q more other e x in
       let long = ap length n.stands.1 in
       let one = f.first n.part more n.here n.splits n.meets (λ same. ne (ap cause_code n.cause_is ∙ same))
-          (omega (arith, le, long, length-append (print_heads hs) n.part, length-append (print_heads hs) f.front)) in
-      (
+      (omega (arith, le, long, length-append (print_heads hs) n.part, length-append (print_heads hs) f.front)) in (
         omega (arith, one.0, long, length-append (print_heads hs) n.part, length-append (print_heads hs) f.front),
         subst (λ (c : Cause). head_line f.cause < cause_line c) (sym n.cause_is) one.1,
       );
@@ -186,8 +185,7 @@ body_first m text hs h rest code s f = record {
       let n = body_meets m text hs h rest s q more other e x in
       let long = ap length n.stands.1.1 in
       let one = f.first n.part more n.here n.splits n.meets (λ same. ne (ap cause_code n.cause_is ∙ same))
-          (omega (arith, le, long, lengths (print_heads hs) (print_response h) n.part, lengths (print_heads hs) (print_response h) f.front)) in
-      (
+      (omega (arith, le, long, lengths (print_heads hs) (print_response h) n.part, lengths (print_heads hs) (print_response h) f.front)) in (
         omega (arith, one.0, long, lengths (print_heads hs) (print_response h) n.part, lengths (print_heads hs) (print_response h) f.front),
         subst (λ (c : Cause). body_line f.cause < cause_line c) (sym n.cause_is) one.1,
       );
@@ -222,14 +220,20 @@ response_body m text ended hs h rest s r left b =
     let t = b.response.stands in
     let same = same_body text hs r.interim h r.head rest (r.body ++ left) s (body_stands text b.bytes left r.interim r.head r.body b.whole t) in
     let long = ap length t.1.1 in
-    let long_heads : length (heads_of r) ≡ body_start hs h = λ i. body_start (same.0 i) (same.1 i) in
-    (
+    let long_heads : length (heads_of r) ≡ body_start hs h = λ i. body_start (same.0 i) (same.1 i) in (
       same.0,
       same.1,
       record {
         splits = sym same.2;
-        fits = omega (arith, b.response.fits, long, long_heads, length-append (print_heads r.interim) (print_response r.head),
-            length-append (print_heads r.interim) (print_response r.head ++ r.body), length-append (print_response r.head) r.body);
+        fits = omega (
+          arith,
+          b.response.fits,
+          long,
+          long_heads,
+          length-append (print_heads r.interim) (print_response r.head),
+          length-append (print_heads r.interim) (print_response r.head ++ r.body),
+          length-append (print_response r.head) r.body,
+        );
         is_asked = sym (ap (framing_of m) same.1) ∙ b.response.asked;
         is = subst (λ (n : ℕ). IsBody r.framing ended n r.body r.parts r.content) long_heads b.response.body;
         ends = b.ends;
@@ -305,22 +309,26 @@ refused_next text start passed h rest b head e interim why =
         | inl leaves ↦ inl leaves
         | inr all ↦ inr (sym b.passed_is ∙ all, interim)
       ];
-    } in
-    (
+    } in (
       λ final. same_refused text b.interim h rest s refused final.0 final.1 final.2 final.3,
       λ m. refused_first m text b.interim h rest s refused,
     )
 
 pub final_next : (text : List ℕ) (start passed : ℕ) (x : Head) (end : ℕ) (h : ResponseHead) (rest : List ℕ) → (b : IsBehind text start passed) → IsHead h → tail_from start text ≡ print_response h ++ rest
     → (IsInterimStatus (status_code h) → ⊥) → Describes x h → end ≡ start + length (print_response h) → HasHeadAt text x end
-final_next text start passed x end h rest b head e final describes ends = record {
-  interim = b.interim;
-  head = h;
-  rest = rest;
-  stands = (record { head = head; status = final }, head_next text start passed h rest b e);
-  describes = describes;
-  end_is = omega (arith, ends, b.start_is, length-append (print_heads b.interim) (print_response h));
-}
+final_next text start passed x end h rest b head e final describes ends =
+    let stands : StandsAtBody text b.interim h rest = (record { head = head; status = final }, head_next text start passed h rest b e) in
+    let end_is : end ≡ body_start b.interim h = omega (arith, ends, b.start_is, length-append (print_heads b.interim) (print_response h)) in
+    record {
+      interim = b.interim;
+      head = h;
+      rest = rest;
+      stands = stands;
+      describes = describes;
+      end_is = end_is;
+      within = omega (arith, end_is, body_start_within text b.interim h rest stands);
+      small = omega (arith, end_is, body_start_small text b.interim h rest stands);
+    }
 
 pub passed_next : (text : List ℕ) (start passed end : ℕ) (h : ResponseHead) (rest : List ℕ) → (b : IsBehind text start passed) → IsHead h → tail_from start text ≡ print_response h ++ rest
     → IsInterimStatus (status_code h) → status_code h ≢ 101 → passed ≢ most_interim → end ≡ start + length (print_response h) → IsBehind text end (passed + 1)

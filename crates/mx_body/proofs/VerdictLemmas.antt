@@ -23,12 +23,14 @@ use Rattle.mx_body.specs.Causes.{BodyCause, bad_framing, unknown_coding, too_big
 use Rattle.mx_body.specs.Decision.{IsNoResponse, first_bytes, IsUndecided, is_close, IsVerdict, BeginsWithParts}
 use Rattle.mx_body.specs.Steps.{IsWholeAt}
 use Rattle.mx_body.proofs.MeetsLemmas.{body_start, body_first, body_nothing, BeginsWithBody, response_body, body_response}
-use Rattle.mx_body.proofs.FirstBytesLemmas.{FirstBody, first_body, body_start_small}
+use Rattle.mx_body.proofs.HeadsLemmas.{body_start_small}
+use Rattle.mx_body.proofs.FirstBytesLemmas.{FirstBody, first_body}
 
 -- what a final head asks for
 pub data FramingKind : Result Framing Code → Type 0 where
   is_empty : FramingKind (Ok Empty)
   is_counted : (n : ℕ) → FramingKind (Ok (Counted n))
+  is_chunked : FramingKind (Ok Chunked)
   is_open : FramingKind (Ok Close)
   is_weird : FramingKind (Err WeirdServerReply)
   is_coded : FramingKind (Err BadContentEncoding)
@@ -43,7 +45,7 @@ by_length_kind (e ∷ es) = length_kind (is_number e && list_all (is_number_of (
 
 coded_kind : (t u : Bool) → FramingKind (cond t (Err WeirdServerReply) (cond u chunked_framing (Err BadContentEncoding)))
 coded_kind true u = is_weird
-coded_kind false true = is_coded
+coded_kind false true = is_chunked
 coded_kind false false = is_coded
 
 by_fields_kind : (minor : ℕ) (cs ls : List (List ℕ)) → FramingKind (by_fields minor cs ls)
@@ -57,13 +59,6 @@ framing_kind m h = by_body (has_no_body m (status_code h))
     by_body : (t : Bool) → FramingKind (cond t (Ok Empty) (by_fields h.minor (elements (codes "transfer-encoding") (lines_of h)) (elements (codes "content-length") (lines_of h))))
     by_body true = is_empty
     by_body false = by_fields_kind h.minor (elements (codes "transfer-encoding") (lines_of h)) (elements (codes "content-length") (lines_of h))
-
-pub never_chunked : (r : Result Framing Code) → FramingKind r → r ≡ Ok Chunked → ⊥
-never_chunked r is_empty e = cc
-never_chunked r (is_counted n) e = cc
-never_chunked r is_open e = cc
-never_chunked r is_weird e = cc
-never_chunked r is_coded e = cc
 
 -- ---- what the bytes behind the final head decide
 
@@ -132,17 +127,18 @@ refused_framing m input ended hs h rest code s f = by_kind (framing_of m h) (fra
     by_kind : (r : Result Framing Code) → FramingKind r → framing_of m h ≡ r → r ≡ Err code → IsVerdict m input ended (verdict.Fault code)
     by_kind r is_empty e x = absurd (cc)
     by_kind r (is_counted n) e x = absurd (cc)
+    by_kind r is_chunked e x = absurd (cc)
     by_kind r is_open e x = absurd (cc)
     by_kind r is_weird e x =
         let same : WeirdServerReply ≡ code = cc in
         subst (λ (c : Code). IsVerdict m input ended (verdict.Fault c)) same
         (body_fault m input ended hs h rest (Err WeirdServerReply) WeirdServerReply s e (none_begins WeirdServerReply (body_start hs h))
-            (front_first (Err WeirdServerReply) (body_start hs h) (first_body input hs h rest s).seen bad_framing (refl, refl) (λ q other y. all_same WeirdServerReply (body_start hs h) q other y)))
+        (front_first (Err WeirdServerReply) (body_start hs h) (first_body input hs h rest s).seen bad_framing (refl, refl) (λ q other y. all_same WeirdServerReply (body_start hs h) q other y)))
     by_kind r is_coded e x =
         let same : BadContentEncoding ≡ code = cc in
         subst (λ (c : Code). IsVerdict m input ended (verdict.Fault c)) same
         (body_fault m input ended hs h rest (Err BadContentEncoding) BadContentEncoding s e (none_begins BadContentEncoding (body_start hs h))
-            (front_first (Err BadContentEncoding) (body_start hs h) (first_body input hs h rest s).seen unknown_coding (refl, refl) (λ q other y. all_same BadContentEncoding (body_start hs h) q other y)))
+        (front_first (Err BadContentEncoding) (body_start hs h) (first_body input hs h rest s).seen unknown_coding (refl, refl) (λ q other y. all_same BadContentEncoding (body_start hs h) q other y)))
 
 -- ---- a counted body
 
@@ -170,7 +166,7 @@ counted_too_big m input ended hs h rest n s f large =
     body_fault m input ended hs h rest (Ok (Counted n)) FilesizeExceeded s f
     (λ framing body parts content left b. absurd (omega (arith, large, (counted_fits n (body_start hs h) rest ended framing body parts content left b).0)))
     (front_first (Ok (Counted n)) (body_start hs h) (first_body input hs h rest s).seen too_big (inl (refl, (n, refl, large)))
-        (λ q other x. (counted_meets n (body_start hs h) q other x).0))
+    (λ q other x. (counted_meets n (body_start hs h) q other x).0))
 
 pub counted_short : (m : Method) (input : List ℕ) (ended : Bool) (hs : List ResponseHead) (h : ResponseHead) (rest : List ℕ) (n : ℕ)
     → StandsAtBody input hs h rest → framing_of m h ≡ Ok (Counted n) → body_start hs h + n ≤ most_bytes → length rest < n
@@ -239,8 +235,16 @@ plain_verdict m input ended hs h n p keep (verdict.Complete status len parts k) 
   p.left,
   body_response m input ended hs h (p.body ++ p.left) p.stands p.framing p.body (one_part (body_start hs h) n) p.content p.left p.begins,
   w.0,
-  omega (arith, w.1, p.long, ap length p.stands.1.1, length-append (print_heads hs) (print_response h), length-append (print_heads hs) (print_response h ++ (p.body ++ p.left)),
-      length-append (print_response h) (p.body ++ p.left), length-append p.body p.left),
+  omega (
+    arith,
+    w.1,
+    p.long,
+    ap length p.stands.1.1,
+    length-append (print_heads hs) (print_response h),
+    length-append (print_heads hs) (print_response h ++ (p.body ++ p.left)),
+    length-append (print_response h) (p.body ++ p.left),
+    length-append p.body p.left,
+  ),
   w.2,
   w.3 ∙ kept,
 )

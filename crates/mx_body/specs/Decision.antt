@@ -79,7 +79,7 @@ IsHopeless m input = (more : List ℕ) → IsNoResponse m (input ++ more) true
 abbrev pub HasStatus : List ℕ → ℕ → Type 0
 HasStatus input status =
     ((hs : List ResponseHead) × (h : ResponseHead) × (r : List ℕ)
-        × StandsAtBody input hs h r × (status ≡ status_code h))
+    × StandsAtBody input hs h r × (status ≡ status_code h))
     ⊎ (¬ (HasFinalHead input) × (status ≡ 0))
 
 -- the input begins with a response whose body isn't empty

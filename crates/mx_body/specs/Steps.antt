@@ -1,9 +1,10 @@
 -- What the private functions behind `decode_whole` promise one another.
-use Rattle.std.specs.Prelude.{◌≡◌, ◌≢◌, ℕ, ◌+◌, Bool, List, [], ◌++◌, length}
+use Rattle.std.specs.Prelude.{◌≡◌, ℕ, ◌+◌, ◌≤◌, Bool, List, ◌++◌, length}
 use Rattle.httparse.specs.Grammar.{ResponseHead, print_response}
 use Rattle.mx_types.specs.declared.method.Method.{Method}
 use Rattle.mx_head.specs.declared.types.Head.{Head}
 use Rattle.mx_head.specs.Reading.{Describes}
+use Rattle.mx_head.specs.Limits.{most_bytes}
 use Rattle.mx_head.specs.Faults.{ComesFirst, MeetsNothing}
 use Rattle.mx_body.specs.declared.verdict.Verdict.{Verdict}
 use Rattle.mx_body.specs.declared.verdict.Verdict.TheVariants as verdict
@@ -13,7 +14,7 @@ use Rattle.mx_body.specs.declared.heads.Next.{Next}
 use Rattle.mx_body.specs.declared.heads.Next.TheVariants as next
 use Rattle.mx_body.specs.Response.{print_heads, StandsAtHead, StandsAtBody, one_part, Response}
 use Rattle.mx_body.specs.Causes.{cause_code, cause_line, Meets}
-use Rattle.mx_body.specs.Decision.{BeginsWithResponse, HasFinalHead}
+use Rattle.mx_body.specs.Decision.{HasFinalHead, IsUndecided}
 
 -- behind as many interim heads as have passed, the next head begins at `start`
 pub record IsBehind (text : List ℕ) (start passed : ℕ) : Type 0 where
@@ -31,6 +32,8 @@ pub record HasHeadAt (text : List ℕ) (x : Head) (end : ℕ) : Type 0 where
   pub stands : StandsAtBody text interim head rest
   pub describes : Describes x head
   pub end_is : end ≡ length (print_heads interim ++ print_response head)
+  pub within : end ≤ length text
+  pub small : end ≤ most_bytes
 
 abbrev pub IsFinalStepOn : List ℕ → FinalStep → Type 0
 IsFinalStepOn text (final.Head x end) = HasHeadAt text x end
@@ -48,3 +51,7 @@ IsWholeAt status at n keep (verdict.Complete s len parts k) =
     (s ≡ status) × (len ≡ at + n) × (parts.items ≡ one_part at n) × (k ≡ keep)
 IsWholeAt status at n keep verdict.More = ⊥
 IsWholeAt status at n keep (verdict.Fault code) = ⊥
+
+-- a body of which more is to come, behind the final head
+abbrev pub IsShortBody : Method → List ℕ → Bool → Type 0
+IsShortBody m input ended = IsUndecided m input ended × HasFinalHead input

@@ -1,5 +1,8 @@
 //! Chunked bodies (RFC 9112, section 7.1).
 
+pub mod laws;
 pub mod parts;
 pub mod place;
 pub mod scan;
+#[cfg(test)]
+mod tests;

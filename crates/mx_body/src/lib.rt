@@ -1,10 +1,15 @@
-//! Bodies of responses: what the bytes of an exchange decide.
+//! Bodies of responses: what the bytes of an exchange decide (RFC 9112, sections 6 to 8).
+//!
+//! `decode_whole` decides over all of the bytes at once. It is the plain program of the definitions in
+//! `specs/`, whose laws are the contracts of the functions in `laws`.
 #![tactic(auto)]
 
 pub mod chunked;
 mod heads;
 pub mod laws;
 mod part;
+#[cfg(test)]
+mod tests;
 mod verdict;
 mod whole;
 

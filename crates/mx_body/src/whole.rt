@@ -1,11 +1,17 @@
 //! Decoding all of the bytes at once.
 
-ghost use Rattle.std.specs.Prelude.{◌≡◌, ℕ, ◌+◌, ◌<◌, ◌^◌, IfOk, OnErr};
+ghost use Rattle.std.specs.Prelude.{◌≡◌, ℕ, ◌+◌, ◌<◌, ◌^◌, IfOk, OnErr, Ok};
+ghost use Rattle.httparse.specs.Grammar.{ResponseHead};
+ghost use Rattle.mx_head.specs.declared.types.Framing.TheVariants.{Chunked};
+ghost use Rattle.mx_head.specs.Framing.{framing_of};
+ghost use Rattle.mx_head.specs.Reading.{Describes};
 ghost use Rattle.mx_body.specs.Response.{one_part};
 ghost use Rattle.mx_body.specs.Decision.{first_bytes, IsVerdict, BeginsWithParts};
-ghost use Rattle.mx_body.specs.Steps.{HasHeadAt, IsFinalStepOn, IsWholeAt};
+ghost use Rattle.mx_body.specs.Steps.{HasHeadAt, IsFinalStepOn, IsWholeAt, IsShortBody};
 ghost use Rattle.mx_body.specs.declared.heads.FinalStep.TheVariants.{More};
 
+use crate::chunked::parts::chunked_parts;
+use crate::chunked::scan::{ChunkedScan, scan_chunked};
 use crate::heads::{FinalStep, final_head};
 use crate::part::Part;
 use crate::verdict::Verdict;
@@ -53,6 +59,52 @@ fn complete(
     })
 }
 
+/// The verdict where a chunked body is short.
+fn decode_short(method: Method, input: &[u8], ended: bool) -> Verdict
+    requires { IsShortBody method input.now ended }
+    ensures { IsVerdict method input.now ended result }
+{
+    if input.len() > MOST_BYTES {
+        Verdict::Fault(Code::FilesizeExceeded)
+    } else if ended {
+        Verdict::Fault(Code::PartialFile)
+    } else {
+        Verdict::More
+    }
+}
+
+/// The verdict where a chunked body begins at `at`, behind the final head. It is scanned before memory is
+/// taken for its parts, so that a want of memory comes only in place of `Complete`.
+fn decode_chunked(
+    alloc: Global,
+    method: Method,
+    head: &Head,
+    at: usize,
+    input: &[u8],
+    ended: bool,
+) -> Result<Verdict, OutOfMemory>
+    requires head { HasHeadAt input.now head.now at }
+    requires chunked { (h : ResponseHead) → Describes head.now h → framing_of method h ≡ Ok Chunked }
+    ensures verdict { IfOk result (IsVerdict method input.now ended) }
+    ensures memory { OnErr result (BeginsWithParts method input.now ended) }
+{
+    let body = &input[at..input.len().min(MOST_BYTES)];
+    match scan_chunked(body, MOST_BYTES as u32) {
+        ChunkedScan::Short => Ok(decode_short(method, input, ended)),
+        ChunkedScan::TooLarge => Ok(Verdict::Fault(Code::FilesizeExceeded)),
+        ChunkedScan::Bad => Ok(Verdict::Fault(Code::RecvError)),
+        ChunkedScan::Whole { len } => {
+            let parts = chunked_parts(alloc, &body[..len], at as u32)?;
+            Ok(Verdict::Complete {
+                status: head.status(),
+                len: (at + len) as u32,
+                parts,
+                keep: keeps(head),
+            })
+        }
+    }
+}
+
 /// The verdict where the final head ends at `at`.
 fn decode_body(
     alloc: Global,
@@ -93,7 +145,7 @@ fn decode_body(
                 Ok(Verdict::More)
             }
         }
-        Ok(Framing::Chunked) => Ok(Verdict::Fault(Code::BadContentEncoding)),
+        Ok(Framing::Chunked) => decode_chunked(alloc, method, head, at, input, ended),
     }
 }
 
@@ -116,10 +168,22 @@ fn decode_no_head(method: Method, input: &[u8], ended: bool) -> Verdict
 }
 
 /// The verdict on the bytes that the exchange for a request of that method gave, and whether they have
-/// ended. Only the first 67,108,864 bytes are looked at.
+/// ended (RFC 9112, sections 6 to 8). Only the first 67,108,864 bytes are looked at.
 ///
 /// It is `Complete` exactly where the input begins with a whole response, or, where only the end of the
-/// input ends the body, is one. A `Fault` of an input that hasn't ended is that of every continuation.
+/// input ends the body, is one. Else it is the fault of the shortest prefix that meets one:
+/// - `WeirdServerReply`: bytes that begin no head, a status of 101, the 17th interim head, or a framing that
+///   is refused;
+/// - `TooLarge`: a head of more than 128 field lines or 65,536 bytes;
+/// - `BadContentEncoding`: a transfer coding other than one `chunked`;
+/// - `FilesizeExceeded`: a Content-Length with which the response is too large, or a chunk's size over
+///   67,108,864;
+/// - `RecvError`: a byte in a chunked body that can't stand at its place.
+///
+/// Where none of these comes, an input of more than 67,108,864 bytes is `FilesizeExceeded`, and one that
+/// hasn't ended is `More`. One that has ended is `GotNothing` without a byte, `WeirdServerReply` in or before
+/// a head, and `PartialFile` in a body. The fault of an input that hasn't ended is that of every continuation.
+///
 /// `OutOfMemory` comes only in place of `Complete`, and only where the body isn't empty.
 pub fn decode_whole(
     alloc: Global,

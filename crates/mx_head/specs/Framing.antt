@@ -10,7 +10,7 @@ use Rattle.mx_types.specs.declared.code.Code.TheVariants.{WeirdServerReply, BadC
 use Rattle.mx_types.specs.declared.method.Method.{Method}
 use Rattle.mx_types.specs.declared.method.Method.TheVariants as method
 use Rattle.mx_head.specs.declared.types.Framing.{Framing}
-use Rattle.mx_head.specs.declared.types.Framing.TheVariants.{Empty, Counted, Close}
+use Rattle.mx_head.specs.declared.types.Framing.TheVariants.{Empty, Counted, Chunked, Close}
 use Rattle.mx_head.specs.Fields.{lines_of, same_word, elements}
 
 -- the request was a HEAD
@@ -53,9 +53,9 @@ by_length (e ∷ es) =
     if is_number e && list_all (is_number_of n) es then Ok (Counted (min n (2 ^ 64 - 1)))
     else Err WeirdServerReply
 
--- the framing of a chunked body: refused until chunked bodies are decoded, and then `Ok Chunked`
+-- the framing where `chunked` is the one coding (RFC 9112, section 7.1)
 abbrev pub chunked_framing : Result Framing Code
-chunked_framing = Err BadContentEncoding
+chunked_framing = Ok Chunked
 
 -- the table of section 6.3, from the version and the elements of Transfer-Encoding and Content-Length
 abbrev pub by_fields : ℕ → List (List ℕ) → List (List ℕ) → Result Framing Code

@@ -10,10 +10,9 @@ most_head_bytes = 65536
 abbrev pub most_fields : ℕ
 most_fields = 128
 
--- The interim heads (RFC 9110, section 15.2) that may come before the final one. It is 0 as long as
--- each of them is refused, and 16 once they are passed over.
+-- the interim heads (RFC 9110, section 15.2) that may come before the final one
 abbrev pub most_interim : ℕ
-most_interim = 0
+most_interim = 16
 
 -- the bytes of a whole response: all its heads, and its body as it is framed
 abbrev pub most_bytes : ℕ

@@ -204,7 +204,7 @@ fn codings_and_statuses_come_first(rt: HostRuntime) {
         (
             b"HTTP/1.1 200 OK\r\nTransfer-Encoding: chunked\r\n\r\n".as_slice(),
             Method::Get,
-            coded,
+            Ok(Framing::Chunked),
             true,
         ),
         (
@@ -216,7 +216,7 @@ fn codings_and_statuses_come_first(rt: HostRuntime) {
         (
             b"HTTP/1.1 200 OK\r\nTransfer-Encoding: chunked\r\nContent-Length: x\r\n\r\n".as_slice(),
             Method::Get,
-            coded,
+            Ok(Framing::Chunked),
             false,
         ),
         (
