@@ -67,10 +67,23 @@ fn play_stdin<R: io::Input + Print + AllocGlobal>(rt: &R, history: u32) -> u8
     }
 }
 
+/// The words of the command line, or the exit status where they can't be had: for want of memory, or since a
+/// word isn't UTF-8.
+fn words(rt: &HostRuntime) -> Result<Vec<String>, u8> {
+    match env::args(rt).and_then(|words| Ok(words.collect(rt.alloc())?)) {
+        Ok(words) => Ok(words),
+        Err(error) if error.kind() == io::ErrorKind::OutOfMemory => Err(out_of_memory(rt)),
+        Err(_) => {
+            let _ = eprintln!(rt; "error: a word of the command line is not UTF-8");
+            Err(REFUSED)
+        }
+    }
+}
+
 fn main(rt: HostRuntime) -> ExitCode {
-    let words: Vec<String> = match env::args(&rt).and_then(|words| Ok(words.collect(rt.alloc())?)) {
+    let words = match words(&rt) {
         Ok(words) => words,
-        Err(_) => return ExitCode::from(out_of_memory(&rt)),
+        Err(status) => return ExitCode::from(status),
     };
     ExitCode::from(match read_command(rt.alloc(), words.as_slice()) {
         Ok(Task::Body(method)) => decode_stdin(&rt, method),
