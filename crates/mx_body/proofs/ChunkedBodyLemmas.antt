@@ -94,7 +94,7 @@ at_byte text q more front rest b cause is u e le x =
     elim (cases_lt (length front) (length q)) [
       | inl behind ↦
           (same_split q (front ++ b ∷ []) more rest (sym e ∙ is ∙ sym (append_assoc front (b ∷ []) rest))
-            (omega (arith, behind, le, length-append front (b ∷ [])))).0
+          (omega (arith, behind, le, length-append front (b ∷ [])))).0
       | inr before ↦ absurd (undecided_meets q front (b ∷ rest) more cause u (sym e ∙ is) before x)
     ]
 
@@ -163,13 +163,13 @@ short_undecided m input ended hs h rest s f u =
         let seen_long = input_length (first_bytes input) hs h g.seen g.stands in
         let all_long = input_length input hs h rest s in
         let r = front_of (print_chunked t.tree) g.seen left g.after (sym t.splits ∙ g.splits)
-            (omega (arith, t.long, b.fits, seen_long, all_long, length-first_bytes input, ap length t.splits, length-append (print_chunked t.tree) left)) in
+        (omega (arith, t.long, b.fits, seen_long, all_long, length-first_bytes input, ap length t.splits, length-append (print_chunked t.tree) left)) in
         u.not_whole t.tree r.0 t.is r.1
 
 pub whole_body : (m : Method) (input : List ℕ) (ended : Bool) (hs : List ResponseHead) (h : ResponseHead) (rest : List ℕ) → (s : StandsAtBody input hs h rest)
     → framing_of m h ≡ Ok Chunked → (tree : ChunkedBody) (left : List ℕ) → BeginsWithChunked most_bytes (first_body input hs h rest s).seen tree left
     → BeginsWithBody (framing_of m h) (body_start hs h) rest ended Chunked (print_chunked tree) (chunk_parts (body_start hs h) tree.chunks) (chunked_data tree)
-        (left ++ (first_body input hs h rest s).after)
+    (left ++ (first_body input hs h rest s).after)
 whole_body m input ended hs h rest s f tree left x =
     let g = first_body input hs h rest s in
     record {
@@ -187,7 +187,7 @@ seen_is input hs h rest s at n start end =
     let g = first_body input hs h rest s in
     let front = print_heads hs ++ print_response h in
     let whole : input ≡ front ++ (g.seen ++ g.after) =
-        s.1.1 ∙ ap (λ (t : List ℕ). print_heads hs ++ (print_response h ++ t)) g.splits ∙ sym (append_assoc (print_heads hs) (print_response h) (g.seen ++ g.after)) in
+    s.1.1 ∙ ap (λ (t : List ℕ). print_heads hs ++ (print_response h ++ t)) g.splits ∙ sym (append_assoc (print_heads hs) (print_response h) (g.seen ++ g.after)) in
     let last : n ≡ length front + length g.seen = omega (arith, end, input_length (first_bytes input) hs h g.seen g.stands, length-first_bytes input) in
     ap (λ (t : List ℕ). slice_range t at n) whole
     ∙ (λ i. slice_range (front ++ (g.seen ++ g.after)) (start i) (last i))
