@@ -1,16 +1,14 @@
 -- The verdict on an input whose final head asks for a chunked body, by what a scan of the bytes found.
-use Rattle.std.proofs.Common.{◌≡◌, ◌≢◌, ℕ, ◌+◌, ◌<◌, ◌≤◌, ◌⊎◌, inl, inr, Bool, List, [], ◌∷◌, ◌++◌, min, length, take, drop, ◌-◌, slice_range, refl, sym, ap, subst, ◌∙◌, arith, append_assoc, length-append, Result, Ok, Err, OnErr}
+use Rattle.std.proofs.Common.{◌≡◌, ◌≢◌, ℕ, ◌+◌, ◌<◌, ◌≤◌, inl, inr, Bool, List, [], ◌∷◌, ◌++◌, min, length, take, slice_range, refl, sym, ap, subst, ◌∙◌, arith, append_assoc, length-append, Result, Ok, Err, OnErr}
 use Rattle.std.proofs.lemmas.List.{append-nil}
 use Rattle.std.proofs.lemmas.Bool.{cases_lt}
-use Rattle.httparse.specs.Grammar.{ResponseHead, print_response, status_code}
-use Rattle.mx_types.specs.declared.code.Code.{Code}
+use Rattle.httparse.specs.Grammar.{ResponseHead, print_response}
 use Rattle.mx_types.specs.declared.code.Code.TheVariants.{WeirdServerReply, BadContentEncoding, FilesizeExceeded, RecvError}
 use Rattle.mx_types.specs.declared.method.Method.{Method}
 use Rattle.mx_head.specs.declared.types.Framing.{Framing}
 use Rattle.mx_head.specs.declared.types.Framing.TheVariants.{Counted, Chunked, Close}
 use Rattle.mx_head.specs.Framing.{framing_of}
 use Rattle.mx_head.specs.Limits.{most_bytes}
-use Rattle.mx_head.specs.Faults.{ComesFirst, MeetsNothing}
 use Rattle.mx_head.proofs.LineLemmas.{front_of}
 use Rattle.mx_body.specs.declared.part.Part.{Part}
 use Rattle.mx_body.specs.declared.verdict.Verdict.TheVariants as verdict
@@ -21,7 +19,7 @@ use Rattle.mx_body.specs.Causes.{BodyCause, bad_framing, unknown_coding, too_big
 use Rattle.mx_body.specs.Decision.{first_bytes, IsUndecided, IsVerdict}
 use Rattle.mx_body.proofs.ChunkedLawProofs.{large_may_become}
 use Rattle.mx_body.proofs.MeetsLemmas.{body_start, BeginsWithBody}
-use Rattle.mx_body.proofs.FirstBytesLemmas.{FirstBody, first_body, length-first_bytes, first_split}
+use Rattle.mx_body.proofs.FirstBytesLemmas.{FirstBody, first_body, length-first_bytes}
 use Rattle.mx_body.proofs.VerdictLemmas.{body_fault, body_undecided, input_length}
 use Rattle.mx_body.proofs.ResponseLemmas.{same_split}
 use Rattle.mx_body.proofs.ContentLemmas.{slice_at}

@@ -1,6 +1,6 @@
-use Rattle.std.proofs.Common.{◌≡◌, ℕ, ◌+◌, ◌&&◌, not, List, ◌++◌, length, take, refl, sym, ap, subst, ◌∙◌, arith, length-append}
+use Rattle.std.proofs.Common.{ℕ, List, ◌++◌, length, take, ap, subst, ◌∙◌, arith, length-append}
 use Rattle.mx_head.specs.Limits.{most_bytes}
-use Rattle.mx_body.specs.Chunked.{print_chunked, chunk_parts, chunked_data}
+use Rattle.mx_body.specs.Chunked.{print_chunked, chunk_parts}
 use Rattle.mx_body.specs.ChunkedScan.{IsChunkedScan}
 use Rattle.mx_body.proofs.MeetsLemmas.{body_start, body_response}
 use Rattle.mx_body.proofs.FirstBytesLemmas.{first_body}
