@@ -24,7 +24,8 @@ fn begun(place: Place, next: Place, at: u32) -> Option<Part>
 
 /// The parts of a chunked body that `scan_chunked` found whole, one for each chunk with data, in order.
 ///
-/// `input` is the body, which begins at the offset `at`; the parts are offsets counted as `at` is.
+/// `input` is the body, which begins at the offset `at`; the parts are offsets counted as `at` is. The error
+/// comes where there is no room for another part.
 pub fn chunked_parts(alloc: Global, input: &[u8], at: u32) -> Result<Vec<Part>, OutOfMemory>
     requires whole { (body : ChunkedBody) × IsChunkedBody body × (input.now ≡ print_chunked body) }
     requires room { at + length input.now < 2 ^ 32 }
