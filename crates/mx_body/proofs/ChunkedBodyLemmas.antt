@@ -1,16 +1,14 @@
 -- The verdict on an input whose final head asks for a chunked body, by what a scan of the bytes found.
-use Rattle.std.proofs.Common.{◌≡◌, ◌≢◌, ℕ, ◌+◌, ◌<◌, ◌≤◌, ◌⊎◌, inl, inr, Bool, List, [], ◌∷◌, ◌++◌, min, length, take, drop, ◌-◌, slice_range, refl, sym, ap, subst, ◌∙◌, arith, append_assoc, length-append, Result, Ok, Err, OnErr}
+use Rattle.std.proofs.Common.{◌≡◌, ◌≢◌, ℕ, ◌+◌, ◌<◌, ◌≤◌, inl, inr, Bool, List, [], ◌∷◌, ◌++◌, min, length, take, slice_range, refl, sym, ap, subst, ◌∙◌, arith, append_assoc, length-append, Result, Ok, Err, OnErr}
 use Rattle.std.proofs.lemmas.List.{append-nil}
 use Rattle.std.proofs.lemmas.Bool.{cases_lt}
-use Rattle.httparse.specs.Grammar.{ResponseHead, print_response, status_code}
-use Rattle.mx_types.specs.declared.code.Code.{Code}
+use Rattle.httparse.specs.Grammar.{ResponseHead, print_response}
 use Rattle.mx_types.specs.declared.code.Code.TheVariants.{WeirdServerReply, BadContentEncoding, FilesizeExceeded, RecvError}
 use Rattle.mx_types.specs.declared.method.Method.{Method}
 use Rattle.mx_head.specs.declared.types.Framing.{Framing}
 use Rattle.mx_head.specs.declared.types.Framing.TheVariants.{Counted, Chunked, Close}
 use Rattle.mx_head.specs.Framing.{framing_of}
 use Rattle.mx_head.specs.Limits.{most_bytes}
-use Rattle.mx_head.specs.Faults.{ComesFirst, MeetsNothing}
 use Rattle.mx_head.proofs.LineLemmas.{front_of}
 use Rattle.mx_body.specs.declared.part.Part.{Part}
 use Rattle.mx_body.specs.declared.verdict.Verdict.TheVariants as verdict
@@ -21,7 +19,7 @@ use Rattle.mx_body.specs.Causes.{BodyCause, bad_framing, unknown_coding, too_big
 use Rattle.mx_body.specs.Decision.{first_bytes, IsUndecided, IsVerdict}
 use Rattle.mx_body.proofs.ChunkedLawProofs.{large_may_become}
 use Rattle.mx_body.proofs.MeetsLemmas.{body_start, BeginsWithBody}
-use Rattle.mx_body.proofs.FirstBytesLemmas.{FirstBody, first_body, length-first_bytes, first_split}
+use Rattle.mx_body.proofs.FirstBytesLemmas.{FirstBody, first_body, length-first_bytes}
 use Rattle.mx_body.proofs.VerdictLemmas.{body_fault, body_undecided, input_length}
 use Rattle.mx_body.proofs.ResponseLemmas.{same_split}
 use Rattle.mx_body.proofs.ContentLemmas.{slice_at}
@@ -94,7 +92,7 @@ at_byte text q more front rest b cause is u e le x =
     elim (cases_lt (length front) (length q)) [
       | inl behind ↦
           (same_split q (front ++ b ∷ []) more rest (sym e ∙ is ∙ sym (append_assoc front (b ∷ []) rest))
-            (omega (arith, behind, le, length-append front (b ∷ [])))).0
+          (omega (arith, behind, le, length-append front (b ∷ [])))).0
       | inr before ↦ absurd (undecided_meets q front (b ∷ rest) more cause u (sym e ∙ is) before x)
     ]
 
@@ -163,13 +161,13 @@ short_undecided m input ended hs h rest s f u =
         let seen_long = input_length (first_bytes input) hs h g.seen g.stands in
         let all_long = input_length input hs h rest s in
         let r = front_of (print_chunked t.tree) g.seen left g.after (sym t.splits ∙ g.splits)
-            (omega (arith, t.long, b.fits, seen_long, all_long, length-first_bytes input, ap length t.splits, length-append (print_chunked t.tree) left)) in
+        (omega (arith, t.long, b.fits, seen_long, all_long, length-first_bytes input, ap length t.splits, length-append (print_chunked t.tree) left)) in
         u.not_whole t.tree r.0 t.is r.1
 
 pub whole_body : (m : Method) (input : List ℕ) (ended : Bool) (hs : List ResponseHead) (h : ResponseHead) (rest : List ℕ) → (s : StandsAtBody input hs h rest)
     → framing_of m h ≡ Ok Chunked → (tree : ChunkedBody) (left : List ℕ) → BeginsWithChunked most_bytes (first_body input hs h rest s).seen tree left
     → BeginsWithBody (framing_of m h) (body_start hs h) rest ended Chunked (print_chunked tree) (chunk_parts (body_start hs h) tree.chunks) (chunked_data tree)
-        (left ++ (first_body input hs h rest s).after)
+    (left ++ (first_body input hs h rest s).after)
 whole_body m input ended hs h rest s f tree left x =
     let g = first_body input hs h rest s in
     record {
@@ -187,7 +185,7 @@ seen_is input hs h rest s at n start end =
     let g = first_body input hs h rest s in
     let front = print_heads hs ++ print_response h in
     let whole : input ≡ front ++ (g.seen ++ g.after) =
-        s.1.1 ∙ ap (λ (t : List ℕ). print_heads hs ++ (print_response h ++ t)) g.splits ∙ sym (append_assoc (print_heads hs) (print_response h) (g.seen ++ g.after)) in
+    s.1.1 ∙ ap (λ (t : List ℕ). print_heads hs ++ (print_response h ++ t)) g.splits ∙ sym (append_assoc (print_heads hs) (print_response h) (g.seen ++ g.after)) in
     let last : n ≡ length front + length g.seen = omega (arith, end, input_length (first_bytes input) hs h g.seen g.stands, length-first_bytes input) in
     ap (λ (t : List ℕ). slice_range t at n) whole
     ∙ (λ i. slice_range (front ++ (g.seen ++ g.after)) (start i) (last i))

@@ -1,6 +1,5 @@
 -- What stands at the parts of a response is its content.
-use Rattle.std.proofs.Common.{◌≡◌, ◌≢◌, ℕ, zero, suc, ◌+◌, ◌<◌, ◌≤◌, inl, inr, Bool, true, false, List, [], ◌∷◌, ◌++◌, length, take, drop, ◌-◌, slice_range, refl, sym, ap, subst, ◌∙◌, arith, append_assoc, length-append, All, cond}
-use Rattle.std.specs.Prelude.{flat_map, ◌==◌}
+use Rattle.std.proofs.Common.{◌≡◌, ℕ, ◌+◌, Bool, List, [], ◌∷◌, ◌++◌, length, take, drop, ◌-◌, slice_range, refl, sym, ap, subst, ◌∙◌, arith, append_assoc, length-append}
 use Rattle.std.proofs.lemmas.List.{append-nil}
 use Rattle.httparse.specs.Grammar.{print_response}
 use Rattle.mx_types.specs.declared.method.Method.{Method}
@@ -8,7 +7,7 @@ use Rattle.mx_head.specs.declared.types.Framing.{Framing}
 use Rattle.mx_head.specs.declared.types.Framing.TheVariants.{Empty, Counted, Chunked, Close}
 use Rattle.mx_head.specs.Limits.{most_bytes}
 use Rattle.mx_body.specs.declared.part.Part.{Part}
-use Rattle.mx_body.specs.Response.{print_heads, IsBody, one_part, Response, heads_of, IsResponse}
+use Rattle.mx_body.specs.Response.{print_heads, IsBody, one_part, Response, heads_of}
 use Rattle.mx_body.specs.Decision.{BeginsWithResponse}
 use Rattle.mx_body.specs.ChunkedLaws.{AreOrdered, joined}
 use Rattle.mx_body.proofs.ChunkedLawProofs.{parts_are_the_data}

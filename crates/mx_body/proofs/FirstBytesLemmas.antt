@@ -1,12 +1,12 @@
 -- The bytes that are looked at, and the heads in them.
-use Rattle.std.proofs.Common.{suc, ◌≡◌, ◌≢◌, ℕ, ◌+◌, ◌*◌, ◌<◌, ◌≤◌, Bool, List, [], ◌∷◌, ◌++◌, min, length, take, drop, refl, sym, ap, ◌∙◌, arith, append_assoc, length-append, length-take, All}
-use Rattle.std.proofs.lemmas.List.{append-nil, take-append-drop, take_min, take-append-le}
+use Rattle.std.proofs.Common.{◌≡◌, ℕ, ◌<◌, ◌≤◌, Bool, List, ◌++◌, min, length, take, drop, sym, ap, ◌∙◌, arith, append_assoc, length-append, length-take}
+use Rattle.std.proofs.lemmas.List.{take-append-drop, take_min, take-append-le}
 use Rattle.httparse.specs.Grammar.{ResponseHead, print_response}
 use Rattle.mx_types.specs.declared.method.Method.{Method}
 use Rattle.mx_head.specs.Limits.{most_bytes}
 use Rattle.mx_head.specs.Faults.{MeetsNothing}
 use Rattle.mx_head.proofs.LineLemmas.{front_of}
-use Rattle.mx_body.specs.Response.{IsInterim, IsFinal, print_heads, StandsAtHead, StandsAtBody}
+use Rattle.mx_body.specs.Response.{print_heads, StandsAtBody}
 use Rattle.mx_head.specs.declared.types.Head.{Head}
 use Rattle.mx_body.specs.Steps.{HasHeadAt}
 use Rattle.mx_body.specs.Causes.{Meets}

@@ -1,6 +1,5 @@
 -- The laws of the verdict.
-use Rattle.std.proofs.Common.{◌≡◌, ◌≢◌, ℕ, ◌+◌, ◌<◌, ◌≤◌, inl, inr, Bool, true, false, not, ◌&&◌, List, [], ◌∷◌, ◌++◌, length, take, refl, sym, ap, subst, ◌∙◌, arith, append_assoc, length-append}
-use Rattle.std.proofs.lemmas.List.{append-nil}
+use Rattle.std.proofs.Common.{◌≡◌, ℕ, ◌<◌, inl, inr, Bool, true, false, not, ◌&&◌, List, [], ◌∷◌, ◌++◌, length, take, refl, sym, ap, subst, ◌∙◌, arith, append_assoc, length-append}
 use Rattle.std.proofs.lemmas.Bool.{cases_lt}
 use Rattle.httparse.specs.Grammar.{ResponseHead, print_response, status_code, print_blank, print_version, print_reason, print_end, print_section}
 use Rattle.httparse.specs.Ascii.{space}
@@ -8,22 +7,18 @@ use Rattle.std.specs.Prelude.{if◌then◌else◌, ◌==◌}
 use Rattle.mx_types.specs.declared.code.Code.{Code}
 use Rattle.mx_types.specs.declared.code.Code.TheVariants.{WeirdServerReply, TooLarge, BadContentEncoding, FilesizeExceeded, RecvError}
 use Rattle.mx_types.specs.declared.method.Method.{Method}
-use Rattle.mx_head.specs.declared.types.Framing.TheVariants.{Close}
 use Rattle.mx_head.specs.Framing.{keeps_of}
-use Rattle.mx_head.specs.Limits.{most_bytes}
-use Rattle.mx_head.specs.Faults.{HeadCause, many_fields, never_head, long_head, head_line, ComesFirst, MeetsNothing}
+use Rattle.mx_head.specs.Faults.{many_fields, never_head, long_head, ComesFirst, MeetsNothing}
 use Rattle.mx_head.specs.Laws.{HasOneCodePerLine}
-use Rattle.mx_head.proofs.CodeLemmas.{same_code}
 use Rattle.mx_head.proofs.FirstLemmas.{one_first}
 use Rattle.mx_head.proofs.LineLemmas.{front_of}
 use Rattle.mx_body.specs.declared.part.Part.{Part}
-use Rattle.mx_body.specs.declared.verdict.Verdict.{Verdict}
 use Rattle.mx_body.specs.declared.verdict.Verdict.TheVariants as verdict
 use Rattle.mx_body.specs.ChunkedLaws.{AreOrdered, joined}
-use Rattle.mx_body.specs.Response.{print_heads, StandsAtBody, Response, IsResponse}
-use Rattle.mx_body.specs.Causes.{Cause, at_head, refused_status, at_body, BodyCause, bad_framing, unknown_coding, too_big, bad_chunk, cause_code, cause_line, Meets}
-use Rattle.mx_body.specs.Decision.{BeginsWithResponse, IsNoResponse, first_bytes, HasFinalHead, EndsTooSoon, FailsWith, is_close, IsVerdict, HasStatus}
-use Rattle.mx_body.specs.Laws.{IsSameVerdict, HasOneVerdict, HasOneStatus, StatusIs, CompleteHasStatus, FaultStaysSame, FaultIsHopeless, IsComplete, CompleteStaysSame, CompleteHasContent}
+use Rattle.mx_body.specs.Response.{print_heads, Response, IsResponse}
+use Rattle.mx_body.specs.Causes.{Cause, at_head, refused_status, at_body, bad_framing, unknown_coding, too_big, bad_chunk, cause_code, cause_line, Meets}
+use Rattle.mx_body.specs.Decision.{BeginsWithResponse, IsNoResponse, first_bytes, HasFinalHead, EndsTooSoon, FailsWith, is_close, IsVerdict}
+use Rattle.mx_body.specs.Laws.{HasOneVerdict, HasOneStatus, CompleteHasStatus, FaultStaysSame, FaultIsHopeless, CompleteStaysSame, CompleteHasContent}
 use Rattle.mx_body.proofs.HeadsLemmas.{same_body}
 use Rattle.mx_body.proofs.FirstBytesLemmas.{first_split, length-first_bytes, first_same, first_front}
 use Rattle.mx_body.proofs.ResponseLemmas.{response_stands, one_response, response_ended, never_close, response_stays_same, response_early, response_meets_nothing}

@@ -1,5 +1,5 @@
 -- Which causes the prefixes of an input meet, by what stands behind its interim heads.
-use Rattle.std.proofs.Common.{◌≡◌, ◌≢◌, ℕ, ◌+◌, ◌<◌, ◌≤◌, ◌⊎◌, inl, inr, Bool, List, [], ◌∷◌, ◌++◌, length, take, drop, ◌-◌, slice_range, refl, sym, ap, subst, ◌∙◌, arith, append_assoc, length-append, length-drop, Result, Ok}
+use Rattle.std.proofs.Common.{◌≡◌, ◌≢◌, ℕ, ◌+◌, ◌<◌, ◌≤◌, ◌⊎◌, inl, inr, Bool, List, [], ◌∷◌, ◌++◌, length, drop, ◌-◌, slice_range, refl, sym, ap, subst, ◌∙◌, arith, append_assoc, length-append, length-drop, Result, Ok}
 use Rattle.std.proofs.lemmas.List.{append-nil, take_all}
 use Rattle.std.proofs.lemmas.List.Elements.{All-cons, All-nil, All-append}
 use Rattle.httparse.specs.Grammar.{ResponseHead, print_response, status_code}
@@ -16,11 +16,11 @@ use Rattle.mx_head.specs.Reading.{Describes}
 use Rattle.mx_head.specs.Faults.{HeadCause, head_code, head_line, MeetsAtHead, ComesFirst, MeetsNothing}
 use Rattle.mx_head.proofs.FaultLemmas.{head_meets_nothing}
 use Rattle.mx_body.specs.declared.part.Part.{Part}
-use Rattle.mx_body.specs.Response.{IsInterimStatus, IsInterim, IsFinal, print_heads, StandsAtHead, StandsAtBody, IsBody, Response, heads_of, IsResponse}
+use Rattle.mx_body.specs.Response.{IsInterimStatus, IsInterim, print_heads, StandsAtHead, StandsAtBody, IsBody, Response, heads_of}
 use Rattle.mx_body.specs.Causes.{BodyCause, Cause, at_head, refused_status, at_body, body_code, body_line, cause_code, cause_line, IsRefused, MeetsAtBody, Meets}
 use Rattle.mx_body.specs.Decision.{BeginsWithResponse, IsNoResponse, HasFinalHead}
 use Rattle.mx_body.specs.Steps.{IsBehind, HasHeadAt}
-use Rattle.mx_body.proofs.HeadsLemmas.{same_head, print_heads-append, IsEarlier, head_stands, body_stands, Stops, none_stops, final_stops, refused_stops, stand_there, earlier_meets, earlier_refused, earlier_final, same_body, body_start_small, body_start_within}
+use Rattle.mx_body.proofs.HeadsLemmas.{same_head, print_heads-append, head_stands, body_stands, Stops, none_stops, final_stops, refused_stops, stand_there, earlier_meets, earlier_refused, earlier_final, same_body, body_start_small, body_start_within}
 
 -- the offset behind the final head
 abbrev pub body_start : List ResponseHead → ResponseHead → ℕ

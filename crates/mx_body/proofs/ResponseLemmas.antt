@@ -1,26 +1,23 @@
 -- A response is determined by the bytes that begin with it.
-use Rattle.std.proofs.Common.{◌≡◌, ◌≢◌, ℕ, ◌+◌, ◌<◌, ◌≤◌, ◌⊎◌, inl, inr, Bool, true, false, List, [], ◌∷◌, ◌++◌, length, take, drop, ◌-◌, slice_range, refl, sym, ap, subst, ◌∙◌, arith, append_assoc, length-append, Result, Ok, Err, All}
+use Rattle.std.proofs.Common.{◌≡◌, ◌≢◌, ℕ, ◌+◌, ◌<◌, ◌≤◌, ◌⊎◌, inl, inr, Bool, true, false, List, [], ◌∷◌, ◌++◌, length, refl, sym, ap, subst, ◌∙◌, arith, append_assoc, length-append, Ok, Err}
 use Rattle.std.proofs.lemmas.List.{append-nil}
-use Rattle.httparse.specs.Grammar.{ResponseHead, print_response}
-use Rattle.mx_types.specs.declared.code.Code.{Code}
+use Rattle.httparse.specs.Grammar.{print_response}
 use Rattle.mx_types.specs.declared.code.Code.TheVariants.{WeirdServerReply, BadContentEncoding}
 use Rattle.mx_types.specs.declared.method.Method.{Method}
 use Rattle.mx_head.specs.declared.types.Framing.{Framing}
 use Rattle.mx_head.specs.declared.types.Framing.TheVariants.{Empty, Counted, Chunked, Close}
-use Rattle.mx_head.specs.Framing.{framing_of}
 use Rattle.mx_head.specs.Limits.{most_bytes}
-use Rattle.mx_head.specs.Faults.{MeetsNothing}
 use Rattle.mx_head.proofs.LineLemmas.{front_of}
 use Rattle.mx_body.specs.declared.part.Part.{Part}
 use Rattle.mx_body.specs.Chunked.{ChunkedBody, print_chunked, chunk_parts, chunked_data}
 use Rattle.mx_body.specs.Response.{print_heads, StandsAtBody, IsBody, one_part, Response, heads_of, IsResponse}
-use Rattle.mx_body.specs.Causes.{BodyCause, bad_framing, unknown_coding, too_big, bad_chunk, MeetsAtBody, Meets}
+use Rattle.mx_body.specs.Causes.{BodyCause, bad_framing, unknown_coding, too_big, bad_chunk, MeetsAtBody}
 use Rattle.mx_body.specs.Decision.{BeginsWithResponse}
-use Rattle.mx_body.specs.Laws.{HasOneResponse, ResponseStaysSame, ResponsesArePrefixFree, ResponseMeetsNothing}
+use Rattle.mx_body.specs.Laws.{ResponseStaysSame, ResponsesArePrefixFree, ResponseMeetsNothing}
 use Rattle.mx_body.proofs.ChunkedUnique.{body_unique}
 use Rattle.mx_body.proofs.ChunkedLawProofs.{body_is_sound}
 use Rattle.mx_body.proofs.HeadsLemmas.{body_stands}
-use Rattle.mx_body.proofs.MeetsLemmas.{body_start, body_meets, BeginsWithBody, response_body}
+use Rattle.mx_body.proofs.MeetsLemmas.{body_start, body_meets, response_body}
 
 -- fronts of one text that are as long are the same
 pub same_split : (a b x y : List ℕ) → a ++ x ≡ b ++ y → length a ≡ length b → (a ≡ b) × (x ≡ y)

@@ -1,5 +1,5 @@
 -- The verdict on an input that has a final head, by its framing.
-use Rattle.std.proofs.Common.{◌≡◌, ◌≢◌, ℕ, ◌+◌, ◌<◌, ◌≤◌, ◌⊎◌, inl, inr, Bool, true, false, cond, not, ◌&&◌, List, [], ◌∷◌, ◌++◌, length, take, drop, refl, sym, ap, subst, ◌∙◌, arith, append_assoc, length-append, length-take, Result, Ok, Err, IfOk, OnErr}
+use Rattle.std.proofs.Common.{◌≡◌, ℕ, ◌+◌, ◌<◌, ◌≤◌, inl, inr, Bool, true, false, cond, not, ◌&&◌, List, [], ◌∷◌, ◌++◌, length, take, drop, refl, sym, ap, subst, ◌∙◌, arith, length-append, length-take, Result, Ok, Err, IfOk, OnErr}
 use Rattle.std.specs.Prelude.{◌==◌, codes, filter}
 use Rattle.std.specs.List.{list_all}
 use Rattle.std.specs.Str.Parse.{digits_value}
@@ -18,13 +18,13 @@ use Rattle.mx_head.specs.Faults.{ComesFirst, MeetsNothing}
 use Rattle.mx_body.specs.declared.part.Part.{Part}
 use Rattle.mx_body.specs.declared.verdict.Verdict.{Verdict}
 use Rattle.mx_body.specs.declared.verdict.Verdict.TheVariants as verdict
-use Rattle.mx_body.specs.Response.{print_heads, StandsAtBody, IsBody, one_part, Response}
-use Rattle.mx_body.specs.Causes.{BodyCause, bad_framing, unknown_coding, too_big, bad_chunk, body_code, body_line, cause_code, cause_line, MeetsAtBody, Meets}
-use Rattle.mx_body.specs.Decision.{IsNoResponse, first_bytes, IsUndecided, is_close, IsVerdict, BeginsWithParts}
+use Rattle.mx_body.specs.Response.{print_heads, StandsAtBody, IsBody, one_part}
+use Rattle.mx_body.specs.Causes.{BodyCause, bad_framing, unknown_coding, too_big, bad_chunk, body_code, body_line, MeetsAtBody}
+use Rattle.mx_body.specs.Decision.{first_bytes, IsUndecided, is_close, IsVerdict, BeginsWithParts}
 use Rattle.mx_body.specs.Steps.{IsWholeAt}
 use Rattle.mx_body.proofs.MeetsLemmas.{body_start, body_first, body_nothing, BeginsWithBody, response_body, body_response}
 use Rattle.mx_body.proofs.HeadsLemmas.{body_start_small}
-use Rattle.mx_body.proofs.FirstBytesLemmas.{FirstBody, first_body}
+use Rattle.mx_body.proofs.FirstBytesLemmas.{first_body}
 
 -- what a final head asks for
 pub data FramingKind : Result Framing Code → Type 0 where

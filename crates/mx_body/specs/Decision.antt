@@ -12,7 +12,7 @@ use Rattle.mx_head.specs.Faults.{ComesFirst, MeetsNothing}
 use Rattle.mx_body.specs.declared.verdict.Verdict.{Verdict}
 use Rattle.mx_body.specs.declared.verdict.Verdict.TheVariants as verdict
 use Rattle.mx_body.specs.Response.{StandsAtBody, Response, IsResponse}
-use Rattle.mx_body.specs.Causes.{Cause, cause_code, cause_line, Meets}
+use Rattle.mx_body.specs.Causes.{cause_code, cause_line, Meets}
 
 -- the input is the response r and then left, which is nothing where only the end ends the response
 pub record BeginsWithResponse

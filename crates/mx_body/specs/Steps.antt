@@ -12,7 +12,7 @@ use Rattle.mx_body.specs.declared.heads.FinalStep.{FinalStep}
 use Rattle.mx_body.specs.declared.heads.FinalStep.TheVariants as final
 use Rattle.mx_body.specs.declared.heads.Next.{Next}
 use Rattle.mx_body.specs.declared.heads.Next.TheVariants as next
-use Rattle.mx_body.specs.Response.{print_heads, StandsAtHead, StandsAtBody, one_part, Response}
+use Rattle.mx_body.specs.Response.{print_heads, StandsAtHead, StandsAtBody, one_part}
 use Rattle.mx_body.specs.Causes.{cause_code, cause_line, Meets}
 use Rattle.mx_body.specs.Decision.{HasFinalHead, IsUndecided}
 

@@ -3,12 +3,12 @@
 use crate::part::Part;
 use mx_types::Code;
 
-/// What the bytes of an exchange decide.
+/// What the bytes of an exchange decide. All offsets are counted from the beginning of the input.
 #[derive(Drop)]
 pub enum Verdict {
     /// The input begins with a whole response.
     Complete {
-        /// The status of its final head: 200 to 999, or below 100.
+        /// The status of its final head, which is not one of 100 to 199.
         status: u16,
         /// Where the response ends in the input.
         len: u32,

@@ -1,4 +1,4 @@
-use Rattle.std.proofs.Common.{ℕ, ◌+◌, ◌-◌}
+use Rattle.std.proofs.Common.{◌+◌, ◌-◌}
 use Rattle.mx_head.specs.Limits.{most_interim}
 use Rattle.mx_body.specs.Steps.{IsBehind}
 use Rattle.mx_body.proofs.heads.final_head.Given as goal

@@ -1,4 +1,4 @@
-use Rattle.std.proofs.Common.{◌≡◌, true, false, inl, inr, ◌+◌, refl, sym, ap, subst, ◌∙◌, arith}
+use Rattle.std.proofs.Common.{◌≡◌, true, false, inl, inr, ◌+◌, sym, ap, subst, ◌∙◌}
 use Rattle.mx_head.specs.Reading.{IsStepOn}
 use Rattle.mx_body.specs.Response.{IsInterimStatus}
 use Rattle.mx_body.proofs.MeetsLemmas.{tail_from, fault_next, more_next, refused_next, final_next, passed_next}

@@ -1,6 +1,4 @@
-use Rattle.std.proofs.Common.{◌≡◌, true, false, inl, inr, length, refl, sym, ap, ◌∙◌, arith, length-append, not, ◌&&◌, Ok}
-use Rattle.httparse.specs.Grammar.{print_response}
-use Rattle.mx_body.specs.Response.{print_heads}
+use Rattle.std.proofs.Common.{◌≡◌, true, false, inl, inr, length, refl, sym, ap, ◌∙◌, arith, Ok}
 use Rattle.mx_body.proofs.VerdictLemmas.{refused_framing, counted_too_big, counted_short, close_short, empty_body, counted_body, close_body, plain_verdict, plain_parts, whole_at, ok_map, err_map, input_length}
 use Rattle.mx_body.proofs.HeadsLemmas.{body_start_small}
 use Rattle.mx_body.proofs.whole.decode_body.Goals as goal

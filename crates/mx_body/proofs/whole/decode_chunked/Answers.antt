@@ -1,6 +1,6 @@
-use Rattle.std.proofs.Common.{◌≡◌, ℕ, ◌+◌, ◌&&◌, not, List, ◌++◌, length, take, refl, sym, ap, subst, ◌∙◌, arith, length-append}
+use Rattle.std.proofs.Common.{ℕ, List, ◌++◌, length, take, ap, subst, ◌∙◌, arith, length-append}
 use Rattle.mx_head.specs.Limits.{most_bytes}
-use Rattle.mx_body.specs.Chunked.{print_chunked, chunk_parts, chunked_data}
+use Rattle.mx_body.specs.Chunked.{print_chunked, chunk_parts}
 use Rattle.mx_body.specs.ChunkedScan.{IsChunkedScan}
 use Rattle.mx_body.proofs.MeetsLemmas.{body_start, body_response}
 use Rattle.mx_body.proofs.FirstBytesLemmas.{first_body}
@@ -12,8 +12,7 @@ pub decode_short-requires : goal.decode_short-requires
 decode_short-requires c =
     let d = c.requires.head in
     let seen = seen_is c.args.input.now d.interim d.head d.rest d.stands c.args.at c.min.result d.end_is c.min.ensures in
-    let scan = subst (λ (t : List ℕ). IsChunkedScan most_bytes t c.scan_chunked.result) seen c.scan_chunked.ensures in
-    (
+    let scan = subst (λ (t : List ℕ). IsChunkedScan most_bytes t c.scan_chunked.result) seen c.scan_chunked.ensures in (
       short_undecided c.args.method c.args.input.now c.args.ended d.interim d.head d.rest d.stands (c.requires.chunked d.head d.describes)
           (subst (IsChunkedScan most_bytes (first_body c.args.input.now d.interim d.head d.rest d.stands).seen) c.in-Short.is scan),
       (d.interim, d.head, d.rest, d.stands),
@@ -60,8 +59,7 @@ returns-in_ok-parts-in-Whole-clause-verdict c =
     let scan = subst (λ (t : List ℕ). IsChunkedScan most_bytes t c.scan_chunked.result) seen c.scan_chunked.ensures in
     let x = subst (IsChunkedScan most_bytes g.seen) c.in-Whole.is scan in
     let b = whole_body c.args.method c.args.input.now c.args.ended d.interim d.head d.rest d.stands f x.0 x.1 x.2 in
-    let text = ap (λ (t : List ℕ). take c.in-Whole.len t) seen ∙ whole_text g.seen x.0 x.1 c.in-Whole.len x.2.2 x.3 in
-    (
+    let text = ap (λ (t : List ℕ). take c.in-Whole.len t) seen ∙ whole_text g.seen x.0 x.1 c.in-Whole.len x.2.2 x.3 in (
       _,
       x.1 ++ g.after,
       body_response c.args.method c.args.input.now c.args.ended d.interim d.head d.rest d.stands _ _ _ _ _ b,
