@@ -14,5 +14,5 @@ fn main(rt: HostRuntime) -> ExitCode {
     };
     let mut reader = rt.reader();
     let status = play::run_play(alloc, 1_048_576, &mut reader, &mut writer);
-    ExitCode::from(status as u8)
+    ExitCode::from(u8::try_from(status).unwrap_or(121))
 }
