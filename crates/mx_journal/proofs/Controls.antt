@@ -283,7 +283,7 @@ once-push (u ∷ ts) t o h =
 abbrev pub wait_tickets : List Event → List Ticket
 wait_tickets j = map (λ m. m.ticket) (waiting j)
 
-filter_messages : (p : Ticket → Bool) (ms : List Message) → map (λ m. m.ticket) (filter (λ m. p m.ticket) ms) ≡ filter p (map (λ m. m.ticket) ms)
+pub filter_messages : (p : Ticket → Bool) (ms : List Message) → map (λ m. m.ticket) (filter (λ m. p m.ticket) ms) ≡ filter p (map (λ m. m.ticket) ms)
 filter_messages p [] = refl
 filter_messages p (m ∷ ms) = go (p m.ticket) ∙ ap (λ z. cond (p m.ticket) (m.ticket ∷ z) z) (filter_messages p ms)
   where
@@ -301,7 +301,7 @@ waits_done j (m ∷ ms) a = (ap is_open a.0.0, waits_done j ms a.1)
 pub runs_unread : (j : List Event) → Laws j → (t : Ticket) → has_ticket t (running j) ≡ true → has_ticket t (wait_tickets j) ≡ false
 runs_unread j l t h = false_from_ne_true _ (λ k. false≢true (sym (at_ticket (λ u. is_open (phase_of u j) ≡ false) t (wait_tickets j) (waits_done j (waiting j) l.waits) k) ∙ (running-has j t h).1))
 
-once-then : (j : List Event) (w : Who) (e : What) → Laws j → may_follow j e ≡ true → IsOncePerTicket (wait_tickets j) → IsOncePerTicket (wait_tickets (then j w e))
+pub once-then : (j : List Event) (w : Who) (e : What) → Laws j → may_follow j e ≡ true → IsOncePerTicket (wait_tickets j) → IsOncePerTicket (wait_tickets (then j w e))
 once-then j w e l m o =
     rw (waiting-then j w e)
     (rw (map-append (λ (x : Message). x.ticket) (filter (λ x. not (reads x.ticket e || removes x.ticket e)) (waiting j)) (option_to_list (message_of e)), filter_messages (λ t. not (reads t e || removes t e)) (waiting j))
@@ -401,7 +401,7 @@ off_kept t (m ∷ ms) h =
     let k = parts_false (same_ticket t m.ticket) (has_ticket t (map (λ m. m.ticket) ms)) h in
     rw (same-sym t m.ticket k.0) (ap (λ z. m ∷ z) (off_kept t ms k.1))
 
-read_rest : (m : Message) (ms : List Message) → IsOncePerTicket (map (λ m. m.ticket) (m ∷ ms)) → filter (λ x. not (same_ticket x.ticket m.ticket || false)) (m ∷ ms) ++ [] ≡ ms
+pub read_rest : (m : Message) (ms : List Message) → IsOncePerTicket (map (λ m. m.ticket) (m ∷ ms)) → filter (λ x. not (same_ticket x.ticket m.ticket || false)) (m ∷ ms) ++ [] ≡ ms
 read_rest m ms o = append-nil _ ∙ rw (same-refl m.ticket) (off_kept m.ticket ms o.0)
 
 pub control-read : {Q O : Type 0} (code : O → Code) (size : O → ℕ) (history : ℕ) (j : List Event) (w : Who) (x : Ticket × O) (xs : List (Ticket × O)) (queue : List (Ticket × Q)) (cq ce : ℕ)

@@ -6,3 +6,4 @@ pub mod JournalTables
 pub mod Controls
 pub mod SlotLists
 pub mod LegalLaws
+pub mod Messages

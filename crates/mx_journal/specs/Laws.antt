@@ -1,7 +1,7 @@
 -- What every legal history keeps: the statements of the laws.
-use Rattle.std.specs.Prelude.{ℕ, ◌≤◌, ◌≡◌, ◌||◌, Bool, true, false, Some, List, [], ◌∷◌, ◌++◌, length, map}
-use Rattle.std.specs.List.{AllByRecursion, count_by, list_any}
-use Rattle.std.specs.Option.{is_some}
+use Rattle.std.specs.Prelude.{ℕ, ◌≤◌, ◌≡◌, ◌||◌, Bool, true, false, Some, None, Option, List, [], ◌∷◌, ◌++◌, length, map, not, ◌&&◌}
+use Rattle.std.specs.List.{AllByRecursion, count_by, filter, flat_map, list_any}
+use Rattle.std.specs.Option.{is_some, option_to_list}
 use Rattle.mx_types.specs.declared.names.HandleId.{HandleId}
 use Rattle.mx_types.specs.declared.names.Ticket.{Ticket}
 use Rattle.mx_types.specs.declared.event.Who.{Who}
@@ -9,9 +9,13 @@ use Rattle.mx_types.specs.declared.event.What.{What}
 use Rattle.mx_types.specs.declared.event.What.TheVariants as what
 use Rattle.mx_types.specs.declared.event.Event.{Event}
 use Rattle.mx_types.specs.declared.call.Call.{Call}
-use Rattle.mx_journal.specs.History.{HasRoomForDue, Opening, same_handle, same_ticket, occurs, removes, ends, reads, pauses, resumes, added, waiting, is_legal, may_follow, has_ticket}
+use Rattle.mx_journal.specs.History.{HasRoomForDue, Opening, same_handle, same_ticket, occurs, removes, ends, reads, pauses, resumes, added, waiting, phase_of, is_legal, may_follow, has_ticket}
 use Rattle.mx_journal.specs.Core.{IsInOrder}
-use Rattle.mx_journal.specs.Answers.{answer, handle_of, is_ready}
+use Rattle.mx_journal.specs.Answers.{answer, ticket_of, handle_of, state_at, state_of, look_of, is_ready}
+use Rattle.mx_types.specs.declared.reply.Look.{Look}
+use Rattle.mx_types.specs.declared.reply.Look.TheVariants as look
+use Rattle.mx_journal.specs.declared.row.Phase.{Phase}
+use Rattle.mx_journal.specs.declared.row.Phase.TheVariants as phase
 
 -- the history with one more event of a maker
 abbrev pub then : List Event → Who → What → List Event
@@ -80,6 +84,42 @@ pub record IsTidy (j : List Event) : Type 0 where
 
 abbrev pub LegalIsTidy : Type 0
 LegalIsTidy = (j : List Event) → is_legal j ≡ true → IsTidy j
+
+-- the tickets of the ends, and of the readings, in order
+abbrev pub done_of : What → Option Ticket
+done_of (what.Done t _ _) = Some t
+done_of _ = None
+
+abbrev pub read_of : What → Option Ticket
+read_of (what.Read t) = Some t
+read_of _ = None
+
+abbrev pub done_tickets : List Event → List Ticket
+done_tickets j = flat_map (λ e. option_to_list (done_of e.what)) j
+
+abbrev pub read_tickets : List Event → List Ticket
+read_tickets j = flat_map (λ e. option_to_list (read_of e.what)) j
+
+-- the ticket was removed, and its message not read before
+abbrev pub is_removed_unread : Ticket → List Event → Bool
+is_removed_unread t j = occurs (removes t) j && not (occurs (reads t) j)
+
+-- the messages are read, and wait, in the order of the ends, without those that were removed unread
+abbrev pub FirstInFirstOut : Type 0
+FirstInFirstOut = (j : List Event) → is_legal j ≡ true
+    → read_tickets j ++ map (λ m. m.ticket) (waiting j) ≡ filter (λ t. not (is_removed_unread t j)) (done_tickets j)
+
+-- what a worker is told, by how far the addition is
+abbrev pub look_at : Phase → Look
+look_at phase.Running = look.Go
+look_at phase.Paused = look.Paused
+look_at (phase.Done _) = look.Gone
+look_at (phase.Read _) = look.Gone
+
+-- an added handle's state and what a worker is told of its ticket agree
+abbrev pub StateAndLookAgree : Type 0
+StateAndLookAgree = (j : List Event) → is_legal j ≡ true → (h : HandleId) (t : Ticket) → Some t ≡ ticket_of h j
+    → (state_of h j ≡ state_at t (phase_of t j)) × (look_of t j ≡ look_at (phase_of t j))
 
 -- a poll that may return may return later too
 abbrev pub ReadyStays : Type 0

@@ -1,6 +1,6 @@
 //! What every legal history keeps. Each law is the contract of a function that does nothing: a caller that calls it
 //! may use it in its own proof.
-ghost use Rattle.mx_journal.specs.Laws.{AnswerIsLegal, ClosingFindsRoom, EachAtMostOnce, LegalIsTidy, NothingAfterRemoval, PrefixIsLegal, ReadyStays};
+ghost use Rattle.mx_journal.specs.Laws.{AnswerIsLegal, ClosingFindsRoom, EachAtMostOnce, FirstInFirstOut, LegalIsTidy, NothingAfterRemoval, PrefixIsLegal, ReadyStays, StateAndLookAgree};
 
 /// What comes first in a legal history is one.
 pub fn prefix_is_legal()
@@ -31,6 +31,17 @@ pub fn nothing_after_removal()
 /// waits once.
 pub fn legal_is_tidy()
     ensures { LegalIsTidy }
+{}
+
+/// First in, first out: the messages that were read, and then those that wait, are of the ends in their order,
+/// without those that were removed unread.
+pub fn first_in_first_out()
+    ensures { FirstInFirstOut }
+{}
+
+/// The state of an added handle and what a worker is told of its ticket agree.
+pub fn state_and_look_agree()
+    ensures { StateAndLookAgree }
 {}
 
 /// A poll that may return may return later too.

@@ -161,18 +161,17 @@ fn refuses_at(rt: &impl Abort, alloc: Global, refused: u32) -> Result<(), Fail> 
         },
         claims: Vec::new(alloc),
     };
-    let mut events = 0;
-    for step in SCRIPT {
+    for events in 0..14 {
+        let step = SCRIPT[events as usize];
         let before = caller.control.handles();
         let lacks = caller.lacks_memory(step)?;
         assert_eq!(rt; lacks, events == refused);
         if lacks {
             assert_eq!(rt; caller.control.handles().as_slice(), before.as_slice());
-            assert_eq!(rt; caller.log.list.events().len() as u32, events);
+            assert_eq!(rt; caller.log.list.events().len(), events as usize);
             assert!(rt; !caller.lacks_memory(step)?);
         }
-        events += 1;
-        assert_eq!(rt; caller.control.len(), events);
+        assert_eq!(rt; caller.control.len(), events + 1);
     }
     assert!(rt; matches!(caller.control.state(HandleId(9)), State::Running(Ticket(2))));
     assert_eq!(rt; caller.control.made(SEAT), 14);
