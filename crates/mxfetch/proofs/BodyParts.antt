@@ -5,11 +5,11 @@ use Rattle.std.proofs.lemmas.List.{length-append, length-take, length-drop}
 use Rattle.std.proofs.lemmas.List.Sums.{sum_by-cons}
 use Rattle.std.proofs.lemmas.List.Elements.{All-nil, All-cons, All-head, All-tail}
 use Rattle.mx_body.specs.declared.part.Part.{Part}
-use Rattle.mx_body.specs.Laws.{ArePartsWithin, joined}
+use Rattle.mx_body.specs.ChunkedLaws.{AreOrdered, joined}
 use Rattle.mxfetch.specs.BodyTexts.{StandsWithin, part_len}
 
 -- the first offset is not past the last
-pub in_order : (from to : ℕ) (parts : List Part) → ArePartsWithin from to parts → from ≤ to
+pub in_order : (from to : ℕ) (parts : List Part) → AreOrdered from to parts → from ≤ to
 in_order from to [] h = h
 in_order from to (p ∷ ps) h =
     let first : from ≤ p.start = h.0 in
@@ -17,7 +17,7 @@ in_order from to (p ∷ ps) h =
     let later : p.end ≤ to = in_order p.end to ps h.2 in omega arith
 
 -- each stands within as many bytes as hold the last offset
-pub stand_within : (from to n : ℕ) (parts : List Part) → ArePartsWithin from to parts → to ≤ n
+pub stand_within : (from to n : ℕ) (parts : List Part) → AreOrdered from to parts → to ≤ n
     → All (StandsWithin n) parts
 stand_within from to n [] h small = All-nil (StandsWithin n)
 stand_within from to n (p ∷ ps) h small =
@@ -27,7 +27,7 @@ stand_within from to n (p ∷ ps) h small =
     All-cons (StandsWithin n) p ps here (stand_within p.end to n ps h.2 small)
 
 -- together they have no more bytes than lie between the offsets
-pub sum_within : (from to : ℕ) (parts : List Part) → ArePartsWithin from to parts
+pub sum_within : (from to : ℕ) (parts : List Part) → AreOrdered from to parts
     → sum_by part_len parts + from ≤ to
 sum_within from to [] h = let ordered : from ≤ to = h in omega arith
 sum_within from to (p ∷ ps) h =

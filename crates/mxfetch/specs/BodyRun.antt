@@ -7,7 +7,8 @@ use Rattle.mx_types.specs.declared.method.Method.{Method}
 use Rattle.mx_body.specs.declared.verdict.Verdict.{Verdict}
 use Rattle.mx_body.specs.declared.verdict.Verdict.TheVariants as verdict
 use Rattle.mx_body.specs.Decision.{IsVerdict}
-use Rattle.mx_body.specs.Laws.{ArePartsWithin, ContentIs, joined}
+use Rattle.mx_body.specs.ChunkedLaws.{AreOrdered, joined}
+use Rattle.mx_body.specs.Laws.{ContentIs}
 use Rattle.mx_head.specs.Limits.{most_bytes}
 use Rattle.mxfetch.specs.BodyReading.{bytes_read}
 use Rattle.mxfetch.specs.BodyTexts.{response_line, fault_line}
@@ -41,7 +42,7 @@ pub record PrintsFault (number : ℕ) (old new : Option (List ℕ)) (ends_with :
 
 -- the pieces of a verdict stand in the input, and it is decided
 abbrev pub FitsIn : List ℕ → Verdict → Type 0
-FitsIn input (verdict.Complete status len parts keep) = ArePartsWithin 0 len parts.items × (len ≤ length input)
+FitsIn input (verdict.Complete status len parts keep) = AreOrdered 0 len parts.items × (len ≤ length input)
 FitsIn input verdict.More = ⊥
 FitsIn input (verdict.Fault code) = Unit {0}
 
