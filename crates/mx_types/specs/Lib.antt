@@ -1,3 +1,4 @@
 pub mod Code
 pub mod Method
 pub mod MultiCode
+pub mod Settings

@@ -10,6 +10,7 @@ mod multi_code;
 mod names;
 mod reply;
 mod work;
+mod settings;
 
 pub use crate::call::{Call, Receipt};
 pub use crate::code::Code;
@@ -20,3 +21,4 @@ pub use crate::multi_code::MCode;
 pub use crate::names::{HandleId, Ticket};
 pub use crate::reply::{AddedHandles, Look, Reply, State};
 pub use crate::work::{Ending, Work};
+pub use crate::settings::Settings;

@@ -1,0 +1,5 @@
+pub mod Endpoint
+pub mod Fields
+pub mod Request
+pub mod RequestBytes
+pub mod RequestError
