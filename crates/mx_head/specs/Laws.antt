@@ -1,0 +1,80 @@
+-- Laws of the definitions. Each is the contract of a function of `laws`.
+use Rattle.std.specs.Prelude.{◌≡◌, ◌≢◌, ℕ, ◌≤◌, List, [], ◌++◌, length}
+use Rattle.httparse.specs.Grammar.{ResponseHead, print_response}
+use Rattle.mx_types.specs.declared.code.Code.{Code}
+use Rattle.mx_head.specs.declared.types.HeadStep.{HeadStep}
+use Rattle.mx_head.specs.declared.types.HeadStep.TheVariants.{More}
+use Rattle.mx_head.specs.Heads.{IsHead, ReadsHead}
+use Rattle.mx_head.specs.Faults.{HeadCause, head_code, head_line, MeetsAtHead, ComesFirst, MeetsNothing}
+use Rattle.mx_head.specs.Reading.{IsStepOn}
+
+-- causes of one line have one code
+abbrev pub HasOneCodePerLine : {Cause : Type 0} → (Cause → Code) → (Cause → ℕ) → Type 0
+HasOneCodePerLine code_of line_of = (a b : _) → line_of a ≡ line_of b → code_of a ≡ code_of b
+
+-- p is the shortest prefix of the input that meets a cause, and of those that p meets this one has the
+-- upper line
+pub record IsShortest
+    {Cause : Type 0} (line_of : Cause → ℕ) (Meets : List ℕ → Cause → Type 0)
+    (input p : List ℕ) (cause : Cause) : Type 0 where
+  pub after : List ℕ
+  pub is_prefix : input ≡ p ++ after
+  pub meets : Meets p cause
+  pub shortest : (q more : List ℕ) (other : Cause) → input ≡ q ++ more → Meets q other
+      → length p ≤ length q
+  pub upper : (other : Cause) → Meets p other → line_of cause ≤ line_of other
+
+-- the code of the shortest prefix's cause comes first
+abbrev pub ShortestComesFirst
+    : {Cause : Type 0} → (Cause → Code) → (Cause → ℕ) → (List ℕ → Cause → Type 0) → Type 0
+ShortestComesFirst code_of line_of Meets =
+    (input p : List ℕ) (cause : _) → IsShortest line_of Meets input p cause
+    → ComesFirst code_of line_of Meets input (code_of cause)
+
+-- a code that comes first is that of the shortest prefix's cause
+abbrev pub FirstIsShortest
+    : {Cause : Type 0} → (Cause → Code) → (Cause → ℕ) → (List ℕ → Cause → Type 0) → Type 0
+FirstIsShortest code_of line_of Meets =
+    (input p : List ℕ) (cause : _) (code : Code) → IsShortest line_of Meets input p cause
+    → ComesFirst code_of line_of Meets input code → code ≡ code_of cause
+
+-- where a code comes first, it can't be that there is no shortest prefix with a cause of that code
+abbrev pub FirstHasShortest
+    : {Cause : Type 0} → (Cause → Code) → (Cause → ℕ) → (List ℕ → Cause → Type 0) → Type 0
+FirstHasShortest code_of line_of Meets =
+    (input : List ℕ) (code : Code) → ComesFirst code_of line_of Meets input code
+    → ¬ ((p : List ℕ) (cause : _) → ¬ (IsShortest line_of Meets input p cause × (code ≡ code_of cause)))
+
+-- no two codes come first
+abbrev pub HasOneFirst
+    : {Cause : Type 0} → (Cause → Code) → (Cause → ℕ) → (List ℕ → Cause → Type 0) → Type 0
+HasOneFirst code_of line_of Meets =
+    (input : List ℕ) (code other : Code) → ComesFirst code_of line_of Meets input code
+    → ComesFirst code_of line_of Meets input other → code ≡ other
+
+-- an input has one answer of `read_head`
+abbrev pub HasOneStep : Type 0
+HasOneStep = (input : List ℕ) (a b : HeadStep) → IsStepOn input a → IsStepOn input b → a ≡ b
+
+-- no head is a proper prefix of another: they are the same head
+abbrev pub HeadsArePrefixFree : Type 0
+HeadsArePrefixFree =
+    (h k : ResponseHead) (rest : List ℕ) → IsHead h → IsHead k
+    → print_response k ≡ print_response h ++ rest → (h ≡ k) × (rest ≡ [])
+
+-- a head is one reading of an input
+abbrev pub HasOneHead : Type 0
+HasOneHead =
+    (input : List ℕ) (h k : ResponseHead) (rest left : List ℕ) → ReadsHead input h rest
+    → ReadsHead input k left → (h ≡ k) × (rest ≡ left)
+
+-- where the input begins with a head, no prefix meets a cause
+abbrev pub HeadMeetsNothing : Type 0
+HeadMeetsNothing =
+    (input : List ℕ) (h : ResponseHead) (rest : List ℕ) → ReadsHead input h rest
+    → MeetsNothing MeetsAtHead input
+
+-- a head and a fault stay the same whatever follows
+abbrev pub StepStaysSame : Type 0
+StepStaysSame =
+    (input more : List ℕ) (s : HeadStep) → s ≢ More → IsStepOn input s → IsStepOn (input ++ more) s

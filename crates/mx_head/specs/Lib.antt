@@ -1,0 +1,13 @@
+-- What the crate promises, in the order to read it.
+pub mod Limits
+pub mod Heads
+pub mod Fields
+pub mod Framing
+pub mod Faults
+pub mod Reading
+pub mod Laws
+-- Private: what the functions behind these promise one another. Nothing outside the crate names them.
+pub mod Summary
+pub mod Steps
+pub mod Lines
+pub mod Tried

@@ -1,0 +1,43 @@
+-- The field lines, one element at a time.
+use Rattle.std.specs.Prelude.{ℕ, List, [], ◌∷◌, Option, Some, None, if◌then◌else◌, codes, fold, ◌==◌}
+use Rattle.std.specs.Borrow.{Bor}
+use Rattle.mx_head.specs.declared.types.Coding.{Coding}
+use Rattle.mx_head.specs.declared.types.Coding.TheVariants as coding
+use Rattle.mx_head.specs.declared.fields.Seen.{Seen}
+use Rattle.mx_head.specs.declared.fields.Seen.TheVariants.{Nothing, Blank, Chunked, Other}
+use Rattle.mx_head.specs.declared.elements.Elements.{Elements}
+use Rattle.mx_head.specs.Fields.{Line, same_word, elements_of}
+use Rattle.mx_head.specs.Framing.{is_blank}
+
+-- the elements of what is left, if anything is
+abbrev pub elements_of_rest : Option (Bor (List ℕ)) → List (List ℕ)
+elements_of_rest None = []
+elements_of_rest (Some rest) = elements_of rest.now
+
+-- the elements that the iterator has still to give
+abbrev pub elements_left : Elements → List (List ℕ)
+elements_left it = elements_of_rest it.rest
+
+-- the first element that counts
+abbrev pub first_seen : List ℕ → Seen
+first_seen e = if is_blank e then Blank else (if same_word e (codes "chunked") then Chunked else Other)
+
+abbrev pub seen_after : Seen → List ℕ → Seen
+seen_after Nothing e = first_seen e
+seen_after Blank e = first_seen e
+seen_after Chunked e = if is_blank e then Chunked else Other
+seen_after Other e = Other
+
+abbrev pub seen_after_line : Seen → Line → Seen
+seen_after_line s l = if same_word l.0 (codes "transfer-encoding") then fold seen_after s (elements_of l.1) else s
+
+abbrev pub coding_seen : Seen → Coding
+coding_seen Nothing = coding.Absent
+coding_seen Blank = coding.Other
+coding_seen Chunked = coding.Chunked
+coding_seen Other = coding.Other
+
+-- the digits from the first that is no zero
+abbrev pub stripped : List ℕ → List ℕ
+stripped [] = []
+stripped (d ∷ ds) = if d == 48 then stripped ds else d ∷ ds

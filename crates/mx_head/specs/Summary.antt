@@ -1,0 +1,50 @@
+-- What a `Head` keeps of the fields, and the rules of framing and of keeping from that.
+use Rattle.std.specs.Prelude.{ℕ, min, ◌^◌, ◌-◌, Bool, true, false, not, ◌&&◌, ◌||◌, List, [], ◌∷◌, if◌then◌else◌, ◌==◌, Result, Ok, Err, filter}
+use Rattle.std.specs.List.{list_all}
+use Rattle.std.specs.Str.Parse.{digits_value}
+use Rattle.mx_types.specs.declared.code.Code.{Code}
+use Rattle.mx_types.specs.declared.code.Code.TheVariants.{WeirdServerReply, BadContentEncoding}
+use Rattle.mx_head.specs.declared.types.Framing.{Framing}
+use Rattle.mx_head.specs.declared.types.Framing.TheVariants.{Counted, Close}
+use Rattle.mx_head.specs.declared.types.Coding.{Coding}
+use Rattle.mx_head.specs.declared.types.Coding.TheVariants as coding
+use Rattle.mx_head.specs.declared.types.Length.{Length}
+use Rattle.mx_head.specs.declared.types.Length.TheVariants as sized
+use Rattle.mx_head.specs.Framing.{is_blank, is_chunked_alone, is_number, is_number_of, chunked_framing}
+
+-- what the elements of Transfer-Encoding come to
+abbrev pub coding_of : List (List ℕ) → Coding
+coding_of [] = coding.Absent
+coding_of (e ∷ es) =
+    if is_chunked_alone (filter (λ x. not (is_blank x)) (e ∷ es)) then coding.Chunked else coding.Other
+
+-- what the elements of Content-Length come to
+abbrev pub length_of : List (List ℕ) → Length
+length_of [] = sized.Absent
+length_of (e ∷ es) =
+    let n = digits_value 10 e in
+    if is_number e && list_all (is_number_of n) es then sized.Counted (min n (2 ^ 64 - 1)) else sized.Invalid
+
+-- the framing by what was kept of Content-Length
+abbrev pub by_length_kept : Length → Result Framing Code
+by_length_kept sized.Absent = Ok Close
+by_length_kept (sized.Counted n) = Ok (Counted n)
+by_length_kept sized.Invalid = Err WeirdServerReply
+
+-- the framing by what was kept of both fields
+abbrev pub by_kept : ℕ → Coding → Length → Result Framing Code
+by_kept minor coding.Absent length = by_length_kept length
+by_kept minor coding.Chunked length = if minor == 0 then Err WeirdServerReply else chunked_framing
+by_kept minor coding.Other length = if minor == 0 then Err WeirdServerReply else Err BadContentEncoding
+
+-- Transfer-Encoding has a line
+abbrev pub is_coded : Coding → Bool
+is_coded coding.Absent = false
+is_coded coding.Chunked = true
+is_coded coding.Other = true
+
+-- Content-Length has a line
+abbrev pub is_sized : Length → Bool
+is_sized sized.Absent = false
+is_sized (sized.Counted n) = true
+is_sized sized.Invalid = true
