@@ -1,0 +1,13 @@
+-- What the crate promises, in the order to read it.
+pub mod Chunked
+pub mod Response
+pub mod Causes
+pub mod Decision
+pub mod Laws
+pub mod ChunkedScan
+pub mod ChunkedLaws
+pub mod ChunkedRfc
+
+-- Private: what the functions behind these promise one another.
+pub mod ChunkedPlace
+pub mod Steps

@@ -44,11 +44,13 @@ module _ {Cause : Type 0} (code_of : Cause → Code) (line_of : Cause → ℕ) (
     first = λ q more other at x ne le.
         let same : length q ≡ length p = omega (arith, le, s.shortest q more other at x) in
         let here = same_front q p more s.after (sym at ∙ s.is_prefix) same in
-        let up = s.upper other (subst (λ (t : List ℕ). Meets t other) here x) in
-        (same, (elim (cases_lt (line_of cause) (line_of other)) [
-          | inl lower ↦ lower
-          | inr upper ↦ absurd (ne (one_code other cause (omega (arith, up, upper))))
-        ]));
+        let up = s.upper other (subst (λ (t : List ℕ). Meets t other) here x) in (
+          same,
+          (elim (cases_lt (line_of cause) (line_of other)) [
+            | inl lower ↦ lower
+            | inr upper ↦ absurd (ne (one_code other cause (omega (arith, up, upper))))
+          ]),
+        );
   }
 
   pub first_is_shortest : HasOneCodePerLine code_of line_of → FirstIsShortest code_of line_of Meets

@@ -1,12 +1,16 @@
-//! Heads of responses: reading one, and what its fields say of the body and the connection.
+//! Heads of HTTP/1.0 and HTTP/1.1 responses (RFC 9112): reading one, and what it says of its body's end and
+//! of its connection.
 #![tactic(auto)]
 
 mod elements;
 mod fields;
 pub mod laws;
+mod limits;
 mod lines;
 mod reading;
 mod rules;
+#[cfg(test)]
+mod tests;
 mod text;
 mod types;
 

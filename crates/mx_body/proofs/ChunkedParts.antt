@@ -1,0 +1,85 @@
+-- The parts that a reader finds on its way through a whole body.
+use Rattle.std.proofs.Common.{◌≡◌, ℕ, suc, ◌+◌, ◌-◌, ◌<◌, ◌≤◌, Bool, true, false, nat_le, List, [], ◌∷◌, ◌++◌, length, take, drop, refl, sym, ap, ◌∙◌, arith}
+use Rattle.std.proofs.lemmas.List.{append-nil, take-append-drop, take_all, take_rest, length-take-le, length-drop}
+use Rattle.std.proofs.Math.Seq.{take-add}
+use Rattle.std.proofs.lemmas.Bool.{leb-true, leb-false}
+use Rattle.mx_body.specs.declared.chunked.place.Place.{Place}
+use Rattle.mx_body.specs.declared.chunked.place.Place.TheVariants.{Start, Size, Extension, SizeLf, Data, DataCr, DataLf, TrailerStart, Trailer, TrailerLf, EndLf, Done, Bad, TooLarge}
+use Rattle.mx_body.specs.Chunked.{ChunkedBody, IsChunkedBody, print_chunked, chunk_parts}
+use Rattle.mx_body.specs.ChunkedPlace.{place_after, data_left, begun, parts_begun}
+use Rattle.mx_body.proofs.ChunkedRun.{place_after-nil, place_after-append, by_byte, data_more, parts_begun-append}
+use Rattle.mx_body.proofs.ChunkedComplete.{run_body}
+use Rattle.mx_body.proofs.ChunkedLemmas.{body_sizes_fit, done_reads}
+use Rattle.mx_body.proofs.ChunkedUnique.{body_unique}
+
+-- data that a whole body has behind it is there
+data_fits : (limit : ℕ) (xs : List ℕ) (left : ℕ) → place_after limit (Data left) xs ≡ Done → left ≤ length xs
+data_fits limit [] left done = let here = place_after-nil limit (Data left) in cc
+data_fits limit (b ∷ []) left done = by_test (nat_le left 1) refl
+  where
+    by_test : (t : Bool) → nat_le left 1 ≡ t → left ≤ 1
+    by_test true is = leb-true left 1 is
+    by_test false is =
+        let over : 1 < left = leb-false left 1 is in
+        let here : place_after limit (Data left) (b ∷ []) ≡ Data (left - 1) = by_byte limit _ _ b [] (data_more limit left b over) ∙ place_after-nil limit _ in
+        absurd (cc)
+data_fits limit (b ∷ d ∷ xs) left done = by_test (nat_le left 1) refl (data_fits limit (d ∷ xs) (left - 1))
+  where
+    by_test : (t : Bool) → nat_le left 1 ≡ t → (place_after limit (Data (left - 1)) (d ∷ xs) ≡ Done → left - 1 ≤ suc (length xs)) → left ≤ suc (suc (length xs))
+    by_test true is later = omega (arith, leb-true left 1 is)
+    by_test false is later = omega (arith, later (sym (by_byte limit _ _ b (d ∷ xs) (data_more limit left b (leb-false left 1 is))) ∙ done))
+
+module _ (limit at : ℕ) (input : List ℕ) where
+  abbrev At : ℕ → Place
+  At n = place_after limit Start (take n input)
+
+  -- the parts, a piece of the rest on
+  pub further_parts : (n len : ℕ) (place next : Place) → n ≤ length input → At n ≡ place
+      → parts_begun limit place (at + n) (take len (take (length input - n) (drop n input))) ≡ begun place next (at + n + len)
+      → parts_begun limit Start at (take (n + len) input) ≡ parts_begun limit Start at (take n input) ++ begun place next (at + (n + len))
+  further_parts n len place next within here more =
+      let front = take n input in
+      let piece = take len (drop n input) in
+      let offset : at + length front ≡ at + n = omega (arith, length-take-le n input within) in
+      let regrouped : at + n + len ≡ at + (n + len) = omega arith in
+      ap (parts_begun limit Start at) (take-add n len input)
+      ∙ parts_begun-append limit Start at front piece
+      ∙ ap (λ p. parts_begun limit Start at front ++ parts_begun limit p (at + length front) piece) here
+      ∙ ap (λ m. parts_begun limit Start at front ++ parts_begun limit place m piece) offset
+      ∙ ap (λ t. parts_begun limit Start at front ++ parts_begun limit place (at + n) (take len t)) (sym (take_rest input n))
+      ∙ ap (λ ps. parts_begun limit Start at front ++ ps) (more ∙ ap (begun place next) regrouped)
+
+  module _ (body : ChunkedBody) (is : IsChunkedBody body) (text : input ≡ print_chunked body) (fits : length input ≤ limit) where
+    ends : place_after limit Start input ≡ Done
+    ends =
+        ap (place_after limit Start) (text ∙ sym (append-nil (print_chunked body)))
+        ∙ run_body limit body [] is (body_sizes_fit body limit is (omega (arith, ap length text)))
+        ∙ place_after-nil limit Done
+
+    -- the data that begins at a place is in the input
+    pub has_room : (n : ℕ) (place : Place) → n ≤ length input → At n ≡ place → n + data_left place ≤ length input
+    has_room n (Data left) within here =
+        let back : place_after limit (Data left) (drop n input) ≡ Done =
+        ap (λ p. place_after limit p (drop n input)) (sym here) ∙ sym (place_after-append limit Start (take n input) (drop n input)) ∙ ap (place_after limit Start) (take-append-drop n input) ∙ ends in
+        omega (arith, data_fits limit (drop n input) left back, length-drop n input)
+    has_room n Start within here = omega arith
+    has_room n (Size m) within here = omega arith
+    has_room n (Extension m) within here = omega arith
+    has_room n (SizeLf m) within here = omega arith
+    has_room n DataCr within here = omega arith
+    has_room n DataLf within here = omega arith
+    has_room n TrailerStart within here = omega arith
+    has_room n Trailer within here = omega arith
+    has_room n TrailerLf within here = omega arith
+    has_room n EndLf within here = omega arith
+    has_room n Done within here = omega arith
+    has_room n Bad within here = omega arith
+    has_room n TooLarge within here = omega arith
+
+    -- all the parts
+    pub all_parts : (n : ℕ) → length input ≤ n → parts_begun limit Start at (take n input) ≡ chunk_parts at body.chunks
+    all_parts n all =
+        let read = done_reads limit at input ends in
+        let texts : print_chunked read.body ++ [] ≡ print_chunked body ++ [] = ap (λ t. t ++ []) (sym read.text ∙ text) in
+        let same = body_unique read.body body [] [] read.is_body is texts in
+        ap (parts_begun limit Start at) (take_all n input all) ∙ read.parts_are ∙ ap (λ (b : ChunkedBody). chunk_parts at b.chunks) same.0

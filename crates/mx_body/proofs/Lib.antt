@@ -1,0 +1,16 @@
+pub mod ChunkedRun
+pub mod ChunkedSound
+pub mod ChunkedComplete
+pub mod ChunkedLemmas
+pub mod ChunkedSteps
+pub mod ChunkedUnique
+pub mod ChunkedParts
+pub mod ChunkedLawProofs
+pub mod ChunkedRfcLemmas
+pub mod HeadsLemmas
+pub mod MeetsLemmas
+pub mod FirstBytesLemmas
+pub mod VerdictLemmas
+pub mod ResponseLemmas
+pub mod ContentLemmas
+pub mod LawLemmas

@@ -1,0 +1,27 @@
+use Rattle.std.proofs.Common.{◌≡◌, true, false, inl, inr, sym, ap, subst, ◌∙◌, arith}
+use Rattle.mx_head.specs.Reading.{IsStepOn}
+use Rattle.mx_body.specs.Response.{IsInterimStatus}
+use Rattle.mx_body.proofs.MeetsLemmas.{tail_from, fault_next, more_next, refused_next, final_next, passed_next}
+use Rattle.mx_body.proofs.heads.next_head.Goals.{then-status-eq-SWITCHING_PROTOCOLS-via-then-status-eq-SWITCHING_PROTOCOLS, then-status-eq-SWITCHING_PROTOCOLS-via-else-status-eq-SWITCHING_PROTOCOLS+then-passed-eq-MOST_INTERIM}
+use Rattle.mx_body.proofs.heads.next_head.Goals as goal
+
+pub returns-then-status-eq-SWITCHING_PROTOCOLS : goal.returns-then-status-eq-SWITCHING_PROTOCOLS
+returns-then-status-eq-SWITCHING_PROTOCOLS c =
+    let s = subst (IsStepOn (tail_from c.args.start c.args.text.now)) c.in-Head.is c.read_head.ensures in
+    let status = c.status-status.ensures s.0 s.3 in
+    let interim = subst IsInterimStatus status (c.is_interim.ensures.0 c.if-not-is_interim.false) in
+    refused_next c.args.text.now c.args.start c.args.passed s.0 s.1 c.requires s.2.0 s.2.1 interim
+    (elim c.then-status-eq-SWITCHING_PROTOCOLS.branch [
+      | then-status-eq-SWITCHING_PROTOCOLS-via-then-status-eq-SWITCHING_PROTOCOLS w ↦ inl (sym status ∙ w.if-status-eq-SWITCHING_PROTOCOLS.true)
+      | then-status-eq-SWITCHING_PROTOCOLS-via-else-status-eq-SWITCHING_PROTOCOLS+then-passed-eq-MOST_INTERIM w ↦ inr w.if-passed-eq-MOST_INTERIM.true
+    ])
+
+pub returns-in-Fault : goal.returns-in-Fault
+returns-in-Fault c =
+    fault_next c.args.text.now c.args.start c.args.passed c.in-Fault.code c.requires
+    (subst (IsStepOn (tail_from c.args.start c.args.text.now)) c.in-Fault.is c.read_head.ensures)
+
+pub returns-in-More : goal.returns-in-More
+returns-in-More c =
+    more_next c.args.text.now c.args.start c.args.passed c.requires
+    (subst (IsStepOn (tail_from c.args.start c.args.text.now)) c.in-More.is c.read_head.ensures)

@@ -1,0 +1,84 @@
+-- Laws of the definitions of chunked bodies, each the contract of a function of `chunked::laws`.
+use Rattle.std.specs.Prelude.{◌≡◌, ℕ, ◌+◌, ◌<◌, ◌≤◌, List, [], ◌∷◌, ◌++◌, length, All, flat_map, slice_range, codes}
+use Rattle.mx_body.specs.declared.part.Part.{Part}
+use Rattle.mx_body.specs.declared.chunked.scan.ChunkedScan.{ChunkedScan}
+use Rattle.mx_body.specs.Chunked.{IsChunkSize, IsChunkExtension, IsSizeLine, SizeLine, chunk_size, print_size_line, Chunk, IsChunk, ChunkedBody, IsChunkedBody, HasSizes, print_chunks, print_chunked, IsChunked, MayBecomeChunked, EndsInLargeSize}
+use Rattle.mx_body.specs.ChunkedScan.{IsChunkedScan}
+use Rattle.mx_body.specs.ChunkedRfc.{IsRfcChunked, HasRfcText}
+
+-- the grammar is unambiguous, and no chunked body begins another: two at the front of one text are one tree
+abbrev pub OneBodyPerText : Type 0
+OneBodyPerText =
+    (body other : ChunkedBody) (rest later : List ℕ) → IsChunkedBody body → IsChunkedBody other
+    → print_chunked body ++ rest ≡ print_chunked other ++ later → (body ≡ other) × (rest ≡ later)
+
+-- so it is with the parts and the data
+abbrev pub OneReadingPerText : Type 0
+OneReadingPerText =
+    (limit higher at : ℕ) (bytes more : List ℕ) (parts others : List Part) (data_bytes other_bytes : List ℕ)
+    → IsChunked limit at bytes parts data_bytes → IsChunked higher at (bytes ++ more) others other_bytes
+    → (more ≡ []) × (parts ≡ others) × (data_bytes ≡ other_bytes)
+
+-- parts that lie in a text of so many bytes at an offset, none empty, each before the next
+abbrev pub AreOrdered : ℕ → ℕ → List Part → Type 0
+AreOrdered from to [] = from ≤ to
+AreOrdered from to (p ∷ parts) = (from ≤ p.start) × (p.start < p.end) × AreOrdered p.end to parts
+
+-- the bytes of a text at the parts, joined
+abbrev pub joined : List ℕ → List Part → List ℕ
+joined text parts = flat_map (λ p. slice_range text p.start p.end) parts
+
+-- the parts lie within the body, in order, none is empty, and what stands at them is the data
+abbrev pub PartsAreData : Type 0
+PartsAreData =
+    (limit : ℕ) (front bytes back : List ℕ) (parts : List Part) (data_bytes : List ℕ)
+    → IsChunked limit (length front) bytes parts data_bytes
+    → AreOrdered (length front) (length front + length bytes) parts
+    × (joined (front ++ (bytes ++ back)) parts ≡ data_bytes)
+
+-- nothing within a body is wrong: each of its prefixes may become one, and ends in no size over the limit
+abbrev pub BodyIsSound : Type 0
+BodyIsSound =
+    (limit : ℕ) (body : ChunkedBody) (front rest : List ℕ) → IsChunkedBody body → HasSizes limit body
+    → print_chunked body ≡ front ++ rest → MayBecomeChunked front × ¬ (EndsInLargeSize limit front)
+
+-- a size over the limit is no bad byte
+abbrev pub LargeMayBecome : Type 0
+LargeMayBecome = (limit : ℕ) (bytes : List ℕ) → EndsInLargeSize limit bytes → MayBecomeChunked bytes
+
+-- an input has one answer
+abbrev pub OneScanPerInput : Type 0
+OneScanPerInput =
+    (limit : ℕ) (input : List ℕ) (scan other : ChunkedScan) → IsChunkedScan limit input scan → IsChunkedScan limit input other
+    → scan ≡ other
+
+-- each chunked body of the standard's own grammar is one here, with the same data
+abbrev pub RfcIsChunked : Type 0
+RfcIsChunked =
+    (limit at : ℕ) (bytes data_bytes : List ℕ) → IsRfcChunked limit bytes data_bytes
+    → (parts : List Part) × IsChunked limit at bytes parts data_bytes
+
+-- and each one here whose extensions and trailers are the standard's is one of the standard, with the same data
+abbrev pub ChunkedIsRfc : Type 0
+ChunkedIsRfc =
+    (limit at : ℕ) (bytes data_bytes : List ℕ) (parts : List Part) (chunked : IsChunked limit at bytes parts data_bytes)
+    → HasRfcText chunked.0 → IsRfcChunked limit bytes data_bytes
+
+-- a size line ends in no bare LF: not right behind the digits, and not in or behind an extension
+abbrev pub NoBareLfInSizeLine : Type 0
+NoBareLfInSizeLine =
+    (chunks : List Chunk) (digits extension rest : List ℕ) → All IsChunk chunks → IsChunkSize digits → IsChunkExtension extension
+    → ¬ (MayBecomeChunked (print_chunks chunks ++ (digits ++ (extension ++ 10 ∷ rest))))
+
+-- behind the data of a chunk stands CRLF
+abbrev pub CrlfBehindData : Type 0
+CrlfBehindData =
+    (chunks : List Chunk) (line : SizeLine) (bytes : List ℕ) (b c : ℕ) (rest : List ℕ) → All IsChunk chunks → IsSizeLine line
+    → 0 < chunk_size line → chunk_size line ≡ length bytes
+    → MayBecomeChunked (print_chunks chunks ++ (print_size_line line ++ (bytes ++ b ∷ c ∷ rest))) → (b ≡ 13) × (c ≡ 10)
+
+-- worked cases: `5\n`, `0\r\n\n` and `0\r\na:b\n` begin no chunked body, whatever follows
+abbrev pub BareLfExamples : Type 0
+BareLfExamples =
+    (rest : List ℕ) → ¬ (MayBecomeChunked (codes "5\n" ++ rest)) × ¬ (MayBecomeChunked (codes "0\r\n\n" ++ rest))
+    × ¬ (MayBecomeChunked (codes "0\r\na:b\n" ++ rest))

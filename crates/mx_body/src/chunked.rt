@@ -1,0 +1,6 @@
+//! Chunked bodies (RFC 9112, section 7.1).
+
+pub mod laws;
+pub mod parts;
+pub mod place;
+pub mod scan;

@@ -1,0 +1,48 @@
+//! Where the data of a chunked body stand.
+
+ghost use Rattle.std.specs.Prelude.{◌≡◌, ◌+◌, ◌<◌, ◌^◌, length, IfOk, option_to_list};
+ghost use Rattle.mx_body.specs.Chunked.{ChunkedBody, IsChunkedBody, print_chunked, chunk_parts};
+ghost use Rattle.mx_body.specs.ChunkedPlace.{begun, data_left};
+
+use std::alloc::Global;
+
+use mx_types::OutOfMemory;
+
+use crate::Part;
+use crate::chunked::place::Place;
+
+fn begun(place: Place, next: Place, at: u32) -> Option<Part>
+    requires { at + data_left next < 2 ^ 32 }
+    ensures { option_to_list result ≡ begun place next at }
+{
+    match (place, next) {
+        (Place::SizeLf(_), Place::Data(left)) => Some(Part {
+            start: at,
+            end: at + left,
+        }),
+        _ => None,
+    }
+}
+
+/// The parts of a chunked body that `scan_chunked` found whole, one for each chunk with data, in order.
+///
+/// `input` is the body, which begins at the offset `at`; the parts are offsets counted as `at` is.
+pub fn chunked_parts(alloc: Global, input: &[u8], at: u32) -> Result<Vec<Part>, OutOfMemory>
+    requires whole { (body : ChunkedBody) × IsChunkedBody body × (input.now ≡ print_chunked body) }
+    requires room { at + length input.now < 2 ^ 32 }
+    ensures { IfOk result (λ parts. (body : ChunkedBody) → IsChunkedBody body
+        → input.now ≡ print_chunked body → parts.items ≡ chunk_parts at body.chunks) }
+{
+    let mut parts = Vec::new(alloc);
+    let mut place = Place::Start;
+    let mut read = 0;
+    while read < input.len() {
+        let (next, len) = place.advance(u32::MAX, &input[read..]);
+        read += len;
+        if let Some(part) = begun(place, next, at + read as u32) {
+            parts.push(part)?;
+        }
+        place = next;
+    }
+    Ok(parts)
+}

@@ -1,0 +1,148 @@
+//! A reader of a chunked body that takes a byte at a time, or a run of data at once. It keeps no bytes.
+
+ghost use Rattle.std.specs.Prelude.{◌≡◌, ℕ, ◌+◌, ◌<◌, ◌≤◌, length, take, true};
+ghost use Rattle.mx_body.specs.ChunkedPlace.{sized, after_digits, in_line, expect, after_line, next_place, place_after, is_settled, begun, parts_begun};
+
+use httparse::parse_hex_digit;
+
+/// Where the bytes of a chunked body have led a reader.
+#[derive(Clone, Copy, Debug, PartialEq, Eq)]
+pub enum Place {
+    /// Before the first digit of a size.
+    Start,
+    /// After some digits of a size, with the value so far.
+    Size(u32),
+    /// In what stands between a size and its CRLF.
+    Extension(u32),
+    /// After the CR of a size line.
+    SizeLf(u32),
+    /// In a chunk's data, of which so many bytes are still to come: one at least.
+    Data(u32),
+    /// Before the CR behind a chunk's data.
+    DataCr,
+    /// Before the LF behind a chunk's data.
+    DataLf,
+    /// At the beginning of a trailer line, or of the CRLF that ends the body.
+    TrailerStart,
+    /// In a trailer line.
+    Trailer,
+    /// After the CR of a trailer line.
+    TrailerLf,
+    /// After the last CR of the body.
+    EndLf,
+    /// Right behind the body.
+    Done,
+    /// The bytes begin no chunked body.
+    Bad,
+    /// A size is over the limit.
+    TooLarge,
+}
+
+fn sized(limit: u32, size: u64) -> Place
+    ensures { result ≡ sized limit size }
+{
+    if size <= u64::from(limit) {
+        Place::Size(size as u32)
+    } else {
+        Place::TooLarge
+    }
+}
+
+fn after_digits(size: u32, b: u8) -> Place
+    ensures { result ≡ after_digits size b }
+{
+    match b {
+        b' ' | b'\t' | b';' => Place::Extension(size),
+        b'\r' => Place::SizeLf(size),
+        _ => Place::Bad,
+    }
+}
+
+fn in_line(b: u8, on: Place, ends: Place) -> Place
+    ensures { result ≡ in_line b on ends }
+{
+    match b {
+        b'\r' => ends,
+        b'\n' => Place::Bad,
+        _ => on,
+    }
+}
+
+fn expect(b: u8, wanted: u8, next: Place) -> Place
+    ensures { result ≡ expect b wanted next }
+{
+    if b == wanted {
+        next
+    } else {
+        Place::Bad
+    }
+}
+
+fn after_line(size: u32) -> Place
+    ensures { result ≡ after_line size }
+{
+    if size == 0 {
+        Place::TrailerStart
+    } else {
+        Place::Data(size)
+    }
+}
+
+impl Place {
+    /// The place after one more byte, where no size may be over the limit.
+    pub fn step(self, limit: u32, b: u8) -> Place
+        ensures { result ≡ next_place limit self b }
+    {
+        match self {
+            Place::Start => match parse_hex_digit(b) {
+                Some(digit) => sized(limit, digit),
+                None => Place::Bad,
+            },
+            Place::Size(size) => match parse_hex_digit(b) {
+                Some(digit) => sized(limit, u64::from(size) * 16 + digit),
+                None => after_digits(size, b),
+            },
+            Place::Extension(size) => in_line(b, Place::Extension(size), Place::SizeLf(size)),
+            Place::SizeLf(size) => expect(b, b'\n', after_line(size)),
+            Place::Data(left) => if left <= 1 {
+                Place::DataCr
+            } else {
+                Place::Data(left - 1)
+            },
+            Place::DataCr => expect(b, b'\r', Place::DataLf),
+            Place::DataLf => expect(b, b'\n', Place::Start),
+            Place::TrailerStart => in_line(b, Place::Trailer, Place::EndLf),
+            Place::Trailer => in_line(b, Place::Trailer, Place::TrailerLf),
+            Place::TrailerLf => expect(b, b'\n', Place::TrailerStart),
+            Place::EndLf => expect(b, b'\n', Place::Done),
+            Place::Done | Place::Bad => Place::Bad,
+            Place::TooLarge => Place::TooLarge,
+        }
+    }
+
+    /// The place after the next byte, or after the data that is there where the place is within data, and how
+    /// many bytes that is.
+    pub fn advance(self, limit: u32, input: &[u8]) -> (Place, usize)
+        requires { 0 < length input.now }
+        ensures moved { 0 < result.1 }
+        ensures within { result.1 ≤ length input.now }
+        ensures place { result.0 ≡ place_after limit self (take result.1 input.now) }
+        // a part can begin only with the last of these bytes
+        ensures part { (at : ℕ) → parts_begun limit self at (take result.1 input.now)
+            ≡ begun self result.0 (at + result.1) }
+        // what settles the bytes is one byte, so that nothing was settled before it
+        ensures by_one_byte { is_settled result.0 ≡ true → result.1 ≡ 1 }
+    {
+        match self {
+            Place::Data(left) if left > 0 => {
+                let there = input.len() as u64;
+                if u64::from(left) <= there {
+                    (Place::DataCr, left as usize)
+                } else {
+                    (Place::Data(left - there as u32), input.len())
+                }
+            }
+            _ => (self.step(limit, input[0]), 1),
+        }
+    }
+}

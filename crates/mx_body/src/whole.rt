@@ -1,0 +1,138 @@
+//! Decoding all of the bytes at once.
+
+ghost use Rattle.std.specs.Prelude.{◌≡◌, ℕ, ◌+◌, ◌<◌, ◌^◌, IfOk, OnErr};
+ghost use Rattle.mx_body.specs.Response.{one_part};
+ghost use Rattle.mx_body.specs.Decision.{first_bytes, IsVerdict, BeginsWithParts};
+ghost use Rattle.mx_body.specs.Steps.{HasHeadAt, IsFinalStepOn, IsWholeAt};
+ghost use Rattle.mx_body.specs.declared.heads.FinalStep.TheVariants.{More};
+
+use crate::heads::{FinalStep, final_head};
+use crate::part::Part;
+use crate::verdict::Verdict;
+use mx_head::{Framing, Head, framing, keeps};
+use mx_types::{Code, Method, OutOfMemory};
+use std::alloc::Global;
+
+/// The most bytes of a whole response.
+const MOST_BYTES: usize = 67_108_864;
+
+/// The parts of a body in one piece.
+fn one_part(alloc: Global, start: u32, len: u32) -> Result<Vec<Part>, OutOfMemory>
+    requires { start + len < 2 ^ 32 }
+    ensures parts { IfOk result (λ v. v.items ≡ one_part start len) }
+    ensures memory { OnErr result (0 < len) }
+{
+    let mut parts = Vec::new(alloc);
+    if len != 0 {
+        parts.push(Part {
+            start,
+            end: start + len,
+        })?;
+    }
+    Ok(parts)
+}
+
+/// A whole response, whose body is the `len` bytes from `at` on.
+fn complete(
+    alloc: Global,
+    status: u16,
+    at: u32,
+    len: u32,
+    keep: bool,
+) -> Result<Verdict, OutOfMemory>
+    requires { at + len < 2 ^ 32 }
+    ensures whole { IfOk result (IsWholeAt status at len keep) }
+    ensures memory { OnErr result (0 < len) }
+{
+    let parts = one_part(alloc, at, len)?;
+    Ok(Verdict::Complete {
+        status,
+        len: at + len,
+        parts,
+        keep,
+    })
+}
+
+/// The verdict where the final head ends at `at`.
+fn decode_body(
+    alloc: Global,
+    method: Method,
+    head: &Head,
+    at: usize,
+    input: &[u8],
+    ended: bool,
+) -> Result<Verdict, OutOfMemory>
+    requires { HasHeadAt input.now head.now at }
+    ensures verdict { IfOk result (IsVerdict method input.now ended) }
+    ensures memory { OnErr result (BeginsWithParts method input.now ended) }
+{
+    let left = input.len() - at;
+    match framing(method, head) {
+        Err(code) => Ok(Verdict::Fault(code)),
+        Ok(Framing::Empty) => complete(alloc, head.status(), at as u32, 0, keeps(head)),
+        Ok(Framing::Counted(n)) => {
+            if n > (MOST_BYTES - at) as u64 {
+                return Ok(Verdict::Fault(Code::FilesizeExceeded));
+            }
+            if n <= left as u64 {
+                return complete(alloc, head.status(), at as u32, n as u32, keeps(head));
+            }
+            if ended {
+                Ok(Verdict::Fault(Code::PartialFile))
+            } else {
+                Ok(Verdict::More)
+            }
+        }
+        Ok(Framing::Close) => {
+            if input.len() > MOST_BYTES {
+                return Ok(Verdict::Fault(Code::FilesizeExceeded));
+            }
+            if ended {
+                complete(alloc, head.status(), at as u32, left as u32, false)
+            } else {
+                Ok(Verdict::More)
+            }
+        }
+        Ok(Framing::Chunked) => Ok(Verdict::Fault(Code::BadContentEncoding)),
+    }
+}
+
+/// The verdict where the bytes that are looked at have no final head, and meet no cause of a fault.
+fn decode_no_head(method: Method, input: &[u8], ended: bool) -> Verdict
+    requires { IsFinalStepOn (first_bytes input.now) More }
+    ensures { IsVerdict method input.now ended result }
+{
+    if input.len() > MOST_BYTES {
+        return Verdict::Fault(Code::FilesizeExceeded);
+    }
+    if !ended {
+        return Verdict::More;
+    }
+    if input.is_empty() {
+        Verdict::Fault(Code::GotNothing)
+    } else {
+        Verdict::Fault(Code::WeirdServerReply)
+    }
+}
+
+/// The verdict on the bytes that the exchange for a request of that method gave, and whether they have
+/// ended. Only the first 67,108,864 bytes are looked at.
+///
+/// It is `Complete` exactly where the input begins with a whole response, or, where only the end of the
+/// input ends the body, is one. A `Fault` of an input that hasn't ended is that of every continuation.
+/// `OutOfMemory` comes only in place of `Complete`, and only where the body isn't empty.
+pub fn decode_whole(
+    alloc: Global,
+    method: Method,
+    input: &[u8],
+    ended: bool,
+) -> Result<Verdict, OutOfMemory>
+    ensures verdict { IfOk result (IsVerdict method input.now ended) }
+    ensures memory { OnErr result (BeginsWithParts method input.now ended) }
+{
+    match final_head(&input[..input.len().min(MOST_BYTES)]) {
+        FinalStep::Head { head, end } => decode_body(alloc, method, &head, end, input, ended),
+        FinalStep::More => Ok(decode_no_head(method, input, ended)),
+        FinalStep::Fault(code) => Ok(Verdict::Fault(code)),
+    }
+}
