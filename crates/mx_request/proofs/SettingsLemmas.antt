@@ -1,5 +1,5 @@
 -- What the settings' own texts say of what contracts see.
-use Rattle.std.proofs.Common.{◌≡◌, ◌&&◌, true, nat_le, List, length, map, sym, ap, ◌∙◌, option_map, string_bytes}
+use Rattle.std.proofs.Common.{◌≡◌, ◌&&◌, true, nat_le, List, length, map, option_map, string_bytes}
 use Rattle.std.specs.Prelude.{Bool, Option, String}
 use Rattle.std.specs.List.{list_all}
 use Rattle.std.specs.Option.{option_map_or}

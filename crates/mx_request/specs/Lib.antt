@@ -1,5 +1,6 @@
 pub mod Endpoint
 pub mod Fields
+pub mod Laws
 pub mod Request
 pub mod RequestBytes
 pub mod RequestError

@@ -1,9 +1,10 @@
-//! Requests from URLs: the endpoint that a request goes to.
+//! Requests from URLs: which are built, the bytes that go out, and where they go.
 #![tactic(auto)]
 
 mod endpoint;
 mod error;
 mod fields;
+pub mod laws;
 mod request;
 mod wire;
 

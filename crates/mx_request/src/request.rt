@@ -33,10 +33,10 @@ impl Model for Request {
     ghost Value = { RequestValue };
 
     ghost view = { λ r. record {
-        method = r.method;
-        endpoint = r.endpoint;
-        bytes = r.bytes.items;
-        timeout_ms = r.timeout_ms
+      method = r.method;
+      endpoint = r.endpoint;
+      bytes = r.bytes.items;
+      timeout_ms = r.timeout_ms;
     } };
 }
 
@@ -123,11 +123,15 @@ fn refusal_of(settings: &Settings) -> Option<RequestError>
 }
 
 /// The request to a URL, whose settings were tested.
-fn build_to(alloc: Global, method: Method, url: &Url, settings: &Settings) -> Result<Request, AllocError>
+fn build_to(
+    alloc: Global,
+    method: Method,
+    url: &Url,
+    settings: &Settings,
+) -> Result<Request, AllocError>
     ensures value { IfOk result (λ r. r ≡ request_to method url.now settings.now) }
     ensures valid { IsValid url.now }
 {
-    let _path = url.path();
     let endpoint = endpoint_of(alloc, url)?;
     let bytes = request_bytes(alloc, method, url, &endpoint, settings)?;
     Ok(Request {

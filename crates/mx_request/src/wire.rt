@@ -3,6 +3,7 @@ ghost use Rattle.std.specs.Prelude.{◌≡◌, ◌++◌, [], ◌∷◌, map, opt
 ghost use Rattle.std.specs.List.{list_any};
 ghost use Rattle.mx_types.specs.Settings.{field_of};
 ghost use Rattle.mx_request.specs.RequestBytes as spec;
+ghost use Rattle.url.specs.Parts.{IsValid};
 
 use crate::Endpoint;
 use crate::fields::is_same_name;
@@ -15,13 +16,12 @@ const HTTP_PORT: u16 = 80;
 
 /// Where a request for the URL goes.
 pub fn endpoint_of(alloc: Global, url: &Url) -> Result<Endpoint, AllocError>
-    ensures { IfOk result (λ endpoint. endpoint ≡ spec.endpoint_of url.now) }
+    ensures value { IfOk result (λ endpoint. endpoint ≡ spec.endpoint_of url.now) }
+    ensures valid { IsValid url.now }
 {
+    let port = url.port().unwrap_or(HTTP_PORT);
     let host = String::from_str(alloc, url.host_str().unwrap_or(""))?;
-    Ok(Endpoint {
-        host,
-        port: url.port().unwrap_or(HTTP_PORT),
-    })
+    Ok(Endpoint { host, port })
 }
 
 fn put_target(out: &mut Vec<u8>, url: &Url) -> Result<(), AllocError>

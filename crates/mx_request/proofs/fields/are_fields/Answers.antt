@@ -1,4 +1,4 @@
-use Rattle.std.proofs.Common.{◌≡◌, true, false, map, sym, ap, ◌∙◌}
+use Rattle.std.proofs.Common.{true, false, map, sym, ap, ◌∙◌}
 use Rattle.mx_types.specs.Settings.{field_of}
 use Rattle.mx_request.proofs.SettingsLemmas.{are_fields-pairs}
 use Rattle.mx_request.proofs.fields.are_fields.Goals as goal

@@ -1,5 +1,4 @@
-use Rattle.std.proofs.Common.{◌≡◌, ◌++◌, [], map, sym, ap, ◌∙◌, append-nil}
-use Rattle.std.specs.List.{list_any}
+use Rattle.std.proofs.Common.{sym, append-nil}
 use Rattle.mx_request.proofs.LineLemmas.{list_any-map}
 use Rattle.mx_types.specs.Settings.{field_of}
 use Rattle.mx_request.specs.RequestBytes as spec

@@ -1,4 +1,3 @@
-use Rattle.std.proofs.Common.{◌≡◌, ◌++◌, map, ap, ◌∙◌}
 use Rattle.mx_request.proofs.LineLemmas.{request_head-written}
 use Rattle.mx_request.proofs.wire.put_head.Goals as goal
 

@@ -1,4 +1,3 @@
-use Rattle.std.proofs.Common.{◌≡◌, ◌++◌}
 use Rattle.mx_request.proofs.LineLemmas.{request_bytes-written}
 use Rattle.mx_request.proofs.wire.request_bytes.Goals as goal
 

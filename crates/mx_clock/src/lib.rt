@@ -1,0 +1,8 @@
+//! Deadlines: the moments that are set for transfers, in order of time.
+#![tactic(auto)]
+
+mod deadlines;
+#[cfg(test)]
+mod tests;
+
+pub use crate::deadlines::{Deadline, Deadlines, MOST};

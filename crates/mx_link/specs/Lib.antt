@@ -1,0 +1,5 @@
+pub mod Answers
+pub mod Calls
+pub mod Script
+pub mod Plan
+pub mod Sockets

@@ -1,0 +1,17 @@
+//! Links: what a transfer reads from and writes to. Each answer that a link gives is on record, in a history that
+//! contracts alone read.
+#![tactic(auto)]
+
+mod answers;
+mod history;
+mod links;
+mod scripted;
+mod sockets;
+#[cfg(test)]
+mod tests;
+
+pub use crate::answers::{Answer, Connect, Read, Write};
+pub use crate::history::{History, bytes_of};
+pub use crate::links::Link;
+pub use crate::scripted::{ScriptLink, ScriptRead};
+pub use crate::sockets::TcpLink;

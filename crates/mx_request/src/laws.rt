@@ -1,0 +1,31 @@
+//! What holds of the bytes of every request that is built. Each law is the contract of a function that does
+//! nothing.
+ghost use Rattle.mx_request.specs.Laws as law;
+
+/// The head that goes out has no byte below 32 and no 127, but for the CR LF of its lines and HTAB in values
+/// (RFC 9112, section 2.2; RFC 9110, section 5.5): nothing that a caller hands in can add a line.
+pub fn head_is_clean()
+    ensures { law.HeadIsClean }
+{}
+
+/// CR LF CR LF ends the head and stands nowhere before its end, so every reader finds the same end.
+pub fn empty_line_ends_head()
+    ensures { law.EmptyLineEndsHead }
+{}
+
+/// Split at CR LF, the head is exactly its request line, the host, the other fields in order and the empty
+/// line (RFC 9112, section 2.1).
+pub fn head_splits_into_lines()
+    ensures { law.HeadSplitsIntoLines }
+{}
+
+/// Equal bytes come only from the same method, target, host, field lines as sent and body. A caller's own
+/// `Accept: */*` in first place sends what no such field sends.
+pub fn equal_bytes_are_sent_alike()
+    ensures { law.EqualBytesAreSentAlike }
+{}
+
+/// The target begins with `/` (RFC 9112, section 3.2.1).
+pub fn target_begins_with_slash()
+    ensures { law.TargetBeginsWithSlash }
+{}
