@@ -13,10 +13,10 @@ use Rattle.mx_body.specs.declared.chunked.place.Place.TheVariants.{Start, Size, 
 use Rattle.mx_body.specs.Chunked.{IsChunkExtension, print_size_line, chunk_size, Chunk, IsChunk, print_chunk, ChunkedBody, print_chunks, print_trailers, print_chunked, chunked_data, chunk_parts, MayBecomeChunked}
 use Rattle.mx_body.specs.ChunkedPlace.{expect, next_place, place_after, is_settled}
 use Rattle.mx_body.specs.ChunkedScan.{IsUndecidedChunked, NeverHasChunked, IsChunkedScan}
-use Rattle.mx_body.specs.ChunkedLaws.{OneBodyPerText, OneReadingPerText, AreOrdered, joined, PartsAreData, BodyIsSound, LargeMayBecome, OneScanPerInput, NoBareLfInSizeLine, CrlfBehindData, BareLfExamples}
+use Rattle.mx_body.specs.ChunkedLaws.{OneBodyPerText, OneReadingPerText, AreOrdered, joined, PartsAreData, BodyIsSound, LargeMayBecome, OneScanPerInput, NoBareLfInSizeLine, CrlfBehindData, BareLfExamples, DoneIsWhole, WholeIsDone}
 use Rattle.mx_body.proofs.ChunkedRun.{place_after-nil, place_after-append, by_byte, data_all, bad_stays, too_large_stays}
 use Rattle.mx_body.proofs.ChunkedComplete.{run_size, run_line, run_size_line, run_chunks, run_body, step_opens, opens_no_digit, after_some}
-use Rattle.mx_body.proofs.ChunkedLemmas.{sizes_fit, large_leads, large_is, bad_never, open_is_undecided, cut}
+use Rattle.mx_body.proofs.ChunkedLemmas.{done_reads, sizes_fit, large_leads, large_is, bad_never, open_is_undecided, cut}
 use Rattle.mx_body.proofs.ChunkedUnique.{body_unique}
 
 pub one_body : OneBodyPerText
@@ -96,14 +96,13 @@ parts_are_the_data limit front bytes back parts data_bytes (body, is, small, tex
 
 -- a prefix of a body
 pub body_is_sound : BodyIsSound
-body_is_sound limit body front rest is small e =
-    (
-      (body, rest, is, sym e),
-      λ large.
-        let done : place_after limit Start (print_chunked body) ≡ Done = ap (place_after limit Start) (sym (append-nil (print_chunked body))) ∙ run_body limit body [] is small ∙ place_after-nil limit Done in
-        let over : place_after limit Start (print_chunked body) ≡ TooLarge = ap (place_after limit Start) e ∙ place_after-append limit Start front rest ∙ ap (λ p. place_after limit p rest) (large_is limit front large) ∙ too_large_stays limit rest in
-        cc,
-    )
+body_is_sound limit body front rest is small e = (
+  (body, rest, is, sym e),
+  λ large.
+      let done : place_after limit Start (print_chunked body) ≡ Done = ap (place_after limit Start) (sym (append-nil (print_chunked body))) ∙ run_body limit body [] is small ∙ place_after-nil limit Done in
+      let over : place_after limit Start (print_chunked body) ≡ TooLarge = ap (place_after limit Start) e ∙ place_after-append limit Start front rest ∙ ap (λ p. place_after limit p rest) (large_is limit front large) ∙ too_large_stays limit rest in
+      cc,
+)
 
 pub large_may_become : LargeMayBecome
 large_may_become limit bytes large =
@@ -214,3 +213,12 @@ bare_lf_examples rest = (bad (codes "5\n") rest refl, bad (codes "0\r\n\n") rest
   where
     bad : (front rest : List ℕ) → place_after 16 Start front ≡ Bad → ¬ (MayBecomeChunked (front ++ rest))
     bad front rest e = bad_never 16 (front ++ rest) (place_after-append 16 Start front rest ∙ ap (λ p. place_after 16 p rest) e ∙ bad_stays 16 rest)
+
+pub done_is_whole : DoneIsWhole
+done_is_whole limit at bytes done =
+    let read = done_reads limit at bytes done in
+    (chunked_data read.body, (read.body, read.is_body, read.sizes, read.text, read.parts_are, refl))
+
+pub whole_is_done : WholeIsDone
+whole_is_done limit body is small =
+    ap (place_after limit Start) (sym (append-nil (print_chunked body))) ∙ run_body limit body [] is small ∙ place_after-nil limit Done

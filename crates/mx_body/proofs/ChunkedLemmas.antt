@@ -152,10 +152,12 @@ module _ (limit : ℕ) where
           finish_by 0 (Data left) DataCr last finish_data_cr
       by_test false some =
           let xs = replicate {A = ℕ} left 0 in
-          let long : length xs ≡ left = length-replicate left 0 in
-          (xs ++ finish_data_cr.0, place_after-append limit (Data left) xs finish_data_cr.0
-          ∙ ap (λ p. place_after limit p finish_data_cr.0) (data_all limit xs left (omega (arith, eqb-false left 0 some)) long)
-          ∙ finish_data_cr.1)
+          let long : length xs ≡ left = length-replicate left 0 in (
+            xs ++ finish_data_cr.0,
+            place_after-append limit (Data left) xs finish_data_cr.0
+                ∙ ap (λ p. place_after limit p finish_data_cr.0) (data_all limit xs left (omega (arith, eqb-false left 0 some)) long)
+                ∙ finish_data_cr.1,
+          )
 
   finish_line : (size : ℕ) → CanFinish (SizeLf size)
   finish_line size = by_test (eqb size 0) refl
@@ -189,15 +191,15 @@ module _ (limit : ℕ) where
       record {
         may_become = (read.body, f.0, read.is_body, read.text);
         not_whole = λ body rest is text.
-          let here : At bs ≡ At (print_chunked body ++ rest) = ap (place_after limit Start) text in
-          let settled = settled_stays limit Done rest refl in
-          ⊎_elim (λ large. let e : is_settled (At bs) ≡ true = ap is_settled (here ∙ large) in cc)
-          (λ done. let e : is_settled (At bs) ≡ true = ap is_settled (here ∙ done) ∙ settled in cc)
-          (behind_body body rest is);
+            let here : At bs ≡ At (print_chunked body ++ rest) = ap (place_after limit Start) text in
+            let settled = settled_stays limit Done rest refl in
+            ⊎_elim (λ large. let e : is_settled (At bs) ≡ true = ap is_settled (here ∙ large) in cc)
+            (λ done. let e : is_settled (At bs) ≡ true = ap is_settled (here ∙ done) ∙ settled in cc)
+            (behind_body body rest is);
         small = λ front rest text large.
-          let e : At bs ≡ TooLarge = ap (place_after limit Start) text ∙ place_after-append limit Start front rest ∙ ap (λ p. place_after limit p rest) (large_is front large) ∙ too_large_stays limit rest in
-          let settled : is_settled (At bs) ≡ true = ap is_settled e in
-          cc;
+            let e : At bs ≡ TooLarge = ap (place_after limit Start) text ∙ place_after-append limit Start front rest ∙ ap (λ p. place_after limit p rest) (large_is front large) ∙ too_large_stays limit rest in
+            let settled : is_settled (At bs) ≡ true = ap is_settled e in
+            cc;
       }
 
   -- two ways to cut a text: the first cut is not behind the byte, or it is
@@ -223,11 +225,13 @@ module _ (limit : ℕ) where
         ((front, b, rest, is, undecided, not_one), never (λ body x is_body fits e. not_one (body, x, is_body, sym e)))
 
     pub large_decides : At (front ++ b ∷ []) ≡ TooLarge → EndsInLargeSize limit (front ++ b ∷ []) → IsDecidedBy limit input (EndsInLargeSize limit) × NeverHasChunked limit input
-    large_decides large ends =
-        ((front, b, rest, is, undecided, ends), never (λ body x is_body fits e.
-        let done : At (print_chunked body) ≡ Done = ap (place_after limit Start) (sym (append-nil (print_chunked body))) ∙ run_body limit body [] is_body fits ∙ place_after-nil limit Done in
-        let over : At (print_chunked body) ≡ TooLarge = ap (place_after limit Start) e ∙ place_after-append limit Start (front ++ b ∷ []) x ∙ ap (λ p. place_after limit p x) large ∙ too_large_stays limit x in
-        cc))
+    large_decides large ends = (
+      (front, b, rest, is, undecided, ends),
+      never (λ body x is_body fits e.
+          let done : At (print_chunked body) ≡ Done = ap (place_after limit Start) (sym (append-nil (print_chunked body))) ∙ run_body limit body [] is_body fits ∙ place_after-nil limit Done in
+          let over : At (print_chunked body) ≡ TooLarge = ap (place_after limit Start) e ∙ place_after-append limit Start (front ++ b ∷ []) x ∙ ap (λ p. place_after limit p x) large ∙ too_large_stays limit x in
+          cc),
+    )
 
   -- the byte with which a size goes over the limit
   pub ends_in_large : (front : List ℕ) (b : ℕ) → is_settled (At front) ≡ false → At (front ++ b ∷ []) ≡ TooLarge → EndsInLargeSize limit (front ++ b ∷ [])

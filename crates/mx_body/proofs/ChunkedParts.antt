@@ -1,8 +1,9 @@
 -- The parts that a reader finds on its way through a whole body.
 use Rattle.std.proofs.Common.{◌≡◌, ℕ, suc, ◌+◌, ◌-◌, ◌<◌, ◌≤◌, Bool, true, false, nat_le, List, [], ◌∷◌, ◌++◌, length, take, drop, refl, sym, ap, ◌∙◌, arith}
-use Rattle.std.proofs.lemmas.List.{append-nil, take-append-drop, take_all, take_rest, length-take-le, length-drop}
+use Rattle.std.proofs.lemmas.List.{append-nil, take-append-drop, take_all, take_rest, length-take-le, length-drop, length-append, length_push}
 use Rattle.std.proofs.Math.Seq.{take-add}
 use Rattle.std.proofs.lemmas.Bool.{leb-true, leb-false}
+use Rattle.mx_body.specs.declared.part.Part.{Part}
 use Rattle.mx_body.specs.declared.chunked.place.Place.{Place}
 use Rattle.mx_body.specs.declared.chunked.place.Place.TheVariants.{Start, Size, Extension, SizeLf, Data, DataCr, DataLf, TrailerStart, Trailer, TrailerLf, EndLf, Done, Bad, TooLarge}
 use Rattle.mx_body.specs.Chunked.{ChunkedBody, IsChunkedBody, print_chunked, chunk_parts}
@@ -83,3 +84,14 @@ module _ (limit at : ℕ) (input : List ℕ) where
         let texts : print_chunked read.body ++ [] ≡ print_chunked body ++ [] = ap (λ t. t ++ []) (sym read.text ∙ text) in
         let same = body_unique read.body body [] [] read.is_body is texts in
         ap (parts_begun limit Start at) (take_all n input all) ∙ read.parts_are ∙ ap (λ (b : ChunkedBody). chunk_parts at b.chunks) same.0
+
+    -- a part begun is a chunk's
+    pub has_chunk : (n : ℕ) (front : List Part) (p : Part) → parts_begun limit Start at (take n input) ≡ front ++ p ∷ [] → ¬ (body.chunks ≡ [])
+    has_chunk n front p begins none =
+        let later = parts_begun limit (At n) (at + length (take n input)) (drop n input) in
+        let whole : parts_begun limit Start at (take (length input) input) ≡ (front ++ p ∷ []) ++ later =
+        ap (parts_begun limit Start at) (take_all (length input) input (omega arith) ∙ sym (take-append-drop n input))
+        ∙ parts_begun-append limit Start at (take n input) (drop n input) ∙ ap (λ ps. ps ++ later) begins in
+        let empty : chunk_parts at body.chunks ≡ [] = ap (chunk_parts at) none in
+        let lengths = ap length (sym whole ∙ all_parts (length input) (omega arith) ∙ empty) in
+        absurd (omega (arith, lengths, length-append (front ++ p ∷ []) later, length_push front p))

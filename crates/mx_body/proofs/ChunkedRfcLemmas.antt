@@ -147,15 +147,14 @@ rfc_there limit at bytes data_bytes (body, is, small, text, data_is) =
     (chunk_parts at body.chunks, (body, whole, small, text, refl, data_is))
 
 pub rfc_back : ChunkedIsRfc
-rfc_back limit at bytes data_bytes parts (body, is, small, text, parts_are, data_is) fit =
-    (
-      body,
-      record {
-        chunks = λ k d below. let c = is.chunks k d below in record { size = c.line.digits; extension = fit.chunks k d below; octets = c.not_empty; sized = c.sized };
-        last = record { some = is.last.digits.0; zeros = value_zeros body.last.digits 0 is.last.digits.1 is.ends; extension = fit.last };
-        trailers = fit.trailers;
-      },
-      small,
-      text,
-      data_is,
-    )
+rfc_back limit at bytes data_bytes parts (body, is, small, text, parts_are, data_is) fit = (
+  body,
+  record {
+    chunks = λ k d below. let c = is.chunks k d below in record { size = c.line.digits; extension = fit.chunks k d below; octets = c.not_empty; sized = c.sized };
+    last = record { some = is.last.digits.0; zeros = value_zeros body.last.digits 0 is.last.digits.1 is.ends; extension = fit.last };
+    trailers = fit.trailers;
+  },
+  small,
+  text,
+  data_is,
+)

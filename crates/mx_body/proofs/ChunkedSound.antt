@@ -191,19 +191,22 @@ module _ (limit at : ℕ) where
         (λ lf. by_test P (size == 0) TrailerStart (Data size)
         (λ none. subst (λ ps. InTrailers [] (bytes ++ b ∷ []) ps) (sym (append-nil parts))
         (record { chunks = h.chunks; last = h.line; trailers = []; before = h.before; is_last = h.is_line; ends = h.value ∙ eqb-true size 0 none; are_trailers = All-nil IsTrailer; text = with_byte _ 10 h.text lf ∙ regroup h.line.digits h.line.extension }))
-        (λ some. (omega (arith, eqb-false size 0 some), record {
-          chunks = h.chunks;
-          line = h.line;
-          got = [];
-          front = parts;
-          before = h.before;
-          is_line = h.is_line;
-          value = omega (arith, h.value);
-          some = omega (arith, h.value, eqb-false size 0 some);
-          small = omega (arith, h.value, h.small);
-          parts_are = ap (λ p. parts ++ p ∷ []) part_is;
-          text = with_byte _ 10 h.text lf ∙ regroup h.line.digits h.line.extension;
-        })))
+        (λ some. (
+          omega (arith, eqb-false size 0 some),
+          record {
+            chunks = h.chunks;
+            line = h.line;
+            got = [];
+            front = parts;
+            before = h.before;
+            is_line = h.is_line;
+            value = omega (arith, h.value);
+            some = omega (arith, h.value, eqb-false size 0 some);
+            small = omega (arith, h.value, h.small);
+            parts_are = ap (λ p. parts ++ p ∷ []) part_is;
+            text = with_byte _ 10 h.text lf ∙ regroup h.line.digits h.line.extension;
+          },
+        )))
         (λ _. tt)
       where
         regroup : (digits extension : List ℕ) → (print_chunks h.chunks ++ (digits ++ (extension ++ 13 ∷ []))) ++ 10 ∷ [] ≡ print_chunks h.chunks ++ ((digits ++ (extension ++ crlf_bytes)) ++ [])

@@ -40,8 +40,7 @@ module _ (limit : ℕ) (input : List ℕ) where
 
   pub whole_at : (n : ℕ) → n ≤ length input → At n ≡ Done → IsChunkedScan limit input (scan.Whole n)
   whole_at n within done =
-      let read = done_reads limit 0 (take n input) done in
-      (
+      let read = done_reads limit 0 (take n input) done in (
         read.body,
         drop n input,
         (read.is_body, read.sizes, sym (take-append-drop n input) ∙ ap (λ t. t ++ drop n input) read.text),

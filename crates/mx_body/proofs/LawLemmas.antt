@@ -19,10 +19,11 @@ use Rattle.mx_head.proofs.LineLemmas.{front_of}
 use Rattle.mx_body.specs.declared.part.Part.{Part}
 use Rattle.mx_body.specs.declared.verdict.Verdict.{Verdict}
 use Rattle.mx_body.specs.declared.verdict.Verdict.TheVariants as verdict
+use Rattle.mx_body.specs.ChunkedLaws.{AreOrdered, joined}
 use Rattle.mx_body.specs.Response.{print_heads, StandsAtBody, Response, IsResponse}
 use Rattle.mx_body.specs.Causes.{Cause, at_head, refused_status, at_body, BodyCause, bad_framing, unknown_coding, too_big, bad_chunk, cause_code, cause_line, Meets}
 use Rattle.mx_body.specs.Decision.{BeginsWithResponse, IsNoResponse, first_bytes, HasFinalHead, EndsTooSoon, FailsWith, is_close, IsVerdict, HasStatus}
-use Rattle.mx_body.specs.Laws.{IsSameVerdict, HasOneVerdict, HasOneStatus, StatusIs, CompleteHasStatus, FaultStaysSame, FaultIsHopeless, IsComplete, CompleteStaysSame, ArePartsWithin, joined, CompleteHasContent}
+use Rattle.mx_body.specs.Laws.{IsSameVerdict, HasOneVerdict, HasOneStatus, StatusIs, CompleteHasStatus, FaultStaysSame, FaultIsHopeless, IsComplete, CompleteStaysSame, CompleteHasContent}
 use Rattle.mx_body.proofs.HeadsLemmas.{same_body}
 use Rattle.mx_body.proofs.FirstBytesLemmas.{first_split, length-first_bytes, first_same, first_front}
 use Rattle.mx_body.proofs.ResponseLemmas.{response_stands, one_response, response_ended, never_close, response_stays_same, response_early, response_meets_nothing}
@@ -209,7 +210,7 @@ complete_content m input ended (verdict.Complete status len parts keep) v =
     let long : len ≡ length b.bytes = omega (arith, v.4, ap length b.whole, length-append b.bytes v.1) in
     let c = response_content m input ended v.0 v.1 b in
     let front : take len input ≡ b.bytes = ap (λ n. take n input) long ∙ ap (λ (t : List ℕ). take (length b.bytes) t) b.whole ∙ upto b.bytes v.1 in (
-      subst (λ (p : List Part). ArePartsWithin 0 len p) (sym v.5) (subst (λ n. ArePartsWithin 0 n v.0.parts) (sym long) c.within),
+      subst (λ (p : List Part). AreOrdered 0 len p) (sym v.5) (subst (λ n. AreOrdered 0 n v.0.parts) (sym long) c.within),
       omega (arith, v.4),
       (
         v.0,

@@ -13,4 +13,5 @@ pub mod FirstBytesLemmas
 pub mod VerdictLemmas
 pub mod ResponseLemmas
 pub mod ContentLemmas
+pub mod ChunkedBodyLemmas
 pub mod LawLemmas

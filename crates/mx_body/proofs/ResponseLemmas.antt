@@ -1,9 +1,6 @@
 -- A response is determined by the bytes that begin with it.
 use Rattle.std.proofs.Common.{◌≡◌, ◌≢◌, ℕ, ◌+◌, ◌<◌, ◌≤◌, ◌⊎◌, inl, inr, Bool, true, false, List, [], ◌∷◌, ◌++◌, length, take, drop, ◌-◌, slice_range, refl, sym, ap, subst, ◌∙◌, arith, append_assoc, length-append, Result, Ok, Err, All}
-use Rattle.std.specs.Prelude.{flat_map}
 use Rattle.std.proofs.lemmas.List.{append-nil}
-use Rattle.std.proofs.lemmas.Bool.{cases_lt}
-use Rattle.httparse.specs.Ascii.{crlf_bytes}
 use Rattle.httparse.specs.Grammar.{ResponseHead, print_response}
 use Rattle.mx_types.specs.declared.code.Code.{Code}
 use Rattle.mx_types.specs.declared.code.Code.TheVariants.{WeirdServerReply, BadContentEncoding}
@@ -15,17 +12,13 @@ use Rattle.mx_head.specs.Limits.{most_bytes}
 use Rattle.mx_head.specs.Faults.{MeetsNothing}
 use Rattle.mx_head.proofs.LineLemmas.{front_of}
 use Rattle.mx_body.specs.declared.part.Part.{Part}
-use Rattle.mx_body.specs.declared.chunked.place.Place.TheVariants.{Start, Done, TooLarge}
-use Rattle.mx_body.specs.Chunked.{Chunk, print_size_line, print_chunk, IsChunk, ChunkedBody, IsChunkedBody, HasSizes, print_chunks, print_chunked, chunk_parts, chunked_data, MayBecomeChunked, EndsInLargeSize}
-use Rattle.mx_body.specs.ChunkedPlace.{place_after}
+use Rattle.mx_body.specs.Chunked.{ChunkedBody, print_chunked, chunk_parts, chunked_data}
 use Rattle.mx_body.specs.Response.{print_heads, StandsAtBody, IsBody, one_part, Response, heads_of, IsResponse}
 use Rattle.mx_body.specs.Causes.{BodyCause, bad_framing, unknown_coding, too_big, bad_chunk, MeetsAtBody, Meets}
 use Rattle.mx_body.specs.Decision.{BeginsWithResponse}
 use Rattle.mx_body.specs.Laws.{HasOneResponse, ResponseStaysSame, ResponsesArePrefixFree, ResponseMeetsNothing}
-use Rattle.mx_body.proofs.ChunkedRun.{place_after-nil, place_after-append, too_large_stays}
-use Rattle.mx_body.proofs.ChunkedComplete.{run_body}
-use Rattle.mx_body.proofs.ChunkedLemmas.{large_is}
 use Rattle.mx_body.proofs.ChunkedUnique.{body_unique}
+use Rattle.mx_body.proofs.ChunkedLawProofs.{body_is_sound}
 use Rattle.mx_body.proofs.HeadsLemmas.{body_stands}
 use Rattle.mx_body.proofs.MeetsLemmas.{body_start, body_meets, BeginsWithBody, response_body}
 
@@ -156,14 +149,6 @@ responses_prefix_free m bytes rest ended later r s open_end x y =
 
 -- ---- no prefix of a response meets a cause
 
--- a body within the limit has no larger size
-small_sizes : (limit : ℕ) (body : ChunkedBody) (front rest : List ℕ) → IsChunkedBody body → HasSizes limit body → print_chunked body ≡ front ++ rest → EndsInLargeSize limit front → ⊥
-small_sizes limit body front rest is sizes e large =
-    let done : place_after limit Start (print_chunked body) ≡ Done = ap (place_after limit Start) (sym (append-nil (print_chunked body))) ∙ run_body limit body [] is sizes ∙ place_after-nil limit Done in
-    let over : place_after limit Start (print_chunked body) ≡ TooLarge = ap (place_after limit Start) e ∙ place_after-append limit Start front rest
-    ∙ ap (λ p. place_after limit p rest) (large_is limit front large) ∙ too_large_stays limit rest in
-    cc
-
 body_refutes : (framing : Framing) (ended : Bool) (at : ℕ) (body part more : List ℕ) (parts : List Part) (content : List ℕ) (cause : BodyCause)
     → IsBody framing ended at body parts content → at + length body ≤ most_bytes → body ≡ part ++ more → MeetsAtBody (Ok framing) at part cause → ⊥
 body_refutes framing ended at body part more parts content bad_framing x fits e meets = let both : Ok framing ≡ Err WeirdServerReply = meets.1 in cc
@@ -178,13 +163,13 @@ body_refutes framing ended at body part more parts content too_big x fits e meet
       let both : Ok framing ≡ Ok Chunked = sizes.0 in
       let same : framing ≡ Chunked = cc in
       let is = subst (λ (f : Framing). IsBody f ended at body parts content) same x in
-      small_sizes most_bytes is.0 part more is.1 is.2 (sym is.3 ∙ e) sizes.1
+      (body_is_sound most_bytes is.0 part more is.1 is.2 (sym is.3 ∙ e)).1 sizes.1
 ]
 body_refutes framing ended at body part more parts content bad_chunk x fits e meets =
     let both : Ok framing ≡ Ok Chunked = meets.0 in
     let same : framing ≡ Chunked = cc in
     let is = subst (λ (f : Framing). IsBody f ended at body parts content) same x in
-    meets.1 (is.0, more, is.1, sym e ∙ is.3)
+    meets.1 (body_is_sound most_bytes is.0 part more is.1 is.2 (sym is.3 ∙ e)).0
 
 pub response_meets_nothing : ResponseMeetsNothing
 response_meets_nothing m bytes ended r x q more cause e meets =

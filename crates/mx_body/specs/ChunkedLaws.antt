@@ -1,9 +1,11 @@
 -- Laws of the definitions of chunked bodies, each the contract of a function of `chunked::laws`.
-use Rattle.std.specs.Prelude.{◌≡◌, ℕ, ◌+◌, ◌<◌, ◌≤◌, List, [], ◌∷◌, ◌++◌, length, All, flat_map, slice_range, codes}
+use Rattle.std.specs.Prelude.{false, ◌≡◌, ℕ, ◌+◌, ◌<◌, ◌≤◌, List, [], ◌∷◌, ◌++◌, length, All, flat_map, slice_range, codes}
 use Rattle.mx_body.specs.declared.part.Part.{Part}
 use Rattle.mx_body.specs.declared.chunked.scan.ChunkedScan.{ChunkedScan}
 use Rattle.mx_body.specs.Chunked.{IsChunkSize, IsChunkExtension, IsSizeLine, SizeLine, chunk_size, print_size_line, Chunk, IsChunk, ChunkedBody, IsChunkedBody, HasSizes, print_chunks, print_chunked, IsChunked, MayBecomeChunked, EndsInLargeSize}
-use Rattle.mx_body.specs.ChunkedScan.{IsChunkedScan}
+use Rattle.mx_body.specs.ChunkedScan.{IsUndecidedChunked, IsChunkedScan}
+use Rattle.mx_body.specs.declared.chunked.place.Place.TheVariants.{Start, Done, Bad, TooLarge}
+use Rattle.mx_body.specs.ChunkedPlace.{place_after, is_settled, parts_begun}
 use Rattle.mx_body.specs.ChunkedRfc.{IsRfcChunked, HasRfcText}
 
 -- the grammar is unambiguous, and no chunked body begins another: two at the front of one text are one tree
@@ -82,3 +84,29 @@ abbrev pub BareLfExamples : Type 0
 BareLfExamples =
     (rest : List ℕ) → ¬ (MayBecomeChunked (codes "5\n" ++ rest)) × ¬ (MayBecomeChunked (codes "0\r\n\n" ++ rest))
     × ¬ (MayBecomeChunked (codes "0\r\na:b\n" ++ rest))
+
+-- what the places of a reader say of the bytes behind them, by the grammar alone: they are a body, and the
+-- parts begun are its parts
+abbrev pub DoneIsWhole : Type 0
+DoneIsWhole =
+    (limit at : ℕ) (bytes : List ℕ) → place_after limit Start bytes ≡ Done
+    → (data_bytes : List ℕ) × IsChunked limit at bytes (parts_begun limit Start at bytes) data_bytes
+
+-- and each body leads there
+abbrev pub WholeIsDone : Type 0
+WholeIsDone =
+    (limit : ℕ) (body : ChunkedBody) → IsChunkedBody body → HasSizes limit body → place_after limit Start (print_chunked body) ≡ Done
+
+-- while nothing is settled, nothing is decided
+abbrev pub OpenIsUndecided : Type 0
+OpenIsUndecided =
+    (limit : ℕ) (bytes : List ℕ) → is_settled (place_after limit Start bytes) ≡ false → IsUndecidedChunked limit bytes
+
+-- the byte that makes the bytes bad, or a size too large
+abbrev pub BadIsNoBody : Type 0
+BadIsNoBody = (limit : ℕ) (bytes : List ℕ) → place_after limit Start bytes ≡ Bad → ¬ (MayBecomeChunked bytes)
+
+abbrev pub TooLargeIsLarge : Type 0
+TooLargeIsLarge =
+    (limit : ℕ) (bytes : List ℕ) (b : ℕ) → is_settled (place_after limit Start bytes) ≡ false
+    → place_after limit Start (bytes ++ b ∷ []) ≡ TooLarge → EndsInLargeSize limit (bytes ++ b ∷ [])

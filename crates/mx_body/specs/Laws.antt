@@ -1,12 +1,12 @@
 -- Laws of the definitions. Each is the contract of a function of `laws`.
-use Rattle.std.specs.Prelude.{◌≡◌, ◌≢◌, ℕ, ◌+◌, ◌<◌, ◌≤◌, Bool, true, false, List, [], ◌∷◌, ◌++◌, length, take, slice_range, flat_map}
+use Rattle.std.specs.Prelude.{◌≡◌, ◌≢◌, ℕ, ◌≤◌, Bool, false, List, [], ◌++◌, length, take}
 use Rattle.mx_types.specs.declared.code.Code.{Code}
 use Rattle.mx_types.specs.declared.method.Method.{Method}
 use Rattle.mx_head.specs.declared.types.Framing.TheVariants.{Close}
 use Rattle.mx_head.specs.Faults.{MeetsNothing}
-use Rattle.mx_body.specs.declared.part.Part.{Part}
 use Rattle.mx_body.specs.declared.verdict.Verdict.{Verdict}
 use Rattle.mx_body.specs.declared.verdict.Verdict.TheVariants.{Complete, More, Fault}
+use Rattle.mx_body.specs.ChunkedLaws.{AreOrdered, joined}
 use Rattle.mx_body.specs.Response.{Response, IsResponse}
 use Rattle.mx_body.specs.Causes.{Meets}
 use Rattle.mx_body.specs.Decision.{BeginsWithResponse, IsVerdict, IsHopeless, HasStatus}
@@ -90,20 +90,11 @@ ResponseMeetsNothing =
     (m : Method) (bytes : List ℕ) (ended : Bool) (r : Response)
     → IsResponse m bytes ended r → MeetsNothing (Meets m) bytes
 
--- the parts stand in order between two offsets, and none is empty
-abbrev pub ArePartsWithin : ℕ → ℕ → List Part → Type 0
-ArePartsWithin from to [] = from ≤ to
-ArePartsWithin from to (p ∷ ps) = (from ≤ p.start) × (p.start < p.end) × ArePartsWithin p.end to ps
-
--- what stands at the parts, joined
-abbrev pub joined : List ℕ → List Part → List ℕ
-joined input parts = flat_map (λ p. slice_range input p.start p.end) parts
-
 -- The first `len` bytes of the input are a response. Its parts are not empty and stand in order within
 -- them; what stands at the parts, joined, is its content.
 abbrev pub ContentIs : Method → List ℕ → Bool → Verdict → Type 0
 ContentIs m input ended (Complete status len parts keep) =
-    ArePartsWithin 0 len parts.items × (len ≤ length input)
+    AreOrdered 0 len parts.items × (len ≤ length input)
     × ((r : Response) × IsResponse m (take len input) ended r × (r.parts ≡ parts.items)
     × (joined input parts.items ≡ r.content))
 ContentIs m input ended More = Unit {0}

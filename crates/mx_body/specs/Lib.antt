@@ -3,10 +3,10 @@ pub mod Chunked
 pub mod Response
 pub mod Causes
 pub mod Decision
-pub mod Laws
 pub mod ChunkedScan
-pub mod ChunkedLaws
 pub mod ChunkedRfc
+pub mod ChunkedLaws
+pub mod Laws
 
 -- Private: what the functions behind these promise one another.
 pub mod ChunkedPlace

@@ -4,3 +4,5 @@ pub mod laws;
 pub mod parts;
 pub mod place;
 pub mod scan;
+#[cfg(test)]
+mod tests;

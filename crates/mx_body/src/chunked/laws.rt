@@ -1,6 +1,6 @@
 //! Laws of the definitions of chunked bodies: each function does nothing, and its contract is the law.
 
-ghost use Rattle.mx_body.specs.ChunkedLaws.{OneBodyPerText, OneReadingPerText, PartsAreData, BodyIsSound, LargeMayBecome, OneScanPerInput, RfcIsChunked, ChunkedIsRfc, NoBareLfInSizeLine, CrlfBehindData, BareLfExamples};
+ghost use Rattle.mx_body.specs.ChunkedLaws.{OneBodyPerText, OneReadingPerText, PartsAreData, BodyIsSound, LargeMayBecome, OneScanPerInput, RfcIsChunked, ChunkedIsRfc, NoBareLfInSizeLine, CrlfBehindData, BareLfExamples, DoneIsWhole, WholeIsDone, OpenIsUndecided, BadIsNoBody, TooLargeIsLarge};
 
 /// Two chunked bodies of which one begins the other are one, with the same parts and the same data.
 pub fn chunked_is_one()
@@ -36,4 +36,14 @@ pub fn framing_is_strict()
     ensures size_line { NoBareLfInSizeLine }
     ensures behind_data { CrlfBehindData }
     ensures examples { BareLfExamples }
+{}
+
+/// What the places of a reader (`place::Place`) say of the bytes read, whatever the pieces they came in: a
+/// body with its parts, the beginning of one, no beginning of one, or one with a size over the limit.
+pub fn places_tell()
+    ensures done { DoneIsWhole }
+    ensures whole { WholeIsDone }
+    ensures open { OpenIsUndecided }
+    ensures bad { BadIsNoBody }
+    ensures too_large { TooLargeIsLarge }
 {}

@@ -1,15 +1,13 @@
 //! Where the data of a chunked body stand.
 
-ghost use Rattle.std.specs.Prelude.{◌≡◌, ◌+◌, ◌<◌, ◌^◌, length, IfOk, option_to_list};
+ghost use Rattle.std.specs.Prelude.{◌≡◌, ◌+◌, ◌<◌, ◌^◌, ◌≢◌, [], length, IfOk, OnErr, option_to_list};
 ghost use Rattle.mx_body.specs.Chunked.{ChunkedBody, IsChunkedBody, print_chunked, chunk_parts};
 ghost use Rattle.mx_body.specs.ChunkedPlace.{begun, data_left};
 
-use std::alloc::Global;
-
-use mx_types::OutOfMemory;
-
 use crate::Part;
 use crate::chunked::place::Place;
+use mx_types::OutOfMemory;
+use std::alloc::Global;
 
 fn begun(place: Place, next: Place, at: u32) -> Option<Part>
     requires { at + data_left next < 2 ^ 32 }
@@ -30,8 +28,11 @@ fn begun(place: Place, next: Place, at: u32) -> Option<Part>
 pub fn chunked_parts(alloc: Global, input: &[u8], at: u32) -> Result<Vec<Part>, OutOfMemory>
     requires whole { (body : ChunkedBody) × IsChunkedBody body × (input.now ≡ print_chunked body) }
     requires room { at + length input.now < 2 ^ 32 }
-    ensures { IfOk result (λ parts. (body : ChunkedBody) → IsChunkedBody body
+    ensures parts { IfOk result (λ parts. (body : ChunkedBody) → IsChunkedBody body
         → input.now ≡ print_chunked body → parts.items ≡ chunk_parts at body.chunks) }
+    // a body with no data takes no memory
+    ensures memory { OnErr result ((body : ChunkedBody) → IsChunkedBody body
+        → input.now ≡ print_chunked body → body.chunks ≢ []) }
 {
     let mut parts = Vec::new(alloc);
     let mut place = Place::Start;

@@ -71,11 +71,7 @@ fn in_line(b: u8, on: Place, ends: Place) -> Place
 fn expect(b: u8, wanted: u8, next: Place) -> Place
     ensures { result ≡ expect b wanted next }
 {
-    if b == wanted {
-        next
-    } else {
-        Place::Bad
-    }
+    if b == wanted { next } else { Place::Bad }
 }
 
 fn after_line(size: u32) -> Place

@@ -23,8 +23,8 @@ pub returns-in_default-clause-place : goal.returns-in_default-clause-place
 returns-in_default-clause-place c =
     let e = first_byte c.args.limit c.args.self c.args.input.now c.requires in
     elim c.in_default.branch [
-      in_default-via-in-Data+else-left-gt0 w ↦ cc
-    | in_default-via-in_default w ↦ cc
+      | in_default-via-in-Data+else-left-gt0 w ↦ cc
+      | in_default-via-in_default w ↦ cc
     ]
 
 pub returns-then-from-there-clause-part : goal.returns-then-from-there-clause-part
@@ -46,6 +46,6 @@ pub returns-in_default-clause-part : goal.returns-in_default-clause-part
 returns-in_default-clause-part c = λ at.
     let e = first_begins c.args.limit c.args.self at c.args.input.now c.requires in
     elim c.in_default.branch [
-      in_default-via-in-Data+else-left-gt0 w ↦ cc
-    | in_default-via-in_default w ↦ cc
+      | in_default-via-in-Data+else-left-gt0 w ↦ cc
+      | in_default-via-in_default w ↦ cc
     ]
