@@ -15,3 +15,5 @@ pub mod ResponseLemmas
 pub mod ContentLemmas
 pub mod ChunkedBodyLemmas
 pub mod LawLemmas
+pub mod DecoderLemmas
+pub mod EmptyLemmas

@@ -3,6 +3,7 @@ pub mod Chunked
 pub mod Response
 pub mod Causes
 pub mod Decision
+pub mod Decoder
 pub mod ChunkedScan
 pub mod ChunkedRfc
 pub mod ChunkedLaws

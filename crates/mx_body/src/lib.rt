@@ -5,6 +5,7 @@
 #![tactic(auto)]
 
 pub mod chunked;
+mod decoder;
 mod heads;
 pub mod laws;
 mod part;
@@ -13,6 +14,7 @@ mod tests;
 mod verdict;
 mod whole;
 
+pub use crate::decoder::{Decoder, Stand};
 pub use crate::part::Part;
 pub use crate::verdict::Verdict;
 pub use crate::whole::decode_whole;

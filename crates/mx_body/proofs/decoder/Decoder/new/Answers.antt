@@ -1,0 +1,9 @@
+use Rattle.std.proofs.Common.{rules}
+use Rattle.mx_body.proofs.EmptyLemmas.{more_first}
+use Rattle.mx_body.proofs.decoder.Decoder.new.Goals as goal
+
+pub invariant_of-result : goal.invariant_of-result
+invariant_of-result c = rw c.new.ensures.items (more_first c.args.method)
+
+pub returns-clause-exact : goal.returns-clause-exact
+returns-clause-exact c = rw c.new.ensures.items (more_first c.args.method)

@@ -1,0 +1,232 @@
+//! A decoder that is fed the bytes of an exchange in pieces.
+ghost use Rattle.std.specs.Prelude.{◌≡◌, ◌≢◌, ◌++◌, [], true, false, length, IfOk, OnErr, Ok};
+ghost use Rattle.mx_body.specs.ChunkedLaws.{AreOrdered};
+ghost use Rattle.mx_body.specs.Decision.{HasStatus};
+ghost use Rattle.mx_body.specs.Decoder as spec;
+ghost use Rattle.mx_body.specs.Decoder.{IsExact, HasVerdictCode};
+ghost use Rattle.mx_body.specs.declared.decoder.Stand.TheVariants as stand;
+ghost use Rattle.mx_body.specs.declared.verdict.Verdict.TheVariants as verdict;
+
+use crate::part::Part;
+use crate::verdict::Verdict;
+use crate::heads::{FinalStep, final_head};
+use crate::whole::decode_whole;
+use mx_types::{Code, Method, OutOfMemory};
+use std::alloc::Global;
+use std::marker::Model;
+
+/// What the bytes that were fed come to.
+#[derive(Clone, Copy, Debug, PartialEq, Eq)]
+pub enum Stand {
+    /// Nothing is decided yet.
+    More,
+    /// They begin with a whole response.
+    Complete,
+    /// They begin with no response, and never will.
+    Fault(Code),
+}
+
+/// A decoder of one response, which is fed its bytes in pieces and owns them. Contracts see the method of the
+/// request, the bytes fed, whether they have ended, and the verdict on them.
+///
+/// Once it has decided it takes no more: each further call changes nothing and answers the same.
+#[derive(Drop)]
+pub struct Decoder {
+    alloc: Global,
+    method: Method,
+    wire: Vec<u8>,
+    ended: bool,
+    verdict: Verdict,
+}
+
+impl Model for Decoder {
+    ghost use Rattle.std.specs.Prelude.{◌≡◌};
+    ghost use Rattle.mx_body.specs.Decision.{IsVerdict};
+    ghost use Rattle.mx_body.specs.Decoder.{Decoded};
+
+    ghost Value = { Decoded };
+
+    ghost view = { λ d. record {
+        method = d.method;
+        wire = d.wire.items;
+        ended = d.ended;
+        verdict = d.verdict
+    } };
+
+    ghost invariant = { λ d. IsVerdict d.method d.wire.items d.ended d.verdict };
+}
+
+// What a verdict comes to.
+fn stand_of(verdict: &Verdict) -> Stand
+    ensures { result ≡ spec.stand_of verdict.now }
+{
+    match verdict {
+        Verdict::Complete {
+            status: _,
+            len: _,
+            parts: _,
+            keep: _,
+        } => Stand::Complete,
+        Verdict::More => Stand::More,
+        Verdict::Fault(code) => Stand::Fault(*code),
+    }
+}
+
+impl Decoder {
+    /// A decoder of the response to a request of that method, fed nothing so far. It takes no memory.
+    pub fn new(alloc: Global, method: Method) -> Decoder
+        ensures begins { result ≡ record { method = method; wire = []; ended = false; verdict = verdict.More } }
+        ensures exact { IsExact result }
+    {
+        Decoder {
+            alloc,
+            method,
+            wire: Vec::new(alloc),
+            ended: false,
+            verdict: Verdict::More,
+        }
+    }
+
+    /// What the bytes fed so far come to.
+    pub fn stand(&self) -> Stand
+        ensures stand { result ≡ spec.stand_of self.now.verdict }
+        ensures exact { IsExact self.now }
+    {
+        stand_of(&self.verdict)
+    }
+
+    /// Takes the next bytes of the response. Once the decoder has decided they are left alone.
+    ///
+    /// `OutOfMemory` leaves the decoder as it was.
+    #[tactic(auto, using(crate::proofs::DecoderLemmas::code_is, crate::proofs::DecoderLemmas::ended_is))]
+    pub fn feed(&mut self, piece: &[u8]) -> Result<Stand, OutOfMemory>
+        ensures over { self.old.verdict ≢ verdict.More → (self.new ≡ self.old) × (result ≡ Ok (spec.stand_of self.old.verdict)) }
+        ensures fed { self.old.verdict ≡ verdict.More → IfOk result (λ _. self.new ≡ record self.old { wire = self.old.wire ++ piece.now; verdict = self.new.verdict }) }
+        ensures stand { IfOk result (λ s. s ≡ spec.stand_of self.new.verdict) }
+        ensures code { IfOk result HasVerdictCode }
+        ensures exact { IsExact self.new }
+        ensures refused { OnErr result (self.new ≡ self.old) }
+    {
+        if !matches!(&self.verdict, Verdict::More) {
+            return Ok(stand_of(&self.verdict));
+        }
+        let len = self.wire.len();
+        self.wire.extend_from_slice(piece)?;
+        match decode_whole(self.alloc, self.method, self.wire.as_slice(), self.ended) {
+            Ok(verdict) => {
+                self.verdict = verdict;
+                Ok(stand_of(&self.verdict))
+            }
+            Err(error) => {
+                self.wire.truncate(len);
+                Err(error)
+            }
+        }
+    }
+
+    /// Takes it that the bytes have ended. Once the decoder has decided it makes no difference.
+    ///
+    /// `OutOfMemory` leaves the decoder as it was.
+    #[tactic(auto, using(crate::proofs::DecoderLemmas::code_is, crate::proofs::DecoderLemmas::ended_is))]
+    pub fn end(&mut self) -> Result<Stand, OutOfMemory>
+        ensures over { self.old.verdict ≢ verdict.More → (self.new ≡ self.old) × (result ≡ Ok (spec.stand_of self.old.verdict)) }
+        ensures decides { IfOk result (λ s. s ≢ stand.More) }
+        ensures ended { self.old.verdict ≡ verdict.More → IfOk result (λ _. self.new ≡ record self.old { ended = true; verdict = self.new.verdict }) }
+        ensures stand { IfOk result (λ s. s ≡ spec.stand_of self.new.verdict) }
+        ensures code { IfOk result HasVerdictCode }
+        ensures exact { IsExact self.new }
+        ensures refused { OnErr result (self.new ≡ self.old) }
+    {
+        if !matches!(&self.verdict, Verdict::More) {
+            return Ok(stand_of(&self.verdict));
+        }
+        let verdict = decode_whole(self.alloc, self.method, self.wire.as_slice(), true)?;
+        self.ended = true;
+        self.verdict = verdict;
+        Ok(stand_of(&self.verdict))
+    }
+
+    /// The bytes fed, up to and with the call that decided.
+    pub fn wire(&self) -> &[u8]
+        ensures { result.now ≡ self.now.wire }
+    {
+        self.wire.as_slice()
+    }
+
+    /// The status of the final head in the bytes fed, 0 where there is none. It takes no memory.
+    pub fn status(&self) -> u16
+        ensures { HasStatus self.now.wire result }
+    {
+        match final_head(self.wire.as_slice()) {
+            FinalStep::Head { head, end: _ } => head.status(),
+            FinalStep::More => 0,
+            FinalStep::Fault(_) => 0,
+        }
+    }
+
+    /// Where a whole response ends in the bytes fed; 0 where there is none.
+    pub fn len(&self) -> usize
+        ensures { result ≡ spec.len_of self.now.verdict }
+    {
+        match &self.verdict {
+            Verdict::Complete {
+                status: _,
+                len,
+                parts: _,
+                keep: _,
+            } => *len as usize,
+            Verdict::More => 0,
+            Verdict::Fault(_) => 0,
+        }
+    }
+
+    /// Whether the connection may serve another request; `false` where there is no whole response.
+    pub fn keep(&self) -> bool
+        ensures { result ≡ spec.keep_of self.now.verdict }
+    {
+        match &self.verdict {
+            Verdict::Complete {
+                status: _,
+                len: _,
+                parts: _,
+                keep,
+            } => *keep,
+            Verdict::More => false,
+            Verdict::Fault(_) => false,
+        }
+    }
+
+    /// The bytes fed, by move.
+    pub fn into_wire(self) -> Vec<u8>
+        ensures { result.items ≡ self.wire }
+    {
+        self.wire
+    }
+
+    /// The bytes fed and where the data of the body stand in them, by move. There are no parts where there is no
+    /// whole response.
+    #[tactic(auto, using(crate::proofs::DecoderLemmas::parts_within))]
+    pub fn into_parts(self) -> (Vec<u8>, Vec<Part>)
+        ensures wire { result.0.items ≡ self.wire }
+        ensures parts { result.1.items ≡ spec.parts_of self.verdict }
+        ensures ordered { AreOrdered 0 (length self.wire) result.1.items }
+    {
+        let Decoder {
+            alloc,
+            method: _,
+            wire,
+            ended: _,
+            verdict,
+        } = self;
+        match verdict {
+            Verdict::Complete {
+                status: _,
+                len: _,
+                parts,
+                keep: _,
+            } => (wire, parts),
+            Verdict::More => (wire, Vec::new(alloc)),
+            Verdict::Fault(_) => (wire, Vec::new(alloc)),
+        }
+    }
+}
