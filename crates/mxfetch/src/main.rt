@@ -62,7 +62,10 @@ fn play_stdin<R: io::Input + Print + AllocGlobal>(rt: &R, history: u32) -> u8
     requires { (4 ≤ history) × (history ≤ 1048576) }
 {
     match BufWriter::new(rt.alloc(), io::writer(rt)) {
-        Ok(mut writer) => run_play(rt.alloc(), history, &mut rt.reader(), &mut writer) as u8,
+        Ok(mut writer) => {
+            let status = run_play(rt.alloc(), history, &mut rt.reader(), &mut writer);
+            u8::try_from(status).unwrap_or(UNWRITTEN)
+        }
         Err(_) => out_of_memory(rt),
     }
 }
