@@ -2,13 +2,11 @@
 ghost use Rattle.std.specs.Prelude.{◌≡◌};
 ghost use Rattle.mx_types.specs.MultiCode.{reply_code};
 
-use std::marker::Model;
-
-use arrayvec::ArrayVec;
-
 use crate::code::Code;
 use crate::multi_code::MCode;
 use crate::names::{HandleId, Ticket};
+use arrayvec::ArrayVec;
+use std::marker::Model;
 
 /// Where a handle stands.
 #[derive(Clone, Copy, Debug, PartialEq, Eq)]

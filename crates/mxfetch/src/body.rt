@@ -13,10 +13,10 @@ pub mod reading;
 mod tests;
 pub mod text;
 
-use crate::input::Input;
-use crate::output::{Output, WriteFailed};
 use crate::body::reading::{InputError, read_input};
 use crate::body::text::{print_fault, print_parts, print_response};
+use crate::input::Input;
+use crate::output::{Output, WriteFailed};
 use mx_body::laws::parts_are_content;
 use mx_body::{Part, Verdict, decode_whole};
 use mx_types::{Code, Method};

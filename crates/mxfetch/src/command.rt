@@ -50,7 +50,8 @@ fn body_command<'a>(alloc: Global) -> Result<Command<'a>, AllocError> {
         .arg(method)
 }
 
-const PLAY: &str = "Play a script of calls on the control core of a multi handle, on one thread. Each line of \
+const PLAY: &str =
+    "Play a script of calls on the control core of a multi handle, on one thread. Each line of \
 standard input is a call, and prints what the call answers: `add H`, `remove H`, `pause H`, `unpause H`, `read`, \
 `wakeup`, `poll`, `done T CODE N`, `handles`, `running`, `state H`. Empty lines, and lines that begin with `#`, print \
 nothing. Any other line prints `bad-line K` and ends the run with 122.";

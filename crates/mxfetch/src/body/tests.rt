@@ -118,7 +118,14 @@ fn chunked_bodies(rt: HostRuntime) -> Result<(), Fail> {
     let over = joined(alloc, head, b"4000001\r\n")?;
     prints(&rt, alloc, Method::Get, &over, 63, b"FAULT 63\n");
     let two = joined(alloc, head, b"2\r\nhe\r\n3\r\nllo\r\n0\r\n\r\nHTTP")?;
-    prints(&rt, alloc, Method::Get, &two, 0, b"OK status=200 body=5 keep=yes left=4\nhello");
+    prints(
+        &rt,
+        alloc,
+        Method::Get,
+        &two,
+        0,
+        b"OK status=200 body=5 keep=yes left=4\nhello",
+    );
     Ok(())
 }
 
@@ -126,7 +133,14 @@ fn chunked_bodies(rt: HostRuntime) -> Result<(), Fail> {
 fn interim_heads(rt: HostRuntime) -> Result<(), Fail> {
     let alloc = rt.alloc();
     let hints = b"HTTP/1.1 103 Early Hints\r\n\r\nHTTP/1.1 204 No Content\r\n\r\n";
-    prints(&rt, alloc, Method::Get, hints, 0, b"OK status=204 body=0 keep=yes left=0\n");
+    prints(
+        &rt,
+        alloc,
+        Method::Get,
+        hints,
+        0,
+        b"OK status=204 body=0 keep=yes left=0\n",
+    );
     let switching = b"HTTP/1.1 101 Switching Protocols\r\n\r\n";
     prints(&rt, alloc, Method::Get, switching, 8, b"FAULT 8\n");
     let mut many = Vec::new(alloc);
@@ -135,7 +149,14 @@ fn interim_heads(rt: HostRuntime) -> Result<(), Fail> {
     }
     let whole = b"HTTP/1.1 200 OK\r\nContent-Length: 5\r\n\r\nhello";
     let sixteen = joined(alloc, &many, whole)?;
-    prints(&rt, alloc, Method::Get, &sixteen, 0, b"OK status=200 body=5 keep=yes left=0\nhello");
+    prints(
+        &rt,
+        alloc,
+        Method::Get,
+        &sixteen,
+        0,
+        b"OK status=200 body=5 keep=yes left=0\nhello",
+    );
     many.extend_from_slice(b"HTTP/1.1 103 Early Hints\r\n\r\n")?;
     let seventeen = joined(alloc, &many, whole)?;
     prints(&rt, alloc, Method::Get, &seventeen, 8, b"FAULT 8\n");
@@ -187,10 +208,18 @@ fn captures_of_real_servers(rt: HostRuntime) {
         0,
         b"OK status=200 body=11 keep=no left=0\ntime: none\n",
     );
-    let chunks = b"HTTP/1.1 200 OK\r\nServer: nginx/1.22.1\r\nDate: Sun, 22 Nov 2026 08:49:55 GMT\r\n\
+    let chunks =
+        b"HTTP/1.1 200 OK\r\nServer: nginx/1.22.1\r\nDate: Sun, 22 Nov 2026 08:49:55 GMT\r\n\
         Content-Type: text/html\r\nTransfer-Encoding: chunked\r\nConnection: close\r\n\r\n\
         b\r\ntime: none\n\r\n0\r\n\r\n";
-    prints(&rt, alloc, Method::Get, chunks, 0, b"OK status=200 body=11 keep=no left=0\ntime: none\n");
+    prints(
+        &rt,
+        alloc,
+        Method::Get,
+        chunks,
+        0,
+        b"OK status=200 body=11 keep=no left=0\ntime: none\n",
+    );
     let python = b"HTTP/1.0 200 OK\r\nServer: SimpleHTTP/0.6 Python/3.11.7\r\n\
         Date: Sun, 22 Nov 2026 08:49:56 GMT\r\nContent-type: text/plain\r\nContent-Length: 14\r\n\
         Last-Modified: Sun, 22 Nov 2026 08:49:52 GMT\r\n\r\nhello, world.\n";
