@@ -5,14 +5,12 @@ use std::alloc::{AllocError, Global};
 use std::process::Abort;
 use std::test::Fail;
 
-/// Settings with just these fields.
-fn with_fields(alloc: Global, fields: &[(&str, &str)]) -> Result<Settings, AllocError> {
+/// Settings with just this field.
+fn with_field(alloc: Global, name: &str, value: &str) -> Result<Settings, AllocError> {
     let mut settings = Settings::new(alloc);
-    for field in fields {
-        let name = String::from_str(alloc, field.0)?;
-        let value = String::from_str(alloc, field.1)?;
-        settings.fields.push((name, value))?;
-    }
+    let name = String::from_str(alloc, name)?;
+    let value = String::from_str(alloc, value)?;
+    settings.fields.push((name, value))?;
     Ok(settings)
 }
 
@@ -32,64 +30,79 @@ fn longer(alloc: Global, text: &str, more: char, count: usize) -> Result<String,
     Ok(long)
 }
 
-/// How often the byte stands among the bytes.
-fn count_of(bytes: &[u8], byte: u8) -> usize {
-    bytes.iter().filter(|b| **b == byte).count()
-}
-
-#[test]
-fn plain_urls(rt: HostRuntime) -> Result<(), Fail> {
-    let rows = [
-        (
-            Method::Get,
-            "http://127.0.0.1:8080/a?b#c",
-            "GET /a?b HTTP/1.1\r\nHost: 127.0.0.1:8080\r\nAccept: */*\r\n\r\n",
-        ),
-        (
-            Method::Get,
-            "HTTP://EXAMPLE.com:80/x y",
-            "GET /x%20y HTTP/1.1\r\nHost: example.com\r\nAccept: */*\r\n\r\n",
-        ),
-        (
-            Method::Head,
-            "http://example.com",
-            "HEAD / HTTP/1.1\r\nHost: example.com\r\nAccept: */*\r\n\r\n",
-        ),
-        (
-            Method::Get,
-            "http://[::1]:81/",
-            "GET / HTTP/1.1\r\nHost: [::1]:81\r\nAccept: */*\r\n\r\n",
-        ),
-        (
-            Method::Get,
-            "http://example.com/?",
-            "GET /? HTTP/1.1\r\nHost: example.com\r\nAccept: */*\r\n\r\n",
-        ),
-    ];
-    for row in rows {
-        let settings = Settings::new(rt.alloc());
-        let request = Request::build(rt.alloc(), row.0, row.1, settings)?;
-        assert_eq!(rt; request.bytes(), row.2.as_bytes(), "for {}", row.1);
-    }
+/// Tests the bytes of a request without settings.
+fn sends(
+    rt: &impl Abort,
+    alloc: Global,
+    method: Method,
+    url: &str,
+    bytes: &str,
+) -> Result<(), Fail> {
+    let request = Request::build(alloc, method, url, Settings::new(alloc))?;
+    assert_eq!(rt; request.bytes(), bytes.as_bytes(), "for {url}");
     Ok(())
 }
 
 #[test]
+fn plain_urls(rt: HostRuntime) -> Result<(), Fail> {
+    sends(
+        &rt,
+        rt.alloc(),
+        Method::Get,
+        "http://127.0.0.1:8080/a?b#c",
+        "GET /a?b HTTP/1.1\r\nHost: 127.0.0.1:8080\r\nAccept: */*\r\n\r\n",
+    )?;
+    sends(
+        &rt,
+        rt.alloc(),
+        Method::Get,
+        "HTTP://EXAMPLE.com:80/x y",
+        "GET /x%20y HTTP/1.1\r\nHost: example.com\r\nAccept: */*\r\n\r\n",
+    )?;
+    sends(
+        &rt,
+        rt.alloc(),
+        Method::Head,
+        "http://example.com",
+        "HEAD / HTTP/1.1\r\nHost: example.com\r\nAccept: */*\r\n\r\n",
+    )?;
+    sends(
+        &rt,
+        rt.alloc(),
+        Method::Get,
+        "http://[::1]:81/",
+        "GET / HTTP/1.1\r\nHost: [::1]:81\r\nAccept: */*\r\n\r\n",
+    )?;
+    sends(
+        &rt,
+        rt.alloc(),
+        Method::Get,
+        "http://example.com/?",
+        "GET /? HTTP/1.1\r\nHost: example.com\r\nAccept: */*\r\n\r\n",
+    )
+}
+
+#[test]
 fn all_that_settings_add(rt: HostRuntime) -> Result<(), Fail> {
-    let mut settings = with_fields(rt.alloc(), &[("X-A", "1")])?;
-    settings.user_agent = Some(String::from_str(rt.alloc(), "mx/1")?);
-    settings.body = Some(Vec::from_slice(rt.alloc(), b"hi")?);
+    let alloc = rt.alloc();
+    let mut settings = with_field(alloc, "X-A", "1")?;
+    settings.user_agent = Some(String::from_str(alloc, "mx/1")?);
+    settings.body = Some(Vec::from_slice(alloc, b"hi")?);
     settings.timeout_ms = 250;
-    let request = Request::build(rt.alloc(), Method::Post, "http://example.com/p", settings)?;
+    let request = Request::build(alloc, Method::Post, "http://example.com/p", settings)?;
     let sent =
         "POST /p HTTP/1.1\r\nHost: example.com\r\nUser-Agent: mx/1\r\nAccept: */*\r\nX-A: 1\r\n\
         Content-Length: 2\r\n\r\nhi";
     assert_eq!(rt; request.bytes(), sent.as_bytes());
     assert_eq!(rt; request.method(), Method::Post);
     assert_eq!(rt; request.timeout_ms(), 250);
+    Ok(())
+}
 
-    let own = with_fields(rt.alloc(), &[("accept", "text/plain")])?;
-    let request = Request::build(rt.alloc(), Method::Get, "http://example.com/", own)?;
+#[test]
+fn a_callers_own_accept(rt: HostRuntime) -> Result<(), Fail> {
+    let settings = with_field(rt.alloc(), "accept", "text/plain")?;
+    let request = Request::build(rt.alloc(), Method::Get, "http://example.com/", settings)?;
     let sent = "GET / HTTP/1.1\r\nHost: example.com\r\naccept: text/plain\r\n\r\n";
     assert_eq!(rt; request.bytes(), sent.as_bytes());
     assert_eq!(rt; request.timeout_ms(), 0);
@@ -105,166 +118,219 @@ fn an_empty_body_has_its_length(rt: HostRuntime) -> Result<(), Fail> {
     Ok(())
 }
 
+/// Tests the endpoint of a URL, that its copy equals it, and that another port doesn't.
+fn goes_to(rt: &impl Abort, alloc: Global, url: &str, host: &str, port: u16) -> Result<(), Fail> {
+    let request = Request::build(alloc, Method::Get, url, Settings::new(alloc))?;
+    let copy = request.endpoint().copy(alloc)?;
+    assert!(rt; copy == *request.endpoint(), "for {url}");
+    assert_eq!(rt; copy.host.as_str(), host);
+    assert_eq!(rt; copy.port, port);
+    let other = Endpoint {
+        host: String::from_str(alloc, host)?,
+        port: 9,
+    };
+    assert!(rt; copy != other, "for {url}");
+    Ok(())
+}
+
 #[test]
 fn a_copied_endpoint_is_equal(rt: HostRuntime) -> Result<(), Fail> {
-    let rows = [
-        ("http://127.0.0.1:8080/a?b#c", "127.0.0.1", 8080),
-        ("HTTP://EXAMPLE.com:80/x y", "example.com", 80),
-        ("http://[::1]:81/", "[::1]", 81),
-    ];
-    for row in rows {
-        let settings = Settings::new(rt.alloc());
-        let request = Request::build(rt.alloc(), Method::Get, row.0, settings)?;
-        let copy = request.endpoint().copy(rt.alloc())?;
-        assert!(rt; copy == *request.endpoint(), "for {}", row.0);
-        assert_eq!(rt; copy.host.as_str(), row.1);
-        assert_eq!(rt; copy.port, row.2);
-        let other = Endpoint {
-            host: String::from_str(rt.alloc(), row.1)?,
-            port: 9,
-        };
-        assert!(rt; copy != other, "for {}", row.0);
-    }
+    let alloc = rt.alloc();
+    goes_to(&rt, alloc, "http://127.0.0.1:8080/a?b#c", "127.0.0.1", 8080)?;
+    goes_to(&rt, alloc, "HTTP://EXAMPLE.com:80/x y", "example.com", 80)?;
+    goes_to(&rt, alloc, "http://[::1]:81/", "[::1]", 81)
+}
+
+/// Tests that a URL is refused so, whatever else is wrong: the user agent is refused and the body is too large.
+fn refuses_url(
+    rt: &impl Abort,
+    alloc: Global,
+    url: &str,
+    refusal: RequestError,
+) -> Result<(), Fail> {
+    let mut settings = with_body(alloc, 1_048_577)?;
+    settings.user_agent = Some(String::from_str(alloc, " ")?);
+    let refused = Request::build(alloc, Method::Get, url, settings).err();
+    assert_eq!(rt; refused, Some(refusal), "for {url}");
     Ok(())
 }
 
 #[test]
 fn refused_urls(rt: HostRuntime) -> Result<(), Fail> {
-    let rows = [
-        ("https://u@example.com/", RequestError::Scheme),
-        ("example.com", RequestError::Malformed),
-        ("http://u@example.com/", RequestError::UserInfo),
-        ("http://:p@example.com/", RequestError::UserInfo),
-        ("http:///", RequestError::Malformed),
-        ("mailto:a@example.com", RequestError::Scheme),
-        ("http://example.com:65536/", RequestError::Malformed),
-    ];
-    for row in rows {
-        // a field that is refused too, and a body that is too large, come after the URL
-        let mut settings = with_body(rt.alloc(), 1_048_577)?;
-        settings.user_agent = Some(String::from_str(rt.alloc(), " ")?);
-        let refused = Request::build(rt.alloc(), Method::Get, row.0, settings).err();
-        assert_eq!(rt; refused, Some(row.1), "for {}", row.0);
-    }
+    let alloc = rt.alloc();
+    refuses_url(&rt, alloc, "https://u@example.com/", RequestError::Scheme)?;
+    refuses_url(&rt, alloc, "mailto:a@example.com", RequestError::Scheme)?;
+    refuses_url(&rt, alloc, "example.com", RequestError::Malformed)?;
+    refuses_url(&rt, alloc, "http:///", RequestError::Malformed)?;
+    refuses_url(&rt, alloc, "http://h:65536/", RequestError::Malformed)?;
+    refuses_url(&rt, alloc, "http://u@example.com/", RequestError::UserInfo)?;
+    refuses_url(&rt, alloc, "http://:p@example.com/", RequestError::UserInfo)?;
+    // no line end gets into a host
+    refuses_url(
+        &rt,
+        alloc,
+        "http://exam%0aple.com/",
+        RequestError::Malformed,
+    )?;
+    refuses_url(&rt, alloc, "http://a%0d%0ab/", RequestError::Malformed)?;
+    refuses_url(&rt, alloc, "http://a b/", RequestError::Malformed)
+}
+
+/// Tests that a field is refused, also with a body that is too large.
+fn refuses_field(rt: &impl Abort, alloc: Global, name: &str, value: &str) -> Result<(), Fail> {
+    let settings = with_field(alloc, name, value)?;
+    let refused = Request::build(alloc, Method::Get, "http://example.com/", settings).err();
+    assert_eq!(rt; refused, Some(RequestError::BadField), "for {name}");
+    let mut settings = with_field(alloc, name, value)?;
+    settings.body = Some(vec![in alloc; b'b'; 1_048_577]?);
+    let refused = Request::build(alloc, Method::Get, "http://example.com/", settings).err();
+    assert_eq!(rt;
+        refused,
+        Some(RequestError::BadField),
+        "for {name} and a body"
+    );
     Ok(())
 }
 
 #[test]
 fn refused_fields(rt: HostRuntime) -> Result<(), Fail> {
-    let rows = [
-        ("X-A", "1\r2"),
-        ("Host", "x"),
-        ("content-length", "2"),
-        ("USER-AGENT", "x"),
-        ("Transfer-encoding", "chunked"),
-        ("Connection", "close"),
-        ("Expect", "100-continue"),
-        ("upgrade", "h2c"),
-        ("te", "trailers"),
-        ("Trailer", "X"),
-        ("", "1"),
-        ("X A", "1"),
-        ("X-A", "1 "),
-    ];
-    for row in rows {
-        let settings = with_fields(rt.alloc(), &[("X-B", ""), row])?;
-        let refused = Request::build(rt.alloc(), Method::Get, "http://h/", settings).err();
-        assert_eq!(rt; refused, Some(RequestError::BadField), "for {}", row.0);
+    let alloc = rt.alloc();
+    refuses_field(&rt, alloc, "Host", "x")?;
+    refuses_field(&rt, alloc, "USER-AGENT", "x")?;
+    refuses_field(&rt, alloc, "content-length", "2")?;
+    refuses_field(&rt, alloc, "Transfer-encoding", "chunked")?;
+    refuses_field(&rt, alloc, "Connection", "close")?;
+    refuses_field(&rt, alloc, "Expect", "100-continue")?;
+    refuses_field(&rt, alloc, "upgrade", "h2c")?;
+    refuses_field(&rt, alloc, "te", "trailers")?;
+    refuses_field(&rt, alloc, "Trailer", "X")?;
+    refuses_field(&rt, alloc, "", "1")?;
+    refuses_field(&rt, alloc, "X-A", "1\r2")
+}
+
+/// Settings with so many fields.
+fn with_count(alloc: Global, count: usize) -> Result<Settings, AllocError> {
+    let mut settings = Settings::new(alloc);
+    for _ in 0..count {
+        let name = String::from_str(alloc, "X")?;
+        settings.fields.push((name, String::new(alloc)))?;
     }
-    Ok(())
+    Ok(settings)
+}
+
+/// Settings with a user agent of so many bytes.
+fn with_agent(alloc: Global, len: usize) -> Result<Settings, AllocError> {
+    let mut settings = Settings::new(alloc);
+    settings.user_agent = Some(longer(alloc, "", 'v', len)?);
+    Ok(settings)
+}
+
+/// What a request is refused for.
+fn refusal(alloc: Global, url: &str, settings: Settings) -> Option<RequestError> {
+    Request::build(alloc, Method::Post, url, settings).err()
 }
 
 #[test]
-fn bodies_come_after_fields(rt: HostRuntime) -> Result<(), Fail> {
-    let mut settings = with_fields(rt.alloc(), &[("Host", "x")])?;
-    settings.body = Some(vec![in rt.alloc(); b'b'; 1_048_577]?);
-    let refused = Request::build(rt.alloc(), Method::Get, "http://example.com/", settings).err();
+fn limits_of_bodies_and_fields(rt: HostRuntime) -> Result<(), Fail> {
+    let alloc = rt.alloc();
+    assert_eq!(rt;
+        refusal(alloc, "http://h/", with_body(alloc, 1_048_576)?),
+        None
+    );
+    let refused = refusal(alloc, "http://h/", with_body(alloc, 1_048_577)?);
+    assert_eq!(rt; refused, Some(RequestError::BodyTooLarge));
+    assert_eq!(rt; refusal(alloc, "http://h/", with_count(alloc, 64)?), None);
+    let refused = refusal(alloc, "http://h/", with_count(alloc, 65)?);
     assert_eq!(rt; refused, Some(RequestError::BadField));
     Ok(())
 }
 
 #[test]
-fn limits_at_and_past_their_edges(rt: HostRuntime) -> Result<(), Fail> {
+fn limits_of_values(rt: HostRuntime) -> Result<(), Fail> {
     let alloc = rt.alloc();
-    for (len, refused) in [
-        (1_048_576, None),
-        (1_048_577, Some(RequestError::BodyTooLarge)),
-    ] {
-        let settings = with_body(alloc, len)?;
-        let got = Request::build(alloc, Method::Post, "http://example.com/", settings).err();
-        assert_eq!(rt; got, refused, "a body of {len} bytes");
-    }
-    for (count, refused) in [(64, None), (65, Some(RequestError::BadField))] {
-        let mut settings = Settings::new(alloc);
-        for _ in 0..count {
-            let name = String::from_str(alloc, "X")?;
-            settings.fields.push((name, String::new(alloc)))?;
-        }
-        let got = Request::build(alloc, Method::Get, "http://example.com/", settings).err();
-        assert_eq!(rt; got, refused, "{count} fields");
-    }
-    for (len, refused) in [(8_192, None), (8_193, Some(RequestError::BadField))] {
-        let mut settings = Settings::new(alloc);
-        settings.user_agent = Some(longer(alloc, "", 'v', len)?);
-        let got = Request::build(alloc, Method::Get, "http://example.com/", settings).err();
-        assert_eq!(rt; got, refused, "a user agent of {len} bytes");
-        let long = longer(alloc, "", 'v', len)?;
-        let settings = with_fields(alloc, &[("X", long.as_str())])?;
-        let got = Request::build(alloc, Method::Get, "http://example.com/", settings).err();
-        assert_eq!(rt; got, refused, "a value of {len} bytes");
-    }
+    assert_eq!(rt;
+        refusal(alloc, "http://h/", with_agent(alloc, 8_192)?),
+        None
+    );
+    let refused = refusal(alloc, "http://h/", with_agent(alloc, 8_193)?);
+    assert_eq!(rt; refused, Some(RequestError::BadField));
+    let long = longer(alloc, "", 'v', 8_192)?;
+    assert_eq!(rt;
+        refusal(alloc, "http://h/", with_field(alloc, "X", long.as_str())?),
+        None
+    );
+    let long = longer(alloc, "", 'v', 8_193)?;
+    let refused = refusal(alloc, "http://h/", with_field(alloc, "X", long.as_str())?);
+    assert_eq!(rt; refused, Some(RequestError::BadField));
     Ok(())
 }
 
 #[test]
-fn texts_at_and_past_their_limit(rt: HostRuntime) -> Result<(), Fail> {
+fn limit_of_texts(rt: HostRuntime) -> Result<(), Fail> {
     let alloc = rt.alloc();
-    let rows = [
-        (65_536, None),
-        (65_537, Some(RequestError::Malformed)),
-        (70_000, Some(RequestError::Malformed)),
-    ];
-    for (len, refused) in rows {
-        let text = longer(alloc, "http://example.com/", 'a', len - 19)?;
-        let got = Request::build(alloc, Method::Get, text.as_str(), Settings::new(alloc)).err();
-        assert_eq!(rt; got, refused, "a URL of {len} bytes");
+    let text = longer(alloc, "http://example.com/", 'a', 65_517)?;
+    assert_eq!(rt; text.len(), 65_536);
+    assert_eq!(rt; refusal(alloc, text.as_str(), Settings::new(alloc)), None);
+    for more in [65_518, 69_981] {
+        let text = longer(alloc, "http://example.com/", 'a', more)?;
+        let refused = refusal(alloc, text.as_str(), Settings::new(alloc));
+        assert_eq!(rt; refused, Some(RequestError::Malformed), "{more} more bytes");
     }
     Ok(())
 }
 
+/// Tests the target and the host that a URL gives.
+fn aims_at(
+    rt: &impl Abort,
+    alloc: Global,
+    url: &str,
+    target: &str,
+    host: &str,
+) -> Result<(), Fail> {
+    let mut bytes = String::from_str(alloc, "GET ")?;
+    bytes.push_str(target)?;
+    bytes.push_str(" HTTP/1.1\r\nHost: ")?;
+    bytes.push_str(host)?;
+    bytes.push_str("\r\nAccept: */*\r\n\r\n")?;
+    sends(rt, alloc, Method::Get, url, bytes.as_str())
+}
+
 #[test]
-fn hostile_urls(rt: HostRuntime) -> Result<(), Fail> {
-    let rows = [
-        ("http://b\u{fc}cher.example/", "/", "xn--bcher-kva.example"),
-        ("http://127.1/", "/", "127.0.0.1"),
-        ("http://0x7f000001:80/", "/", "127.0.0.1"),
-        ("http://ex%61mple.com/", "/", "example.com"),
-        ("http://exa\tmple.com/a\r\nb", "/ab", "example.com"),
-        (
-            "http://example.com/a HTTP/1.1\r\nX: y\r\n\r\n",
-            "/a%20HTTP/1.1X:%20y",
-            "example.com",
-        ),
-        ("http://example.com/?a\r\nX: y", "/?aX:%20y", "example.com"),
-        ("\n http://example.com/\u{7f}\u{0}", "/%7F", "example.com"),
-        ("http:\\\\example.com\\a", "/a", "example.com"),
-    ];
-    for row in rows {
-        let mut sent = String::from_str(rt.alloc(), "GET ")?;
-        sent.push_str(row.1)?;
-        sent.push_str(" HTTP/1.1\r\nHost: ")?;
-        sent.push_str(row.2)?;
-        sent.push_str("\r\nAccept: */*\r\n\r\n")?;
-        let settings = Settings::new(rt.alloc());
-        let request = Request::build(rt.alloc(), Method::Get, row.0, settings)?;
-        assert_eq!(rt; request.bytes(), sent.as_bytes(), "for {}", row.1);
-    }
-    for text in ["http://exam%0aple.com/", "http://a%0d%0ab/", "http://a b/"] {
-        let settings = Settings::new(rt.alloc());
-        let refused = Request::build(rt.alloc(), Method::Get, text, settings).err();
-        assert_eq!(rt; refused, Some(RequestError::Malformed), "for {text}");
-    }
-    Ok(())
+fn hostile_hosts(rt: HostRuntime) -> Result<(), Fail> {
+    let alloc = rt.alloc();
+    aims_at(
+        &rt,
+        alloc,
+        "http://b\u{fc}cher.example/",
+        "/",
+        "xn--bcher-kva.example",
+    )?;
+    aims_at(&rt, alloc, "http://127.1/", "/", "127.0.0.1")?;
+    aims_at(&rt, alloc, "http://0x7f000001:80/", "/", "127.0.0.1")?;
+    aims_at(&rt, alloc, "http://ex%61mple.com/", "/", "example.com")?;
+    aims_at(&rt, alloc, "http:\\\\example.com\\a", "/a", "example.com")
+}
+
+#[test]
+fn hostile_targets(rt: HostRuntime) -> Result<(), Fail> {
+    let alloc = rt.alloc();
+    aims_at(
+        &rt,
+        alloc,
+        "http://exa\tmple.com/a\r\nb",
+        "/ab",
+        "example.com",
+    )?;
+    aims_at(
+        &rt,
+        alloc,
+        "http://h/a HTTP/1.1\r\nX: y\r\n\r\n",
+        "/a%20HTTP/1.1X:%20y",
+        "h",
+    )?;
+    aims_at(&rt, alloc, "http://h/?a\r\nX: y", "/?aX:%20y", "h")?;
+    aims_at(&rt, alloc, "http://h/%0d%0aX:y", "/%0d%0aX:y", "h")?;
+    aims_at(&rt, alloc, "\n http://h/\u{7f}\u{0}", "/%7F", "h")
 }
 
 /// Three letters with this character in place of the one at the place.
@@ -276,16 +342,21 @@ fn placed(alloc: Global, c: char, place: usize) -> Result<String, AllocError> {
     Ok(text)
 }
 
-/// Builds a request with one field, and tests that it is refused exactly where it isn't allowed, and that a
-/// request that is built has no line beside its own.
-fn try_field(
+/// How often the byte stands among the bytes.
+fn count_of(bytes: &[u8], byte: u8) -> usize {
+    bytes.iter().filter(|b| **b == byte).count()
+}
+
+/// Tests that a field is refused exactly where it isn't allowed, and that a request that is built has no line
+/// beside its own.
+fn tries_field(
     rt: &impl Abort,
     alloc: Global,
     name: &str,
     value: &str,
     is_allowed: bool,
 ) -> Result<(), Fail> {
-    let settings = with_fields(alloc, &[(name, value)])?;
+    let settings = with_field(alloc, name, value)?;
     match Request::build(alloc, Method::Get, "http://example.com/", settings) {
         Ok(request) => {
             assert!(rt; is_allowed, "{name:?}: {value:?} was let through");
@@ -300,77 +371,109 @@ fn try_field(
     Ok(())
 }
 
+/// Tests names and values with the character at the first, the middle and the last place. RFC 9110, section
+/// 5.6.2, lists the marks of a name.
+fn tries_character(rt: &impl Abort, alloc: Global, c: char) -> Result<(), Fail> {
+    let is_token = c.is_ascii_alphanumeric() || "!#$%&'*+-.^_`|~".contains(c);
+    let is_blank = c == ' ' || c == '\t';
+    let is_control = (c < ' ' && c != '\t') || c == '\u{7f}';
+    for place in 0..3 {
+        let text = placed(alloc, c, place)?;
+        tries_field(rt, alloc, text.as_str(), "v", is_token)?;
+        tries_field(
+            rt,
+            alloc,
+            "X",
+            text.as_str(),
+            !is_control && (!is_blank || place == 1),
+        )?;
+    }
+    Ok(())
+}
+
+// The characters up to 255 have each byte below 128, the bytes 128 to 191 and two more; the others begin with
+// bytes up to 244. No other byte is in a text.
 #[test]
 fn every_character_in_names_and_values(rt: HostRuntime) -> Result<(), Fail> {
-    let token = "ABCDEFGHIJKLMNOPQRSTUVWXYZabcdefghijklmnopqrstuvwxyz0123456789!#$%&'*+-.^_`|~";
     for byte in 0..=255u8 {
-        let c = char::from(byte);
-        for place in 0..3 {
-            let text = placed(rt.alloc(), c, place)?;
-            try_field(&rt, rt.alloc(), text.as_str(), "v", token.contains(c))?;
-            let is_blank = c == ' ' || c == '\t';
-            let is_control = (byte < 32 && c != '\t') || byte == 127;
-            try_field(
-                &rt,
-                rt.alloc(),
-                "X",
-                text.as_str(),
-                !is_control && (!is_blank || place == 1),
-            )?;
-        }
+        tries_character(&rt, rt.alloc(), char::from(byte))?;
     }
     for c in ['\u{7ff}', '\u{ffff}', '\u{10ffff}'] {
-        let text = placed(rt.alloc(), c, 1)?;
-        try_field(&rt, rt.alloc(), text.as_str(), "v", false)?;
-        try_field(&rt, rt.alloc(), "X", text.as_str(), true)?;
+        tries_character(&rt, rt.alloc(), c)?;
     }
+    Ok(())
+}
+
+/// Tests the number, the code and the message of a refusal.
+fn tells(
+    rt: &impl Abort,
+    alloc: Global,
+    refusal: RequestError,
+    number: u32,
+    code: Code,
+    message: &str,
+) -> Result<(), Fail> {
+    assert_eq!(rt; refusal.number(), number);
+    assert_eq!(rt; refusal.code(), code);
+    assert_eq!(rt; refusal.to_string(alloc)?.as_str(), message);
     Ok(())
 }
 
 #[test]
 fn refusals_have_numbers_codes_and_messages(rt: HostRuntime) -> Result<(), Fail> {
-    let rows = [
-        (
-            RequestError::Scheme,
-            1,
-            Code::UnsupportedProtocol,
-            "the scheme of the URL isn't http",
-        ),
-        (
-            RequestError::Malformed,
-            2,
-            Code::UrlMalformat,
-            "the URL doesn't parse, or is over 65,536 bytes",
-        ),
-        (
-            RequestError::UserInfo,
-            3,
-            Code::UrlMalformat,
-            "the URL has a user name or a password",
-        ),
-        (
-            RequestError::BadField,
-            4,
-            Code::UrlMalformat,
-            "a header field can't be sent: its name, its value or the number of fields isn't allowed",
-        ),
-        (
-            RequestError::BodyTooLarge,
-            5,
-            Code::FilesizeExceeded,
-            "the body is over 1,048,576 bytes",
-        ),
-        (
-            RequestError::OutOfMemory,
-            6,
-            Code::OutOfMemory,
-            "out of memory",
-        ),
-    ];
-    for row in rows {
-        assert_eq!(rt; row.0.number(), row.1);
-        assert_eq!(rt; row.0.code(), row.2);
-        assert_eq!(rt; row.0.to_string(rt.alloc())?.as_str(), row.3);
-    }
-    Ok(())
+    let alloc = rt.alloc();
+    let text = "the scheme of the URL isn't http";
+    tells(
+        &rt,
+        alloc,
+        RequestError::Scheme,
+        1,
+        Code::UnsupportedProtocol,
+        text,
+    )?;
+    let text = "the URL doesn't parse, or is over 65,536 bytes";
+    tells(
+        &rt,
+        alloc,
+        RequestError::Malformed,
+        2,
+        Code::UrlMalformat,
+        text,
+    )?;
+    let text = "the URL has a user name or a password";
+    tells(
+        &rt,
+        alloc,
+        RequestError::UserInfo,
+        3,
+        Code::UrlMalformat,
+        text,
+    )?;
+    let text =
+        "a header field can't be sent: its name, its value or the number of fields isn't allowed";
+    tells(
+        &rt,
+        alloc,
+        RequestError::BadField,
+        4,
+        Code::UrlMalformat,
+        text,
+    )?;
+    let text = "the body is over 1,048,576 bytes";
+    tells(
+        &rt,
+        alloc,
+        RequestError::BodyTooLarge,
+        5,
+        Code::FilesizeExceeded,
+        text,
+    )?;
+    tells(
+        &rt,
+        alloc,
+        RequestError::OutOfMemory,
+        6,
+        Code::OutOfMemory,
+        "out of memory",
+    )
 }
