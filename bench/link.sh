@@ -7,7 +7,7 @@ work=$(mktemp -d)
 trap 'rm -rf "$work"' EXIT
 mkdir -p "$work/crates/link_bench/src" "$work/crates/link_bench/specs"
 cp -r "$top/crates/mx_types" "$top/crates/mx_link" "$work/crates/"
-cp "$top/bench/link/main.rt" "$work/crates/link_bench/src/"
+cp "$top/bench/link-program.txt" "$work/crates/link_bench/src/"
 touch "$work/crates/link_bench/specs/Lib.antt"
 printf 'mx_types:\nmx_link: mx_types mio\nlink_bench: mx_types mx_link\n' > "$work/crates.txt"
 cp "$top/HANDLES" "$work/"
