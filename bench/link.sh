@@ -7,9 +7,9 @@ work=$(mktemp -d)
 trap 'rm -rf "$work"' EXIT
 mkdir -p "$work/crates/link_bench/src" "$work/crates/link_bench/specs"
 cp -r "$top/crates/mx_types" "$top/crates/mx_link" "$work/crates/"
-cp "$top/bench/link-program.txt" "$work/crates/link_bench/src/"
+cp "$top/bench/link-program.txt" "$work/crates/link_bench/src/main.rt"
 touch "$work/crates/link_bench/specs/Lib.antt"
-printf 'mx_types:\nmx_link: mx_types mio\nlink_bench: mx_types mx_link\n' > "$work/crates.txt"
+printf 'mx_types: arrayvec\nmx_link: mx_types mio\nlink_bench: mx_types mx_link\n' > "$work/crates.txt"
 cp "$top/HANDLES" "$work/"
 cd "$work/crates/link_bench"
 rt run -- copy 0 > "$work/build.log" 2>&1 || { tail -20 "$work/build.log"; exit 1; }
