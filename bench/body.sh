@@ -11,19 +11,19 @@ MIB = 1 << 20
 
 def counted(size):
     head = b"HTTP/1.1 200 OK\r\nContent-Length: %d\r\n\r\n" % size
-    return [head, os.urandom(MIB) * (size // MIB)]
+    return [head, os.urandom(MIB) * (size // MIB)], 1
 
-def chunked(size, chunk):
+def chunked(count, chunk):
     piece = b"%x\r\n" % chunk + b"v" * chunk + b"\r\n"
-    return [b"HTTP/1.1 200 OK\r\nTransfer-Encoding: chunked\r\n\r\n", piece * (size // chunk), b"0\r\n\r\n"]
+    return [b"HTTP/1.1 200 OK\r\nTransfer-Encoding: chunked\r\n\r\n", piece * count, b"0\r\n\r\n"], count
 
-def run(words, path):
+def run(words, path, taker):
     """The least wall time of five runs, and the greatest resident size."""
     best, most = None, 0
     for _ in range(5):
-        with open(path, "rb") as source:
+        with open(path, "rb") as source, open(taker, "wb") as target:
             start = time.perf_counter()
-            child = subprocess.Popen(words, stdin=source, stdout=subprocess.DEVNULL)
+            child = subprocess.Popen(words, stdin=source, stdout=target)
             _, status, usage = os.wait4(child.pid, 0)
             wall = time.perf_counter() - start
         child.returncode = os.waitstatus_to_exitcode(status)
@@ -32,17 +32,24 @@ def run(words, path):
         most = max(most, usage.ru_maxrss * 1024)
     return best, most
 
-def show(name, pieces):
-    with tempfile.NamedTemporaryFile() as file:
+def show(name, made):
+    pieces, parts = made
+    with tempfile.NamedTemporaryFile() as file, tempfile.NamedTemporaryFile() as taker:
         for piece in pieces:
             file.write(piece)
         file.flush()
         size = os.path.getsize(file.name)
-        cat, _ = run(["cat"], file.name)
-        wall, peak = run([program, "body", "GET"], file.name)
-    print(f"{name:<34} {size / MIB:6.1f} MiB  cat {cat * 1000:7.1f} ms  mxfetch {wall * 1000:7.1f} ms "
-          f"({wall * 1000 / (size / MIB):5.2f} ms/MiB)  time {wall / cat:5.2f}  memory {peak / size:5.2f}")
+        cat, _ = run(["cat"], file.name, taker.name)
+        wall, peak = run([program, "body", "GET"], file.name, taker.name)
+    print(f"{name:<32} {size / MIB:5.1f} MiB  cat {cat * 1000:6.1f} ms  mxfetch {wall * 1000:7.1f} ms, "
+          f"{wall * 1000 / (size / MIB):6.2f} ms/MiB, {wall / cat:5.2f} of cat  "
+          f"memory {(peak - 8 * parts) / size:4.2f} of the input and 8 bytes a part")
 
-print(f"{os.cpu_count()} cores; least wall time of five runs; memory is the peak over the input's size")
-show("counted, 60 MiB", counted(60 * MIB))
+print(f"{os.cpu_count()} cores; from a file to a file; least wall time of five runs, greatest peak memory")
+for size in (15, 30, 60):
+    show("one counted body", counted(size * MIB))
+for size in (15, 30, 60):
+    show("chunks of 16 KiB", chunked(size * 64, 16384))
+for count in (250_000, 500_000, 1_000_000):
+    show(f"{count} chunks of one byte", chunked(count, 1))
 P
