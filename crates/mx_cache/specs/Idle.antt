@@ -1,5 +1,5 @@
 -- Idle links: a list of (endpoint, link) in order of put.
-use Rattle.std.specs.Prelude.{◌≡◌, ℕ, nat_le, false, List, [], ◌∷◌, ◌++◌, length, drop, Option, Some, None, option_map, MatchOption, if◌then◌else◌}
+use Rattle.std.specs.Prelude.{◌≡◌, ℕ, nat_le, List, [], ◌∷◌, ◌++◌, length, drop, Option, Some, None, if◌then◌else◌}
 use Rattle.std.specs.List.{AllByRecursion}
 use Rattle.mx_request.specs.Endpoint.{HostAndPort}
 

@@ -1,5 +1,5 @@
 -- What follows from the answers that a link gave, in order.
-use Rattle.std.specs.Prelude.{ℕ, Bool, true, false, List, [], ◌∷◌, ◌++◌, count_by}
+use Rattle.std.specs.Prelude.{ℕ, Bool, true, false, List, [], count_by}
 use Rattle.std.specs.List.{flat_map}
 use Rattle.mx_link.specs.declared.answers.Answer.{Answer}
 use Rattle.mx_link.specs.declared.answers.Answer.TheVariants as answers

@@ -3,3 +3,4 @@ pub mod Calls
 pub mod Script
 pub mod Plan
 pub mod Sockets
+pub mod Laws

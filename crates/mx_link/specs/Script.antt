@@ -1,5 +1,5 @@
 -- What a scripted link answers.
-use Rattle.std.specs.Prelude.{ℕ, ◌==◌, nat_le, Bool, true, false, not, List, [], ◌∷◌, take, drop, length, Option, Some, None, if◌then◌else◌}
+use Rattle.std.specs.Prelude.{ℕ, ◌==◌, nat_le, Bool, true, not, List, [], ◌∷◌, take, drop, length, Option, Some, None, if◌then◌else◌}
 use Rattle.mx_link.specs.declared.answers.Answer.{Answer}
 use Rattle.mx_link.specs.declared.answers.Answer.TheVariants as answers
 use Rattle.mx_link.specs.declared.answers.Write.{Write}

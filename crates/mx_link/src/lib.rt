@@ -4,6 +4,7 @@
 
 mod answers;
 mod history;
+pub mod laws;
 mod links;
 mod scripted;
 mod sockets;

@@ -1,5 +1,5 @@
-use Rattle.std.proofs.Common.{◌≡◌, ◌++◌, take, append-nil, sym, subst, ap, ◌∙◌, map, Some, None}
-use Rattle.mx_link.specs.Plan.{answer_of, AllGiveSome}
+use Rattle.std.proofs.Common.{take, append-nil, sym, subst, ◌∙◌, Some, None}
+use Rattle.mx_link.specs.Plan.{AllGiveSome}
 use Rattle.mx_link.proofs.Plans.{left_of-none, AllGiveSome-planned, planned-more}
 use Rattle.mx_link.proofs.scripted.plan_reads.Goals as goal
 use Rattle.mx_link.proofs.scripted.plan_reads.Goals.{in-Some+in_ok-push, in_default}
