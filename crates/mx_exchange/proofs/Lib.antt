@@ -1,0 +1,4 @@
+pub mod Ordered
+pub mod Steps
+pub mod Serves
+pub mod Advanced
