@@ -1,18 +1,22 @@
 -- What one poll does, by the way it ends.
-use Rattle.std.proofs.Common.{◌≡◌, ◌≢◌, ℕ, ◌≤◌, Bool, true, false, List, [], ◌∷◌, ◌++◌, length, refl, sym, ◌∙◌, ap, subst, Option, Some, None, ◌⊎◌, inl, inr, arith}
+use Rattle.std.proofs.Common.{◌≡◌, ◌≢◌, ℕ, ◌≤◌, Bool, true, false, List, [], ◌∷◌, ◌++◌, length, refl, sym, ◌∙◌, ap, subst, Option, Some, None, ◌⊎◌, ◌↔◌, inl, inr, arith}
 use Rattle.std.specs.Prelude.{◌||◌, IfSome, MatchOption, option_map, unwrap_or, count_by}
 use Rattle.mx_types.specs.declared.code.Code.{Code}
 use Rattle.mx_types.specs.declared.code.Code.TheVariants as code
+use Rattle.mx_types.specs.declared.method.Method.{Method}
 use Rattle.mx_request.specs.Request.{RequestValue}
 use Rattle.mx_body.specs.Decision.{IsVerdict, HasStatus}
-use Rattle.mx_body.specs.Decoder.{Decoded, IsExact, parts_of}
+use Rattle.mx_body.specs.Decoder.{Decoded, IsExact, parts_of, is_verdict_code}
+use Rattle.mx_body.specs.declared.decoder.Stand.TheVariants as stand
+use Rattle.mx_body.proofs.DecoderLemmas.{code_is}
 use Rattle.mx_body.specs.declared.verdict.Verdict.{Verdict}
 use Rattle.mx_body.specs.declared.verdict.Verdict.TheVariants as verdict
 use Rattle.mx_link.specs.Answers.{given}
 use Rattle.mx_link.specs.declared.answers.Answer.{Answer}
+use Rattle.mx_link.specs.declared.answers.Answer.TheVariants as said
 use Rattle.mx_exchange.specs.Order.{InOrder}
-use Rattle.mx_exchange.specs.Endings.{IsUndecided, EndsBy, MustRetry, may_keep}
-use Rattle.mx_exchange.specs.Transfers.{OutcomeValue, TransferState, IsDue, LinkTold, clocked, dropped}
+use Rattle.mx_exchange.specs.Endings.{IsUndecided, EndsBy, by_bytes, by_end, by_fault, by_memory, MustRetry, may_keep, code_of, fault_code}
+use Rattle.mx_exchange.specs.Transfers.{OutcomeValue, TransferState, IsDue, LinkTold, clocked, dropped, is_link_code}
 use Rattle.mx_exchange.specs.Turns.{How, waits, asks, ends, IsOnTime, MayTouch, ProbeBlocks, ProbeFails, Probed, Answered, GoesOn, EndsWith, StopsWith, EndsOver, Turns, late, given_up, paused, unserved, refused, lost, blocked, unfinished, ended}
 use Rattle.mx_exchange.specs.Service.{IsGoing, ServeTurn}
 use Rattle.mx_exchange.specs.Turned.{Exchanged, idle, gone, stuck, full, over}
@@ -46,6 +50,26 @@ Going-other rq reused stood now w past d g e = record {
   more = g.more;
   undecided = subst (λ (l : List Answer). IsUndecided rq.method l) e g.undecided;
 }
+
+no_fault : (a : Answer) → fault_code a ≡ Some code.OperationTimedout → ⊥
+no_fault said.Connected e = cc
+no_fault said.ConnectBlocked e = cc
+no_fault said.ConnectFailed e = cc
+no_fault (said.Gave piece) e = cc
+no_fault said.ReadBlocked e = cc
+no_fault said.ReadEnded e = cc
+no_fault said.ReadFailed e = cc
+no_fault (said.Took piece) e = cc
+no_fault said.WriteBlocked e = cc
+no_fault said.WriteFailed e = cc
+
+no_verdict : (kind : Method) (wire : List ℕ) (e : Bool) (v : Verdict) → IsVerdict kind wire e v → code_of v ≡ Some code.OperationTimedout → ⊥
+no_verdict kind wire e (verdict.Complete status len parts keep) h is = cc
+no_verdict kind wire e verdict.More h is = cc
+no_verdict kind wire e (verdict.Fault c) h is =
+    let listed : is_verdict_code c ≡ true = code_is kind wire e (verdict.Fault c) (stand.Fault c) h refl in
+    let same : c ≡ code.OperationTimedout = (let k : Some c ≡ Some code.OperationTimedout = is in cc) in
+    let x : is_verdict_code code.OperationTimedout ≡ true = ap is_verdict_code (sym same) ∙ listed in cc
 
 module _ {L : Type 0} (history : L → List Answer) where
   module _ (old new : TransferState L) (link : L) (rq : RequestValue) (reused stood : Bool) (w : ℕ) (d : Decoded)
@@ -163,3 +187,19 @@ module _ {L : Type 0} (history : L → List Answer) where
   pub Turns-asking : (t new : TransferState L) → t.code ≡ None → Turns history t new asks → new.code ≡ None
   Turns-asking t new n (paused m still e) = ap (λ (x : TransferState L). x.code) e ∙ n
   Turns-asking t new n (unfinished m mid p a b g) = ap (λ (x : TransferState L). x.code) g ∙ (kept_by t mid p).3 ∙ n
+
+  -- no response, no fault of a link and no want of memory comes to 28
+  untimely : (kind : Method) (past : List Answer) (wire : List ℕ) (v : Verdict) (c : Code) → EndsBy kind past wire v c → c ≡ code.OperationTimedout → ⊥
+  untimely kind past wire v c (by_bytes earlier piece e w h is) t = no_verdict kind wire false v h (is ∙ ap (λ (x : Code). Some x) t)
+  untimely kind past wire v c (by_end earlier e w h is) t = no_verdict kind wire true v h (is ∙ ap (λ (x : Code). Some x) t)
+  untimely kind past wire v c (by_fault earlier last e w m is) t = no_fault last (is ∙ ap (λ (x : Code). Some x) t)
+  untimely kind past wire v c (by_memory earlier last e h w m) t = cc
+
+  -- 28 comes just where the deadline is due
+  pub Turns-late : (t new : TransferState L) (o : OutcomeValue) → IfSome t.failure (λ (c : Code). is_link_code c ≡ true) → Turns history t new (ends o) → (o.code ≡ code.OperationTimedout) ↔ IsDue t.deadline t.moment
+  Turns-late t new o f (late due is s) = ((λ e. due), (λ d. is))
+  Turns-late t new o f (given_up early is s) =
+      ((λ e. let listed : is_link_code o.code ≡ true = rw is at f in
+          let x : is_link_code code.OperationTimedout ≡ true = ap is_link_code (sym e) ∙ listed in cc),
+       (λ d. absurd (early d)))
+  Turns-late t new o f (ended m mid p a e r) = ((λ c. absurd (untimely _ _ _ _ _ e.cause c)), (λ d. absurd (m.0.0 d)))

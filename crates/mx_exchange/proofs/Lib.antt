@@ -2,3 +2,4 @@ pub mod Ordered
 pub mod Steps
 pub mod Serves
 pub mod Advanced
+pub mod Bodies

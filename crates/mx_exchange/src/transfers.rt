@@ -59,7 +59,7 @@ impl<L: Link> Model for Transfer<L> {
     ghost use Rattle.std.specs.Prelude.{◌≡◌, true, false, Some, None, IsSome, IfSome, MatchOption, [], ◌++◌, length, option_map, unwrap_or};
     ghost use Rattle.mx_exchange.specs.Order.{InOrder};
     ghost use Rattle.mx_exchange.specs.Service.{IsGoing};
-    ghost use Rattle.mx_exchange.specs.Transfers.{TransferState};
+    ghost use Rattle.mx_exchange.specs.Transfers.{TransferState, is_link_code};
 
     ghost Value = { TransferState L };
 
@@ -87,6 +87,7 @@ impl<L: Link> Model for Transfer<L> {
     ghost invariant = { λ t. record {
         alive : (t.code ≡ None → IsSome t.work) × (IsSome t.work → t.code ≡ None);
         kept : (t.is_kept ≡ true) → t.work ≡ None;
+        failed : IfSome t.failure (λ c. is_link_code c ≡ true);
         about : IfSome t.work (λ w. w.request ≡ t.about.value);
         told : IfSome t.service (λ s. L.history s.link ≡ L.history s.attached.value ++ s.answers);
         order : IfSome t.service (λ s. InOrder s.is_reused t.about.value.bytes s.answers);
@@ -305,6 +306,7 @@ impl<L: Link> Transfer<L> {
     fn know(&self)
         ensures served { IsServed L.history self.now }
         ensures undecided { self.now.code ≡ None → IsUndecided self.now.request.method self.now.answers }
+        ensures failed { IfSome self.now.failure (λ c. is_link_code c ≡ true) }
     {
         let _work = &self.work;
     }
@@ -457,6 +459,7 @@ impl<L: Link> Future for Transfer<L> {
     ghost use Rattle.std.specs.Prelude.{◌≡◌, ◌⊎◌, ℕ, None, IsSome};
     ghost use Rattle.futures.specs.Task.{Covers, Keeps};
     ghost use Rattle.futures.specs.Poll.{IfReady, OnPending};
+    ghost use Rattle.mx_types.specs.declared.code.Code.TheVariants as Code;
     ghost use Rattle.mx_exchange.specs.Turns.{PollSo};
 
     ghost can_poll = { λ t. t.code ≡ None };
@@ -474,9 +477,12 @@ impl<L: Link> Future for Transfer<L> {
         ensures registered { OnPending result (Covers cx.new (λ s. (s ≡ self.new.link_source) ⊎ (IsSome self.new.deadline × (s ≡ self.new.time_source)))) }
         ensures kept { Keeps cx.old cx.new }
         ensures turn { PollSo L.history self.old self.new result cx.new.is_woken }
+        // 28 comes where the deadline is due, and only there
+        ensures late { IfReady result (λ outcome. (outcome.code ≡ Code.OperationTimedout) ↔ IsDue (clocked self.old).deadline self.old.moment) }
         ensures served { IsServed L.history self.new }
         ensures undecided { OnPending result (IsUndecided self.new.request.method self.new.answers) }
     {
+        self.know();
         let turn = self.advance();
         self.know();
         match turn {
