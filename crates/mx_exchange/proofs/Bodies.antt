@@ -1,0 +1,42 @@
+-- Where the parts of a body stand.
+use Rattle.std.proofs.Common.{◌≡◌, ℕ, zero, suc, append-nil, ◌+◌, ◌-◌, ◌≤◌, ◌<◌, List, [], ◌∷◌, ◌++◌, length, take, drop, refl, sym, ◌∙◌, ap, arith, length-drop, length-append}
+use Rattle.std.specs.Prelude.{slice_range}
+use Rattle.std.proofs.Math.ListN.{get_or}
+use Rattle.std.proofs.lemmas.List.{length-take-le}
+use Rattle.mx_body.specs.declared.part.Part.{Part}
+use Rattle.mx_body.specs.ChunkedLaws.{AreOrdered, joined}
+
+ordered_le : (from to : ℕ) (ps : List Part) → AreOrdered from to ps → from ≤ to
+ordered_le from to [] h = h
+ordered_le from to (p ∷ ps) h = omega (arith, h.0, h.1, ordered_le p.end to ps h.2)
+
+pub ordered_at : (from to : ℕ) (ps : List Part) (i : ℕ) (d : Part) → AreOrdered from to ps → i < length ps
+    → (from ≤ (get_or ps i d).start) × ((get_or ps i d).start ≤ (get_or ps i d).end) × ((get_or ps i d).end ≤ to)
+ordered_at from to [] i d h less = absurd (omega (arith, less))
+ordered_at from to (p ∷ ps) zero d h less = (h.0, omega (arith, h.1), ordered_le p.end to ps h.2)
+ordered_at from to (p ∷ ps) (suc i) d h less =
+    let r = ordered_at p.end to ps i d h.2 (omega (arith, less)) in (omega (arith, h.0, h.1, r.0), r.1, r.2)
+
+pub slice_len : (x : List ℕ) (a b : ℕ) → a ≤ b → b ≤ length x → length (slice_range x a b) ≡ b - a
+slice_len x a b ab bx = length-take-le (b - a) (drop a x) (omega (arith, length-drop a x, ab, bx))
+
+-- what stands before a part is no longer than where it starts
+pub joined_before : (x : List ℕ) (from to : ℕ) (ps : List Part) (i : ℕ) (d : Part) → AreOrdered from to ps → to ≤ length x → i < length ps
+    → from + length (joined x (take i ps)) ≤ (get_or ps i d).start
+joined_before x from to [] i d h fits less = absurd (omega (arith, less))
+joined_before x from to (p ∷ ps) zero d h fits less = omega (arith, h.0)
+joined_before x from to (p ∷ ps) (suc i) d h fits less =
+    let r = joined_before x p.end to ps i d h.2 fits (omega (arith, less)) in
+    let one = slice_len x p.start p.end (omega (arith, h.1)) (omega (arith, ordered_le p.end to ps h.2, fits)) in
+    omega (arith, r, one, h.0, h.1, length-append (slice_range x p.start p.end) (joined x (take i ps)))
+
+-- one part more
+pub joined_next : (x : List ℕ) (from to : ℕ) (ps : List Part) (i : ℕ) (d : Part) → AreOrdered from to ps → to ≤ length x → i < length ps
+    → length (joined x (take (suc i) ps)) ≡ length (joined x (take i ps)) + ((get_or ps i d).end - (get_or ps i d).start)
+joined_next x from to [] i d h fits less = absurd (omega (arith, less))
+joined_next x from to (p ∷ ps) zero d h fits less =
+    let one = slice_len x p.start p.end (omega (arith, h.1)) (omega (arith, ordered_le p.end to ps h.2, fits)) in
+    ap (λ (l : List ℕ). length l) (append-nil (slice_range x p.start p.end)) ∙ omega (arith, one)
+joined_next x from to (p ∷ ps) (suc i) d h fits less =
+    let r = joined_next x p.end to ps i d h.2 fits (omega (arith, less)) in
+    length-append (slice_range x p.start p.end) (joined x (take (suc i) ps)) ∙ omega (arith, r, length-append (slice_range x p.start p.end) (joined x (take i ps)))

@@ -1,0 +1,5 @@
+pub mod Ordered
+pub mod Steps
+pub mod Serves
+pub mod Advanced
+pub mod Bodies

@@ -1,0 +1,15 @@
+use Rattle.std.proofs.Common.{◌≡◌, None, refl, sym, ◌∙◌, rules}
+use Rattle.mx_exchange.proofs.Advanced.{Turns-request, Turns-alive, Turns-asking, Turns-late}
+use Rattle.mx_exchange.proofs.transfers.TransferFuture.poll.Goals as goal
+
+pub returns-in-Ended-clause-value : goal.returns-in-Ended-clause-value
+returns-in-Ended-clause-value g c = Turns-request _ _ _ _ c.in-Ended.ensures
+
+pub returns-in-Waits-clause-undecided : goal.returns-in-Waits-clause-undecided
+returns-in-Waits-clause-undecided g c = rw (c.wait.ensures.pending, c.wait.ensures.same) (c.know-2.ensures.undecided (Turns-alive _ _ _ c.requires c.in-Waits.ensures))
+
+pub returns-in-Ended-clause-late : goal.returns-in-Ended-clause-late
+returns-in-Ended-clause-late g c = Turns-late _ _ _ _ c.know.ensures.failed c.in-Ended.ensures
+
+pub returns-in-Asks-clause-undecided : goal.returns-in-Asks-clause-undecided
+returns-in-Asks-clause-undecided g c = rw c.yield_now.ensures.pending (c.know-2.ensures.undecided (Turns-asking _ _ _ c.requires c.in-Asks.ensures))

@@ -1,0 +1,83 @@
+-- How a transfer ends by what its link answers.
+use Rattle.std.specs.Prelude.{◌≡◌, ◌==◌, ℕ, Bool, true, false, ◌&&◌, List, [], ◌∷◌, ◌++◌, length, Option, Some, None}
+use Rattle.std.specs.List.{list_any}
+use Rattle.mx_types.specs.declared.code.Code.{Code}
+use Rattle.mx_types.specs.declared.code.Code.TheVariants as code
+use Rattle.mx_types.specs.declared.method.Method.{Method}
+use Rattle.mx_types.specs.declared.method.Method.TheVariants as method
+use Rattle.mx_body.specs.Decision.{IsVerdict}
+use Rattle.mx_body.specs.Decoder.{keep_of, len_of}
+use Rattle.mx_body.specs.declared.verdict.Verdict.{Verdict}
+use Rattle.mx_body.specs.declared.verdict.Verdict.TheVariants as verdict
+use Rattle.mx_link.specs.Answers.{given}
+use Rattle.mx_link.specs.declared.answers.Answer.{Answer}
+use Rattle.mx_link.specs.declared.answers.Answer.TheVariants as said
+use Rattle.mx_exchange.specs.Order.{is_last}
+
+-- the link has neither failed nor ended, and what it gave decides nothing
+abbrev pub IsUndecided : Method → List Answer → Type 0
+IsUndecided kind answers =
+    (list_any is_last answers ≡ false) × IsVerdict kind (given answers) false verdict.More
+
+-- this was the last answer, and those before it decided nothing
+abbrev pub EndsAt : Method → List Answer → Answer → List Answer → Type 0
+EndsAt kind earlier last answers = (answers ≡ earlier ++ last ∷ []) × IsUndecided kind earlier
+
+-- the code that a verdict comes to
+abbrev pub code_of : Verdict → Option Code
+code_of (verdict.Complete status len parts keep) = Some code.Ok
+code_of verdict.More = None
+code_of (verdict.Fault c) = Some c
+
+-- the code that a fault of a link comes to
+abbrev pub fault_code : Answer → Option Code
+fault_code said.ConnectFailed = Some code.CouldntConnect
+fault_code said.ReadFailed = Some code.RecvError
+fault_code said.WriteFailed = Some code.SendError
+fault_code _ = None
+
+-- bytes that were read, or their end
+abbrev pub is_heard : Answer → Bool
+is_heard (said.Gave piece) = true
+is_heard said.ReadEnded = true
+is_heard _ = false
+
+-- Why a transfer ended with a code over its link: by the link's last answer. Bytes or their end decided; or the
+-- link failed; or no memory was found for bytes or their end. The verdict is that on the wire, and `More` where
+-- the wire decides nothing.
+pub data EndsBy (kind : Method) (answers : List Answer) (wire : List ℕ) (v : Verdict) : Code → Type 0 where
+  by_bytes : {c : Code} (earlier : List Answer) (piece : List ℕ) → EndsAt kind earlier (said.Gave piece) answers
+      → wire ≡ given answers → IsVerdict kind wire false v → code_of v ≡ Some c → EndsBy kind answers wire v c
+  by_end : {c : Code} (earlier : List Answer) → EndsAt kind earlier said.ReadEnded answers
+      → wire ≡ given answers → IsVerdict kind wire true v → code_of v ≡ Some c → EndsBy kind answers wire v c
+  by_fault : {c : Code} (earlier : List Answer) (last : Answer) → EndsAt kind earlier last answers
+      → wire ≡ given answers → v ≡ verdict.More → fault_code last ≡ Some c → EndsBy kind answers wire v c
+  by_memory : (earlier : List Answer) (last : Answer) → EndsAt kind earlier last answers → is_heard last ≡ true
+      → wire ≡ given earlier → v ≡ verdict.More → EndsBy kind answers wire v code.OutOfMemory
+
+-- the link may serve again: the response says so, and is all that was read
+abbrev pub may_keep : Verdict → List ℕ → Bool
+may_keep v wire = keep_of v && (len_of v == length wire)
+
+-- the methods that are sent again
+abbrev pub is_repeated : Method → Bool
+is_repeated method.Get = true
+is_repeated method.Head = true
+is_repeated _ = false
+
+-- the link ended or failed while it was written to or read
+abbrev pub is_loss : Answer → Bool
+is_loss said.WriteFailed = true
+is_loss said.ReadFailed = true
+is_loss said.ReadEnded = true
+is_loss _ = false
+
+-- a reused link was lost before it gave a byte, and the method is one that is sent again
+pub record MustRetry (kind : Method) (reused : Bool) (answers : List Answer) : Type 0 where
+  pub reused_is : reused ≡ true
+  pub repeated : is_repeated kind ≡ true
+  pub silent : given answers ≡ []
+  pub earlier : List Answer
+  pub last : Answer
+  pub ends : answers ≡ earlier ++ last ∷ []
+  pub lost : is_loss last ≡ true

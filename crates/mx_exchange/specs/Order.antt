@@ -1,0 +1,65 @@
+-- In which order a link is asked, which serves a request.
+use Rattle.std.specs.Prelude.{◌≡◌, ◌≢◌, ℕ, Bool, true, false, ◌||◌, List, [], ◌∷◌, ◌++◌}
+use Rattle.std.specs.List.{list_any}
+use Rattle.mx_link.specs.Answers.{taken}
+use Rattle.mx_link.specs.declared.answers.Answer.{Answer}
+use Rattle.mx_link.specs.declared.answers.Answer.TheVariants as said
+
+-- the link says that its connection stands
+abbrev pub is_connected : Answer → Bool
+is_connected said.Connected = true
+is_connected _ = false
+
+-- the answer to the question whether it stands
+abbrev pub is_connect : Answer → Bool
+is_connect said.Connected = true
+is_connect said.ConnectBlocked = true
+is_connect said.ConnectFailed = true
+is_connect _ = false
+
+-- a fault, or the end of what the other side sends
+abbrev pub is_last : Answer → Bool
+is_last said.ConnectFailed = true
+is_last said.ReadEnded = true
+is_last said.ReadFailed = true
+is_last said.WriteFailed = true
+is_last _ = false
+
+-- the connection stands: the link was in use before, or has said so
+abbrev pub stands : Bool → List Answer → Bool
+stands reused before = reused || list_any is_connected before
+
+-- it stands, and hasn't taken all of the bytes: what it takes now are the first that it hasn't taken
+abbrev pub MayWrite : Bool → List ℕ → List Answer → List ℕ → Type 0
+MayWrite reused bytes before piece =
+    (stands reused before ≡ true)
+    × ((unsent : List ℕ) × (bytes ≡ taken before ++ (piece ++ unsent)) × (piece ++ unsent ≢ []))
+
+-- it stands, and has taken all of the bytes
+abbrev pub MayRead : Bool → List ℕ → List Answer → Type 0
+MayRead reused bytes before = (stands reused before ≡ true) × (taken before ≡ bytes)
+
+-- The answer may come after those before it. A link is asked whether it stands until it does, then takes the
+-- bytes from the front, and is read once it has taken all of them.
+abbrev pub MayFollow : Bool → List ℕ → List Answer → Answer → Type 0
+MayFollow reused bytes before said.Connected = stands reused before ≡ false
+MayFollow reused bytes before said.ConnectBlocked = stands reused before ≡ false
+MayFollow reused bytes before said.ConnectFailed = stands reused before ≡ false
+MayFollow reused bytes before (said.Took piece) = MayWrite reused bytes before piece
+MayFollow reused bytes before said.WriteBlocked = MayWrite reused bytes before []
+MayFollow reused bytes before said.WriteFailed = MayWrite reused bytes before []
+MayFollow reused bytes before (said.Gave piece) = MayRead reused bytes before
+MayFollow reused bytes before said.ReadBlocked = MayRead reused bytes before
+MayFollow reused bytes before said.ReadEnded = MayRead reused bytes before
+MayFollow reused bytes before said.ReadFailed = MayRead reused bytes before
+
+-- each of these answers may come after those before it, and none comes after a fault or the end
+abbrev pub FollowInOrder : Bool → List ℕ → List Answer → List Answer → Type 0
+FollowInOrder reused bytes before [] = Unit {0}
+FollowInOrder reused bytes before (answer ∷ rest) =
+    (list_any is_last before ≡ false) × MayFollow reused bytes before answer
+    × FollowInOrder reused bytes (before ++ answer ∷ []) rest
+
+-- the answers, from the first on, of a link that is to take these bytes
+abbrev pub InOrder : Bool → List ℕ → List Answer → Type 0
+InOrder reused bytes answers = FollowInOrder reused bytes [] answers

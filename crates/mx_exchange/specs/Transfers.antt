@@ -1,0 +1,91 @@
+-- What contracts see of a transfer and of an outcome.
+use Rattle.std.specs.Prelude.{◌≡◌, ℕ, ◌≤◌, ◌+◌, ◌-◌, ◌^◌, ◌==◌, min, Bool, true, false, List, [], ◌++◌, length, Option, Some, None, if◌then◌else◌}
+use Rattle.mx_types.specs.declared.code.Code.{Code}
+use Rattle.mx_types.specs.declared.code.Code.TheVariants as code
+use Rattle.mx_request.specs.Request.{RequestValue}
+use Rattle.mx_body.specs.declared.part.Part.{Part}
+use Rattle.mx_link.specs.Answers.{given}
+use Rattle.mx_link.specs.declared.answers.Answer.{Answer}
+use Rattle.mx_exchange.specs.Order.{InOrder}
+
+-- An outcome. The parts are where the data of the body stand in the wire.
+pub record OutcomeValue : Type 0 where
+  pub request : RequestValue
+  pub wire : List ℕ
+  pub code : Code
+  pub status : ℕ
+  pub parts : List Part
+
+-- A transfer. `answers` are what its link answered since it was attached or probed, in order, and `attached` is the link as it was
+-- then. `received` counts the bytes of the wire.
+pub record TransferState (L : Type 0) : Type 0 where
+  pub request : RequestValue
+  pub link : Option L
+  pub attached : Option L
+  pub answers : List Answer
+  pub is_reused : Bool
+  pub needs_probe : Bool
+  pub needs_fresh : Bool
+  pub is_started : Bool
+  pub failure : Option Code
+  pub moment : ℕ
+  pub is_paused : Bool
+  pub is_polled : Bool
+  pub deadline : Option ℕ
+  pub code : Option Code
+  pub is_kept : Bool
+  pub received : ℕ
+  pub link_source : ℕ
+  pub time_source : ℕ
+
+-- it needs a link, and no code was given in place of one
+abbrev pub WantsLink : {L : Type 0} → TransferState L → Type 0
+WantsLink t = (t.code ≡ None) × (t.link ≡ None) × (t.failure ≡ None)
+
+-- the codes of a link that can't be had: the host wasn't found, or not reached, or memory wasn't found
+abbrev pub is_link_code : Code → Bool
+is_link_code code.CouldntResolveHost = true
+is_link_code code.CouldntConnect = true
+is_link_code code.OutOfMemory = true
+is_link_code _ = false
+
+-- a deadline that is not after the moment
+abbrev pub IsDue : Option ℕ → ℕ → Type 0
+IsDue None now = ⊥
+IsDue (Some deadline) now = deadline ≤ now
+
+-- the deadline of a request that is first polled at this moment
+abbrev pub first_deadline : RequestValue → ℕ → Option ℕ
+first_deadline request moment =
+    if request.timeout_ms == 0 then None else Some (min (moment + request.timeout_ms) (2 ^ 64 - 1))
+
+-- the transfer once its clock runs, which the first poll starts
+abbrev pub clocked : {L : Type 0} → TransferState L → TransferState L
+clocked t = record t {
+  is_polled = true;
+  deadline = if t.is_polled then t.deadline else first_deadline t.request t.moment
+}
+
+-- the transfer without its link, as it wants a fresh one
+abbrev pub dropped : {L : Type 0} → TransferState L → TransferState L
+dropped t = record t {
+  link = None;
+  attached = None;
+  answers = [];
+  is_reused = false;
+  needs_probe = false;
+  needs_fresh = true;
+  received = 0
+}
+
+-- what a link tells of itself grew by these answers
+abbrev pub LinkTold : {L : Type 0} → (L → List Answer) → Option L → Option L → List Answer → Type 0
+LinkTold history None None more = more ≡ []
+LinkTold history (Some link) (Some next) more = history next ≡ history link ++ more
+LinkTold history _ _ more = ⊥
+
+-- what the link answered since it was attached or probed is what the transfer has of it, in order
+pub record IsServed {L : Type 0} (history : L → List Answer) (t : TransferState L) : Type 0 where
+  pub told : LinkTold history t.attached t.link t.answers
+  pub order : InOrder t.is_reused t.request.bytes t.answers
+  pub received : t.code ≡ None → t.received ≡ length (given t.answers)

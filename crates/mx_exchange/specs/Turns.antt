@@ -1,0 +1,116 @@
+-- What one poll of a transfer does.
+use Rattle.std.specs.Prelude.{◌≡◌, ◌≢◌, ℕ, ◌≤◌, Bool, true, false, List, [], ◌∷◌, ◌++◌, length, Option, Some, None, ◌⊎◌, count_by}
+use Rattle.mx_types.specs.declared.code.Code.TheVariants as code
+use Rattle.mx_body.specs.Decision.{HasStatus}
+use Rattle.mx_body.specs.Decoder.{parts_of}
+use Rattle.mx_body.specs.declared.verdict.Verdict.{Verdict}
+use Rattle.mx_link.specs.Answers.{is_read, is_write, is_blocked, given}
+use Rattle.mx_link.specs.declared.answers.Answer.{Answer}
+use Rattle.mx_link.specs.declared.answers.Answer.TheVariants as said
+use Rattle.futures.specs.declared.task.Poll.{Poll}
+use Rattle.futures.specs.declared.task.Poll.TheVariants as poll
+use Rattle.mx_exchange.specs.Order.{is_connect}
+use Rattle.mx_exchange.specs.Endings.{EndsBy, MustRetry, may_keep}
+use Rattle.mx_exchange.specs.Transfers.{OutcomeValue, TransferState, IsDue, LinkTold, clocked, dropped}
+
+-- no deadline has come, and no code was given in place of a link
+abbrev pub IsOnTime : {L : Type 0} → TransferState L → Type 0
+IsOnTime t = ¬ (IsDue t.deadline t.moment) × (t.failure ≡ None)
+
+-- it may touch its link
+abbrev pub MayTouch : {L : Type 0} → TransferState L → Type 0
+MayTouch t = IsOnTime t × (t.is_paused ≡ false)
+
+-- a reused link was asked for a byte first, and had none: from there on it serves this transfer
+pub record ProbeBlocks {L : Type 0} (history : L → List Answer) (t new : TransferState L) : Type 0 where
+  pub link : L
+  pub next : L
+  pub needed : t.needs_probe ≡ true
+  pub had : t.link ≡ Some link
+  pub told : history next ≡ history link ++ said.ReadBlocked ∷ []
+  pub after : new ≡ record t { link = Some next; attached = Some next; needs_probe = false }
+
+-- it gave a byte, had ended or failed, and is dropped
+pub record ProbeFails {L : Type 0} (history : L → List Answer) (t new : TransferState L) : Type 0 where
+  pub link : L
+  pub gone : L
+  pub answer : Answer
+  pub needed : t.needs_probe ≡ true
+  pub had : t.link ≡ Some link
+  pub told : history gone ≡ history link ++ answer ∷ []
+  pub read : is_read answer ≡ true
+  pub unblocked : answer ≢ said.ReadBlocked
+  pub after : new ≡ dropped t
+
+-- no probe was needed, or it found nothing
+abbrev pub Probed : {L : Type 0} → (L → List Answer) → TransferState L → TransferState L → Type 0
+Probed history t mid = ((t.needs_probe ≡ false) × (mid ≡ t)) ⊎ ProbeBlocks history t mid
+
+-- what the link answered in this poll, and how much it was asked at most
+pub record Answered {L : Type 0} (history : L → List Answer) (t new : TransferState L) : Type 0 where
+  pub more : List Answer
+  pub noted : new.answers ≡ t.answers ++ more
+  pub told : LinkTold history t.link new.link more
+  pub served : t.link ≢ None
+  pub connects : count_by is_connect more ≤ 1
+  pub reads : count_by is_read more ≤ 64
+  pub writes : count_by is_write more ≤ 64
+
+-- only the link and its answers have changed, and the bytes received are those that it gave
+abbrev pub GoesOn : {L : Type 0} → TransferState L → TransferState L → Type 0
+GoesOn t new = new ≡ record t { link = new.link; answers = new.answers; received = length (given new.answers) }
+
+-- the last answer would have waited
+abbrev pub EndsBlocked : List Answer → Type 0
+EndsBlocked more = (earlier : List Answer) × (last : Answer) × (more ≡ earlier ++ last ∷ []) × (is_blocked last ≡ true)
+
+-- it has ended with the outcome
+abbrev pub EndsWith : {L : Type 0} → TransferState L → TransferState L → OutcomeValue → Type 0
+EndsWith t new o =
+    (o.request ≡ t.request) × HasStatus o.wire o.status
+    × (new ≡ record t { link = new.link; answers = new.answers; code = Some o.code; is_kept = new.is_kept; received = length o.wire })
+
+-- it has ended untouched, with no body and no link to keep
+abbrev pub StopsWith : {L : Type 0} → TransferState L → TransferState L → OutcomeValue → Type 0
+StopsWith t new o =
+    EndsWith t new o × (new.link ≡ t.link) × (new.answers ≡ t.answers) × (new.is_kept ≡ false)
+    × (o.wire ≡ given t.answers) × (o.parts ≡ [])
+
+-- it has ended over its link
+pub record EndsOver {L : Type 0} (t new : TransferState L) (o : OutcomeValue) : Type 0 where
+  pub ends : EndsWith t new o
+  pub verdict : Verdict
+  pub cause : EndsBy t.request.method new.answers o.wire verdict o.code
+  pub parts : o.parts ≡ parts_of verdict
+  pub kept : new.is_kept ≡ may_keep verdict o.wire
+
+-- what a poll comes to: it waits, it asks to be polled again, or it ends
+pub data How : Type 0 where
+  waits : How
+  asks : How
+  ends : OutcomeValue → How
+
+-- A poll of a transfer whose clock runs: first the deadline, then the code given in place of a link, then the pause; then the
+-- link, if there is one: its probe, if it was reused, and then what it is asked in order.
+pub data Turns {L : Type 0} (history : L → List Answer) (t new : TransferState L) : How → Type 0 where
+  late : {o : OutcomeValue} → IsDue t.deadline t.moment → o.code ≡ code.OperationTimedout → StopsWith t new o
+      → Turns history t new (ends o)
+  given_up : {o : OutcomeValue} → ¬ (IsDue t.deadline t.moment) → t.failure ≡ Some o.code → StopsWith t new o
+      → Turns history t new (ends o)
+  paused : IsOnTime t → t.is_paused ≡ true → new ≡ t → Turns history t new asks
+  unserved : MayTouch t → t.link ≡ None → new ≡ t → Turns history t new waits
+  refused : MayTouch t → ProbeFails history t new → Turns history t new waits
+  lost : MayTouch t → (mid last : TransferState L) → Probed history t mid → Answered history mid last
+      → MustRetry t.request.method t.is_reused last.answers → new ≡ dropped t → Turns history t new waits
+  blocked : MayTouch t → (mid : TransferState L) → Probed history t mid → (a : Answered history mid new)
+      → EndsBlocked a.more → GoesOn mid new → Turns history t new waits
+  unfinished : MayTouch t → (mid : TransferState L) → Probed history t mid → (a : Answered history mid new)
+      → (count_by is_read a.more ≡ 64) ⊎ (count_by is_write a.more ≡ 64) → GoesOn mid new → Turns history t new asks
+  ended : {o : OutcomeValue} → MayTouch t → (mid : TransferState L) → Probed history t mid → Answered history mid new
+      → EndsOver mid new o → ¬ (MustRetry t.request.method t.is_reused new.answers) → Turns history t new (ends o)
+
+-- what a poll answers, and whether it asked to be polled again
+abbrev pub PollSo : {L : Type 0} → (L → List Answer) → TransferState L → TransferState L → Poll OutcomeValue → Bool → Type 0
+PollSo history old new (poll.Ready o) woken = Turns history (clocked old) new (ends o)
+PollSo history old new poll.Pending woken =
+    Turns history (clocked old) new waits ⊎ (Turns history (clocked old) new asks × (woken ≡ true))

@@ -1,0 +1,9 @@
+//! A transfer: one request over a link, as a future, and its outcome.
+#![tactic(auto)]
+
+mod outcomes;
+mod service;
+mod transfers;
+
+pub use crate::outcomes::Outcome;
+pub use crate::transfers::{Transfer, Want};

@@ -1,0 +1,161 @@
+//! What a transfer ends with.
+ghost use Rattle.std.specs.Prelude.{◌≡◌, ◌<◌, ◌↔◌, ℕ, length, slice_range, Some, IsSome, IfSome, IfOk};
+ghost use Rattle.std.specs.List.{slice_get};
+ghost use Rattle.mx_body.specs.declared.part.Part.{Part};
+ghost use Rattle.mx_body.specs.ChunkedLaws.{AreOrdered, joined};
+ghost use Rattle.mx_body.specs.Decision.{HasStatus};
+ghost use Rattle.mx_exchange.specs.Transfers.{OutcomeValue};
+
+use mx_body::Part as BodyPart;
+use mx_request::Request;
+use mx_types::{Code, Ending, OutOfMemory};
+use std::alloc::Global;
+use std::marker::Model;
+
+/// What a transfer ended with: its request, the bytes of the response, the code, the status, and where the data
+/// of the body stand in the bytes.
+#[derive(Drop)]
+pub struct Outcome {
+    request: Request,
+    wire: Vec<u8>,
+    code: Code,
+    status: u16,
+    parts: Vec<BodyPart>,
+}
+
+impl Model for Outcome {
+    ghost use Rattle.std.specs.Prelude.{length};
+    ghost use Rattle.mx_body.specs.ChunkedLaws.{AreOrdered};
+    ghost use Rattle.mx_exchange.specs.Transfers.{OutcomeValue};
+
+    ghost Value = { OutcomeValue };
+
+    ghost view = { λ o. record {
+        request = o.request;
+        wire = o.wire.items;
+        code = o.code;
+        status = o.status;
+        parts = o.parts.items
+    } };
+
+    ghost invariant = { λ o. AreOrdered 0 (length o.wire.items) o.parts.items };
+}
+
+impl Outcome {
+    pub(crate) fn new(
+        request: Request,
+        wire: Vec<u8>,
+        code: Code,
+        status: u16,
+        parts: Vec<BodyPart>,
+    ) -> Outcome
+        requires { AreOrdered 0 (length wire.items) parts.items }
+        ensures { result ≡ record {
+            request = request;
+            wire = wire.items;
+            code = code;
+            status = status;
+            parts = parts.items } }
+    {
+        Outcome {
+            request,
+            wire,
+            code,
+            status,
+            parts,
+        }
+    }
+
+    /// The request that was handed to the transfer.
+    pub fn request(&self) -> &Request
+        ensures { result.now ≡ self.now.request }
+    {
+        &self.request
+    }
+
+    /// The bytes that the link gave.
+    pub fn wire(&self) -> &[u8]
+        ensures { result.now ≡ self.now.wire }
+    {
+        self.wire.as_slice()
+    }
+
+    /// The code.
+    pub fn code(&self) -> Code
+        ensures { result ≡ self.now.code }
+    {
+        self.code
+    }
+
+    /// The status of the final head, 0 where none was read.
+    pub fn status(&self) -> u16
+        ensures { result ≡ self.now.status }
+    {
+        self.status
+    }
+
+    /// How many parts the body has; 0 where the code isn't `Ok`.
+    pub fn part_count(&self) -> usize
+        ensures { result ≡ length self.now.parts }
+    {
+        self.parts.len()
+    }
+
+    /// A part of the body, counted from 0; `None` past the last.
+    #[tactic(auto, using(crate::proofs::Bodies::ordered_at))]
+    pub fn part(&self, i: usize) -> Option<&[u8]>
+        ensures some { i < length self.now.parts → IfSome result (λ bytes. (p : Part) × (slice_get self.now.parts i ≡ Some p) × (bytes.now ≡ slice_range self.now.wire p.start p.end)) }
+        ensures count { IsSome result ↔ (i < length self.now.parts) }
+    {
+        if i >= self.parts.len() {
+            return None;
+        }
+        let part = self.parts[i];
+        Some(&self.wire[part.start as usize..part.end as usize])
+    }
+
+    /// The length of the body in bytes.
+    #[tactic(auto, using(crate::proofs::Bodies::ordered_at, crate::proofs::Bodies::joined_before, crate::proofs::Bodies::slice_len))]
+    pub fn body_len(&self) -> u32
+        ensures { result ≡ length (joined self.now.wire self.now.parts) }
+    {
+        let mut len = 0;
+        for part in &self.parts {
+            len += part.end - part.start;
+        }
+        len
+    }
+
+    /// The body: its parts, joined.
+    ///
+    /// `OutOfMemory` comes where no room is had for it.
+    #[tactic(auto, using(crate::proofs::Bodies::ordered_at))]
+    pub fn copy_body(&self, alloc: Global) -> Result<Vec<u8>, OutOfMemory>
+        ensures { IfOk result (λ body. body.items ≡ joined self.now.wire self.now.parts) }
+    {
+        let mut body = Vec::new(alloc);
+        for part in &self.parts {
+            body.extend_from_slice(&self.wire[part.start as usize..part.end as usize])?;
+        }
+        Ok(body)
+    }
+}
+
+impl Ending for Outcome {
+    ghost use Rattle.std.specs.Prelude.{length};
+    ghost use Rattle.mx_body.specs.ChunkedLaws.{joined};
+
+    ghost origin = { λ o. o.request.bytes };
+
+    ghost code_of = { λ o. o.code };
+
+    ghost size_of = { λ o. length (joined o.wire o.parts) };
+
+    fn code(&self) -> Code {
+        self.code
+    }
+
+    fn size(&self) -> u32 {
+        self.body_len()
+    }
+}
