@@ -8,7 +8,6 @@ pub mod ChunkedScan
 pub mod ChunkedRfc
 pub mod ChunkedLaws
 pub mod Laws
-
 -- Private: what the functions behind these promise one another.
 pub mod ChunkedPlace
 pub mod Steps

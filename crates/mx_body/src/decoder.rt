@@ -7,9 +7,9 @@ ghost use Rattle.mx_body.specs.Decoder.{IsExact, HasVerdictCode};
 ghost use Rattle.mx_body.specs.declared.decoder.Stand.TheVariants as stand;
 ghost use Rattle.mx_body.specs.declared.verdict.Verdict.TheVariants as verdict;
 
+use crate::heads::{FinalStep, final_head};
 use crate::part::Part;
 use crate::verdict::Verdict;
-use crate::heads::{FinalStep, final_head};
 use crate::whole::decode_whole;
 use mx_types::{Code, Method, OutOfMemory};
 use std::alloc::Global;
@@ -47,10 +47,10 @@ impl Model for Decoder {
     ghost Value = { Decoded };
 
     ghost view = { λ d. record {
-        method = d.method;
-        wire = d.wire.items;
-        ended = d.ended;
-        verdict = d.verdict
+      method = d.method;
+      wire = d.wire.items;
+      ended = d.ended;
+      verdict = d.verdict;
     } };
 
     ghost invariant = { λ d. IsVerdict d.method d.wire.items d.ended d.verdict };
