@@ -16,6 +16,7 @@ use std::marker::Model;
 use std::snapshot::Snapshot;
 
 /// The link that a transfer wants.
+#[derive(Clone, Copy)]
 pub struct Want<'a> {
     /// Where it goes.
     pub endpoint: &'a Endpoint,
