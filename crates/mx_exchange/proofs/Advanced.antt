@@ -113,15 +113,19 @@ module _ {L : Type 0} (history : L → List Answer) where
         → new ≡ record old { link = new.link; answers = new.answers; code = Some c; is_kept = new.is_kept; received = length d.wire }
         → ServeTurn (history link) (history next) old.answers new.answers (served.Over c) rq reused stood w d → Exchanged history old new (ends o)
     Exchange-over next c o has er ew ec st ep kept same t =
-        let end : EndsWith old new o = (er ∙ about, st, same ∙ ap (λ (x : Code). record old { link = new.link; answers = new.answers; code = Some x; is_kept = new.is_kept; received = length d.wire }) (sym ec)
-            ∙ ap (λ (l : List ℕ). record old { link = new.link; answers = new.answers; code = Some o.code; is_kept = new.is_kept; received = length l }) (sym ew)) in
+        let end : EndsWith old new o = (
+          er ∙ about,
+          st,
+          same ∙ ap (λ (x : Code). record old { link = new.link; answers = new.answers; code = Some x; is_kept = new.is_kept; received = length d.wire }) (sym ec)
+              ∙ ap (λ (l : List ℕ). record old { link = new.link; answers = new.answers; code = Some o.code; is_kept = new.is_kept; received = length l }) (sym ew),
+        ) in
         let cause : EndsBy old.request.method new.answers o.wire d.verdict o.code =
-            subst (λ (x : Code). EndsBy old.request.method new.answers o.wire d.verdict x) (sym ec)
-            (subst (λ (l : List ℕ). EndsBy old.request.method new.answers l d.verdict c) (sym ew)
-            (subst (λ (r : RequestValue). EndsBy r.method new.answers d.wire d.verdict c) about t.so.cause)) in
+        subst (λ (x : Code). EndsBy old.request.method new.answers o.wire d.verdict x) (sym ec)
+        (subst (λ (l : List ℕ). EndsBy old.request.method new.answers l d.verdict c) (sym ew)
+        (subst (λ (r : RequestValue). EndsBy r.method new.answers d.wire d.verdict c) about t.so.cause)) in
         over (answered new next (served.Over c) has t)
-            (record { ends = end; verdict = d.verdict; cause = cause; parts = ep; kept = kept ∙ ap (λ (l : List ℕ). may_keep d.verdict l) (sym ew) })
-            (unretried new.answers t.so.final)
+        (record { ends = end; verdict = d.verdict; cause = cause; parts = ep; kept = kept ∙ ap (λ (l : List ℕ). may_keep d.verdict l) (sym ew) })
+        (unretried new.answers t.so.final)
 
   -- what a probe leaves as it was
   kept_by : (t mid : TransferState L) → Probed history t mid → (mid.request ≡ t.request) × (mid.is_reused ≡ t.is_reused) × (dropped mid ≡ dropped t) × (mid.code ≡ t.code)
@@ -198,8 +202,9 @@ module _ {L : Type 0} (history : L → List Answer) where
   -- 28 comes just where the deadline is due
   pub Turns-late : (t new : TransferState L) (o : OutcomeValue) → IfSome t.failure (λ (c : Code). is_link_code c ≡ true) → Turns history t new (ends o) → (o.code ≡ code.OperationTimedout) ↔ IsDue t.deadline t.moment
   Turns-late t new o f (late due is s) = ((λ e. due), (λ d. is))
-  Turns-late t new o f (given_up early is s) =
-      ((λ e. let listed : is_link_code o.code ≡ true = rw is at f in
-          let x : is_link_code code.OperationTimedout ≡ true = ap is_link_code (sym e) ∙ listed in cc),
-       (λ d. absurd (early d)))
+  Turns-late t new o f (given_up early is s) = (
+    (λ e. let listed : is_link_code o.code ≡ true = rw is at f in
+        let x : is_link_code code.OperationTimedout ≡ true = ap is_link_code (sym e) ∙ listed in cc),
+    (λ d. absurd (early d)),
+  )
   Turns-late t new o f (ended m mid p a e r) = ((λ c. absurd (untimely _ _ _ _ _ e.cause c)), (λ d. absurd (m.0.0 d)))

@@ -41,10 +41,13 @@ pub FollowInOrder-push : (reused : Bool) (bytes : List ℕ) (before rest : List 
 FollowInOrder-push reused bytes before [] a h unlast may =
     (rw append-nil at unlast, subst (λ (l : List Answer). MayFollow reused bytes l a) (append-nil before) may, tt)
 FollowInOrder-push reused bytes before (x ∷ rest) a h unlast may =
-    let same : (before ++ x ∷ []) ++ rest ≡ before ++ (x ∷ rest) = append_assoc before (x ∷ []) rest in
-    (h.0, h.1, FollowInOrder-push reused bytes (before ++ x ∷ []) rest a h.2
-        (ap (list_any is_last) same ∙ unlast)
-        (subst (λ (l : List Answer). MayFollow reused bytes l a) (sym same) may))
+    let same : (before ++ x ∷ []) ++ rest ≡ before ++ (x ∷ rest) = append_assoc before (x ∷ []) rest in (
+      h.0,
+      h.1,
+      FollowInOrder-push reused bytes (before ++ x ∷ []) rest a h.2
+          (ap (list_any is_last) same ∙ unlast)
+          (subst (λ (l : List Answer). MayFollow reused bytes l a) (sym same) may),
+    )
 
 -- the last of a list, or the first argument where there is none
 last_of : Answer → List Answer → Answer

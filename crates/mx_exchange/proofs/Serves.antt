@@ -75,9 +75,9 @@ module _ {was is old new next newer : List Answer} {request : RequestValue} {reu
   -- at most one connect
   once_more : {now : Bool} {n : ℕ} {to : Decoded} {how : Step} (t : StepTurn is next new newer how request reused stood now n to) → s.connects + count_by is_connect (t.answer ∷ []) ≤ 1
   once_more t = elim (is_connect t.answer) as (λ b. (is_connect t.answer ≡ b) → s.connects + count_by is_connect (t.answer ∷ []) ≤ 1) [
-      true ↦ λ e. omega (arith, counted is_connect t.answer e, s.unmade (t.asked e))
+    | true ↦ λ e. omega (arith, counted is_connect t.answer e, s.unmade (t.asked e))
     | false ↦ λ e. omega (arith, unconnects t.answer (λ y. let x : true ≡ false = sym y ∙ e in cc), s.once)
-    ] refl
+  ] refl
 
   pub Serve-blocked : {now : Bool} {n : ℕ} {to : Decoded} → reads < 64 → writes < 64 → StepTurn is next new newer step.Blocked request reused stood now n to → ServeTurn was next old newer served.Blocked request reused now n to
   Serve-blocked few fewer t =
@@ -128,9 +128,9 @@ module _ {was is old new next newer : List Answer} {request : RequestValue} {reu
   grown {now} r w t g other er ew =
       let c = longer t.answer t.told t.noted in
       let unstood : now ≡ false → stood ≡ false = λ e. elim stood as (λ b. (stood ≡ b) → stood ≡ false) [
-          true ↦ λ y. let x : true ≡ false = sym (t.kept y) ∙ e in cc
+        | true ↦ λ y. let x : true ≡ false = sym (t.kept y) ∙ e in cc
         | false ↦ λ y. y
-        ] refl in
+      ] refl in
       record {
         connects = s.connects + count_by is_connect (t.answer ∷ []);
         calls = record { more = c.more; told = c.told; noted = c.noted; connects_are = c.connects_are; reads_are = c.reads_are ∙ er; writes_are = c.writes_are ∙ ew };

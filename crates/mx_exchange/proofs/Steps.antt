@@ -79,10 +79,15 @@ module _ (rq : RequestValue) (reused stood : Bool) (w : ℕ) (past : List Answer
   still a none = g.stood_is ∙ ap (λ (b : Bool). reused || b) (sym (any-same is_connected past a none))
 
   may_write : (piece rest : List ℕ) → drop w rq.bytes ≡ piece ++ rest → stood ≡ true → w < length rq.bytes → MayWrite reused rq.bytes past piece
-  may_write piece rest cut st room =
-      (sym g.stood_is ∙ st, (rest, g.sent ∙ ap (λ (l : List ℕ). taken past ++ l) cut,
-          (λ e. let none : length (drop w rq.bytes) ≡ 0 = ap (λ (l : List ℕ). length l) (cut ∙ e) in
-              let some : length rq.bytes - w ≡ 0 = sym (length-drop w rq.bytes) ∙ none in omega (arith, some, room))))
+  may_write piece rest cut st room = (
+    sym g.stood_is ∙ st,
+    (
+      rest,
+      g.sent ∙ ap (λ (l : List ℕ). taken past ++ l) cut,
+      (λ e. let none : length (drop w rq.bytes) ≡ 0 = ap (λ (l : List ℕ). length l) (cut ∙ e) in
+          let some : length rq.bytes - w ≡ 0 = sym (length-drop w rq.bytes) ∙ none in omega (arith, some, room)),
+    ),
+  )
 
   may_read : stood ≡ true → w ≡ length rq.bytes → MayRead reused rq.bytes past
   may_read st all =
@@ -123,7 +128,7 @@ module _ (rq : RequestValue) (reused stood : Bool) (w : ℕ) (past : List Answer
         let stood' : true ≡ stands reused (past ++ said.Connected ∷ []) = sym (ap (λ (b : Bool). reused || b) (any-push is_connected past said.Connected) ∙ all reused (list_any is_connected past)) in
         let may : MayFollow reused rq.bytes past said.Connected = sym g.stood_is ∙ st in
         turn said.Connected step.Connected true w d may (λ x. st) (λ x. refl)
-            (silent said.Connected true may refl refl refl stood', refl, refl) e f
+        (silent said.Connected true may refl refl refl stood', refl, refl) e f
       where
         all : (a b : Bool) → (a || (b || true)) ≡ true
         all true b = refl
@@ -134,13 +139,13 @@ module _ (rq : RequestValue) (reused stood : Bool) (w : ℕ) (past : List Answer
     Turn-connecting st e f =
         let may : MayFollow reused rq.bytes past said.ConnectBlocked = sym g.stood_is ∙ st in
         turn said.ConnectBlocked step.Blocked stood w d may (λ x. st) (λ x. x)
-            (silent said.ConnectBlocked stood may refl refl refl (still said.ConnectBlocked refl), refl) e f
+        (silent said.ConnectBlocked stood may refl refl refl (still said.ConnectBlocked refl), refl) e f
 
     pub Turn-unconnected : stood ≡ false → is ≡ was ++ said.ConnectFailed ∷ [] → new ≡ past ++ said.ConnectFailed ∷ [] → StepTurn was is past new (step.Over code.CouldntConnect) rq reused stood stood w d
     Turn-unconnected st e f =
         let may : MayFollow reused rq.bytes past said.ConnectFailed = sym g.stood_is ∙ st in
         turn said.ConnectFailed (step.Over code.CouldntConnect) stood w d may (λ x. st) (λ x. x)
-            (record { cause = faulty said.ConnectFailed code.CouldntConnect refl refl; final = unlost said.ConnectFailed refl }) e f
+        (record { cause = faulty said.ConnectFailed code.CouldntConnect refl refl; final = unlost said.ConnectFailed refl }) e f
 
     module _ (st : stood ≡ true) (room : w < length rq.bytes) where
       pub Turn-wrote : (n : ℕ) → n ≤ length (drop w rq.bytes) → is ≡ was ++ said.Took (take n (drop w rq.bytes)) ∷ [] → new ≡ past ++ said.Took (take n (drop w rq.bytes)) ∷ []
@@ -235,8 +240,10 @@ module _ (rq : RequestValue) (reused stood : Bool) (w : ℕ) (past : List Answer
               wire = wire;
               unended = unended;
               more = m;
-              undecided = (any-same is_last past (said.Gave piece) refl ∙ g.undecided.0,
-                  subst (λ (v : Verdict). IsVerdict rq.method (given (past ++ said.Gave piece ∷ [])) false v) m (exact-past to rq.method _ false exact method wire unended));
+              undecided = (
+                any-same is_last past (said.Gave piece) refl ∙ g.undecided.0,
+                subst (λ (v : Verdict). IsVerdict rq.method (given (past ++ said.Gave piece ∷ [])) false v) m (exact-past to rq.method _ false exact method wire unended),
+              );
             } in
             turn (said.Gave piece) step.Heard stood w to heard (λ x. cc) (λ x. x) (gone, refl) e f
 
@@ -260,7 +267,7 @@ module _ (rq : RequestValue) (reused stood : Bool) (w : ℕ) (past : List Answer
           ended_over c is_c =
               let wire : to.wire ≡ given (past ++ said.ReadEnded ∷ []) = ap (λ (x : Decoded). x.wire) fed ∙ g.wire ∙ sym (given-same past said.ReadEnded refl) in
               turn said.ReadEnded (step.Over c) stood w to heard (λ x. cc) (λ x. x)
-                (record { cause = by_end past (refl, g.undecided) wire (exact-past to rq.method to.wire true exact (ap (λ (x : Decoded). x.method) fed ∙ g.method) refl (ap (λ (x : Decoded). x.ended) fed)) is_c; final = unrepeated said.ReadEnded refl never }) e f
+              (record { cause = by_end past (refl, g.undecided) wire (exact-past to rq.method to.wire true exact (ap (λ (x : Decoded). x.method) fed ∙ g.method) refl (ap (λ (x : Decoded). x.ended) fed)) is_c; final = unrepeated said.ReadEnded refl never }) e f
 
           pub Turn-ended_whole : stand.Complete ≡ stand_of to.verdict → StepTurn was is past new (step.Over code.Ok) rq reused stood stood w to
           Turn-ended_whole s = ended_over code.Ok (code-complete to.verdict s)

@@ -63,7 +63,7 @@ first_deadline request moment =
 abbrev pub clocked : {L : Type 0} → TransferState L → TransferState L
 clocked t = record t {
   is_polled = true;
-  deadline = if t.is_polled then t.deadline else first_deadline t.request t.moment
+  deadline = if t.is_polled then t.deadline else first_deadline t.request t.moment;
 }
 
 -- the transfer without its link, as it wants a fresh one
@@ -75,7 +75,7 @@ dropped t = record t {
   is_reused = false;
   needs_probe = false;
   needs_fresh = true;
-  received = 0
+  received = 0;
 }
 
 -- what a link tells of itself grew by these answers

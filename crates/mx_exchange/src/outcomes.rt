@@ -31,11 +31,11 @@ impl Model for Outcome {
     ghost Value = { OutcomeValue };
 
     ghost view = { λ o. record {
-        request = o.request;
-        wire = o.wire.items;
-        code = o.code;
-        status = o.status;
-        parts = o.parts.items
+      request = o.request;
+      wire = o.wire.items;
+      code = o.code;
+      status = o.status;
+      parts = o.parts.items;
     } };
 
     ghost invariant = { λ o. AreOrdered 0 (length o.wire.items) o.parts.items };
@@ -51,11 +51,12 @@ impl Outcome {
     ) -> Outcome
         requires { AreOrdered 0 (length wire.items) parts.items }
         ensures { result ≡ record {
-            request = request;
-            wire = wire.items;
-            code = code;
-            status = status;
-            parts = parts.items } }
+          request = request;
+          wire = wire.items;
+          code = code;
+          status = status;
+          parts = parts.items;
+        } }
     {
         Outcome {
             request,

@@ -14,7 +14,9 @@ use std::snapshot::Snapshot;
 
 /// The most reads and writes in one poll, and the most calls of both and one to connect.
 const MOST_READS: usize = 64;
+
 const MOST_WRITES: usize = 64;
+
 const MOST_CALLS: usize = 128;
 
 /// The most bytes of one read.

@@ -16,6 +16,7 @@ use std::marker::Model;
 use std::snapshot::Snapshot;
 
 /// The link that a transfer wants.
+#[derive(Clone, Copy)]
 pub struct Want<'a> {
     /// Where it goes.
     pub endpoint: &'a Endpoint,
@@ -64,35 +65,35 @@ impl<L: Link> Model for Transfer<L> {
     ghost Value = { TransferState L };
 
     ghost view = { λ t. record {
-        request = t.about.value;
-        link = option_map (λ s. s.link) t.service;
-        attached = option_map (λ s. s.attached.value) t.service;
-        answers = unwrap_or (option_map (λ s. s.answers) t.service) [];
-        is_reused = unwrap_or (option_map (λ s. s.is_reused) t.service) false;
-        needs_probe = unwrap_or (option_map (λ s. s.needs_probe) t.service) false;
-        needs_fresh = t.needs_fresh;
-        is_started = t.is_started;
-        failure = t.failure;
-        moment = t.moment;
-        is_paused = t.is_paused;
-        is_polled = t.is_polled;
-        deadline = t.deadline;
-        code = t.code;
-        is_kept = t.is_kept;
-        received = unwrap_or (option_map (λ w. length w.decoder.wire) t.work) t.received;
-        link_source = t.link_source.id;
-        time_source = t.time_source.id
+      request = t.about.value;
+      link = option_map (λ s. s.link) t.service;
+      attached = option_map (λ s. s.attached.value) t.service;
+      answers = unwrap_or (option_map (λ s. s.answers) t.service) [];
+      is_reused = unwrap_or (option_map (λ s. s.is_reused) t.service) false;
+      needs_probe = unwrap_or (option_map (λ s. s.needs_probe) t.service) false;
+      needs_fresh = t.needs_fresh;
+      is_started = t.is_started;
+      failure = t.failure;
+      moment = t.moment;
+      is_paused = t.is_paused;
+      is_polled = t.is_polled;
+      deadline = t.deadline;
+      code = t.code;
+      is_kept = t.is_kept;
+      received = unwrap_or (option_map (λ w. length w.decoder.wire) t.work) t.received;
+      link_source = t.link_source.id;
+      time_source = t.time_source.id;
     } };
 
     ghost invariant = { λ t. record {
-        alive : (t.code ≡ None → IsSome t.work) × (IsSome t.work → t.code ≡ None);
-        kept : (t.is_kept ≡ true) → t.work ≡ None;
-        failed : IfSome t.failure (λ c. is_link_code c ≡ true);
-        about : IfSome t.work (λ w. w.request ≡ t.about.value);
-        told : IfSome t.service (λ s. L.history s.link ≡ L.history s.attached.value ++ s.answers);
-        order : IfSome t.service (λ s. InOrder s.is_reused t.about.value.bytes s.answers);
-        unprobed : IfSome t.service (λ s. (s.needs_probe ≡ true) → s.answers ≡ []);
-        going : IfSome t.work (λ w. MatchOption t.service (IsGoing w.request false false 0 [] w.decoder) (λ s. IsGoing w.request s.is_reused s.stands s.written s.answers w.decoder))
+      alive : (t.code ≡ None → IsSome t.work) × (IsSome t.work → t.code ≡ None);
+      kept : (t.is_kept ≡ true) → t.work ≡ None;
+      failed : IfSome t.failure (λ c. is_link_code c ≡ true);
+      about : IfSome t.work (λ w. w.request ≡ t.about.value);
+      told : IfSome t.service (λ s. L.history s.link ≡ L.history s.attached.value ++ s.answers);
+      order : IfSome t.service (λ s. InOrder s.is_reused t.about.value.bytes s.answers);
+      unprobed : IfSome t.service (λ s. (s.needs_probe ≡ true) → s.answers ≡ []);
+      going : IfSome t.work (λ w. MatchOption t.service (IsGoing w.request false false 0 [] w.decoder) (λ s. IsGoing w.request s.is_reused s.stands s.written s.answers w.decoder));
     } };
 }
 
@@ -104,24 +105,25 @@ impl<L: Link> Transfer<L> {
     /// A transfer of the request. It takes no memory; what its polls grow comes from `alloc`.
     pub fn new(alloc: Global, request: Request) -> Transfer<L>
         ensures { result ≡ record {
-            request = request;
-            link = None;
-            attached = None;
-            answers = [];
-            is_reused = false;
-            needs_probe = false;
-            needs_fresh = false;
-            is_started = false;
-            failure = None;
-            moment = 0;
-            is_paused = false;
-            is_polled = false;
-            deadline = None;
-            code = None;
-            is_kept = false;
-            received = 0;
-            link_source = result.link_source;
-            time_source = result.time_source } }
+          request = request;
+          link = None;
+          attached = None;
+          answers = [];
+          is_reused = false;
+          needs_probe = false;
+          needs_fresh = false;
+          is_started = false;
+          failure = None;
+          moment = 0;
+          is_paused = false;
+          is_polled = false;
+          deadline = None;
+          code = None;
+          is_kept = false;
+          received = 0;
+          link_source = result.link_source;
+          time_source = result.time_source;
+        } }
     {
         let decoder = Decoder::new(alloc, request.method());
         Transfer {
@@ -202,12 +204,13 @@ impl<L: Link> Transfer<L> {
         requires wanted { WantsLink self.old }
         requires fresh { self.old.needs_fresh ≡ true → is_reused ≡ false }
         ensures { self.new ≡ record self.old {
-            link = Some link;
-            attached = Some link;
-            answers = [];
-            is_reused = is_reused;
-            needs_probe = is_reused;
-            is_started = true } }
+          link = Some link;
+          attached = Some link;
+          answers = [];
+          is_reused = is_reused;
+          needs_probe = is_reused;
+          is_started = true;
+        } }
     {
         self.service = Some(Service::new(link, is_reused));
         self.is_started = true;
