@@ -3,6 +3,8 @@
 
 mod outcomes;
 mod service;
+#[cfg(test)]
+mod tests;
 mod transfers;
 
 pub use crate::outcomes::Outcome;
