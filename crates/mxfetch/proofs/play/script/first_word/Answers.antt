@@ -8,7 +8,7 @@ pub returns-in-None : goal.returns-in-None
 returns-in-None c = uncut_at 32 _ _ c.space_at.ensures c.in-None.is
 
 pub returns-in-Some : goal.returns-in-Some
-returns-in-Some c = 
+returns-in-Some c =
     let at = c.in-Some.at in
     let text = c.args.text.now in
     let all : take (length text - (at + 1)) (drop (at + 1) text) ≡ drop (at + 1) text =
