@@ -2,3 +2,4 @@ mod BodyParts
 mod BodyReading
 mod BodyRun
 mod PlayClaims
+mod PlayWords

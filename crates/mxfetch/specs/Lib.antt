@@ -10,3 +10,4 @@ pub mod BodyRun
 pub mod PlayScript
 pub mod PlayTexts
 pub mod PlayTurns
+pub mod PlayRun

@@ -1,0 +1,10 @@
+use Rattle.mxfetch.proofs.PlayWords.{named_is, not_named}
+use Rattle.std.proofs.Common.{◌∙◌, ap, subst, ℕ, List}
+use Rattle.mxfetch.specs.PlayScript.{named}
+use Rattle.mxfetch.proofs.play.script.named.Goals as goal
+
+pub returns-in-Ok : goal.returns-in-Ok
+returns-in-Ok c = named_is _ _ c.name_of.ensures ∙ ap named c.in-Ok.ensures.cases.0
+
+pub returns-in-Err : goal.returns-in-Err
+returns-in-Err c = not_named _ c.in-Err.ensures.cases.0
