@@ -7,9 +7,6 @@ ghost use Rattle.mx_body.specs.Decoder.{IsExact, HasVerdictCode};
 ghost use Rattle.mx_body.specs.declared.decoder.Stand.TheVariants as stand;
 ghost use Rattle.mx_body.specs.declared.verdict.Verdict.TheVariants as verdict;
 
-#[cfg(test)]
-mod tests;
-
 use crate::heads::{FinalStep, final_head};
 use crate::part::Part;
 use crate::verdict::Verdict;

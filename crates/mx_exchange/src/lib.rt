@@ -3,8 +3,6 @@
 
 mod outcomes;
 mod service;
-#[cfg(test)]
-mod tests;
 mod transfers;
 
 pub use crate::outcomes::Outcome;
