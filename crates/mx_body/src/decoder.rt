@@ -15,6 +15,9 @@ use mx_types::{Code, Method, OutOfMemory};
 use std::alloc::Global;
 use std::marker::Model;
 
+#[cfg(test)]
+mod tests;
+
 /// What the bytes that were fed come to.
 #[derive(Clone, Copy, Debug, PartialEq, Eq)]
 pub enum Stand {
