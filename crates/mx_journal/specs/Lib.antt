@@ -3,6 +3,7 @@ pub mod Core
 pub mod History
 pub mod JournalTable
 pub mod Laws
+pub mod Receipts
 pub mod Replies
 pub mod Rows
 pub mod Slots
