@@ -9,3 +9,4 @@ pub mod LegalLaws
 pub mod Messages
 pub mod SlotLaws
 pub mod ReceiptLaws
+pub mod Remains
