@@ -10,3 +10,4 @@ pub mod Messages
 pub mod SlotLaws
 pub mod ReceiptLaws
 pub mod Remains
+pub mod Defined

@@ -1,9 +1,9 @@
 -- Receipts and the journal.
-use Rattle.std.proofs.Common.{◌≡◌, ℕ, ◌+◌, ◌-◌, ◌<◌, ◌≤◌, ◌∙◌, sym, refl, ap, subst, List, [], ◌∷◌, ◌++◌, length, Bool, true, false, cond, arith, inl, inr, zero-add}
-use Rattle.std.specs.Prelude.{zero, suc, take, slice_get, Option, Some, None}
-use Rattle.std.specs.List.{filter, filter_map, cons_option, count_by, AllByRecursion}
+use Rattle.std.proofs.Common.{◌≡◌, ℕ, ◌+◌, ◌-◌, ◌<◌, ◌≤◌, ◌∙◌, sym, refl, ap, subst, List, [], ◌∷◌, length, Bool, true, false, cond, arith, inl, inr, zero-add}
+use Rattle.std.specs.Prelude.{zero, suc, take, slice_get, Option, Some}
+use Rattle.std.specs.List.{filter_map, cons_option, AllByRecursion}
 use Rattle.std.specs.Option.{IsSome, IsSomeAnd}
-use Rattle.std.proofs.lemmas.Bool.{cases_eq, cases_lt, false≢true}
+use Rattle.std.proofs.lemmas.Bool.{cases_eq}
 use Rattle.std.proofs.lemmas.List.{take-take}
 use Rattle.std.proofs.lemmas.List.Sums.{sum_by-cons}
 use Rattle.mx_types.specs.declared.event.Who.{Who}
@@ -11,7 +11,7 @@ use Rattle.mx_types.specs.declared.event.Event.{Event}
 use Rattle.mx_types.specs.declared.call.Receipt.{Receipt}
 use Rattle.mx_journal.specs.History.{Opening, same_maker, made_by}
 use Rattle.mx_journal.specs.Answers.{answer, is_ready}
-use Rattle.mx_journal.specs.Receipts.{comes_with_event, lacks_memory, is_poll, mark, IsAnsweredWithEvent, Fits, CutsRise, with_events, events_of, events_by, IsOfMaker}
+use Rattle.mx_journal.specs.Receipts.{comes_with_event, mark, IsAnsweredWithEvent, CutsRise, with_events, events_of, events_by, IsOfMaker}
 use Rattle.mx_journal.specs.Laws.{FitsByItsCut, EachOnceByCount}
 use Rattle.mx_journal.proofs.Lists.{Each-map, Each-both}
 

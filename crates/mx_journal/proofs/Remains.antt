@@ -1,8 +1,8 @@
 -- What of the queue and of the endings remains after an end or a removal.
-use Rattle.std.proofs.Common.{◌≡◌, ℕ, ◌∙◌, sym, refl, ap, subst, List, [], ◌∷◌, ◌++◌, append-nil, Bool, true, false, map, inl, inr}
+use Rattle.std.proofs.Common.{◌≡◌, ℕ, ◌∙◌, sym, refl, ap, List, [], ◌∷◌, ◌++◌, append-nil, Bool, true, false, map, inl, inr}
 use Rattle.std.specs.Prelude.{not, ◌||◌}
 use Rattle.std.specs.List.{filter, list_any, AllByRecursion}
-use Rattle.std.proofs.lemmas.Bool.{cases_Bool, false_from_ne_true, false≢true, not-true, not_from_false, or_left, or_right}
+use Rattle.std.proofs.lemmas.Bool.{cases_Bool, false_from_ne_true, false≢true, not-true, or_left, or_right}
 use Rattle.std.proofs.lemmas.List.{map-append}
 use Rattle.mx_types.specs.declared.code.Code.{Code}
 use Rattle.mx_types.specs.declared.names.HandleId.{HandleId}
@@ -15,7 +15,7 @@ use Rattle.mx_journal.specs.History.{Message, same_ticket, occurs, removes, ends
 use Rattle.mx_journal.specs.Core.{queued, message, still_running, still_waiting}
 use Rattle.mx_journal.specs.Laws.{then}
 use Rattle.mx_journal.proofs.Snoc.{occurs-snoc}
-use Rattle.mx_journal.proofs.Lists.{Each-map, filter_true, filter_where, has-filter, has-append_left, same-is, same-refl}
+use Rattle.mx_journal.proofs.Lists.{filter_true, filter_where, has-filter, has-append_left, same-is, same-refl}
 use Rattle.mx_journal.proofs.Histories.{tickets, tickets-removed, waiting-then}
 use Rattle.mx_journal.proofs.Tables.{has-kept}
 use Rattle.mx_journal.proofs.Controls.{runs-then, filter_messages, wait_tickets}

@@ -1,8 +1,8 @@
 -- The slots of a legal history.
 use Rattle.std.proofs.Common.{◌≡◌, ℕ, ◌+◌, ◌<◌, ◌≤◌, ◌∙◌, sym, refl, ap, subst, List, [], ◌∷◌, ◌++◌, append-nil, append_assoc, length, Bool, true, false, cond, map, arith, inl, inr}
 use Rattle.std.specs.Prelude.{zero, suc, not, ◌&&◌, ◌||◌, ◌==◌, nat_lt, Option, Some, None}
-use Rattle.std.specs.List.{filter, list_any, find, AllByRecursion}
-use Rattle.std.specs.Option.{IsSomeAnd, option_map, option_to_list, unwrap_or}
+use Rattle.std.specs.List.{filter, list_any, find}
+use Rattle.std.specs.Option.{IsSomeAnd, option_map, unwrap_or}
 use Rattle.std.proofs.lemmas.Bool.{cases_eq, cases_Bool, eqb-true, eqb-false, ne_eqb, ltb-true, and_parts, false_from_ne_true, false≢true, or_left, or_right}
 use Rattle.std.proofs.lemmas.List.{map-append, length-map}
 use Rattle.std.proofs.lemmas.List.Folds.{list_any-append}
@@ -17,8 +17,8 @@ use Rattle.mx_journal.specs.History.{Addition, same_ticket, added, additions, ha
 use Rattle.mx_journal.specs.Slots.{has_slot, free_from, lowest_free, slots_after, slots_from, slots, slot_of}
 use Rattle.mx_journal.specs.Laws.{then, IsOncePerSlot, HasOwnSlots, SlotsDiffer, IsLeastFree, AdditionTakesLeastSlot}
 use Rattle.mx_journal.proofs.Snoc.{legal-snoc}
-use Rattle.mx_journal.proofs.Lists.{Each-map, Each-append, Each-filter, filter_true, filter_idle, same-refl}
-use Rattle.mx_journal.proofs.Histories.{tickets, Laws, laws, laws_none, below}
+use Rattle.mx_journal.proofs.Lists.{Each-append, Each-filter, filter_true, filter_idle, same-refl}
+use Rattle.mx_journal.proofs.Histories.{tickets, laws, below}
 use Rattle.mx_journal.proofs.Controls.{queued-filter, tickets-then}
 use Rattle.mx_journal.proofs.SlotLists.{free_from-none, free_from-taken, free_from-free, lowest_free-is}
 

@@ -1,5 +1,6 @@
 pub mod Answers
 pub mod Core
+pub mod Definitions
 pub mod History
 pub mod JournalTable
 pub mod Laws

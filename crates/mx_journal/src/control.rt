@@ -218,11 +218,12 @@ impl<Q: Work + Drop, O: Ending + Drop> Control<Q, O> {
         };
         self.table.enter(event);
         let (_, ending) = self.endings.remove(0);
+        let left = self.endings.len() as u32;
         InfoReply::Message {
             handle: row.handle,
             ticket,
             ending,
-            left: self.endings.len() as u32,
+            left,
         }
     }
 
