@@ -7,3 +7,7 @@ pub mod Controls
 pub mod SlotLists
 pub mod LegalLaws
 pub mod Messages
+pub mod SlotLaws
+pub mod ReceiptLaws
+pub mod Remains
+pub mod Defined

@@ -32,6 +32,11 @@ filter_true (x ∷ xs) = ap (λ z. x ∷ z) (filter_true xs)
 pub filter_idle : {X : Type 0} (xs : List X) → filter (λ _. true) xs ++ [] ≡ xs
 filter_idle xs = append-nil _ ∙ filter_true xs
 
+-- tests that agree on each element keep the same
+pub filter_where : {X : Type 0} (P : X → Type 0) (p q : X → Bool) → ((x : X) → P x → p x ≡ q x) → (xs : List X) → AllByRecursion P xs → filter p xs ≡ filter q xs
+filter_where P p q h [] a = refl
+filter_where P p q h (x ∷ xs) a = ap (λ b. cond b (x ∷ filter p xs) (filter p xs)) (h x a.0) ∙ ap (λ z. cond (q x) (x ∷ z) z) (filter_where P p q h xs a.1)
+
 -- tickets
 pub same-is : (t u : Ticket) → same_ticket t u ≡ true → t ≡ u
 same-is t u h = let T : ℕ → Ticket = λ n. record { 0 = n } in ap T (eqb-true t.0 u.0 h)

@@ -18,14 +18,10 @@ use Rattle.mx_journal.specs.History.{Message, same_ticket, occurs, removes, read
 use Rattle.mx_journal.specs.Rows.{is_read}
 use Rattle.mx_journal.specs.Laws.{then, done_of, read_of, done_tickets, read_tickets, is_removed_unread, IsOncePerTicket, FirstInFirstOut}
 use Rattle.mx_journal.proofs.Snoc.{occurs-snoc, or_false}
-use Rattle.mx_journal.proofs.Lists.{Each-map, Each-append, filter_idle, filter_true, same-is, same-refl}
+use Rattle.mx_journal.proofs.Lists.{Each-map, Each-append, filter_idle, filter_true, filter_where, same-is, same-refl}
 use Rattle.mx_journal.proofs.Histories.{tickets, Laws, laws-then, laws_none, waiting-then, running-has, first_unread}
 use Rattle.mx_journal.proofs.Controls.{once-then, read_rest, filter_messages, wait_tickets}
 use Rattle.mx_journal.proofs.LegalLaws.{unremoved}
-
-filter_where : {X : Type 0} (P : X → Type 0) (p q : X → Bool) → ((x : X) → P x → p x ≡ q x) → (xs : List X) → AllByRecursion P xs → filter p xs ≡ filter q xs
-filter_where P p q h [] a = refl
-filter_where P p q h (x ∷ xs) a = ap (λ b. cond b (x ∷ filter p xs) (filter p xs)) (h x a.0) ∙ ap (λ z. cond (q x) (x ∷ z) z) (filter_where P p q h xs a.1)
 
 each_any : {X : Type 0} (xs : List X) → AllByRecursion (λ x. Unit {0}) xs
 each_any [] = tt

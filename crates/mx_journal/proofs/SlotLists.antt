@@ -55,6 +55,10 @@ pub has_slot-rows : (n : ℕ) (rows : List Row) → list_any (λ r. r.slot == n)
 has_slot-rows n [] = refl
 has_slot-rows n (r ∷ rows) = ap (λ b. (r.slot == n) || b) (has_slot-rows n rows)
 
+pub free_from-none : (n : ℕ) (s : List (Ticket × ℕ)) → free_from n 0 s ≡ None
+unfolding free_from
+free_from-none n s = refl
+
 pub free_from-taken : (n k : ℕ) (s : List (Ticket × ℕ)) → has_slot n s ≡ true → free_from n (suc k) s ≡ free_from (n + 1) k s
 unfolding free_from
 free_from-taken n k s h = rw h refl

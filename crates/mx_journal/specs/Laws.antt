@@ -1,7 +1,7 @@
 -- What every legal history keeps: the statements of the laws.
-use Rattle.std.specs.Prelude.{ℕ, ◌≤◌, ◌≡◌, ◌||◌, Bool, true, false, Some, None, Option, List, [], ◌∷◌, ◌++◌, length, map, not, ◌&&◌}
+use Rattle.std.specs.Prelude.{ℕ, ◌<◌, ◌≤◌, ◌≡◌, ◌||◌, Bool, true, false, Some, None, Option, List, [], ◌∷◌, ◌++◌, length, map, take, not, ◌&&◌}
 use Rattle.std.specs.List.{AllByRecursion, count_by, filter, flat_map, list_any}
-use Rattle.std.specs.Option.{is_some, option_to_list}
+use Rattle.std.specs.Option.{is_some, option_to_list, IsSomeAnd}
 use Rattle.mx_types.specs.declared.names.HandleId.{HandleId}
 use Rattle.mx_types.specs.declared.names.Ticket.{Ticket}
 use Rattle.mx_types.specs.declared.event.Who.{Who}
@@ -9,8 +9,11 @@ use Rattle.mx_types.specs.declared.event.What.{What}
 use Rattle.mx_types.specs.declared.event.What.TheVariants as what
 use Rattle.mx_types.specs.declared.event.Event.{Event}
 use Rattle.mx_types.specs.declared.call.Call.{Call}
-use Rattle.mx_journal.specs.History.{HasRoomForDue, Opening, same_handle, same_ticket, occurs, removes, ends, reads, pauses, resumes, added, waiting, phase_of, is_legal, may_follow, has_ticket}
+use Rattle.mx_types.specs.declared.call.Receipt.{Receipt}
+use Rattle.mx_journal.specs.History.{HasRoomForDue, Opening, same_handle, same_ticket, occurs, removes, ends, reads, pauses, resumes, added, waiting, phase_of, is_legal, may_follow, has_ticket, made_by}
 use Rattle.mx_journal.specs.Core.{IsInOrder}
+use Rattle.mx_journal.specs.Receipts.{Fits, CutsRise, with_events, events_of, events_by, IsOfMaker}
+use Rattle.mx_journal.specs.Slots.{has_slot, slots, slot_of}
 use Rattle.mx_journal.specs.Answers.{answer, ticket_of, handle_of, state_at, state_of, look_of, is_ready}
 use Rattle.mx_types.specs.declared.reply.Look.{Look}
 use Rattle.mx_types.specs.declared.reply.Look.TheVariants as look
@@ -124,3 +127,39 @@ StateAndLookAgree = (j : List Event) → is_legal j ≡ true → (h : HandleId) 
 -- a poll that may return may return later too
 abbrev pub ReadyStays : Type 0
 ReadyStays = (mark : ℕ) (j k : List Event) → is_ready mark j ≡ true → is_ready mark (j ++ k) ≡ true
+
+-- no slot stands twice
+abbrev pub IsOncePerSlot : List (Ticket × ℕ) → Type 0
+IsOncePerSlot [] = Unit {0}
+IsOncePerSlot (s ∷ slots) = (has_slot s.1 slots ≡ false) × IsOncePerSlot slots
+
+-- the added tickets, in order, have slots of their own below 256
+pub record HasOwnSlots (j : List Event) : Type 0 where
+  pub tickets : map (λ s. s.0) (slots j) ≡ map (λ a. a.ticket) (added j)
+  pub below : AllByRecursion (λ s. s.1 < 256) (slots j)
+  pub differ : IsOncePerSlot (slots j)
+
+abbrev pub SlotsDiffer : Type 0
+SlotsDiffer = (j : List Event) → is_legal j ≡ true → HasOwnSlots j
+
+-- the least slot that no ticket has
+pub record IsLeastFree (slots : List (Ticket × ℕ)) (n : ℕ) : Type 0 where
+  pub below : n < 256
+  pub free : has_slot n slots ≡ false
+  pub least : (k : ℕ) → k < n → has_slot k slots ≡ true
+
+-- an addition takes the least slot that is free before it
+abbrev pub AdditionTakesLeastSlot : Type 0
+AdditionTakesLeastSlot = (j : List Event) (w : Who) (h : HandleId) (t : Ticket) → is_legal (then j w (what.Added h t)) ≡ true
+    → IsSomeAnd (slot_of t (then j w (what.Added h t))) (IsLeastFree (slots j))
+
+-- whether a receipt fits is told by the events before its cut
+abbrev pub FitsByItsCut : Type 0
+FitsByItsCut = (opening : Opening) (w : Who) (earlier : List Receipt) (r : Receipt) (j k : List Event) → take r.cut j ≡ take r.cut k
+    → Fits opening w earlier r j → Fits opening w earlier r k
+
+-- where cuts rise along the receipts with an event, an event of the maker stands before each, and they are as many as
+-- the maker's events, then these are the maker's events, each once, in order
+abbrev pub EachOnceByCount : Type 0
+EachOnceByCount = (w : Who) (mine : List Receipt) (j : List Event) → CutsRise 0 (with_events mine) → AllByRecursion (IsOfMaker w j) (with_events mine)
+    → length (with_events mine) ≡ made_by w j → events_by w j ≡ events_of (with_events mine) j

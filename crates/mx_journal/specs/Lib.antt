@@ -1,8 +1,10 @@
 pub mod Answers
 pub mod Core
+pub mod Definitions
 pub mod History
 pub mod JournalTable
 pub mod Laws
+pub mod Receipts
 pub mod Replies
 pub mod Rows
 pub mod Slots

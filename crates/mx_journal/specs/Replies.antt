@@ -1,5 +1,5 @@
 -- The reply that a call's answer stands for.
-use Rattle.std.specs.Prelude.{ℕ, ◌≡◌, Bool, true, false, not, List, [], ◌∷◌, ◌++◌, Option, Some, None}
+use Rattle.std.specs.Prelude.{ℕ, ◌≡◌, Bool, true, false, List, [], ◌∷◌, ◌++◌, Option, Some, None}
 use Rattle.mx_types.specs.declared.code.Code.{Code}
 use Rattle.mx_types.specs.declared.event.What.{What}
 use Rattle.mx_types.specs.declared.event.What.TheVariants as what
@@ -9,8 +9,6 @@ use Rattle.mx_journal.specs.declared.replies.InfoReply.TheVariants as info
 use Rattle.mx_journal.specs.declared.replies.FinishReply.{FinishReply}
 use Rattle.mx_journal.specs.declared.replies.FinishReply.TheVariants as finish
 use Rattle.mx_journal.specs.Core.{Claimed}
-use Rattle.std.specs.List.{filter}
-use Rattle.mx_journal.specs.History.{same_ticket}
 use Rattle.mx_types.specs.declared.names.Ticket.{Ticket}
 use Rattle.mx_types.specs.declared.reply.Reply.{Reply}
 use Rattle.mx_types.specs.declared.reply.Reply.TheVariants as reply
@@ -65,33 +63,16 @@ reply_of_wakeup wakeup.Ok = reply.Ok
 reply_of_wakeup wakeup.Failure = reply.Failure
 reply_of_wakeup wakeup.OutOfMemory = reply.OutOfMemory
 
--- what is not under the ticket
-abbrev pub without : {X : Type 0} → Option Ticket → List (Ticket × X) → List (Ticket × X)
-without None xs = xs
-without (Some t) xs = filter (λ x. not (same_ticket x.0 t)) xs
-
--- the ticket, where it was removed
-abbrev pub removed : RemoveReply → Option Ticket → Option Ticket
-removed remove.Removed t = t
-removed remove.NotAdded t = None
-removed remove.OutOfMemory t = None
-
 abbrev pub reply_of_finish : {Q O : Type 0} → FinishReply Q O → Reply
 reply_of_finish finish.Recorded = reply.Recorded
 reply_of_finish (finish.Stale _) = reply.Stale
 reply_of_finish (finish.OutOfMemory _ _) = reply.OutOfMemory
 
--- the ticket, where its end was recorded
-abbrev pub recorded : {Q O : Type 0} → FinishReply Q O → Ticket → Option Ticket
-recorded finish.Recorded t = Some t
-recorded (finish.Stale _) t = None
-recorded (finish.OutOfMemory _ _) t = None
-
--- the endings after an end: a recorded one comes last
-abbrev pub endings_finished : {Q O : Type 0} → FinishReply Q O → Ticket → O → List (Ticket × O) → List (Ticket × O)
-endings_finished finish.Recorded t o endings = endings ++ (t, o) ∷ []
-endings_finished (finish.Stale _) t o endings = endings
-endings_finished (finish.OutOfMemory _ _) t o endings = endings
+-- the ending that comes last after an end: a recorded one
+abbrev pub ending_recorded : {Q O : Type 0} → FinishReply Q O → Ticket → O → List (Ticket × O)
+ending_recorded finish.Recorded t o = (t, o) ∷ []
+ending_recorded (finish.Stale _) t o = []
+ending_recorded (finish.OutOfMemory _ _) t o = []
 
 -- what is not recorded is handed back
 abbrev pub IsHandedBack : {Q O : Type 0} → Claimed → O → FinishReply Q O → Type 0

@@ -3,9 +3,9 @@ ghost use Rattle.std.specs.Prelude.{map, ◌≡◌, ◌≤◌, ◌++◌, ◌∷�
 ghost use Rattle.std.specs.List.{AllByRecursion};
 ghost use Rattle.mx_types.specs.declared.call.Call.{Call};
 ghost use Rattle.mx_journal.specs.History.{may_follow, has_room, has_ticket, is_maker, made_by, running, added};
-ghost use Rattle.mx_journal.specs.Answers.{ticket_of, handle_of, Answers, is_ready, look_of, state_of};
-ghost use Rattle.mx_journal.specs.Core.{claimed, queued, IsSound};
-ghost use Rattle.mx_journal.specs.Replies.{is_pausing, journal_after_pausing, IsPausingAnswer, reply_of_info, ending_read, recorded, endings_finished, IsHandedBack, reply_of_finish, without, removed, queue_added, handed_back, work_back, reply_of_add, reply_of_remove, reply_of_pause, reply_of_wakeup};
+ghost use Rattle.mx_journal.specs.Answers.{handle_of, Answers, is_ready, look_of, state_of};
+ghost use Rattle.mx_journal.specs.Core.{claimed, queued, still_running, still_waiting, IsSound};
+ghost use Rattle.mx_journal.specs.Replies.{is_pausing, journal_after_pausing, IsPausingAnswer, reply_of_info, ending_read, ending_recorded, IsHandedBack, reply_of_finish, queue_added, handed_back, work_back, reply_of_add, reply_of_remove, reply_of_pause, reply_of_wakeup};
 ghost use Rattle.mx_journal.specs.Slots.{slot_of};
 
 use crate::claim::Claim;
@@ -91,14 +91,15 @@ impl<Q: Work + Drop, O: Ending + Drop> Control<Q, O> {
         AddReply::Added(ticket)
     }
 
-    /// Removes a handle, with its queued work or its unread ending.
+    /// Removes a handle. Its queued work and its unread ending are dropped: what still runs stays in the queue, and the
+    /// endings whose messages still wait stay.
     pub fn remove<L: Log>(&mut self, log: &mut L, who: Who, handle: HandleId) -> RemoveReply
         requires { is_maker who ≡ true }
         ensures answers { Answers self.old.opening who (Call.Remove handle) self.old.journal (reply_of_remove result) self.new.journal }
         ensures logged { L.events log.new ≡ L.events log.old ++ drop (length self.old.journal) self.new.journal }
         ensures opening { self.new.opening ≡ self.old.opening }
-        ensures queue { self.new.queue ≡ without (removed result (ticket_of handle self.old.journal)) self.old.queue }
-        ensures endings { self.new.endings ≡ without (removed result (ticket_of handle self.old.journal)) self.old.endings }
+        ensures queue { self.new.queue ≡ still_running self.new.journal self.old.queue }
+        ensures endings { self.new.endings ≡ still_waiting self.new.journal self.old.endings }
     {
         let Some(row) = self.table.row_of_handle(handle) else {
             return RemoveReply::NotAdded;
@@ -217,11 +218,12 @@ impl<Q: Work + Drop, O: Ending + Drop> Control<Q, O> {
         };
         self.table.enter(event);
         let (_, ending) = self.endings.remove(0);
+        let left = self.endings.len() as u32;
         InfoReply::Message {
             handle: row.handle,
             ticket,
             ending,
-            left: self.endings.len() as u32,
+            left,
         }
     }
 
@@ -248,7 +250,8 @@ impl<Q: Work + Drop, O: Ending + Drop> Control<Q, O> {
         WakeupReply::Ok
     }
 
-    /// Records the end of a claimed transfer.
+    /// Records the end of a claimed transfer. What still runs stays in the queue; the ending comes last. A Stale ending
+    /// and one whose event finds no memory are handed back, and nothing changes.
     pub fn finish<L: Log>(
         &mut self,
         log: &mut L,
@@ -261,8 +264,8 @@ impl<Q: Work + Drop, O: Ending + Drop> Control<Q, O> {
         ensures answers { Answers self.old.opening who (Call.Finish claim.ticket (O.code_of ending) (O.size_of ending)) self.old.journal (reply_of_finish result) self.new.journal }
         ensures logged { L.events log.new ≡ L.events log.old ++ drop (length self.old.journal) self.new.journal }
         ensures opening { self.new.opening ≡ self.old.opening }
-        ensures queue { self.new.queue ≡ without (recorded result claim.ticket) self.old.queue }
-        ensures endings { self.new.endings ≡ endings_finished result claim.ticket ending self.old.endings }
+        ensures queue { self.new.queue ≡ still_running self.new.journal self.old.queue }
+        ensures endings { self.new.endings ≡ still_waiting self.new.journal self.old.endings ++ ending_recorded result claim.ticket ending }
         ensures back { IsHandedBack claim ending result }
     {
         let ticket = claim.ticket();

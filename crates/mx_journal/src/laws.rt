@@ -1,6 +1,6 @@
 //! What every legal history keeps. Each law is the contract of a function that does nothing: a caller that calls it
 //! may use it in its own proof.
-ghost use Rattle.mx_journal.specs.Laws.{AnswerIsLegal, ClosingFindsRoom, EachAtMostOnce, FirstInFirstOut, LegalIsTidy, NothingAfterRemoval, PrefixIsLegal, ReadyStays, StateAndLookAgree};
+ghost use Rattle.mx_journal.specs.Laws.{AdditionTakesLeastSlot, AnswerIsLegal, ClosingFindsRoom, EachAtMostOnce, EachOnceByCount, FirstInFirstOut, FitsByItsCut, LegalIsTidy, NothingAfterRemoval, PrefixIsLegal, ReadyStays, SlotsDiffer, StateAndLookAgree};
 
 /// What comes first in a legal history is one.
 pub fn prefix_is_legal()
@@ -47,4 +47,25 @@ pub fn state_and_look_agree()
 /// A poll that may return may return later too.
 pub fn ready_stays()
     ensures { ReadyStays }
+{}
+
+/// The slots of added handles are below 256 and differ.
+pub fn slots_differ()
+    ensures { SlotsDiffer }
+{}
+
+/// An addition takes the least slot that no added handle has.
+pub fn addition_takes_least_slot()
+    ensures { AdditionTakesLeastSlot }
+{}
+
+/// Whether a receipt fits is told by the events before its cut: later ones change nothing.
+pub fn fits_by_its_cut()
+    ensures { FitsByItsCut }
+{}
+
+/// Each once, by count: where the cuts of a maker's receipts with an event rise, an event of that maker stands before
+/// each, and they are as many as the maker's events, they are these events, each once, in order.
+pub fn each_once_by_count()
+    ensures { EachOnceByCount }
 {}

@@ -3,6 +3,7 @@
 
 mod claim;
 mod control;
+pub mod definitions;
 mod journal_table;
 pub mod laws;
 mod log;

@@ -6,11 +6,11 @@ use Rattle.mx_journal.specs.declared.row.Row.{Row}
 use Rattle.mx_journal.proofs.Controls.{control-read_at, endings_few, message_has_row}
 use Rattle.mx_journal.proofs.control.Control.info_read.Goals as goal
 
-pub overflow_cast-result : goal.overflow_cast-result
-overflow_cast-result g c =
+pub overflow_cast-left : goal.overflow_cast-left
+overflow_cast-left g c =
     let s = c.self.invariant.sound in
     let few = endings_few g.O.Ending.code_of g.O.Ending.size_of c.self.inside.table.journal c.self.inside.endings.items s.kept.legal s.waits in
-    omega (arith, few, c.self.inside.endings.ok.0, c.remove-ending.ensures.len, c.len.ensures)
+    omega (arith, few, c.self.inside.endings.ok.0, c.remove-ending.ensures.len, c.len-left.ensures)
 
 pub invariant_of-self : goal.invariant_of-self
 invariant_of-self g c =

@@ -1,10 +1,6 @@
-use Rattle.std.proofs.Common.{◌≡◌, ◌∙◌, ap, sym}
-use Rattle.std.specs.Prelude.{Some}
-use Rattle.std.specs.Option.{option_map}
-use Rattle.mx_journal.specs.declared.row.Row.{Row}
-use Rattle.mx_journal.specs.Answers.{ticket_of}
-use Rattle.mx_journal.specs.Replies.{without}
+use Rattle.std.proofs.Common.{◌∙◌, sym}
 use Rattle.mx_journal.proofs.Controls.{control-removed, may_remove}
+use Rattle.mx_journal.proofs.Remains.{queue_stays, queue_removed, endings_stay, endings_removed}
 use Rattle.mx_journal.proofs.control.Control.remove.Goals as goal
 
 pub enter-requires-clause-may : goal.enter-requires-clause-may
@@ -17,12 +13,28 @@ invariant_of-self g c =
     (control-removed g.O.Ending.code_of g.O.Ending.size_of c.self.inside.table.history c.self.inside.table.journal c.args.who c.args.handle c.in-Some.row.ticket c.self.inside.queue.items c.self.inside.endings.items _ _
     c.self.invariant may)
 
+pub returns-in_default-clause-queue : goal.returns-in_default-clause-queue
+returns-in_default-clause-queue g c = rw (← c.self.view_is) (sym (queue_stays c.self.inside.table.journal c.self.inside.queue.items c.self.invariant.sound.runs))
+
+pub returns-in_default-clause-endings : goal.returns-in_default-clause-endings
+returns-in_default-clause-endings g c =
+    rw (← c.self.view_is) (sym (endings_stay g.O.Ending.code_of g.O.Ending.size_of c.self.inside.table.journal c.self.inside.endings.items c.self.invariant.sound.waits))
+
+pub returns-then-is_err-clause-queue : goal.returns-then-is_err-clause-queue
+returns-then-is_err-clause-queue g c = rw (← c.self.view_is) (sym (queue_stays c.self.inside.table.journal c.self.inside.queue.items c.self.invariant.sound.runs))
+
+pub returns-then-is_err-clause-endings : goal.returns-then-is_err-clause-endings
+returns-then-is_err-clause-endings g c =
+    rw (← c.self.view_is) (sym (endings_stay g.O.Ending.code_of g.O.Ending.size_of c.self.inside.table.journal c.self.inside.endings.items c.self.invariant.sound.waits))
+
 pub returns-clause-queue : goal.returns-clause-queue
 returns-clause-queue g c =
-    let tk : ticket_of c.args.handle c.self.inside.table.journal ≡ Some c.in-Some.row.ticket = sym c.row_of_handle.ensures.ticket ∙ ap (option_map (λ (r : Row). r.ticket)) c.in-Some.is in
-    rw (← c.self.view_is) (c.drop_ticket.ensures.items ∙ ap (λ o. without o c.self.inside.queue.items) (sym tk))
+    let j = c.self.inside.table.journal in
+    rw (← c.self.view_is, c.enter.ensures.journal)
+    (c.drop_ticket.ensures.items ∙ queue_removed j c.args.who c.args.handle c.in-Some.row.ticket c.self.inside.queue.items c.self.invariant.sound.runs)
 
 pub returns-clause-endings : goal.returns-clause-endings
 returns-clause-endings g c =
-    let tk : ticket_of c.args.handle c.self.inside.table.journal ≡ Some c.in-Some.row.ticket = sym c.row_of_handle.ensures.ticket ∙ ap (option_map (λ (r : Row). r.ticket)) c.in-Some.is in
-    rw (← c.self.view_is) (c.drop_ticket-2.ensures.items ∙ ap (λ o. without o c.self.inside.endings.items) (sym tk))
+    let j = c.self.inside.table.journal in
+    rw (← c.self.view_is, c.enter.ensures.journal)
+    (c.drop_ticket-2.ensures.items ∙ endings_removed g.O.Ending.code_of g.O.Ending.size_of j c.args.who c.args.handle c.in-Some.row.ticket c.self.inside.endings.items c.self.invariant.sound.waits)
