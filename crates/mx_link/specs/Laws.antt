@@ -1,11 +1,11 @@
 -- What holds of a script, whatever the lengths of the buffers are.
-use Rattle.std.specs.Prelude.{◌≡◌, ◌⊎◌, ℕ, List, [], ◌∷◌, ◌++◌}
+use Rattle.std.specs.Prelude.{◌≡◌, ◌⊎◌, ◌<◌, ◌+◌, ◌-◌, ◌^◌, ℕ, min, true, List, [], ◌∷◌, ◌++◌}
 use Rattle.std.specs.List.{AllByRecursion, filter_map}
 use Rattle.mx_link.specs.declared.answers.Answer.{Answer}
 use Rattle.mx_link.specs.declared.answers.Answer.TheVariants as answers
 use Rattle.mx_link.specs.declared.scripted.ScriptRead.{ScriptRead}
 use Rattle.mx_link.specs.declared.scripted.ScriptRead.TheVariants as read
-use Rattle.mx_link.specs.Answers.{given}
+use Rattle.mx_link.specs.Answers.{given, is_fault, faults}
 use Rattle.mx_link.specs.Script.{planned, next_read}
 
 -- the answers to reads into buffers of these lengths, and what is planned after them
@@ -45,3 +45,15 @@ pub record GivesFront (script : List ScriptRead) (reads : List Answer) : Type 0 
 abbrev pub ReadsGiveTheScript : Type 0
 ReadsGiveTheScript =
     (script : List ScriptRead) (lens : List ℕ) → GivesFront script (reads_of (filter_map planned script) lens).0
+
+-- what `failures` gives after these answers
+abbrev pub failures_after : List Answer → ℕ
+failures_after history = min (faults history) (2 ^ 64 - 1)
+
+-- One more answer: the count rises only at a fault, and at each fault, until it is full.
+pub record Counts (before : List Answer) (answer : Answer) : Type 0 where
+  pub only : failures_after before < failures_after (before ++ answer ∷ []) → is_fault answer ≡ true
+  pub each : is_fault answer ≡ true → (failures_after (before ++ answer ∷ []) ≡ failures_after before + 1) ⊎ (failures_after before ≡ 2 ^ 64 - 1)
+
+abbrev pub FaultsAreCounted : Type 0
+FaultsAreCounted = (before : List Answer) (answer : Answer) → Counts before answer

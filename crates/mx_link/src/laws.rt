@@ -1,6 +1,6 @@
 //! What holds of every script. Each law is a function that does nothing: its contract is the law.
 
-ghost use Rattle.mx_link.specs.Laws.{ReadsLoseNothing, ReadsGiveTheScript};
+ghost use Rattle.mx_link.specs.Laws.{ReadsLoseNothing, ReadsGiveTheScript, FaultsAreCounted};
 
 /// Whatever the lengths of the buffers are, what the reads of a script give, and after it what is left, is all that
 /// was planned: nothing is lost, added or moved.
@@ -12,4 +12,9 @@ pub fn reads_lose_nothing()
 /// that isn't bytes: a front of these so far, and all of them once a read answers something else.
 pub fn reads_give_the_script()
     ensures { ReadsGiveTheScript }
+{}
+
+/// `failures` rises in a call only where it answers a fault, and at each fault by one, until it is 2^64 - 1.
+pub fn faults_are_counted()
+    ensures { FaultsAreCounted }
 {}
