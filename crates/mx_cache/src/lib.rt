@@ -2,6 +2,7 @@
 #![tactic(auto)]
 
 mod idle;
+pub mod laws;
 #[cfg(test)]
 mod tests;
 

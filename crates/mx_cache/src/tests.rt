@@ -1,5 +1,6 @@
 use crate::IdleCache;
 use mx_request::Endpoint;
+use mx_types::OutOfMemory;
 use std::test::Fail;
 
 fn endpoint(rt: &HostRuntime, host: &str) -> Result<Endpoint, Fail> {
@@ -42,5 +43,14 @@ fn the_65th_put_of_64_gives_the_first_back(rt: HostRuntime) -> Result<(), Fail> 
     assert_eq!(rt; cache.put(a.copy(rt.alloc())?, 64), Some(0));
     assert_eq!(rt; cache.len(), 64);
     assert_eq!(rt; cache.take(&a), Some(64));
+    Ok(())
+}
+
+#[test]
+fn a_limit_beyond_memory_is_refused(rt: HostRuntime) -> Result<(), Fail> {
+    for limit in [1 << 56, usize::MAX] {
+        let cache = IdleCache::<u32>::with_limit(rt.alloc(), limit);
+        assert_eq!(rt; cache.err(), Some(OutOfMemory));
+    }
     Ok(())
 }

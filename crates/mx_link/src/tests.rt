@@ -2,7 +2,7 @@ ghost use Rattle.std.specs.Prelude.{◌<◌, length};
 
 use crate::{Connect, Link, Read, ScriptLink, ScriptRead, TcpLink, Write};
 use mio::net::{TcpListener, TcpStream};
-use mio::{Events, Poll};
+use mio::{Events, Poll, Token};
 use std::io;
 use std::net::{Ipv4Addr, SocketAddr};
 use std::test::Fail;
@@ -84,6 +84,17 @@ fn wait(poll: &mut Poll, events: &mut Events) -> io::Result<()> {
     poll.poll(events, Some(Duration::from_millis(10)))
 }
 
+// Whether the poll reports the token.
+fn is_told(poll: &mut Poll, events: &mut Events, token: Token) -> io::Result<bool> {
+    for _ in 0..TURNS {
+        wait(poll, events)?;
+        if events.iter().any(|event| event.token() == token) {
+            return Ok(true);
+        }
+    }
+    Ok(false)
+}
+
 // The first answer of a connecting link that isn't `WouldBlock`.
 fn connect<L: Link>(link: &mut L, poll: &mut Poll, events: &mut Events) -> io::Result<Connect> {
     for _ in 0..TURNS {
@@ -137,6 +148,7 @@ fn a_socket_reads_and_writes_and_sees_the_end(rt: HostRuntime) -> Result<(), Fai
     let mut events = Events::with_capacity(rt.alloc(), 8)?;
     let listener = listen(&rt)?;
     let mut near = connecting(&rt, listener.local_addr()?, &poll)?;
+    assert!(rt; is_told(&mut poll, &mut events, Token(7))?);
     assert_eq!(rt; connect(&mut near, &mut poll, &mut events)?, Connect::Done);
     let mut far = TcpLink::new(accept(&listener, &mut poll, &mut events)?, 8);
     assert_eq!(rt; read_three(&mut near).0, Read::WouldBlock);
