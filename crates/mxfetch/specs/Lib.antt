@@ -11,3 +11,4 @@ pub mod PlayScript
 pub mod PlayTexts
 pub mod PlayTurns
 pub mod PlayRun
+pub mod PlaySession

@@ -46,7 +46,7 @@ fn body_len(parts: &[Part]) -> usize
 }
 
 /// Prints the line of a fault, and answers its exit status.
-fn end_with<W: Write>(output: &mut Output<W>, code: Code) -> Result<u8, WriteFailed>
+pub fn end_with<W: Write>(output: &mut Output<W>, code: Code) -> Result<u8, WriteFailed>
     ensures printed { IfOk result (PrintsFault (code_number code)
         (W.contents (writer_of output.old)) (W.contents (writer_of output.new))) }
     ensures failed { IsErr result ↔ (has_failed_write output.new ≡ true) }

@@ -60,4 +60,14 @@ impl<R: Read> Input<R> {
             }
         }
     }
+
+    /// Fails the input for good, as a read past the count allowed does.
+    pub fn fail(&mut self)
+        ensures reader { reader_of self.new ≡ reader_of self.old }
+        ensures reads { reads_of self.new ≡ reads_of self.old }
+        ensures most { most_reads_of self.new ≡ most_reads_of self.old }
+        ensures failed { has_failed_read self.new ≡ true }
+    {
+        self.failed = true;
+    }
 }

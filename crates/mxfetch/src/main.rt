@@ -5,6 +5,8 @@ ghost use Rattle.std.specs.Prelude.{◌≤◌};
 
 mod body;
 mod command;
+#[cfg(test)]
+mod fakes;
 mod input;
 mod output;
 mod play;
@@ -61,11 +63,9 @@ fn decode_stdin<R: io::Input + Print + AllocGlobal>(rt: &R, method: Method) -> u
 fn play_stdin<R: io::Input + Print + AllocGlobal>(rt: &R, history: u32) -> u8
     requires { (4 ≤ history) × (history ≤ 1048576) }
 {
+    let mut input = Input::new(rt.reader(), play::MOST_READS);
     match BufWriter::new(rt.alloc(), io::writer(rt)) {
-        Ok(mut writer) => {
-            let status = run_play(rt.alloc(), history, &mut rt.reader(), &mut writer);
-            u8::try_from(status).unwrap_or(UNWRITTEN)
-        }
+        Ok(writer) => run_play(rt.alloc(), history, &mut input, &mut Output::new(writer)),
         Err(_) => out_of_memory(rt),
     }
 }

@@ -1,11 +1,10 @@
 //! `run_body` over readers and writers in memory.
 use crate::body::{MOST_READS, run_body};
+use crate::fakes::{Full, Trickle};
 use crate::input::Input;
 use crate::output::Output;
 use mx_types::Method;
 use std::alloc::Global;
-use std::io;
-use std::io::{Error, ErrorKind, Read, Write};
 use std::process::Abort;
 use std::test::Fail;
 
@@ -307,51 +306,6 @@ fn random_bytes(rt: HostRuntime) -> Result<(), Fail> {
         prints(&rt, alloc, Method::Get, &bytes, 8, b"FAULT 8\n");
     }
     Ok(())
-}
-
-/// Gives its bytes one at a time, and then fails, or ends.
-#[derive(Drop)]
-struct Trickle<'a> {
-    bytes: &'a [u8],
-    fails: bool,
-}
-
-impl Read for Trickle<'_> {
-    fn read(&mut self, buffer: &mut [u8]) -> io::Result<usize> {
-        match self.bytes.split_first() {
-            Some((first, rest)) if !buffer.is_empty() => {
-                buffer[0] = *first;
-                self.bytes = rest;
-                Ok(1)
-            }
-            _ if self.fails => Err(Error::from(ErrorKind::ConnectionReset)),
-            _ => Ok(0),
-        }
-    }
-}
-
-/// Takes so many writes, and then fails.
-#[derive(Drop)]
-struct Full<'a> {
-    taken: &'a mut Vec<u8>,
-    writes: u8,
-}
-
-impl Write for Full<'_> {
-    fn write(&mut self, bytes: &[u8]) -> io::Result<usize> {
-        if self.writes == 0 {
-            return Err(Error::from(ErrorKind::StorageFull));
-        }
-        self.writes -= 1;
-        self.taken.write(bytes)
-    }
-
-    fn flush(&mut self) -> io::Result<()> {
-        if self.writes == 0 {
-            return Err(Error::from(ErrorKind::StorageFull));
-        }
-        Ok(())
-    }
 }
 
 #[test]

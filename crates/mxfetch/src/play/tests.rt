@@ -1,12 +1,14 @@
 //! Scripts, with what they print and how they end. The replies are those of the curl_multi_* manual pages.
 ghost use Rattle.std.specs.Prelude.{◌≤◌};
 
-use crate::play::run_play;
+use crate::fakes::{Full, Trickle};
+use crate::input::Input;
+use crate::output::Output;
+use crate::play::{MOST_READS, run_play};
 use std::alloc::Global;
-use std::io::{ErrorKind, Read};
 use std::process::Abort;
+use std::str;
 use std::test::Fail;
-use std::{io, str};
 
 fn plays(
     rt: &impl Abort,
@@ -14,14 +16,18 @@ fn plays(
     history: u32,
     script: &str,
     printed: &str,
-    status: u32,
+    status: u8,
 ) -> Result<(), Fail>
     requires { (4 ≤ history) × (history ≤ 1048576) }
 {
-    let mut reader = script.as_bytes();
-    let mut output = Vec::new(alloc);
-    let ended = run_play(alloc, history, &mut reader, &mut output);
-    assert_eq!(rt; str::from_utf8(output.as_slice())?, printed);
+    let mut written = Vec::new(alloc);
+    let ended = run_play(
+        alloc,
+        history,
+        &mut Input::new(script.as_bytes(), MOST_READS),
+        &mut Output::new(&mut written),
+    );
+    assert_eq!(rt; str::from_utf8(written.as_slice())?, printed);
     assert_eq!(rt; ended, status);
     Ok(())
 }
@@ -153,42 +159,125 @@ fn numbers_and_spaces(rt: HostRuntime) -> Result<(), Fail> {
     plays(&rt, alloc, 4, "", "", 0)
 }
 
-/// A reader whose second read fails.
-#[derive(Drop)]
-struct FailsLater {
-    reads: u32,
+#[test]
+fn bad_lines_end_the_run(rt: HostRuntime) -> Result<(), Fail> {
+    let alloc = rt.alloc();
+    plays(&rt, alloc, 4, "ad 3\nadd 1\n", "bad-line 1\n", 122)?;
+    plays(&rt, alloc, 4, "#\n\nad\nhandles\n", "bad-line 3\n", 122)?;
+    plays(&rt, alloc, 4, "add 1\nad", "added 0\nbad-line 2\n", 122)?;
+    let open = "#1234567890123456789012345678901234567890123456789012345678901234";
+    plays(&rt, alloc, 4, open, "bad-line 1\n", 122)?;
+    plays(&rt, alloc, 4, &open[..64], "", 0)
 }
 
-impl Read for FailsLater {
-    fn read(&mut self, buf: &mut [u8]) -> io::Result<usize> {
-        let text = "add 1\nadd 2";
-        if self.reads > 0 || buf.len() < text.len() {
-            return Err(io::Error::from(ErrorKind::Other));
+/// Plays a script that is given one byte a read.
+fn trickles(
+    rt: &impl Abort,
+    alloc: Global,
+    reader: Trickle,
+    most: u64,
+    printed: &str,
+    status: u8,
+) -> Result<(), Fail> {
+    let mut written = Vec::new(alloc);
+    let ended = run_play(
+        alloc,
+        1024,
+        &mut Input::new(reader, most),
+        &mut Output::new(&mut written),
+    );
+    assert_eq!(rt; str::from_utf8(written.as_slice())?, printed);
+    assert_eq!(rt; ended, status);
+    Ok(())
+}
+
+const SCRIPT: &str = "add 1\n# one\n\nadd 1\nhandles\nrunning";
+
+/// What the lines of `SCRIPT` print.
+const REPLIES: [&str; 6] = [
+    "added 0\n",
+    "",
+    "",
+    "added-already\n",
+    "handles 1\n",
+    "running 1\n",
+];
+
+#[test]
+fn reads_that_fail(rt: HostRuntime) -> Result<(), Fail> {
+    let alloc = rt.alloc();
+    let script = SCRIPT.as_bytes();
+    let mut printed = String::new(alloc);
+    let mut lines = 0;
+    for cut in 0..=script.len() {
+        if cut > 0 && script[cut - 1] == b'\n' && lines < REPLIES.len() {
+            printed.push_str(REPLIES[lines])?;
+            lines += 1;
         }
-        self.reads = 1;
-        buf[..text.len()].copy_from_slice(text.as_bytes());
-        Ok(text.len())
+        let fault = format!(in alloc; "{}FAULT 56\n", printed.as_str())?;
+        let reader = Trickle {
+            bytes: &script[..cut],
+            fails: true,
+        };
+        trickles(&rt, alloc, reader, MOST_READS, fault.as_str(), 56)?;
     }
-}
-
-#[test]
-fn a_failed_read_comes_after_the_replies(rt: HostRuntime) -> Result<(), Fail> {
-    let mut reader = FailsLater { reads: 0 };
-    let mut output = Vec::new(rt.alloc());
-    let ended = run_play(rt.alloc(), 1024, &mut reader, &mut output);
-    assert_eq!(&rt; str::from_utf8(output.as_slice())?, "added 0\nFAULT 56\n");
-    assert_eq!(&rt; ended, 56);
     Ok(())
 }
 
 #[test]
-fn a_failed_write(rt: HostRuntime) -> Result<(), Fail> {
-    let mut reader = "add 1\nadd 2\n".as_bytes();
-    let mut room = [0; 10];
-    let mut writer = room.as_mut_slice();
-    let ended = run_play(rt.alloc(), 1024, &mut reader, &mut writer);
-    assert_eq!(&rt; ended, 121);
-    Ok(())
+fn bytes_that_trickle_in(rt: HostRuntime) -> Result<(), Fail> {
+    let alloc = rt.alloc();
+    let reader = Trickle {
+        bytes: SCRIPT.as_bytes(),
+        fails: false,
+    };
+    let printed = "added 0\nadded-already\nhandles 1\nrunning 1\n";
+    trickles(&rt, alloc, reader, MOST_READS, printed, 0)
+}
+
+#[test]
+fn a_read_past_the_most(rt: HostRuntime) -> Result<(), Fail> {
+    let alloc = rt.alloc();
+    for most in 0..8 {
+        let reader = Trickle {
+            bytes: b"add 1\nx",
+            fails: false,
+        };
+        let printed = if most < 6 {
+            "FAULT 56\n"
+        } else {
+            "added 0\nFAULT 56\n"
+        };
+        trickles(&rt, alloc, reader, most, printed, 56)?;
+    }
+    let reader = Trickle {
+        bytes: b"add 1\nx",
+        fails: false,
+    };
+    trickles(&rt, alloc, reader, 8, "added 0\nbad-line 2\n", 122)
+}
+
+#[test]
+fn writes_that_fail(rt: HostRuntime) {
+    let alloc = rt.alloc();
+    let mut last = 121;
+    for writes in 0..40 {
+        let mut taken = Vec::new(alloc);
+        let writer = Full {
+            taken: &mut taken,
+            writes,
+        };
+        last = run_play(
+            alloc,
+            1024,
+            &mut Input::new(SCRIPT.as_bytes(), MOST_READS),
+            &mut Output::new(writer),
+        );
+        let whole = b"added 0\nadded-already\nhandles 1\nrunning 1\n".as_slice();
+        assert!(&rt; whole.starts_with(&taken));
+        assert!(&rt; last == 121 || last == 0 && taken.as_slice() == whole);
+    }
+    assert_eq!(&rt; last, 0);
 }
 
 #[test]

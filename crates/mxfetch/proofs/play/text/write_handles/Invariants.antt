@@ -6,4 +6,5 @@ use Rattle.mxfetch.proofs.play.text.write_handles.Given as goal
 
 abbrev pub invariant-loop-handle : goal.invariant-loop-handle
 invariant-loop-handle g l =
-    Appends (g.W.Write.contents l.fn.writer) (g.W.Write.contents l.writer) (codes "handles" ++ flat_map (λ (h : HandleId). codes " " ++ decimal h.0) (take l.handle-index l.handle-items))
+    Appends (g.W.Write.contents l.fn.output.writer) (g.W.Write.contents l.output.writer)
+    (codes "handles" ++ flat_map (λ (h : HandleId). codes " " ++ decimal h.0) (take l.handle-index l.handle-items))

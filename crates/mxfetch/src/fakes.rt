@@ -1,0 +1,48 @@
+//! Readers and writers for tests.
+use std::io;
+use std::io::{Error, ErrorKind, Read, Write};
+
+/// Gives its bytes one at a time, and then fails, or ends.
+#[derive(Drop)]
+pub struct Trickle<'a> {
+    pub bytes: &'a [u8],
+    pub fails: bool,
+}
+
+impl Read for Trickle<'_> {
+    fn read(&mut self, buffer: &mut [u8]) -> io::Result<usize> {
+        match self.bytes.split_first() {
+            Some((first, rest)) if !buffer.is_empty() => {
+                buffer[0] = *first;
+                self.bytes = rest;
+                Ok(1)
+            }
+            _ if self.fails => Err(Error::from(ErrorKind::ConnectionReset)),
+            _ => Ok(0),
+        }
+    }
+}
+
+/// Takes so many writes, and then fails.
+#[derive(Drop)]
+pub struct Full<'a> {
+    pub taken: &'a mut Vec<u8>,
+    pub writes: u8,
+}
+
+impl Write for Full<'_> {
+    fn write(&mut self, bytes: &[u8]) -> io::Result<usize> {
+        if self.writes == 0 {
+            return Err(Error::from(ErrorKind::StorageFull));
+        }
+        self.writes -= 1;
+        self.taken.write(bytes)
+    }
+
+    fn flush(&mut self) -> io::Result<()> {
+        if self.writes == 0 {
+            return Err(Error::from(ErrorKind::StorageFull));
+        }
+        Ok(())
+    }
+}
