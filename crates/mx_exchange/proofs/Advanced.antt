@@ -1,6 +1,7 @@
 -- What one poll does, by the way it ends.
 use Rattle.std.proofs.Common.{◌≡◌, ◌≢◌, ℕ, ◌≤◌, Bool, true, false, List, [], ◌∷◌, ◌++◌, length, refl, sym, ◌∙◌, ap, subst, Option, Some, None, ◌⊎◌, ◌↔◌, inl, inr, arith}
 use Rattle.std.specs.Prelude.{◌||◌, IfSome, MatchOption, option_map, unwrap_or, count_by}
+use Rattle.futures.specs.declared.task.waker.Waker.{Waker}
 use Rattle.mx_types.specs.declared.code.Code.{Code}
 use Rattle.mx_types.specs.declared.code.Code.TheVariants as code
 use Rattle.mx_types.specs.declared.method.Method.{Method}
@@ -128,9 +129,9 @@ module _ {L : Type 0} (history : L → List Answer) where
         (unretried new.answers t.so.final)
 
   -- what a probe leaves as it was
-  kept_by : (t mid : TransferState L) → Probed history t mid → (mid.request ≡ t.request) × (mid.is_reused ≡ t.is_reused) × (dropped mid ≡ dropped t) × (mid.code ≡ t.code)
-  kept_by t mid (inl p) = rw p.1 (refl, refl, refl, refl)
-  kept_by t mid (inr p) = rw p.after (refl, refl, refl, refl)
+  kept_by : (t mid : TransferState L) → Probed history t mid → (mid.request ≡ t.request) × (mid.is_reused ≡ t.is_reused) × (dropped mid ≡ dropped t) × (mid.code ≡ t.code) × (mid.waker ≡ t.waker)
+  kept_by t mid (inl p) = rw p.1 (refl, refl, refl, refl, refl)
+  kept_by t mid (inr p) = rw p.after (refl, refl, refl, refl, refl)
 
   module _ (t mid new : TransferState L) (m : MayTouch t) (p : Probed history t mid) where
     same_retry : (past : List Answer) → MustRetry mid.request.method mid.is_reused past → MustRetry t.request.method t.is_reused past
@@ -187,7 +188,24 @@ module _ {L : Type 0} (history : L → List Answer) where
   Turns-alive t new n (lost m mid last p a r e) = ap (λ (x : TransferState L). x.code) e ∙ n
   Turns-alive t new n (blocked m mid p a b g) = ap (λ (x : TransferState L). x.code) g ∙ (kept_by t mid p).3 ∙ n
 
-  -- nor has one that asks to be polled again
+  -- nor does its turn change the waker
+  Turns-waker : (t new : TransferState L) → Turns history t new waits → new.waker ≡ t.waker
+  Turns-waker t new (unserved m none e) = ap (λ (x : TransferState L). x.waker) e
+  Turns-waker t new (refused m f) = ap (λ (x : TransferState L). x.waker) f.after
+  Turns-waker t new (lost m mid last p a r e) = ap (λ (x : TransferState L). x.waker) e
+  Turns-waker t new (blocked m mid p a b g) = ap (λ (x : TransferState L). x.waker) g ∙ (kept_by t mid p).4
+
+  -- once it has left a waker, its turn is that before it
+  pub Waits-left : (old mid new : TransferState L) → Turns history (clocked old) mid waits → new ≡ record mid { waker = new.waker }
+      → Turns history (clocked old) (record new { waker = old.waker }) waits
+  Waits-left old mid new h e =
+      let same : record new { waker = old.waker } ≡ mid = (
+      ap (λ (x : TransferState L). record x { waker = old.waker }) e
+      ∙ ap (λ (w : Option Waker). record mid { waker = w }) (sym (Turns-waker (clocked old) mid h))
+      ) in
+      subst (λ (x : TransferState L). Turns history (clocked old) x waits) (sym same) h
+
+  -- nor has one that asks to be polled again ended
   pub Turns-asking : (t new : TransferState L) → t.code ≡ None → Turns history t new asks → new.code ≡ None
   Turns-asking t new n (paused m still e) = ap (λ (x : TransferState L). x.code) e ∙ n
   Turns-asking t new n (unfinished m mid p a b g) = ap (λ (x : TransferState L). x.code) g ∙ (kept_by t mid p).3 ∙ n

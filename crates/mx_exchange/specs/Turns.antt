@@ -7,6 +7,8 @@ use Rattle.mx_body.specs.declared.verdict.Verdict.{Verdict}
 use Rattle.mx_link.specs.Answers.{is_read, is_write, is_blocked, given}
 use Rattle.mx_link.specs.declared.answers.Answer.{Answer}
 use Rattle.mx_link.specs.declared.answers.Answer.TheVariants as said
+use Rattle.futures.specs.Slot.{IsLeftIn}
+use Rattle.futures.specs.declared.task.context.Context.{Context}
 use Rattle.futures.specs.declared.task.Poll.{Poll}
 use Rattle.futures.specs.declared.task.Poll.TheVariants as poll
 use Rattle.mx_exchange.specs.Order.{is_connect}
@@ -109,8 +111,10 @@ pub data Turns {L : Type 0} (history : L → List Answer) (t new : TransferState
   ended : {o : OutcomeValue} → MayTouch t → (mid : TransferState L) → Probed history t mid → Answered history mid new
       → EndsOver mid new o → ¬ (MustRetry t.request.method t.is_reused new.answers) → Turns history t new (ends o)
 
--- what a poll answers, and whether it asked to be polled again
-abbrev pub PollSo : {L : Type 0} → (L → List Answer) → TransferState L → TransferState L → Poll OutcomeValue → Bool → Type 0
-PollSo history old new (poll.Ready o) woken = Turns history (clocked old) new (ends o)
-PollSo history old new poll.Pending woken =
-    Turns history (clocked old) new waits ⊎ (Turns history (clocked old) new asks × (woken ≡ true))
+-- What a poll answers. One that waits has left its task's waker in the transfer, unless none could be made, and nothing else of the
+-- transfer is new; any other that is pending has asked to be polled again.
+abbrev pub PollSo : {L : Type 0} → (L → List Answer) → TransferState L → TransferState L → Poll OutcomeValue → Context → Context → Type 0
+PollSo history old new (poll.Ready o) was is = Turns history (clocked old) new (ends o)
+PollSo history old new poll.Pending was is =
+    (Turns history (clocked old) (record new { waker = old.waker }) waits × IsLeftIn was is new.waker)
+    ⊎ (Turns history (clocked old) new asks × (is.is_woken ≡ true))
