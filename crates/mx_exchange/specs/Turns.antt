@@ -11,7 +11,7 @@ use Rattle.futures.specs.Slot.{IsLeftIn}
 use Rattle.futures.specs.declared.task.context.Context.{Context}
 use Rattle.futures.specs.declared.task.Poll.{Poll}
 use Rattle.futures.specs.declared.task.Poll.TheVariants as poll
-use Rattle.mx_exchange.specs.Order.{is_connect}
+use Rattle.mx_exchange.specs.Order.{InOrder, is_connect}
 use Rattle.mx_exchange.specs.Endings.{EndsBy, MustRetry, may_keep}
 use Rattle.mx_exchange.specs.Transfers.{OutcomeValue, TransferState, IsDue, LinkTold, clocked, dropped}
 
@@ -103,7 +103,8 @@ pub data Turns {L : Type 0} (history : L → List Answer) (t new : TransferState
   unserved : MayTouch t → t.link ≡ None → new ≡ t → Turns history t new waits
   refused : MayTouch t → ProbeFails history t new → Turns history t new waits
   lost : MayTouch t → (mid last : TransferState L) → Probed history t mid → Answered history mid last
-      → MustRetry t.request.method t.is_reused last.answers → new ≡ dropped t → Turns history t new waits
+      → InOrder t.is_reused t.request.bytes last.answers → MustRetry t.request.method t.is_reused last.answers
+      → new ≡ dropped t → Turns history t new waits
   blocked : MayTouch t → (mid : TransferState L) → Probed history t mid → (a : Answered history mid new)
       → EndsBlocked a.more → GoesOn mid new → Turns history t new waits
   unfinished : MayTouch t → (mid : TransferState L) → Probed history t mid → (a : Answered history mid new)
