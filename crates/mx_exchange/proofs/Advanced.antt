@@ -1,6 +1,6 @@
 -- What one poll does, by the way it ends.
-use Rattle.std.proofs.Common.{◌≡◌, ◌≢◌, ℕ, ◌≤◌, Bool, true, false, List, [], ◌∷◌, ◌++◌, length, refl, sym, ◌∙◌, ap, subst, Option, Some, None, ◌⊎◌, ◌↔◌, inl, inr, arith}
-use Rattle.std.specs.Prelude.{◌||◌, IfSome, MatchOption, option_map, unwrap_or, count_by}
+use Rattle.std.proofs.Common.{◌≡◌, ℕ, Bool, true, false, List, [], length, refl, sym, ◌∙◌, ap, subst, Option, Some, None, ◌↔◌, inl, inr, arith}
+use Rattle.std.specs.Prelude.{◌||◌, IfSome}
 use Rattle.futures.specs.declared.task.waker.Waker.{Waker}
 use Rattle.mx_types.specs.declared.code.Code.{Code}
 use Rattle.mx_types.specs.declared.code.Code.TheVariants as code
@@ -17,8 +17,8 @@ use Rattle.mx_link.specs.declared.answers.Answer.{Answer}
 use Rattle.mx_link.specs.declared.answers.Answer.TheVariants as said
 use Rattle.mx_exchange.specs.Order.{InOrder}
 use Rattle.mx_exchange.specs.Endings.{IsUndecided, EndsBy, by_bytes, by_end, by_fault, by_memory, MustRetry, may_keep, code_of, fault_code}
-use Rattle.mx_exchange.specs.Transfers.{OutcomeValue, TransferState, IsDue, LinkTold, clocked, dropped, is_link_code}
-use Rattle.mx_exchange.specs.Turns.{How, waits, asks, ends, IsOnTime, MayTouch, ProbeBlocks, ProbeFails, Probed, Answered, GoesOn, EndsWith, StopsWith, EndsOver, Turns, late, given_up, paused, unserved, refused, lost, blocked, unfinished, ended}
+use Rattle.mx_exchange.specs.Transfers.{OutcomeValue, TransferState, IsDue, clocked, dropped, is_link_code}
+use Rattle.mx_exchange.specs.Turns.{How, waits, asks, ends, MayTouch, ProbeFails, Probed, Answered, GoesOn, EndsWith, StopsWith, Turns, late, given_up, paused, unserved, refused, lost, blocked, unfinished, ended}
 use Rattle.mx_exchange.specs.Service.{IsGoing, ServeTurn}
 use Rattle.mx_exchange.specs.Turned.{Exchanged, idle, gone, stuck, full, over}
 use Rattle.mx_exchange.specs.declared.service.Served.{Served}

@@ -1,5 +1,5 @@
 -- Whose waker is left in a slot.
-use Rattle.std.proofs.Common.{◌≡◌, true, refl, sym, ◌∙◌, ap, Option, Some, None, ◌⊎◌, inl, inr}
+use Rattle.std.proofs.Common.{◌≡◌, refl, sym, ◌∙◌, ap, Option, Some, None, inl, inr}
 use Rattle.std.specs.Prelude.{IsSomeAnd}
 use Rattle.std.specs.Arc.{arc_value}
 use Rattle.futures.specs.Task.{Lasting, Holds, Keeps, Wakes}

@@ -1,5 +1,5 @@
 -- What the functions behind a poll promise one another.
-use Rattle.std.specs.Prelude.{◌≡◌, ℕ, Bool, true, false, None, ◌⊎◌, count_by}
+use Rattle.std.specs.Prelude.{◌≡◌, Bool, true, false, None, ◌⊎◌, count_by}
 use Rattle.mx_link.specs.Answers.{is_read, is_write}
 use Rattle.mx_link.specs.declared.answers.Answer.{Answer}
 use Rattle.std.specs.Prelude.{List}

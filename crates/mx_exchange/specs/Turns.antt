@@ -1,5 +1,5 @@
 -- What one poll of a transfer does.
-use Rattle.std.specs.Prelude.{◌≡◌, ◌≢◌, ℕ, ◌≤◌, Bool, true, false, List, [], ◌∷◌, ◌++◌, length, Option, Some, None, ◌⊎◌, count_by}
+use Rattle.std.specs.Prelude.{◌≡◌, ◌≢◌, ◌≤◌, true, false, List, [], ◌∷◌, ◌++◌, length, Some, None, ◌⊎◌, count_by}
 use Rattle.mx_types.specs.declared.code.Code.TheVariants as code
 use Rattle.mx_body.specs.Decision.{HasStatus}
 use Rattle.mx_body.specs.Decoder.{parts_of}

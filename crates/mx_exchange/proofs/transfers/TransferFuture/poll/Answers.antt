@@ -1,4 +1,4 @@
-use Rattle.std.proofs.Common.{◌≡◌, None, refl, sym, ◌∙◌, inl, rules}
+use Rattle.std.proofs.Common.{inl}
 use Rattle.mx_exchange.proofs.Advanced.{Turns-request, Turns-alive, Turns-asking, Turns-late, Waits-left}
 use Rattle.mx_exchange.proofs.transfers.TransferFuture.poll.Goals as goal
 
