@@ -1,6 +1,7 @@
 -- What one poll does, by the way it ends.
-use Rattle.std.proofs.Common.{◌≡◌, ◌≢◌, ℕ, ◌≤◌, Bool, true, false, List, [], ◌∷◌, ◌++◌, length, refl, sym, ◌∙◌, ap, subst, Option, Some, None, ◌⊎◌, ◌↔◌, inl, inr, arith}
-use Rattle.std.specs.Prelude.{◌||◌, IfSome, MatchOption, option_map, unwrap_or, count_by}
+use Rattle.std.proofs.Common.{◌≡◌, ℕ, Bool, true, false, List, [], length, refl, sym, ◌∙◌, ap, subst, Option, Some, None, ◌↔◌, inl, inr, arith}
+use Rattle.std.specs.Prelude.{◌||◌, IfSome}
+use Rattle.futures.specs.declared.task.waker.Waker.{Waker}
 use Rattle.mx_types.specs.declared.code.Code.{Code}
 use Rattle.mx_types.specs.declared.code.Code.TheVariants as code
 use Rattle.mx_types.specs.declared.method.Method.{Method}
@@ -16,8 +17,8 @@ use Rattle.mx_link.specs.declared.answers.Answer.{Answer}
 use Rattle.mx_link.specs.declared.answers.Answer.TheVariants as said
 use Rattle.mx_exchange.specs.Order.{InOrder}
 use Rattle.mx_exchange.specs.Endings.{IsUndecided, EndsBy, by_bytes, by_end, by_fault, by_memory, MustRetry, may_keep, code_of, fault_code}
-use Rattle.mx_exchange.specs.Transfers.{OutcomeValue, TransferState, IsDue, LinkTold, clocked, dropped, is_link_code}
-use Rattle.mx_exchange.specs.Turns.{How, waits, asks, ends, IsOnTime, MayTouch, ProbeBlocks, ProbeFails, Probed, Answered, GoesOn, EndsWith, StopsWith, EndsOver, Turns, late, given_up, paused, unserved, refused, lost, blocked, unfinished, ended}
+use Rattle.mx_exchange.specs.Transfers.{OutcomeValue, TransferState, IsDue, clocked, dropped, is_link_code}
+use Rattle.mx_exchange.specs.Turns.{How, waits, asks, ends, MayTouch, ProbeFails, Probed, Answered, GoesOn, EndsWith, StopsWith, Turns, late, given_up, paused, unserved, refused, lost, blocked, unfinished, ended}
 use Rattle.mx_exchange.specs.Service.{IsGoing, ServeTurn}
 use Rattle.mx_exchange.specs.Turned.{Exchanged, idle, gone, stuck, full, over}
 use Rattle.mx_exchange.specs.declared.service.Served.{Served}
@@ -91,6 +92,9 @@ module _ {L : Type 0} (history : L → List Answer) where
     retried : (past : List Answer) → MustRetry rq.method reused past → MustRetry old.request.method old.is_reused past
     retried past m = subst (λ (b : Bool). MustRetry old.request.method b past) again (subst (λ (r : RequestValue). MustRetry r.method reused past) about m)
 
+    ordered : (past : List Answer) → InOrder reused rq.bytes past → InOrder old.is_reused old.request.bytes past
+    ordered past o = subst (λ (b : Bool). InOrder b old.request.bytes past) again (subst (λ (r : RequestValue). InOrder reused r.bytes past) about o)
+
     unretried : (past : List Answer) → ¬ (MustRetry rq.method reused past) → ¬ (MustRetry old.request.method old.is_reused past)
     unretried past never m = never (subst (λ (b : Bool). MustRetry rq.method b past) (sym again) (subst (λ (r : RequestValue). MustRetry r.method old.is_reused past) (sym about) m))
 
@@ -106,7 +110,7 @@ module _ {L : Type 0} (history : L → List Answer) where
         → ServeTurn (history link) (history next) old.answers past served.Lost rq reused stood w d → Exchanged history old new waits
     Exchange-gone next past same t =
         let last : TransferState L = record old { link = Some next; answers = past } in
-        gone last (answered last next served.Lost refl t) (retried past t.so) same
+        gone last (answered last next served.Lost refl t) (ordered past t.order) (retried past t.so) same
 
     pub Exchange-over : (next : L) (c : Code) (o : OutcomeValue) → new.link ≡ Some next → o.request ≡ rq → o.wire ≡ d.wire → o.code ≡ c → HasStatus o.wire o.status → o.parts ≡ parts_of d.verdict
         → new.is_kept ≡ may_keep d.verdict d.wire
@@ -128,15 +132,20 @@ module _ {L : Type 0} (history : L → List Answer) where
         (unretried new.answers t.so.final)
 
   -- what a probe leaves as it was
-  kept_by : (t mid : TransferState L) → Probed history t mid → (mid.request ≡ t.request) × (mid.is_reused ≡ t.is_reused) × (dropped mid ≡ dropped t) × (mid.code ≡ t.code)
-  kept_by t mid (inl p) = rw p.1 (refl, refl, refl, refl)
-  kept_by t mid (inr p) = rw p.after (refl, refl, refl, refl)
+  kept_by : (t mid : TransferState L) → Probed history t mid → (mid.request ≡ t.request) × (mid.is_reused ≡ t.is_reused) × (dropped mid ≡ dropped t) × (mid.code ≡ t.code) × (mid.waker ≡ t.waker)
+  kept_by t mid (inl p) = rw p.1 (refl, refl, refl, refl, refl)
+  kept_by t mid (inr p) = rw p.after (refl, refl, refl, refl, refl)
 
   module _ (t mid new : TransferState L) (m : MayTouch t) (p : Probed history t mid) where
     same_retry : (past : List Answer) → MustRetry mid.request.method mid.is_reused past → MustRetry t.request.method t.is_reused past
     same_retry past r =
         let k = kept_by t mid p in
         subst (λ (b : Bool). MustRetry t.request.method b past) k.1 (subst (λ (r : RequestValue). MustRetry r.method mid.is_reused past) k.0 r)
+
+    same_order : (past : List Answer) → InOrder mid.is_reused mid.request.bytes past → InOrder t.is_reused t.request.bytes past
+    same_order past o =
+        let k = kept_by t mid p in
+        subst (λ (b : Bool). InOrder b t.request.bytes past) k.1 (subst (λ (r : RequestValue). InOrder mid.is_reused r.bytes past) k.0 o)
 
     same_unretry : (past : List Answer) → ¬ (MustRetry mid.request.method mid.is_reused past) → ¬ (MustRetry t.request.method t.is_reused past)
     same_unretry past never r =
@@ -149,7 +158,7 @@ module _ {L : Type 0} (history : L → List Answer) where
 
     turned : (how : How) → Exchanged history mid new how → Turns history t new how
     turned waits (idle none e) = unattached p none e
-    turned waits (gone last a r e) = lost m mid last p a (same_retry last.answers r) (e ∙ (kept_by t mid p).2)
+    turned waits (gone last a o r e) = lost m mid last p a (same_order last.answers o) (same_retry last.answers r) (e ∙ (kept_by t mid p).2)
     turned waits (stuck a b g) = blocked m mid p a b g
     turned asks (full a b g) = unfinished m mid p a b g
     turned (ends o) (over a e r) = ended m mid p a e (same_unretry new.answers r)
@@ -184,10 +193,27 @@ module _ {L : Type 0} (history : L → List Answer) where
   pub Turns-alive : (t new : TransferState L) → t.code ≡ None → Turns history t new waits → new.code ≡ None
   Turns-alive t new n (unserved m none e) = ap (λ (x : TransferState L). x.code) e ∙ n
   Turns-alive t new n (refused m f) = ap (λ (x : TransferState L). x.code) f.after ∙ n
-  Turns-alive t new n (lost m mid last p a r e) = ap (λ (x : TransferState L). x.code) e ∙ n
+  Turns-alive t new n (lost m mid last p a o r e) = ap (λ (x : TransferState L). x.code) e ∙ n
   Turns-alive t new n (blocked m mid p a b g) = ap (λ (x : TransferState L). x.code) g ∙ (kept_by t mid p).3 ∙ n
 
-  -- nor has one that asks to be polled again
+  -- nor does its turn change the waker
+  Turns-waker : (t new : TransferState L) → Turns history t new waits → new.waker ≡ t.waker
+  Turns-waker t new (unserved m none e) = ap (λ (x : TransferState L). x.waker) e
+  Turns-waker t new (refused m f) = ap (λ (x : TransferState L). x.waker) f.after
+  Turns-waker t new (lost m mid last p a o r e) = ap (λ (x : TransferState L). x.waker) e
+  Turns-waker t new (blocked m mid p a b g) = ap (λ (x : TransferState L). x.waker) g ∙ (kept_by t mid p).4
+
+  -- once it has left a waker, its turn is that before it
+  pub Waits-left : (old mid new : TransferState L) → Turns history (clocked old) mid waits → new ≡ record mid { waker = new.waker }
+      → Turns history (clocked old) (record new { waker = old.waker }) waits
+  Waits-left old mid new h e =
+      let same : record new { waker = old.waker } ≡ mid = (
+      ap (λ (x : TransferState L). record x { waker = old.waker }) e
+      ∙ ap (λ (w : Option Waker). record mid { waker = w }) (sym (Turns-waker (clocked old) mid h))
+      ) in
+      subst (λ (x : TransferState L). Turns history (clocked old) x waits) (sym same) h
+
+  -- nor has one that asks to be polled again ended
   pub Turns-asking : (t new : TransferState L) → t.code ≡ None → Turns history t new asks → new.code ≡ None
   Turns-asking t new n (paused m still e) = ap (λ (x : TransferState L). x.code) e ∙ n
   Turns-asking t new n (unfinished m mid p a b g) = ap (λ (x : TransferState L). x.code) g ∙ (kept_by t mid p).3 ∙ n

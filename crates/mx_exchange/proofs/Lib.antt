@@ -3,3 +3,4 @@ pub mod Steps
 pub mod Serves
 pub mod Advanced
 pub mod Bodies
+pub mod Wakers

@@ -1,15 +1,14 @@
 -- One more answer keeps the order.
-use Rattle.std.proofs.Common.{◌≡◌, ◌≢◌, ℕ, ◌+◌, ◌-◌, ◌≤◌, ◌<◌, Bool, true, false, List, [], ◌∷◌, ◌++◌, length, take, drop, refl, sym, ◌∙◌, ap, subst, append_assoc, append-nil, arith, length-drop}
+use Rattle.std.proofs.Common.{◌≡◌, ℕ, ◌+◌, ◌-◌, Bool, true, false, List, [], ◌∷◌, ◌++◌, length, take, drop, refl, sym, ◌∙◌, ap, subst, append_assoc, append-nil, length-drop}
 use Rattle.std.specs.Prelude.{◌||◌, count_by}
 use Rattle.std.specs.List.{list_any}
-use Rattle.std.proofs.lemmas.List.{take-append-drop, drop-drop}
 use Rattle.std.proofs.lemmas.List.Folds.{list_any-append}
 use Rattle.std.proofs.lemmas.List.Sums.{sum_by-append}
 use Rattle.std.proofs.lemmas.Grind.{flat_map-append}
-use Rattle.std.proofs.Math.Seq.{drop-length, take-length}
+use Rattle.std.proofs.Math.Seq.{take-length}
 use Rattle.mx_link.specs.Answers.{given, given_by, taken, taken_by}
 use Rattle.mx_link.specs.declared.answers.Answer.{Answer}
-use Rattle.mx_exchange.specs.Order.{InOrder, FollowInOrder, MayFollow, is_last}
+use Rattle.mx_exchange.specs.Order.{FollowInOrder, MayFollow, is_last}
 
 pub taken-push : (past : List Answer) (a : Answer) → taken (past ++ a ∷ []) ≡ taken past ++ taken_by a
 taken-push past a = flat_map-append taken_by past (a ∷ []) ∙ ap (λ (l : List ℕ). taken past ++ l) (append-nil (taken_by a))

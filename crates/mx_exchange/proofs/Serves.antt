@@ -4,7 +4,7 @@ use Rattle.std.specs.Prelude.{count_by}
 use Rattle.mx_types.specs.declared.code.Code.{Code}
 use Rattle.mx_request.specs.Request.{RequestValue}
 use Rattle.mx_body.specs.Decoder.{Decoded}
-use Rattle.mx_link.specs.Answers.{is_read, is_write, is_blocked}
+use Rattle.mx_link.specs.Answers.{is_read, is_write}
 use Rattle.mx_link.specs.declared.answers.Answer.{Answer}
 use Rattle.mx_link.specs.declared.answers.Answer.TheVariants as said
 use Rattle.mx_exchange.specs.Order.{is_connect}

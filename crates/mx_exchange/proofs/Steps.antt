@@ -1,5 +1,5 @@
 -- One more answer of a link that serves.
-use Rattle.std.proofs.Common.{◌≡◌, ◌≢◌, ℕ, ◌+◌, ◌-◌, ◌≤◌, ◌<◌, Bool, true, false, List, [], ◌∷◌, ◌++◌, length, take, drop, refl, sym, ◌∙◌, ap, subst, append_assoc, append-nil, arith, length-drop, Option, Some, None}
+use Rattle.std.proofs.Common.{◌≡◌, ℕ, ◌+◌, ◌-◌, ◌≤◌, ◌<◌, Bool, true, false, List, [], ◌∷◌, ◌++◌, length, take, drop, refl, sym, ◌∙◌, ap, subst, append_assoc, append-nil, arith, length-drop, Option, Some, None}
 use Rattle.std.specs.Prelude.{◌||◌}
 use Rattle.std.specs.List.{list_any}
 use Rattle.std.proofs.lemmas.List.{take-append-drop, drop-drop}
@@ -14,12 +14,12 @@ use Rattle.mx_body.specs.declared.decoder.Stand.{Stand}
 use Rattle.mx_body.specs.declared.decoder.Stand.TheVariants as stand
 use Rattle.mx_body.specs.declared.verdict.Verdict.{Verdict}
 use Rattle.mx_body.specs.declared.verdict.Verdict.TheVariants as verdict
-use Rattle.mx_link.specs.Answers.{given, given_by, taken, taken_by, is_read, is_write, is_blocked}
+use Rattle.mx_link.specs.Answers.{given, given_by, taken, taken_by}
 use Rattle.mx_link.specs.declared.answers.Answer.{Answer}
 use Rattle.mx_link.specs.declared.answers.Answer.TheVariants as said
 use Rattle.mx_exchange.specs.Order.{InOrder, MayFollow, MayWrite, MayRead, stands, is_connect, is_connected, is_last}
-use Rattle.mx_exchange.specs.Endings.{IsUndecided, EndsBy, by_bytes, by_end, by_fault, by_memory, MustRetry, code_of, fault_code, is_loss, is_repeated, is_heard}
-use Rattle.mx_exchange.specs.Service.{IsGoing, IsOver, StepTurn, StepSo}
+use Rattle.mx_exchange.specs.Endings.{EndsBy, by_bytes, by_end, by_fault, by_memory, MustRetry, code_of, fault_code, is_loss, is_repeated, is_heard}
+use Rattle.mx_exchange.specs.Service.{IsGoing, StepTurn, StepSo}
 use Rattle.mx_exchange.specs.declared.service.Step.{Step}
 use Rattle.mx_exchange.specs.declared.service.Step.TheVariants as step
 use Rattle.mx_exchange.proofs.Ordered.{taken-push, given-push, given-same, taken-same, any-push, any-same, FollowInOrder-push, same-last}

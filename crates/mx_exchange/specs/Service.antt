@@ -1,5 +1,5 @@
 -- What the functions that ask a link promise one another.
-use Rattle.std.specs.Prelude.{◌≡◌, ℕ, ◌+◌, ◌≤◌, Bool, true, false, List, [], ◌∷◌, ◌++◌, length, drop, ◌⊎◌, count_by}
+use Rattle.std.specs.Prelude.{◌≡◌, ℕ, ◌≤◌, Bool, true, false, List, [], ◌∷◌, ◌++◌, length, drop, ◌⊎◌, count_by}
 use Rattle.mx_types.specs.declared.code.Code.{Code}
 use Rattle.mx_request.specs.Request.{RequestValue}
 use Rattle.mx_body.specs.Decoder.{Decoded}

@@ -4,6 +4,7 @@ use Rattle.mx_types.specs.declared.code.Code.{Code}
 use Rattle.mx_types.specs.declared.code.Code.TheVariants as code
 use Rattle.mx_request.specs.Request.{RequestValue}
 use Rattle.mx_body.specs.declared.part.Part.{Part}
+use Rattle.futures.specs.declared.task.waker.Waker.{Waker}
 use Rattle.mx_link.specs.Answers.{given}
 use Rattle.mx_link.specs.declared.answers.Answer.{Answer}
 use Rattle.mx_exchange.specs.Order.{InOrder}
@@ -17,7 +18,7 @@ pub record OutcomeValue : Type 0 where
   pub parts : List Part
 
 -- A transfer. `answers` are what its link answered since it was attached or probed, in order, and `attached` is the link as it was
--- then. `received` counts the bytes of the wire.
+-- then. `received` counts the bytes of the wire. `waker` is where a poll that waits leaves its task's waker, for all that it waits for.
 pub record TransferState (L : Type 0) : Type 0 where
   pub request : RequestValue
   pub link : Option L
@@ -37,6 +38,7 @@ pub record TransferState (L : Type 0) : Type 0 where
   pub received : ℕ
   pub link_source : ℕ
   pub time_source : ℕ
+  pub waker : Option Waker
 
 -- it needs a link, and no code was given in place of one
 abbrev pub WantsLink : {L : Type 0} → TransferState L → Type 0

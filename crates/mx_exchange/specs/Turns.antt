@@ -1,5 +1,5 @@
 -- What one poll of a transfer does.
-use Rattle.std.specs.Prelude.{◌≡◌, ◌≢◌, ℕ, ◌≤◌, Bool, true, false, List, [], ◌∷◌, ◌++◌, length, Option, Some, None, ◌⊎◌, count_by}
+use Rattle.std.specs.Prelude.{◌≡◌, ◌≢◌, ◌≤◌, true, false, List, [], ◌∷◌, ◌++◌, length, Some, None, ◌⊎◌, count_by}
 use Rattle.mx_types.specs.declared.code.Code.TheVariants as code
 use Rattle.mx_body.specs.Decision.{HasStatus}
 use Rattle.mx_body.specs.Decoder.{parts_of}
@@ -7,9 +7,11 @@ use Rattle.mx_body.specs.declared.verdict.Verdict.{Verdict}
 use Rattle.mx_link.specs.Answers.{is_read, is_write, is_blocked, given}
 use Rattle.mx_link.specs.declared.answers.Answer.{Answer}
 use Rattle.mx_link.specs.declared.answers.Answer.TheVariants as said
+use Rattle.futures.specs.Slot.{IsLeftIn}
+use Rattle.futures.specs.declared.task.context.Context.{Context}
 use Rattle.futures.specs.declared.task.Poll.{Poll}
 use Rattle.futures.specs.declared.task.Poll.TheVariants as poll
-use Rattle.mx_exchange.specs.Order.{is_connect}
+use Rattle.mx_exchange.specs.Order.{InOrder, is_connect}
 use Rattle.mx_exchange.specs.Endings.{EndsBy, MustRetry, may_keep}
 use Rattle.mx_exchange.specs.Transfers.{OutcomeValue, TransferState, IsDue, LinkTold, clocked, dropped}
 
@@ -101,7 +103,8 @@ pub data Turns {L : Type 0} (history : L → List Answer) (t new : TransferState
   unserved : MayTouch t → t.link ≡ None → new ≡ t → Turns history t new waits
   refused : MayTouch t → ProbeFails history t new → Turns history t new waits
   lost : MayTouch t → (mid last : TransferState L) → Probed history t mid → Answered history mid last
-      → MustRetry t.request.method t.is_reused last.answers → new ≡ dropped t → Turns history t new waits
+      → InOrder t.is_reused t.request.bytes last.answers → MustRetry t.request.method t.is_reused last.answers
+      → new ≡ dropped t → Turns history t new waits
   blocked : MayTouch t → (mid : TransferState L) → Probed history t mid → (a : Answered history mid new)
       → EndsBlocked a.more → GoesOn mid new → Turns history t new waits
   unfinished : MayTouch t → (mid : TransferState L) → Probed history t mid → (a : Answered history mid new)
@@ -109,8 +112,10 @@ pub data Turns {L : Type 0} (history : L → List Answer) (t new : TransferState
   ended : {o : OutcomeValue} → MayTouch t → (mid : TransferState L) → Probed history t mid → Answered history mid new
       → EndsOver mid new o → ¬ (MustRetry t.request.method t.is_reused new.answers) → Turns history t new (ends o)
 
--- what a poll answers, and whether it asked to be polled again
-abbrev pub PollSo : {L : Type 0} → (L → List Answer) → TransferState L → TransferState L → Poll OutcomeValue → Bool → Type 0
-PollSo history old new (poll.Ready o) woken = Turns history (clocked old) new (ends o)
-PollSo history old new poll.Pending woken =
-    Turns history (clocked old) new waits ⊎ (Turns history (clocked old) new asks × (woken ≡ true))
+-- What a poll answers. One that waits has left its task's waker in the transfer, unless none could be made, and nothing else of the
+-- transfer is new; any other that is pending has asked to be polled again.
+abbrev pub PollSo : {L : Type 0} → (L → List Answer) → TransferState L → TransferState L → Poll OutcomeValue → Context → Context → Type 0
+PollSo history old new (poll.Ready o) was is = Turns history (clocked old) new (ends o)
+PollSo history old new poll.Pending was is =
+    (Turns history (clocked old) (record new { waker = old.waker }) waits × IsLeftIn was is new.waker)
+    ⊎ (Turns history (clocked old) new asks × (is.is_woken ≡ true))

@@ -95,26 +95,30 @@ impl<L: Link> Service<L> {
 
     /// Asks a link that nothing was asked of for a byte. True where it has none now: from there on it serves.
     pub(crate) fn probe(&mut self) -> bool
-        ensures answered { (answer : OneAnswer) × (is_read answer ≡ true) × (L.history self.new.link ≡ L.history self.old.link ++ answer ∷ []) × (IsTrue result ↔ (answer ≡ said.ReadBlocked)) }
-        ensures begun { IsTrue result → self.new.attached.value ≡ self.new.link }
+        ensures answered { (answer : OneAnswer) × (is_read answer ≡ true) × (L.history self.new.link ≡ L.history self.old.link ++ answer ∷ [])
+            × (IsTrue result ↔ (answer ≡ said.ReadBlocked)) × (result ≡ false → self.new.answers ≡ self.old.answers ++ answer ∷ []) }
+        ensures begun { IsTrue result → (self.new.attached.value ≡ self.new.link) × (self.new.answers ≡ self.old.answers) }
+        ensures attached { result ≡ false → self.new.attached ≡ self.old.attached }
         ensures probed { self.new.needs_probe ≡ false }
-        ensures answers { self.new.answers ≡ self.old.answers }
         ensures reused { self.new.is_reused ≡ self.old.is_reused }
         ensures stands { self.new.stands ≡ self.old.stands }
         ensures written { self.new.written ≡ self.old.written }
     {
         self.needs_probe = false;
         let mut byte = [0; 1];
-        match self.link.try_read(&mut byte) {
-            Read::WouldBlock => {
-                self.attached = Snapshot::of(&self.link);
-                true
-            }
-            Read::Bytes(_) => false,
-            Read::End => false,
-            Read::Fault => false,
+        let read = self.link.try_read(&mut byte);
+        if matches!(read, Read::WouldBlock) {
+            self.attached = Snapshot::of(&self.link);
+            return true;
         }
+        self.answers.note(Answer::to_read(read, &byte));
+        false
     }
+
+    /// Drops the link. Nothing was asked of it but what its answers tell.
+    pub(crate) fn discard(self)
+        requires told { L.history self.link ≡ L.history self.attached.value ++ self.answers }
+    {}
 
     /// Asks whether the connection stands.
     fn connect(&mut self, request: &Request, decoder: &Decoder) -> Step

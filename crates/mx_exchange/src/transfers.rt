@@ -51,9 +51,9 @@ pub struct Transfer<L: Link> {
     // Once it has ended.
     received: usize,
     link_source: Source,
-    link_waker: Option<Waker>,
     time_source: Source,
-    time_waker: Option<Waker>,
+    // Of the task that polls it, for both sources.
+    waker: Option<Waker>,
 }
 
 impl<L: Link> Model for Transfer<L> {
@@ -83,6 +83,7 @@ impl<L: Link> Model for Transfer<L> {
       received = unwrap_or (option_map (λ w. length w.decoder.wire) t.work) t.received;
       link_source = t.link_source.id;
       time_source = t.time_source.id;
+      waker = t.waker;
     } };
 
     ghost invariant = { λ t. record {
@@ -123,6 +124,7 @@ impl<L: Link> Transfer<L> {
           received = 0;
           link_source = result.link_source;
           time_source = result.time_source;
+          waker = None;
         } }
     {
         let decoder = Decoder::new(alloc, request.method());
@@ -142,9 +144,8 @@ impl<L: Link> Transfer<L> {
             is_kept: false,
             received: 0,
             link_source: Source::new(),
-            link_waker: None,
             time_source: Source::new(),
-            time_waker: None,
+            waker: None,
         }
     }
 
@@ -169,9 +170,8 @@ impl<L: Link> Transfer<L> {
             is_kept: _,
             received: _,
             link_source: _,
-            link_waker: _,
             time_source: _,
-            time_waker: _,
+            waker: _,
         } = self;
         let Some(work) = work else { unreachable!() };
         let Exchange {
@@ -303,6 +303,7 @@ impl<L: Link> Transfer<L> {
     ghost use Rattle.mx_exchange.specs.Turned.{how_of, ProbeSo, Exchanged};
     ghost use Rattle.mx_exchange.specs.Turns.{StopsWith, Turns};
     ghost use Rattle.futures.specs.Task.{Hears, IsArmed, Keeps};
+    ghost use Rattle.futures.specs.Slot.{IsLeftIn};
     ghost use Rattle.futures.specs.declared.task.Poll.TheVariants as Poll;
 
     // What is true of every transfer.
@@ -375,6 +376,7 @@ impl<L: Link> Transfer<L> {
             self.service = Some(service);
             return true;
         }
+        service.discard();
         self.needs_fresh = true;
         false
     }
@@ -404,6 +406,7 @@ impl<L: Link> Transfer<L> {
                 Turn::Asks
             }
             Served::Lost => {
+                service.discard();
                 self.work = Some(work.again(self.alloc));
                 self.needs_fresh = true;
                 Turn::Waits
@@ -439,20 +442,29 @@ impl<L: Link> Transfer<L> {
         self.exchange()
     }
 
-    // Registers with what the transfer waits for: its link, and its deadline.
+    // Registers with the deadline, where it has one.
+    fn hear_deadline(&mut self, cx: &mut Context<'_>)
+        ensures same { self.new ≡ record self.old { waker = self.new.waker } }
+        ensures time { IsSome self.new.deadline → Hears cx.new self.new.time_source }
+        ensures kept { Keeps cx.old cx.new }
+    {
+        if self.deadline.is_some() {
+            let _waiting: Poll<()> = cx.register(&self.time_source, &mut self.waker);
+        }
+    }
+
+    // Registers with what the transfer waits for: its deadline, and its link. One waker is left, for both.
     fn wait(&mut self, cx: &mut Context<'_>) -> Poll<Outcome>
         ensures pending { result ≡ Poll.Pending }
-        ensures same { self.new ≡ self.old }
+        ensures same { self.new ≡ record self.old { waker = self.new.waker } }
         ensures armed { IsArmed cx.new }
         ensures link { Hears cx.new self.new.link_source }
         ensures time { IsSome self.new.deadline → Hears cx.new self.new.time_source }
         ensures kept { Keeps cx.old cx.new }
+        ensures left { IsLeftIn cx.old cx.new self.new.waker }
     {
-        let waiting = cx.register(&self.link_source, &mut self.link_waker);
-        if self.deadline.is_none() {
-            return waiting;
-        }
-        cx.register(&self.time_source, &mut self.time_waker)
+        self.hear_deadline(cx);
+        cx.register(&self.link_source, &mut self.waker)
     }
 }
 
@@ -479,7 +491,7 @@ impl<L: Link> Future for Transfer<L> {
         ensures same { OnPending result (self.new.request ≡ self.old.request) }
         ensures registered { OnPending result (Covers cx.new (λ s. (s ≡ self.new.link_source) ⊎ (IsSome self.new.deadline × (s ≡ self.new.time_source)))) }
         ensures kept { Keeps cx.old cx.new }
-        ensures turn { PollSo L.history self.old self.new result cx.new.is_woken }
+        ensures turn { PollSo L.history self.old self.new result cx.old cx.new }
         // 28 comes where the deadline is due, and only there
         ensures late { IfReady result (λ outcome. (outcome.code ≡ Code.OperationTimedout) ↔ IsDue (clocked self.old).deadline self.old.moment) }
         ensures served { IsServed L.history self.new }

@@ -1,7 +1,6 @@
-use Rattle.std.proofs.Common.{◌≡◌, ℕ, suc, ◌+◌, ◌-◌, ◌<◌, ◌≤◌, List, length, take, refl, sym, ◌∙◌, ap, arith, rules}
+use Rattle.std.proofs.Common.{◌≡◌, ℕ, suc, ◌+◌, ◌-◌, ◌<◌, length, sym, ◌∙◌, ap, arith}
 use Rattle.std.proofs.Math.ListN.{get_or}
 use Rattle.mx_body.specs.declared.part.Part.{Part}
-use Rattle.mx_body.specs.ChunkedLaws.{joined}
 use Rattle.mx_exchange.proofs.Bodies.{joined_next}
 use Rattle.mx_exchange.proofs.outcomes.Outcome.body_len.Goals as goal
 

@@ -1,4 +1,3 @@
-use Rattle.std.proofs.Common.{rules}
 use Rattle.mx_exchange.proofs.Steps.{Turn-connected, Turn-connecting, Turn-unconnected}
 use Rattle.mx_exchange.proofs.service.Service.connect.Goals as goal
 

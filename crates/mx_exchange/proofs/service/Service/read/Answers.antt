@@ -1,4 +1,4 @@
-use Rattle.std.proofs.Common.{◌≡◌, rules, refl, sym, ◌∙◌}
+use Rattle.std.proofs.Common.{refl, sym, ◌∙◌}
 use Rattle.mx_exchange.proofs.Steps.{Turn-unheard, Turn-failed, Turn-failed_retry, Turn-ended_retry, Turn-whole, Turn-bad, Turn-heard, Turn-lost_bytes, Turn-lost_end, Turn-ended_whole, Turn-ended_bad}
 use Rattle.mx_exchange.proofs.service.Service.read.Goals as goal
 

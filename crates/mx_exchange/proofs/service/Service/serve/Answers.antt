@@ -1,4 +1,4 @@
-use Rattle.std.proofs.Common.{rules, ◌≡◌, ◌<◌, refl, sym, ◌∙◌, arith}
+use Rattle.std.proofs.Common.{◌∙◌, arith}
 use Rattle.mx_exchange.proofs.Serves.{Serves-connected, Serves-wrote, Serves-heard}
 use Rattle.mx_exchange.proofs.service.Service.serve.Goals.{in-Connected, in-Wrote+else-writes-eq-MOST_WRITES, in-Heard+else-reads-eq-MOST_READS}
 use Rattle.mx_exchange.proofs.service.Service.serve.Goals as goal

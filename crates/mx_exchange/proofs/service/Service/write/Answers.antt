@@ -1,4 +1,4 @@
-use Rattle.std.proofs.Common.{◌≡◌, rules, refl, sym, ◌∙◌}
+use Rattle.std.proofs.Common.{refl}
 use Rattle.mx_exchange.proofs.Ordered.{rest_of}
 use Rattle.mx_exchange.proofs.Steps.{Turn-wrote, Turn-unwritten, Turn-unsent, Turn-unsent_retry}
 use Rattle.mx_exchange.proofs.service.Service.write.Goals as goal

@@ -1,4 +1,4 @@
-use Rattle.std.proofs.Common.{◌≡◌, Some, None, refl, sym, ◌∙◌, rules}
+use Rattle.std.proofs.Common.{refl}
 use Rattle.mx_exchange.proofs.Advanced.{Advance-late, Advance-given_up, Advance-paused, Advance-refused, Advance-turned}
 use Rattle.mx_exchange.proofs.transfers.Transfer.advance.Goals as goal
 

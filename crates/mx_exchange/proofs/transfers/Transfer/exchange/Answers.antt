@@ -1,4 +1,4 @@
-use Rattle.std.proofs.Common.{◌≡◌, Some, None, refl, sym, ◌∙◌, rules}
+use Rattle.std.proofs.Common.{◌≡◌, Some, None, refl, sym, ◌∙◌}
 use Rattle.mx_exchange.specs.Turned.{idle}
 use Rattle.mx_exchange.proofs.Advanced.{Exchange-stuck, Exchange-full, Exchange-gone, Exchange-over}
 use Rattle.mx_exchange.proofs.transfers.Transfer.exchange.Goals as goal

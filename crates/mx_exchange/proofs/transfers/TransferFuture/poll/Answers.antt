@@ -1,5 +1,5 @@
-use Rattle.std.proofs.Common.{◌≡◌, None, refl, sym, ◌∙◌, rules}
-use Rattle.mx_exchange.proofs.Advanced.{Turns-request, Turns-alive, Turns-asking, Turns-late}
+use Rattle.std.proofs.Common.{inl}
+use Rattle.mx_exchange.proofs.Advanced.{Turns-request, Turns-alive, Turns-asking, Turns-late, Waits-left}
 use Rattle.mx_exchange.proofs.transfers.TransferFuture.poll.Goals as goal
 
 pub returns-in-Ended-clause-value : goal.returns-in-Ended-clause-value
@@ -13,3 +13,6 @@ returns-in-Ended-clause-late g c = Turns-late _ _ _ _ c.know.ensures.failed c.in
 
 pub returns-in-Asks-clause-undecided : goal.returns-in-Asks-clause-undecided
 returns-in-Asks-clause-undecided g c = rw c.yield_now.ensures.pending (c.know-2.ensures.undecided (Turns-asking _ _ _ c.requires c.in-Asks.ensures))
+
+pub returns-in-Waits-clause-turn : goal.returns-in-Waits-clause-turn
+returns-in-Waits-clause-turn g c = rw c.wait.ensures.pending (inl (Waits-left _ c.args.self.now _ _ c.in-Waits.ensures c.wait.ensures.same, c.wait.ensures.left))
