@@ -1,11 +1,13 @@
-//! Want of memory: a log that refuses one append, over a script of all calls.
+//! Want of memory: a log that refuses one append, over a script of all calls; beside it, what the plain programs of
+//! `definitions` read off that log.
 ghost use Rattle.std.specs.Prelude.{◌≡◌, ◌≤◌, [], List, ℕ};
 
 use crate::claim::Claim;
 use crate::control::Control;
+use crate::definitions;
 use crate::log::{Log, VecLog};
 use crate::replies::{AddReply, FinishReply, InfoReply, PauseReply, RemoveReply, WakeupReply};
-use mx_types::{Code, Ending, Event, HandleId, OutOfMemory, State, Ticket, Who, Work};
+use mx_types::{Code, Ending, Event, HandleId, OutOfMemory, State, Ticket, What, Who, Work};
 use std::alloc::Global;
 use std::process::Abort;
 use std::test::Fail;
@@ -149,6 +151,28 @@ const SCRIPT: [Step; 14] = [
     Step::Remove(7),
 ];
 
+/// The core answers what the plain programs read off its log.
+fn agrees(rt: &impl Abort, alloc: Global, caller: &Caller) -> Result<(), Fail> {
+    let events = caller.log.list.events();
+    assert!(rt; definitions::is_legal(alloc, events)?);
+    let mut handles = Vec::new(alloc);
+    for addition in definitions::added(alloc, events)?.iter() {
+        handles.push(addition.0)?;
+    }
+    assert_eq!(rt; caller.control.handles().as_slice(), handles.as_slice());
+    let running = definitions::running(alloc, events)?;
+    assert_eq!(rt; caller.control.running() as usize, running.len());
+    assert_eq!(rt;
+        caller.control.made(SEAT) as usize,
+        definitions::made(events, SEAT)
+    );
+    assert_eq!(rt;
+        caller.control.poll_ready(5),
+        definitions::is_ready(5, events)
+    );
+    Ok(())
+}
+
 /// Runs the script with a log that refuses its append number `refused`; the call that finds no memory changes
 /// nothing, and is made again.
 fn refuses_at(rt: &impl Abort, alloc: Global, refused: u32) -> Result<(), Fail> {
@@ -172,6 +196,7 @@ fn refuses_at(rt: &impl Abort, alloc: Global, refused: u32) -> Result<(), Fail> 
             assert!(rt; !caller.lacks_memory(step)?);
         }
         assert_eq!(rt; caller.control.len(), events + 1);
+        agrees(rt, alloc, &caller)?;
     }
     assert!(rt; matches!(caller.control.state(HandleId(9)), State::Running(Ticket(2))));
     assert_eq!(rt; caller.control.made(SEAT), 14);
@@ -184,4 +209,42 @@ fn a_refused_log_changes_nothing(rt: HostRuntime) -> Result<(), Fail> {
         refuses_at(&rt, rt.alloc(), refused)?;
     }
     Ok(())
+}
+
+fn event(what: What) -> Event {
+    Event { who: SEAT, what }
+}
+
+/// Lists that are no history of a multi handle, and one that is.
+fn tells_histories(rt: &impl Abort, alloc: Global) -> Result<(), Fail> {
+    let added = event(What::Added(HandleId(7), Ticket(0)));
+    let again = event(What::Added(HandleId(7), Ticket(1)));
+    let numbered_again = event(What::Added(HandleId(8), Ticket(0)));
+    let paused = event(What::Paused(Ticket(0)));
+    let resumed = event(What::Resumed(Ticket(0)));
+    let done = event(What::Done(Ticket(0), Code::Ok, 3));
+    let read = event(What::Read(Ticket(0)));
+    let removed = event(What::Removed(HandleId(7), Ticket(0)));
+    let whole = [added, paused, resumed, done, read, removed, again];
+    assert!(rt; definitions::is_legal(alloc, &whole)?);
+    assert!(rt; !definitions::is_legal(alloc, &[added, again])?);
+    assert!(rt; !definitions::is_legal(alloc, &[added, numbered_again])?);
+    assert!(rt; !definitions::is_legal(alloc, &[added, resumed])?);
+    assert!(rt; !definitions::is_legal(alloc, &[added, paused, paused])?);
+    assert!(rt; !definitions::is_legal(alloc, &[added, read])?);
+    assert!(rt; !definitions::is_legal(alloc, &[added, done, done])?);
+    assert!(rt; !definitions::is_legal(alloc, &[added, removed, done])?);
+    let waiting = definitions::waiting(alloc, &[added, done])?;
+    assert_eq!(rt; waiting.first().copied(), Some((Ticket(0), Code::Ok, 3)));
+    assert!(rt; definitions::waiting(alloc, &[added, done, removed])?.is_empty());
+    let paused_now = definitions::paused(alloc, &[added, paused])?;
+    assert_eq!(rt; paused_now.first().copied(), Some(Ticket(0)));
+    assert!(rt; definitions::paused(alloc, &[added, paused, done])?.is_empty());
+    assert_eq!(rt; definitions::additions(&whole), 2);
+    Ok(())
+}
+
+#[test]
+fn the_definitions_tell_histories(rt: HostRuntime) -> Result<(), Fail> {
+    tells_histories(&rt, rt.alloc())
 }
