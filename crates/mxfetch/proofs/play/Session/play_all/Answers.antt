@@ -38,4 +38,4 @@ loop-preserved g c =
 pub returns-clause-played : goal.returns-clause-played
 returns-clause-played g c =
     unread _ _ _ _ _ _ _ c.loop.invariant.played
-    (subst (λ z. Keeps (g.R.Read.remaining c.loop.input.reader) (g.R.Read.remaining z)) (sym c.fail.ensures.reader) (Keeps-refl _))
+    (subst (λ z. Keeps (g.R.Read.remaining c.loop.input.reader) (g.R.Read.remaining z)) (sym c.stop_at.ensures.reader) (Keeps-refl _))
