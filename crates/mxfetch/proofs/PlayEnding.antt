@@ -1,6 +1,6 @@
 -- What a run of a script has printed in the end.
-use Rattle.std.proofs.Common.{◌≡◌, ℕ, ◌+◌, ◌∙◌, sym, refl, ap, subst, List, [], ◌∷◌, ◌++◌, inl, inr}
-use Rattle.std.specs.Prelude.{◌⊎◌, Option, Some, None, Result, Ok, Err, IfOk}
+use Rattle.std.proofs.Common.{◌≡◌, ℕ, ◌+◌, ◌∙◌, sym, refl, ap, subst, List, [], ◌++◌, inl, inr}
+use Rattle.std.specs.Prelude.{Option, Some, None, Result, Ok, Err, IfOk}
 use Rattle.std.specs.Io.KnownBytes.{Appends, Keeps}
 use Rattle.std.proofs.KnownBytes.{Appends-kept}
 use Rattle.mxfetch.specs.declared.play.Session.{Session}
@@ -9,7 +9,7 @@ use Rattle.mxfetch.specs.declared.play.Turn.TheVariants as turn
 use Rattle.mxfetch.specs.BodyTexts.{fault_line}
 use Rattle.mxfetch.specs.BodyRun.{PrintsFault}
 use Rattle.mxfetch.specs.PlayScript.{lines_of}
-use Rattle.mxfetch.specs.PlayRun.{Outcome, outcome, fresh, run_of_lines, run_of, IsScript, PrintsRun, PrintsUnread, PrintsNoMemory, AnswersScript}
+use Rattle.mxfetch.specs.PlayRun.{Outcome, outcome, fresh, run_of_lines, run_of, IsScript, PrintsRun, PrintsUnread, AnswersScript}
 use Rattle.mxfetch.specs.PlaySession.{rest_of, ran, RanWhole, RanShort, RanUnread, PlaysAll}
 use Rattle.mxfetch.proofs.BodyRun.{appended_twice}
 use Rattle.mxfetch.proofs.PlayWords.{first_piece}

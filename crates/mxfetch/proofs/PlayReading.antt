@@ -1,5 +1,5 @@
 -- A script that is read in pieces: what was played of it, and how that ends.
-use Rattle.std.proofs.Common.{◌≡◌, ◌≢◌, ℕ, ◌+◌, ◌<◌, ◌∙◌, sym, refl, ap, subst, List, [], ◌∷◌, ◌++◌, length, take, append_assoc, append-nil, drop, get_or, take-append-drop}
+use Rattle.std.proofs.Common.{◌≡◌, ◌≢◌, ℕ, ◌+◌, ◌<◌, ◌∙◌, sym, refl, ap, subst, List, [], ◌∷◌, ◌++◌, length, take, append-nil, drop, get_or, take-append-drop}
 use Rattle.std.specs.Prelude.{Option, Some, None}
 use Rattle.std.specs.Io.KnownBytes.{Appends, Consumes, Keeps, IsAtEnd}
 use Rattle.std.proofs.KnownBytes.{Appends-kept, Consumes-trans, Consumes-kept}
@@ -7,8 +7,8 @@ use Rattle.mxfetch.specs.declared.play.Session.{Session}
 use Rattle.mxfetch.specs.declared.play.Turn.{Turn}
 use Rattle.mxfetch.specs.declared.play.Turn.TheVariants as turn
 use Rattle.mxfetch.specs.PlayScript.{lines_of}
-use Rattle.mxfetch.specs.PlayRun.{Outcome, after, outcome, IsScript}
-use Rattle.mxfetch.specs.PlaySession.{IsUnended, rest_of, ran, EndsLine, Plays, RanWhole, RanShort, RanUnread, PlaysAll}
+use Rattle.mxfetch.specs.PlayRun.{after, outcome, IsScript}
+use Rattle.mxfetch.specs.PlaySession.{IsUnended, rest_of, ran, EndsLine, Plays, PlaysAll}
 use Rattle.mxfetch.proofs.BodyRun.{appended_twice}
 use Rattle.std.proofs.lemmas.List.{take_more}
 use Rattle.mxfetch.proofs.PlaySession.{unended_line, plays_then, plays_none, plays_further}

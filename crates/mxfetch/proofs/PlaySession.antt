@@ -1,11 +1,9 @@
 -- What a session has taken in: bytes one after the other, and lines.
-use Rattle.std.proofs.Common.{◌≡◌, ◌≢◌, ℕ, ◌+◌, ◌<◌, ◌≤◌, ◌∙◌, sym, refl, ap, subst, List, [], ◌∷◌, ◌++◌, length, append_assoc, append-nil, Bool, true, false, cond, arith, length-append}
+use Rattle.std.proofs.Common.{◌≡◌, ◌≢◌, ℕ, ◌+◌, ◌<◌, ◌∙◌, sym, refl, ap, subst, List, [], ◌∷◌, ◌++◌, length, append_assoc, append-nil, Bool, true, false, cond, arith, length-append}
 use Rattle.std.specs.Prelude.{◌==◌, Option, Some, None, Result, Ok, Err, IfOk, OnOk}
 use Rattle.mxfetch.specs.declared.output.WriteFailed.{WriteFailed}
 use Rattle.mxfetch.specs.declared.play.player.Said.{Said}
-use Rattle.std.specs.List.{AllByRecursion}
-use Rattle.std.specs.Io.KnownBytes.{Appends, Consumes, Keeps, IsAtEnd}
-use Rattle.std.proofs.KnownBytes.{Appends-kept, Consumes-trans, Consumes-kept}
+use Rattle.std.specs.Io.KnownBytes.{Appends}
 use Rattle.std.proofs.lemmas.Bool.{eqb-true}
 use Rattle.mxfetch.proofs.BodyRun.{appended_twice}
 use Rattle.mxfetch.proofs.PlayWords.{first_piece, line_long}
@@ -18,8 +16,8 @@ use Rattle.mx_types.specs.declared.call.Call.{Call}
 use Rattle.mxfetch.specs.PlayScript.{pieces, onto_first, lines_of, line_of}
 use Rattle.mxfetch.specs.PlayTexts.{said_text}
 use Rattle.mxfetch.specs.PlayTurns.{PlayerView, says, player_past}
-use Rattle.mxfetch.specs.PlayRun.{Outcome, after, outcome, outcome_with, bad_line_text, IsScript}
-use Rattle.mxfetch.specs.PlaySession.{IsUnended, rest_of, ran, Tells, Ends, IsLast, Stops, GoesOn, Follows, TellsLine, EndsRun, EndsLine, Plays, RanWhole, RanShort, RanUnread, PlaysAll}
+use Rattle.mxfetch.specs.PlayRun.{Outcome, after, outcome, outcome_with, bad_line_text}
+use Rattle.mxfetch.specs.PlaySession.{IsUnended, rest_of, TellsLine, EndsLine, Plays}
 
 -- nothing is written
 appended_none : (a : Option (List ℕ)) → Appends a a []

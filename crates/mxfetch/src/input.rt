@@ -15,7 +15,7 @@ pub struct Input<R> {
 }
 
 impl<R: Read> Input<R> {
-    ghost use Rattle.std.specs.Prelude.{◌≡◌, ◌+◌, ◌≤◌, true, false, IsErr, IsOk, OnOk, OnErr, ◌↔◌};
+    ghost use Rattle.std.specs.Prelude.{◌≡◌, ◌+◌, ◌<◌, ◌≤◌, true, false, IsErr, IsOk, OnOk, OnErr, ◌↔◌};
     ghost use Rattle.std.specs.Io.{ReadsAtMost};
     ghost use Rattle.std.specs.Io.KnownBytes.{ReadConsumes};
     ghost use Rattle.mxfetch.specs.Ends.{reader_of, reads_of, most_reads_of, has_failed_read};
@@ -61,13 +61,16 @@ impl<R: Read> Input<R> {
         }
     }
 
-    /// Fails the input for good, as a read past the count allowed does.
-    pub fn fail(&mut self)
+    /// Fails the input for good where it was read so often, as a read past the count allowed does.
+    pub fn stop_at(&mut self, most: u64)
         ensures reader { reader_of self.new ≡ reader_of self.old }
         ensures reads { reads_of self.new ≡ reads_of self.old }
         ensures most { most_reads_of self.new ≡ most_reads_of self.old }
-        ensures failed { has_failed_read self.new ≡ true }
+        ensures failed { most ≤ reads_of self.old → has_failed_read self.new ≡ true }
+        ensures stays { reads_of self.old < most → self.new ≡ self.old }
     {
-        self.failed = true;
+        if self.reads >= most {
+            self.failed = true;
+        }
     }
 }

@@ -156,7 +156,7 @@ impl Session {
                 Turn::NoMemory => return Ok(Some(Turn::NoMemory)),
             }
         }
-        input.fail();
+        input.stop_at(MOST_READS);
         Ok(None)
     }
 }

@@ -1,4 +1,4 @@
-use Rattle.std.proofs.Common.{◌≡◌, ◌<◌, ◌≤◌, ◌+◌, ◌*◌, length, take, arith, ℕ, subst, sym}
+use Rattle.std.proofs.Common.{◌<◌, ◌≤◌, ◌+◌, ◌*◌, length, take, arith, ℕ, subst, sym}
 use Rattle.std.proofs.KnownBytes.{Keeps-refl}
 use Rattle.std.specs.Io.KnownBytes.{Keeps}
 use Rattle.std.proofs.lemmas.List.{length-take}
@@ -38,4 +38,4 @@ loop-preserved g c =
 pub returns-clause-played : goal.returns-clause-played
 returns-clause-played g c =
     unread _ _ _ _ _ _ _ c.loop.invariant.played
-    (subst (λ z. Keeps (g.R.Read.remaining c.loop.input.reader) (g.R.Read.remaining z)) (sym c.fail.ensures.reader) (Keeps-refl _))
+    (subst (λ z. Keeps (g.R.Read.remaining c.loop.input.reader) (g.R.Read.remaining z)) (sym c.stop_at.ensures.reader) (Keeps-refl _))

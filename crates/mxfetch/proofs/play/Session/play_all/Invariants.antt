@@ -1,4 +1,4 @@
-use Rattle.std.proofs.Common.{◌≤◌, ◌+◌, ◌*◌}
+use Rattle.std.proofs.Common.{◌≡◌, ◌≤◌, ◌+◌, ◌*◌}
 use Rattle.mxfetch.proofs.PlayReading.{HasPlayed}
 use Rattle.mxfetch.proofs.play.Session.play_all.Given as goal
 
@@ -7,5 +7,5 @@ invariant-loop g l = record {
   played : HasPlayed l.initial.self l.self (g.R.Read.remaining l.initial.input.reader) (g.R.Read.remaining l.input.reader)
       (g.W.Write.contents l.initial.output.writer) (g.W.Write.contents l.output.writer);
   counted : l.self.lines ≤ l.counter * 4096;
-  reads : l.input.reads ≤ l.initial.input.reads + l.counter;
+  reads : l.input.reads ≡ l.initial.input.reads + l.counter;
 }

@@ -1,4 +1,4 @@
-use Rattle.std.proofs.Common.{◌≡◌, ◌<◌, ◌≤◌, ◌+◌, length, arith}
+use Rattle.std.proofs.Common.{◌≤◌, ◌+◌, arith}
 use Rattle.mxfetch.specs.declared.play.Turn.TheVariants as turn
 use Rattle.mxfetch.proofs.PlayReading.{took_as, took_last, bad_over, short_over}
 use Rattle.mxfetch.proofs.play.Session.take_all.Goals as goal

@@ -1,4 +1,4 @@
-use Rattle.std.proofs.Common.{◌≡◌, ◌≤◌, ◌+◌, take, length}
+use Rattle.std.proofs.Common.{◌≤◌, ◌+◌, take}
 use Rattle.mxfetch.specs.declared.play.Turn.TheVariants as turn
 use Rattle.mxfetch.specs.PlaySession.{Plays}
 use Rattle.mxfetch.proofs.play.Session.take_all.Given as goal
