@@ -1,25 +1,30 @@
-//! A transfer over scripted links, polled by hand, and what is seen of it.
+//! A transfer over scripted links that is called by hand, and what is seen of it.
 //!
-//! Each call stands in a function of its own with no contract, which keeps the proof of the tests short. Where the
-//! call has a condition the function tries it first.
+//! The functions have no contracts, and at most one value that is dear to drop: so their proofs are short, and so are
+//! those of the tests, which have only plain values. Where a call of the transfer has a condition, it is tried first.
 
 use futures::task::Poll;
 use futures::test::MockTask;
 use mx_exchange::{Outcome, Transfer};
 use mx_link::{ScriptLink, ScriptRead, Write};
 use mx_request::Request;
-use mx_types::{Code, Method, Settings};
-use std::alloc::Global;
+use mx_types::{Code, Ending as Ends, Method, OutOfMemory, Settings};
+use std::alloc::{AllocGlobal, Global};
+use std::random::RandomSource;
 use std::test::Fail;
 
-/// What is seen of a transfer that has answered `Pending`.
-#[derive(Clone, Copy, Debug, PartialEq, Eq)]
-pub(crate) struct Waiting {
-    /// It has asked to be polled again.
-    pub(crate) asks: bool,
-    pub(crate) wants: Wanted,
-    pub(crate) received: u32,
-    pub(crate) deadline: Option<u64>,
+/// A call on a transfer.
+#[derive(Clone, Copy)]
+pub(crate) enum Call<'a> {
+    /// Hands over a link that was never in use, and that answers so.
+    Fresh(&'a [ScriptRead<'a>], &'a [Write]),
+    /// Hands over a link that was in use before.
+    Reused(&'a [ScriptRead<'a>]),
+    /// Says that no link can be had, as the lookup of the host failed.
+    NoLink,
+    /// Sets the moment, and whether the transfer is paused.
+    Prepare(u64, bool),
+    Poll,
 }
 
 /// Which link a transfer wants.
@@ -30,37 +35,81 @@ pub(crate) enum Wanted {
     Fresh,
 }
 
-/// What an outcome holds.
+/// What is seen of a transfer that has answered `Pending`.
 #[derive(Clone, Copy, Debug, PartialEq, Eq)]
-pub(crate) struct Held<'a> {
+pub(crate) struct Waiting {
+    /// It has asked to be polled again.
+    pub(crate) asks: bool,
+    pub(crate) wants: Wanted,
+    pub(crate) started: bool,
+    pub(crate) received: u32,
+    pub(crate) deadline: Option<u64>,
+}
+
+/// What a transfer has ended with.
+#[derive(Clone, Copy, Debug, PartialEq, Eq)]
+pub(crate) struct Ended<'a> {
     pub(crate) code: Code,
     pub(crate) status: u16,
     pub(crate) wire: &'a [u8],
     pub(crate) part_count: usize,
     /// The first part.
     pub(crate) part: Option<&'a [u8]>,
-    pub(crate) body_len: u32,
+    /// The copy of all parts.
+    pub(crate) body: &'a [u8],
+    pub(crate) size: u32,
+    /// How many links it gives, asked for twice.
+    pub(crate) links: u32,
 }
 
-impl<'a> Held<'a> {
-    pub(crate) fn by(outcome: &'a Outcome) -> Held<'a> {
-        Held {
+/// What is seen of a transfer.
+#[derive(Clone, Copy, Debug, PartialEq, Eq)]
+pub(crate) struct Seen<'a> {
+    /// Of each poll that answered `Pending`.
+    pub(crate) waits: &'a [Waiting],
+    pub(crate) ended: Option<Ended<'a>>,
+}
+
+#[derive(Drop)]
+struct Ending {
+    outcome: Outcome,
+    body: Vec<u8>,
+    links: u32,
+}
+
+/// What was seen of a transfer.
+#[derive(Drop)]
+pub(crate) struct Played {
+    waits: Vec<Waiting>,
+    ending: Option<Ending>,
+}
+
+impl Played {
+    pub(crate) fn seen(&self) -> Seen<'_> {
+        Seen {
+            waits: self.waits.as_slice(),
+            ended: match &self.ending {
+                None => None,
+                Some(ending) => Some(ending.ended()),
+            },
+        }
+    }
+}
+
+impl Ending {
+    fn ended(&self) -> Ended<'_> {
+        let outcome = &self.outcome;
+        Ended {
             code: outcome.code(),
             status: outcome.status(),
             wire: outcome.wire(),
             part_count: outcome.part_count(),
             part: outcome.part(0),
-            body_len: outcome.body_len(),
+            body: self.body.as_slice(),
+            size: outcome.size(),
+            links: self.links,
         }
     }
-}
-
-/// A transfer, and the task that polls it.
-#[derive(Drop)]
-pub(crate) struct Replay {
-    alloc: Global,
-    task: MockTask,
-    transfer: Transfer<ScriptLink>,
 }
 
 fn build(alloc: Global, method: Method, timeout_ms: u32) -> Result<Request, Fail> {
@@ -69,101 +118,152 @@ fn build(alloc: Global, method: Method, timeout_ms: u32) -> Result<Request, Fail
     Ok(Request::build(alloc, method, "http://127.0.0.1:8080/a?b", settings)?)
 }
 
-impl Replay {
-    /// A transfer with that method and that limit of time, 0 for none.
-    pub(crate) fn new(rt: &HostRuntime, method: Method, timeout_ms: u32) -> Result<Replay, Fail> {
-        let request = build(rt.alloc(), method, timeout_ms)?;
-        Ok(Replay {
-            alloc: rt.alloc(),
-            task: MockTask::new(rt)?,
-            transfer: Transfer::new(rt.alloc(), request),
-        })
-    }
-
-    pub(crate) fn wants(&self) -> Wanted {
-        match self.transfer.wants() {
-            None => Wanted::Nothing,
-            Some(want) => {
-                if want.fresh {
-                    return Wanted::Fresh;
-                }
-                Wanted::Any
+fn wants_of(transfer: &Transfer<ScriptLink>) -> Wanted {
+    match transfer.wants() {
+        None => Wanted::Nothing,
+        Some(want) => {
+            if want.fresh {
+                return Wanted::Fresh;
             }
+            Wanted::Any
         }
     }
+}
 
-    /// Hands over a link that answers so.
-    pub(crate) fn attach(
-        &mut self,
-        reads: &[ScriptRead<'_>],
-        writes: &[Write],
-        is_reused: bool,
-    ) -> Result<(), Fail> {
-        let link = ScriptLink::new(self.alloc, reads, writes)?;
-        match self.transfer.wants() {
-            None => return Err(Fail::from("no link is wanted")),
-            Some(want) => {
-                if want.fresh && is_reused {
-                    return Err(Fail::from("a fresh link is wanted"));
-                }
-            }
+/// Hands over the link; false where no such link is wanted.
+fn attach(transfer: &mut Transfer<ScriptLink>, link: ScriptLink, is_reused: bool) -> bool {
+    let fits = match transfer.wants() {
+        None => false,
+        Some(want) => !(want.fresh && is_reused),
+    };
+    if fits {
+        transfer.attach(link, is_reused);
+    }
+    fits
+}
+
+/// False where no link is wanted.
+fn give_up(transfer: &mut Transfer<ScriptLink>) -> bool {
+    let fits = transfer.wants().is_some();
+    if fits {
+        transfer.fail_link(Code::CouldntResolveHost);
+    }
+    fits
+}
+
+fn links_of(transfer: &mut Transfer<ScriptLink>) -> u32 {
+    let first = transfer.take_link().is_some();
+    let second = transfer.take_link().is_some();
+    u32::from(first) + u32::from(second)
+}
+
+fn waits(task: &MockTask, transfer: &Transfer<ScriptLink>) -> Waiting {
+    Waiting {
+        asks: task.is_woken(),
+        wants: wants_of(transfer),
+        started: transfer.started(),
+        received: transfer.received(),
+        deadline: transfer.deadline(),
+    }
+}
+
+/// The outcome, or nothing where it is pending or had ended before.
+fn poll(task: &MockTask, transfer: &mut Transfer<ScriptLink>) -> Option<Outcome> {
+    if transfer.spent() {
+        return None;
+    }
+    match task.poll(transfer) {
+        Poll::Ready(outcome) => Some(outcome),
+        Poll::Pending => None,
+    }
+}
+
+/// Polls once; what is seen then goes to `played`.
+fn poll_into(
+    alloc: Global,
+    task: &MockTask,
+    transfer: &mut Transfer<ScriptLink>,
+    played: &mut Played,
+) -> Result<(), OutOfMemory> {
+    let Some(outcome) = poll(task, transfer) else {
+        played.waits.push(waits(task, transfer))?;
+        return Ok(());
+    };
+    let links = links_of(transfer);
+    let body = outcome.copy_body(alloc)?;
+    played.ending = Some(Ending {
+        outcome,
+        body,
+        links,
+    });
+    Ok(())
+}
+
+/// Makes the call; false where it can't be made now.
+fn make(
+    alloc: Global,
+    task: &MockTask,
+    transfer: &mut Transfer<ScriptLink>,
+    call: Call<'_>,
+    played: &mut Played,
+) -> Result<bool, OutOfMemory> {
+    match call {
+        Call::Fresh(reads, writes) => {
+            let link = ScriptLink::new(alloc, reads, writes)?;
+            Ok(attach(transfer, link, false))
         }
-        self.transfer.attach(link, is_reused);
-        Ok(())
-    }
-
-    /// Says that no link can be had; the code is that of a lookup that failed.
-    pub(crate) fn fail_lookup(&mut self) -> Result<(), Fail> {
-        if self.transfer.wants().is_none() {
-            return Err(Fail::from("no link is wanted"));
+        Call::Reused(reads) => {
+            let link = ScriptLink::new(alloc, reads, &[])?;
+            Ok(attach(transfer, link, true))
         }
-        self.transfer.fail_link(Code::CouldntResolveHost);
-        Ok(())
-    }
-
-    pub(crate) fn prepare(&mut self, now: u64, is_paused: bool) {
-        self.transfer.prepare(now, is_paused);
-    }
-
-    /// Polls once: the outcome, or nothing where it is pending.
-    fn poll(&mut self) -> Result<Option<Outcome>, Fail> {
-        if self.transfer.spent() {
-            return Err(Fail::from("it has ended"));
+        Call::NoLink => Ok(give_up(transfer)),
+        Call::Prepare(now, is_paused) => {
+            transfer.prepare(now, is_paused);
+            Ok(true)
         }
-        match self.task.poll(&mut self.transfer) {
-            Poll::Ready(outcome) => Ok(Some(outcome)),
-            Poll::Pending => Ok(None),
+        Call::Poll => {
+            let goes = !transfer.spent();
+            poll_into(alloc, task, transfer, played)?;
+            Ok(goes)
         }
     }
+}
 
-    /// What is seen after a poll that must answer `Pending`.
-    pub(crate) fn waits(&mut self) -> Result<Waiting, Fail> {
-        if self.poll()?.is_some() {
-            return Err(Fail::from("it has ended"));
-        }
-        Ok(Waiting {
-            asks: self.task.is_woken(),
-            wants: self.wants(),
-            received: self.transfer.received(),
-            deadline: self.transfer.deadline(),
-        })
-    }
-
-    /// The outcome of a poll that must end it.
-    pub(crate) fn ends(&mut self) -> Result<Outcome, Fail> {
-        match self.poll()? {
-            Some(outcome) => Ok(outcome),
-            None => Err(Fail::from("it is pending")),
+fn make_all(
+    alloc: Global,
+    task: &MockTask,
+    transfer: &mut Transfer<ScriptLink>,
+    calls: &[Call<'_>],
+) -> Result<Played, Fail> {
+    let mut played = Played {
+        waits: Vec::new(alloc),
+        ending: None,
+    };
+    for call in calls {
+        if !make(alloc, task, transfer, *call, &mut played)? {
+            return Err(Fail::from("a call that can't be made"));
         }
     }
+    Ok(played)
+}
 
-    /// Whether it has started, and the code that it ended with.
-    pub(crate) fn state(&self) -> (bool, Option<Code>) {
-        (self.transfer.started(), self.transfer.code())
-    }
+fn with_task<R: RandomSource + AllocGlobal>(
+    rt: &R,
+    transfer: &mut Transfer<ScriptLink>,
+    calls: &[Call<'_>],
+) -> Result<Played, Fail> {
+    let task = MockTask::new(rt)?;
+    make_all(rt.alloc(), &task, transfer, calls)
+}
 
-    /// Whether it gives a link to keep.
-    pub(crate) fn gives_link(&mut self) -> bool {
-        self.transfer.take_link().is_some()
-    }
+/// What is seen of a new transfer, with that limit of time, over these calls.
+pub(crate) fn play<R: RandomSource + AllocGlobal>(
+    rt: &R,
+    method: Method,
+    timeout_ms: u32,
+    calls: &[Call<'_>],
+) -> Result<Played, Fail> {
+    let request = build(rt.alloc(), method, timeout_ms)?;
+    let mut transfer = Transfer::new(rt.alloc(), request);
+    with_task(rt, &mut transfer, calls)
 }

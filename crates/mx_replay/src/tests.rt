@@ -1,260 +1,240 @@
-use crate::replay::{Held, Replay, Waiting, Wanted};
+//! What a caller sees of a transfer. The offsets and lengths were counted by hand.
+
+use crate::replay::{Call, Ended, Seen, Waiting, Wanted, play};
 use mx_link::{ScriptRead, Write};
-use mx_types::{Code, Ending, Method};
+use mx_types::{Code, Method};
+use std::alloc::{AllocError, AllocGlobal, Global};
+use std::process::Abort;
+use std::random::RandomSource;
 use std::test::Fail;
 
 /// 43 bytes, of which the last five are the body.
 const COUNTED: &[u8] = b"HTTP/1.1 200 OK\r\nContent-Length: 5\r\n\r\nhello";
 
+/// 38 bytes.
+const HEAD: &[u8] = b"HTTP/1.1 200 OK\r\nContent-Length: 5\r\n\r\n";
+
 /// 72 bytes, with the body at 54.
 const CHUNKED: &[u8] =
     b"HTTP/1.1 200 OK\r\nTransfer-Encoding: chunked\r\n\r\n5;x=y\r\nhello\r\n0\r\nA: b\r\n\r\n";
 
-/// What `COUNTED` comes to.
-const HELLO: Held<'static> = Held {
-    code: Code::Ok,
-    status: 200,
-    wire: COUNTED,
-    part_count: 1,
-    part: Some(b"hello"),
-    body_len: 5,
-};
+/// 47 bytes, four of them behind the response.
+const LEFT_OVER: &[u8] = b"HTTP/1.1 200 OK\r\nContent-Length: 5\r\n\r\nhelloHTTP";
 
-/// It waits for its link, has no deadline and was given nothing.
-const WAITING: Waiting = Waiting {
+/// The greatest moment.
+const LAST: u64 = 18_446_744_073_709_551_615;
+
+/// It has a link, no deadline, and was given nothing.
+const SERVED: Waiting = Waiting {
     asks: false,
     wants: Wanted::Nothing,
+    started: true,
     received: 0,
     deadline: None,
 };
 
-#[test]
-fn one_byte_written_then_all(rt: HostRuntime) -> Result<(), Fail> {
-    let mut replay = Replay::new(&rt, Method::Get, 0)?;
-    assert_eq!(rt; replay.wants(), Wanted::Any);
-    assert_eq!(rt; replay.state(), (false, None));
-    replay.attach(
-        &[ScriptRead::Bytes(COUNTED)],
-        &[Write::Bytes(1), Write::WouldBlock],
-        false,
-    )?;
-    assert_eq!(rt; replay.state(), (true, None));
-    assert_eq!(rt; replay.waits()?, WAITING);
-    let outcome = replay.ends()?;
-    assert_eq!(rt; Held::by(&outcome), HELLO);
-    assert_eq!(rt; outcome.size(), 5);
-    assert_eq!(rt; replay.state(), (true, Some(Code::Ok)));
-    // the link is given once
-    assert!(rt; replay.gives_link());
-    assert!(rt; !replay.gives_link());
+/// It has dropped its link, and wants a fresh one.
+const LOST: Waiting = Waiting {
+    asks: false,
+    wants: Wanted::Fresh,
+    started: true,
+    received: 0,
+    deadline: None,
+};
+
+/// It has no link yet.
+fn unserved(asks: bool, deadline: Option<u64>) -> Waiting {
+    Waiting {
+        asks,
+        wants: Wanted::Any,
+        started: false,
+        received: 0,
+        deadline,
+    }
+}
+
+/// A response with the body `hello` in one part.
+fn hello(wire: &[u8], links: u32) -> Ended<'_> {
+    Ended {
+        code: Code::Ok,
+        status: 200,
+        wire,
+        part_count: 1,
+        part: Some(b"hello"),
+        body: b"hello",
+        size: 5,
+        links,
+    }
+}
+
+/// It has no body, and no link to keep.
+fn failed(code: Code, status: u16, wire: &[u8]) -> Ended<'_> {
+    Ended {
+        code,
+        status,
+        wire,
+        part_count: 0,
+        part: None,
+        body: b"",
+        size: 0,
+        links: 0,
+    }
+}
+
+/// Reads of one byte each.
+fn one_by_one(alloc: Global, bytes: &[u8]) -> Result<Vec<ScriptRead<'_>>, AllocError> {
+    let mut reads = Vec::new(alloc);
+    for i in 0..bytes.len() {
+        reads.push(ScriptRead::Bytes(&bytes[i..i + 1]))?;
+    }
+    Ok(reads)
+}
+
+/// Of a transfer without a limit of time this is seen over these calls.
+fn sees<R: Abort + RandomSource + AllocGlobal>(
+    rt: &R,
+    method: Method,
+    calls: &[Call<'_>],
+    waits: &[Waiting],
+    ended: Ended<'_>,
+) -> Result<(), Fail> {
+    let played = play(rt, method, 0, calls)?;
+    let ended = Some(ended);
+    assert_eq!(rt; played.seen(), Seen { waits, ended });
+    Ok(())
+}
+
+/// This is seen of a transfer with that limit of time.
+fn sees_timed<R: Abort + RandomSource + AllocGlobal>(
+    rt: &R,
+    timeout_ms: u32,
+    calls: &[Call<'_>],
+    waits: &[Waiting],
+    ended: Option<Ended<'_>>,
+) -> Result<(), Fail> {
+    let played = play(rt, Method::Get, timeout_ms, calls)?;
+    assert_eq!(rt; played.seen(), Seen { waits, ended });
     Ok(())
 }
 
 #[test]
-fn fault_after_the_head(rt: HostRuntime) -> Result<(), Fail> {
-    let mut replay = Replay::new(&rt, Method::Get, 0)?;
-    let head = &COUNTED[..38];
-    replay.attach(&[ScriptRead::Bytes(head), ScriptRead::Fault], &[], false)?;
-    assert_eq!(rt;
-        Held::by(&replay.ends()?),
-        Held {
-            code: Code::RecvError,
-            status: 200,
-            wire: head,
-            part_count: 0,
-            part: None,
-            body_len: 0,
-        }
+fn one_byte_written_then_all(rt: HostRuntime) -> Result<(), Fail> {
+    let link = Call::Fresh(
+        &[ScriptRead::Bytes(COUNTED)],
+        &[Write::Bytes(1), Write::WouldBlock],
     );
-    assert!(rt; !replay.gives_link());
-    Ok(())
+    let calls = [link, Call::Poll, Call::Poll];
+    // the link is given once
+    sees(&rt, Method::Get, &calls, &[SERVED], hello(COUNTED, 1))
+}
+
+#[test]
+fn a_fault_after_the_head(rt: HostRuntime) -> Result<(), Fail> {
+    let link = Call::Fresh(&[ScriptRead::Bytes(HEAD), ScriptRead::Fault], &[]);
+    let ended = failed(Code::RecvError, 200, HEAD);
+    sees(&rt, Method::Get, &[link, Call::Poll], &[], ended)
 }
 
 #[test]
 fn no_link_can_be_had(rt: HostRuntime) -> Result<(), Fail> {
-    let mut replay = Replay::new(&rt, Method::Get, 0)?;
-    replay.fail_lookup()?;
-    assert_eq!(rt; replay.wants(), Wanted::Nothing);
-    assert_eq!(rt;
-        Held::by(&replay.ends()?),
-        Held {
-            code: Code::CouldntResolveHost,
-            status: 0,
-            wire: b"",
-            part_count: 0,
-            part: None,
-            body_len: 0,
-        }
-    );
-    Ok(())
+    let ended = failed(Code::CouldntResolveHost, 0, b"");
+    sees(&rt, Method::Get, &[Call::NoLink, Call::Poll], &[], ended)
 }
 
 #[test]
 fn a_byte_at_a_time(rt: HostRuntime) -> Result<(), Fail> {
-    let mut replay = Replay::new(&rt, Method::Get, 0)?;
-    let mut reads = Vec::new(rt.alloc());
-    for i in 0..CHUNKED.len() {
-        reads.push(ScriptRead::Bytes(&CHUNKED[i..i + 1]))?;
-    }
-    replay.attach(&reads, &[], false)?;
-    // a poll reads 64 times at most, and then asks for the next
-    assert_eq!(rt;
-        replay.waits()?,
-        Waiting {
-            asks: true,
-            wants: Wanted::Nothing,
-            received: 64,
-            deadline: None,
-        }
-    );
-    let outcome = replay.ends()?;
-    assert_eq!(rt;
-        Held::by(&outcome),
-        Held {
-            code: Code::Ok,
-            status: 200,
-            wire: CHUNKED,
-            part_count: 1,
-            part: Some(&CHUNKED[54..59]),
-            body_len: 5,
-        }
-    );
-    assert_eq!(rt;
-        outcome.copy_body(rt.alloc())?.as_slice(),
-        b"hello".as_slice()
-    );
-    Ok(())
-}
-
-/// Its probe finds nothing, and then it ends.
-const LOST: [ScriptRead<'static>; 2] = [ScriptRead::WouldBlock, ScriptRead::End];
-
-/// It has dropped its link, and wants a fresh one.
-const LEFT: Waiting = Waiting {
-    asks: false,
-    wants: Wanted::Fresh,
-    received: 0,
-    deadline: None,
-};
-
-#[test]
-fn get_is_sent_again_once(rt: HostRuntime) -> Result<(), Fail> {
-    let mut replay = Replay::new(&rt, Method::Get, 0)?;
-    replay.attach(&LOST, &[], true)?;
-    assert_eq!(rt; replay.waits()?, LEFT);
-    replay.attach(&[ScriptRead::Bytes(COUNTED)], &[], false)?;
-    assert_eq!(rt; Held::by(&replay.ends()?), HELLO);
-    assert!(rt; replay.gives_link());
-    Ok(())
+    let reads = one_by_one(rt.alloc(), CHUNKED)?;
+    let calls = [Call::Fresh(&reads, &[]), Call::Poll, Call::Poll];
+    // a poll reads 64 times at most, and asks for the next
+    let waiting = Waiting {
+        asks: true,
+        wants: Wanted::Nothing,
+        started: true,
+        received: 64,
+        deadline: None,
+    };
+    sees(&rt, Method::Get, &calls, &[waiting], hello(CHUNKED, 1))
 }
 
 #[test]
-fn post_is_not_sent_again(rt: HostRuntime) -> Result<(), Fail> {
-    let mut replay = Replay::new(&rt, Method::Post, 0)?;
-    replay.attach(&LOST, &[], true)?;
-    assert_eq!(rt;
-        Held::by(&replay.ends()?),
-        Held {
-            code: Code::GotNothing,
-            status: 0,
-            wire: b"",
-            part_count: 0,
-            part: None,
-            body_len: 0,
-        }
-    );
-    Ok(())
+fn a_get_is_sent_again_over_a_fresh_link(rt: HostRuntime) -> Result<(), Fail> {
+    let lost = Call::Reused(&[ScriptRead::WouldBlock, ScriptRead::End]);
+    let fresh = Call::Fresh(&[ScriptRead::Bytes(COUNTED)], &[]);
+    let calls = [lost, Call::Poll, fresh, Call::Poll];
+    sees(&rt, Method::Get, &calls, &[LOST], hello(COUNTED, 1))
+}
+
+#[test]
+fn a_get_is_sent_again_once(rt: HostRuntime) -> Result<(), Fail> {
+    let lost = Call::Reused(&[ScriptRead::WouldBlock, ScriptRead::End]);
+    let fresh = Call::Fresh(&[ScriptRead::End], &[]);
+    let calls = [lost, Call::Poll, fresh, Call::Poll];
+    let ended = failed(Code::GotNothing, 0, b"");
+    sees(&rt, Method::Get, &calls, &[LOST], ended)
+}
+
+#[test]
+fn a_post_is_not_sent_again(rt: HostRuntime) -> Result<(), Fail> {
+    let lost = Call::Reused(&[ScriptRead::WouldBlock, ScriptRead::End]);
+    let ended = failed(Code::GotNothing, 0, b"");
+    sees(&rt, Method::Post, &[lost, Call::Poll], &[], ended)
 }
 
 #[test]
 fn what_a_probe_reads_is_in_no_wire(rt: HostRuntime) -> Result<(), Fail> {
-    for method in [Method::Get, Method::Post] {
-        let mut replay = Replay::new(&rt, method, 0)?;
-        replay.attach(&[ScriptRead::Bytes(CHUNKED)], &[], true)?;
-        assert_eq!(rt; replay.waits()?, LEFT, "{method:?}");
-        replay.attach(&[ScriptRead::Bytes(COUNTED)], &[], false)?;
-        assert_eq!(rt; Held::by(&replay.ends()?), HELLO, "{method:?}");
-    }
-    Ok(())
+    let stale = Call::Reused(&[ScriptRead::Bytes(CHUNKED)]);
+    let fresh = Call::Fresh(&[ScriptRead::Bytes(COUNTED)], &[]);
+    let calls = [stale, Call::Poll, fresh, Call::Poll];
+    sees(&rt, Method::Get, &calls, &[LOST], hello(COUNTED, 1))?;
+    sees(&rt, Method::Post, &calls, &[LOST], hello(COUNTED, 1))
 }
 
 #[test]
 fn a_link_with_bytes_left_over_is_not_kept(rt: HostRuntime) -> Result<(), Fail> {
-    let bytes = b"HTTP/1.1 200 OK\r\nContent-Length: 5\r\n\r\nhelloHTTP";
-    let mut replay = Replay::new(&rt, Method::Get, 0)?;
-    replay.attach(&[ScriptRead::Bytes(bytes)], &[], false)?;
-    let outcome = replay.ends()?;
-    assert_eq!(rt;
-        Held::by(&outcome),
-        Held {
-            code: Code::Ok,
-            status: 200,
-            wire: bytes,
-            part_count: 1,
-            part: Some(b"hello"),
-            body_len: 5,
-        }
-    );
-    assert!(rt; !replay.gives_link());
-    Ok(())
+    let link = Call::Fresh(&[ScriptRead::Bytes(LEFT_OVER)], &[]);
+    let ended = hello(LEFT_OVER, 0);
+    sees(&rt, Method::Get, &[link, Call::Poll], &[], ended)
 }
 
 #[test]
 fn a_paused_transfer_touches_no_link(rt: HostRuntime) -> Result<(), Fail> {
-    let mut replay = Replay::new(&rt, Method::Get, 0)?;
-    replay.attach(&[ScriptRead::Bytes(COUNTED)], &[], false)?;
-    replay.prepare(0, true);
-    assert_eq!(rt;
-        replay.waits()?,
-        Waiting {
-            asks: true,
-            wants: Wanted::Nothing,
-            received: 0,
-            deadline: None,
-        }
-    );
-    replay.prepare(0, false);
-    assert_eq!(rt; Held::by(&replay.ends()?), HELLO);
-    Ok(())
-}
-
-/// It has no link.
-fn unserved(asks: bool, deadline: u64) -> Waiting {
-    Waiting {
-        asks,
-        wants: Wanted::Any,
+    let link = Call::Fresh(&[ScriptRead::Bytes(COUNTED)], &[]);
+    let paused = Call::Prepare(0, true);
+    let goes_on = Call::Prepare(0, false);
+    let calls = [link, paused, Call::Poll, goes_on, Call::Poll];
+    let waiting = Waiting {
+        asks: true,
+        wants: Wanted::Nothing,
+        started: true,
         received: 0,
-        deadline: Some(deadline),
-    }
+        deadline: None,
+    };
+    sees(&rt, Method::Get, &calls, &[waiting], hello(COUNTED, 1))
 }
 
 #[test]
 fn a_deadline_counts_while_paused(rt: HostRuntime) -> Result<(), Fail> {
-    let mut replay = Replay::new(&rt, Method::Get, 10)?;
-    replay.prepare(100, false);
-    assert_eq!(rt; replay.waits()?, unserved(false, 110));
-    replay.prepare(109, true);
-    assert_eq!(rt; replay.waits()?, unserved(true, 110));
-    replay.prepare(110, true);
-    assert_eq!(rt; Held::by(&replay.ends()?).code, Code::OperationTimedout);
-    Ok(())
+    let calls = [
+        Call::Prepare(100, false),
+        Call::Poll,
+        Call::Prepare(109, true),
+        Call::Poll,
+        Call::Prepare(110, true),
+        Call::Poll,
+    ];
+    let waits = [unserved(false, Some(110)), unserved(true, Some(110))];
+    let ended = Some(failed(Code::OperationTimedout, 0, b""));
+    sees_timed(&rt, 10, &calls, &waits, ended)
 }
 
 #[test]
 fn a_deadline_is_held_at_the_greatest_moment(rt: HostRuntime) -> Result<(), Fail> {
-    let mut replay = Replay::new(&rt, Method::Get, 10)?;
-    replay.prepare(18_446_744_073_709_551_612, false);
-    assert_eq!(rt;
-        replay.waits()?,
-        unserved(false, 18_446_744_073_709_551_615)
-    );
-    Ok(())
+    let calls = [Call::Prepare(LAST - 3, false), Call::Poll];
+    sees_timed(&rt, 10, &calls, &[unserved(false, Some(LAST))], None)
 }
 
 #[test]
 fn no_timeout_is_no_deadline(rt: HostRuntime) -> Result<(), Fail> {
-    let mut replay = Replay::new(&rt, Method::Get, 0)?;
-    replay.prepare(18_446_744_073_709_551_615, false);
-    assert_eq!(rt; replay.waits()?.deadline, None);
-    Ok(())
+    let calls = [Call::Prepare(LAST, false), Call::Poll];
+    sees_timed(&rt, 0, &calls, &[unserved(false, None)], None)
 }
