@@ -11,3 +11,4 @@ pub mod SlotLaws
 pub mod ReceiptLaws
 pub mod Remains
 pub mod Defined
+pub mod AnswersFit

@@ -12,9 +12,10 @@ use Rattle.mx_types.specs.declared.call.Call.{Call}
 use Rattle.mx_types.specs.declared.call.Receipt.{Receipt}
 use Rattle.mx_journal.specs.History.{HasRoomForDue, Opening, same_handle, same_ticket, occurs, removes, ends, reads, pauses, resumes, added, waiting, phase_of, is_legal, may_follow, has_ticket, made_by}
 use Rattle.mx_journal.specs.Core.{IsInOrder}
-use Rattle.mx_journal.specs.Receipts.{Fits, CutsRise, with_events, events_of, events_by, IsOfMaker}
+use Rattle.mx_journal.specs.Receipts.{is_poll, mark, Fits, CutsRise, with_events, events_of, events_by, IsOfMaker}
 use Rattle.mx_journal.specs.Slots.{has_slot, slots, slot_of}
-use Rattle.mx_journal.specs.Answers.{answer, ticket_of, handle_of, state_at, state_of, look_of, is_ready}
+use Rattle.mx_journal.specs.Answers.{answer, Answers, ticket_of, handle_of, state_at, state_of, look_of, is_ready}
+use Rattle.mx_types.specs.declared.reply.Reply.{Reply}
 use Rattle.mx_types.specs.declared.reply.Look.{Look}
 use Rattle.mx_types.specs.declared.reply.Look.TheVariants as look
 use Rattle.mx_journal.specs.declared.row.Phase.{Phase}
@@ -163,3 +164,8 @@ FitsByItsCut = (opening : Opening) (w : Who) (earlier : List Receipt) (r : Recei
 abbrev pub EachOnceByCount : Type 0
 EachOnceByCount = (w : Who) (mine : List Receipt) (j : List Event) → CutsRise 0 (with_events mine) → AllByRecursion (IsOfMaker w j) (with_events mine)
     → length (with_events mine) ≡ made_by w j → events_by w j ≡ events_of (with_events mine) j
+
+-- a call that was answered after j, and left k, has a receipt that fits k with the cut at its end; a poll where it might return
+abbrev pub AnswersFit : Type 0
+AnswersFit = (opening : Opening) (w : Who) (earlier : List Receipt) (call : Call) (reply : Reply) (j k : List Event) → Answers opening w call j reply k
+    → (is_poll call ≡ true → is_ready (mark earlier) k ≡ true) → Fits opening w earlier (record { cut = length k; call = call; reply = reply }) k

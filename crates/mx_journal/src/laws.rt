@@ -1,6 +1,6 @@
 //! What every legal history keeps. Each law is the contract of a function that does nothing: a caller that calls it
 //! may use it in its own proof.
-ghost use Rattle.mx_journal.specs.Laws.{AdditionTakesLeastSlot, AnswerIsLegal, ClosingFindsRoom, EachAtMostOnce, EachOnceByCount, FirstInFirstOut, FitsByItsCut, LegalIsTidy, NothingAfterRemoval, PrefixIsLegal, ReadyStays, SlotsDiffer, StateAndLookAgree};
+ghost use Rattle.mx_journal.specs.Laws.{AdditionTakesLeastSlot, AnswerIsLegal, AnswersFit, ClosingFindsRoom, EachAtMostOnce, EachOnceByCount, FirstInFirstOut, FitsByItsCut, LegalIsTidy, NothingAfterRemoval, PrefixIsLegal, ReadyStays, SlotsDiffer, StateAndLookAgree};
 
 /// What comes first in a legal history is one.
 pub fn prefix_is_legal()
@@ -68,4 +68,9 @@ pub fn fits_by_its_cut()
 /// each, and they are as many as the maker's events, they are these events, each once, in order.
 pub fn each_once_by_count()
     ensures { EachOnceByCount }
+{}
+
+/// What a call of the core promises of its answer is what makes a receipt fit, with its cut at the journal's end.
+pub fn answers_fit()
+    ensures { AnswersFit }
 {}
