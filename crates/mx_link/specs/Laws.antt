@@ -1,4 +1,4 @@
--- What holds of a script, whatever the lengths of the buffers are.
+-- What holds of every script, whatever the lengths of the buffers are, and of every history of answers.
 use Rattle.std.specs.Prelude.{◌≡◌, ◌⊎◌, ◌<◌, ◌+◌, ◌-◌, ◌^◌, ℕ, min, true, if◌then◌else◌, List, [], ◌∷◌, ◌++◌}
 use Rattle.std.specs.List.{AllByRecursion, filter_map}
 use Rattle.mx_link.specs.declared.answers.Answer.{Answer}

@@ -1,4 +1,5 @@
-//! What holds of every script. Each law is a function that does nothing: its contract is the law.
+//! What holds of every script, and of every history of answers. Each law is a function that does nothing: its contract
+//! is the law.
 
 ghost use Rattle.mx_link.specs.Laws.{ReadsLoseNothing, ReadsGiveTheScript, FaultsAreCounted, WaitsAreCounted};
 
