@@ -1,11 +1,11 @@
--- Faults are counted.
+-- Faults are counted, and calls that would have waited.
 use Rattle.std.proofs.Common.{◌≡◌, ℕ, ◌+◌, ◌-◌, ◌^◌, ◌<◌, Bool, true, false, cond, List, [], ◌∷◌, ◌++◌, min, refl, sym, ap, ◌∙◌, ◌⊎◌, inl, inr, arith}
 use Rattle.std.proofs.Math.Nat.{min-eq_left, min-eq_right}
 use Rattle.std.proofs.lemmas.Bool.{cases_lt}
 use Rattle.std.proofs.lemmas.List.Sums.{sum_by-append, sum_by-cons}
 use Rattle.mx_link.specs.declared.answers.Answer.{Answer}
-use Rattle.mx_link.specs.Answers.{is_fault, faults}
-use Rattle.mx_link.specs.Laws.{FaultsAreCounted}
+use Rattle.mx_link.specs.Answers.{is_fault, faults, is_blocked}
+use Rattle.mx_link.specs.Laws.{FaultsAreCounted, WaitsAreCounted}
 
 -- one more answer
 faults_with : (before : List Answer) (answer : Answer) → faults (before ++ answer ∷ []) ≡ faults before + cond (is_fault answer) 1 0
@@ -30,3 +30,6 @@ faults_are_counted before answer = record {
 } where
   with : is_fault answer ≡ true → faults (before ++ answer ∷ []) ≡ faults before + 1
   with fault = rw fault at (faults_with before answer)
+
+pub waits_are_counted : WaitsAreCounted
+waits_are_counted before answer = omega (arith, sum_by-append (λ a. cond (is_blocked a) 1 0) before (answer ∷ []), sum_by-cons (λ a. cond (is_blocked a) 1 0) answer [])

@@ -1,11 +1,11 @@
--- What holds of a script, whatever the lengths of the buffers are.
-use Rattle.std.specs.Prelude.{◌≡◌, ◌⊎◌, ◌<◌, ◌+◌, ◌-◌, ◌^◌, ℕ, min, true, List, [], ◌∷◌, ◌++◌}
+-- What holds of every script, whatever the lengths of the buffers are, and of every history of answers.
+use Rattle.std.specs.Prelude.{◌≡◌, ◌⊎◌, ◌<◌, ◌+◌, ◌-◌, ◌^◌, ℕ, min, true, if◌then◌else◌, List, [], ◌∷◌, ◌++◌}
 use Rattle.std.specs.List.{AllByRecursion, filter_map}
 use Rattle.mx_link.specs.declared.answers.Answer.{Answer}
 use Rattle.mx_link.specs.declared.answers.Answer.TheVariants as answers
 use Rattle.mx_link.specs.declared.scripted.ScriptRead.{ScriptRead}
 use Rattle.mx_link.specs.declared.scripted.ScriptRead.TheVariants as read
-use Rattle.mx_link.specs.Answers.{given, is_fault, faults}
+use Rattle.mx_link.specs.Answers.{given, is_fault, faults, is_blocked, blocks}
 use Rattle.mx_link.specs.Script.{planned, next_read}
 
 -- the answers to reads into buffers of these lengths, and what is planned after them
@@ -57,3 +57,9 @@ pub record Counts (before : List Answer) (answer : Answer) : Type 0 where
 
 abbrev pub FaultsAreCounted : Type 0
 FaultsAreCounted = (before : List Answer) (answer : Answer) → Counts before answer
+
+-- One more answer: the count of calls that would have waited rises by one at each of them, and at no other.
+abbrev pub WaitsAreCounted : Type 0
+WaitsAreCounted =
+    (before : List Answer) (answer : Answer)
+    → blocks (before ++ answer ∷ []) ≡ blocks before + (if is_blocked answer then 1 else 0)

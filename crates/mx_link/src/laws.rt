@@ -1,6 +1,7 @@
-//! What holds of every script. Each law is a function that does nothing: its contract is the law.
+//! What holds of every script, and of every history of answers. Each law is a function that does nothing: its contract
+//! is the law.
 
-ghost use Rattle.mx_link.specs.Laws.{ReadsLoseNothing, ReadsGiveTheScript, FaultsAreCounted};
+ghost use Rattle.mx_link.specs.Laws.{ReadsLoseNothing, ReadsGiveTheScript, FaultsAreCounted, WaitsAreCounted};
 
 /// Whatever the lengths of the buffers are, what the reads of a script give, and after it what is left, is all that
 /// was planned: nothing is lost, added or moved.
@@ -17,4 +18,10 @@ pub fn reads_give_the_script()
 /// `failures` rises in a call only where it answers a fault, and at each fault by one, until it is 2^64 - 1.
 pub fn faults_are_counted()
     ensures { FaultsAreCounted }
+{}
+
+/// The calls that would have waited have a count of their own, for contracts alone: it rises by one at each, and at no
+/// other call.
+pub fn waits_are_counted()
+    ensures { WaitsAreCounted }
 {}
