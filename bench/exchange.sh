@@ -1,8 +1,9 @@
 #!/usr/bin/env bash
 # What an exchange costs a running program: instructions per byte for a response that a ScriptLink gives in reads of
 # 16 KiB, through a transfer and its decoder, beside the same reads into one vector. Several sizes, as the decoder
-# decodes anew at each read: for many chunks the cost of a byte grows with the size. It needs valgrind, and builds in
-# a folder of its own, which it removes.
+# decodes all of its bytes anew at each read: it looks for the head in as many as 65,536 of them, and goes over each
+# chunk so far, so that with many chunks the cost of a byte grows with the size. It needs valgrind, and builds in a
+# folder of its own, which it removes.
 set -eu
 top=$(cd "$(dirname "$0")/.." && pwd)
 work=$(mktemp -d)
