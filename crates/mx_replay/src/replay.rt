@@ -167,7 +167,7 @@ fn waits(task: &MockTask, transfer: &Transfer<ScriptLink>) -> Waiting {
     }
 }
 
-/// The outcome, or nothing where it is pending or had ended before.
+/// The outcome, or nothing where it is pending.
 fn poll(task: &MockTask, transfer: &mut Transfer<ScriptLink>) -> Option<Outcome> {
     if transfer.spent() {
         return None;
@@ -222,9 +222,8 @@ fn make(
             Ok(true)
         }
         Call::Poll => {
-            let goes = !transfer.spent();
             poll_into(alloc, task, transfer, played)?;
-            Ok(goes)
+            Ok(true)
         }
     }
 }
@@ -240,6 +239,10 @@ fn make_all(
         ending: None,
     };
     for call in calls {
+        // nothing is asked of it once it has ended
+        if played.ending.is_some() {
+            return Ok(played);
+        }
         if !make(alloc, task, transfer, *call, &mut played)? {
             return Err(Fail::from("a call that can't be made"));
         }
@@ -256,7 +259,7 @@ fn with_task<R: RandomSource + AllocGlobal>(
     make_all(rt.alloc(), &task, transfer, calls)
 }
 
-/// What is seen of a new transfer, with that limit of time, over these calls.
+/// What is seen of a new transfer, with that limit of time, over these calls, up to its end.
 pub(crate) fn play<R: RandomSource + AllocGlobal>(
     rt: &R,
     method: Method,
