@@ -61,15 +61,15 @@ impl<R: Read> Input<R> {
         }
     }
 
-    /// Fails the input for good where it was read so often, as a read past the count allowed does.
-    pub fn stop_at(&mut self, most: u64)
+    /// Fails the input for good where the reads allowed are used up, as one more read does.
+    pub fn stop(&mut self)
         ensures reader { reader_of self.new ≡ reader_of self.old }
         ensures reads { reads_of self.new ≡ reads_of self.old }
         ensures most { most_reads_of self.new ≡ most_reads_of self.old }
-        ensures failed { most ≤ reads_of self.old → has_failed_read self.new ≡ true }
-        ensures stays { reads_of self.old < most → self.new ≡ self.old }
+        ensures failed { most_reads_of self.old ≤ reads_of self.old → has_failed_read self.new ≡ true }
+        ensures stays { reads_of self.old < most_reads_of self.old → self.new ≡ self.old }
     {
-        if self.reads >= most {
+        if self.reads >= self.most {
             self.failed = true;
         }
     }

@@ -2,7 +2,7 @@
 ghost use Rattle.std.specs.Prelude.{◌≡◌, ◌≢◌, ◌+◌, ◌<◌, ◌≤◌, ◌^◌, ◌↔◌, ◌∷◌, [], true, length, IsErr, IfOk, OnOk, None};
 ghost use Rattle.std.specs.Io.KnownBytes.{Appends};
 ghost use Rattle.mx_types.specs.Code.{code_number};
-ghost use Rattle.mxfetch.specs.Ends.{reader_of, reads_of, has_failed_read, writer_of, has_failed_write};
+ghost use Rattle.mxfetch.specs.Ends.{reader_of, reads_of, most_reads_of, has_failed_read, writer_of, has_failed_write};
 ghost use Rattle.mxfetch.specs.BodyRun.{PrintsFault};
 ghost use Rattle.mxfetch.specs.PlayRun.{bad_line_text, PrintsUnread, AnswersScript};
 ghost use Rattle.mxfetch.specs.PlaySession.{IsUnended, Plays, EndsLine, PlaysAll};
@@ -134,6 +134,7 @@ impl Session {
     ) -> Result<Option<Turn>, WriteFailed>
         requires empty { self.old.line.items ≡ [] }
         requires first { self.old.lines ≡ 0 }
+        requires allowed { most_reads_of input.old ≤ 4294967295 }
         ensures reads { reads_of input.new ≤ reads_of input.old + 4294967295 }
         ensures unread { IfOk result (λ turn. (turn ≡ None) ↔ (has_failed_read input.new ≡ true)) }
         ensures played { IfOk result (λ turn. PlaysAll self.old turn
@@ -156,7 +157,7 @@ impl Session {
                 Turn::NoMemory => return Ok(Some(Turn::NoMemory)),
             }
         }
-        input.stop_at(MOST_READS);
+        input.stop();
         Ok(None)
     }
 }
@@ -168,7 +169,8 @@ fn play_script<R: Read, W: Write>(
     input: &mut Input<R>,
     output: &mut Output<W>,
 ) -> Result<u8, WriteFailed>
-    requires { (4 ≤ history) × (history ≤ 1048576) }
+    requires history { (4 ≤ history) × (history ≤ 1048576) }
+    requires allowed { most_reads_of input.old ≤ 4294967295 }
     ensures reads { reads_of input.new ≤ reads_of input.old + 4294967295 }
     ensures unread { has_failed_read input.old ≢ true → has_failed_read input.new ≡ true
         → IfOk result (PrintsUnread history
@@ -199,7 +201,8 @@ fn play_script<R: Read, W: Write>(
 /// line is answered. The answer is the exit status: 0; 122 after a bad line, whose number is printed; 56 where a
 /// read failed, and 27 where there was no memory; 121 where the output couldn't be written.
 ///
-/// The script is read to its end or to a bad line, by at most 4,294,967,295 reads: one more counts as failed. A
+/// The script is read to its end or to a bad line, by at most 4,294,967,295 reads, and no more may be allowed to the input:
+/// one more counts as failed. A
 /// read that fails prints `FAULT 56` after the replies to the lines that ended before it, and want of memory
 /// prints `FAULT 27` after those to some of the first lines.
 pub fn run_play<R: Read, W: Write>(
@@ -208,7 +211,8 @@ pub fn run_play<R: Read, W: Write>(
     input: &mut Input<R>,
     output: &mut Output<W>,
 ) -> u8
-    requires { (4 ≤ history) × (history ≤ 1048576) }
+    requires history { (4 ≤ history) × (history ≤ 1048576) }
+    requires allowed { most_reads_of input.old ≤ 4294967295 }
     ensures reads { reads_of input.new ≤ reads_of input.old + 4294967295 }
     ensures unwritten { (result ≡ UNWRITTEN) ↔ (has_failed_write output.new ≡ true) }
     ensures unread { has_failed_write output.new ≢ true

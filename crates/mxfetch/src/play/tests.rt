@@ -178,7 +178,9 @@ fn trickles(
     most: u64,
     printed: &str,
     status: u8,
-) -> Result<(), Fail> {
+) -> Result<(), Fail>
+    requires { most ≤ 4294967295 }
+{
     let mut written = Vec::new(alloc);
     let ended = run_play(
         alloc,

@@ -1,4 +1,4 @@
-use Rattle.std.proofs.Common.{◌<◌, ◌≤◌, ◌+◌, ◌*◌, length, take, arith, ℕ, subst, sym}
+use Rattle.std.proofs.Common.{◌∙◌, ◌<◌, ◌≤◌, ◌+◌, ◌*◌, length, take, arith, ℕ, subst, sym}
 use Rattle.std.proofs.KnownBytes.{Keeps-refl}
 use Rattle.std.specs.Io.KnownBytes.{Keeps}
 use Rattle.std.proofs.lemmas.List.{length-take}
@@ -33,9 +33,10 @@ loop-preserved g c =
           c.in_ok-flush-in-On.ensures.bytes;
       counted = counted;
       reads = omega (arith, c.loop.invariant.reads, c.in-Ok.ensures.counted);
+      most = c.in-Ok.ensures.most ∙ c.loop.invariant.most;
     }
 
 pub returns-clause-played : goal.returns-clause-played
 returns-clause-played g c =
     unread _ _ _ _ _ _ _ c.loop.invariant.played
-    (subst (λ z. Keeps (g.R.Read.remaining c.loop.input.reader) (g.R.Read.remaining z)) (sym c.stop_at.ensures.reader) (Keeps-refl _))
+    (subst (λ z. Keeps (g.R.Read.remaining c.loop.input.reader) (g.R.Read.remaining z)) (sym c.stop.ensures.reader) (Keeps-refl _))

@@ -8,4 +8,5 @@ invariant-loop g l = record {
       (g.W.Write.contents l.initial.output.writer) (g.W.Write.contents l.output.writer);
   counted : l.self.lines ≤ l.counter * 4096;
   reads : l.input.reads ≡ l.initial.input.reads + l.counter;
+  most : l.input.most ≡ l.initial.input.most;
 }
