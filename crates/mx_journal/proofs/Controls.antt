@@ -26,7 +26,7 @@ use Rattle.std.proofs.lemmas.Bool.Decides.{nat_tests}
 use Rattle.mx_journal.specs.Core.{IsInOrder, queued, claimed, message, IsControl}
 use Rattle.mx_journal.proofs.Snoc.{occurs-snoc, or_false, phase_of-snoc}
 use Rattle.mx_journal.proofs.Lists.{Each-map, Each-append, Each-filter, filter_idle, filter_true, has-stays, has-filter, has-append_left, same-refl, same-is, at_ticket, Each-both}
-use Rattle.mx_journal.proofs.Histories.{tickets, Laws, laws, added-then, waiting-then, below, running-has, map-filter_tickets, laws-then, laws_none}
+use Rattle.mx_journal.proofs.Histories.{tickets, Laws, laws, added-then, waiting-then, below, running-has, map-filter_tickets, filter_messages, laws-then, laws_none}
 use Rattle.mx_journal.specs.Laws.{then, IsOncePerTicket}
 use Rattle.mx_journal.proofs.JournalTables.{kept-then, few}
 use Rattle.mx_journal.proofs.Tables.{runs-phase, not_found, has-kept}
@@ -283,15 +283,6 @@ once-push (u ∷ ts) t o h =
 abbrev pub wait_tickets : List Event → List Ticket
 wait_tickets j = map (λ m. m.ticket) (waiting j)
 
-pub filter_messages : (p : Ticket → Bool) (ms : List Message) → map (λ m. m.ticket) (filter (λ m. p m.ticket) ms) ≡ filter p (map (λ m. m.ticket) ms)
-filter_messages p [] = refl
-filter_messages p (m ∷ ms) = go (p m.ticket) ∙ ap (λ z. cond (p m.ticket) (m.ticket ∷ z) z) (filter_messages p ms)
-  where
-    go : (b : Bool) → map (λ (y : Message). y.ticket) (cond b (m ∷ filter (λ y. p y.ticket) ms) (filter (λ y. p y.ticket) ms))
-        ≡ cond b (m.ticket ∷ map (λ (y : Message). y.ticket) (filter (λ y. p y.ticket) ms)) (map (λ (y : Message). y.ticket) (filter (λ y. p y.ticket) ms))
-    go true = refl
-    go false = refl
-
 waits_done : (j : List Event) (ms : List Message) → AllByRecursion (λ m. (phase_of m.ticket j ≡ phase.Done m.code) × (has_ticket m.ticket (tickets j) ≡ true)) ms
     → AllByRecursion (λ t. is_open (phase_of t j) ≡ false) (map (λ m. m.ticket) ms)
 waits_done j [] a = tt
@@ -363,14 +354,19 @@ waits_added : (j : List Event) (ms : List Message) → AllByRecursion (λ m. (ph
 waits_added j [] a = tt
 waits_added j (m ∷ ms) a = (a.0.1, waits_added j ms a.1)
 
--- one more ending has its space
-pub endings_short : {O : Type 0} (code : O → Code) (size : O → ℕ) (j : List Event) (endings : List (Ticket × O)) (t : Ticket) → is_legal j ≡ true
-    → map (message code size) endings ≡ waiting j → has_ticket t (running j) ≡ true → length endings < 256
-endings_short code size j endings t l w r =
+-- one more waiting ticket, and one more ending, has its space
+pub waits_short : (j : List Event) (t : Ticket) → is_legal j ≡ true → has_ticket t (running j) ≡ true → length (wait_tickets j) < 256
+waits_short j t l r =
     let x = laws j l in
     let k = pigeons (t ∷ wait_tickets j) (tickets j) (runs_unread j x t r, once j l) ((running-has j t r).0, waits_added j (waiting j) x.waits) in
     let f = few j l in
-    omega (arith, k, length-map (waiting j) (λ m. m.ticket), length-map (added j) (λ a. a.ticket), length-map endings (message code size), ap length w)
+    omega (arith, k, length-map (added j) (λ a. a.ticket))
+
+pub endings_short : {O : Type 0} (code : O → Code) (size : O → ℕ) (j : List Event) (endings : List (Ticket × O)) (t : Ticket) → is_legal j ≡ true
+    → map (message code size) endings ≡ waiting j → has_ticket t (running j) ≡ true → length endings < 256
+endings_short code size j endings t l w r =
+    let k = waits_short j t l r in
+    omega (arith, k, length-map (waiting j) (λ m. m.ticket), length-map endings (message code size), ap length w)
 
 pub may_finish : (j : List Event) (t : Ticket) (r : Row) → r.ticket ≡ t → has_ticket r.ticket (running j) ≡ is_open r.phase → is_open r.phase ≡ true → has_ticket t (running j) ≡ true
 may_finish j t r e runs open' = ap (λ u. has_ticket u (running j)) (sym e) ∙ runs ∙ open'

@@ -205,6 +205,15 @@ map-filter_tickets p (x ∷ xs) =
     go true = refl
     go false = refl
 
+pub filter_messages : (p : Ticket → Bool) (ms : List Message) → map (λ m. m.ticket) (filter (λ m. p m.ticket) ms) ≡ filter p (map (λ m. m.ticket) ms)
+filter_messages p [] = refl
+filter_messages p (m ∷ ms) = go (p m.ticket) ∙ ap (λ z. cond (p m.ticket) (m.ticket ∷ z) z) (filter_messages p ms)
+  where
+    go : (b : Bool) → map (λ (y : Message). y.ticket) (cond b (m ∷ filter (λ y. p y.ticket) ms) (filter (λ y. p y.ticket) ms))
+        ≡ cond b (m.ticket ∷ map (λ (y : Message). y.ticket) (filter (λ y. p y.ticket) ms)) (map (λ (y : Message). y.ticket) (filter (λ y. p y.ticket) ms))
+    go true = refl
+    go false = refl
+
 quiet : (t : Ticket) (b : Bool) (j : List Event) → b ≡ false → b ≡ true → is_done (phase_of t j) ≡ true
 quiet t b j off on = absurd (false≢true (sym off ∙ on))
 

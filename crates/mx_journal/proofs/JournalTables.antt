@@ -2,8 +2,9 @@
 use Rattle.std.proofs.Common.{◌≡◌, ℕ, ◌+◌, ◌<◌, ◌≤◌, ◌∙◌, sym, refl, ap, List, [], ◌∷◌, ◌++◌, append-nil, append_assoc, length, Bool, true, false, cond, map, arith, zero-add, length-append, inl, inr}
 use Rattle.std.specs.Prelude.{not, ◌&&◌, ◌||◌, ◌==◌, Option, Some, None, nat_lt, IfSome, IfNone}
 use Rattle.std.specs.List.{filter, list_any, find, AllByRecursion, count_by, sum_by}
-use Rattle.std.specs.Option.{is_some, is_none, option_map}
+use Rattle.std.specs.Option.{is_some, is_none, option_map, option_to_list}
 use Rattle.std.proofs.lemmas.Bool.{ltb-true, and_parts, and_from, false_from_ne_true, false≢true, leb-true, or_right, or_cases, or_left}
+use Rattle.std.proofs.lemmas.List.{map-append}
 use Rattle.std.proofs.lemmas.List.Sums.{sum_by-cons, sum_by_push, length-filter, count_by-le-length}
 use Rattle.mx_types.specs.declared.code.Code.{Code}
 use Rattle.mx_types.specs.declared.names.HandleId.{HandleId}
@@ -13,18 +14,19 @@ use Rattle.mx_types.specs.declared.event.What.{What}
 use Rattle.mx_types.specs.declared.event.What.TheVariants as what
 use Rattle.mx_types.specs.declared.event.Event.{Event}
 use Rattle.mx_journal.specs.History.{Addition}
+use Rattle.mx_journal.specs.History.{Message}
 use Rattle.mx_journal.specs.declared.row.Row.{Row}
 use Rattle.mx_journal.specs.declared.row.Phase.{Phase}
 use Rattle.mx_journal.specs.declared.row.Phase.TheVariants as phase
-use Rattle.mx_journal.specs.History.{same_ticket, same_handle, occurs, addition_of, ends, added, waiting, running, paused, additions, has_ticket, has_handle, last_is_pause, end_of, phase_by, phase_of, due, may_follow, is_legal, is_legal_after, has_room, HasRoomForDue, is_maker, same_maker, made_by}
+use Rattle.mx_journal.specs.History.{same_ticket, same_handle, occurs, addition_of, message_of, removes, reads, ends, added, waiting, running, paused, additions, has_ticket, has_handle, last_is_pause, end_of, phase_by, phase_of, due, may_follow, is_legal, is_legal_after, has_room, HasRoomForDue, is_maker, same_maker, made_by}
 use Rattle.mx_journal.specs.Answers.{ticket_of, handle_of}
-use Rattle.mx_journal.specs.Rows.{phase_after, ended_phase, read_phase, is_open, is_paused, turned, slots_in, rows_after, table_from, table_of, places_of, places}
+use Rattle.mx_journal.specs.Rows.{phase_after, ended_phase, read_phase, is_open, is_paused, turned, slots_in, rows_after, waits_after, table_from, table_of, places_of, places}
 use Rattle.mx_journal.specs.Slots.{lowest_free}
 use Rattle.mx_journal.specs.Table.{TableView, IsTableOf, IsRow, count_of}
 use Rattle.mx_journal.specs.JournalTable.{needs, IsJournalTable}
 use Rattle.mx_journal.proofs.Snoc.{legal-snoc}
 use Rattle.mx_journal.proofs.Lists.{Each-map, filter_idle, filter_true, has-filter, same-refl, same-is}
-use Rattle.mx_journal.proofs.Histories.{tickets, Laws, laws, laws_none, laws-then, added-then, additions-then, ends-phase, has_addition, running-has, first_unread, is_done}
+use Rattle.mx_journal.proofs.Histories.{tickets, Laws, laws, laws_none, laws-then, added-then, additions-then, ends-phase, has_addition, running-has, first_unread, is_done, waiting-then, filter_messages}
 use Rattle.mx_journal.specs.Laws.{then}
 use Rattle.mx_journal.proofs.Tables.{Tabled, tabled-then, table-then, tickets-rows, ticket_of-rows, handle_of-rows, due-rows, length-rows, found, not_found, has-kept, runs-phase, both, sum-agrees, not_not}
 
@@ -307,14 +309,43 @@ running-table j l =
 made-then : (v : Who) (j : List Event) (w : Who) (e : What) → made_by v (then j w e) ≡ made_by v j + cond (same_maker w v) 1 0
 made-then v j w e = sum_by_push (λ (x : Event). cond (same_maker x.who v) 1 0) j (record { who = w; what = e })
 
+-- the waiting tickets after an event that ends nothing
+pub waits_kept : (ts : List Ticket) (e : What) → ((t : Ticket) (c : Code) (n : ℕ) → e ≡ what.Done t c n → ⊥) → filter (λ t. not (reads t e || removes t e)) ts ≡ waits_after ts e
+waits_kept ts (what.Done t c n) h = absurd (h t c n refl)
+waits_kept ts (what.Added h t) k = refl
+waits_kept ts (what.Removed h t) k = refl
+waits_kept ts (what.Read t) k = refl
+waits_kept ts (what.Paused t) k = refl
+waits_kept ts (what.Resumed t) k = refl
+waits_kept ts what.Wake k = refl
+
+waits_left : (j : List Event) (w : Who) (e : What) → message_of e ≡ None
+    → filter (λ t. not (reads t e || removes t e)) (map (λ m. m.ticket) (waiting j)) ≡ map (λ m. m.ticket) (waiting (then j w e))
+waits_left j w e none =
+    sym (ap (map (λ (m : Message). m.ticket)) (waiting-then j w e ∙ ap (λ o. filter (λ m. not (reads m.ticket e || removes m.ticket e)) (waiting j) ++ option_to_list o) none ∙ append-nil _)
+    ∙ filter_messages (λ t. not (reads t e || removes t e)) (waiting j))
+
+pub waits-then : (j : List Event) (w : Who) (e : What) → waits_after (map (λ m. m.ticket) (waiting j)) e ≡ map (λ m. m.ticket) (waiting (then j w e))
+waits-then j w (what.Done t c n) =
+    let m : Message = record { ticket = t; code = c; size = n } in
+    sym (ap (map (λ (m : Message). m.ticket)) (waiting-then j w (what.Done t c n) ∙ ap (λ z. z ++ m ∷ []) (filter_true (waiting j)))
+    ∙ map-append (λ (m : Message). m.ticket) (waiting j) (m ∷ []))
+waits-then j w (what.Added h t) = waits_left j w (what.Added h t) refl
+waits-then j w (what.Removed h t) = waits_left j w (what.Removed h t) refl
+waits-then j w (what.Read t) = waits_left j w (what.Read t) refl
+waits-then j w (what.Paused t) = waits_left j w (what.Paused t) refl
+waits-then j w (what.Resumed t) = waits_left j w (what.Resumed t) refl
+waits-then j w what.Wake = waits_left j w what.Wake refl
+
 -- the table of one more event
 pub table-of-then : (j : List Event) (w : Who) (e : What) (t u : TableView) → IsTableOf j t → may_follow j e ≡ true
-    → u.rows ≡ rows_after t.rows e → u.added ≡ t.added + cond (is_some (addition_of e)) 1 0 → u.events ≡ t.events + 1
+    → u.rows ≡ rows_after t.rows e → u.waiting ≡ waits_after t.waiting e → u.added ≡ t.added + cond (is_some (addition_of e)) 1 0 → u.events ≡ t.events + 1
     → ((v : Who) → is_maker v ≡ true → count_of v u.makers ≡ count_of v t.makers + cond (same_maker w v) 1 0)
     → IsTableOf (then j w e) u
-table-of-then j w e t u x m rows adds events made = record {
+table-of-then j w e t u x m rows waits adds events made = record {
   legal = legal-then j w e x.legal m;
   rowed = rows ∙ ap (λ r. rows_after r e) x.rowed ∙ sym (table-then j w e);
+  waits = waits ∙ ap (λ ts. waits_after ts e) x.waits ∙ waits-then j w e;
   numbered = adds ∙ ap (λ n. n + cond (is_some (addition_of e)) 1 0) x.numbered ∙ sym (additions-then j w e);
   counted = events ∙ ap (λ n. n + 1) x.counted ∙ sym (length-append j (record { who = w; what = e } ∷ []));
   made = λ v h. made v h ∙ ap (λ n. n + cond (same_maker w v) 1 0) (x.made v h) ∙ sym (made-then v j w e);

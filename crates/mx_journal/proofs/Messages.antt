@@ -19,8 +19,8 @@ use Rattle.mx_journal.specs.Rows.{is_read}
 use Rattle.mx_journal.specs.Laws.{then, done_of, read_of, done_tickets, read_tickets, is_removed_unread, IsOncePerTicket, FirstInFirstOut}
 use Rattle.mx_journal.proofs.Snoc.{occurs-snoc, or_false}
 use Rattle.mx_journal.proofs.Lists.{Each-map, Each-append, filter_idle, filter_true, filter_where, same-is, same-refl}
-use Rattle.mx_journal.proofs.Histories.{tickets, Laws, laws-then, laws_none, waiting-then, running-has, first_unread}
-use Rattle.mx_journal.proofs.Controls.{once-then, read_rest, filter_messages, wait_tickets}
+use Rattle.mx_journal.proofs.Histories.{tickets, Laws, laws-then, laws_none, waiting-then, running-has, first_unread, filter_messages}
+use Rattle.mx_journal.proofs.Controls.{once-then, read_rest, wait_tickets}
 use Rattle.mx_journal.proofs.LegalLaws.{unremoved}
 
 each_any : {X : Type 0} (xs : List X) → AllByRecursion (λ x. Unit {0}) xs

@@ -1,5 +1,5 @@
--- The rows of the table: one for each addition, in order, kept event by event.
-use Rattle.std.specs.Prelude.{ℕ, Bool, true, false, not, if◌then◌else◌, List, [], ◌∷◌, ◌++◌, map}
+-- The rows of the table, one for each addition, in order, and its waiting tickets, kept event by event.
+use Rattle.std.specs.Prelude.{ℕ, Bool, true, false, not, if◌then◌else◌, ◌||◌, List, [], ◌∷◌, ◌++◌, map}
 use Rattle.std.specs.List.{filter, sum_by}
 use Rattle.mx_types.specs.declared.names.Ticket.{Ticket}
 use Rattle.mx_types.specs.declared.event.What.{What}
@@ -8,7 +8,7 @@ use Rattle.mx_types.specs.declared.event.Event.{Event}
 use Rattle.mx_journal.specs.declared.row.Row.{Row}
 use Rattle.mx_journal.specs.declared.row.Phase.{Phase}
 use Rattle.mx_journal.specs.declared.row.Phase.TheVariants as phase
-use Rattle.mx_journal.specs.History.{same_ticket}
+use Rattle.mx_journal.specs.History.{same_ticket, reads, removes}
 use Rattle.mx_journal.specs.Slots.{lowest_free}
 
 abbrev pub is_open : Phase → Bool
@@ -63,6 +63,11 @@ rows_after rows (what.Added h t) =
     rows ++ (record { handle = h; ticket = t; slot = lowest_free (slots_in rows); phase = phase.Running }) ∷ []
 rows_after rows (what.Removed h t) = filter (λ r. not (same_ticket r.ticket t)) rows
 rows_after rows e = map (turned e) rows
+
+-- the waiting tickets after the event
+abbrev pub waits_after : List Ticket → What → List Ticket
+waits_after ts (what.Done t _ _) = ts ++ t ∷ []
+waits_after ts e = filter (λ t. not (reads t e || removes t e)) ts
 
 -- the rows after a list of events, from rows on
 abbrev pub table_from : List Row → List Event → List Row

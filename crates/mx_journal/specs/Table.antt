@@ -1,10 +1,11 @@
 -- What a table has, and of which events it is the table.
-use Rattle.std.specs.Prelude.{ℕ, ◌<◌, ◌≡◌, List, length, true, slice_index}
+use Rattle.std.specs.Prelude.{ℕ, ◌<◌, ◌≡◌, List, length, map, true, slice_index}
+use Rattle.mx_types.specs.declared.names.Ticket.{Ticket}
 use Rattle.mx_types.specs.declared.event.Who.{Who}
 use Rattle.mx_types.specs.declared.event.Who.TheVariants as maker
 use Rattle.mx_types.specs.declared.event.Event.{Event}
 use Rattle.mx_journal.specs.declared.row.Row.{Row}
-use Rattle.mx_journal.specs.History.{is_maker, is_legal, additions, made_by, may_follow, running, paused, has_ticket, phase_of}
+use Rattle.mx_journal.specs.History.{is_maker, is_legal, additions, made_by, may_follow, waiting, running, paused, has_ticket, phase_of}
 use Rattle.mx_journal.specs.Rows.{table_of, is_open, is_paused}
 
 -- how many events each seat and each worker made
@@ -12,9 +13,10 @@ pub record Counts : Type 0 where
   pub seats : List ℕ
   pub workers : List ℕ
 
--- the rows of the added handles, how many additions and events there were, and who made how many
+-- the rows of the added handles, the tickets whose message waits, how many additions and events there were, and who made how many
 pub record TableView : Type 0 where
   pub rows : List Row
+  pub waiting : List Ticket
   pub added : ℕ
   pub events : ℕ
   pub makers : Counts
@@ -27,6 +29,7 @@ count_of (maker.Worker n) c = slice_index c.workers n
 pub record IsTableOf (j : List Event) (t : TableView) : Type 0 where
   pub legal : is_legal j ≡ true
   pub rowed : t.rows ≡ table_of j
+  pub waits : t.waiting ≡ map (λ m. m.ticket) (waiting j)
   pub numbered : t.added ≡ additions j
   pub counted : t.events ≡ length j
   pub made : (w : Who) → is_maker w ≡ true → count_of w t.makers ≡ made_by w j

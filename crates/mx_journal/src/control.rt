@@ -2,7 +2,7 @@
 ghost use Rattle.std.specs.Prelude.{map, ◌≡◌, ◌≤◌, ◌++◌, ◌∷◌, [], List, length, true, drop, OnOk, OnErr, IfOk, IfSome, IfNone};
 ghost use Rattle.std.specs.List.{AllByRecursion};
 ghost use Rattle.mx_types.specs.declared.call.Call.{Call};
-ghost use Rattle.mx_journal.specs.History.{may_follow, has_room, has_ticket, is_maker, made_by, running, added};
+ghost use Rattle.mx_journal.specs.History.{may_follow, has_room, has_ticket, is_maker, made_by, running, added, waiting};
 ghost use Rattle.mx_journal.specs.Answers.{handle_of, Answers, is_ready, look_of, state_of};
 ghost use Rattle.mx_journal.specs.Core.{claimed, queued, still_running, still_waiting, IsSound};
 ghost use Rattle.mx_journal.specs.Replies.{is_pausing, journal_after_pausing, IsPausingAnswer, reply_of_info, ending_read, ending_recorded, IsHandedBack, reply_of_finish, queue_added, handed_back, work_back, reply_of_add, reply_of_remove, reply_of_pause, reply_of_wakeup};
@@ -330,6 +330,13 @@ impl<Q: Work + Drop, O: Ending + Drop> Control<Q, O> {
         ensures { result ≡ map (λ a. a.handle) (added self.now.journal) }
     {
         self.table.handles()
+    }
+
+    /// The tickets whose message waits to be read, in the order of their ends.
+    pub fn waiting(&self) -> &[Ticket]
+        ensures { result.now ≡ map (λ m. m.ticket) (waiting self.now.journal) }
+    {
+        self.table.waiting()
     }
 
     /// How many transfers run, paused ones too.

@@ -1,7 +1,7 @@
 //! The journal of a multi handle, with the table beside it.
 ghost use Rattle.std.specs.Prelude.{◌≡◌, ◌≤◌, ◌++◌, ◌∷◌, [], length, true, false, map, IfOk, IfSome, IfNone, nat_le};
 ghost use Rattle.std.specs.Option.{option_map};
-ghost use Rattle.mx_journal.specs.History.{added, running, has_ticket, may_follow, has_room, is_maker, made_by};
+ghost use Rattle.mx_journal.specs.History.{added, waiting, running, has_ticket, may_follow, has_room, is_maker, made_by};
 ghost use Rattle.mx_journal.specs.Answers.{ticket_of, handle_of, next_ticket, is_ready, state_of, look_of};
 ghost use Rattle.mx_journal.specs.Slots.{slot_of};
 ghost use Rattle.mx_journal.specs.Table.{IsRow};
@@ -111,6 +111,13 @@ impl JournalTable {
         ensures { result ≡ map (λ a. a.handle) (added self.now.journal) }
     {
         self.table.handles()
+    }
+
+    /// The tickets whose message waits to be read, in the order of their ends.
+    pub fn waiting(&self) -> &[Ticket]
+        ensures { result.now ≡ map (λ m. m.ticket) (waiting self.now.journal) }
+    {
+        self.table.waiting()
     }
 
     /// How many transfers run.

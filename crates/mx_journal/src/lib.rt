@@ -15,6 +15,7 @@ mod rows;
 mod table;
 #[cfg(test)]
 mod tests;
+mod waits;
 
 pub use crate::claim::Claim;
 pub use crate::control::Control;

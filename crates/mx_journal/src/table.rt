@@ -2,23 +2,25 @@
 ghost use Rattle.std.specs.Prelude.{◌≡◌, ◌++◌, ◌∷◌, [], List, length, true, false, map, IfOk, IfSome, IfNone, nat_le};
 ghost use Rattle.std.specs.Option.{option_map};
 ghost use Rattle.mx_types.specs.declared.event.Event.{Event};
-ghost use Rattle.mx_journal.specs.History.{added, running, due, has_ticket, may_follow, is_maker, made_by};
+ghost use Rattle.mx_journal.specs.History.{added, waiting, running, due, has_ticket, may_follow, is_maker, made_by};
 ghost use Rattle.mx_journal.specs.Answers.{ticket_of, handle_of, next_ticket, state_of, look_of};
 ghost use Rattle.mx_journal.specs.Slots.{slot_of};
 ghost use Rattle.mx_journal.specs.Table.{IsTableOf, MayEnter, IsRow};
 
 use crate::makers::MakerCounts;
 use crate::row::Row;
-use crate::rows;
+use crate::{rows, waits};
 use mx_types::{AddedHandles, Event, HandleId, Look, OutOfMemory, State, Ticket, Who};
 use std::alloc::Global;
 use std::marker::Model;
 
-/// The fold of events: the added handles in order with their tickets, slots and phases, how many events there
-/// were, and who made how many. Each answer speaks of any events of which this is the table.
+/// The fold of events: the added handles in order with their tickets, slots and phases, the tickets whose message
+/// waits to be read, in order, how many events there were, and who made how many. Each answer speaks of any events of
+/// which this is the table.
 #[derive(Drop)]
 pub struct Table {
     rows: Vec<Row>,
+    waiting: Vec<Ticket>,
     added: u32,
     events: u32,
     makers: MakerCounts,
@@ -30,18 +32,19 @@ impl Model for Table {
 
     ghost Value = { TableView };
 
-    ghost view = { λ t. record { rows = t.rows.items; added = t.added; events = t.events; makers = t.makers } };
+    ghost view = { λ t. record { rows = t.rows.items; waiting = t.waiting.items; added = t.added; events = t.events; makers = t.makers } };
 
-    ghost invariant = { λ t. (length t.rows.items ≤ 256) × (256 ≤ vec_capacity t.rows) };
+    ghost invariant = { λ t. (length t.rows.items ≤ 256) × (256 ≤ vec_capacity t.rows) × (256 ≤ vec_capacity t.waiting) };
 }
 
 impl Table {
-    /// The table of no events, with space for all the rows that it can ever have.
+    /// The table of no events, with space for all the rows and all the waiting tickets that it can ever have.
     pub fn new(alloc: Global) -> Result<Table, OutOfMemory>
         ensures { IfOk result (λ t. IsTableOf [] t) }
     {
         Ok(Table {
             rows: Vec::with_capacity(alloc, 256)?,
+            waiting: Vec::with_capacity(alloc, 256)?,
             added: 0,
             events: 0,
             makers: MakerCounts::new(),
@@ -93,6 +96,13 @@ impl Table {
         ensures { (j : List Event) → IsTableOf j self.now → result ≡ map (λ a. a.handle) (added j) }
     {
         AddedHandles::new(rows::handles(&self.rows))
+    }
+
+    /// The tickets whose message waits to be read, in the order of their ends: at most 256, each once.
+    pub fn waiting(&self) -> &[Ticket]
+        ensures { (j : List Event) → IsTableOf j self.now → result.now ≡ map (λ m. m.ticket) (waiting j) }
+    {
+        &self.waiting
     }
 
     /// How many transfers run, paused ones too.
@@ -148,5 +158,6 @@ impl Table {
         self.added += rows::additions_by(&event.what);
         self.makers.add_one(event.who);
         rows::enter(&mut self.rows, &event.what);
+        waits::enter(&mut self.waiting, &event.what);
     }
 }

@@ -170,6 +170,11 @@ fn agrees(rt: &impl Abort, alloc: Global, caller: &Caller) -> Result<(), Fail> {
         caller.control.poll_ready(5),
         definitions::is_ready(5, events)
     );
+    let mut waiting = Vec::new(alloc);
+    for message in definitions::waiting(alloc, events)?.iter() {
+        waiting.push(message.0)?;
+    }
+    assert_eq!(rt; caller.control.waiting(), waiting.as_slice());
     Ok(())
 }
 
