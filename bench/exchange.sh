@@ -25,7 +25,7 @@ instructions() {
         awk '/Collected/ { print $4 }'
 }
 for body in counted chunked; do
-    for pieces in 16 32 64 128 256; do
+    for pieces in 16 64 256 1024; do
         copy=$(instructions copy "$body" "$pieces")
         exchange=$(instructions exchange "$body" "$pieces")
         base=$(instructions none "$body" "$pieces")
