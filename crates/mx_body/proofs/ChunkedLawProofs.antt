@@ -13,7 +13,8 @@ use Rattle.mx_body.specs.declared.chunked.place.Place.TheVariants.{Start, Size, 
 use Rattle.mx_body.specs.Chunked.{IsChunkExtension, print_size_line, chunk_size, Chunk, IsChunk, print_chunk, ChunkedBody, print_chunks, print_trailers, print_chunked, chunked_data, chunk_parts, MayBecomeChunked}
 use Rattle.mx_body.specs.ChunkedPlace.{expect, next_place, place_after, is_settled}
 use Rattle.mx_body.specs.ChunkedScan.{IsUndecidedChunked, NeverHasChunked, IsChunkedScan}
-use Rattle.mx_body.specs.ChunkedLaws.{OneBodyPerText, OneReadingPerText, AreOrdered, joined, PartsAreData, BodyIsSound, LargeMayBecome, OneScanPerInput, NoBareLfInSizeLine, CrlfBehindData, BareLfExamples, DoneIsWhole, WholeIsDone}
+use Rattle.mx_body.specs.Parts.{AreOrdered, joined}
+use Rattle.mx_body.specs.ChunkedLaws.{OneBodyPerText, OneReadingPerText, PartsAreData, BodyIsSound, LargeMayBecome, OneScanPerInput, NoBareLfInSizeLine, CrlfBehindData, BareLfExamples, DoneIsWhole, WholeIsDone}
 use Rattle.mx_body.proofs.ChunkedRun.{place_after-nil, place_after-append, by_byte, data_all, bad_stays, too_large_stays}
 use Rattle.mx_body.proofs.ChunkedComplete.{run_size, run_line, run_size_line, run_chunks, run_body, step_opens, opens_no_digit, after_some}
 use Rattle.mx_body.proofs.ChunkedLemmas.{done_reads, sizes_fit, large_leads, large_is, bad_never, open_is_undecided, cut}

@@ -9,7 +9,7 @@ use Rattle.mx_head.specs.Limits.{most_bytes}
 use Rattle.mx_body.specs.declared.part.Part.{Part}
 use Rattle.mx_body.specs.Response.{print_heads, IsBody, one_part, Response, heads_of}
 use Rattle.mx_body.specs.Decision.{BeginsWithResponse}
-use Rattle.mx_body.specs.ChunkedLaws.{AreOrdered, joined}
+use Rattle.mx_body.specs.Parts.{AreOrdered, joined}
 use Rattle.mx_body.proofs.ChunkedLawProofs.{parts_are_the_data}
 use Rattle.mx_body.proofs.VerdictLemmas.{one_part-some}
 

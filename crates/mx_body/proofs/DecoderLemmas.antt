@@ -1,10 +1,10 @@
 -- What a verdict can be.
-use Rattle.std.proofs.Common.{◌≡◌, ◌≢◌, ℕ, ◌≤◌, Bool, true, false, List, [], ◌∷◌, length, refl, sym, ◌∙◌, ap, subst, inl, inr, arith}
+use Rattle.std.proofs.Common.{◌≡◌, ◌≢◌, ℕ, ◌≤◌, Bool, true, false, List, [], ◌∷◌, length, refl, subst, inl, inr, arith}
 use Rattle.mx_types.specs.declared.code.Code.{Code}
 use Rattle.mx_types.specs.declared.method.Method.{Method}
 use Rattle.mx_head.specs.Faults.{many_fields, never_head, long_head}
 use Rattle.mx_body.specs.Causes.{Cause, at_head, refused_status, at_body, bad_framing, unknown_coding, too_big, bad_chunk, cause_code}
-use Rattle.mx_body.specs.ChunkedLaws.{AreOrdered}
+use Rattle.mx_body.specs.Parts.{AreOrdered}
 use Rattle.mx_body.specs.Decision.{IsVerdict, FailsWith, EndsTooSoon}
 use Rattle.mx_body.specs.Decoder.{stand_of, parts_of, is_verdict_code, HasVerdictCode}
 use Rattle.mx_body.specs.declared.decoder.Stand.{Stand}

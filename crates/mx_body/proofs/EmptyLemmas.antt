@@ -1,18 +1,16 @@
 -- Nothing is decided before any byte.
-use Rattle.std.proofs.Common.{◌≡◌, ℕ, ◌<◌, ◌≤◌, inl, inr, Bool, true, false, List, [], ◌∷◌, ◌++◌, length, Option, None, refl, sym, ap, subst, ◌∙◌, arith, append-nil, length-append}
+use Rattle.std.proofs.Common.{◌≡◌, ℕ, ◌<◌, false, List, [], ◌∷◌, ◌++◌, length, None, refl, sym, ap, subst, ◌∙◌, arith, append-nil, length-append}
 use Rattle.std.proofs.lemmas.List.Elements.{All-nil, All-cons}
 use Rattle.std.specs.Prelude.{IsTrue}
 use Rattle.std.specs.Char.{is_ascii_digit}
 use Rattle.httparse.specs.Ascii.{space}
-use Rattle.httparse.specs.Grammar.{LineEnd, lf, ResponseHead, IsResponseHead, ReadsResponse, NeverHasResponse, print_response, print_blank, print_version, print_reason, print_end, print_section, is_value_byte, IsField}
+use Rattle.httparse.specs.Grammar.{lf, ResponseHead, IsResponseHead, NeverHasResponse, print_response, print_blank, print_version, print_reason, print_end, print_section, is_value_byte, IsField}
 use Rattle.mx_types.specs.declared.method.Method.{Method}
-use Rattle.mx_head.specs.Limits.{most_bytes}
 use Rattle.mx_head.specs.Faults.{HeadCause, many_fields, never_head, long_head, MeetsAtHead, MeetsNothing}
 use Rattle.mx_body.specs.declared.verdict.Verdict.TheVariants as verdict
 use Rattle.mx_body.specs.Response.{print_heads}
 use Rattle.mx_body.specs.Causes.{Cause, at_head, refused_status, at_body, Meets}
 use Rattle.mx_body.specs.Decision.{first_bytes, HasFinalHead, IsVerdict}
-use Rattle.mx_body.proofs.FirstBytesLemmas.{length-first_bytes}
 use Rattle.mx_body.proofs.MeetsLemmas.{headless_no_response}
 
 some_bytes : (h : ResponseHead) → 0 < length (print_response h)

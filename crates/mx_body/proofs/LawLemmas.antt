@@ -14,7 +14,7 @@ use Rattle.mx_head.proofs.FirstLemmas.{one_first}
 use Rattle.mx_head.proofs.LineLemmas.{front_of}
 use Rattle.mx_body.specs.declared.part.Part.{Part}
 use Rattle.mx_body.specs.declared.verdict.Verdict.TheVariants as verdict
-use Rattle.mx_body.specs.ChunkedLaws.{AreOrdered, joined}
+use Rattle.mx_body.specs.Parts.{AreOrdered, joined}
 use Rattle.mx_body.specs.Response.{print_heads, Response, IsResponse}
 use Rattle.mx_body.specs.Causes.{Cause, at_head, refused_status, at_body, bad_framing, unknown_coding, too_big, bad_chunk, cause_code, cause_line, Meets}
 use Rattle.mx_body.specs.Decision.{BeginsWithResponse, IsNoResponse, first_bytes, HasFinalHead, EndsTooSoon, FailsWith, is_close, IsVerdict}

@@ -1,6 +1,7 @@
 -- Laws of the definitions of chunked bodies, each the contract of a function of `chunked::laws`.
-use Rattle.std.specs.Prelude.{false, ◌≡◌, ℕ, ◌+◌, ◌<◌, ◌≤◌, List, [], ◌∷◌, ◌++◌, length, All, flat_map, slice_range, codes}
+use Rattle.std.specs.Prelude.{false, ◌≡◌, ℕ, ◌+◌, ◌<◌, List, [], ◌∷◌, ◌++◌, length, All, codes}
 use Rattle.mx_body.specs.declared.part.Part.{Part}
+use Rattle.mx_body.specs.Parts.{AreOrdered, joined}
 use Rattle.mx_body.specs.declared.chunked.scan.ChunkedScan.{ChunkedScan}
 use Rattle.mx_body.specs.Chunked.{IsChunkSize, IsChunkExtension, IsSizeLine, SizeLine, chunk_size, print_size_line, Chunk, IsChunk, ChunkedBody, IsChunkedBody, HasSizes, print_chunks, print_chunked, IsChunked, MayBecomeChunked, EndsInLargeSize}
 use Rattle.mx_body.specs.ChunkedScan.{IsUndecidedChunked, IsChunkedScan}
@@ -20,15 +21,6 @@ OneReadingPerText =
     (limit higher at : ℕ) (bytes more : List ℕ) (parts others : List Part) (data_bytes other_bytes : List ℕ)
     → IsChunked limit at bytes parts data_bytes → IsChunked higher at (bytes ++ more) others other_bytes
     → (more ≡ []) × (parts ≡ others) × (data_bytes ≡ other_bytes)
-
--- parts that lie in a text of so many bytes at an offset, none empty, each before the next
-abbrev pub AreOrdered : ℕ → ℕ → List Part → Type 0
-AreOrdered from to [] = from ≤ to
-AreOrdered from to (p ∷ parts) = (from ≤ p.start) × (p.start < p.end) × AreOrdered p.end to parts
-
--- the bytes of a text at the parts, joined
-abbrev pub joined : List ℕ → List Part → List ℕ
-joined text parts = flat_map (λ p. slice_range text p.start p.end) parts
 
 -- the parts lie within the body, in order, none is empty, and what stands at them is the data
 abbrev pub PartsAreData : Type 0

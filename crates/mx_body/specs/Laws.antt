@@ -6,7 +6,7 @@ use Rattle.mx_head.specs.declared.types.Framing.TheVariants.{Close}
 use Rattle.mx_head.specs.Faults.{MeetsNothing}
 use Rattle.mx_body.specs.declared.verdict.Verdict.{Verdict}
 use Rattle.mx_body.specs.declared.verdict.Verdict.TheVariants.{Complete, More, Fault}
-use Rattle.mx_body.specs.ChunkedLaws.{AreOrdered, joined}
+use Rattle.mx_body.specs.Parts.{AreOrdered, joined}
 use Rattle.mx_body.specs.Response.{Response, IsResponse}
 use Rattle.mx_body.specs.Causes.{Meets}
 use Rattle.mx_body.specs.Decision.{BeginsWithResponse, IsVerdict, IsHopeless, HasStatus}

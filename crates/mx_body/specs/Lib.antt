@@ -1,4 +1,5 @@
 -- What the crate promises, in the order to read it.
+pub mod Parts
 pub mod Chunked
 pub mod Response
 pub mod Causes

@@ -1,6 +1,6 @@
 //! A decoder that is fed the bytes of an exchange in pieces.
 ghost use Rattle.std.specs.Prelude.{◌≡◌, ◌≢◌, ◌++◌, [], true, false, length, IfOk, OnErr, Ok};
-ghost use Rattle.mx_body.specs.ChunkedLaws.{AreOrdered};
+ghost use Rattle.mx_body.specs.Parts.{AreOrdered};
 ghost use Rattle.mx_body.specs.Decision.{HasStatus};
 ghost use Rattle.mx_body.specs.Decoder as spec;
 ghost use Rattle.mx_body.specs.Decoder.{IsExact, HasVerdictCode};

@@ -18,9 +18,8 @@ use Rattle.mx_link.specs.declared.answers.Answer.TheVariants as said
 use Rattle.mx_exchange.specs.Order.{InOrder}
 use Rattle.mx_exchange.specs.Endings.{IsUndecided, EndsBy, by_bytes, by_end, by_fault, by_memory, MustRetry, may_keep, code_of, fault_code}
 use Rattle.mx_exchange.specs.Transfers.{OutcomeValue, TransferState, IsDue, clocked, dropped, is_link_code}
-use Rattle.mx_exchange.specs.Turns.{How, waits, asks, ends, MayTouch, ProbeFails, Probed, Answered, GoesOn, EndsWith, StopsWith, Turns, late, given_up, paused, unserved, refused, lost, blocked, unfinished, ended}
+use Rattle.mx_exchange.specs.Turns.{How, waits, asks, ends, ProbeFails, Probed, Answered, GoesOn, EndsWith, StopsWith, Exchanged, unserved, lost, blocked, unfinished, ended, Turns, late, given_up, paused, refused, turned}
 use Rattle.mx_exchange.specs.Service.{IsGoing, ServeTurn}
-use Rattle.mx_exchange.specs.Turned.{Exchanged, idle, gone, stuck, full, over}
 use Rattle.mx_exchange.specs.declared.service.Served.{Served}
 use Rattle.mx_exchange.specs.declared.service.Served.TheVariants as served
 
@@ -98,25 +97,25 @@ module _ {L : Type 0} (history : L → List Answer) where
     unretried : (past : List Answer) → ¬ (MustRetry rq.method reused past) → ¬ (MustRetry old.request.method old.is_reused past)
     unretried past never m = never (subst (λ (b : Bool). MustRetry rq.method b past) (sym again) (subst (λ (r : RequestValue). MustRetry r.method old.is_reused past) (sym about) m))
 
-    pub Exchange-stuck : (next : L) → new.link ≡ Some next → new ≡ record old { link = new.link; answers = new.answers; received = length d.wire }
+    pub Exchange-blocked : (next : L) → new.link ≡ Some next → new ≡ record old { link = new.link; answers = new.answers; received = length d.wire }
         → ServeTurn (history link) (history next) old.answers new.answers served.Blocked rq reused stood w d → Exchanged history old new waits
-    Exchange-stuck next has same t = stuck (answered new next served.Blocked has t) t.so.1 (goes same t.so.0.wire)
+    Exchange-blocked next has same t = blocked (answered new next served.Blocked has t) t.so.1 (goes same t.so.0.wire)
 
-    pub Exchange-full : (next : L) → new.link ≡ Some next → new ≡ record old { link = new.link; answers = new.answers; received = length d.wire }
+    pub Exchange-unfinished : (next : L) → new.link ≡ Some next → new ≡ record old { link = new.link; answers = new.answers; received = length d.wire }
         → ServeTurn (history link) (history next) old.answers new.answers served.Unfinished rq reused stood w d → Exchanged history old new asks
-    Exchange-full next has same t = full (answered new next served.Unfinished has t) t.so.1 (goes same t.so.0.wire)
+    Exchange-unfinished next has same t = unfinished (answered new next served.Unfinished has t) t.so.1 (goes same t.so.0.wire)
 
-    pub Exchange-gone : (next : L) (past : List Answer) → new ≡ dropped old
+    pub Exchange-lost : (next : L) (past : List Answer) → new ≡ dropped old
         → ServeTurn (history link) (history next) old.answers past served.Lost rq reused stood w d → Exchanged history old new waits
-    Exchange-gone next past same t =
+    Exchange-lost next past same t =
         let last : TransferState L = record old { link = Some next; answers = past } in
-        gone last (answered last next served.Lost refl t) (ordered past t.order) (retried past t.so) same
+        lost last (answered last next served.Lost refl t) (ordered past t.order) (retried past t.so) same
 
-    pub Exchange-over : (next : L) (c : Code) (o : OutcomeValue) → new.link ≡ Some next → o.request ≡ rq → o.wire ≡ d.wire → o.code ≡ c → HasStatus o.wire o.status → o.parts ≡ parts_of d.verdict
+    pub Exchange-ended : (next : L) (c : Code) (o : OutcomeValue) → new.link ≡ Some next → o.request ≡ rq → o.wire ≡ d.wire → o.code ≡ c → HasStatus o.wire o.status → o.parts ≡ parts_of d.verdict
         → new.is_kept ≡ may_keep d.verdict d.wire
         → new ≡ record old { link = new.link; answers = new.answers; code = Some c; is_kept = new.is_kept; received = length d.wire }
         → ServeTurn (history link) (history next) old.answers new.answers (served.Over c) rq reused stood w d → Exchanged history old new (ends o)
-    Exchange-over next c o has er ew ec st ep kept same t =
+    Exchange-ended next c o has er ew ec st ep kept same t =
         let end : EndsWith old new o = (
           er ∙ about,
           st,
@@ -127,41 +126,32 @@ module _ {L : Type 0} (history : L → List Answer) where
         subst (λ (x : Code). EndsBy old.request.method new.answers o.wire d.verdict x) (sym ec)
         (subst (λ (l : List ℕ). EndsBy old.request.method new.answers l d.verdict c) (sym ew)
         (subst (λ (r : RequestValue). EndsBy r.method new.answers d.wire d.verdict c) about t.so.cause)) in
-        over (answered new next (served.Over c) has t)
+        ended (answered new next (served.Over c) has t)
         (record { ends = end; verdict = d.verdict; cause = cause; parts = ep; kept = kept ∙ ap (λ (l : List ℕ). may_keep d.verdict l) (sym ew) })
         (unretried new.answers t.so.final)
 
-  -- what a probe leaves as it was
-  kept_by : (t mid : TransferState L) → Probed history t mid → (mid.request ≡ t.request) × (mid.is_reused ≡ t.is_reused) × (dropped mid ≡ dropped t) × (mid.code ≡ t.code) × (mid.waker ≡ t.waker)
-  kept_by t mid (inl p) = rw p.1 (refl, refl, refl, refl, refl)
-  kept_by t mid (inr p) = rw p.after (refl, refl, refl, refl, refl)
+  -- the request, the code and the waker are as they were
+  abbrev Stays : TransferState L → TransferState L → Type 0
+  Stays t new = (new.request ≡ t.request) × (new.code ≡ t.code) × (new.waker ≡ t.waker)
 
-  module _ (t mid new : TransferState L) (m : MayTouch t) (p : Probed history t mid) where
-    same_retry : (past : List Answer) → MustRetry mid.request.method mid.is_reused past → MustRetry t.request.method t.is_reused past
-    same_retry past r =
-        let k = kept_by t mid p in
-        subst (λ (b : Bool). MustRetry t.request.method b past) k.1 (subst (λ (r : RequestValue). MustRetry r.method mid.is_reused past) k.0 r)
+  -- so a probe leaves them, and a turn over the link that doesn't end the transfer
+  probed_stays : (t mid : TransferState L) → Probed history t mid → Stays t mid
+  probed_stays t mid (inl p) = rw p.1 (refl, refl, refl)
+  probed_stays t mid (inr p) = rw p.after (refl, refl, refl)
 
-    same_order : (past : List Answer) → InOrder mid.is_reused mid.request.bytes past → InOrder t.is_reused t.request.bytes past
-    same_order past o =
-        let k = kept_by t mid p in
-        subst (λ (b : Bool). InOrder b t.request.bytes past) k.1 (subst (λ (r : RequestValue). InOrder mid.is_reused r.bytes past) k.0 o)
+  goes_stays : (t new : TransferState L) → GoesOn t new → Stays t new
+  goes_stays t new g = (ap (λ (x : TransferState L). x.request) g, ap (λ (x : TransferState L). x.code) g, ap (λ (x : TransferState L). x.waker) g)
 
-    same_unretry : (past : List Answer) → ¬ (MustRetry mid.request.method mid.is_reused past) → ¬ (MustRetry t.request.method t.is_reused past)
-    same_unretry past never r =
-        let k = kept_by t mid p in
-        never (subst (λ (b : Bool). MustRetry mid.request.method b past) (sym k.1) (subst (λ (r : RequestValue). MustRetry r.method t.is_reused past) (sym k.0) r))
+  waits_stays : (t new : TransferState L) → Exchanged history t new waits → Stays t new
+  waits_stays t new (unserved none e) = rw e (refl, refl, refl)
+  waits_stays t new (lost last a o r e) = rw e (refl, refl, refl)
+  waits_stays t new (blocked a b g) = goes_stays t new g
 
-    unattached : (q : Probed history t mid) → mid.link ≡ None → new ≡ mid → Turns history t new waits
-    unattached (inl q) none e = unserved m (ap (λ (x : TransferState L). x.link) (sym q.1) ∙ none) (e ∙ q.1)
-    unattached (inr q) none e = let x : Some q.next ≡ None = sym (ap (λ (x : TransferState L). x.link) q.after) ∙ none in cc
+  asks_stays : (t new : TransferState L) → Exchanged history t new asks → Stays t new
+  asks_stays t new (unfinished a b g) = goes_stays t new g
 
-    turned : (how : How) → Exchanged history mid new how → Turns history t new how
-    turned waits (idle none e) = unattached p none e
-    turned waits (gone last a o r e) = lost m mid last p a (same_order last.answers o) (same_retry last.answers r) (e ∙ (kept_by t mid p).2)
-    turned waits (stuck a b g) = blocked m mid p a b g
-    turned asks (full a b g) = unfinished m mid p a b g
-    turned (ends o) (over a e r) = ended m mid p a e (same_unretry new.answers r)
+  both_stay : (t mid new : TransferState L) → Stays t mid → Stays mid new → Stays t new
+  both_stay t mid new a b = (b.0 ∙ a.0, b.1 ∙ a.1, b.2 ∙ a.2)
 
   module _ (old t new : TransferState L) (e : t ≡ clocked old) where
     clock : (how : How) → Turns history t new how → Turns history (clocked old) new how
@@ -181,27 +171,22 @@ module _ {L : Type 0} (history : L → List Answer) where
       Advance-refused f = clock waits (refused ((early, failed), runs) f)
 
       pub Advance-turned : (mid : TransferState L) (how : How) → Probed history t mid → Exchanged history mid new how → Turns history (clocked old) new how
-      Advance-turned mid how p x = clock how (turned t mid new ((early, failed), runs) p how x)
+      Advance-turned mid how p x = clock how (turned ((early, failed), runs) mid p x)
 
   -- an outcome is of the transfer's request
   pub Turns-request : (t new : TransferState L) (o : OutcomeValue) → Turns history t new (ends o) → o.request ≡ t.request
   Turns-request t new o (late due is s) = s.0.0
   Turns-request t new o (given_up early is s) = s.0.0
-  Turns-request t new o (ended m mid p a e r) = e.ends.0 ∙ (kept_by t mid p).0
+  Turns-request t new o (turned m mid p (ended a e r)) = e.ends.0 ∙ (probed_stays t mid p).0
 
-  -- a transfer that waits hasn't ended
-  pub Turns-alive : (t new : TransferState L) → t.code ≡ None → Turns history t new waits → new.code ≡ None
-  Turns-alive t new n (unserved m none e) = ap (λ (x : TransferState L). x.code) e ∙ n
-  Turns-alive t new n (refused m f) = ap (λ (x : TransferState L). x.code) f.after ∙ n
-  Turns-alive t new n (lost m mid last p a o r e) = ap (λ (x : TransferState L). x.code) e ∙ n
-  Turns-alive t new n (blocked m mid p a b g) = ap (λ (x : TransferState L). x.code) g ∙ (kept_by t mid p).3 ∙ n
+  -- a transfer that waits, or asks to be polled again, is of the same request, and hasn't ended
+  pub Turns-waits : (t new : TransferState L) → Turns history t new waits → Stays t new
+  Turns-waits t new (refused m f) = rw f.after (refl, refl, refl)
+  Turns-waits t new (turned m mid p x) = both_stay t mid new (probed_stays t mid p) (waits_stays mid new x)
 
-  -- nor does its turn change the waker
-  Turns-waker : (t new : TransferState L) → Turns history t new waits → new.waker ≡ t.waker
-  Turns-waker t new (unserved m none e) = ap (λ (x : TransferState L). x.waker) e
-  Turns-waker t new (refused m f) = ap (λ (x : TransferState L). x.waker) f.after
-  Turns-waker t new (lost m mid last p a o r e) = ap (λ (x : TransferState L). x.waker) e
-  Turns-waker t new (blocked m mid p a b g) = ap (λ (x : TransferState L). x.waker) g ∙ (kept_by t mid p).4
+  pub Turns-asks : (t new : TransferState L) → Turns history t new asks → Stays t new
+  Turns-asks t new (paused m still e) = rw e (refl, refl, refl)
+  Turns-asks t new (turned m mid p x) = both_stay t mid new (probed_stays t mid p) (asks_stays mid new x)
 
   -- once it has left a waker, its turn is that before it
   pub Waits-left : (old mid new : TransferState L) → Turns history (clocked old) mid waits → new ≡ record mid { waker = new.waker }
@@ -209,14 +194,9 @@ module _ {L : Type 0} (history : L → List Answer) where
   Waits-left old mid new h e =
       let same : record new { waker = old.waker } ≡ mid = (
       ap (λ (x : TransferState L). record x { waker = old.waker }) e
-      ∙ ap (λ (w : Option Waker). record mid { waker = w }) (sym (Turns-waker (clocked old) mid h))
+      ∙ ap (λ (w : Option Waker). record mid { waker = w }) (sym (Turns-waits (clocked old) mid h).2)
       ) in
       subst (λ (x : TransferState L). Turns history (clocked old) x waits) (sym same) h
-
-  -- nor has one that asks to be polled again ended
-  pub Turns-asking : (t new : TransferState L) → t.code ≡ None → Turns history t new asks → new.code ≡ None
-  Turns-asking t new n (paused m still e) = ap (λ (x : TransferState L). x.code) e ∙ n
-  Turns-asking t new n (unfinished m mid p a b g) = ap (λ (x : TransferState L). x.code) g ∙ (kept_by t mid p).3 ∙ n
 
   -- no response, no fault of a link and no want of memory comes to 28
   untimely : (kind : Method) (past : List Answer) (wire : List ℕ) (v : Verdict) (c : Code) → EndsBy kind past wire v c → c ≡ code.OperationTimedout → ⊥
@@ -233,4 +213,4 @@ module _ {L : Type 0} (history : L → List Answer) where
         let x : is_link_code code.OperationTimedout ≡ true = ap is_link_code (sym e) ∙ listed in cc),
     (λ d. absurd (early d)),
   )
-  Turns-late t new o f (ended m mid p a e r) = ((λ c. absurd (untimely _ _ _ _ _ e.cause c)), (λ d. absurd (m.0.0 d)))
+  Turns-late t new o f (turned m mid p (ended a e r)) = ((λ c. absurd (untimely _ _ _ _ _ e.cause c)), (λ d. absurd (m.0.0 d)))

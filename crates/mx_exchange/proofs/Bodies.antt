@@ -4,7 +4,7 @@ use Rattle.std.specs.Prelude.{slice_range}
 use Rattle.std.proofs.Math.ListN.{get_or}
 use Rattle.std.proofs.lemmas.List.{length-take-le}
 use Rattle.mx_body.specs.declared.part.Part.{Part}
-use Rattle.mx_body.specs.ChunkedLaws.{AreOrdered, joined}
+use Rattle.mx_body.specs.Parts.{AreOrdered, joined}
 
 ordered_le : (from to : ℕ) (ps : List Part) → AreOrdered from to ps → from ≤ to
 ordered_le from to [] h = h

@@ -92,25 +92,28 @@ pub data How : Type 0 where
   asks : How
   ends : OutcomeValue → How
 
+-- a turn over the link, if there is one, that needs no probe
+pub data Exchanged {L : Type 0} (history : L → List Answer) (t new : TransferState L) : How → Type 0 where
+  unserved : t.link ≡ None → new ≡ t → Exchanged history t new waits
+  lost : (last : TransferState L) → Answered history t last → InOrder t.is_reused t.request.bytes last.answers
+      → MustRetry t.request.method t.is_reused last.answers → new ≡ dropped t → Exchanged history t new waits
+  blocked : (a : Answered history t new) → EndsBlocked a.more → GoesOn t new → Exchanged history t new waits
+  unfinished : (a : Answered history t new) → (count_by is_read a.more ≡ 64) ⊎ (count_by is_write a.more ≡ 64)
+      → GoesOn t new → Exchanged history t new asks
+  ended : {o : OutcomeValue} → Answered history t new → EndsOver t new o
+      → ¬ (MustRetry t.request.method t.is_reused new.answers) → Exchanged history t new (ends o)
+
 -- A poll of a transfer whose clock runs: first the deadline, then the code given in place of a link, then the pause; then the
--- link, if there is one: its probe, if it was reused, and then what it is asked in order.
+-- probe of a reused link, and then what the link is asked in order, if there is one.
 pub data Turns {L : Type 0} (history : L → List Answer) (t new : TransferState L) : How → Type 0 where
   late : {o : OutcomeValue} → IsDue t.deadline t.moment → o.code ≡ code.OperationTimedout → StopsWith t new o
       → Turns history t new (ends o)
   given_up : {o : OutcomeValue} → ¬ (IsDue t.deadline t.moment) → t.failure ≡ Some o.code → StopsWith t new o
       → Turns history t new (ends o)
   paused : IsOnTime t → t.is_paused ≡ true → new ≡ t → Turns history t new asks
-  unserved : MayTouch t → t.link ≡ None → new ≡ t → Turns history t new waits
   refused : MayTouch t → ProbeFails history t new → Turns history t new waits
-  lost : MayTouch t → (mid last : TransferState L) → Probed history t mid → Answered history mid last
-      → InOrder t.is_reused t.request.bytes last.answers → MustRetry t.request.method t.is_reused last.answers
-      → new ≡ dropped t → Turns history t new waits
-  blocked : MayTouch t → (mid : TransferState L) → Probed history t mid → (a : Answered history mid new)
-      → EndsBlocked a.more → GoesOn mid new → Turns history t new waits
-  unfinished : MayTouch t → (mid : TransferState L) → Probed history t mid → (a : Answered history mid new)
-      → (count_by is_read a.more ≡ 64) ⊎ (count_by is_write a.more ≡ 64) → GoesOn mid new → Turns history t new asks
-  ended : {o : OutcomeValue} → MayTouch t → (mid : TransferState L) → Probed history t mid → Answered history mid new
-      → EndsOver mid new o → ¬ (MustRetry t.request.method t.is_reused new.answers) → Turns history t new (ends o)
+  turned : {how : How} → MayTouch t → (mid : TransferState L) → Probed history t mid → Exchanged history mid new how
+      → Turns history t new how
 
 -- What a poll answers. One that waits has left its task's waker in the transfer, unless none could be made, and nothing else of the
 -- transfer is new; any other that is pending has asked to be polled again.

@@ -2,7 +2,7 @@
 ghost use Rattle.std.specs.Prelude.{◌≡◌, ◌<◌, ◌↔◌, ℕ, length, slice_range, Some, IsSome, IfSome, IfOk};
 ghost use Rattle.std.specs.List.{slice_get};
 ghost use Rattle.mx_body.specs.declared.part.Part.{Part};
-ghost use Rattle.mx_body.specs.ChunkedLaws.{AreOrdered, joined};
+ghost use Rattle.mx_body.specs.Parts.{AreOrdered, joined};
 ghost use Rattle.mx_body.specs.Decision.{HasStatus};
 ghost use Rattle.mx_exchange.specs.Transfers.{OutcomeValue};
 
@@ -25,7 +25,7 @@ pub struct Outcome {
 
 impl Model for Outcome {
     ghost use Rattle.std.specs.Prelude.{length};
-    ghost use Rattle.mx_body.specs.ChunkedLaws.{AreOrdered};
+    ghost use Rattle.mx_body.specs.Parts.{AreOrdered};
     ghost use Rattle.mx_exchange.specs.Transfers.{OutcomeValue};
 
     ghost Value = { OutcomeValue };
@@ -144,7 +144,7 @@ impl Outcome {
 
 impl Ending for Outcome {
     ghost use Rattle.std.specs.Prelude.{length};
-    ghost use Rattle.mx_body.specs.ChunkedLaws.{joined};
+    ghost use Rattle.mx_body.specs.Parts.{joined};
 
     ghost origin = { λ o. o.request.bytes };
 

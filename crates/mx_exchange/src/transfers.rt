@@ -300,8 +300,8 @@ enum Turn {
 }
 
 impl<L: Link> Transfer<L> {
-    ghost use Rattle.mx_exchange.specs.Turned.{how_of, ProbeSo, Exchanged};
-    ghost use Rattle.mx_exchange.specs.Turns.{StopsWith, Turns};
+    ghost use Rattle.mx_exchange.specs.Turned.{how_of, ProbeSo};
+    ghost use Rattle.mx_exchange.specs.Turns.{StopsWith, Exchanged, Turns};
     ghost use Rattle.futures.specs.Task.{Hears, IsArmed, Keeps};
     ghost use Rattle.futures.specs.Slot.{IsLeftIn};
     ghost use Rattle.futures.specs.declared.task.Poll.TheVariants as Poll;

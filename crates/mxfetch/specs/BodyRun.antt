@@ -7,7 +7,7 @@ use Rattle.mx_types.specs.declared.method.Method.{Method}
 use Rattle.mx_body.specs.declared.verdict.Verdict.{Verdict}
 use Rattle.mx_body.specs.declared.verdict.Verdict.TheVariants as verdict
 use Rattle.mx_body.specs.Decision.{IsVerdict}
-use Rattle.mx_body.specs.ChunkedLaws.{AreOrdered, joined}
+use Rattle.mx_body.specs.Parts.{AreOrdered, joined}
 use Rattle.mx_body.specs.Laws.{ContentIs}
 use Rattle.mx_head.specs.Limits.{most_bytes}
 use Rattle.mxfetch.specs.BodyReading.{bytes_read}

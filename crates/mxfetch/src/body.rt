@@ -4,7 +4,7 @@ ghost use Rattle.std.specs.Io.KnownBytes.{Appends};
 ghost use Rattle.mx_types.specs.Code.{code_number};
 ghost use Rattle.mx_head.specs.Limits.{most_bytes};
 ghost use Rattle.mxfetch.specs.Ends.{reader_of, reads_of, has_failed_read, writer_of, has_failed_write};
-ghost use Rattle.mx_body.specs.ChunkedLaws.{joined};
+ghost use Rattle.mx_body.specs.Parts.{joined};
 ghost use Rattle.mxfetch.specs.BodyTexts.{part_len, response_line, StandsWithin};
 ghost use Rattle.mxfetch.specs.BodyRun.{text_of, exit_status, PrintsFault, AnswersRead, FitsIn};
 

@@ -3,7 +3,7 @@ ghost use Rattle.std.specs.Prelude.{◌≡◌, true, IsErr, OnOk, ◌↔◌, All
 ghost use Rattle.std.specs.Io.KnownBytes.{Appends};
 ghost use Rattle.mxfetch.specs.Ends.{writer_of, has_failed_write};
 ghost use Rattle.mxfetch.specs.BodyTexts.{response_line, fault_line, yes_or_no, StandsWithin};
-ghost use Rattle.mx_body.specs.ChunkedLaws.{joined};
+ghost use Rattle.mx_body.specs.Parts.{joined};
 
 use crate::output::{Output, WriteFailed};
 use mx_body::Part;

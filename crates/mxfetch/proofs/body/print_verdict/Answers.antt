@@ -1,6 +1,6 @@
 use Rattle.std.proofs.Common.{◌≡◌, ◌≤◌, ◌+◌, ◌-◌, ◌++◌, ℕ, length, subst, arith, ap, sym, ◌∙◌}
 use Rattle.std.specs.Prelude.{sum_by}
-use Rattle.mx_body.specs.ChunkedLaws.{joined}
+use Rattle.mx_body.specs.Parts.{joined}
 use Rattle.mxfetch.specs.BodyTexts.{part_len, response_line}
 use Rattle.mxfetch.specs.BodyRun.{FitsIn, text_of}
 use Rattle.mxfetch.proofs.BodyParts.{stand_within, sum_within, length-joined}

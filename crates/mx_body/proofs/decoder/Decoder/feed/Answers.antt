@@ -1,4 +1,3 @@
-use Rattle.std.proofs.Common.{rules}
 use Rattle.mx_body.proofs.decoder.Decoder.feed.Goals as goal
 
 pub returns-then-not-matches-clause-exact : goal.returns-then-not-matches-clause-exact

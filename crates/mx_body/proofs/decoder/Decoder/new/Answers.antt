@@ -1,4 +1,3 @@
-use Rattle.std.proofs.Common.{rules}
 use Rattle.mx_body.proofs.EmptyLemmas.{more_first}
 use Rattle.mx_body.proofs.decoder.Decoder.new.Goals as goal
 

@@ -1,4 +1,3 @@
-use Rattle.std.proofs.Common.{rules}
 use Rattle.mx_body.proofs.decoder.Decoder.stand.Goals as goal
 
 pub returns-clause-exact : goal.returns-clause-exact

@@ -1,5 +1,5 @@
 use Rattle.std.proofs.Common.{◌≡◌, take}
-use Rattle.mx_body.specs.ChunkedLaws.{joined}
+use Rattle.mx_body.specs.Parts.{joined}
 use Rattle.mx_exchange.proofs.outcomes.Outcome.copy_body.Given as goal
 
 abbrev pub invariant-loop-part : goal.invariant-loop-part

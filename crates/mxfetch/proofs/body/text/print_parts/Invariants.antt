@@ -1,6 +1,6 @@
 use Rattle.std.proofs.Common.{◌≡◌, take}
 use Rattle.std.specs.Io.KnownBytes.{Appends}
-use Rattle.mx_body.specs.ChunkedLaws.{joined}
+use Rattle.mx_body.specs.Parts.{joined}
 use Rattle.mxfetch.proofs.body.text.print_parts.Given as goal
 
 abbrev pub invariant-loop-part : goal.invariant-loop-part
