@@ -37,23 +37,32 @@ C
 libcurl=no
 if cc -O2 -o "$work/cycles" "$work/cycles.c" -l:libcurl.so.4 2>/dev/null; then libcurl=yes; fi
 
-now() { date +%s%N; }
+# the nanoseconds of the quickest of five runs of a command
+least() {
+  least=
+  for run in 1 2 3 4 5; do
+    start=$(date +%s%N)
+    "$@"
+    took=$(($(date +%s%N) - start))
+    if [ -z "$least" ] || [ "$took" -lt "$least" ]; then least=$took; fi
+  done
+}
+
+play() { "$program" play --history 1048576 < "$work/script" > "$work/printed"; }
 
 echo "cycles lines play_ns_per_line libcurl_ns_per_call"
 for cycles in 10000 100000 250000; do
   awk -v n="$cycles" 'BEGIN { for (i = 0; i < n; i++) printf "add 7\ndone %d 0 5\nread\nremove 7\n", i }' > "$work/script"
   lines=$((cycles * 4))
-  start=$(now)
-  "$program" play --history 1048576 < "$work/script" > "$work/printed"
-  play=$((($(now) - start) / lines))
+  least play
+  play=$((least / lines))
   wanted=$(awk -v n="$cycles" 'BEGIN { print "message 7 " n - 1 " 0 5 left 0" }')
   [ "$(wc -l < "$work/printed")" -eq "$lines" ] || { echo "lines are missing"; exit 1; }
   [ "$(tail -n 2 "$work/printed" | head -n 1)" = "$wanted" ] || { echo "the last message is wrong"; exit 1; }
   other=-
   if [ "$libcurl" = yes ]; then
-    start=$(now)
-    "$work/cycles" "$cycles"
-    other=$((($(now) - start) / (cycles * 2)))
+    least "$work/cycles" "$cycles"
+    other=$((least / (cycles * 2)))
   fi
   echo "$cycles $lines $play $other"
 done
