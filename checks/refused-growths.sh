@@ -1,0 +1,124 @@
+#!/usr/bin/env bash
+# Runs what `rt ci` built with each growth of memory refused in turn, the first, the second, and so on until a run asks for no
+# more, by a C library of its own (Linux, a C compiler). A program has to print whole lines of a beginning of what it prints with
+# memory, and end with 27 behind `FAULT 27`, or to do without that growth and print all. A test has to pass, to fail as a call
+# was refused, or to be stopped by an assertion of its own, as where a transfer ended with 27; nothing below it may stop it, and
+# it has to end. Of a test that asks for more than 200 growths the first 200 are refused. Prints one line for each program and
+# test, and ends with 0 where all did as they have to.
+#
+# Use: checks/refused-growths.sh        after `rt ci`
+set -u
+top=$(cd "$(dirname "$0")/.." && pwd)
+work=$(mktemp -d)
+trap 'rm -rf "$work"' EXIT
+
+cat > "$work/refuse.c" <<'C'
+#include <errno.h>
+#include <fcntl.h>
+#include <malloc.h>
+#include <stdlib.h>
+#include <unistd.h>
+
+void *__libc_malloc(size_t size);
+void *__libc_realloc(void *old, size_t size);
+
+static long left;
+
+/* it starts to count once the program is loaded */
+__attribute__((constructor)) static void begin(void) {
+  const char *which = getenv("REFUSE_GROWTH");
+  left = which ? atol(which) : 0;
+}
+
+/* whether this growth is the one that is refused, which it notes */
+static int is_refused(void) {
+  if (left <= 0 || --left > 0) return 0;
+  int file = open(getenv("REFUSE_NOTE"), O_WRONLY | O_CREAT, 0600);
+  if (file >= 0) close(file);
+  errno = ENOMEM;
+  return 1;
+}
+
+void *malloc(size_t size) { return is_refused() ? NULL : __libc_malloc(size); }
+
+void *realloc(void *old, size_t size) {
+  if (size > malloc_usable_size(old) && is_refused()) return NULL;
+  return __libc_realloc(old, size);
+}
+C
+cc -O2 -shared -fPIC -o "$work/refuse.so" "$work/refuse.c" || exit 2
+
+# one run with this growth refused; $status is its exit status, and it fails where the run asked for fewer growths
+refused() {
+  local which=$1
+  shift
+  rm -f "$work/note"
+  # in a shell of its own, whose word on an abort nobody needs
+  (
+    timeout 60 env REFUSE_GROWTH="$which" REFUSE_NOTE="$work/note" LD_PRELOAD="$work/refuse.so" "$@" \
+      > "$work/printed" 2> "$work/said"
+    exit $?
+  ) 2> /dev/null
+  status=$?
+  [ -e "$work/note" ]
+}
+
+failed=0
+wrong() {
+  echo "WRONG: $1: exit status $status"
+  head -c 400 "$work/printed" "$work/said"
+  failed=1
+}
+
+# a program over an input: NAME INPUT ARGUMENT...
+program=$top/crates/mxfetch/out/mxfetch
+try_program() {
+  local name=$1 input=$2 which=1 ended=0 without=0
+  shift 2
+  "$program" "$@" < "$input" > "$work/whole"
+  while refused "$which" "$program" "$@" < "$input"; do
+    if [ "$status" -eq 27 ] && [ "$(tail -n 1 "$work/printed")" = 'FAULT 27' ]; then
+      ended=$((ended + 1))
+      head -n -1 "$work/printed" > "$work/lines"
+      cmp -s -n "$(stat -c %s "$work/lines")" "$work/lines" "$work/whole" || wrong "$name, growth $which"
+    elif [ "$status" -eq 0 ] && cmp -s "$work/printed" "$work/whole"; then
+      without=$((without + 1))
+    else
+      wrong "$name, growth $which"
+    fi
+    which=$((which + 1))
+  done
+  [ "$status" -eq 0 ] && cmp -s "$work/printed" "$work/whole" || wrong "$name, no growth refused"
+  [ "$ended" -gt 0 ] || wrong "$name: no growth could be refused"
+  echo "$name: $((which - 1)) growths refused, $ended ended with 27, $without done without"
+}
+
+printf 'HTTP/1.1 200 OK\r\nTransfer-Encoding: chunked\r\n\r\n5\r\nhello\r\n6\r\n world\r\n0\r\n\r\n' > "$work/response"
+try_program 'mxfetch body' "$work/response" body GET
+printf 'add 7\nadd 8\npause 7\nunpause 7\nadd 7\ndone 0 0 5\nread\nhandles\nstate 8\nremove 7\npoll\nwakeup\n' > "$work/script"
+try_program 'mxfetch play' "$work/script" play
+
+# the tests of a crate, each up to its 200th growth
+try_tests() {
+  local crate=$1 test which failed_calls stopped tests=$top/crates/$1/out/$1_tests
+  for test in $("$tests" --list | sed -n 's/: test$//p'); do
+    which=1 failed_calls=0 stopped=0
+    while [ "$which" -le 200 ] && refused "$which" "$tests" "$test"; do
+      if [ "$status" -eq 101 ] && grep -q 'OutOfMemory\|AllocError' "$work/said"; then
+        failed_calls=$((failed_calls + 1))
+      elif [ "$status" -eq 134 ] && grep -q 'test stopped at src/\(tests\|replay\)\.rt' "$work/printed"; then
+        stopped=$((stopped + 1))
+      elif [ "$status" -ne 0 ]; then
+        wrong "$crate, $test, growth $which"
+      fi
+      which=$((which + 1))
+    done
+    [ "$which" -gt 200 ] || [ "$status" -eq 0 ] || wrong "$crate, $test, no growth refused"
+    echo "$crate, $test: $((which - 1)) growths refused, $failed_calls by a call, $stopped seen by an assertion"
+  done
+}
+for crate in mx_request mx_link mx_cache mx_replay; do
+  try_tests "$crate"
+done
+
+exit "$failed"
