@@ -21,7 +21,7 @@ use Rattle.mx_journal.specs.Receipts.{comes_with_event, lacks_memory, is_poll, m
 use Rattle.mx_journal.specs.Laws.{AnswersFit}
 
 -- an answer's reply tells whether it has an event, and is never that of missing memory
-abbrev Tells : Answer → Type 0
+abbrev pub Tells : Answer → Type 0
 Tells a = (comes_with_event a.0 ≡ is_some a.1) × (lacks_memory a.0 ≡ false)
 
 add_tells : (o : Option Ticket) (full room : Bool) (h : HandleId) (t : Ticket)
@@ -59,7 +59,7 @@ either_tells : (b : Bool) (r s : Reply) (e : What) → Tells (r, Some e) → Tel
 either_tells true r s e x y = x
 either_tells false r s e x y = y
 
-tells : (opening : Opening) (j : List Event) (c : Call) → Tells (answer opening j c)
+pub tells : (opening : Opening) (j : List Event) (c : Call) → Tells (answer opening j c)
 tells opening j (call.Add h) = add_tells (ticket_of h j) (nat_le 256 (length (added j))) (has_room opening.history j 4) h (next_ticket j)
 tells opening j (call.Remove h) = remove_tells (ticket_of h j) h
 tells opening j (call.Pause h) = pause_tells opening j (ticket_of h j)

@@ -115,7 +115,7 @@ done_stays (what.Paused u) t c h = cond_same (same_ticket t u) (phase.Done c)
 done_stays (what.Resumed u) t c h = cond_same (same_ticket t u) (phase.Done c)
 done_stays _ t c h = refl
 
-abbrev IsUnread : List Event → List Ticket → Message → Type 0
+abbrev pub IsUnread : List Event → List Ticket → Message → Type 0
 IsUnread j ts m = (phase_of m.ticket j ≡ phase.Done m.code) × (has_ticket m.ticket ts ≡ true)
 
 unread_then : (j : List Event) (w : Who) (e : What) (m : Message) (ts us : List Ticket) → reads m.ticket e ≡ false

@@ -23,7 +23,7 @@ use Rattle.mx_journal.specs.Answers.{ticket_of, handle_of}
 use Rattle.mx_journal.specs.Rows.{phase_after, ended_phase, read_phase, is_open, is_paused, turned, slots_in, rows_after, waits_after, table_from, table_of, places_of, places}
 use Rattle.mx_journal.specs.Slots.{lowest_free}
 use Rattle.mx_journal.specs.Table.{TableView, IsTableOf, IsRow, count_of}
-use Rattle.mx_journal.specs.JournalTable.{needs, IsJournalTable}
+use Rattle.mx_journal.specs.JournalTable.{needs}
 use Rattle.mx_journal.proofs.Snoc.{legal-snoc}
 use Rattle.mx_journal.proofs.Lists.{Each-map, filter_idle, filter_true, has-filter, same-refl, same-is}
 use Rattle.mx_journal.proofs.Histories.{tickets, Laws, laws, laws_none, laws-then, added-then, additions-then, ends-phase, has_addition, running-has, first_unread, is_done, waiting-then, filter_messages}
@@ -351,10 +351,6 @@ table-of-then j w e t u x m rows waits adds events made = record {
   made = λ v h. made v h ∙ ap (λ n. n + cond (same_maker w v) 1 0) (x.made v h) ∙ sym (made-then v j w e);
 }
 
-pub journal-then : (history : ℕ) (j : List Event) (t u : TableView) (cj : ℕ) (w : Who) (e : What)
-    → IsJournalTable history j t cj → may_follow j e ≡ true → has_room history j (needs e) ≡ true → IsTableOf (then j w e) u → IsJournalTable history (then j w e) u cj
-journal-then history j t u cj w e b m r x = record { kept = kept-then history j w e b.kept m r; table = x; events_fit = b.events_fit }
-
 -- an addition finds room in the table, and an event in the journal
 pub row_fits : (j : List Event) (h : HandleId) (t : Ticket) → is_legal j ≡ true → may_follow j (what.Added h t) ≡ true → length (table_of j) < 256
 row_fits j h t l m =
@@ -367,6 +363,3 @@ event_fits history j w e k m r =
     let x = kept-then history j w e k m r in
     let room = x.room in
     omega (arith, length-append j (record { who = w; what = e } ∷ []))
-
-pub journal_none : (history : ℕ) (t : TableView) (cj : ℕ) → history ≤ 1048576 → history ≤ cj → IsTableOf [] t → IsJournalTable history [] t cj
-journal_none history t cj lim e x = record { kept = record { legal = refl; room = omega arith; limit = lim }; table = x; events_fit = e }

@@ -17,20 +17,16 @@ use Rattle.mx_types.specs.declared.event.Event.{Event}
 use Rattle.mx_journal.specs.declared.row.Phase.{Phase}
 use Rattle.mx_journal.specs.declared.row.Phase.TheVariants as phase
 use Rattle.mx_journal.specs.History.{Addition, Message, HasRoomForDue, Opening, is_first, last_is_pause, same_handle, same_ticket, occurs, wakes, addition_of, removes, ends, reads, added, waiting, running, paused, additions, has_handle, has_ticket, phase_of, may_follow, is_legal, is_legal_after, has_room}
-use Rattle.mx_journal.specs.Answers.{Answer, only, ticket_of, handle_of, next_ticket, look_of, pausing_answer, read_answer}
+use Rattle.mx_journal.specs.Answers.{Answer, only, ticket_of, handle_of, next_ticket, pausing_answer, read_answer}
 use Rattle.mx_types.specs.declared.call.Call.TheVariants as call
 use Rattle.mx_types.specs.declared.reply.Reply.TheVariants as reply
 use Rattle.mx_journal.specs.JournalTable.{needs}
-use Rattle.mx_journal.specs.Rows.{is_open, is_paused, is_read}
-use Rattle.mx_journal.specs.Laws.{then, adds, count_of_events, is_of, IsOnceEach, look_at, StateAndLookAgree, AnswerIsLegal, PrefixIsLegal, ClosingFindsRoom, EachAtMostOnce, NothingAfterRemoval, LegalIsTidy, ReadyStays}
+use Rattle.mx_journal.specs.Rows.{is_open, is_read}
+use Rattle.mx_journal.specs.Laws.{then, adds, count_of_events, is_of, IsOnceEach, AnswerIsLegal, PrefixIsLegal, ClosingFindsRoom, EachAtMostOnce, NothingAfterRemoval, LegalIsTidy, ReadyStays}
 use Rattle.mx_journal.proofs.Snoc.{occurs-snoc}
 use Rattle.mx_journal.proofs.Lists.{Each-map, filter_idle, has-filter, at_ticket, same-is, same-refl}
 use Rattle.mx_journal.proofs.Histories.{tickets, Laws, laws, laws-then, laws_none, added-then, additions-then, running-has, first_unread, has_addition, is_done, ends-phase, below, tickets-removed}
-use Rattle.mx_types.specs.declared.reply.State.{State}
-use Rattle.mx_types.specs.declared.reply.State.TheVariants as state
-use Rattle.mx_journal.specs.Answers.{state_at}
-use Rattle.mx_journal.proofs.Tables.{runs-phase}
-use Rattle.mx_journal.proofs.JournalTables.{kept-then, few, held-phase}
+use Rattle.mx_journal.proofs.JournalTables.{kept-then, few}
 use Rattle.mx_journal.proofs.Controls.{room_none, ordered, once, none_added, tickets-then, may_add, found_any}
 
 -- 1. A prefix.
@@ -415,18 +411,3 @@ answer_is_legal opening j call.Running e k x = cc
 answer_is_legal opening j (call.State h) e k x = cc
 answer_is_legal opening j (call.Finish t c n) e k x = finishing opening j t c n e k (has_ticket t (running j)) refl x
 answer_is_legal opening j (call.Look t) e k x = cc
-
--- 8. States.
-
-abbrev state_by : List Event → Option Ticket → State
-state_by j o = elim o [ None ↦ state.NotAdded | Some u ↦ state_at u (phase_of u j) ]
-
-pub state_and_look_agree : StateAndLookAgree
-state_and_look_agree j l h t e =
-    let has : has_ticket t (tickets j) ≡ true = has_addition t h (added j) (found_any (λ a. same_handle h a.handle) t (added j) e) in
-    (subst (λ (o : Option Ticket). state_by j o ≡ state_at t (phase_of t j)) e refl, go (phase_of t j) (runs-phase j t has) (held-phase j t has)) where
-      go : (p : Phase) → has_ticket t (running j) ≡ is_open p → has_ticket t (paused j) ≡ is_paused p → look_of t j ≡ look_at p
-      go phase.Running r q = rw (r, q) refl
-      go phase.Paused r q = rw (r, q) refl
-      go (phase.Done c) r q = rw r refl
-      go (phase.Read c) r q = rw r refl

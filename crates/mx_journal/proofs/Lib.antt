@@ -12,3 +12,7 @@ pub mod ReceiptLaws
 pub mod Remains
 pub mod Defined
 pub mod AnswersFit
+pub mod Follows
+pub mod Placing
+pub mod Pinned
+pub mod States

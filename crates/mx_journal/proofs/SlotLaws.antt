@@ -90,7 +90,7 @@ lowest_is_least s few = subst (IsLeastFree s) (lowest_free-is s) (go (free_from 
 
 -- 2. The slots after an event.
 
-slots_from-snoc : (s : List (Ticket × ℕ)) (j : List Event) (e : Event) → slots_from s (j ++ e ∷ []) ≡ slots_after (slots_from s j) e.what
+pub slots_from-snoc : (s : List (Ticket × ℕ)) (j : List Event) (e : Event) → slots_from s (j ++ e ∷ []) ≡ slots_after (slots_from s j) e.what
 slots_from-snoc s [] e = refl
 slots_from-snoc s (x ∷ j) e = slots_from-snoc (slots_after s x.what) j e
 

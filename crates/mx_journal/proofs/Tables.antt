@@ -114,11 +114,11 @@ handle_of-rows j rows t u =
     ap (λ xs. option_map (λ (a : Addition). a.handle) (find (λ a. same_ticket u a.ticket) xs)) (sym t.adds)
     ∙ ap (option_map (λ (a : Addition). a.handle)) (find-map addition_in (λ a. same_ticket u a.ticket) rows) ∙ option_map_map _ addition_in _
 
-Each-unmapped : {X Y : Type 0} (f : X → Y) (Q : Y → Type 0) (xs : List X) → AllByRecursion Q (map f xs) → AllByRecursion (λ x. Q (f x)) xs
+pub Each-unmapped : {X Y : Type 0} (f : X → Y) (Q : Y → Type 0) (xs : List X) → AllByRecursion Q (map f xs) → AllByRecursion (λ x. Q (f x)) xs
 Each-unmapped f Q [] a = tt
 Each-unmapped f Q (x ∷ xs) a = (a.0, Each-unmapped f Q xs a.1)
 
-sum-mapped : {X Y : Type 0} (f : X → Y) (n : Y → ℕ) (xs : List X) → sum_by n (map f xs) ≡ sum_by (λ x. n (f x)) xs
+pub sum-mapped : {X Y : Type 0} (f : X → Y) (n : Y → ℕ) (xs : List X) → sum_by n (map f xs) ≡ sum_by (λ x. n (f x)) xs
 sum-mapped f n [] = refl
 sum-mapped f n (x ∷ xs) =
     sum_by-cons n (f x) (map f xs) ∙ ap (λ k. n (f x) + k) (sum-mapped f n xs) ∙ sym (sum_by-cons (λ y. n (f y)) x xs)

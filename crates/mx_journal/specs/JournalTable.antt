@@ -4,7 +4,7 @@ use Rattle.mx_types.specs.declared.event.Event.{Event}
 use Rattle.mx_types.specs.declared.event.What.{What}
 use Rattle.mx_types.specs.declared.event.What.TheVariants as what
 use Rattle.mx_journal.specs.History.{HasRoomForDue}
-use Rattle.mx_journal.specs.Table.{TableView, IsTableOf}
+use Rattle.mx_journal.specs.Table.{TableView, IsTableOf, HasCounters}
 
 -- the journal, and how many events it may have
 pub record JournalView : Type 0 where
@@ -15,6 +15,7 @@ pub record JournalView : Type 0 where
 pub record IsJournalTable (history : ℕ) (j : List Event) (t : TableView) (for_events : ℕ) : Type 0 where
   pub kept : HasRoomForDue history j
   pub table : IsTableOf j t
+  pub sized : HasCounters t.makers
   pub events_fit : history ≤ for_events
 
 -- the room that an event needs beside what is due

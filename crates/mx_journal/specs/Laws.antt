@@ -1,7 +1,9 @@
 -- What every legal history keeps: the statements of the laws.
-use Rattle.std.specs.Prelude.{ℕ, ◌<◌, ◌≤◌, ◌≡◌, ◌||◌, Bool, true, false, Some, None, Option, List, [], ◌∷◌, ◌++◌, length, map, take, not, ◌&&◌}
-use Rattle.std.specs.List.{AllByRecursion, count_by, filter, flat_map, list_any}
-use Rattle.std.specs.Option.{is_some, option_to_list, IsSomeAnd}
+use mathlib.Core.List.{IsPrefix}
+use Rattle.std.specs.Prelude.{◌⊎◌, ℕ, ◌<◌, ◌≤◌, ◌≡◌, ◌||◌, Bool, true, false, Some, None, Option, List, [], ◌∷◌, ◌++◌, length, map, take, not, ◌&&◌}
+use Rattle.std.specs.List.{AllByRecursion, count_by, filter, find, flat_map, list_any}
+use Rattle.std.specs.Option.{is_some, option_map, option_to_list, IsSomeAnd}
+use Rattle.mx_types.specs.declared.code.Code.{Code}
 use Rattle.mx_types.specs.declared.names.HandleId.{HandleId}
 use Rattle.mx_types.specs.declared.names.Ticket.{Ticket}
 use Rattle.mx_types.specs.declared.event.Who.{Who}
@@ -10,16 +12,17 @@ use Rattle.mx_types.specs.declared.event.What.TheVariants as what
 use Rattle.mx_types.specs.declared.event.Event.{Event}
 use Rattle.mx_types.specs.declared.call.Call.{Call}
 use Rattle.mx_types.specs.declared.call.Receipt.{Receipt}
-use Rattle.mx_journal.specs.History.{HasRoomForDue, Opening, same_handle, same_ticket, occurs, removes, ends, reads, pauses, resumes, added, waiting, phase_of, is_legal, may_follow, has_ticket, made_by}
+use Rattle.mx_journal.specs.History.{HasRoomForDue, Opening, same_handle, same_ticket, occurs, removes, ends, reads, pauses, resumes, added, waiting, running, paused, is_legal, may_follow, has_ticket, made_by}
 use Rattle.mx_journal.specs.Core.{IsInOrder}
-use Rattle.mx_journal.specs.Receipts.{is_poll, mark, Fits, CutsRise, with_events, events_of, events_by, IsOfMaker}
+use Rattle.mx_journal.specs.Receipts.{is_poll, mark, Fits, IsPlaced, CutsRise, with_events, events_of, events_by, IsOfMaker}
 use Rattle.mx_journal.specs.Slots.{has_slot, slots, slot_of}
-use Rattle.mx_journal.specs.Answers.{answer, Answers, ticket_of, handle_of, state_at, state_of, look_of, is_ready}
+use Rattle.mx_journal.specs.Answers.{answer, Answers, ticket_of, handle_of, state_of, look_of, is_ready}
+use Rattle.mx_journal.specs.Table.{TableView, IsTableOf, HasCounters, table_after}
 use Rattle.mx_types.specs.declared.reply.Reply.{Reply}
 use Rattle.mx_types.specs.declared.reply.Look.{Look}
 use Rattle.mx_types.specs.declared.reply.Look.TheVariants as look
-use Rattle.mx_journal.specs.declared.row.Phase.{Phase}
-use Rattle.mx_journal.specs.declared.row.Phase.TheVariants as phase
+use Rattle.mx_types.specs.declared.reply.State.{State}
+use Rattle.mx_types.specs.declared.reply.State.TheVariants as state
 
 -- the history with one more event of a maker
 abbrev pub then : List Event → Who → What → List Event
@@ -113,17 +116,49 @@ abbrev pub FirstInFirstOut : Type 0
 FirstInFirstOut = (j : List Event) → is_legal j ≡ true
     → read_tickets j ++ map (λ m. m.ticket) (waiting j) ≡ filter (λ t. not (is_removed_unread t j)) (done_tickets j)
 
--- what a worker is told, by how far the addition is
-abbrev pub look_at : Phase → Look
-look_at phase.Running = look.Go
-look_at phase.Paused = look.Paused
-look_at (phase.Done _) = look.Gone
-look_at (phase.Read _) = look.Gone
+-- what a state says: the transfer runs, it is paused, its message waits with this code
+abbrev pub says_running : State → Bool
+says_running (state.Running _) = true
+says_running _ = false
 
--- an added handle's state and what a worker is told of its ticket agree
+abbrev pub says_paused : State → Bool
+says_paused (state.Paused _) = true
+says_paused _ = false
+
+abbrev pub says_done : State → Option Code
+says_done (state.Done _ code) = Some code
+says_done _ = None
+
+-- the ticket that a state names
+abbrev pub state_ticket : State → Option Ticket
+state_ticket state.NotAdded = None
+state_ticket (state.Running t) = Some t
+state_ticket (state.Paused t) = Some t
+state_ticket (state.Done t _) = Some t
+state_ticket (state.Read t _) = Some t
+
+-- what a worker is told of a transfer in this state
+abbrev pub look_in : State → Look
+look_in (state.Running _) = look.Go
+look_in (state.Paused _) = look.Paused
+look_in _ = look.Gone
+
+-- the code of the ticket's message, where one waits
+abbrev pub waiting_code : Ticket → List Event → Option Code
+waiting_code t j = option_map (λ m. m.code) (find (λ m. same_ticket t m.ticket) (waiting j))
+
+-- the state is Running exactly where the ticket runs unpaused, Paused exactly where it is paused, and Done, with its
+-- code, exactly where its message waits; and a worker is told what agrees with that
+pub record IsStateOf (j : List Event) (t : Ticket) (s : State) : Type 0 where
+  pub named : state_ticket s ≡ Some t
+  pub runs : says_running s ≡ (has_ticket t (running j) && not (has_ticket t (paused j)))
+  pub held : says_paused s ≡ has_ticket t (paused j)
+  pub waits : says_done s ≡ waiting_code t j
+  pub told : look_of t j ≡ look_in s
+
+-- the state of a handle that is added, and what a worker is told of its ticket
 abbrev pub StateAndLookAgree : Type 0
-StateAndLookAgree = (j : List Event) → is_legal j ≡ true → (h : HandleId) (t : Ticket) → Some t ≡ ticket_of h j
-    → (state_of h j ≡ state_at t (phase_of t j)) × (look_of t j ≡ look_at (phase_of t j))
+StateAndLookAgree = (j : List Event) → is_legal j ≡ true → (h : HandleId) (t : Ticket) → Some t ≡ ticket_of h j → IsStateOf j t (state_of h j)
 
 -- a poll that may return may return later too
 abbrev pub ReadyStays : Type 0
@@ -169,3 +204,26 @@ EachOnceByCount = (w : Who) (mine : List Receipt) (j : List Event) → CutsRise 
 abbrev pub AnswersFit : Type 0
 AnswersFit = (opening : Opening) (w : Who) (earlier : List Receipt) (call : Call) (reply : Reply) (j k : List Event) → Answers opening w call j reply k
     → (is_poll call ≡ true → is_ready (mark earlier) k ≡ true) → Fits opening w earlier (record { cut = length k; call = call; reply = reply }) k
+
+-- the table takes in what may follow, and is then the table with that event behind the others
+abbrev pub TableFollows : Type 0
+TableFollows = (j : List Event) (t : TableView) (e : Event) → IsTableOf j t → HasCounters t.makers → may_follow j e.what ≡ true → length j < 4294967295
+    → IsTableOf (j ++ e ∷ []) (table_after t e) × HasCounters (table_after t e).makers
+
+-- k is j, or j and one event more, which the maker made
+abbrev pub HasAtMostOneMore : Who → List Event → List Event → Type 0
+HasAtMostOneMore w j k = (k ≡ j) ⊎ ((e : What) × (k ≡ then j w e))
+
+-- a call leaves the journal, or adds one event, the caller's; it adds one exactly where its reply comes with an event
+abbrev pub CallAddsAtMostOne : Type 0
+CallAddsAtMostOne = (opening : Opening) (w : Who) (call : Call) (reply : Reply) (j k : List Event) → Answers opening w call j reply k → HasAtMostOneMore w j k
+
+-- receipts stay placed as the journal grows, where the maker made none of the events that came
+abbrev pub PlacedStays : Type 0
+PlacedStays = (opening : Opening) (w : Who) (mine : List Receipt) (j k : List Event) → IsPlaced opening w mine j → IsPrefix j k → made_by w k ≡ made_by w j → IsPlaced opening w mine k
+
+-- and a call that is answered after such a journal is placed behind them, with its cut at the end of what it left
+abbrev pub CallIsPlaced : Type 0
+CallIsPlaced = (opening : Opening) (w : Who) (mine : List Receipt) (seen j k : List Event) (call : Call) (reply : Reply) → IsPlaced opening w mine seen → IsPrefix seen j → made_by w j ≡ made_by w seen
+    → Answers opening w call j reply k → (is_poll call ≡ true → is_ready (mark mine) k ≡ true)
+    → IsPlaced opening w (mine ++ record { cut = length k; call = call; reply = reply } ∷ []) k

@@ -1,11 +1,12 @@
 //! The control state of a multi handle.
-ghost use Rattle.std.specs.Prelude.{map, ◌≡◌, ◌≤◌, ◌++◌, ◌∷◌, [], List, length, true, drop, OnOk, OnErr, IfOk, IfSome, IfNone};
+ghost use Rattle.std.specs.Prelude.{map, ◌≡◌, ◌≤◌, ◌++◌, ◌∷◌, [], List, length, true, false, drop, OnOk, OnErr, IfOk, IfSome, IfNone, slice_get};
 ghost use Rattle.std.specs.List.{AllByRecursion};
 ghost use Rattle.mx_types.specs.declared.call.Call.{Call};
 ghost use Rattle.mx_journal.specs.History.{may_follow, has_room, has_ticket, is_maker, made_by, running, added, waiting};
 ghost use Rattle.mx_journal.specs.Answers.{handle_of, Answers, is_ready, look_of, state_of};
 ghost use Rattle.mx_journal.specs.Core.{claimed, queued, still_running, still_waiting, IsSound};
 ghost use Rattle.mx_journal.specs.Replies.{is_pausing, journal_after_pausing, IsPausingAnswer, reply_of_info, ending_read, ending_recorded, IsHandedBack, reply_of_finish, queue_added, handed_back, work_back, reply_of_add, reply_of_remove, reply_of_pause, reply_of_wakeup};
+ghost use Rattle.mx_journal.specs.Receipts.{comes_with_event, lacks_memory};
 ghost use Rattle.mx_journal.specs.Slots.{slot_of};
 
 use crate::claim::Claim;
@@ -64,6 +65,9 @@ impl<Q: Work + Drop, O: Ending + Drop> Control<Q, O> {
         requires { is_maker who ≡ true }
         ensures answers { Answers self.old.opening who (Call.Add handle) self.old.journal (reply_of_add result) self.new.journal }
         ensures logged { L.events log.new ≡ L.events log.old ++ drop (length self.old.journal) self.new.journal }
+        ensures same_log { L.name log.new ≡ L.name log.old }
+        ensures memory { lacks_memory (reply_of_add result) ≡ true → L.may_refuse log.old }
+        ensures unchanged { comes_with_event (reply_of_add result) ≡ false → self.new ≡ self.old }
         ensures opening { self.new.opening ≡ self.old.opening }
         ensures endings { self.new.endings ≡ self.old.endings }
         ensures queue { self.new.queue ≡ queue_added result self.old.queue work }
@@ -97,6 +101,9 @@ impl<Q: Work + Drop, O: Ending + Drop> Control<Q, O> {
         requires { is_maker who ≡ true }
         ensures answers { Answers self.old.opening who (Call.Remove handle) self.old.journal (reply_of_remove result) self.new.journal }
         ensures logged { L.events log.new ≡ L.events log.old ++ drop (length self.old.journal) self.new.journal }
+        ensures same_log { L.name log.new ≡ L.name log.old }
+        ensures memory { lacks_memory (reply_of_remove result) ≡ true → L.may_refuse log.old }
+        ensures unchanged { comes_with_event (reply_of_remove result) ≡ false → self.new ≡ self.old }
         ensures opening { self.new.opening ≡ self.old.opening }
         ensures queue { self.new.queue ≡ still_running self.new.journal self.old.queue }
         ensures endings { self.new.endings ≡ still_waiting self.new.journal self.old.endings }
@@ -122,6 +129,9 @@ impl<Q: Work + Drop, O: Ending + Drop> Control<Q, O> {
         requires { is_maker who ≡ true }
         ensures answers { Answers self.old.opening who (Call.Pause handle) self.old.journal (reply_of_pause result) self.new.journal }
         ensures logged { L.events log.new ≡ L.events log.old ++ drop (length self.old.journal) self.new.journal }
+        ensures same_log { L.name log.new ≡ L.name log.old }
+        ensures memory { lacks_memory (reply_of_pause result) ≡ true → L.may_refuse log.old }
+        ensures unchanged { comes_with_event (reply_of_pause result) ≡ false → self.new ≡ self.old }
         ensures opening { self.new.opening ≡ self.old.opening }
         ensures queue { self.new.queue ≡ self.old.queue }
         ensures endings { self.new.endings ≡ self.old.endings }
@@ -149,6 +159,9 @@ impl<Q: Work + Drop, O: Ending + Drop> Control<Q, O> {
         requires { is_maker who ≡ true }
         ensures answers { Answers self.old.opening who (Call.Unpause handle) self.old.journal (reply_of_pause result) self.new.journal }
         ensures logged { L.events log.new ≡ L.events log.old ++ drop (length self.old.journal) self.new.journal }
+        ensures same_log { L.name log.new ≡ L.name log.old }
+        ensures memory { lacks_memory (reply_of_pause result) ≡ true → L.may_refuse log.old }
+        ensures unchanged { comes_with_event (reply_of_pause result) ≡ false → self.new ≡ self.old }
         ensures opening { self.new.opening ≡ self.old.opening }
         ensures queue { self.new.queue ≡ self.old.queue }
         ensures endings { self.new.endings ≡ self.old.endings }
@@ -179,6 +192,9 @@ impl<Q: Work + Drop, O: Ending + Drop> Control<Q, O> {
         ensures journal { self.new.journal ≡ journal_after_pausing result self.old.journal event }
         ensures room { IsPausingAnswer result (has_room self.old.opening.history self.old.journal 1) }
         ensures logged { L.events log.new ≡ L.events log.old ++ drop (length self.old.journal) self.new.journal }
+        ensures same_log { L.name log.new ≡ L.name log.old }
+        ensures memory { lacks_memory (reply_of_pause result) ≡ true → L.may_refuse log.old }
+        ensures unchanged { comes_with_event (reply_of_pause result) ≡ false → self.new ≡ self.old }
         ensures opening { self.new.opening ≡ self.old.opening }
         ensures queue { self.new.queue ≡ self.old.queue }
         ensures endings { self.new.endings ≡ self.old.endings }
@@ -198,6 +214,9 @@ impl<Q: Work + Drop, O: Ending + Drop> Control<Q, O> {
         requires { is_maker who ≡ true }
         ensures answers { Answers self.old.opening who Call.InfoRead self.old.journal (reply_of_info O.code_of O.size_of result) self.new.journal }
         ensures logged { L.events log.new ≡ L.events log.old ++ drop (length self.old.journal) self.new.journal }
+        ensures same_log { L.name log.new ≡ L.name log.old }
+        ensures memory { lacks_memory (reply_of_info O.code_of O.size_of result) ≡ true → L.may_refuse log.old }
+        ensures unchanged { comes_with_event (reply_of_info O.code_of O.size_of result) ≡ false → self.new ≡ self.old }
         ensures opening { self.new.opening ≡ self.old.opening }
         ensures queue { self.new.queue ≡ self.old.queue }
         ensures endings { self.old.endings ≡ ending_read result ++ self.new.endings }
@@ -232,6 +251,9 @@ impl<Q: Work + Drop, O: Ending + Drop> Control<Q, O> {
         requires { is_maker who ≡ true }
         ensures answers { Answers self.old.opening who Call.Wakeup self.old.journal (reply_of_wakeup result) self.new.journal }
         ensures logged { L.events log.new ≡ L.events log.old ++ drop (length self.old.journal) self.new.journal }
+        ensures same_log { L.name log.new ≡ L.name log.old }
+        ensures memory { lacks_memory (reply_of_wakeup result) ≡ true → L.may_refuse log.old }
+        ensures unchanged { comes_with_event (reply_of_wakeup result) ≡ false → self.new ≡ self.old }
         ensures opening { self.new.opening ≡ self.old.opening }
         ensures queue { self.new.queue ≡ self.old.queue }
         ensures endings { self.new.endings ≡ self.old.endings }
@@ -263,6 +285,9 @@ impl<Q: Work + Drop, O: Ending + Drop> Control<Q, O> {
         requires origin { O.origin ending ≡ claim.origin }
         ensures answers { Answers self.old.opening who (Call.Finish claim.ticket (O.code_of ending) (O.size_of ending)) self.old.journal (reply_of_finish result) self.new.journal }
         ensures logged { L.events log.new ≡ L.events log.old ++ drop (length self.old.journal) self.new.journal }
+        ensures same_log { L.name log.new ≡ L.name log.old }
+        ensures memory { lacks_memory (reply_of_finish result) ≡ true → L.may_refuse log.old }
+        ensures unchanged { comes_with_event (reply_of_finish result) ≡ false → self.new ≡ self.old }
         ensures opening { self.new.opening ≡ self.old.opening }
         ensures queue { self.new.queue ≡ still_running self.new.journal self.old.queue }
         ensures endings { self.new.endings ≡ still_waiting self.new.journal self.old.endings ++ ending_recorded result claim.ticket ending }
@@ -316,6 +341,13 @@ impl<Q: Work + Drop, O: Ending + Drop> Control<Q, O> {
         ensures { result ≡ is_ready since self.now.journal }
     {
         self.table.is_ready(since)
+    }
+
+    /// The event at a place of the journal.
+    pub fn event(&self, index: u32) -> Option<Event>
+        ensures { result ≡ slice_get self.now.journal index }
+    {
+        self.table.event(index)
     }
 
     /// How many events the journal has.

@@ -1,18 +1,20 @@
 //! What a list of events comes to, read off the whole list by plain, slow programs. The contract of each is the
 //! definition itself, in whose words the other contracts of this crate speak; the table keeps the same event by event.
-ghost use Rattle.std.specs.Prelude.{◌≡◌, ◌==◌, ◌&&◌, ◌||◌, if◌then◌else◌, length, map, nat_lt, not, IfOk};
-ghost use Rattle.std.specs.List.{filter, list_any};
+ghost use Rattle.std.specs.Prelude.{◌≡◌, ◌==◌, ◌<◌, ◌≤◌, ◌&&◌, ◌||◌, if◌then◌else◌, length, map, nat_lt, not, IfOk, OnOk};
+ghost use Rattle.std.specs.List.{filter, find, list_any};
 ghost use Rattle.std.specs.Option.{option_to_list};
 ghost use Rattle.mx_types.specs.declared.event.Event.{Event};
 ghost use Rattle.mx_types.specs.declared.event.What.{What};
 ghost use Rattle.mx_types.specs.declared.names.Ticket.{Ticket};
 ghost use Rattle.mx_types.specs.declared.names.HandleId.{HandleId};
-ghost use Rattle.mx_journal.specs.History.{same_handle, same_ticket, addition_of, message_of, removes, ends, reads, pauses, resumes, occurs, added, waiting, running, paused, additions, last_is_pause, may_follow, is_legal, has_ticket, same_maker, made_by};
-ghost use Rattle.mx_journal.specs.Answers.{is_ready};
+ghost use Rattle.mx_journal.specs.History.{same_handle, same_ticket, addition_of, message_of, removes, ends, reads, pauses, resumes, occurs, added, waiting, running, paused, additions, last_is_pause, may_follow, is_legal, has_ticket, same_maker, made_by, missing, due_of, due, has_room, end_by, end_of, phase_of};
+ghost use Rattle.mx_journal.specs.Answers.{is_ready, look_of, state_of, ticket_of};
+ghost use Rattle.mx_journal.specs.Slots.{has_slot, lowest_free, slot_of, slots, slots_after};
 ghost use Rattle.mx_journal.specs.Definitions.{addition_pair, message_parts};
 
+use crate::row::Phase;
 use crate::rows::{additions_by, wakes};
-use mx_types::{Code, Event, HandleId, OutOfMemory, Ticket, What, Who};
+use mx_types::{Code, Event, HandleId, Look, OutOfMemory, State, Ticket, What, Who};
 use std::alloc::Global;
 
 fn removes(ticket: Ticket, what: &What) -> bool
@@ -57,6 +59,13 @@ pub fn is_ended(events: &[Event], ticket: Ticket) -> bool
     ensures { result ≡ occurs (ends ticket) events.now }
 {
     events.iter().any(|e| ends(ticket, &e.what))
+}
+
+/// Whether an event reads the ticket's message.
+pub fn is_read(events: &[Event], ticket: Ticket) -> bool
+    ensures { result ≡ occurs (reads ticket) events.now }
+{
+    events.iter().any(|e| reads(ticket, &e.what))
 }
 
 /// Whether an event reads the ticket's message, or removes its addition.
@@ -276,4 +285,186 @@ pub fn made(events: &[Event], who: Who) -> usize
     ensures { result ≡ made_by who events.now }
 {
     events.iter().filter(|e| same_maker(e.who, who)).count()
+}
+
+// 1 for an event that has not come, 0 for one that has.
+fn missing(came: bool) -> u32
+    ensures value { result ≡ (if came then 0 else 1) }
+    ensures few { result ≤ 1 }
+{
+    if came { 0 } else { 1 }
+}
+
+/// How many of an end, a reading and a removal the ticket has to come.
+pub fn due_of(events: &[Event], ticket: Ticket) -> u32
+    ensures value { result ≡ due_of ticket events.now }
+    ensures few { result ≤ 3 }
+{
+    missing(is_ended(events, ticket))
+        + missing(is_read(events, ticket))
+        + missing(is_removed(events, ticket))
+}
+
+/// How many events the added tickets have to come.
+#[tactic(auto, using(crate::proofs::Defined::sum_next))]
+pub fn due(alloc: Global, events: &[Event]) -> Result<u64, OutOfMemory>
+    ensures value { IfOk result (λ n. n ≡ due events.now) }
+    ensures few { IfOk result (λ n. n < 9223372036854775808) }
+{
+    let list = tickets(alloc, events)?;
+    let mut due: u64 = 0;
+    for ticket in list.iter() {
+        due += due_of(events, *ticket) as u64;
+    }
+    Ok(due)
+}
+
+/// Whether a history of so many events at most has room for `more` events beside these and those that are due.
+pub fn has_room(
+    alloc: Global,
+    history: u32,
+    events: &[Event],
+    more: u32,
+) -> Result<bool, OutOfMemory>
+    ensures { IfOk result (λ b. b ≡ has_room history events.now more) }
+{
+    let due = due(alloc, events)?;
+    Ok(events.len() as u64 + due + more as u64 <= history as u64)
+}
+
+fn has_slot(slots: &[(Ticket, u8)], slot: u8) -> bool
+    ensures { result ≡ has_slot slot slots.now }
+{
+    slots.iter().any(|s| s.1 == slot)
+}
+
+/// The lowest of 0 to 255 that is no ticket's slot; 255 where each is one.
+pub fn lowest_free(slots: &[(Ticket, u8)]) -> u8
+    ensures { result ≡ lowest_free slots.now }
+{
+    let mut slot: u8 = 0;
+    while slot < 255 && has_slot(slots, slot) {
+        slot += 1;
+    }
+    slot
+}
+
+// The slots after an event.
+fn enter(list: &mut Vec<(Ticket, u8)>, what: &What) -> Result<(), OutOfMemory>
+    ensures { OnOk result (list.new.items ≡ slots_after list.old.items what.now) }
+{
+    match what {
+        What::Added(_, ticket) => {
+            let slot = lowest_free(list);
+            list.push((*ticket, slot))?;
+        }
+        What::Removed(_, ticket) => list.retain(|s| s.0 != *ticket),
+        _ => {}
+    }
+    Ok(())
+}
+
+/// The added tickets with their slots, in order: each takes the lowest that is free at its addition.
+#[tactic(auto, using(crate::proofs::Defined::slots_next))]
+pub fn slots(alloc: Global, events: &[Event]) -> Result<Vec<(Ticket, u8)>, OutOfMemory>
+    ensures { IfOk result (λ v. v.items ≡ slots events.now) }
+{
+    let mut list = Vec::new(alloc);
+    for event in events {
+        enter(&mut list, &event.what)?;
+    }
+    Ok(list)
+}
+
+fn find_slot(list: &[(Ticket, u8)], ticket: Ticket) -> Option<(Ticket, u8)>
+    ensures { result ≡ find (λ s. same_ticket ticket s.0) list.now }
+{
+    list.iter().copied().find(|s| ticket == s.0)
+}
+
+/// The slot of an added ticket.
+pub fn slot_of(alloc: Global, events: &[Event], ticket: Ticket) -> Result<Option<u8>, OutOfMemory>
+    ensures { IfOk result (λ o. o ≡ slot_of ticket events.now) }
+{
+    match find_slot(&slots(alloc, events)?, ticket) {
+        None => Ok(None),
+        Some(found) => Ok(Some(found.1)),
+    }
+}
+
+fn find_handle(list: &[(HandleId, Ticket)], handle: HandleId) -> Option<(HandleId, Ticket)>
+    ensures { result ≡ find (λ a. same_handle handle a.0) list.now }
+{
+    list.iter().copied().find(|a| handle == a.0)
+}
+
+/// The ticket under which the handle is added.
+pub fn ticket_of(
+    alloc: Global,
+    events: &[Event],
+    handle: HandleId,
+) -> Result<Option<Ticket>, OutOfMemory>
+    ensures { IfOk result (λ o. o ≡ ticket_of handle events.now) }
+{
+    match find_handle(&added(alloc, events)?, handle) {
+        None => Ok(None),
+        Some(found) => Ok(Some(found.1)),
+    }
+}
+
+// The code that the event ends the ticket's transfer with, and whether a later event reads the message.
+fn end_by(what: &What, later: &[Event], ticket: Ticket) -> Option<(Code, bool)>
+    ensures { result ≡ end_by ticket what.now later.now }
+{
+    match what {
+        What::Done(other, code, _) if ticket == *other => Some((*code, is_read(later, ticket))),
+        _ => None,
+    }
+}
+
+/// The code that the ticket's transfer first ended with, and whether its message was read after that.
+pub fn end_of(events: &[Event], ticket: Ticket) -> Option<(Code, bool)>
+    ensures { result ≡ end_of ticket events.now }
+{
+    for at in 0..events.len() {
+        if let Some(end) = end_by(&events[at].what, &events[at + 1..], ticket) {
+            return Some(end);
+        }
+    }
+    None
+}
+
+/// How far the ticket's addition is.
+pub fn phase_of(events: &[Event], ticket: Ticket) -> Phase
+    ensures { result ≡ phase_of ticket events.now }
+{
+    match end_of(events, ticket) {
+        Some((code, true)) => Phase::Read(code),
+        Some((code, false)) => Phase::Done(code),
+        None if is_last_paused(events, ticket) => Phase::Paused,
+        None => Phase::Running,
+    }
+}
+
+/// Where the handle stands.
+pub fn state_of(alloc: Global, events: &[Event], handle: HandleId) -> Result<State, OutOfMemory>
+    ensures { IfOk result (λ s. s ≡ state_of handle events.now) }
+{
+    Ok(match ticket_of(alloc, events, handle)? {
+        None => State::NotAdded,
+        Some(ticket) => phase_of(events, ticket).state(ticket),
+    })
+}
+
+/// What a worker is told of the ticket.
+pub fn look_of(alloc: Global, events: &[Event], ticket: Ticket) -> Result<Look, OutOfMemory>
+    ensures { IfOk result (λ l. l ≡ look_of ticket events.now) }
+{
+    if !has_ticket(&running(alloc, events)?, ticket) {
+        return Ok(Look::Gone);
+    }
+    if has_ticket(&paused(alloc, events)?, ticket) {
+        return Ok(Look::Paused);
+    }
+    Ok(Look::Go)
 }

@@ -1,5 +1,5 @@
 //! The journal of a multi handle, with the table beside it.
-ghost use Rattle.std.specs.Prelude.{◌≡◌, ◌≤◌, ◌++◌, ◌∷◌, [], length, true, false, map, IfOk, IfSome, IfNone, nat_le};
+ghost use Rattle.std.specs.Prelude.{◌≡◌, ◌≤◌, ◌++◌, ◌∷◌, [], length, true, false, map, IfOk, IfSome, IfNone, nat_le, slice_get};
 ghost use Rattle.std.specs.Option.{option_map};
 ghost use Rattle.mx_journal.specs.History.{added, waiting, running, has_ticket, may_follow, has_room, is_maker, made_by};
 ghost use Rattle.mx_journal.specs.Answers.{ticket_of, handle_of, next_ticket, is_ready, state_of, look_of};
@@ -47,7 +47,9 @@ impl JournalTable {
     /// The row of a handle that is added.
     pub fn row_of_handle(&self, handle: HandleId) -> Option<Row>
         ensures ticket { option_map (λ r. r.ticket) result ≡ ticket_of handle self.now.journal }
+        ensures slot { IfSome result (λ r. slot_of r.ticket self.now.journal ≡ Some r.slot) }
         ensures row { IfSome result (λ r. IsRow self.now.journal r) }
+        ensures same { IfSome result (λ r. r.handle ≡ handle) }
     {
         self.table.row_of_handle(handle)
     }
@@ -135,6 +137,13 @@ impl JournalTable {
         self.table.made(who)
     }
 
+    /// The event at a place.
+    pub fn event(&self, index: u32) -> Option<Event>
+        ensures { result ≡ slice_get self.now.journal index }
+    {
+        self.journal.get(index as usize).copied()
+    }
+
     /// Whether a Wake or a Done stands at or after the mark.
     pub fn is_ready(&self, since: u32) -> bool
         ensures { result ≡ is_ready since self.now.journal }
@@ -153,7 +162,7 @@ impl JournalTable {
         ensures history { self.new.history ≡ self.old.history }
         ensures journal { self.new.journal ≡ self.old.journal ++ event ∷ [] }
     {
-        self.table.enter(event);
+        self.table.apply(event);
         self.journal.push_reserved(event);
     }
 }

@@ -1,6 +1,6 @@
 //! What every legal history keeps. Each law is the contract of a function that does nothing: a caller that calls it
 //! may use it in its own proof.
-ghost use Rattle.mx_journal.specs.Laws.{AdditionTakesLeastSlot, AnswerIsLegal, AnswersFit, ClosingFindsRoom, EachAtMostOnce, EachOnceByCount, FirstInFirstOut, FitsByItsCut, LegalIsTidy, NothingAfterRemoval, PrefixIsLegal, ReadyStays, SlotsDiffer, StateAndLookAgree};
+ghost use Rattle.mx_journal.specs.Laws.{AdditionTakesLeastSlot, AnswerIsLegal, AnswersFit, CallAddsAtMostOne, CallIsPlaced, ClosingFindsRoom, EachAtMostOnce, EachOnceByCount, FirstInFirstOut, FitsByItsCut, LegalIsTidy, NothingAfterRemoval, PlacedStays, PrefixIsLegal, ReadyStays, SlotsDiffer, StateAndLookAgree, TableFollows};
 
 /// What comes first in a legal history is one.
 pub fn prefix_is_legal()
@@ -73,4 +73,24 @@ pub fn each_once_by_count()
 /// What a call of the core promises of its answer is what makes a receipt fit, with its cut at the journal's end.
 pub fn answers_fit()
     ensures { AnswersFit }
+{}
+
+/// The table takes in what may follow.
+pub fn table_follows()
+    ensures { TableFollows }
+{}
+
+/// A call leaves the journal, or adds one event, the caller's.
+pub fn call_adds_at_most_one()
+    ensures { CallAddsAtMostOne }
+{}
+
+/// Receipts stay placed as the journal grows by the events of others.
+pub fn placed_stays()
+    ensures { PlacedStays }
+{}
+
+/// A call that is answered is placed behind the receipts that were.
+pub fn call_is_placed()
+    ensures { CallIsPlaced }
 {}

@@ -1,5 +1,5 @@
 //! Where events are appended.
-ghost use Rattle.std.specs.Prelude.{◌≡◌, ◌++◌, ◌∷◌, [], List, OnOk, OnErr, IfOk};
+ghost use Rattle.std.specs.Prelude.{◌≡◌, ◌++◌, ◌∷◌, [], List, ℕ, OnOk, OnErr, IfOk};
 ghost use Rattle.mx_types.specs.declared.event.Event.{Event};
 
 use mx_types::{Event, OutOfMemory};
@@ -9,10 +9,18 @@ use std::alloc::Global;
 pub trait Log {
     ghost events: { Self → List Event };
 
+    /// Which log it is, for contracts alone: appending keeps that.
+    ghost name: { Self → List ℕ } = { λ log. [] };
+
+    /// Whether an append may be refused now, for contracts alone. A log that takes the default says nothing of it.
+    ghost may_refuse: { Self → Type 0 } = { λ log. Unit {0} };
+
     /// Appends the event, or changes nothing where memory is refused.
     fn append(&mut self, event: Event) -> Result<(), OutOfMemory>
         ensures ok { OnOk result (events self.new ≡ events self.old ++ event ∷ []) }
-        ensures err { OnErr result (events self.new ≡ events self.old) };
+        ensures err { OnErr result (events self.new ≡ events self.old) }
+        ensures refused { OnErr result (may_refuse self.old) }
+        ensures same { name self.new ≡ name self.old };
 }
 
 /// A log in a vector.

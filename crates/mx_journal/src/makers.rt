@@ -1,7 +1,7 @@
 //! Who made how many events.
 ghost use Rattle.std.specs.Prelude.{◌≡◌, ◌<◌, ◌+◌, if◌then◌else◌, true};
 ghost use Rattle.mx_journal.specs.History.{is_maker, same_maker};
-ghost use Rattle.mx_journal.specs.Table.{count_of};
+ghost use Rattle.mx_journal.specs.Table.{count_of, count_one, counts_after, no_counts};
 ghost use Rattle.mx_types.specs.declared.event.Who.{Who};
 
 use mx_types::Who;
@@ -24,7 +24,8 @@ impl Model for MakerCounts {
 
 impl MakerCounts {
     pub fn new() -> MakerCounts
-        ensures { (w : Who) → is_maker w ≡ true → count_of w result ≡ 0 }
+        ensures zero { (w : Who) → is_maker w ≡ true → count_of w result ≡ 0 }
+        ensures none { result ≡ no_counts }
     {
         MakerCounts {
             seats: [0; 16],
@@ -42,14 +43,24 @@ impl MakerCounts {
         }
     }
 
-    pub fn add_one(&mut self, who: Who)
-        requires maker { is_maker who ≡ true }
-        requires few { count_of who self.old < 4294967295 }
-        ensures { (w : Who) → is_maker w ≡ true → count_of w self.new ≡ count_of w self.old + (if same_maker who w then 1 else 0) }
+    /// One more event of the maker, where it is one and its count can rise.
+    pub fn count(&mut self, who: Who)
+        ensures { self.new ≡ counts_after who self.old }
     {
         match who {
-            Who::Seat(n) => self.seats[n as usize] += 1,
-            Who::Worker(n) => self.workers[n as usize] += 1,
+            Who::Seat(n) => count_one(&mut self.seats, n),
+            Who::Worker(n) => count_one(&mut self.workers, n),
+        }
+    }
+}
+
+fn count_one(counts: &mut [u32; 16], n: u8)
+    ensures { counts.new ≡ count_one n counts.old }
+{
+    let at = n as usize;
+    if at < 16 {
+        if counts[at] < u32::MAX {
+            counts[at] += 1;
         }
     }
 }

@@ -78,6 +78,18 @@ impl Phase {
         }
     }
 
+    /// The state of a handle that is added under the ticket, in this phase.
+    pub fn state(self, ticket: Ticket) -> State
+        ensures { result ≡ state_at ticket self }
+    {
+        match self {
+            Phase::Running => State::Running(ticket),
+            Phase::Paused => State::Paused(ticket),
+            Phase::Done(code) => State::Done(ticket, code),
+            Phase::Read(code) => State::Read(ticket, code),
+        }
+    }
+
     fn ended(self, new: Phase) -> Phase
         ensures { result ≡ ended_phase new self }
     {
@@ -90,12 +102,7 @@ impl Row {
     pub fn state(self) -> State
         ensures { result ≡ state_at self.ticket self.phase }
     {
-        match self.phase {
-            Phase::Running => State::Running(self.ticket),
-            Phase::Paused => State::Paused(self.ticket),
-            Phase::Done(code) => State::Done(self.ticket, code),
-            Phase::Read(code) => State::Read(self.ticket, code),
-        }
+        self.phase.state(self.ticket)
     }
 
     /// The row after an event that adds and removes nothing.

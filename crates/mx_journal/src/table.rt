@@ -5,12 +5,12 @@ ghost use Rattle.mx_types.specs.declared.event.Event.{Event};
 ghost use Rattle.mx_journal.specs.History.{added, waiting, running, due, has_ticket, may_follow, is_maker, made_by};
 ghost use Rattle.mx_journal.specs.Answers.{ticket_of, handle_of, next_ticket, state_of, look_of};
 ghost use Rattle.mx_journal.specs.Slots.{slot_of};
-ghost use Rattle.mx_journal.specs.Table.{IsTableOf, MayEnter, IsRow};
+ghost use Rattle.mx_journal.specs.Table.{IsTableOf, IsRow, empty_table, has_space_for, has_space, table_after};
 
 use crate::makers::MakerCounts;
 use crate::row::Row;
 use crate::{rows, waits};
-use mx_types::{AddedHandles, Event, HandleId, Look, OutOfMemory, State, Ticket, Who};
+use mx_types::{AddedHandles, Event, HandleId, Look, OutOfMemory, State, Ticket, What, Who};
 use std::alloc::Global;
 use std::marker::Model;
 
@@ -40,7 +40,8 @@ impl Model for Table {
 impl Table {
     /// The table of no events, with space for all the rows and all the waiting tickets that it can ever have.
     pub fn new(alloc: Global) -> Result<Table, OutOfMemory>
-        ensures { IfOk result (λ t. IsTableOf [] t) }
+        ensures empty { IfOk result (λ t. IsTableOf [] t) }
+        ensures fresh { IfOk result (λ t. t ≡ empty_table) }
     {
         Ok(Table {
             rows: Vec::with_capacity(alloc, 256)?,
@@ -54,7 +55,9 @@ impl Table {
     /// The row of a handle that is added.
     pub fn row_of_handle(&self, handle: HandleId) -> Option<Row>
         ensures ticket { (j : List Event) → IsTableOf j self.now → option_map (λ r. r.ticket) result ≡ ticket_of handle j }
+        ensures slot { (j : List Event) → IsTableOf j self.now → IfSome result (λ r. slot_of r.ticket j ≡ Some r.slot) }
         ensures row { (j : List Event) → IsTableOf j self.now → IfSome result (IsRow j) }
+        ensures same { IfSome result (λ r. r.handle ≡ handle) }
     {
         rows::row_of_handle(&self.rows, handle)
     }
@@ -148,15 +151,40 @@ impl Table {
         self.makers.get(who)
     }
 
-    /// Takes in an event that may follow.
-    pub fn enter(&mut self, event: Event)
-        requires maker { is_maker event.who ≡ true }
-        requires may { MayEnter self.old event }
-        ensures { (j : List Event) → IsTableOf j self.old → may_follow j event.what ≡ true → IsTableOf (j ++ event ∷ []) self.new }
+    // Whether there is space for a row or a waiting ticket, where the event brings one.
+    fn has_space_for(&self, what: &What) -> bool
+        ensures { result ≡ has_space_for self.now what.now }
     {
+        match what {
+            What::Added(..) => self.rows.len() < 256,
+            What::Done(..) => self.waiting.len() < 256,
+            _ => true,
+        }
+    }
+
+    fn has_space(&self, what: &What) -> bool
+        ensures { result ≡ has_space self.now what.now }
+    {
+        if !self.has_space_for(what) {
+            return false;
+        }
+        if self.events == u32::MAX {
+            return false;
+        }
+        self.added < u32::MAX
+    }
+
+    /// Takes in any event that there is space for. What may follow has space, so that the table is then the one with the
+    /// event behind the others (`laws::table_follows`).
+    pub fn apply(&mut self, event: Event)
+        ensures { self.new ≡ table_after self.old event }
+    {
+        if !self.has_space(&event.what) {
+            return;
+        }
         self.events += 1;
         self.added += rows::additions_by(&event.what);
-        self.makers.add_one(event.who);
+        self.makers.count(event.who);
         rows::enter(&mut self.rows, &event.what);
         waits::enter(&mut self.waiting, &event.what);
     }

@@ -175,6 +175,14 @@ fn agrees(rt: &impl Abort, alloc: Global, caller: &Caller) -> Result<(), Fail> {
         waiting.push(message.0)?;
     }
     assert_eq!(rt; caller.control.waiting(), waiting.as_slice());
+    for handle in [HandleId(7), HandleId(9)] {
+        let state = definitions::state_of(alloc, events, handle)?;
+        assert_eq!(rt; caller.control.state(handle), state);
+    }
+    for ticket in [Ticket(0), Ticket(1), Ticket(2)] {
+        let look = definitions::look_of(alloc, events, ticket)?;
+        assert_eq!(rt; caller.control.look(ticket), look);
+    }
     Ok(())
 }
 
@@ -247,6 +255,40 @@ fn tells_histories(rt: &impl Abort, alloc: Global) -> Result<(), Fail> {
     assert!(rt; definitions::paused(alloc, &[added, paused, done])?.is_empty());
     assert_eq!(rt; definitions::additions(&whole), 2);
     Ok(())
+}
+
+/// What is due, the room beside it, and the slots, after an addition, an end, a reading and a removal.
+fn tells_room(rt: &impl Abort, alloc: Global) -> Result<(), Fail> {
+    let seven = event(What::Added(HandleId(7), Ticket(0)));
+    let eight = event(What::Added(HandleId(8), Ticket(1)));
+    let nine = event(What::Added(HandleId(9), Ticket(2)));
+    let done = event(What::Done(Ticket(0), Code::Ok, 3));
+    let read = event(What::Read(Ticket(0)));
+    let removed = event(What::Removed(HandleId(7), Ticket(0)));
+    let events = [seven, eight, done, read, removed, nine];
+    assert_eq!(rt; definitions::due(alloc, &[seven, eight])?, 6);
+    assert_eq!(rt; definitions::due(alloc, &[seven, eight, done])?, 5);
+    assert_eq!(rt; definitions::due(alloc, &[seven, eight, done, read])?, 4);
+    assert_eq!(rt;
+        definitions::due(alloc, &[seven, eight, done, read, removed])?,
+        3
+    );
+    assert!(rt; definitions::has_room(alloc, 12, &events, 0)?);
+    assert!(rt; !definitions::has_room(alloc, 12, &events, 1)?);
+    let slots = definitions::slots(alloc, &events)?;
+    let lowest_first = [(Ticket(1), 1), (Ticket(2), 0)];
+    assert_eq!(rt; slots.as_slice(), lowest_first.as_slice());
+    assert_eq!(rt; definitions::slot_of(alloc, &events, Ticket(0))?, None);
+    assert_eq!(rt;
+        definitions::state_of(alloc, &[seven, eight, done, read], HandleId(7))?,
+        State::Read(Ticket(0), Code::Ok)
+    );
+    Ok(())
+}
+
+#[test]
+fn the_definitions_tell_room(rt: HostRuntime) -> Result<(), Fail> {
+    tells_room(&rt, rt.alloc())
 }
 
 #[test]

@@ -1,4 +1,4 @@
-use Rattle.mx_journal.proofs.LegalLaws.{state_and_look_agree}
+use Rattle.mx_journal.proofs.States.{state_and_look_agree}
 use Rattle.mx_journal.proofs.laws.state_and_look_agree.Goals as goal
 
 pub returns : goal.returns

@@ -1,7 +1,8 @@
 use Rattle.std.proofs.Common.{◌≡◌, arith, true}
 use Rattle.mx_journal.specs.History.{may_follow, has_room}
 use Rattle.mx_journal.specs.JournalTable.{needs}
-use Rattle.mx_journal.proofs.JournalTables.{event_fits, journal-then}
+use Rattle.mx_journal.proofs.JournalTables.{event_fits}
+use Rattle.mx_journal.proofs.Follows.{journal-then}
 use Rattle.mx_journal.proofs.journal_table.JournalTable.enter.Goals as goal
 
 pub push_reserved-requires : goal.push_reserved-requires
@@ -19,5 +20,4 @@ invariant_of-self c =
     let j = c.self.inside.journal.items in
     let m : may_follow j c.args.event.what ≡ true = rw (← c.self.view_is) at c.requires.may in
     let r : has_room c.self.inside.history j (needs c.args.event.what) ≡ true = rw (← c.self.view_is) at c.requires.room in
-    rw (c.push_reserved.ensures.items, c.push_reserved.ensures.capacity)
-    (journal-then c.self.inside.history j c.self.inside.table _ _ c.args.event.who c.args.event.what k m r (c.enter.ensures j k.table m))
+    rw (c.apply.ensures, c.push_reserved.ensures.items, c.push_reserved.ensures.capacity) (journal-then c.self.inside.history j c.self.inside.table _ c.args.event k m r)
