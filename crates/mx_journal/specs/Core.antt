@@ -1,16 +1,18 @@
 -- What the core's state is, for contracts, and when it is sound.
-use Rattle.std.specs.Prelude.{ℕ, ◌<◌, ◌≤◌, ◌≡◌, List, [], ◌∷◌, map, true, not}
+use Rattle.std.specs.Prelude.{ℕ, ◌<◌, ◌≤◌, ◌≡◌, List, [], ◌∷◌, length, map, true, not, Option, Some, slice_get}
 use Rattle.std.specs.List.{AllByRecursion, filter, list_any}
 use Rattle.mx_types.specs.declared.code.Code.{Code}
 use Rattle.mx_types.specs.declared.names.HandleId.{HandleId}
 use Rattle.mx_types.specs.declared.names.Ticket.{Ticket}
 use Rattle.mx_types.specs.declared.event.Event.{Event}
-use Rattle.mx_journal.specs.History.{HasRoomForDue, Message, Opening, same_ticket, waiting, running, has_ticket}
+use Rattle.mx_journal.specs.History.{HasRoomForDue, Message, Opening, additions, same_ticket, waiting, running, has_ticket}
 
--- what it was opened with, the journal, the work that waits for a worker, and the endings that wait to be read
+-- what it was opened with, the journal, the bytes of each addition's request, in the order of the additions, the work
+-- that waits for a worker, and the endings that wait to be read
 pub record Core (Q O : Type 0) : Type 0 where
   pub opening : Opening
   pub journal : List Event
+  pub origins : List (List ℕ)
   pub queue : List (Ticket × Q)
   pub endings : List (Ticket × O)
 
@@ -20,6 +22,14 @@ pub record Claimed : Type 0 where
   pub ticket : Ticket
   pub slot : ℕ
   pub origin : List ℕ
+
+-- the bytes of the request of the work that was added under the ticket: tickets number the additions
+abbrev pub origin_of : Ticket → List (List ℕ) → Option (List ℕ)
+origin_of t origins = slice_get origins t.0
+
+-- each is of the work that was added under its ticket
+abbrev pub AreOwn : {X : Type 0} → (X → List ℕ) → List (List ℕ) → List (Ticket × X) → Type 0
+AreOwn origin origins xs = AllByRecursion (λ x. origin_of x.0 origins ≡ Some (origin x.1)) xs
 
 -- in order of the tickets, each once
 abbrev pub IsInOrder : List Ticket → Type 0
@@ -50,6 +60,12 @@ pub record IsControl {Q O : Type 0} (code : O → Code) (size : O → ℕ) (hist
   pub sound : IsSound code size history journal queue endings
   pub queue_fits : 256 ≤ for_queue
   pub endings_fit : 256 ≤ for_endings
+
+-- there is an origin for each addition, and space for those to come; queued work is of its addition's
+pub record KeepsOrigins {Q : Type 0} (origin : Q → List ℕ) (history : ℕ) (journal : List Event) (origins : List (List ℕ)) (queue : List (Ticket × Q)) (space : ℕ) : Type 0 where
+  pub each : length origins ≡ additions journal
+  pub own : AreOwn origin origins queue
+  pub fits : history ≤ space
 
 -- work whose ticket runs
 abbrev pub still_running : {X : Type 0} → List Event → List (Ticket × X) → List (Ticket × X)

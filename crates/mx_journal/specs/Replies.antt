@@ -33,6 +33,11 @@ abbrev pub queue_added : {Q : Type 0} → AddReply Q → List (Ticket × Q) → 
 queue_added (add.Added t) queue work = queue ++ (t, work) ∷ []
 queue_added _ queue work = queue
 
+-- the origins after an addition: its work's comes last
+abbrev pub origins_added : {Q : Type 0} → AddReply Q → List (List ℕ) → List ℕ → List (List ℕ)
+origins_added (add.Added t) origins origin = origins ++ origin ∷ []
+origins_added _ origins origin = origins
+
 -- what a refused addition hands back
 abbrev pub handed_back : {Q : Type 0} → AddReply Q → Option Q
 handed_back (add.Added t) = None

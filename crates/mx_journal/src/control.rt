@@ -2,10 +2,10 @@
 ghost use Rattle.std.specs.Prelude.{map, ◌≡◌, ◌≤◌, ◌++◌, ◌∷◌, [], List, length, true, false, drop, OnOk, OnErr, IfOk, IfSome, IfNone, slice_get};
 ghost use Rattle.std.specs.List.{AllByRecursion};
 ghost use Rattle.mx_types.specs.declared.call.Call.{Call};
-ghost use Rattle.mx_journal.specs.History.{may_follow, has_room, has_ticket, is_maker, made_by, running, added, waiting};
+ghost use Rattle.mx_journal.specs.History.{additions, may_follow, has_room, has_ticket, is_maker, made_by, running, added, waiting};
 ghost use Rattle.mx_journal.specs.Answers.{handle_of, Answers, is_ready, look_of, state_of};
-ghost use Rattle.mx_journal.specs.Core.{claimed, queued, still_running, still_waiting, IsSound};
-ghost use Rattle.mx_journal.specs.Replies.{is_pausing, journal_after_pausing, IsPausingAnswer, reply_of_info, ending_read, ending_recorded, IsHandedBack, reply_of_finish, queue_added, handed_back, work_back, reply_of_add, reply_of_remove, reply_of_pause, reply_of_wakeup};
+ghost use Rattle.mx_journal.specs.Core.{claimed, queued, still_running, still_waiting, origin_of, AreOwn, IsSound};
+ghost use Rattle.mx_journal.specs.Replies.{is_pausing, journal_after_pausing, IsPausingAnswer, reply_of_info, ending_read, ending_recorded, IsHandedBack, reply_of_finish, origins_added, queue_added, handed_back, work_back, reply_of_add, reply_of_remove, reply_of_pause, reply_of_wakeup};
 ghost use Rattle.mx_journal.specs.Receipts.{comes_with_event, lacks_memory};
 ghost use Rattle.mx_journal.specs.Slots.{slot_of};
 
@@ -19,33 +19,40 @@ use mx_types::{
 };
 use std::alloc::Global;
 use std::marker::Model;
+use std::snapshot::Snapshot;
 
 #[derive(Drop)]
 pub struct Control<Q: Work, O: Ending> {
     table: JournalTable,
+    /// The work of each addition, as it was, for contracts alone: it has no size.
+    origins: Vec<Snapshot<Q>>,
     queue: Vec<(Ticket, Q)>,
     endings: Vec<(Ticket, O)>,
 }
 
 impl<Q: Work, O: Ending> Model for Control<Q, O> {
-    ghost use Rattle.std.specs.Prelude.{vec_capacity};
-    ghost use Rattle.mx_journal.specs.Core.{Core, IsControl};
+    ghost use Rattle.std.specs.Prelude.{map, vec_capacity};
+    ghost use Rattle.mx_journal.specs.Core.{Core, IsControl, KeepsOrigins};
 
     ghost Value = { Core Q O };
 
-    ghost view = { λ c. record { opening = record { history = c.table.history }; journal = c.table.journal; queue = c.queue.items; endings = c.endings.items } };
+    ghost view = { λ c. record { opening = record { history = c.table.history }; journal = c.table.journal; origins = map (λ s. Q.origin s.value) c.origins.items; queue = c.queue.items; endings = c.endings.items } };
 
-    ghost invariant = { λ c. IsControl O.code_of O.size_of c.table.history c.table.journal c.queue.items c.endings.items (vec_capacity c.queue) (vec_capacity c.endings) };
+    ghost invariant = { λ c. record {
+      kept : IsControl O.code_of O.size_of c.table.history c.table.journal c.queue.items c.endings.items (vec_capacity c.queue) (vec_capacity c.endings);
+      origins : KeepsOrigins Q.origin c.table.history c.table.journal (map (λ s. Q.origin s.value) c.origins.items) c.queue.items (vec_capacity c.origins);
+    } };
 }
 
 impl<Q: Work + Drop, O: Ending + Drop> Control<Q, O> {
     /// An empty control state, with the space for so many events.
     pub fn new(alloc: Global, history: u32) -> Result<Control<Q, O>, OutOfMemory>
         requires { (4 ≤ history) × (history ≤ 1048576) }
-        ensures { IfOk result (λ c. c ≡ record { opening = record { history = history }; journal = []; queue = []; endings = [] }) }
+        ensures { IfOk result (λ c. c ≡ record { opening = record { history = history }; journal = []; origins = []; queue = []; endings = [] }) }
     {
         Ok(Control {
             table: JournalTable::new(alloc, history)?,
+            origins: Vec::with_capacity(alloc, history as usize)?,
             queue: Vec::with_capacity(alloc, 256)?,
             endings: Vec::with_capacity(alloc, 256)?,
         })
@@ -55,7 +62,8 @@ impl<Q: Work + Drop, O: Ending + Drop> Control<Q, O> {
     /// each once, by ticket; its endings are those of the messages that wait, in their order. That the table is the
     /// one of the journal is seen through `state`, `look`, `made` and the slots of claims.
     pub fn sound(&self)
-        ensures { IsSound O.code_of O.size_of self.now.opening.history self.now.journal self.now.queue self.now.endings }
+        ensures sound { IsSound O.code_of O.size_of self.now.opening.history self.now.journal self.now.queue self.now.endings }
+        ensures origins { (length self.now.origins ≡ additions self.now.journal) × AreOwn Q.origin self.now.origins self.now.queue }
     {
         let _ = &self.table;
     }
@@ -69,9 +77,11 @@ impl<Q: Work + Drop, O: Ending + Drop> Control<Q, O> {
         ensures memory { lacks_memory (reply_of_add result) ≡ true → L.may_refuse log.old }
         ensures unchanged { comes_with_event (reply_of_add result) ≡ false → self.new ≡ self.old }
         ensures opening { self.new.opening ≡ self.old.opening }
+        ensures origins { self.new.origins ≡ origins_added result self.old.origins (Q.origin work) }
         ensures endings { self.new.endings ≡ self.old.endings }
         ensures queue { self.new.queue ≡ queue_added result self.old.queue work }
         ensures back { handed_back result ≡ work_back result work }
+        ensures own { AreOwn O.origin self.old.origins self.old.endings → AreOwn O.origin self.new.origins self.new.endings }
     {
         if self.table.row_of_handle(handle).is_some() {
             return AddReply::AddedAlready(work);
@@ -91,6 +101,7 @@ impl<Q: Work + Drop, O: Ending + Drop> Control<Q, O> {
             return AddReply::OutOfMemory(work);
         }
         self.table.enter(event);
+        self.origins.push_reserved(Snapshot::of(&work));
         self.queue.push_reserved((ticket, work));
         AddReply::Added(ticket)
     }
@@ -105,8 +116,10 @@ impl<Q: Work + Drop, O: Ending + Drop> Control<Q, O> {
         ensures memory { lacks_memory (reply_of_remove result) ≡ true → L.may_refuse log.old }
         ensures unchanged { comes_with_event (reply_of_remove result) ≡ false → self.new ≡ self.old }
         ensures opening { self.new.opening ≡ self.old.opening }
+        ensures origins { self.new.origins ≡ self.old.origins }
         ensures queue { self.new.queue ≡ still_running self.new.journal self.old.queue }
         ensures endings { self.new.endings ≡ still_waiting self.new.journal self.old.endings }
+        ensures own { AreOwn O.origin self.old.origins self.old.endings → AreOwn O.origin self.new.origins self.new.endings }
     {
         let Some(row) = self.table.row_of_handle(handle) else {
             return RemoveReply::NotAdded;
@@ -133,6 +146,7 @@ impl<Q: Work + Drop, O: Ending + Drop> Control<Q, O> {
         ensures memory { lacks_memory (reply_of_pause result) ≡ true → L.may_refuse log.old }
         ensures unchanged { comes_with_event (reply_of_pause result) ≡ false → self.new ≡ self.old }
         ensures opening { self.new.opening ≡ self.old.opening }
+        ensures origins { self.new.origins ≡ self.old.origins }
         ensures queue { self.new.queue ≡ self.old.queue }
         ensures endings { self.new.endings ≡ self.old.endings }
     {
@@ -163,6 +177,7 @@ impl<Q: Work + Drop, O: Ending + Drop> Control<Q, O> {
         ensures memory { lacks_memory (reply_of_pause result) ≡ true → L.may_refuse log.old }
         ensures unchanged { comes_with_event (reply_of_pause result) ≡ false → self.new ≡ self.old }
         ensures opening { self.new.opening ≡ self.old.opening }
+        ensures origins { self.new.origins ≡ self.old.origins }
         ensures queue { self.new.queue ≡ self.old.queue }
         ensures endings { self.new.endings ≡ self.old.endings }
     {
@@ -196,6 +211,7 @@ impl<Q: Work + Drop, O: Ending + Drop> Control<Q, O> {
         ensures memory { lacks_memory (reply_of_pause result) ≡ true → L.may_refuse log.old }
         ensures unchanged { comes_with_event (reply_of_pause result) ≡ false → self.new ≡ self.old }
         ensures opening { self.new.opening ≡ self.old.opening }
+        ensures origins { self.new.origins ≡ self.old.origins }
         ensures queue { self.new.queue ≡ self.old.queue }
         ensures endings { self.new.endings ≡ self.old.endings }
     {
@@ -218,8 +234,10 @@ impl<Q: Work + Drop, O: Ending + Drop> Control<Q, O> {
         ensures memory { lacks_memory (reply_of_info O.code_of O.size_of result) ≡ true → L.may_refuse log.old }
         ensures unchanged { comes_with_event (reply_of_info O.code_of O.size_of result) ≡ false → self.new ≡ self.old }
         ensures opening { self.new.opening ≡ self.old.opening }
+        ensures origins { self.new.origins ≡ self.old.origins }
         ensures queue { self.new.queue ≡ self.old.queue }
         ensures endings { self.old.endings ≡ ending_read result ++ self.new.endings }
+        ensures own { AreOwn O.origin self.old.origins self.old.endings → AreOwn O.origin self.new.origins self.new.endings × AreOwn O.origin self.old.origins (ending_read result) }
     {
         if self.endings.is_empty() {
             return InfoReply::Empty;
@@ -255,6 +273,7 @@ impl<Q: Work + Drop, O: Ending + Drop> Control<Q, O> {
         ensures memory { lacks_memory (reply_of_wakeup result) ≡ true → L.may_refuse log.old }
         ensures unchanged { comes_with_event (reply_of_wakeup result) ≡ false → self.new ≡ self.old }
         ensures opening { self.new.opening ≡ self.old.opening }
+        ensures origins { self.new.origins ≡ self.old.origins }
         ensures queue { self.new.queue ≡ self.old.queue }
         ensures endings { self.new.endings ≡ self.old.endings }
     {
@@ -289,9 +308,11 @@ impl<Q: Work + Drop, O: Ending + Drop> Control<Q, O> {
         ensures memory { lacks_memory (reply_of_finish result) ≡ true → L.may_refuse log.old }
         ensures unchanged { comes_with_event (reply_of_finish result) ≡ false → self.new ≡ self.old }
         ensures opening { self.new.opening ≡ self.old.opening }
+        ensures origins { self.new.origins ≡ self.old.origins }
         ensures queue { self.new.queue ≡ still_running self.new.journal self.old.queue }
         ensures endings { self.new.endings ≡ still_waiting self.new.journal self.old.endings ++ ending_recorded result claim.ticket ending }
         ensures back { IsHandedBack claim ending result }
+        ensures own { AreOwn O.origin self.old.origins self.old.endings → origin_of claim.ticket self.old.origins ≡ Some claim.origin → AreOwn O.origin self.new.origins self.new.endings }
     {
         let ticket = claim.ticket();
         match self.table.row_of_ticket(ticket) {
@@ -315,6 +336,7 @@ impl<Q: Work + Drop, O: Ending + Drop> Control<Q, O> {
     /// queue is empty.
     pub fn claim(&mut self) -> Option<(Claim<Q>, Q)>
         ensures opening { self.new.opening ≡ self.old.opening }
+        ensures origins { self.new.origins ≡ self.old.origins }
         ensures journal { self.new.journal ≡ self.old.journal }
         ensures endings { self.new.endings ≡ self.old.endings }
         ensures none { IfNone result ((self.old.queue ≡ []) × (self.new.queue ≡ [])) }
@@ -322,6 +344,7 @@ impl<Q: Work + Drop, O: Ending + Drop> Control<Q, O> {
         ensures least { IfSome result (λ r. AllByRecursion (λ t. r.0.ticket.0 ≤ t.0) (queued self.old.queue)) }
         ensures claimed { IfSome result (λ r. has_ticket r.0.ticket (claimed self.new.journal self.new.queue) ≡ true) }
         ensures origin { IfSome result (λ r. r.0.origin ≡ Q.origin r.1) }
+        ensures own { IfSome result (λ r. origin_of r.0.ticket self.new.origins ≡ Some r.0.origin) }
         ensures handle { IfSome result (λ r. handle_of r.0.ticket self.old.journal ≡ Some r.0.handle) }
         ensures slot { IfSome result (λ r. slot_of r.0.ticket self.old.journal ≡ Some r.0.slot) }
     {

@@ -1,12 +1,18 @@
 use Rattle.std.proofs.Common.{◌≡◌, ◌∙◌, sym, rules, true}
 use Rattle.mx_journal.specs.History.{may_follow}
 use Rattle.mx_journal.proofs.Controls.{control-pausing}
+use Rattle.mx_journal.proofs.Origins.{origins-then, pausing_adds_none}
 use Rattle.mx_journal.proofs.control.Control.append_pausing.Goals as goal
 
 pub invariant_of-self : goal.invariant_of-self
 invariant_of-self g c =
     let room : c.has_room.result ≡ true = search rules in
     let m : may_follow c.self.inside.table.journal c.args.event.what ≡ true = rw (← c.self.view_is) at c.requires.may in
-    rw (c.enter.ensures.history, c.enter.ensures.journal)
-    (control-pausing g.O.Ending.code_of g.O.Ending.size_of c.self.inside.table.history c.self.inside.table.journal c.args.event.who c.args.event.what c.self.inside.queue.items c.self.inside.endings.items _ _
-    c.self.invariant m c.requires.kind (sym c.has_room.ensures ∙ room))
+    record {
+      kept = rw (c.enter.ensures.history, c.enter.ensures.journal)
+          (control-pausing g.O.Ending.code_of g.O.Ending.size_of c.self.inside.table.history c.self.inside.table.journal c.args.event.who c.args.event.what c.self.inside.queue.items c.self.inside.endings.items _ _
+          c.self.invariant.kept m c.requires.kind (sym c.has_room.ensures ∙ room));
+      origins = rw (c.enter.ensures.history, c.enter.ensures.journal)
+          (origins-then g.Q.Work.origin c.self.inside.table.history c.self.inside.table.journal c.args.event.who c.args.event.what _ c.self.inside.queue.items c.self.inside.queue.items _
+          c.self.invariant.origins (pausing_adds_none c.args.event.what c.requires.kind) c.self.invariant.origins.own);
+    }

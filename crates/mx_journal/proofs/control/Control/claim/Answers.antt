@@ -7,13 +7,13 @@ pub returns-clause-least : goal.returns-clause-least
 returns-clause-least g c =
     let some : 0 < length c.self.inside.queue.items = omega (arith, c.remove-work.ensures.len, c.self.inside.queue.ok.0) in
     let e = split_first c.self.inside.queue.items c.remove-work.new.self.items c.remove-work.result some c.remove-work.ensures.value c.remove-work.ensures.items in
-    let o = rw e at c.self.invariant.sound.ordered in
+    let o = rw e at c.self.invariant.kept.sound.ordered in
     rw (← c.self.view_is, e) (least_first c.of-claim.result.ticket c.remove-work.result.0 (queued c.remove-work.new.self.items) (ap (λ (x : Claimed). x.ticket) c.of-claim.ensures) o.0)
 
 pub returns-clause-claimed : goal.returns-clause-claimed
 returns-clause-claimed g c =
     let some : 0 < length c.self.inside.queue.items = omega (arith, c.remove-work.ensures.len, c.self.inside.queue.ok.0) in
     let e = split_first c.self.inside.queue.items c.remove-work.new.self.items c.remove-work.result some c.remove-work.ensures.value c.remove-work.ensures.items in
-    let o = rw e at c.self.invariant.sound.ordered in
-    let r = rw e at c.self.invariant.sound.runs in
+    let o = rw e at c.self.invariant.kept.sound.ordered in
+    let r = rw e at c.self.invariant.kept.sound.runs in
     rw c.of-claim.ensures (claimed_first c.self.inside.table.journal c.remove-work.result.0 c.remove-work.new.self.items o.0 r.0)
