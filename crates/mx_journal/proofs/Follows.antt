@@ -93,6 +93,7 @@ entered t e = record {
   waiting = waits_after t.waiting e.what;
   added = t.added + cond (is_some (addition_of e.what)) 1 0;
   events = t.events + 1;
+  woken = cond (wakes e.what) (t.events + 1) t.woken;
   makers = counts_after e.who t.makers;
 }
 
@@ -101,7 +102,7 @@ table_follows j t e x size m few =
     let all : table_after t e ≡ entered t e = ap (λ b. cond b (entered t e) t) (has j t e.what x m few) in
     let count : (v : Who) → is_maker v ≡ true → count_of v (counts_after e.who t.makers) ≡ count_of v t.makers + cond (same_maker e.who v) 1 0 =
     λ v is. counted e.who v t.makers size is (omega (arith, x.made v is, count_by-le-length (λ (y : Event). same_maker y.who v) j)) in
-    let is : IsTableOf (j ++ e ∷ []) (entered t e) = table-of-then j e.who e.what t (entered t e) x m refl refl refl refl count in
+    let is : IsTableOf (j ++ e ∷ []) (entered t e) = table-of-then j e.who e.what t (entered t e) x m refl refl refl refl refl count in
     (subst (IsTableOf (j ++ e ∷ [])) (sym all) is, subst (λ (u : TableView). HasCounters u.makers) (sym all) (sized e.who t.makers size))
 
 -- 5. The journal with its table.

@@ -1,9 +1,9 @@
 -- What a book's table says of its journal, and what an event keeps.
 use Rattle.std.proofs.Common.{◌≡◌, ℕ, ◌+◌, ◌<◌, ◌≤◌, ◌∙◌, sym, refl, ap, List, [], ◌∷◌, ◌++◌, append-nil, append_assoc, length, Bool, true, false, cond, map, arith, zero-add, length-append, inl, inr}
-use Rattle.std.specs.Prelude.{not, ◌&&◌, ◌||◌, ◌==◌, Option, Some, None, nat_lt, IfSome, IfNone}
+use Rattle.std.specs.Prelude.{zero, suc, not, ◌&&◌, ◌||◌, ◌==◌, Option, Some, None, nat_lt, IfSome, IfNone}
 use Rattle.std.specs.List.{filter, list_any, find, AllByRecursion, count_by, sum_by}
 use Rattle.std.specs.Option.{is_some, is_none, option_map, option_to_list}
-use Rattle.std.proofs.lemmas.Bool.{ltb-true, and_parts, and_from, false_from_ne_true, false≢true, leb-true, or_right, or_cases, or_left}
+use Rattle.std.proofs.lemmas.Bool.{ltb-true, ltb-false, and_parts, and_from, false_from_ne_true, false≢true, leb-true, or_right, or_cases, or_left}
 use Rattle.std.proofs.lemmas.List.{map-append}
 use Rattle.std.proofs.lemmas.List.Sums.{sum_by-cons, sum_by_push, length-filter, count_by-le-length}
 use Rattle.mx_types.specs.declared.code.Code.{Code}
@@ -18,8 +18,8 @@ use Rattle.mx_journal.specs.History.{Message}
 use Rattle.mx_journal.specs.declared.row.Row.{Row}
 use Rattle.mx_journal.specs.declared.row.Phase.{Phase}
 use Rattle.mx_journal.specs.declared.row.Phase.TheVariants as phase
-use Rattle.mx_journal.specs.History.{same_ticket, same_handle, occurs, addition_of, message_of, removes, reads, ends, added, waiting, running, paused, additions, has_ticket, has_handle, last_is_pause, end_of, phase_by, phase_of, due, may_follow, is_legal, is_legal_after, has_room, HasRoomForDue, is_maker, same_maker, made_by}
-use Rattle.mx_journal.specs.Answers.{ticket_of, handle_of}
+use Rattle.mx_journal.specs.History.{same_ticket, same_handle, occurs, wakes, addition_of, message_of, removes, reads, ends, added, waiting, running, paused, additions, has_ticket, has_handle, last_is_pause, end_of, phase_by, phase_of, due, may_follow, is_legal, is_legal_after, has_room, HasRoomForDue, is_maker, same_maker, made_by}
+use Rattle.mx_journal.specs.Answers.{ticket_of, handle_of, is_ready}
 use Rattle.mx_journal.specs.Rows.{phase_after, ended_phase, read_phase, is_open, is_paused, turned, slots_in, rows_after, waits_after, table_from, table_of, places_of, places}
 use Rattle.mx_journal.specs.Slots.{lowest_free}
 use Rattle.mx_journal.specs.Table.{TableView, IsTableOf, IsRow, count_of}
@@ -337,17 +337,48 @@ waits-then j w (what.Paused t) = waits_left j w (what.Paused t) refl
 waits-then j w (what.Resumed t) = waits_left j w (what.Resumed t) refl
 waits-then j w what.Wake = waits_left j w what.Wake refl
 
+-- where a poll may return after one more event
+ready_past : (mark : ℕ) (j : List Event) → length j ≤ mark → is_ready mark j ≡ false
+ready_past zero [] le = refl
+ready_past (suc n) [] le = refl
+ready_past zero (e ∷ j) le = absurd (omega arith)
+ready_past (suc n) (e ∷ j) le = ready_past n j (omega arith)
+
+ready_woken : (mark : ℕ) (j : List Event) (e : Event) → mark ≤ length j → wakes e.what ≡ true → is_ready mark (j ++ e ∷ []) ≡ true
+ready_woken zero [] e le is = ap (λ b. b || false) is
+ready_woken (suc n) [] e le is = absurd (omega arith)
+ready_woken zero (x ∷ j) e le is = or_right _ _ (ready_woken zero j e (omega arith) is)
+ready_woken (suc n) (x ∷ j) e le is = ready_woken n j e (omega arith) is
+
+ready_quiet : (mark : ℕ) (j : List Event) (e : Event) → wakes e.what ≡ false → is_ready mark (j ++ e ∷ []) ≡ is_ready mark j
+ready_quiet zero [] e is = ap (λ b. b || false) is
+ready_quiet (suc n) [] e is = ready_past n [] (omega arith)
+ready_quiet zero (x ∷ j) e is = ap (λ b. wakes x.what || b) (ready_quiet zero j e is)
+ready_quiet (suc n) (x ∷ j) e is = ready_quiet n j e is
+
+woke-then : (j : List Event) (e : Event) (woken : ℕ) → ((mark : ℕ) → nat_lt mark woken ≡ is_ready mark j)
+    → (mark : ℕ) → nat_lt mark (cond (wakes e.what) (length j + 1) woken) ≡ is_ready mark (j ++ e ∷ [])
+woke-then j e woken k mark = go (wakes e.what) refl
+  where
+    later : wakes e.what ≡ true → (b : Bool) → nat_lt mark (length j + 1) ≡ b → b ≡ is_ready mark (j ++ e ∷ [])
+    later is true b = let lt = ltb-true mark (length j + 1) b in sym (ready_woken mark j e (omega arith) is)
+    later is false b = let le = ltb-false mark (length j + 1) b in sym (ready_past mark (j ++ e ∷ []) (omega (arith, length-append j (e ∷ []))))
+    go : (b : Bool) → wakes e.what ≡ b → nat_lt mark (cond b (length j + 1) woken) ≡ is_ready mark (j ++ e ∷ [])
+    go true is = later is (nat_lt mark (length j + 1)) refl
+    go false is = k mark ∙ sym (ready_quiet mark j e is)
+
 -- the table of one more event
 pub table-of-then : (j : List Event) (w : Who) (e : What) (t u : TableView) → IsTableOf j t → may_follow j e ≡ true
-    → u.rows ≡ rows_after t.rows e → u.waiting ≡ waits_after t.waiting e → u.added ≡ t.added + cond (is_some (addition_of e)) 1 0 → u.events ≡ t.events + 1
+    → u.rows ≡ rows_after t.rows e → u.waiting ≡ waits_after t.waiting e → u.added ≡ t.added + cond (is_some (addition_of e)) 1 0 → u.events ≡ t.events + 1 → u.woken ≡ cond (wakes e) (t.events + 1) t.woken
     → ((v : Who) → is_maker v ≡ true → count_of v u.makers ≡ count_of v t.makers + cond (same_maker w v) 1 0)
     → IsTableOf (then j w e) u
-table-of-then j w e t u x m rows waits adds events made = record {
+table-of-then j w e t u x m rows waits adds events woken made = record {
   legal = legal-then j w e x.legal m;
   rowed = rows ∙ ap (λ r. rows_after r e) x.rowed ∙ sym (table-then j w e);
   waits = waits ∙ ap (λ ts. waits_after ts e) x.waits ∙ waits-then j w e;
   numbered = adds ∙ ap (λ n. n + cond (is_some (addition_of e)) 1 0) x.numbered ∙ sym (additions-then j w e);
   counted = events ∙ ap (λ n. n + 1) x.counted ∙ sym (length-append j (record { who = w; what = e } ∷ []));
+  woke = λ mark. ap (nat_lt mark) (woken ∙ ap (λ n. cond (wakes e) (n + 1) t.woken) x.counted) ∙ woke-then j (record { who = w; what = e }) t.woken x.woke mark;
   made = λ v h. made v h ∙ ap (λ n. n + cond (same_maker w v) 1 0) (x.made v h) ∙ sym (made-then v j w e);
 }
 

@@ -1,9 +1,11 @@
 -- The rows have the slots of the events.
-use Rattle.std.proofs.Common.{◌≡◌, ℕ, ◌+◌, ◌∙◌, sym, refl, ap, List, [], ◌∷◌, Bool, true, false, cond, map}
-use Rattle.std.specs.Prelude.{suc, not, ◌||◌, ◌==◌, Option, Some, None}
+use Rattle.std.proofs.Common.{◌≡◌, ℕ, ◌+◌, ◌<◌, ◌∙◌, sym, refl, ap, arith, length, take, get_or, List, [], ◌∷◌, Bool, true, false, cond, map}
+use Rattle.std.specs.Prelude.{suc, not, ◌||◌, ◌==◌, slice_index_or, slice_set, Option, Some, None}
 use Rattle.std.specs.List.{filter, list_any, find}
 use Rattle.std.specs.Option.{option_map, unwrap_or}
-use Rattle.std.proofs.lemmas.List.{map-append}
+use Rattle.std.proofs.lemmas.Bool.{eqb-true, eq-eqb, false≢true}
+use Rattle.std.proofs.lemmas.List.{map-append, take_more, get_or-set_same, get_or-set_other}
+use Rattle.std.proofs.lemmas.List.Folds.{list_any-append}
 use Rattle.mx_types.specs.declared.names.Ticket.{Ticket}
 use Rattle.mx_types.specs.declared.event.What.{What}
 use Rattle.mx_types.specs.declared.event.What.TheVariants as what
@@ -11,7 +13,7 @@ use Rattle.mx_types.specs.declared.event.Event.{Event}
 use Rattle.mx_journal.specs.declared.row.Row.{Row}
 use Rattle.mx_journal.specs.History.{same_ticket}
 use Rattle.mx_journal.specs.Slots.{has_slot, free_from, lowest_free, slots_after, slots_from, slots, slot_of}
-use Rattle.mx_journal.specs.Rows.{slots_in, turned, rows_after, table_from, table_of}
+use Rattle.mx_journal.specs.Rows.{Marks, slots_in, turned, rows_after, table_from, table_of}
 use Rattle.mx_journal.proofs.Tables.{find-map, option_map_map, map_map}
 
 abbrev slot_in : Row → Ticket × ℕ
@@ -78,3 +80,29 @@ free_from-last s = last_by (has_slot 255 s)
 pub lowest_free-is : (s : List (Ticket × ℕ)) → unwrap_or (free_from 0 256 s) 255 ≡ lowest_free s
 unfolding lowest_free
 lowest_free-is s = refl
+
+marked : (a : Bool) → (a || (true || false)) ≡ true
+marked true = refl
+marked false = refl
+
+unmarked : (a : Bool) → (a || (false || false)) ≡ a
+unmarked true = refl
+unmarked false = refl
+
+-- the marks of some rows with one row more
+pub marks_next : (rows : List Row) (i : ℕ) (d : Row) (marks : List Bool) → i < length rows → length marks ≡ 256 → (get_or rows i d).slot < 256 → Marks marks (take i rows)
+    → Marks (slice_set marks (get_or rows i d).slot true) (take (i + 1) rows)
+marks_next rows i d marks lt len few m n small =
+    let r : Row = get_or rows i d in
+    let more : has_slot n (slots_in (take (i + 1) rows)) ≡ (has_slot n (slots_in (take i rows)) || ((r.slot == n) || false)) =
+    ap (λ x. has_slot n (slots_in x)) (take_more rows i d lt) ∙ ap (has_slot n) (map-append slot_in (take i rows) (r ∷ [])) ∙ list_any-append (λ (s : Ticket × ℕ). s.1 == n) (slots_in (take i rows)) (slot_in r ∷ []) in
+    go r.slot (r.slot == n) refl few ∙ sym more
+  where
+    go : (k : ℕ) (b : Bool) → (k == n) ≡ b → k < 256 → get_or (slice_set marks k true) n false ≡ (has_slot n (slots_in (take i rows)) || ((k == n) || false))
+    go k true is below =
+        let same : k ≡ n = eqb-true k n is in
+        ap (λ x. get_or (slice_set marks k true) x false) (sym same) ∙ get_or-set_same marks k true false (omega (arith, len, below))
+        ∙ sym (ap (λ b. has_slot n (slots_in (take i rows)) || (b || false)) is ∙ marked (has_slot n (slots_in (take i rows))))
+    go k false is below =
+        get_or-set_other marks k n true false (λ e. false≢true (sym is ∙ eq-eqb k n (sym e))) ∙ m n small
+        ∙ sym (ap (λ b. has_slot n (slots_in (take i rows)) || (b || false)) is ∙ unmarked (has_slot n (slots_in (take i rows))))

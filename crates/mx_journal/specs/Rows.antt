@@ -1,5 +1,5 @@
 -- The rows of the table, one for each addition, in order, and its waiting tickets, kept event by event.
-use Rattle.std.specs.Prelude.{ℕ, Bool, true, false, not, if◌then◌else◌, ◌||◌, List, [], ◌∷◌, ◌++◌, map}
+use Rattle.std.specs.Prelude.{ℕ, ◌<◌, ◌≡◌, slice_index_or, Bool, true, false, not, if◌then◌else◌, ◌||◌, List, [], ◌∷◌, ◌++◌, map}
 use Rattle.std.specs.List.{filter, sum_by}
 use Rattle.mx_types.specs.declared.names.Ticket.{Ticket}
 use Rattle.mx_types.specs.declared.event.What.{What}
@@ -9,7 +9,7 @@ use Rattle.mx_journal.specs.declared.row.Row.{Row}
 use Rattle.mx_journal.specs.declared.row.Phase.{Phase}
 use Rattle.mx_journal.specs.declared.row.Phase.TheVariants as phase
 use Rattle.mx_journal.specs.History.{same_ticket, reads, removes}
-use Rattle.mx_journal.specs.Slots.{lowest_free}
+use Rattle.mx_journal.specs.Slots.{has_slot, lowest_free}
 
 abbrev pub is_open : Phase → Bool
 is_open phase.Running = true
@@ -53,6 +53,10 @@ phase_after t _ p = p
 -- the tickets of the rows with their slots
 abbrev pub slots_in : List Row → List (Ticket × ℕ)
 slots_in rows = map (λ r. (r.ticket, r.slot)) rows
+
+-- the marks say which of the slots 0 to 255 the rows have
+abbrev pub Marks : List Bool → List Row → Type 0
+Marks marks rows = (n : ℕ) → n < 256 → slice_index_or marks n false ≡ has_slot n (slots_in rows)
 
 -- the row after an event that adds and removes nothing
 abbrev pub turned : What → Row → Row

@@ -8,7 +8,8 @@ use Rattle.mx_types.specs.declared.event.Who.{Who}
 use Rattle.mx_types.specs.declared.event.Who.TheVariants as maker
 use Rattle.mx_types.specs.declared.event.Event.{Event}
 use Rattle.mx_journal.specs.declared.row.Row.{Row}
-use Rattle.mx_journal.specs.History.{addition_of, is_maker, is_legal, additions, made_by, waiting, running, paused, has_ticket, phase_of}
+use Rattle.mx_journal.specs.History.{addition_of, is_maker, is_legal, additions, made_by, waiting, running, paused, has_ticket, phase_of, wakes}
+use Rattle.mx_journal.specs.Answers.{is_ready}
 use Rattle.mx_journal.specs.Rows.{rows_after, waits_after, table_of, is_open, is_paused}
 
 -- how many events each seat and each worker made
@@ -16,12 +17,14 @@ pub record Counts : Type 0 where
   pub seats : List ℕ
   pub workers : List ℕ
 
--- the rows of the added handles, the tickets whose message waits, how many additions and events there were, and who made how many
+-- the rows of the added handles, the tickets whose message waits, how many additions and events there were, how many
+-- events there were after the last Wake or Done, and who made how many
 pub record TableView : Type 0 where
   pub rows : List Row
   pub waiting : List Ticket
   pub added : ℕ
   pub events : ℕ
+  pub woken : ℕ
   pub makers : Counts
 
 abbrev pub count_of : Who → Counts → ℕ
@@ -35,6 +38,7 @@ pub record IsTableOf (j : List Event) (t : TableView) : Type 0 where
   pub waits : t.waiting ≡ map (λ m. m.ticket) (waiting j)
   pub numbered : t.added ≡ additions j
   pub counted : t.events ≡ length j
+  pub woke : (mark : ℕ) → nat_lt mark t.woken ≡ is_ready mark j
   pub made : (w : Who) → is_maker w ≡ true → count_of w t.makers ≡ made_by w j
 
 -- the row says how far its addition is
@@ -59,7 +63,7 @@ no_counts = record { seats = zeros; workers = zeros }
 
 -- the table of no events
 abbrev pub empty_table : TableView
-empty_table = record { rows = []; waiting = []; added = 0; events = 0; makers = no_counts }
+empty_table = record { rows = []; waiting = []; added = 0; events = 0; woken = 0; makers = no_counts }
 
 -- there is a count for each seat and each worker
 abbrev pub HasCounters : Counts → Type 0
@@ -82,6 +86,7 @@ table_after t e =
       waiting = waits_after t.waiting e.what;
       added = t.added + (if is_some (addition_of e.what) then 1 else 0);
       events = t.events + 1;
+      woken = (if wakes e.what then t.events + 1 else t.woken);
       makers = counts_after e.who t.makers;
     }
     else t)

@@ -21,6 +21,8 @@ use std::alloc::Global;
 use std::marker::Model;
 use std::snapshot::Snapshot;
 
+/// A multi handle on one thread: which handles are added and how far each is, the work that waits for a worker, and the
+/// endings that wait to be read.
 #[derive(Drop)]
 pub struct Control<Q: Work, O: Ending> {
     table: JournalTable,
@@ -45,7 +47,11 @@ impl<Q: Work, O: Ending> Model for Control<Q, O> {
 }
 
 impl<Q: Work + Drop, O: Ending + Drop> Control<Q, O> {
-    /// An empty control state, with the space for so many events.
+    /// An empty control state, with the space for so many events: from 4, which one addition needs, to 1,048,576.
+    ///
+    /// # Errors
+    ///
+    /// `OutOfMemory` where that space is refused.
     pub fn new(alloc: Global, history: u32) -> Result<Control<Q, O>, OutOfMemory>
         requires { (4 ≤ history) × (history ≤ 1048576) }
         ensures { IfOk result (λ c. c ≡ record { opening = record { history = history }; journal = []; origins = []; queue = []; endings = [] }) }
@@ -68,7 +74,18 @@ impl<Q: Work + Drop, O: Ending + Drop> Control<Q, O> {
         let _ = &self.table;
     }
 
-    /// Adds a handle, and puts its work at the end of the queue.
+    /// Adds a handle under the next ticket, and puts its work at the end of the queue (curl_multi_add_handle(3)). A handle
+    /// that is done stays added until it is removed.
+    ///
+    /// # Refusals
+    ///
+    /// The first that applies, in this order; each hands the work back and changes nothing, here and in the log:
+    ///
+    /// - `AddedAlready`: the handle is added;
+    /// - `TableFull`: 256 handles are added;
+    /// - `HistoryFull`: beside the events so far and those that are due there is no room for 4 more, the addition and
+    ///   its end, reading and removal;
+    /// - `OutOfMemory`: the log refused the event.
     pub fn add<L: Log>(&mut self, log: &mut L, who: Who, handle: HandleId, work: Q) -> AddReply<Q>
         requires { is_maker who ≡ true }
         ensures answers { Answers self.old.opening who (Call.Add handle) self.old.journal (reply_of_add result) self.new.journal }
@@ -106,8 +123,16 @@ impl<Q: Work + Drop, O: Ending + Drop> Control<Q, O> {
         AddReply::Added(ticket)
     }
 
-    /// Removes a handle. Its queued work and its unread ending are dropped: what still runs stays in the queue, and the
-    /// endings whose messages still wait stay.
+    /// Removes a handle, whether it runs or is done (curl_multi_remove_handle(3)). Its queued work and its unread ending are
+    /// dropped; what still runs stays in the queue, and the endings whose messages still wait stay. It always finds
+    /// room.
+    ///
+    /// # Refusals
+    ///
+    /// The first that applies, in this order; each changes nothing, here and in the log:
+    ///
+    /// - `NotAdded`: the handle isn't added, which is no fault;
+    /// - `OutOfMemory`: the log refused the event.
     pub fn remove<L: Log>(&mut self, log: &mut L, who: Who, handle: HandleId) -> RemoveReply
         requires { is_maker who ≡ true }
         ensures answers { Answers self.old.opening who (Call.Remove handle) self.old.journal (reply_of_remove result) self.new.journal }
@@ -137,7 +162,17 @@ impl<Q: Work + Drop, O: Ending + Drop> Control<Q, O> {
         RemoveReply::Removed
     }
 
-    /// Pauses a handle.
+    /// Pauses a handle's transfer (curl_easy_pause(3)). Queued work stays in its place.
+    ///
+    /// # Refusals
+    ///
+    /// The first that applies, in this order; each changes nothing, here and in the log:
+    ///
+    /// - `NotAdded`: the handle isn't added;
+    /// - `NotRunning`: its transfer ended;
+    /// - `NoChange`: it is paused, which is no fault;
+    /// - `HistoryFull`: there is no room for an event beside those so far and those that are due;
+    /// - `OutOfMemory`: the log refused the event.
     pub fn pause<L: Log>(&mut self, log: &mut L, who: Who, handle: HandleId) -> PauseReply
         requires { is_maker who ≡ true }
         ensures answers { Answers self.old.opening who (Call.Pause handle) self.old.journal (reply_of_pause result) self.new.journal }
@@ -168,7 +203,17 @@ impl<Q: Work + Drop, O: Ending + Drop> Control<Q, O> {
         )
     }
 
-    /// Resumes a handle.
+    /// Resumes a handle's transfer (curl_easy_pause(3)).
+    ///
+    /// # Refusals
+    ///
+    /// The first that applies, in this order; each changes nothing, here and in the log:
+    ///
+    /// - `NotAdded`: the handle isn't added;
+    /// - `NotRunning`: its transfer ended;
+    /// - `NoChange`: it isn't paused, which is no fault;
+    /// - `HistoryFull`: there is no room for an event beside those so far and those that are due;
+    /// - `OutOfMemory`: the log refused the event.
     pub fn unpause<L: Log>(&mut self, log: &mut L, who: Who, handle: HandleId) -> PauseReply
         requires { is_maker who ≡ true }
         ensures answers { Answers self.old.opening who (Call.Unpause handle) self.old.journal (reply_of_pause result) self.new.journal }
@@ -225,7 +270,15 @@ impl<Q: Work + Drop, O: Ending + Drop> Control<Q, O> {
         PauseReply::Changed
     }
 
-    /// Reads the first message.
+    /// Reads the message that has waited longest, takes its ending out, and says how many are left
+    /// (curl_multi_info_read(3)). The handle stays added. It always finds room.
+    ///
+    /// # Refusals
+    ///
+    /// The first that applies, in this order; each changes nothing, here and in the log:
+    ///
+    /// - `Empty`: no message waits, which is no fault;
+    /// - `OutOfMemory`: the log refused the event; the message waits on.
     pub fn info_read<L: Log>(&mut self, log: &mut L, who: Who) -> InfoReply<O>
         requires { is_maker who ≡ true }
         ensures answers { Answers self.old.opening who Call.InfoRead self.old.journal (reply_of_info O.code_of O.size_of result) self.new.journal }
@@ -264,7 +317,14 @@ impl<Q: Work + Drop, O: Ending + Drop> Control<Q, O> {
         }
     }
 
-    /// Wakes those that poll.
+    /// Lets polls that wait return (curl_multi_wakeup(3)).
+    ///
+    /// # Refusals
+    ///
+    /// The first that applies, in this order; each changes nothing, here and in the log:
+    ///
+    /// - `Failure`: there is no room for an event beside those so far and those that are due;
+    /// - `OutOfMemory`: the log refused the event.
     pub fn wakeup<L: Log>(&mut self, log: &mut L, who: Who) -> WakeupReply
         requires { is_maker who ≡ true }
         ensures answers { Answers self.old.opening who Call.Wakeup self.old.journal (reply_of_wakeup result) self.new.journal }
@@ -291,8 +351,15 @@ impl<Q: Work + Drop, O: Ending + Drop> Control<Q, O> {
         WakeupReply::Ok
     }
 
-    /// Records the end of a claimed transfer. What still runs stays in the queue; the ending comes last. A Stale ending
-    /// and one whose event finds no memory are handed back, and nothing changes.
+    /// Records the end of a claimed transfer: its message waits behind those that wait (curl_multi_info_read(3)). The claim
+    /// is spent. It always finds room.
+    ///
+    /// # Refusals
+    ///
+    /// The first that applies, in this order; each changes nothing, here and in the log:
+    ///
+    /// - `Stale`: the claimed addition was removed, or has ended; the ending is handed back, and the claim is spent;
+    /// - `OutOfMemory`: the log refused the event; claim and ending are handed back.
     pub fn finish<L: Log>(
         &mut self,
         log: &mut L,
@@ -333,7 +400,7 @@ impl<Q: Work + Drop, O: Ending + Drop> Control<Q, O> {
     }
 
     /// Takes the work of the lowest ticket in the queue, paused or not; the ticket is then claimed. None where the
-    /// queue is empty.
+    /// queue is empty. It makes no event.
     pub fn claim(&mut self) -> Option<(Claim<Q>, Q)>
         ensures opening { self.new.opening ≡ self.old.opening }
         ensures origins { self.new.origins ≡ self.old.origins }

@@ -8,7 +8,6 @@ ghost use Rattle.mx_journal.specs.Table.{IsRow};
 ghost use Rattle.mx_journal.specs.JournalTable.{needs};
 
 use crate::row::Row;
-use crate::rows;
 use crate::table::Table;
 use mx_types::{AddedHandles, Event, HandleId, Look, OutOfMemory, State, Ticket, Who};
 use std::alloc::Global;
@@ -148,10 +147,7 @@ impl JournalTable {
     pub fn is_ready(&self, since: u32) -> bool
         ensures { result ≡ is_ready since self.now.journal }
     {
-        self.journal
-            .iter()
-            .skip(since as usize)
-            .any(|event| rows::wakes(&event.what))
+        self.table.is_ready(since)
     }
 
     /// Writes an event that may follow.

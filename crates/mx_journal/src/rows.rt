@@ -4,7 +4,7 @@ ghost use Rattle.std.specs.List.{find, filter, list_any, sum_by};
 ghost use Rattle.mx_journal.specs.History.{same_handle, same_ticket, wakes, addition_of};
 ghost use Rattle.mx_journal.specs.Answers.{state_at};
 ghost use Rattle.mx_journal.specs.Slots.{lowest_free};
-ghost use Rattle.mx_journal.specs.Rows.{is_paused, ended_phase, is_open, places_of, places, phase_after, turned, rows_after, slots_in};
+ghost use Rattle.mx_journal.specs.Rows.{is_paused, ended_phase, is_open, places_of, places, phase_after, turned, rows_after, slots_in, Marks};
 ghost use Rattle.mx_types.specs.declared.names.HandleId.{HandleId};
 ghost use Rattle.mx_types.specs.declared.names.Ticket.{Ticket};
 ghost use Rattle.std.specs.Option.{is_some};
@@ -25,13 +25,6 @@ pub fn row_of_ticket(rows: &[Row], ticket: Ticket) -> Option<Row>
     ensures { result ≡ find (λ r. same_ticket ticket r.ticket) rows.now }
 {
     rows.iter().copied().find(|r| ticket == r.ticket)
-}
-
-/// Whether a row has the slot.
-fn has_slot(rows: &[Row], slot: u8) -> bool
-    ensures { result ≡ list_any (λ r. r.slot == slot) rows.now }
-{
-    rows.iter().any(|r| r.slot == slot)
 }
 
 impl Phase {
@@ -161,12 +154,24 @@ pub fn places(rows: &[Row]) -> u32
     rows.iter().map(|r| r.phase.places()).sum()
 }
 
-/// The lowest slot that no row has.
+// Which of the slots 0 to 255 the rows have.
+fn taken_slots(rows: &[Row]) -> [bool; 256]
+    ensures { Marks result rows.now }
+{
+    let mut taken = [false; 256];
+    for row in rows {
+        taken[row.slot as usize] = true;
+    }
+    taken
+}
+
+/// The lowest slot that no row has; 255 where each is taken.
 pub fn free_slot(rows: &[Row]) -> u8
     ensures { result ≡ lowest_free (slots_in rows.now) }
 {
+    let taken = taken_slots(rows);
     let mut slot: u8 = 0;
-    while slot < 255 && has_slot(rows, slot) {
+    while slot < 255 && taken[slot as usize] {
         slot += 1;
     }
     slot
@@ -198,6 +203,7 @@ pub fn enter(rows: &mut Vec<Row>, what: &What)
             });
         }
         What::Removed(_, ticket) => rows.retain(|r| r.ticket != *ticket),
+        What::Wake => {}
         _ => turn(rows, what),
     }
 }

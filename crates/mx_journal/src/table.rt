@@ -3,7 +3,7 @@ ghost use Rattle.std.specs.Prelude.{◌≡◌, ◌++◌, ◌∷◌, [], List, le
 ghost use Rattle.std.specs.Option.{option_map};
 ghost use Rattle.mx_types.specs.declared.event.Event.{Event};
 ghost use Rattle.mx_journal.specs.History.{added, waiting, running, due, has_ticket, may_follow, is_maker, made_by};
-ghost use Rattle.mx_journal.specs.Answers.{ticket_of, handle_of, next_ticket, state_of, look_of};
+ghost use Rattle.mx_journal.specs.Answers.{ticket_of, handle_of, next_ticket, is_ready, state_of, look_of};
 ghost use Rattle.mx_journal.specs.Slots.{slot_of};
 ghost use Rattle.mx_journal.specs.Table.{IsTableOf, IsRow, empty_table, has_space_for, has_space, table_after};
 
@@ -23,6 +23,7 @@ pub struct Table {
     waiting: Vec<Ticket>,
     added: u32,
     events: u32,
+    woken: u32,
     makers: MakerCounts,
 }
 
@@ -32,7 +33,7 @@ impl Model for Table {
 
     ghost Value = { TableView };
 
-    ghost view = { λ t. record { rows = t.rows.items; waiting = t.waiting.items; added = t.added; events = t.events; makers = t.makers } };
+    ghost view = { λ t. record { rows = t.rows.items; waiting = t.waiting.items; added = t.added; events = t.events; woken = t.woken; makers = t.makers } };
 
     ghost invariant = { λ t. (length t.rows.items ≤ 256) × (256 ≤ vec_capacity t.rows) × (256 ≤ vec_capacity t.waiting) };
 }
@@ -48,6 +49,7 @@ impl Table {
             waiting: Vec::with_capacity(alloc, 256)?,
             added: 0,
             events: 0,
+            woken: 0,
             makers: MakerCounts::new(),
         })
     }
@@ -143,6 +145,13 @@ impl Table {
         self.events
     }
 
+    /// Whether a Wake or a Done stands at or after the mark, so that a poll with it may return.
+    pub fn is_ready(&self, mark: u32) -> bool
+        ensures { (j : List Event) → IsTableOf j self.now → result ≡ is_ready mark j }
+    {
+        mark < self.woken
+    }
+
     /// How many events the maker made.
     pub fn made(&self, who: Who) -> u32
         requires { is_maker who ≡ true }
@@ -183,6 +192,9 @@ impl Table {
             return;
         }
         self.events += 1;
+        if rows::wakes(&event.what) {
+            self.woken = self.events;
+        }
         self.added += rows::additions_by(&event.what);
         self.makers.count(event.who);
         rows::enter(&mut self.rows, &event.what);

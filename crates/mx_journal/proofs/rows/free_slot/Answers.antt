@@ -1,9 +1,9 @@
-use Rattle.std.proofs.Common.{◌≡◌, ◌+◌, ◌-◌, ◌∙◌, arith, sym, ap}
+use Rattle.std.proofs.Common.{◌≡◌, ◌+◌, ◌-◌, ◌∙◌, arith, sym, ap, rules, true, false}
 use Rattle.std.specs.Prelude.{suc}
 use Rattle.std.specs.Option.{unwrap_or}
-use Rattle.mx_journal.specs.Slots.{free_from}
+use Rattle.mx_journal.specs.Slots.{free_from, has_slot}
 use Rattle.mx_journal.specs.Rows.{slots_in}
-use Rattle.mx_journal.proofs.SlotLists.{free_from-taken, free_from-free, free_from-last, has_slot-rows, lowest_free-is}
+use Rattle.mx_journal.proofs.SlotLists.{free_from-taken, free_from-free, free_from-last, lowest_free-is}
 use Rattle.mx_journal.proofs.rows.free_slot.Goals as goal
 
 pub loop-slot-init : goal.loop-slot-init
@@ -14,19 +14,21 @@ loop-slot-preserved c =
     let n = c.loop-slot.slot in
     let s = slots_in c.args.rows.now in
     let below = c.loop-slot.invariant.within in
+    let taken : has_slot n s ≡ true = sym (c.taken_slots-taken.ensures n (omega (arith, below))) ∙ c.if-taken-slot.true in
     let e : 256 - n ≡ suc (256 - (n + 1)) = omega arith in
     record {
-      same = ap (λ o. unwrap_or o 255) (sym (free_from-taken n (256 - (n + 1)) s (sym (c.has_slot.ensures ∙ has_slot-rows n c.args.rows.now) ∙ c.if-has_slot.true)) ∙ ap (λ k. free_from n k s) (sym e)) ∙ c.loop-slot.invariant.same;
+      same = ap (λ o. unwrap_or o 255) (sym (free_from-taken n (256 - (n + 1)) s taken) ∙ ap (λ k. free_from n k s) (sym e)) ∙ c.loop-slot.invariant.same;
       within = omega arith;
     }
 
-pub returns-else-has_slot : goal.returns-else-has_slot
-returns-else-has_slot c =
+pub returns-else-taken-slot : goal.returns-else-taken-slot
+returns-else-taken-slot c =
     let n = c.loop-slot.slot in
     let s = slots_in c.args.rows.now in
     let below = c.loop-slot.invariant.within in
+    let free : has_slot n s ≡ false = sym (c.taken_slots-taken.ensures n (omega (arith, below))) ∙ c.if-taken-slot.false in
     let e : 256 - n ≡ suc (256 - (n + 1)) = omega arith in
-    ap (λ o. unwrap_or o 255) (sym (free_from-free n (256 - (n + 1)) s (sym (c.has_slot.ensures ∙ has_slot-rows n c.args.rows.now) ∙ c.if-has_slot.false)) ∙ ap (λ k. free_from n k s) (sym e)) ∙ c.loop-slot.invariant.same
+    ap (λ o. unwrap_or o 255) (sym (free_from-free n (256 - (n + 1)) s free) ∙ ap (λ k. free_from n k s) (sym e)) ∙ c.loop-slot.invariant.same
 
 pub returns-after-loop-slot : goal.returns-after-loop-slot
 returns-after-loop-slot c =
