@@ -11,7 +11,7 @@ use Rattle.mx_types.specs.declared.event.What.{What}
 use Rattle.mx_types.specs.declared.event.What.TheVariants as what
 use Rattle.mx_types.specs.declared.event.Event.{Event}
 use Rattle.mx_journal.specs.declared.row.Row.{Row}
-use Rattle.mx_journal.specs.History.{addition_of, same_ticket, is_maker, same_maker, may_follow, has_room}
+use Rattle.mx_journal.specs.History.{wakes, addition_of, same_ticket, is_maker, same_maker, may_follow, has_room}
 use Rattle.mx_journal.specs.Rows.{rows_after, waits_after, turned}
 use Rattle.mx_journal.specs.Table.{Counts, TableView, count_of, IsTableOf, HasCounters, count_one, counts_after, has_space_for, has_space, table_after}
 use Rattle.mx_journal.specs.JournalTable.{needs, IsJournalTable}

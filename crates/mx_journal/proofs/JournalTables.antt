@@ -363,6 +363,7 @@ woke-then j e woken k mark = go (wakes e.what) refl
     later : wakes e.what ≡ true → (b : Bool) → nat_lt mark (length j + 1) ≡ b → b ≡ is_ready mark (j ++ e ∷ [])
     later is true b = let lt = ltb-true mark (length j + 1) b in sym (ready_woken mark j e (omega arith) is)
     later is false b = let le = ltb-false mark (length j + 1) b in sym (ready_past mark (j ++ e ∷ []) (omega (arith, length-append j (e ∷ []))))
+
     go : (b : Bool) → wakes e.what ≡ b → nat_lt mark (cond b (length j + 1) woken) ≡ is_ready mark (j ++ e ∷ [])
     go true is = later is (nat_lt mark (length j + 1)) refl
     go false is = k mark ∙ sym (ready_quiet mark j e is)

@@ -116,6 +116,13 @@ pub fn wakes(what: &What) -> bool
     matches!(what, What::Wake | What::Done(..))
 }
 
+/// How many events there were after the last Wake or Done, with the event, which makes them `events`.
+pub fn woken_after(what: &What, woken: u32, events: u32) -> u32
+    ensures { result ≡ (if wakes what.now then events else woken) }
+{
+    if wakes(what) { events } else { woken }
+}
+
 /// How many additions the event makes, 1 or 0.
 pub fn additions_by(what: &What) -> u32
     ensures value { result ≡ (if is_some (addition_of what.now) then 1 else 0) }

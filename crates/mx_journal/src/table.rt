@@ -192,9 +192,7 @@ impl Table {
             return;
         }
         self.events += 1;
-        if rows::wakes(&event.what) {
-            self.woken = self.events;
-        }
+        self.woken = rows::woken_after(&event.what, self.woken, self.events);
         self.added += rows::additions_by(&event.what);
         self.makers.count(event.who);
         rows::enter(&mut self.rows, &event.what);
