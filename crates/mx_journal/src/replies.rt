@@ -1,7 +1,9 @@
 //! What the calls of a control state answer, with what they hand back.
+ghost use Rattle.std.specs.Prelude.{◌≡◌};
+ghost use Rattle.mx_journal.specs.Replies.{reply_of_add, reply_of_finish, reply_of_info, reply_of_pause, reply_of_remove, reply_of_wakeup};
 
 use crate::claim::Claim;
-use mx_types::{HandleId, Ticket, Work};
+use mx_types::{Ending, HandleId, Reply, Ticket, Work};
 
 /// A refusal hands the work back.
 #[derive(Drop)]
@@ -56,4 +58,98 @@ pub enum FinishReply<Q: Work, O> {
     Recorded,
     Stale(O),
     OutOfMemory(Claim<Q>, O),
+}
+
+impl<Q> AddReply<Q> {
+    /// The reply, without what it hands back.
+    pub fn reply(&self) -> Reply
+        ensures { result ≡ reply_of_add self.now }
+    {
+        match self {
+            AddReply::Added(ticket) => Reply::Added(*ticket),
+            AddReply::AddedAlready(_) => Reply::AddedAlready,
+            AddReply::TableFull(_) => Reply::TableFull,
+            AddReply::HistoryFull(_) => Reply::HistoryFull,
+            AddReply::OutOfMemory(_) => Reply::OutOfMemory,
+        }
+    }
+}
+
+impl RemoveReply {
+    /// The reply.
+    pub fn reply(self) -> Reply
+        ensures { result ≡ reply_of_remove self }
+    {
+        match self {
+            RemoveReply::Removed => Reply::Removed,
+            RemoveReply::NotAdded => Reply::RemoveNotAdded,
+            RemoveReply::OutOfMemory => Reply::OutOfMemory,
+        }
+    }
+}
+
+impl PauseReply {
+    /// The reply.
+    pub fn reply(self) -> Reply
+        ensures { result ≡ reply_of_pause self }
+    {
+        match self {
+            PauseReply::Changed => Reply::Changed,
+            PauseReply::NotAdded => Reply::NotAdded,
+            PauseReply::NotRunning => Reply::NotRunning,
+            PauseReply::NoChange => Reply::NoChange,
+            PauseReply::HistoryFull => Reply::HistoryFull,
+            PauseReply::OutOfMemory => Reply::OutOfMemory,
+        }
+    }
+}
+
+impl<O: Ending> InfoReply<O> {
+    /// The reply: of a message, what its ending says of itself.
+    pub fn reply(&self) -> Reply
+        ensures { result ≡ reply_of_info O.code_of O.size_of self.now }
+    {
+        match self {
+            InfoReply::Message {
+                handle,
+                ticket,
+                ending,
+                left,
+            } => Reply::Message {
+                handle: *handle,
+                ticket: *ticket,
+                code: ending.code(),
+                size: ending.size(),
+                left: *left,
+            },
+            InfoReply::Empty => Reply::Empty,
+            InfoReply::OutOfMemory => Reply::OutOfMemory,
+        }
+    }
+}
+
+impl WakeupReply {
+    /// The reply.
+    pub fn reply(self) -> Reply
+        ensures { result ≡ reply_of_wakeup self }
+    {
+        match self {
+            WakeupReply::Ok => Reply::Ok,
+            WakeupReply::Failure => Reply::Failure,
+            WakeupReply::OutOfMemory => Reply::OutOfMemory,
+        }
+    }
+}
+
+impl<Q: Work, O> FinishReply<Q, O> {
+    /// The reply, without what it hands back.
+    pub fn reply(&self) -> Reply
+        ensures { result ≡ reply_of_finish self.now }
+    {
+        match self {
+            FinishReply::Recorded => Reply::Recorded,
+            FinishReply::Stale(_) => Reply::Stale,
+            FinishReply::OutOfMemory(_, _) => Reply::OutOfMemory,
+        }
+    }
 }
