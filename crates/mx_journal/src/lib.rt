@@ -13,8 +13,6 @@ mod replies;
 mod row;
 mod rows;
 mod table;
-#[cfg(test)]
-mod tests;
 mod waits;
 
 pub use crate::claim::Claim;

@@ -1,12 +1,11 @@
 //! Want of memory: a log that refuses one append, over a script of all calls; beside it, what the plain programs of
-//! `definitions` read off that log.
+//! `mx_journal::definitions` read off that log.
 ghost use Rattle.std.specs.Prelude.{◌≡◌, ◌≤◌, [], List, ℕ};
 
-use crate::claim::Claim;
-use crate::control::Control;
-use crate::definitions;
-use crate::log::{Log, VecLog};
-use crate::replies::{AddReply, FinishReply, InfoReply, PauseReply, RemoveReply, WakeupReply};
+use mx_journal::{
+    AddReply, Claim, Control, FinishReply, InfoReply, Log, PauseReply, RemoveReply, VecLog,
+    WakeupReply, definitions,
+};
 use mx_types::{Code, Ending, Event, HandleId, OutOfMemory, State, Ticket, What, Who, Work};
 use std::alloc::Global;
 use std::process::Abort;

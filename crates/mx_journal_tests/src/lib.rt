@@ -1,0 +1,5 @@
+//! The control core, by its public calls. There is nothing in this crate but tests.
+#![tactic(auto)]
+
+#[cfg(test)]
+mod tests;
