@@ -1,6 +1,7 @@
 #!/bin/sh
 # Time of `mxfetch play` by the length of its script: cycles of add, done, read and remove of one handle, with a
-# history that has room for all of them. The time per line should stay flat. Where a C compiler and libcurl's library
+# history that has room for all of them; cycles of pause, unpause and a poll that would wait; and cycles of an addition
+# and a removal beside other handles that are added. The time per line should stay flat with the length. Where a C compiler and libcurl's library
 # are there (Debian: libcurl4), the same number of cycles of curl_multi_add_handle(3) and
 # curl_multi_remove_handle(3) of an idle handle stands beside it.
 #
@@ -65,4 +66,28 @@ for cycles in 10000 100000 250000; do
     other=$((least / (cycles * 2)))
   fi
   echo "$cycles $lines $play $other"
+done
+
+echo "polls_that_would_wait lines play_ns_per_line"
+for cycles in 10000 80000 250000; do
+  awk -v n="$cycles" 'BEGIN { print "add 7"; for (i = 0; i < n; i++) print "pause 7\nunpause 7\npoll" }' > "$work/script"
+  lines=$((cycles * 3 + 1))
+  least play
+  [ "$(wc -l < "$work/printed")" -eq "$lines" ] || { echo "lines are missing"; exit 1; }
+  [ "$(tail -n 1 "$work/printed")" = "would-wait" ] || { echo "the last poll is wrong"; exit 1; }
+  echo "$cycles $lines $((least / lines))"
+done
+
+echo "handles_beside lines play_ns_per_line"
+for beside in 1 64 128 255; do
+  cycles=100000
+  awk -v n="$cycles" -v k="$beside" 'BEGIN {
+    for (h = 1; h <= k; h++) print "add", h
+    for (i = 0; i < n; i++) print "add 1000\nremove 1000"
+  }' > "$work/script"
+  lines=$((cycles * 2 + beside))
+  least play
+  [ "$(wc -l < "$work/printed")" -eq "$lines" ] || { echo "lines are missing"; exit 1; }
+  [ "$(tail -n 1 "$work/printed")" = "removed" ] || { echo "the last removal is wrong"; exit 1; }
+  echo "$beside $lines $((least / lines))"
 done
