@@ -1,6 +1,6 @@
 -- The rows have the slots of the events.
 use Rattle.std.proofs.Common.{◌≡◌, ℕ, ◌+◌, ◌<◌, ◌∙◌, sym, refl, ap, arith, length, take, get_or, List, [], ◌∷◌, Bool, true, false, cond, map}
-use Rattle.std.specs.Prelude.{suc, not, ◌||◌, ◌==◌, slice_index_or, slice_set, Option, Some, None}
+use Rattle.std.specs.Prelude.{suc, not, ◌||◌, ◌==◌, slice_set, Option, Some, None}
 use Rattle.std.specs.List.{filter, list_any, find}
 use Rattle.std.specs.Option.{option_map, unwrap_or}
 use Rattle.std.proofs.lemmas.Bool.{eqb-true, eq-eqb, false≢true}

@@ -3,6 +3,7 @@ use Rattle.std.proofs.Common.{◌≡◌, ◌∙◌, sym, refl, ap, List, [], ◌
 use Rattle.std.specs.Prelude.{not, ◌&&◌, ◌||◌, Option, Some, None}
 use Rattle.std.specs.List.{filter}
 use Rattle.std.specs.Option.{option_map, option_or, option_to_list}
+use Rattle.std.proofs.Math.Bool.{and_assoc, and-true}
 use Rattle.std.proofs.lemmas.List.Elements.{filter-append}
 use Rattle.std.proofs.lemmas.List.Folds.{list_any-append}
 use Rattle.mx_types.specs.declared.code.Code.{Code}
@@ -70,19 +71,11 @@ last_is_pause-snoc t (x ∷ j) e =
     rw (occurs-snoc (λ y. pauses t y || resumes t y) j e, last_is_pause-snoc t j e)
     (held_more (occurs (λ y. pauses t y || resumes t y) j) (pauses t e.what) (resumes t e.what) (pauses t x.what) (last_is_pause t j))
 
-and_true : (a : Bool) → (a && true) ≡ a
-and_true true = refl
-and_true false = refl
-
-and_assoc : (a b c : Bool) → (a && (b && c)) ≡ ((a && b) && c)
-and_assoc true b c = refl
-and_assoc false b c = refl
-
 pub legal_after-snoc : (f j : List Event) (e : Event) → is_legal_after f (j ++ e ∷ []) ≡ (is_legal_after f j && may_follow (f ++ j) e.what)
-legal_after-snoc f [] e = and_true (may_follow f e.what) ∙ ap (λ g. may_follow g e.what) (sym (append-nil f))
+legal_after-snoc f [] e = and-true (may_follow f e.what) ∙ ap (λ g. may_follow g e.what) (sym (append-nil f))
 legal_after-snoc f (x ∷ j) e =
     rw (legal_after-snoc (f ++ x ∷ []) j e, append_assoc f (x ∷ []) j)
-    (and_assoc (may_follow f x.what) (is_legal_after (f ++ x ∷ []) j) (may_follow (f ++ x ∷ j) e.what))
+    (sym (and_assoc (may_follow f x.what) (is_legal_after (f ++ x ∷ []) j) (may_follow (f ++ x ∷ j) e.what)))
 
 pub legal-snoc : (j : List Event) (e : Event) → is_legal (j ++ e ∷ []) ≡ (is_legal j && may_follow j e.what)
 legal-snoc j e = legal_after-snoc [] j e

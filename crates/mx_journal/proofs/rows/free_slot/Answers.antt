@@ -1,4 +1,4 @@
-use Rattle.std.proofs.Common.{◌≡◌, ◌+◌, ◌-◌, ◌∙◌, arith, sym, ap, rules, true, false}
+use Rattle.std.proofs.Common.{◌≡◌, ◌+◌, ◌-◌, ◌∙◌, arith, sym, ap, true, false}
 use Rattle.std.specs.Prelude.{suc}
 use Rattle.std.specs.Option.{unwrap_or}
 use Rattle.mx_journal.specs.Slots.{free_from, has_slot}

@@ -1,4 +1,4 @@
-use Rattle.std.proofs.Common.{◌≡◌, ◌∙◌, length, arith, rules, refl, false, true}
+use Rattle.std.proofs.Common.{◌∙◌, rules, false, true}
 use Rattle.std.proofs.lemmas.List.{get_or-replicate, length-set, length-replicate}
 use Rattle.mx_journal.proofs.SlotLists.{marks_next}
 use Rattle.mx_journal.proofs.rows.taken_slots.Goals as goal
