@@ -21,7 +21,7 @@ some_bytes h = by_blank (print_blank h.blank) h.minor h.digits (print_reason h.r
     by_blank [] minor digits x y z = omega arith
     by_blank (w ∷ b) minor digits x y z = omega arith
 
-no_final : HasFinalHead [] → ⊥
+pub no_final : HasFinalHead [] → ⊥
 no_final f =
     let h = f.1 in
     omega (arith, some_bytes h, ap length f.3.1.1, length-append (print_heads f.0) (print_response h ++ f.2), length-append (print_response h) f.2)

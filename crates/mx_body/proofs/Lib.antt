@@ -17,3 +17,5 @@ pub mod ChunkedBodyLemmas
 pub mod LawLemmas
 pub mod DecoderLemmas
 pub mod EmptyLemmas
+pub mod ChunkedReaderLemmas
+pub mod ProgressLemmas

@@ -12,3 +12,5 @@ pub mod Laws
 -- Private: what the functions behind these promise one another.
 pub mod ChunkedPlace
 pub mod Steps
+pub mod ChunkedReader
+pub mod Progress

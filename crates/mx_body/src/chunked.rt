@@ -3,6 +3,7 @@
 pub mod laws;
 pub mod parts;
 pub mod place;
+pub(crate) mod reader;
 pub mod scan;
 #[cfg(test)]
 mod tests;

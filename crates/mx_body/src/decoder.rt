@@ -1,7 +1,7 @@
 //! A decoder that is fed the bytes of an exchange in pieces.
 ghost use Rattle.std.specs.Prelude.{◌≡◌, ◌≢◌, ◌++◌, [], true, false, length, IfOk, OnErr, Ok};
 ghost use Rattle.mx_body.specs.Parts.{AreOrdered};
-ghost use Rattle.mx_body.specs.Decision.{HasStatus};
+ghost use Rattle.mx_body.specs.Decision.{HasStatus, BeginsWithParts};
 ghost use Rattle.mx_body.specs.Decoder as spec;
 ghost use Rattle.mx_body.specs.Decoder.{IsExact, HasVerdictCode};
 ghost use Rattle.mx_body.specs.declared.decoder.Stand.TheVariants as stand;
@@ -9,8 +9,8 @@ ghost use Rattle.mx_body.specs.declared.verdict.Verdict.TheVariants as verdict;
 
 use crate::heads::{FinalStep, final_head};
 use crate::part::Part;
+use crate::progress::{Progress, finish, go_on};
 use crate::verdict::Verdict;
-use crate::whole::decode_whole;
 use mx_types::{Code, Method, OutOfMemory};
 use std::alloc::Global;
 use std::marker::Model;
@@ -40,12 +40,14 @@ pub struct Decoder {
     wire: Vec<u8>,
     ended: bool,
     verdict: Verdict,
+    progress: Progress,
 }
 
 impl Model for Decoder {
     ghost use Rattle.std.specs.Prelude.{◌≡◌};
-    ghost use Rattle.mx_body.specs.Decision.{IsVerdict};
+    ghost use Rattle.mx_body.specs.Decision.{IsVerdict, HasStatus};
     ghost use Rattle.mx_body.specs.Decoder.{Decoded};
+    ghost use Rattle.mx_body.specs.Progress.{IsProgressing, status_read};
 
     ghost Value = { Decoded };
 
@@ -56,7 +58,9 @@ impl Model for Decoder {
       verdict = d.verdict;
     } };
 
-    ghost invariant = { λ d. IsVerdict d.method d.wire.items d.ended d.verdict };
+    ghost invariant = { λ d. IsVerdict d.method d.wire.items d.ended d.verdict
+        × HasStatus d.wire.items (status_read d.progress.phase)
+        × IsProgressing d.method d.wire.items d.progress d.verdict };
 }
 
 // What a verdict comes to.
@@ -64,12 +68,7 @@ fn stand_of(verdict: &Verdict) -> Stand
     ensures { result ≡ spec.stand_of verdict.now }
 {
     match verdict {
-        Verdict::Complete {
-            status: _,
-            len: _,
-            parts: _,
-            keep: _,
-        } => Stand::Complete,
+        Verdict::Complete { .. } => Stand::Complete,
         Verdict::More => Stand::More,
         Verdict::Fault(code) => Stand::Fault(*code),
     }
@@ -87,6 +86,7 @@ impl Decoder {
             wire: Vec::new(alloc),
             ended: false,
             verdict: Verdict::More,
+            progress: Progress::new(alloc),
         }
     }
 
@@ -100,7 +100,7 @@ impl Decoder {
 
     /// Takes the next bytes of the response. Once the decoder has decided they are left alone.
     ///
-    /// `OutOfMemory` leaves the decoder as it was.
+    /// `OutOfMemory` leaves the decoder as it was, and never comes where the piece is empty.
     #[tactic(auto, using(crate::proofs::DecoderLemmas::code_is, crate::proofs::DecoderLemmas::ended_is))]
     pub fn feed(&mut self, piece: &[u8]) -> Result<Stand, OutOfMemory>
         ensures over { self.old.verdict ≢ verdict.More → (self.new ≡ self.old) × (result ≡ Ok (spec.stand_of self.old.verdict)) }
@@ -108,14 +108,22 @@ impl Decoder {
         ensures stand { IfOk result (λ s. s ≡ spec.stand_of self.new.verdict) }
         ensures code { IfOk result HasVerdictCode }
         ensures exact { IsExact self.new }
+        ensures memory { OnErr result (piece.now ≢ []) }
         ensures refused { OnErr result (self.new ≡ self.old) }
     {
-        if !matches!(&self.verdict, Verdict::More) {
-            return Ok(stand_of(&self.verdict));
+        match &self.verdict {
+            Verdict::More if !piece.is_empty() => {}
+            other => return Ok(stand_of(other)),
         }
         let len = self.wire.len();
         self.wire.extend_from_slice(piece)?;
-        match decode_whole(self.alloc, self.method, self.wire.as_slice(), self.ended) {
+        match go_on(
+            self.alloc,
+            self.method,
+            self.wire.as_slice(),
+            len,
+            &mut self.progress,
+        ) {
             Ok(verdict) => {
                 self.verdict = verdict;
                 Ok(stand_of(&self.verdict))
@@ -138,12 +146,19 @@ impl Decoder {
         ensures stand { IfOk result (λ s. s ≡ spec.stand_of self.new.verdict) }
         ensures code { IfOk result HasVerdictCode }
         ensures exact { IsExact self.new }
+        ensures memory { OnErr result (BeginsWithParts self.old.method self.old.wire true) }
         ensures refused { OnErr result (self.new ≡ self.old) }
     {
-        if !matches!(&self.verdict, Verdict::More) {
-            return Ok(stand_of(&self.verdict));
+        match &self.verdict {
+            Verdict::More => {}
+            decided => return Ok(stand_of(decided)),
         }
-        let verdict = decode_whole(self.alloc, self.method, self.wire.as_slice(), true)?;
+        let verdict = finish(
+            self.alloc,
+            self.method,
+            self.wire.as_slice(),
+            &self.progress,
+        )?;
         self.ended = true;
         self.verdict = verdict;
         Ok(stand_of(&self.verdict))
@@ -171,32 +186,21 @@ impl Decoder {
     pub fn len(&self) -> usize
         ensures { result ≡ spec.len_of self.now.verdict }
     {
-        match &self.verdict {
-            Verdict::Complete {
-                status: _,
-                len,
-                parts: _,
-                keep: _,
-            } => *len as usize,
-            Verdict::More => 0,
-            Verdict::Fault(_) => 0,
-        }
+        self.verdict.len()
     }
 
     /// Whether the connection may serve another request; `false` where there is no whole response.
     pub fn keep(&self) -> bool
         ensures { result ≡ spec.keep_of self.now.verdict }
     {
-        match &self.verdict {
-            Verdict::Complete {
-                status: _,
-                len: _,
-                parts: _,
-                keep,
-            } => *keep,
-            Verdict::More => false,
-            Verdict::Fault(_) => false,
-        }
+        self.verdict.keep()
+    }
+
+    /// Where the data of the body stand in the bytes fed; none where there is no whole response.
+    pub fn parts(&self) -> &[Part]
+        ensures { result.now ≡ spec.parts_of self.now.verdict }
+    {
+        self.verdict.parts()
     }
 
     /// The bytes fed, by move.
@@ -220,16 +224,11 @@ impl Decoder {
             wire,
             ended: _,
             verdict,
+            progress: _,
         } = self;
         match verdict {
-            Verdict::Complete {
-                status: _,
-                len: _,
-                parts,
-                keep: _,
-            } => (wire, parts),
-            Verdict::More => (wire, Vec::new(alloc)),
-            Verdict::Fault(_) => (wire, Vec::new(alloc)),
+            Verdict::Complete { parts, .. } => (wire, parts),
+            _ => (wire, Vec::new(alloc)),
         }
     }
 }

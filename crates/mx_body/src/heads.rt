@@ -60,6 +60,30 @@ fn next_head(text: &[u8], start: usize, passed: usize) -> Next
     }
 }
 
+/// How many interim heads have passed, and where the next head begins.
+#[derive(Clone, Copy, Debug, PartialEq, Eq)]
+pub(crate) struct Passed {
+    pub(crate) start: usize,
+    pub(crate) count: usize,
+}
+
+/// What the heads behind those that have passed come to. Whole interim heads pass.
+pub(crate) fn final_head_from(text: &[u8], passed: &mut Passed) -> FinalStep
+    requires { IsBehind text.now passed.old.start passed.old.count }
+    ensures step { IsFinalStepOn text.now result }
+    ensures behind { IsBehind text.now passed.new.start passed.new.count }
+{
+    loop {
+        match next_head(text, passed.start, passed.count) {
+            Next::Passed(end) => {
+                passed.start = end;
+                passed.count += 1;
+            }
+            Next::Decided(step) => return step,
+        }
+    }
+}
+
 /// What the heads at the front of the bytes come to.
 pub(crate) fn final_head(text: &[u8]) -> FinalStep
     ensures { IsFinalStepOn text.now result }

@@ -9,6 +9,7 @@ mod decoder;
 mod heads;
 pub mod laws;
 mod part;
+mod progress;
 #[cfg(test)]
 mod tests;
 mod verdict;

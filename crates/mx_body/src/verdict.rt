@@ -1,5 +1,7 @@
 //! What the bytes of an exchange decide.
 
+ghost use Rattle.std.specs.Prelude.{◌≡◌};
+
 use crate::part::Part;
 use mx_types::Code;
 
@@ -21,4 +23,38 @@ pub enum Verdict {
     More,
     /// The input begins with no response, and never will.
     Fault(Code),
+}
+
+impl Verdict {
+    ghost use Rattle.mx_body.specs.Decoder as spec;
+
+    /// Where a whole response ends; 0 where there is none.
+    pub fn len(&self) -> usize
+        ensures { result ≡ spec.len_of self.now }
+    {
+        match self {
+            Verdict::Complete { len, .. } => *len as usize,
+            _ => 0,
+        }
+    }
+
+    /// Whether the connection may serve another request; `false` where there is no whole response.
+    pub fn keep(&self) -> bool
+        ensures { result ≡ spec.keep_of self.now }
+    {
+        match self {
+            Verdict::Complete { keep, .. } => *keep,
+            _ => false,
+        }
+    }
+
+    /// Where the data of the body stand; none where there is no whole response.
+    pub fn parts(&self) -> &[Part]
+        ensures { result.now ≡ spec.parts_of self.now }
+    {
+        match self {
+            Verdict::Complete { parts, .. } => parts.as_slice(),
+            _ => &[],
+        }
+    }
 }

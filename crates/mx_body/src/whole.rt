@@ -20,7 +20,7 @@ use mx_types::{Code, Method, OutOfMemory};
 use std::alloc::Global;
 
 /// The most bytes of a whole response.
-const MOST_BYTES: usize = 67_108_864;
+pub(crate) const MOST_BYTES: usize = 67_108_864;
 
 /// The parts of a body in one piece.
 fn one_part(alloc: Global, start: u32, len: u32) -> Result<Vec<Part>, OutOfMemory>
@@ -60,7 +60,7 @@ fn complete(
 }
 
 /// The verdict where a chunked body is short.
-fn decode_short(method: Method, input: &[u8], ended: bool) -> Verdict
+pub(crate) fn decode_short(method: Method, input: &[u8], ended: bool) -> Verdict
     requires { IsShortBody method input.now ended }
     ensures { IsVerdict method input.now ended result }
 {
@@ -106,7 +106,7 @@ fn decode_chunked(
 }
 
 /// The verdict where the final head ends at `at`.
-fn decode_body(
+pub(crate) fn decode_body(
     alloc: Global,
     method: Method,
     head: &Head,
@@ -150,7 +150,7 @@ fn decode_body(
 }
 
 /// The verdict where the bytes that are looked at have no final head, and meet no cause of a fault.
-fn decode_no_head(method: Method, input: &[u8], ended: bool) -> Verdict
+pub(crate) fn decode_no_head(method: Method, input: &[u8], ended: bool) -> Verdict
     requires { IsFinalStepOn (first_bytes input.now) More }
     ensures { IsVerdict method input.now ended result }
 {

@@ -9,7 +9,7 @@ use crate::chunked::place::Place;
 use mx_types::OutOfMemory;
 use std::alloc::Global;
 
-fn begun(place: Place, next: Place, at: u32) -> Option<Part>
+pub(crate) fn begun(place: Place, next: Place, at: u32) -> Option<Part>
     requires { at + data_left next < 2 ^ 32 }
     ensures { option_to_list result ≡ begun place next at }
 {

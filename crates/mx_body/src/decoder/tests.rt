@@ -149,3 +149,30 @@ fn no_bytes_are_no_response(rt: HostRuntime) {
     );
     assert_eq!(rt; wire_of(decoder).len(), 0);
 }
+
+/// A head of 47 bytes, and then chunks of one byte, fed a byte at a time.
+#[test]
+fn each_byte_is_read_once(rt: HostRuntime) {
+    let mut bytes = Vec::with_capacity(rt.alloc(), 600_052).expect(&rt, "memory");
+    bytes
+        .extend_from_slice(&CHUNKED[..47])
+        .expect(&rt, "memory");
+    for _ in 0..100_000 {
+        bytes.extend_from_slice(b"1\r\nx\r\n").expect(&rt, "memory");
+    }
+    bytes.extend_from_slice(b"0\r\n\r\n").expect(&rt, "memory");
+    let mut decoder = decoder(rt.alloc(), Method::Get);
+    assert_eq!(rt;
+        feed_each(&mut decoder, &bytes),
+        (600_051, Some(Stand::Complete))
+    );
+    assert_eq!(rt; decoder.len(), 600_052);
+    assert_eq!(rt; decoder.parts().len(), 100_000);
+    assert_eq!(rt;
+        decoder.parts()[99_999],
+        Part {
+            start: 600_044,
+            end: 600_045
+        }
+    );
+}

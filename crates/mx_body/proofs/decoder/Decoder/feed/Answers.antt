@@ -1,10 +1,37 @@
+use Rattle.std.proofs.Common.{◌≡◌, ℕ, List, Bool, take, subst, sym, ap, ◌∙◌, Ok, arith, rules}
+use Rattle.std.proofs.lemmas.List.{take-append-le, take_all}
+use Rattle.mx_body.specs.Decision.{IsVerdict, HasStatus}
+use Rattle.mx_body.specs.Progress.{status_read}
+use Rattle.mx_body.specs.declared.progress.Phase.{Phase}
+use Rattle.mx_body.specs.declared.verdict.Verdict.{Verdict}
 use Rattle.mx_body.proofs.decoder.Decoder.feed.Goals as goal
 
-pub returns-then-not-matches-clause-exact : goal.returns-then-not-matches-clause-exact
-returns-then-not-matches-clause-exact c = rw (← c.self.view_is) c.self.invariant
+pub returns-in_default-clause-exact : goal.returns-in_default-clause-exact
+returns-in_default-clause-exact c = rw (← c.self.view_is) c.self.invariant.0
 
 pub invariant_of-self-in-Ok : goal.invariant_of-self-in-Ok
-invariant_of-self-in-Ok c = rw c.as_slice.ensures.value at c.in-Ok.ensures.verdict
+invariant_of-self-in-Ok c =
+    let old = subst (λ (v : Verdict). IsVerdict c.self.inside.method c.self.inside.wire.items c.self.inside.ended v) c.in-More.is c.self.invariant.0 in
+    let new = rw c.as_slice.ensures.value at c.in-Ok.ensures.verdict in (
+      subst (λ (b : Bool). IsVerdict c.self.inside.method c.extend_from_slice.new.self.items b c.in-Ok.verdict) (sym old.2) new,
+      rw c.as_slice.ensures.value at c.in-Ok.ensures.status,
+      λ e. rw c.as_slice.ensures.value at (c.in-Ok.ensures.progress (ap Ok e)),
+    )
 
 pub returns-in-Ok-clause-exact : goal.returns-in-Ok-clause-exact
-returns-in-Ok-clause-exact c = rw c.as_slice.ensures.value at c.in-Ok.ensures.verdict
+returns-in-Ok-clause-exact c =
+    let old = subst (λ (v : Verdict). IsVerdict c.self.inside.method c.self.inside.wire.items c.self.inside.ended v) c.in-More.is c.self.invariant.0 in
+    let new = rw c.as_slice.ensures.value at c.in-Ok.ensures.verdict in
+    subst (λ (b : Bool). IsVerdict c.self.inside.method c.extend_from_slice.new.self.items b c.in-Ok.verdict) (sym old.2) new
+
+pub invariant_of-self-in-Err : goal.invariant_of-self-in-Err
+invariant_of-self-in-Err c =
+    let same : c.truncate.new.self.items ≡ c.self.inside.wire.items =
+    c.truncate.ensures.items ∙ ap (take c.len-len.result) c.in_ok-extend_from_slice.ensures.items
+    ∙ take-append-le c.len-len.result c.self.inside.wire.items c.args.piece.now (omega arith) ∙ take_all c.len-len.result c.self.inside.wire.items (omega arith) in
+    let phase = c.in-Err.ensures.refused_phase in (
+      subst (λ (t : List ℕ). IsVerdict c.self.inside.method t c.self.inside.ended c.self.inside.verdict) (sym same) c.self.invariant.0,
+      subst (λ (t : List ℕ). HasStatus t (status_read c.go_on.new.progress.phase)) (sym same)
+          (subst (λ (p : Phase). HasStatus c.self.inside.wire.items (status_read p)) (sym phase) c.self.invariant.1),
+      λ e. search rules,
+    )

@@ -1,4 +1,4 @@
 use Rattle.mx_body.proofs.decoder.Decoder.stand.Goals as goal
 
 pub returns-clause-exact : goal.returns-clause-exact
-returns-clause-exact c = rw (← c.self.view_is) c.self.invariant
+returns-clause-exact c = rw (← c.self.view_is) c.self.invariant.0

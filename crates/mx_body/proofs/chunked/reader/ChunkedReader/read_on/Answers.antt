@@ -1,0 +1,89 @@
+use Rattle.std.proofs.Common.{◌≡◌, ◌+◌, ◌++◌, false, take, length, sym, ap, ◌∙◌, arith, length-append}
+use Rattle.std.proofs.lemmas.List.{take-append-le}
+use Rattle.std.specs.Prelude.{option_to_list}
+use Rattle.mx_head.specs.Limits.{most_bytes}
+use Rattle.mx_body.specs.declared.chunked.place.Place.TheVariants.{Start}
+use Rattle.mx_body.specs.ChunkedPlace.{is_settled, parts_begun}
+use Rattle.mx_body.proofs.ChunkedSteps.{is_open, At, further, whole_at, short, bad_at, large_at}
+use Rattle.mx_body.proofs.ChunkedParts.{further_parts}
+use Rattle.mx_body.proofs.ChunkedReaderLemmas.{left_fits}
+use Rattle.mx_body.proofs.chunked.reader.ChunkedReader.read_on.Goals as goal
+
+pub begun-requires : goal.begun-requires
+begun-requires c =
+    let here = further most_bytes c.args.body.now c.loop-read.read c.advance-next.result.1 c.loop-read.place _ c.loop-read.invariant.place c.advance-next.ensures.place in
+    omega (arith, left_fits most_bytes _ c.advance-next.result.0 here)
+
+pub returns-in-Done-clause-scan : goal.returns-in-Done-clause-scan
+returns-in-Done-clause-scan c =
+    let here = further most_bytes c.args.body.now c.loop-read.read c.advance-next.result.1 c.loop-read.place _ c.loop-read.invariant.place c.advance-next.ensures.place in
+    whole_at most_bytes c.args.body.now (c.loop-read.read + c.advance-next.result.1) (omega arith) (here ∙ c.in-Done.is)
+
+pub returns-in-Bad-clause-scan : goal.returns-in-Bad-clause-scan
+returns-in-Bad-clause-scan c =
+    let here = further most_bytes c.args.body.now c.loop-read.read c.advance-next.result.1 c.loop-read.place _ c.loop-read.invariant.place c.advance-next.ensures.place in
+    let one = c.advance-next.ensures.by_one_byte (ap is_settled c.in-Bad.is) in
+    let live : is_settled (At most_bytes c.args.body.now c.loop-read.read) ≡ false = ap is_settled c.loop-read.invariant.place ∙ c.loop-read.invariant.goes_on in
+    bad_at most_bytes c.args.body.now c.loop-read.read c.loop-read-test.true live (ap (λ n. At most_bytes c.args.body.now (c.loop-read.read + n)) (sym one) ∙ here ∙ c.in-Bad.is)
+
+pub returns-in-TooLarge-clause-scan : goal.returns-in-TooLarge-clause-scan
+returns-in-TooLarge-clause-scan c =
+    let here = further most_bytes c.args.body.now c.loop-read.read c.advance-next.result.1 c.loop-read.place _ c.loop-read.invariant.place c.advance-next.ensures.place in
+    let one = c.advance-next.ensures.by_one_byte (ap is_settled c.in-TooLarge.is) in
+    let live : is_settled (At most_bytes c.args.body.now c.loop-read.read) ≡ false = ap is_settled c.loop-read.invariant.place ∙ c.loop-read.invariant.goes_on in
+    large_at most_bytes c.args.body.now c.loop-read.read c.loop-read-test.true live (ap (λ n. At most_bytes c.args.body.now (c.loop-read.read + n)) (sym one) ∙ here ∙ c.in-TooLarge.is)
+
+pub returns-clause-scan : goal.returns-clause-scan
+returns-clause-scan c =
+    let live : is_settled (At most_bytes c.args.body.now c.loop-read.read) ≡ false = ap is_settled c.loop-read.invariant.place ∙ c.loop-read.invariant.goes_on in
+    short most_bytes c.args.body.now c.loop-read.read c.loop-read-test.false live
+
+pub returns-in-Done-clause-read : goal.returns-in-Done-clause-read
+returns-in-Done-clause-read c =
+    let here = further most_bytes c.args.body.now c.loop-read.read c.advance-next.result.1 c.loop-read.place _ c.loop-read.invariant.place c.advance-next.ensures.place in
+    let front = parts_begun most_bytes Start c.loop-read.self.at (take c.loop-read.read c.args.body.now) in
+    let more = further_parts most_bytes c.loop-read.self.at c.args.body.now c.loop-read.read c.advance-next.result.1 c.loop-read.place c.advance-next.result.0 c.loop-read.invariant.within c.loop-read.invariant.place (c.advance-next.ensures.part (c.loop-read.self.at + c.loop-read.read)) in
+    record {
+      within = omega arith;
+      place = here;
+      parts = c.in-Ok.ensures.added ∙ ap (λ ps. ps ++ option_to_list c.begun.result) c.loop-read.invariant.parts ∙ ap (λ ps. front ++ ps) c.begun.ensures ∙ sym more;
+    }
+
+pub returns-in-Bad-clause-read : goal.returns-in-Bad-clause-read
+returns-in-Bad-clause-read c =
+    let here = further most_bytes c.args.body.now c.loop-read.read c.advance-next.result.1 c.loop-read.place _ c.loop-read.invariant.place c.advance-next.ensures.place in
+    let front = parts_begun most_bytes Start c.loop-read.self.at (take c.loop-read.read c.args.body.now) in
+    let more = further_parts most_bytes c.loop-read.self.at c.args.body.now c.loop-read.read c.advance-next.result.1 c.loop-read.place c.advance-next.result.0 c.loop-read.invariant.within c.loop-read.invariant.place (c.advance-next.ensures.part (c.loop-read.self.at + c.loop-read.read)) in
+    record {
+      within = omega arith;
+      place = here;
+      parts = c.in-Ok.ensures.added ∙ ap (λ ps. ps ++ option_to_list c.begun.result) c.loop-read.invariant.parts ∙ ap (λ ps. front ++ ps) c.begun.ensures ∙ sym more;
+    }
+
+pub returns-in-TooLarge-clause-read : goal.returns-in-TooLarge-clause-read
+returns-in-TooLarge-clause-read c =
+    let here = further most_bytes c.args.body.now c.loop-read.read c.advance-next.result.1 c.loop-read.place _ c.loop-read.invariant.place c.advance-next.ensures.place in
+    let front = parts_begun most_bytes Start c.loop-read.self.at (take c.loop-read.read c.args.body.now) in
+    let more = further_parts most_bytes c.loop-read.self.at c.args.body.now c.loop-read.read c.advance-next.result.1 c.loop-read.place c.advance-next.result.0 c.loop-read.invariant.within c.loop-read.invariant.place (c.advance-next.ensures.part (c.loop-read.self.at + c.loop-read.read)) in
+    record {
+      within = omega arith;
+      place = here;
+      parts = c.in-Ok.ensures.added ∙ ap (λ ps. ps ++ option_to_list c.begun.result) c.loop-read.invariant.parts ∙ ap (λ ps. front ++ ps) c.begun.ensures ∙ sym more;
+    }
+
+pub loop-read-preserved : goal.loop-read-preserved
+loop-read-preserved c =
+    let here = further most_bytes c.args.body.now c.loop-read.read c.advance-next.result.1 c.loop-read.place _ c.loop-read.invariant.place c.advance-next.ensures.place in
+    let front = parts_begun most_bytes Start c.loop-read.self.at (take c.loop-read.read c.args.body.now) in
+    let more = further_parts most_bytes c.loop-read.self.at c.args.body.now c.loop-read.read c.advance-next.result.1 c.loop-read.place c.advance-next.result.0 c.loop-read.invariant.within c.loop-read.invariant.place (c.advance-next.ensures.part (c.loop-read.self.at + c.loop-read.read)) in
+    record {
+      within = omega arith;
+      place = here;
+      parts = c.in-Ok.ensures.added ∙ ap (λ ps. ps ++ option_to_list c.begun.result) c.loop-read.invariant.parts ∙ ap (λ ps. front ++ ps) c.begun.ensures ∙ sym more;
+      goes_on = is_open c.advance-next.result.0 c.in_default.not-Done c.in_default.not-Bad c.in_default.not-TooLarge;
+      counted = omega (arith, ap length c.in-Ok.ensures.added, length-append c.loop-read.self.parts.items (option_to_list c.begun.result), c.loop-read.invariant.counted);
+      front = ap (take c.len-count.result) c.in-Ok.ensures.added ∙ take-append-le c.len-count.result c.loop-read.self.parts.items (option_to_list c.begun.result) c.loop-read.invariant.counted ∙ c.loop-read.invariant.front;
+      at_stays = c.loop-read.invariant.at_stays;
+      place_stays = c.loop-read.invariant.place_stays;
+      read_stays = c.loop-read.invariant.read_stays;
+    }

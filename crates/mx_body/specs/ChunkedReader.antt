@@ -1,0 +1,11 @@
+-- Private: how far a chunked body has been read.
+use Rattle.std.specs.Prelude.{◌≡◌, ℕ, ◌≤◌, List, length, take}
+use Rattle.mx_body.specs.declared.chunked.place.Place.TheVariants.{Start}
+use Rattle.mx_body.specs.declared.chunked.reader.ChunkedReader.{ChunkedReader}
+use Rattle.mx_body.specs.ChunkedPlace.{place_after, parts_begun}
+
+-- the first bytes of the body led the reader to its place, and began its parts
+pub record HasRead (limit : ℕ) (body : List ℕ) (r : ChunkedReader) : Type 0 where
+  pub within : r.read ≤ length body
+  pub place : place_after limit Start (take r.read body) ≡ r.place
+  pub parts : r.parts.items ≡ parts_begun limit Start r.at (take r.read body)

@@ -1,0 +1,182 @@
+//! Reading the bytes of an exchange as they come: each byte of a body once.
+
+ghost use Rattle.std.specs.Prelude.{◌≡◌, ◌≤◌, ◌++◌, ℕ, List, true, false, length, take, drop, slice_range, min, Ok, IfOk, OnErr};
+ghost use Rattle.httparse.specs.Grammar.{ResponseHead};
+ghost use Rattle.mx_head.specs.declared.types.Framing.TheVariants.{Chunked};
+ghost use Rattle.mx_head.specs.Framing.{framing_of};
+ghost use Rattle.mx_head.specs.Limits.{most_bytes};
+ghost use Rattle.mx_head.specs.Reading.{Describes};
+ghost use Rattle.mx_body.specs.ChunkedPlace.{is_settled};
+ghost use Rattle.mx_body.specs.ChunkedReader.{HasRead};
+ghost use Rattle.mx_body.specs.Decision.{IsVerdict, BeginsWithParts, HasStatus};
+ghost use Rattle.mx_body.specs.Progress.{IsProgress, status_read};
+ghost use Rattle.mx_body.specs.Steps.{HasHeadAt};
+ghost use Rattle.mx_body.specs.declared.progress.Phase.TheVariants.{Heads};
+ghost use Rattle.mx_body.specs.declared.verdict.Verdict.TheVariants.{More};
+
+use crate::chunked::reader::ChunkedReader;
+use crate::chunked::scan::ChunkedScan;
+use crate::heads::{FinalStep, Passed, final_head_from};
+use crate::verdict::Verdict;
+use crate::whole::{MOST_BYTES, decode_body, decode_no_head, decode_short};
+use mx_head::{Framing, Head, framing, keeps};
+use mx_types::{Code, Method, OutOfMemory};
+use std::alloc::Global;
+use std::mem;
+
+/// Where the bytes of an exchange have led, while they decide nothing.
+#[derive(Clone, Copy, Debug, PartialEq, Eq)]
+pub(crate) enum Phase {
+    /// In a head.
+    Heads(Passed),
+    /// In a body of which only the length counts. The final head ends at `at`.
+    Body { head: Head, at: usize },
+    /// In a chunked body.
+    Chunks { head: Head, at: usize },
+}
+
+/// How far the bytes of an exchange have been read.
+#[derive(Drop)]
+pub(crate) struct Progress {
+    pub(crate) phase: Phase,
+    pub(crate) reader: ChunkedReader,
+}
+
+impl Progress {
+    /// No byte was read.
+    pub(crate) fn new(alloc: Global) -> Progress
+        ensures phase { result.phase ≡ Heads (record { start = 0; count = 0 }) }
+    {
+        Progress {
+            phase: Phase::Heads(Passed { start: 0, count: 0 }),
+            reader: ChunkedReader::new(alloc, 0),
+        }
+    }
+}
+
+/// The verdict where a chunked body has been read on.
+pub(crate) fn go_on_chunked(
+    alloc: Global,
+    method: Method,
+    head: &Head,
+    at: usize,
+    wire: &[u8],
+    reader: &mut ChunkedReader,
+) -> Result<Verdict, OutOfMemory>
+    requires head { HasHeadAt wire.now head.now at }
+    requires chunked { (h : ResponseHead) → Describes head.now h → framing_of method h ≡ Ok Chunked }
+    requires read { HasRead most_bytes (slice_range wire.now at (min (length wire.now) most_bytes)) reader.old }
+    requires open { is_settled reader.old.place ≡ false }
+    requires at { reader.old.at ≡ at }
+    ensures verdict { IfOk result (IsVerdict method wire.now false) }
+    ensures read { result ≡ Ok More → HasRead most_bytes (drop at wire.now) reader.new }
+    ensures open { result ≡ Ok More → is_settled reader.new.place ≡ false }
+    ensures all { result ≡ Ok More → reader.new.read ≡ length (drop at wire.now) }
+    ensures at { reader.new.at ≡ reader.old.at }
+    ensures refused_place { OnErr result (reader.new.place ≡ reader.old.place) }
+    ensures refused_read { OnErr result (reader.new.read ≡ reader.old.read) }
+    ensures refused_parts { OnErr result (reader.new.parts.items ≡ reader.old.parts.items) }
+{
+    let body = &wire[at..wire.len().min(MOST_BYTES)];
+    match reader.read_on(body)? {
+        ChunkedScan::Short => Ok(decode_short(method, wire, false)),
+        ChunkedScan::TooLarge => Ok(Verdict::Fault(Code::FilesizeExceeded)),
+        ChunkedScan::Bad => Ok(Verdict::Fault(Code::RecvError)),
+        ChunkedScan::Whole { len } => Ok(Verdict::Complete {
+            status: head.status(),
+            len: (at + len) as u32,
+            parts: mem::replace(&mut reader.parts, Vec::new(alloc)),
+            keep: keeps(head),
+        }),
+    }
+}
+
+/// The verdict where the final head, which ends at `at`, has just been read.
+fn begin_body(
+    alloc: Global,
+    method: Method,
+    head: Head,
+    at: usize,
+    wire: &[u8],
+    progress: &mut Progress,
+) -> Result<Verdict, OutOfMemory>
+    requires head { HasHeadAt wire.now head at }
+    ensures verdict { IfOk result (IsVerdict method wire.now false) }
+    ensures progress { result ≡ Ok More → IsProgress method wire.now progress.new }
+    ensures status { IfOk result (λ _. HasStatus wire.now (status_read progress.new.phase)) }
+    ensures refused { OnErr result (progress.new ≡ progress.old) }
+{
+    match framing(method, &head) {
+        Ok(Framing::Chunked) => {
+            let mut reader = ChunkedReader::new(alloc, at as u32);
+            let verdict = go_on_chunked(alloc, method, &head, at, wire, &mut reader)?;
+            progress.phase = Phase::Chunks { head, at };
+            progress.reader = reader;
+            Ok(verdict)
+        }
+        _ => {
+            let verdict = decode_body(alloc, method, &head, at, wire, false)?;
+            progress.phase = Phase::Body { head, at };
+            Ok(verdict)
+        }
+    }
+}
+
+/// The verdict where more bytes have come, of which the first so many were there before.
+pub(crate) fn go_on(
+    alloc: Global,
+    method: Method,
+    wire: &[u8],
+    before: usize,
+    progress: &mut Progress,
+) -> Result<Verdict, OutOfMemory>
+    requires within { before ≤ length wire.now }
+    requires small { before ≤ most_bytes }
+    requires progress { IsProgress method (take before wire.now) progress.old }
+    ensures verdict { IfOk result (IsVerdict method wire.now false) }
+    ensures progress { result ≡ Ok More → IsProgress method wire.now progress.new }
+    ensures status { IfOk result (λ _. HasStatus wire.now (status_read progress.new.phase)) }
+    ensures refused { OnErr result (IsProgress method (take before wire.now) progress.new) }
+    ensures refused_phase { OnErr result (progress.new.phase ≡ progress.old.phase) }
+{
+    match progress.phase {
+        Phase::Heads(mut passed) => match final_head_from(
+            &wire[..wire.len().min(MOST_BYTES)],
+            &mut passed,
+        ) {
+            FinalStep::Head { head, end } => begin_body(alloc, method, head, end, wire, progress),
+            FinalStep::More => {
+                progress.phase = Phase::Heads(passed);
+                Ok(decode_no_head(method, wire, false))
+            }
+            FinalStep::Fault(code) => Ok(Verdict::Fault(code)),
+        },
+        Phase::Body { head, at } => decode_body(alloc, method, &head, at, wire, false),
+        Phase::Chunks { head, at } => {
+            go_on_chunked(alloc, method, &head, at, wire, &mut progress.reader)
+        }
+    }
+}
+
+/// The verdict where the bytes have ended.
+pub(crate) fn finish(
+    alloc: Global,
+    method: Method,
+    wire: &[u8],
+    progress: &Progress,
+) -> Result<Verdict, OutOfMemory>
+    requires progress { IsProgress method wire.now progress.now }
+    requires small { length wire.now ≤ most_bytes }
+    ensures verdict { IfOk result (IsVerdict method wire.now true) }
+    ensures memory { OnErr result (BeginsWithParts method wire.now true) }
+{
+    match progress.phase {
+        Phase::Heads(mut passed) => match final_head_from(wire, &mut passed) {
+            FinalStep::Head { head, end } => decode_body(alloc, method, &head, end, wire, true),
+            FinalStep::More => Ok(decode_no_head(method, wire, true)),
+            FinalStep::Fault(code) => Ok(Verdict::Fault(code)),
+        },
+        Phase::Body { head, at } => decode_body(alloc, method, &head, at, wire, true),
+        Phase::Chunks { head: _, at: _ } => Ok(decode_short(method, wire, true)),
+    }
+}
