@@ -7,7 +7,7 @@ use Rattle.mx_head.specs.Limits.{most_bytes}
 use Rattle.mx_head.specs.Faults.{MeetsNothing}
 use Rattle.mx_head.proofs.LineLemmas.{front_of}
 use Rattle.mx_body.specs.Response.{print_heads, StandsAtBody}
-use Rattle.mx_head.specs.declared.types.Head.{Head}
+use Rattle.mx_head.specs.Summary.{Summary}
 use Rattle.mx_body.specs.Steps.{HasHeadAt}
 use Rattle.mx_body.specs.Causes.{Meets}
 use Rattle.mx_body.specs.Decision.{first_bytes, IsUndecided, HasFinalHead}
@@ -79,7 +79,7 @@ undecided_no_head m input ended x = record {
 }
 
 -- the final head in the bytes that are looked at is the input's
-pub head_from : (input : List ℕ) (x : Head) (end : ℕ) → HasHeadAt (first_bytes input) x end → HasHeadAt input x end
+pub head_from : (input : List ℕ) (x : Summary) (end : ℕ) → HasHeadAt (first_bytes input) x end → HasHeadAt input x end
 head_from input x end d = record {
   interim = d.interim;
   head = d.head;

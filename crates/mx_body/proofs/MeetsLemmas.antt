@@ -11,8 +11,7 @@ use Rattle.mx_head.specs.declared.types.Framing.TheVariants.{Close}
 use Rattle.mx_head.specs.Framing.{framing_of}
 use Rattle.mx_head.specs.Heads.{IsHead, HasNoHead}
 use Rattle.mx_head.specs.Limits.{most_bytes, most_interim}
-use Rattle.mx_head.specs.declared.types.Head.{Head}
-use Rattle.mx_head.specs.Reading.{Describes}
+use Rattle.mx_head.specs.Summary.{Summary, Describes}
 use Rattle.mx_head.specs.Faults.{HeadCause, head_code, head_line, MeetsAtHead, ComesFirst, MeetsNothing}
 use Rattle.mx_head.proofs.FaultLemmas.{head_meets_nothing}
 use Rattle.mx_body.specs.declared.part.Part.{Part}
@@ -314,7 +313,7 @@ refused_next text start passed h rest b head e interim why =
       λ m. refused_first m text b.interim h rest s refused,
     )
 
-pub final_next : (text : List ℕ) (start passed : ℕ) (x : Head) (end : ℕ) (h : ResponseHead) (rest : List ℕ) → (b : IsBehind text start passed) → IsHead h → tail_from start text ≡ print_response h ++ rest
+pub final_next : (text : List ℕ) (start passed : ℕ) (x : Summary) (end : ℕ) (h : ResponseHead) (rest : List ℕ) → (b : IsBehind text start passed) → IsHead h → tail_from start text ≡ print_response h ++ rest
     → (IsInterimStatus (status_code h) → ⊥) → Describes x h → end ≡ start + length (print_response h) → HasHeadAt text x end
 final_next text start passed x end h rest b head e final describes ends =
     let stands : StandsAtBody text b.interim h rest = (record { head = head; status = final }, head_next text start passed h rest b e) in

@@ -2,7 +2,7 @@
 use Rattle.std.proofs.Common.{◌≡◌, ℕ, ◌+◌, ◌-◌, ◌≤◌, List, [], ◌++◌, length, take, drop, slice_range, refl, sym, ap, ◌∙◌, inl, inr, arith, length-take}
 use Rattle.std.proofs.lemmas.List.{take-append-drop, take-take, take-append-le, drop-append-le, length-take-le, length-drop}
 use Rattle.std.proofs.Math.Seq.{take-add}
-use Rattle.mx_head.specs.declared.types.Head.{Head}
+use Rattle.mx_head.specs.Summary.{Summary}
 use Rattle.mx_body.specs.Steps.{IsBehind, HasHeadAt}
 use Rattle.mx_body.specs.declared.chunked.place.Place.TheVariants.{Start}
 use Rattle.mx_body.specs.ChunkedPlace.{place_after, parts_begun}
@@ -27,7 +27,7 @@ behind_grows wire before n start passed le b = record {
   passed_is = b.passed_is;
 }
 
-pub head_grows : (wire : List ℕ) (before : ℕ) (x : Head) (end : ℕ) → HasHeadAt (take before wire) x end → HasHeadAt wire x end
+pub head_grows : (wire : List ℕ) (before : ℕ) (x : Summary) (end : ℕ) → HasHeadAt (take before wire) x end → HasHeadAt wire x end
 head_grows wire before x end d = record {
   interim = d.interim;
   head = d.head;
@@ -66,7 +66,7 @@ read_grows limit wire before at n r there le more all h =
     }
 
 -- the status of a final head that was read
-pub head_status : (wire : List ℕ) (x : Head) (end : ℕ) → HasHeadAt wire x end → HasStatus wire x.status
+pub head_status : (wire : List ℕ) (x : Summary) (end : ℕ) → HasHeadAt wire x end → HasStatus wire x.status
 head_status wire x end d = inl (d.interim, d.head, d.rest, d.stands, d.describes.status)
 
 -- none was read

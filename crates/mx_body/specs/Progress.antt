@@ -1,11 +1,9 @@
 -- Private: how far the bytes of an exchange have been read.
 use Rattle.std.specs.Prelude.{◌≡◌, ℕ, false, List, length, drop, Ok}
-use Rattle.httparse.specs.Grammar.{ResponseHead}
 use Rattle.mx_types.specs.declared.method.Method.{Method}
 use Rattle.mx_head.specs.declared.types.Framing.TheVariants.{Chunked}
-use Rattle.mx_head.specs.Framing.{framing_of}
 use Rattle.mx_head.specs.Limits.{most_bytes}
-use Rattle.mx_head.specs.Reading.{Describes}
+use Rattle.mx_head.specs.Summary.{framing_by}
 use Rattle.mx_body.specs.ChunkedPlace.{is_settled}
 use Rattle.mx_body.specs.ChunkedReader.{HasRead}
 use Rattle.mx_body.specs.Steps.{IsBehind, HasHeadAt}
@@ -27,7 +25,7 @@ abbrev pub IsPhase : Method → List ℕ → Phase → ChunkedReader → Type 0
 IsPhase m wire (phase.Heads passed) r = IsBehind wire passed.start passed.count
 IsPhase m wire (phase.Body head at) r = HasHeadAt wire head at
 IsPhase m wire (phase.Chunks head at) r =
-    HasHeadAt wire head at × ((h : ResponseHead) → Describes head h → framing_of m h ≡ Ok Chunked)
+    HasHeadAt wire head at × (framing_by m head ≡ Ok Chunked)
     × HasRead most_bytes (drop at wire) r × (is_settled r.place ≡ false) × (r.at ≡ at)
     × (r.read ≡ length (drop at wire))
 

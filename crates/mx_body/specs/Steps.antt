@@ -2,8 +2,7 @@
 use Rattle.std.specs.Prelude.{◌≡◌, ℕ, ◌+◌, ◌≤◌, Bool, List, ◌++◌, length}
 use Rattle.httparse.specs.Grammar.{ResponseHead, print_response}
 use Rattle.mx_types.specs.declared.method.Method.{Method}
-use Rattle.mx_head.specs.declared.types.Head.{Head}
-use Rattle.mx_head.specs.Reading.{Describes}
+use Rattle.mx_head.specs.Summary.{Summary, Describes}
 use Rattle.mx_head.specs.Limits.{most_bytes}
 use Rattle.mx_head.specs.Faults.{ComesFirst, MeetsNothing}
 use Rattle.mx_body.specs.declared.verdict.Verdict.{Verdict}
@@ -25,7 +24,7 @@ pub record IsBehind (text : List ℕ) (start passed : ℕ) : Type 0 where
   pub passed_is : passed ≡ length interim
 
 -- the final head is the one that x describes, and it ends at `end`
-pub record HasHeadAt (text : List ℕ) (x : Head) (end : ℕ) : Type 0 where
+pub record HasHeadAt (text : List ℕ) (x : Summary) (end : ℕ) : Type 0 where
   pub interim : List ResponseHead
   pub head : ResponseHead
   pub rest : List ℕ

@@ -5,5 +5,3 @@ pub mod parts;
 pub mod place;
 pub(crate) mod reader;
 pub mod scan;
-#[cfg(test)]
-mod tests;

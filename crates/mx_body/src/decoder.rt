@@ -7,16 +7,13 @@ ghost use Rattle.mx_body.specs.Decoder.{IsExact, HasVerdictCode};
 ghost use Rattle.mx_body.specs.declared.decoder.Stand.TheVariants as stand;
 ghost use Rattle.mx_body.specs.declared.verdict.Verdict.TheVariants as verdict;
 
-use crate::heads::{FinalStep, final_head};
 use crate::part::Part;
 use crate::progress::{Progress, finish, go_on};
+use crate::room::make_room;
 use crate::verdict::Verdict;
 use mx_types::{Code, Method, OutOfMemory};
 use std::alloc::Global;
 use std::marker::Model;
-
-#[cfg(test)]
-mod tests;
 
 /// What the bytes that were fed come to.
 #[derive(Clone, Copy, Debug, PartialEq, Eq)]
@@ -116,6 +113,11 @@ impl Decoder {
             other => return Ok(stand_of(other)),
         }
         let len = self.wire.len();
+        make_room(
+            &mut self.wire,
+            piece.len(),
+            self.progress.told_bytes(self.method),
+        )?;
         self.wire.extend_from_slice(piece)?;
         match go_on(
             self.alloc,
@@ -175,11 +177,7 @@ impl Decoder {
     pub fn status(&self) -> u16
         ensures { HasStatus self.now.wire result }
     {
-        match final_head(self.wire.as_slice()) {
-            FinalStep::Head { head, end: _ } => head.status(),
-            FinalStep::More => 0,
-            FinalStep::Fault(_) => 0,
-        }
+        self.progress.status()
     }
 
     /// Where a whole response ends in the bytes fed; 0 where there is none.

@@ -4,11 +4,9 @@ ghost use Rattle.std.specs.Prelude.{◌≡◌, ◌↔◌, IsTrue};
 ghost use Rattle.mx_body.specs.Response.{IsInterimStatus};
 ghost use Rattle.mx_body.specs.Steps.{IsBehind, IsNextOn, IsFinalStepOn};
 
+use crate::limits::MOST_INTERIM;
 use mx_head::{Head, HeadStep, read_head};
 use mx_types::Code;
-
-/// The most interim heads that are passed over.
-const MOST_INTERIM: usize = 16;
 
 /// The status that would leave HTTP: no head with it is passed over (RFC 9110, section 15.2.2).
 const SWITCHING_PROTOCOLS: u16 = 101;

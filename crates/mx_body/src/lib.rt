@@ -8,14 +8,15 @@ pub mod chunked;
 mod decoder;
 mod heads;
 pub mod laws;
+mod limits;
 mod part;
 mod progress;
-#[cfg(test)]
-mod tests;
+mod room;
 mod verdict;
 mod whole;
 
 pub use crate::decoder::{Decoder, Stand};
+pub use crate::limits::{MOST_BYTES, MOST_INTERIM};
 pub use crate::part::Part;
 pub use crate::verdict::Verdict;
 pub use crate::whole::decode_whole;

@@ -1,11 +1,9 @@
 //! Reading the bytes of an exchange as they come: each byte of a body once.
 
 ghost use Rattle.std.specs.Prelude.{◌≡◌, ◌≤◌, ◌++◌, ℕ, List, true, false, length, take, drop, slice_range, min, Ok, IfOk, OnErr};
-ghost use Rattle.httparse.specs.Grammar.{ResponseHead};
 ghost use Rattle.mx_head.specs.declared.types.Framing.TheVariants.{Chunked};
-ghost use Rattle.mx_head.specs.Framing.{framing_of};
 ghost use Rattle.mx_head.specs.Limits.{most_bytes};
-ghost use Rattle.mx_head.specs.Reading.{Describes};
+ghost use Rattle.mx_head.specs.Summary.{framing_by};
 ghost use Rattle.mx_body.specs.ChunkedPlace.{is_settled};
 ghost use Rattle.mx_body.specs.ChunkedReader.{HasRead};
 ghost use Rattle.mx_body.specs.Decision.{IsVerdict, BeginsWithParts, HasStatus};
@@ -17,8 +15,9 @@ ghost use Rattle.mx_body.specs.declared.verdict.Verdict.TheVariants.{More};
 use crate::chunked::reader::ChunkedReader;
 use crate::chunked::scan::ChunkedScan;
 use crate::heads::{FinalStep, Passed, final_head_from};
+use crate::limits::MOST_BYTES;
 use crate::verdict::Verdict;
-use crate::whole::{MOST_BYTES, decode_body, decode_no_head, decode_short};
+use crate::whole::{decode_body, decode_no_head, decode_short};
 use mx_head::{Framing, Head, framing, keeps};
 use mx_types::{Code, Method, OutOfMemory};
 use std::alloc::Global;
@@ -52,6 +51,37 @@ impl Progress {
             reader: ChunkedReader::new(alloc, 0),
         }
     }
+
+    /// How many bytes there will be in all, where the final head tells it and they aren't too many; else 0.
+    pub(crate) fn told_bytes(&self, method: Method) -> usize
+        ensures { result ≤ most_bytes }
+    {
+        let Phase::Body { head, at } = &self.phase else {
+            return 0;
+        };
+        match framing(method, head) {
+            Ok(Framing::Counted(n)) => {
+                let all = n.saturating_add(*at as u64);
+                if all <= MOST_BYTES as u64 {
+                    all as usize
+                } else {
+                    0
+                }
+            }
+            _ => 0,
+        }
+    }
+
+    /// The status of the final head, 0 where none was read.
+    pub(crate) fn status(&self) -> u16
+        ensures { result ≡ status_read self.now.phase }
+    {
+        match &self.phase {
+            Phase::Heads(_) => 0,
+            Phase::Body { head, .. } => head.status(),
+            Phase::Chunks { head, .. } => head.status(),
+        }
+    }
 }
 
 /// The verdict where a chunked body has been read on.
@@ -64,7 +94,7 @@ pub(crate) fn go_on_chunked(
     reader: &mut ChunkedReader,
 ) -> Result<Verdict, OutOfMemory>
     requires head { HasHeadAt wire.now head.now at }
-    requires chunked { (h : ResponseHead) → Describes head.now h → framing_of method h ≡ Ok Chunked }
+    requires chunked { framing_by method head.now ≡ Ok Chunked }
     requires read { HasRead most_bytes (slice_range wire.now at (min (length wire.now) most_bytes)) reader.old }
     requires open { is_settled reader.old.place ≡ false }
     requires at { reader.old.at ≡ at }
@@ -139,7 +169,8 @@ pub(crate) fn go_on(
     ensures refused { OnErr result (IsProgress method (take before wire.now) progress.new) }
     ensures refused_phase { OnErr result (progress.new.phase ≡ progress.old.phase) }
 {
-    match progress.phase {
+    let phase = progress.phase;
+    match phase {
         Phase::Heads(mut passed) => match final_head_from(
             &wire[..wire.len().min(MOST_BYTES)],
             &mut passed,

@@ -1,10 +1,8 @@
 //! Decoding all of the bytes at once.
 
 ghost use Rattle.std.specs.Prelude.{◌≡◌, ℕ, ◌+◌, ◌<◌, ◌^◌, IfOk, OnErr, Ok};
-ghost use Rattle.httparse.specs.Grammar.{ResponseHead};
 ghost use Rattle.mx_head.specs.declared.types.Framing.TheVariants.{Chunked};
-ghost use Rattle.mx_head.specs.Framing.{framing_of};
-ghost use Rattle.mx_head.specs.Reading.{Describes};
+ghost use Rattle.mx_head.specs.Summary.{framing_by};
 ghost use Rattle.mx_body.specs.Response.{one_part};
 ghost use Rattle.mx_body.specs.Decision.{first_bytes, IsVerdict, BeginsWithParts};
 ghost use Rattle.mx_body.specs.Steps.{HasHeadAt, IsFinalStepOn, IsWholeAt, IsShortBody};
@@ -13,14 +11,12 @@ ghost use Rattle.mx_body.specs.declared.heads.FinalStep.TheVariants.{More};
 use crate::chunked::parts::chunked_parts;
 use crate::chunked::scan::{ChunkedScan, scan_chunked};
 use crate::heads::{FinalStep, final_head};
+use crate::limits::MOST_BYTES;
 use crate::part::Part;
 use crate::verdict::Verdict;
 use mx_head::{Framing, Head, framing, keeps};
 use mx_types::{Code, Method, OutOfMemory};
 use std::alloc::Global;
-
-/// The most bytes of a whole response.
-pub(crate) const MOST_BYTES: usize = 67_108_864;
 
 /// The parts of a body in one piece.
 fn one_part(alloc: Global, start: u32, len: u32) -> Result<Vec<Part>, OutOfMemory>
@@ -84,7 +80,7 @@ fn decode_chunked(
     ended: bool,
 ) -> Result<Verdict, OutOfMemory>
     requires head { HasHeadAt input.now head.now at }
-    requires chunked { (h : ResponseHead) → Describes head.now h → framing_of method h ≡ Ok Chunked }
+    requires chunked { framing_by method head.now ≡ Ok Chunked }
     ensures verdict { IfOk result (IsVerdict method input.now ended) }
     ensures memory { OnErr result (BeginsWithParts method input.now ended) }
 {

@@ -3,10 +3,9 @@ use Rattle.std.proofs.Common.{◌≡◌, ℕ, List, [], ◌++◌, refl, sym, ap,
 use Rattle.std.proofs.lemmas.List.{append-nil}
 use Rattle.httparse.specs.Grammar.{ResponseHead, print_response}
 use Rattle.httparse.proofs.GrammarLemmas.{response_unique}
-use Rattle.mx_head.specs.declared.types.Head.{Head}
 use Rattle.mx_head.specs.declared.types.HeadStep.TheVariants as step
 use Rattle.mx_head.specs.Faults.{many_fields, never_head, long_head, head_code, head_line, MeetsAtHead}
-use Rattle.mx_head.specs.Reading.{Describes}
+use Rattle.mx_head.specs.Summary.{Summary, Describes}
 use Rattle.mx_head.specs.Laws.{HasOneCodePerLine, HasOneStep, HasOneHead, HeadsArePrefixFree, StepStaysSame}
 use Rattle.mx_head.proofs.FaultLemmas.{head_meets_nothing}
 use Rattle.mx_head.proofs.FirstLemmas.{one_first}
@@ -32,7 +31,7 @@ heads_are_prefix_free h k rest x y e =
     (one.0, one.1)
 
 -- values that describe one head are the same
-same_head : (x y : Head) (h : ResponseHead) → Describes x h → Describes y h → x ≡ y
+same_head : (x y : Summary) (h : ResponseHead) → Describes x h → Describes y h → x ≡ y
 same_head x y h d e = λ i. record {
   len = (d.len ∙ sym e.len) i;
   status = (d.status ∙ sym e.status) i;

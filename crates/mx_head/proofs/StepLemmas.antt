@@ -6,13 +6,13 @@ use Rattle.httparse.specs.Ascii.{crlf_bytes}
 use Rattle.httparse.specs.Grammar.{ResponseHead, print_response, ReadsResponse, HasNoResponse, NeverHasResponse, MayBecomeResponse}
 use Rattle.httparse.specs.Spans.{ResponseExceeds}
 use Rattle.mx_types.specs.declared.code.Code.TheVariants.{WeirdServerReply, TooLarge}
-use Rattle.mx_head.specs.declared.types.Head.{Head}
 use Rattle.mx_head.specs.declared.types.HeadStep.{HeadStep}
 use Rattle.mx_head.specs.declared.types.HeadStep.TheVariants as step
 use Rattle.mx_head.specs.Heads.{HasNoHead}
 use Rattle.mx_head.specs.Faults.{HeadCause, many_fields, never_head, long_head, head_code, head_line, HasAllFields, HasManyFields, MeetsAtHead, ComesFirst, MeetsNothing}
 use Rattle.mx_head.specs.Lines.{start, IsFull, HasFieldPast}
-use Rattle.mx_head.specs.Reading.{Describes, IsStepOn}
+use Rattle.mx_head.specs.Reading.{IsStepOn}
+use Rattle.mx_head.specs.Summary.{Summary, Describes}
 use Rattle.mx_head.proofs.LineLemmas.{front_of, full_once}
 use Rattle.mx_head.proofs.FaultLemmas.{full_has_all, all_is_full, head_meets_nothing, exceeds_past}
 
@@ -119,7 +119,7 @@ long_step text long none may = (
 
 -- ---- before a field past the last: s is full, and b follows it
 
-pub before_whole : (s : List ℕ) (b : ℕ) (after : List ℕ) (x : Head) (h : ResponseHead) (rest : List ℕ)
+pub before_whole : (s : List ℕ) (b : ℕ) (after : List ℕ) (x : Summary) (h : ResponseHead) (rest : List ℕ)
     → length s ≤ 65536 → ReadsResponse s h rest → length h.fields ≤ 128 → Describes x h
     → IsStepOn (s ++ b ∷ after) (step.Head x)
 before_whole s b after x h rest small reads few d = (

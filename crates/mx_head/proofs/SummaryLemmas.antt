@@ -1,5 +1,5 @@
 -- What a `Head` keeps decides the two rules as the head that it describes does.
-use Rattle.std.proofs.Common.{◌≡◌, ℕ, Bool, true, false, not, cond, ◌&&◌, ◌||◌, List, [], ◌∷◌, refl, sym, ap, ◌∙◌}
+use Rattle.std.proofs.Common.{◌≡◌, ℕ, Bool, true, false, not, cond, ◌&&◌, ◌||◌, List, [], ◌∷◌, refl, ap, ◌∙◌}
 use Rattle.std.specs.Prelude.{codes, ◌==◌, filter, Ok, Err}
 use Rattle.std.specs.List.{list_all}
 use Rattle.std.specs.Str.Parse.{digits_value}
@@ -7,14 +7,13 @@ use Rattle.httparse.specs.Grammar.{ResponseHead, status_code}
 use Rattle.mx_types.specs.declared.code.Code.TheVariants.{WeirdServerReply, BadContentEncoding}
 use Rattle.mx_types.specs.declared.method.Method.{Method}
 use Rattle.mx_head.specs.declared.types.Framing.TheVariants.{Empty, Counted}
-use Rattle.mx_head.specs.declared.types.Head.{Head}
 use Rattle.mx_head.specs.declared.types.Coding.TheVariants as coding
 use Rattle.mx_head.specs.declared.types.Length.{Length}
 use Rattle.mx_head.specs.declared.types.Length.TheVariants as sized
 use Rattle.mx_head.specs.Fields.{elements, lines_of}
 use Rattle.mx_head.specs.Framing.{has_no_body, by_length, chunked_framing, by_fields, framing_of, keeps_of, is_there, is_blank, is_chunked_alone, is_number, is_number_of}
-use Rattle.mx_head.specs.Reading.{Describes}
-use Rattle.mx_head.specs.Summary.{coding_of, length_of, by_length_kept, by_kept, is_coded, is_sized}
+use Rattle.mx_head.specs.Laws.{SummaryDecides}
+use Rattle.mx_head.specs.Summary.{Summary, Describes, coding_of, length_of, by_length_kept, by_kept, is_coded, is_sized, framing_by, keeps_by}
 
 by_length_test : (t : Bool) (n : ℕ)
     → by_length_kept (cond t (sized.Counted n) sized.Invalid) ≡ cond t (Ok (Counted n)) (Err WeirdServerReply)
@@ -51,8 +50,8 @@ sized_agrees : (ls : List (List ℕ)) → is_sized (length_of ls) ≡ is_there l
 sized_agrees [] = refl
 sized_agrees (e ∷ es) = sized_test (is_number e && list_all (is_number_of (digits_value 10 e)) es) _
 
-pub framing_agrees : (m : Method) (x : Head) (h : ResponseHead) → Describes x h
-    → cond (has_no_body m x.status) (Ok Empty) (by_kept x.minor x.coding x.length) ≡ framing_of m h
+pub framing_agrees : (m : Method) (x : Summary) (h : ResponseHead) → Describes x h
+    → framing_by m x ≡ framing_of m h
 unfolding framing_of
 framing_agrees m x h d =
     let codings = elements (codes "transfer-encoding") (lines_of h) in
@@ -60,20 +59,13 @@ framing_agrees m x h d =
     (λ i. cond (has_no_body m (d.status i)) (Ok Empty) (by_kept (d.minor i) (d.coding i) (d.length i)))
     ∙ ap (λ r. cond (has_no_body m (status_code h)) (Ok Empty) r) (by_kept_agrees h.minor codings lengths)
 
-pub keeps_agrees : (x : Head) (h : ResponseHead) → Describes x h
-    → (not x.close && (not (x.minor == 0) || x.keep_alive) && not (is_coded x.coding && (is_sized x.length || (x.minor == 0)))) ≡ keeps_of h
+pub keeps_agrees : (x : Summary) (h : ResponseHead) → Describes x h
+    → keeps_by x ≡ keeps_of h
 unfolding keeps_of
 keeps_agrees x h d =
     let codings = elements (codes "transfer-encoding") (lines_of h) in
     let lengths = elements (codes "content-length") (lines_of h) in
     (λ i. not (d.close i) && (not (d.minor i == 0) || d.keep_alive i) && not ((ap is_coded d.coding ∙ coded_agrees codings) i && ((ap is_sized d.length ∙ sized_agrees lengths) i || (d.minor i == 0))))
 
-pub framing_without : (m : Method) (x : Head) (h : ResponseHead) → Describes x h
-    → has_no_body m x.status ≡ true → Ok Empty ≡ framing_of m h
-framing_without m x h d none =
-    sym (ap (λ t. cond t (Ok Empty) (by_kept x.minor x.coding x.length)) none) ∙ framing_agrees m x h d
-
-pub framing_with : (m : Method) (x : Head) (h : ResponseHead) → Describes x h
-    → has_no_body m x.status ≡ false → by_kept x.minor x.coding x.length ≡ framing_of m h
-framing_with m x h d some =
-    sym (ap (λ t. cond t (Ok Empty) (by_kept x.minor x.coding x.length)) some) ∙ framing_agrees m x h d
+pub summary_decides : SummaryDecides
+summary_decides m x h d = (framing_agrees m x h d, keeps_agrees x h d)

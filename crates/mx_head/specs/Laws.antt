@@ -4,7 +4,10 @@ use Rattle.httparse.specs.Grammar.{ResponseHead, print_response}
 use Rattle.mx_types.specs.declared.code.Code.{Code}
 use Rattle.mx_head.specs.declared.types.HeadStep.{HeadStep}
 use Rattle.mx_head.specs.declared.types.HeadStep.TheVariants.{More}
+use Rattle.mx_types.specs.declared.method.Method.{Method}
 use Rattle.mx_head.specs.Heads.{IsHead, ReadsHead}
+use Rattle.mx_head.specs.Framing.{framing_of, keeps_of}
+use Rattle.mx_head.specs.Summary.{Summary, Describes, framing_by, keeps_by}
 use Rattle.mx_head.specs.Faults.{MeetsAtHead, ComesFirst, MeetsNothing}
 use Rattle.mx_head.specs.Reading.{IsStepOn}
 
@@ -73,6 +76,12 @@ abbrev pub HeadMeetsNothing : Type 0
 HeadMeetsNothing =
     (input : List ℕ) (h : ResponseHead) (rest : List ℕ) → ReadsHead input h rest
     → MeetsNothing MeetsAtHead input
+
+-- what is kept of a head decides the framing and the keeping as the head does
+abbrev pub SummaryDecides : Type 0
+SummaryDecides =
+    (m : Method) (x : Summary) (h : ResponseHead) → Describes x h
+    → (framing_by m x ≡ framing_of m h) × (keeps_by x ≡ keeps_of h)
 
 -- a head and a fault stay the same whatever follows
 abbrev pub StepStaysSame : Type 0

@@ -3,11 +3,11 @@ pub mod Limits
 pub mod Heads
 pub mod Fields
 pub mod Framing
+pub mod Summary
 pub mod Faults
 pub mod Reading
 pub mod Laws
 -- Private: what the functions behind these promise one another. Nothing outside the crate names them.
-pub mod Summary
 pub mod Steps
 pub mod Lines
 pub mod Tried

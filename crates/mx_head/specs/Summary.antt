@@ -1,16 +1,30 @@
--- What a `Head` keeps of the fields, and the rules of framing and of keeping from that.
-use Rattle.std.specs.Prelude.{ℕ, min, ◌^◌, ◌-◌, Bool, true, false, not, ◌&&◌, List, [], ◌∷◌, if◌then◌else◌, ◌==◌, Result, Ok, Err, filter}
+-- What is kept of a head, which is what contracts see of a `Head`, and the rules of framing and of keeping from that.
+use Rattle.std.specs.Prelude.{◌≡◌, ℕ, min, ◌^◌, ◌-◌, Bool, true, false, not, ◌&&◌, ◌||◌, List, [], ◌∷◌, if◌then◌else◌, ◌==◌, Result, Ok, Err, filter, length, codes}
 use Rattle.std.specs.List.{list_all}
 use Rattle.std.specs.Str.Parse.{digits_value}
+use Rattle.httparse.specs.Grammar.{ResponseHead, print_response, status_code}
 use Rattle.mx_types.specs.declared.code.Code.{Code}
 use Rattle.mx_types.specs.declared.code.Code.TheVariants.{WeirdServerReply, BadContentEncoding}
+use Rattle.mx_types.specs.declared.method.Method.{Method}
 use Rattle.mx_head.specs.declared.types.Framing.{Framing}
-use Rattle.mx_head.specs.declared.types.Framing.TheVariants.{Counted, Close}
+use Rattle.mx_head.specs.declared.types.Framing.TheVariants.{Empty, Counted, Close}
 use Rattle.mx_head.specs.declared.types.Coding.{Coding}
 use Rattle.mx_head.specs.declared.types.Coding.TheVariants as coding
 use Rattle.mx_head.specs.declared.types.Length.{Length}
 use Rattle.mx_head.specs.declared.types.Length.TheVariants as sized
-use Rattle.mx_head.specs.Framing.{is_blank, is_chunked_alone, is_number, is_number_of, chunked_framing}
+use Rattle.mx_head.specs.Fields.{lines_of, elements}
+use Rattle.mx_head.specs.Framing.{has_no_body, has_word, is_blank, is_chunked_alone, is_number, is_number_of, chunked_framing}
+
+-- the bytes of the head, its status, its minor version, what Transfer-Encoding and Content-Length come to, and
+-- whether Connection has `close` and `keep-alive`
+pub record Summary : Type 0 where
+  pub len : ℕ
+  pub status : ℕ
+  pub minor : ℕ
+  pub coding : Coding
+  pub length : Length
+  pub close : Bool
+  pub keep_alive : Bool
 
 -- what the elements of Transfer-Encoding come to
 abbrev pub coding_of : List (List ℕ) → Coding
@@ -48,3 +62,23 @@ abbrev pub is_sized : Length → Bool
 is_sized sized.Absent = false
 is_sized (sized.Counted n) = true
 is_sized sized.Invalid = true
+
+-- the framing of a response to that method whose head has this summary
+abbrev pub framing_by : Method → Summary → Result Framing Code
+framing_by m x = if has_no_body m x.status then Ok Empty else by_kept x.minor x.coding x.length
+
+-- whether its connection may serve another request
+abbrev pub keeps_by : Summary → Bool
+keeps_by x =
+    not x.close && (not (x.minor == 0) || x.keep_alive)
+    && not (is_coded x.coding && (is_sized x.length || (x.minor == 0)))
+
+-- x is the summary of the head h
+pub record Describes (x : Summary) (h : ResponseHead) : Type 0 where
+  pub len : x.len ≡ length (print_response h)
+  pub status : x.status ≡ status_code h
+  pub minor : x.minor ≡ h.minor
+  pub coding : x.coding ≡ coding_of (elements (codes "transfer-encoding") (lines_of h))
+  pub length : x.length ≡ length_of (elements (codes "content-length") (lines_of h))
+  pub close : x.close ≡ has_word (codes "close") (elements (codes "connection") (lines_of h))
+  pub keep_alive : x.keep_alive ≡ has_word (codes "keep-alive") (elements (codes "connection") (lines_of h))

@@ -6,7 +6,7 @@ use Rattle.mx_head.specs.declared.reading.Tried.{Tried}
 use Rattle.mx_head.specs.declared.reading.Tried.TheVariants as tried
 use Rattle.mx_head.specs.Limits.{most_fields}
 use Rattle.mx_head.specs.Lines.{IsFull}
-use Rattle.mx_head.specs.Reading.{Describes}
+use Rattle.mx_head.specs.Summary.{Describes}
 
 abbrev pub IsTriedOn : List ℕ → Tried → Type 0
 IsTriedOn text (tried.Whole x) =

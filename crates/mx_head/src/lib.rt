@@ -9,11 +9,10 @@ mod limits;
 mod lines;
 mod reading;
 mod rules;
-#[cfg(test)]
-mod tests;
 mod text;
 mod types;
 
+pub use crate::limits::{MOST_FIELDS, MOST_HEAD_BYTES};
 pub use crate::reading::read_head;
 pub use crate::rules::{framing, keeps};
 pub use crate::types::{Framing, Head, HeadStep};

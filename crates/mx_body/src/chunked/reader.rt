@@ -12,11 +12,9 @@ use crate::Part;
 use crate::chunked::parts::begun;
 use crate::chunked::place::Place;
 use crate::chunked::scan::ChunkedScan;
+use crate::limits::MOST_BYTES;
 use mx_types::OutOfMemory;
 use std::alloc::Global;
-
-/// The most bytes of a whole response.
-const MOST_BYTES: u32 = 67_108_864;
 
 /// How far a chunked body has been read, and where the data of its chunks stand.
 #[derive(Drop)]
@@ -76,7 +74,7 @@ impl ChunkedReader {
         let mut place = self.place;
         let mut read = self.read;
         while read < body.len() {
-            let (next, len) = place.advance(MOST_BYTES, &body[read..]);
+            let (next, len) = place.advance(MOST_BYTES as u32, &body[read..]);
             read += len;
             match add_part(&mut self.parts, begun(place, next, self.at + read as u32)) {
                 Ok(()) => {}

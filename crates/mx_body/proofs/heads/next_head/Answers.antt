@@ -8,7 +8,7 @@ use Rattle.mx_body.proofs.heads.next_head.Goals as goal
 pub returns-then-status-eq-SWITCHING_PROTOCOLS : goal.returns-then-status-eq-SWITCHING_PROTOCOLS
 returns-then-status-eq-SWITCHING_PROTOCOLS c =
     let s = subst (IsStepOn (tail_from c.args.start c.args.text.now)) c.in-Head.is c.read_head.ensures in
-    let status = c.status-status.ensures s.0 s.3 in
+    let status = c.status-status.ensures ∙ s.3.status in
     let interim = subst IsInterimStatus status (c.is_interim.ensures.0 c.if-not-is_interim.false) in
     refused_next c.args.text.now c.args.start c.args.passed s.0 s.1 c.requires s.2.0 s.2.1 interim
     (elim c.then-status-eq-SWITCHING_PROTOCOLS.branch [
@@ -29,15 +29,15 @@ returns-in-More c =
 pub returns-else-passed-eq-MOST_INTERIM : goal.returns-else-passed-eq-MOST_INTERIM
 returns-else-passed-eq-MOST_INTERIM c =
     let s = subst (IsStepOn (tail_from c.args.start c.args.text.now)) c.in-Head.is c.read_head.ensures in
-    let status = c.status-status.ensures s.0 s.3 in
+    let status = c.status-status.ensures ∙ s.3.status in
     let interim = subst IsInterimStatus status (c.is_interim.ensures.0 c.if-not-is_interim.false) in
     passed_next c.args.text.now c.args.start c.args.passed (c.args.start + c.len.result) s.0 s.1 c.requires s.2.0 s.2.1 interim
-    (λ leaves. c.if-status-eq-SWITCHING_PROTOCOLS.false (status ∙ leaves)) c.if-passed-eq-MOST_INTERIM.false (ap (λ n. c.args.start + n) (c.len.ensures s.0 s.3))
+    (λ leaves. c.if-status-eq-SWITCHING_PROTOCOLS.false (status ∙ leaves)) c.if-passed-eq-MOST_INTERIM.false (ap (λ n. c.args.start + n) (c.len.ensures ∙ s.3.len))
 
 pub returns-then-not-is_interim : goal.returns-then-not-is_interim
 returns-then-not-is_interim c =
     let s = subst (IsStepOn (tail_from c.args.start c.args.text.now)) c.in-Head.is c.read_head.ensures in
     final_next c.args.text.now c.args.start c.args.passed c.in-Head.head (c.args.start + c.len.result) s.0 s.1 c.requires s.2.0 s.2.1
-    (λ interim. let yes : c.is_interim.result ≡ true = c.is_interim.ensures.1 (subst IsInterimStatus (sym (c.status-status.ensures s.0 s.3)) interim) in
+    (λ interim. let yes : c.is_interim.result ≡ true = c.is_interim.ensures.1 (subst IsInterimStatus (sym (c.status-status.ensures ∙ s.3.status)) interim) in
     let both : false ≡ true = sym c.if-not-is_interim.true ∙ yes in cc)
-    s.3 (ap (λ n. c.args.start + n) (c.len.ensures s.0 s.3))
+    s.3 (ap (λ n. c.args.start + n) (c.len.ensures ∙ s.3.len))

@@ -1,6 +1,7 @@
 use Rattle.std.proofs.Common.{ℕ, List, ◌≡◌, ◌≤◌, ◌-◌, true, length, take, drop, subst, sym, ap, ◌∙◌, inl, arith, length-drop}
 use Rattle.std.proofs.lemmas.List.{take_all}
 use Rattle.mx_head.specs.Limits.{most_bytes}
+use Rattle.mx_head.proofs.SummaryLemmas.{framing_agrees}
 use Rattle.mx_body.specs.Decision.{first_bytes}
 use Rattle.mx_body.specs.declared.progress.Phase.{Phase}
 use Rattle.mx_body.specs.ChunkedPlace.{is_settled}
@@ -38,7 +39,7 @@ decode_short-requires c =
     let all = take_all (length wire - at) (drop at wire) (omega (arith, length-drop at wire)) in
     let read = take_all r.read (drop at wire) (omega (arith, p.5)) in
     let undecided = open_is_undecided most_bytes (take r.read (drop at wire)) (ap is_settled p.2.place ∙ p.3) in (
-      short_undecided c.args.method wire true d.interim d.head d.rest d.stands (p.1 d.head d.describes)
+      short_undecided c.args.method wire true d.interim d.head d.rest d.stands (sym (framing_agrees _ _ d.head d.describes) ∙ p.1)
           (subst (IsUndecidedChunked most_bytes) (read ∙ sym all ∙ seen) undecided),
       (d.interim, d.head, d.rest, d.stands),
     )

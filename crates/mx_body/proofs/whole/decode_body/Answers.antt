@@ -1,4 +1,5 @@
 use Rattle.std.proofs.Common.{◌≡◌, true, false, inl, inr, length, refl, sym, ap, ◌∙◌, arith, Ok}
+use Rattle.mx_head.proofs.SummaryLemmas.{framing_agrees, keeps_agrees}
 use Rattle.mx_body.proofs.VerdictLemmas.{refused_framing, counted_too_big, counted_short, close_short, empty_body, counted_body, close_body, plain_verdict, plain_parts, whole_at, ok_map, err_map, input_length}
 use Rattle.mx_body.proofs.HeadsLemmas.{body_start_small}
 use Rattle.mx_body.proofs.whole.decode_body.Goals as goal
@@ -7,37 +8,37 @@ pub returns-in-Err-clause-verdict : goal.returns-in-Err-clause-verdict
 returns-in-Err-clause-verdict c =
     let d = c.requires in
     refused_framing c.args.method c.args.input.now c.args.ended d.interim d.head d.rest c.in-Err.code d.stands
-    (sym (c.framing.ensures d.head d.describes) ∙ c.in-Err.is)
+    (sym (c.framing.ensures ∙ framing_agrees _ _ d.head d.describes) ∙ c.in-Err.is)
 
 pub returns-in-Ok-Empty-clause-verdict : goal.returns-in-Ok-Empty-clause-verdict
 returns-in-Ok-Empty-clause-verdict c =
     let d = c.requires in
-    let f = sym (c.framing.ensures d.head d.describes) ∙ c.in-Ok-Empty.is ∙ ap Ok c.in-Ok-Empty.field-0-is in
+    let f = sym (c.framing.ensures ∙ framing_agrees _ _ d.head d.describes) ∙ c.in-Ok-Empty.is ∙ ap Ok c.in-Ok-Empty.field-0-is in
     ok_map _ c.complete.ensures.whole (λ v w.
     plain_verdict _ _ _ d.interim d.head 0 (empty_body _ _ c.args.ended d.interim d.head d.rest d.stands f) _ v refl
-    (whole_at v (c.status.ensures d.head d.describes) d.end_is refl (c.keeps.ensures d.head d.describes ∙ grind arith) w))
+    (whole_at v (c.status.ensures ∙ d.describes.status) d.end_is refl (c.keeps.ensures ∙ keeps_agrees _ d.head d.describes ∙ grind arith) w))
 
 pub returns-then-n-at-clause-verdict : goal.returns-then-n-at-clause-verdict
 returns-then-n-at-clause-verdict c =
     let d = c.requires in
-    let f = sym (c.framing.ensures d.head d.describes) ∙ c.in-Ok-Counted.is ∙ ap Ok c.in-Ok-Counted.field-0-is in
+    let f = sym (c.framing.ensures ∙ framing_agrees _ _ d.head d.describes) ∙ c.in-Ok-Counted.is ∙ ap Ok c.in-Ok-Counted.field-0-is in
     counted_too_big _ _ _ d.interim d.head d.rest c.in-Ok-Counted.n d.stands f (omega (arith, c.if-n-at.true, d.end_is))
 
 pub returns-then-n-left-clause-verdict : goal.returns-then-n-left-clause-verdict
 returns-then-n-left-clause-verdict c =
     let d = c.requires in
-    let f = sym (c.framing.ensures d.head d.describes) ∙ c.in-Ok-Counted.is ∙ ap Ok c.in-Ok-Counted.field-0-is in
+    let f = sym (c.framing.ensures ∙ framing_agrees _ _ d.head d.describes) ∙ c.in-Ok-Counted.is ∙ ap Ok c.in-Ok-Counted.field-0-is in
     let small = body_start_small c.args.input.now d.interim d.head d.rest d.stands in
     let p = counted_body c.args.method c.args.input.now c.args.ended d.interim d.head d.rest c.in-Ok-Counted.n d.stands f
     (omega (arith, c.if-n-at.false, d.end_is, small)) (omega (arith, c.if-n-left.true, d.end_is, input_length c.args.input.now d.interim d.head d.rest d.stands)) in
     ok_map _ c.complete-then-n-left.ensures.whole (λ v w.
     plain_verdict _ _ _ d.interim d.head c.in-Ok-Counted.n p _ v refl
-    (whole_at v (c.status-then-n-left.ensures d.head d.describes) d.end_is refl (c.keeps-then-n-left.ensures d.head d.describes ∙ grind arith) w))
+    (whole_at v (c.status-then-n-left.ensures ∙ d.describes.status) d.end_is refl (c.keeps-then-n-left.ensures ∙ keeps_agrees _ d.head d.describes ∙ grind arith) w))
 
 pub returns-then-n-left-clause-memory : goal.returns-then-n-left-clause-memory
 returns-then-n-left-clause-memory c =
     let d = c.requires in
-    let f = sym (c.framing.ensures d.head d.describes) ∙ c.in-Ok-Counted.is ∙ ap Ok c.in-Ok-Counted.field-0-is in
+    let f = sym (c.framing.ensures ∙ framing_agrees _ _ d.head d.describes) ∙ c.in-Ok-Counted.is ∙ ap Ok c.in-Ok-Counted.field-0-is in
     let small = body_start_small c.args.input.now d.interim d.head d.rest d.stands in
     let p = counted_body c.args.method c.args.input.now c.args.ended d.interim d.head d.rest c.in-Ok-Counted.n d.stands f
     (omega (arith, c.if-n-at.false, d.end_is, small)) (omega (arith, c.if-n-left.true, d.end_is, input_length c.args.input.now d.interim d.head d.rest d.stands)) in
@@ -46,7 +47,7 @@ returns-then-n-left-clause-memory c =
 pub returns-then-input-gt-MOST_BYTES-clause-verdict : goal.returns-then-input-gt-MOST_BYTES-clause-verdict
 returns-then-input-gt-MOST_BYTES-clause-verdict c =
     let d = c.requires in
-    let f = sym (c.framing.ensures d.head d.describes) ∙ c.in-Ok-Close.is ∙ ap Ok c.in-Ok-Close.field-0-is in
+    let f = sym (c.framing.ensures ∙ framing_agrees _ _ d.head d.describes) ∙ c.in-Ok-Close.is ∙ ap Ok c.in-Ok-Close.field-0-is in
     let long = input_length c.args.input.now d.interim d.head d.rest d.stands in
     let u = close_short c.args.method c.args.input.now c.args.ended d.interim d.head d.rest d.stands f (λ end few. omega (arith, few, long, c.if-input-gt-MOST_BYTES.true)) in
     (u.unfinished, inr (inl (u, c.if-input-gt-MOST_BYTES.true, refl)))
@@ -54,7 +55,7 @@ returns-then-input-gt-MOST_BYTES-clause-verdict c =
 pub returns-then-ended-clause-verdict : goal.returns-then-ended-clause-verdict
 returns-then-ended-clause-verdict c =
     let d = c.requires in
-    let f = sym (c.framing.ensures d.head d.describes) ∙ c.in-Ok-Counted.is ∙ ap Ok c.in-Ok-Counted.field-0-is in
+    let f = sym (c.framing.ensures ∙ framing_agrees _ _ d.head d.describes) ∙ c.in-Ok-Counted.is ∙ ap Ok c.in-Ok-Counted.field-0-is in
     let small = body_start_small c.args.input.now d.interim d.head d.rest d.stands in
     let long = input_length c.args.input.now d.interim d.head d.rest d.stands in
     let u = counted_short c.args.method c.args.input.now c.args.ended d.interim d.head d.rest c.in-Ok-Counted.n d.stands f
@@ -64,7 +65,7 @@ returns-then-ended-clause-verdict c =
 pub returns-else-ended-clause-verdict : goal.returns-else-ended-clause-verdict
 returns-else-ended-clause-verdict c =
     let d = c.requires in
-    let f = sym (c.framing.ensures d.head d.describes) ∙ c.in-Ok-Counted.is ∙ ap Ok c.in-Ok-Counted.field-0-is in
+    let f = sym (c.framing.ensures ∙ framing_agrees _ _ d.head d.describes) ∙ c.in-Ok-Counted.is ∙ ap Ok c.in-Ok-Counted.field-0-is in
     let small = body_start_small c.args.input.now d.interim d.head d.rest d.stands in
     let long = input_length c.args.input.now d.interim d.head d.rest d.stands in
     let u = counted_short c.args.method c.args.input.now c.args.ended d.interim d.head d.rest c.in-Ok-Counted.n d.stands f
@@ -74,17 +75,17 @@ returns-else-ended-clause-verdict c =
 pub returns-then-ended-2-clause-verdict : goal.returns-then-ended-2-clause-verdict
 returns-then-ended-2-clause-verdict c =
     let d = c.requires in
-    let f = sym (c.framing.ensures d.head d.describes) ∙ c.in-Ok-Close.is ∙ ap Ok c.in-Ok-Close.field-0-is in
+    let f = sym (c.framing.ensures ∙ framing_agrees _ _ d.head d.describes) ∙ c.in-Ok-Close.is ∙ ap Ok c.in-Ok-Close.field-0-is in
     let long = input_length c.args.input.now d.interim d.head d.rest d.stands in
     let p = close_body c.args.method c.args.input.now c.args.ended d.interim d.head d.rest d.stands f c.if-ended-2.true (omega (arith, long, c.if-input-gt-MOST_BYTES.false)) in
     ok_map _ c.complete-then-ended-2.ensures.whole (λ v w.
     plain_verdict _ _ _ d.interim d.head (length d.rest) p _ v refl
-    (whole_at v (c.status-then-ended-2.ensures d.head d.describes) d.end_is (omega (arith, d.end_is, long)) (grind arith) w))
+    (whole_at v (c.status-then-ended-2.ensures ∙ d.describes.status) d.end_is (omega (arith, d.end_is, long)) (grind arith) w))
 
 pub returns-then-ended-2-clause-memory : goal.returns-then-ended-2-clause-memory
 returns-then-ended-2-clause-memory c =
     let d = c.requires in
-    let f = sym (c.framing.ensures d.head d.describes) ∙ c.in-Ok-Close.is ∙ ap Ok c.in-Ok-Close.field-0-is in
+    let f = sym (c.framing.ensures ∙ framing_agrees _ _ d.head d.describes) ∙ c.in-Ok-Close.is ∙ ap Ok c.in-Ok-Close.field-0-is in
     let long = input_length c.args.input.now d.interim d.head d.rest d.stands in
     let p = close_body c.args.method c.args.input.now c.args.ended d.interim d.head d.rest d.stands f c.if-ended-2.true (omega (arith, long, c.if-input-gt-MOST_BYTES.false)) in
     err_map _ c.complete-then-ended-2.ensures.memory (λ some. plain_parts _ _ _ d.interim d.head (length d.rest) p (omega (arith, some, d.end_is, long)))
@@ -92,10 +93,10 @@ returns-then-ended-2-clause-memory c =
 pub returns-else-ended-2-clause-verdict : goal.returns-else-ended-2-clause-verdict
 returns-else-ended-2-clause-verdict c =
     let d = c.requires in
-    let f = sym (c.framing.ensures d.head d.describes) ∙ c.in-Ok-Close.is ∙ ap Ok c.in-Ok-Close.field-0-is in
+    let f = sym (c.framing.ensures ∙ framing_agrees _ _ d.head d.describes) ∙ c.in-Ok-Close.is ∙ ap Ok c.in-Ok-Close.field-0-is in
     let u = close_short c.args.method c.args.input.now c.args.ended d.interim d.head d.rest d.stands f (λ end few. let both : false ≡ true = sym c.if-ended-2.false ∙ end in cc) in
     (u, c.if-input-gt-MOST_BYTES.false, c.if-ended-2.false)
 
 pub decode_chunked-requires-clause-chunked : goal.decode_chunked-requires-clause-chunked
-decode_chunked-requires-clause-chunked c h d =
-    sym (c.framing.ensures h d) ∙ c.in-Ok-Chunked.is ∙ ap Ok c.in-Ok-Chunked.field-0-is
+decode_chunked-requires-clause-chunked c =
+    sym c.framing.ensures ∙ c.in-Ok-Chunked.is ∙ ap Ok c.in-Ok-Chunked.field-0-is

@@ -1,5 +1,6 @@
-use Rattle.std.proofs.Common.{ℕ, List, ◌++◌, length, take, ap, subst, ◌∙◌, arith, length-append}
+use Rattle.std.proofs.Common.{ℕ, List, ◌++◌, length, take, ap, subst, ◌∙◌, arith, length-append, sym}
 use Rattle.mx_head.specs.Limits.{most_bytes}
+use Rattle.mx_head.proofs.SummaryLemmas.{framing_agrees, keeps_agrees}
 use Rattle.mx_body.specs.Chunked.{print_chunked, chunk_parts}
 use Rattle.mx_body.specs.ChunkedScan.{IsChunkedScan}
 use Rattle.mx_body.proofs.MeetsLemmas.{body_start, body_response}
@@ -13,7 +14,7 @@ decode_short-requires c =
     let d = c.requires.head in
     let seen = seen_is c.args.input.now d.interim d.head d.rest d.stands c.args.at c.min.result d.end_is c.min.ensures in
     let scan = subst (λ (t : List ℕ). IsChunkedScan most_bytes t c.scan_chunked.result) seen c.scan_chunked.ensures in (
-      short_undecided c.args.method c.args.input.now c.args.ended d.interim d.head d.rest d.stands (c.requires.chunked d.head d.describes)
+      short_undecided c.args.method c.args.input.now c.args.ended d.interim d.head d.rest d.stands (sym (framing_agrees _ _ d.head d.describes) ∙ c.requires.chunked)
           (subst (IsChunkedScan most_bytes (first_body c.args.input.now d.interim d.head d.rest d.stands).seen) c.in-Short.is scan),
       (d.interim, d.head, d.rest, d.stands),
     )
@@ -23,7 +24,7 @@ returns-in-TooLarge-clause-verdict c =
     let d = c.requires.head in
     let seen = seen_is c.args.input.now d.interim d.head d.rest d.stands c.args.at c.min.result d.end_is c.min.ensures in
     let scan = subst (λ (t : List ℕ). IsChunkedScan most_bytes t c.scan_chunked.result) seen c.scan_chunked.ensures in
-    large_verdict c.args.method c.args.input.now c.args.ended d.interim d.head d.rest d.stands (c.requires.chunked d.head d.describes)
+    large_verdict c.args.method c.args.input.now c.args.ended d.interim d.head d.rest d.stands (sym (framing_agrees _ _ d.head d.describes) ∙ c.requires.chunked)
     (subst (IsChunkedScan most_bytes (first_body c.args.input.now d.interim d.head d.rest d.stands).seen) c.in-TooLarge.is scan)
 
 pub returns-in-Bad-clause-verdict : goal.returns-in-Bad-clause-verdict
@@ -31,13 +32,13 @@ returns-in-Bad-clause-verdict c =
     let d = c.requires.head in
     let seen = seen_is c.args.input.now d.interim d.head d.rest d.stands c.args.at c.min.result d.end_is c.min.ensures in
     let scan = subst (λ (t : List ℕ). IsChunkedScan most_bytes t c.scan_chunked.result) seen c.scan_chunked.ensures in
-    bad_verdict c.args.method c.args.input.now c.args.ended d.interim d.head d.rest d.stands (c.requires.chunked d.head d.describes)
+    bad_verdict c.args.method c.args.input.now c.args.ended d.interim d.head d.rest d.stands (sym (framing_agrees _ _ d.head d.describes) ∙ c.requires.chunked)
     (subst (IsChunkedScan most_bytes (first_body c.args.input.now d.interim d.head d.rest d.stands).seen) c.in-Bad.is scan)
 
 pub returns-in_err-parts-in-Whole-clause-memory : goal.returns-in_err-parts-in-Whole-clause-memory
 returns-in_err-parts-in-Whole-clause-memory c =
     let d = c.requires.head in
-    let f = c.requires.chunked d.head d.describes in
+    let f = sym (framing_agrees _ _ d.head d.describes) ∙ c.requires.chunked in
     let g = first_body c.args.input.now d.interim d.head d.rest d.stands in
     let seen = seen_is c.args.input.now d.interim d.head d.rest d.stands c.args.at c.min.result d.end_is c.min.ensures in
     let scan = subst (λ (t : List ℕ). IsChunkedScan most_bytes t c.scan_chunked.result) seen c.scan_chunked.ensures in
@@ -53,7 +54,7 @@ returns-in_err-parts-in-Whole-clause-memory c =
 pub returns-in_ok-parts-in-Whole-clause-verdict : goal.returns-in_ok-parts-in-Whole-clause-verdict
 returns-in_ok-parts-in-Whole-clause-verdict c =
     let d = c.requires.head in
-    let f = c.requires.chunked d.head d.describes in
+    let f = sym (framing_agrees _ _ d.head d.describes) ∙ c.requires.chunked in
     let g = first_body c.args.input.now d.interim d.head d.rest d.stands in
     let seen = seen_is c.args.input.now d.interim d.head d.rest d.stands c.args.at c.min.result d.end_is c.min.ensures in
     let scan = subst (λ (t : List ℕ). IsChunkedScan most_bytes t c.scan_chunked.result) seen c.scan_chunked.ensures in
@@ -63,8 +64,8 @@ returns-in_ok-parts-in-Whole-clause-verdict c =
       _,
       x.1 ++ g.after,
       body_response c.args.method c.args.input.now c.args.ended d.interim d.head d.rest d.stands _ _ _ _ _ b,
-      c.status.ensures d.head d.describes,
+      c.status.ensures ∙ d.describes.status,
       omega (arith, d.end_is, x.3, input_length c.args.input.now d.interim d.head d.rest d.stands, ap length b.splits, length-append (print_chunked x.0) (x.1 ++ g.after)),
       c.in_ok-parts-in-Whole.ensures.parts x.0 x.2.0 text ∙ (λ i. chunk_parts (d.end_is i) x.0.chunks),
-      c.keeps.ensures d.head d.describes ∙ grind arith,
+      c.keeps.ensures ∙ keeps_agrees _ d.head d.describes ∙ grind arith,
     )

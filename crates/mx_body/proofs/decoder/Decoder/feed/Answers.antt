@@ -1,4 +1,4 @@
-use Rattle.std.proofs.Common.{◌≡◌, ℕ, List, Bool, take, subst, sym, ap, ◌∙◌, Ok, arith, rules}
+use Rattle.std.proofs.Common.{◌≡◌, ℕ, ◌++◌, List, Bool, take, subst, sym, ap, ◌∙◌, Ok, arith, rules}
 use Rattle.std.proofs.lemmas.List.{take-append-le, take_all}
 use Rattle.mx_body.specs.Decision.{IsVerdict, HasStatus}
 use Rattle.mx_body.specs.Progress.{status_read}
@@ -28,6 +28,7 @@ pub invariant_of-self-in-Err : goal.invariant_of-self-in-Err
 invariant_of-self-in-Err c =
     let same : c.truncate.new.self.items ≡ c.self.inside.wire.items =
     c.truncate.ensures.items ∙ ap (take c.len-len.result) c.in_ok-extend_from_slice.ensures.items
+    ∙ ap (λ (t : List ℕ). take c.len-len.result (t ++ c.args.piece.now)) c.make_room.ensures.items
     ∙ take-append-le c.len-len.result c.self.inside.wire.items c.args.piece.now (omega arith) ∙ take_all c.len-len.result c.self.inside.wire.items (omega arith) in
     let phase = c.in-Err.ensures.refused_phase in (
       subst (λ (t : List ℕ). IsVerdict c.self.inside.method t c.self.inside.ended c.self.inside.verdict) (sym same) c.self.invariant.0,

@@ -1,4 +1,6 @@
-use crate::{Part, Verdict, decode_whole};
+//! Whole responses. The offsets were counted by hand.
+
+use mx_body::{Part, Verdict, decode_whole};
 use mx_types::{Code, Method, OutOfMemory};
 use std::alloc::Global;
 

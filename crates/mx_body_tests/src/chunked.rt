@@ -2,10 +2,10 @@
 
 ghost use Rattle.std.specs.Prelude.{◌+◌, ◌<◌, ◌^◌, length};
 
-use crate::Part;
-use crate::chunked::laws;
-use crate::chunked::parts::chunked_parts;
-use crate::chunked::scan::{ChunkedScan, scan_chunked};
+use mx_body::Part;
+use mx_body::chunked::laws;
+use mx_body::chunked::parts::chunked_parts;
+use mx_body::chunked::scan::{ChunkedScan, scan_chunked};
 use std::alloc::Global;
 use std::test::Fail;
 

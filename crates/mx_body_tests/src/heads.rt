@@ -1,4 +1,6 @@
-use crate::{Framing, HeadStep, framing, keeps, read_head};
+//! Heads. The offsets were counted by hand.
+
+use mx_head::{Framing, HeadStep, framing, keeps, read_head};
 use mx_types::{Code, Method};
 use std::alloc::{AllocError, Global};
 

@@ -1,0 +1,11 @@
+//! Heads and bodies, by public calls alone. There is nothing in this crate but tests.
+#![tactic(auto)]
+
+#[cfg(test)]
+mod chunked;
+#[cfg(test)]
+mod heads;
+#[cfg(test)]
+mod pieces;
+#[cfg(test)]
+mod responses;
