@@ -12,7 +12,7 @@ use Rattle.mx_head.specs.Limits.{most_bytes}
 use Rattle.mx_head.proofs.LineLemmas.{front_of}
 use Rattle.mx_body.specs.declared.part.Part.{Part}
 use Rattle.mx_body.specs.declared.verdict.Verdict.TheVariants as verdict
-use Rattle.mx_body.specs.Chunked.{Chunk, ChunkedBody, IsChunkedBody, HasSizes, print_chunked, chunk_parts, chunked_data, MayBecomeChunked, EndsInLargeSize}
+use Rattle.mx_body.specs.Chunked.{Chunk, ChunkedBody, IsChunkedBody, HasSizes, chunked_bytes, chunk_parts, chunked_data, MayBecomeChunked, EndsInLargeSize}
 use Rattle.mx_body.specs.ChunkedScan.{BeginsWithChunked, IsUndecidedChunked, NeverHasChunked, IsDecidedBy}
 use Rattle.mx_body.specs.Response.{print_heads, StandsAtBody, IsBody}
 use Rattle.mx_body.specs.Causes.{BodyCause, bad_framing, unknown_coding, too_big, bad_chunk, body_code, body_line, MeetsAtBody}
@@ -45,8 +45,8 @@ record HasTree (rest left : List ℕ) (length_is : ℕ) : Type 0 where
   tree : ChunkedBody
   is : IsChunkedBody tree
   sizes : HasSizes most_bytes tree
-  splits : rest ≡ print_chunked tree ++ left
-  long : length_is ≡ length (print_chunked tree)
+  splits : rest ≡ chunked_bytes tree ++ left
+  long : length_is ≡ length (chunked_bytes tree)
 
 tree_of : (at : ℕ) (rest : List ℕ) (ended : Bool) (framing : Framing) (body : List ℕ) (parts : List Part) (content left : List ℕ)
     → BeginsWithBody (Ok Chunked) at rest ended framing body parts content left → HasTree rest left (length body)
@@ -160,19 +160,19 @@ short_undecided m input ended hs h rest s f u =
         let t = tree_of (body_start hs h) rest ended framing body parts content left b in
         let seen_long = input_length (first_bytes input) hs h g.seen g.stands in
         let all_long = input_length input hs h rest s in
-        let r = front_of (print_chunked t.tree) g.seen left g.after (sym t.splits ∙ g.splits)
-        (omega (arith, t.long, b.fits, seen_long, all_long, length-first_bytes input, ap length t.splits, length-append (print_chunked t.tree) left)) in
+        let r = front_of (chunked_bytes t.tree) g.seen left g.after (sym t.splits ∙ g.splits)
+        (omega (arith, t.long, b.fits, seen_long, all_long, length-first_bytes input, ap length t.splits, length-append (chunked_bytes t.tree) left)) in
         u.not_whole t.tree r.0 t.is r.1
 
 pub whole_body : (m : Method) (input : List ℕ) (ended : Bool) (hs : List ResponseHead) (h : ResponseHead) (rest : List ℕ) → (s : StandsAtBody input hs h rest)
     → framing_of m h ≡ Ok Chunked → (tree : ChunkedBody) (left : List ℕ) → BeginsWithChunked most_bytes (first_body input hs h rest s).seen tree left
-    → BeginsWithBody (framing_of m h) (body_start hs h) rest ended Chunked (print_chunked tree) (chunk_parts (body_start hs h) tree.chunks) (chunked_data tree)
+    → BeginsWithBody (framing_of m h) (body_start hs h) rest ended Chunked (chunked_bytes tree) (chunk_parts (body_start hs h) tree.chunks) (chunked_data tree)
     (left ++ (first_body input hs h rest s).after)
 whole_body m input ended hs h rest s f tree left x =
     let g = first_body input hs h rest s in
     record {
-      splits = g.splits ∙ ap (λ (t : List ℕ). t ++ g.after) x.2 ∙ append_assoc (print_chunked tree) left g.after;
-      fits = omega (arith, input_length (first_bytes input) hs h g.seen g.stands, length-first_bytes input, ap length x.2, length-append (print_chunked tree) left);
+      splits = g.splits ∙ ap (λ (t : List ℕ). t ++ g.after) x.2 ∙ append_assoc (chunked_bytes tree) left g.after;
+      fits = omega (arith, input_length (first_bytes input) hs h g.seen g.stands, length-first_bytes input, ap length x.2, length-append (chunked_bytes tree) left);
       is_asked = f;
       is = (tree, x.0, x.1, refl, refl, refl);
       ends = λ e. absurd (let both : Chunked ≡ Close = e in cc);
@@ -192,9 +192,9 @@ seen_is input hs h rest s at n start end =
     ∙ slice_at front g.seen g.after
 
 -- the whole body in them
-pub whole_text : (seen : List ℕ) (tree : ChunkedBody) (left : List ℕ) (len : ℕ) → seen ≡ print_chunked tree ++ left → len ≡ length (print_chunked tree) → take len seen ≡ print_chunked tree
+pub whole_text : (seen : List ℕ) (tree : ChunkedBody) (left : List ℕ) (len : ℕ) → seen ≡ chunked_bytes tree ++ left → len ≡ length (chunked_bytes tree) → take len seen ≡ chunked_bytes tree
 whole_text seen tree left len e long =
-    ap (λ n. take n seen) long ∙ ap (take (length (print_chunked tree))) e ∙ upto (print_chunked tree) left
+    ap (λ n. take n seen) long ∙ ap (take (length (chunked_bytes tree))) e ∙ upto (chunked_bytes tree) left
   where
     upto : (a b : List ℕ) → take (length a) (a ++ b) ≡ a
     upto [] b = refl

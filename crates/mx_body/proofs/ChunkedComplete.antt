@@ -11,7 +11,7 @@ use Rattle.httparse.specs.Ascii.{crlf_bytes, semicolon}
 use Rattle.httparse.specs.Grammar.{is_ows}
 use Rattle.mx_body.specs.declared.chunked.place.Place.{Place}
 use Rattle.mx_body.specs.declared.chunked.place.Place.TheVariants.{Start, Size, Extension, SizeLf, Data, DataCr, DataLf, TrailerStart, Trailer, TrailerLf, EndLf, Done}
-use Rattle.mx_body.specs.Chunked.{is_line_byte, IsChunkSize, IsChunkExtension, SizeLine, print_size_line, chunk_size, IsSizeLine, Chunk, print_chunk, IsChunk, IsTrailer, ChunkedBody, print_chunks, print_chunked, IsChunkedBody, HasSizes}
+use Rattle.mx_body.specs.Chunked.{is_line_byte, IsChunkSize, IsChunkExtension, ChunkOpening, opening_bytes, chunk_size, IsChunkOpening, Chunk, chunk_bytes, IsChunk, IsTrailer, ChunkedBody, chunks_bytes, chunked_bytes, IsChunkedBody, HasSizes}
 use Rattle.mx_body.specs.ChunkedPlace.{in_line, after_line, next_place, place_after}
 use Rattle.mx_body.proofs.ChunkedRun.{by_byte, place_after-append, data_all}
 
@@ -75,19 +75,19 @@ module _ (limit : ℕ) where
       ∙ by_byte limit (Extension n) (SizeLf n) 13 _ refl
       ∙ by_byte limit (SizeLf n) (after_line n) 10 _ refl
 
-  pub run_size_line : (l : SizeLine) (rest : List ℕ) → IsSizeLine l → chunk_size l ≤ limit
-      → place_after limit Start (print_size_line l ++ rest) ≡ place_after limit (after_line (chunk_size l)) rest
+  pub run_size_line : (l : ChunkOpening) (rest : List ℕ) → IsChunkOpening l → chunk_size l ≤ limit
+      → place_after limit Start (opening_bytes l ++ rest) ≡ place_after limit (after_line (chunk_size l)) rest
   run_size_line l rest is fits =
-      let regrouped : print_size_line l ++ rest ≡ l.digits ++ (l.extension ++ (crlf_bytes ++ rest)) = simp append_assoc in
+      let regrouped : opening_bytes l ++ rest ≡ l.digits ++ (l.extension ++ (crlf_bytes ++ rest)) = simp append_assoc in
       ap (place_after limit Start) regrouped ∙ run_size l.digits _ is.digits fits ∙ run_extension l.extension _ rest is.extension
 
   pub after_some : (n : ℕ) → 0 < n → after_line n ≡ Data n
   after_some n some = grind (arith, nat_tests)
 
-  pub run_chunk : (c : Chunk) (rest : List ℕ) → IsChunk c → chunk_size c.line ≤ limit → place_after limit Start (print_chunk c ++ rest) ≡ place_after limit Start rest
+  pub run_chunk : (c : Chunk) (rest : List ℕ) → IsChunk c → chunk_size c.line ≤ limit → place_after limit Start (chunk_bytes c ++ rest) ≡ place_after limit Start rest
   run_chunk c rest is fits =
       let size = chunk_size c.line in
-      let regrouped : print_chunk c ++ rest ≡ print_size_line c.line ++ (c.bytes ++ (crlf_bytes ++ rest)) = append_assoc (print_size_line c.line) _ rest ∙ ap (λ t. print_size_line c.line ++ t) (append_assoc c.bytes crlf_bytes rest) in
+      let regrouped : chunk_bytes c ++ rest ≡ opening_bytes c.line ++ (c.bytes ++ (crlf_bytes ++ rest)) = append_assoc (opening_bytes c.line) _ rest ∙ ap (λ t. opening_bytes c.line ++ t) (append_assoc c.bytes crlf_bytes rest) in
       let some : 0 < size = omega (arith, is.sized, is.not_empty) in
       ap (place_after limit Start) regrouped
       ∙ run_size_line c.line _ is.line fits
@@ -98,10 +98,10 @@ module _ (limit : ℕ) where
       ∙ by_byte limit DataLf Start 10 _ refl
 
   pub run_chunks : (chunks : List Chunk) (rest : List ℕ) → All IsChunk chunks → All (λ c. chunk_size c.line ≤ limit) chunks
-      → place_after limit Start (print_chunks chunks ++ rest) ≡ place_after limit Start rest
+      → place_after limit Start (chunks_bytes chunks ++ rest) ≡ place_after limit Start rest
   run_chunks [] rest are fit = refl
   run_chunks (c ∷ chunks) rest are fit =
-      ap (place_after limit Start) (append_assoc (print_chunk c) (print_chunks chunks) rest)
+      ap (place_after limit Start) (append_assoc (chunk_bytes c) (chunks_bytes chunks) rest)
       ∙ run_chunk c _ (All-head IsChunk c chunks are) (All-head (λ (c : Chunk). chunk_size c.line ≤ limit) c chunks fit)
       ∙ run_chunks chunks rest (All-tail IsChunk c chunks are) (All-tail (λ (c : Chunk). chunk_size c.line ≤ limit) c chunks fit)
 
@@ -128,11 +128,11 @@ module _ (limit : ℕ) where
 
   -- a body leads behind it
   pub run_body : (body : ChunkedBody) (rest : List ℕ) → IsChunkedBody body → HasSizes limit body
-      → place_after limit Start (print_chunked body ++ rest) ≡ place_after limit Done rest
+      → place_after limit Start (chunked_bytes body ++ rest) ≡ place_after limit Done rest
   run_body body rest is fit =
       let lines = flat_map (λ t. t ++ crlf_bytes) body.trailers in
-      let regrouped : print_chunked body ++ rest ≡ print_chunks body.chunks ++ (print_size_line body.last ++ (lines ++ (crlf_bytes ++ rest))) =
-      append_assoc (print_chunks body.chunks) _ rest ∙ ap (λ t. print_chunks body.chunks ++ t) (append_assoc (print_size_line body.last) _ rest ∙ ap (λ t. print_size_line body.last ++ t) (append_assoc lines crlf_bytes rest)) in
+      let regrouped : chunked_bytes body ++ rest ≡ chunks_bytes body.chunks ++ (opening_bytes body.last ++ (lines ++ (crlf_bytes ++ rest))) =
+      append_assoc (chunks_bytes body.chunks) _ rest ∙ ap (λ t. chunks_bytes body.chunks ++ t) (append_assoc (opening_bytes body.last) _ rest ∙ ap (λ t. opening_bytes body.last ++ t) (append_assoc lines crlf_bytes rest)) in
       ap (place_after limit Start) regrouped
       ∙ run_chunks body.chunks _ is.chunks fit
       ∙ run_size_line body.last _ is.last (omega (arith, is.ends))

@@ -10,7 +10,7 @@ use Rattle.mx_body.specs.declared.part.Part.{Part}
 use Rattle.mx_body.specs.declared.chunked.scan.ChunkedScan.TheVariants as scan
 use Rattle.mx_body.specs.declared.chunked.place.Place.{Place}
 use Rattle.mx_body.specs.declared.chunked.place.Place.TheVariants.{Start, Size, Extension, Data, DataCr, DataLf, Done, Bad, TooLarge}
-use Rattle.mx_body.specs.Chunked.{IsChunkExtension, print_size_line, chunk_size, Chunk, IsChunk, print_chunk, ChunkedBody, print_chunks, print_trailers, print_chunked, chunked_data, chunk_parts, MayBecomeChunked}
+use Rattle.mx_body.specs.Chunked.{IsChunkExtension, opening_bytes, chunk_size, Chunk, IsChunk, chunk_bytes, ChunkedBody, chunks_bytes, trailers_bytes, chunked_bytes, chunked_data, chunk_parts, MayBecomeChunked}
 use Rattle.mx_body.specs.ChunkedPlace.{expect, next_place, place_after, is_settled}
 use Rattle.mx_body.specs.ChunkedScan.{IsUndecidedChunked, NeverHasChunked, IsChunkedScan}
 use Rattle.mx_body.specs.Parts.{AreOrdered, joined}
@@ -25,7 +25,7 @@ one_body body other rest later is too e = body_unique body other rest later is t
 
 pub one_reading : OneReadingPerText
 one_reading limit higher at bytes more parts others data_bytes other_bytes (body, is, small, text, parts_are, data_is) (other, too, fits, texts, others_are, other_is) =
-    let e : print_chunked body ++ more ≡ print_chunked other ++ [] = ap (λ t. t ++ more) (sym text) ∙ texts ∙ sym (append-nil (print_chunked other)) in
+    let e : chunked_bytes body ++ more ≡ chunked_bytes other ++ [] = ap (λ t. t ++ more) (sym text) ∙ texts ∙ sym (append-nil (chunked_bytes other)) in
     let same = body_unique body other more [] is too e in (
       same.1,
       parts_are ∙ ap (λ (b : ChunkedBody). chunk_parts at b.chunks) same.0 ∙ sym others_are,
@@ -37,16 +37,16 @@ ordered_from : (parts : List Part) (low from to : ℕ) → low ≤ from → AreO
 ordered_from [] low from to below h = omega arith
 ordered_from (p ∷ parts) low from to below h = (omega (arith, h.0), h.1, h.2)
 
-parts_ordered : (chunks : List Chunk) (at to : ℕ) → All IsChunk chunks → at + length (print_chunks chunks) ≤ to → AreOrdered at to (chunk_parts at chunks)
+parts_ordered : (chunks : List Chunk) (at to : ℕ) → All IsChunk chunks → at + length (chunks_bytes chunks) ≤ to → AreOrdered at to (chunk_parts at chunks)
 parts_ordered [] at to are fits = omega arith
 parts_ordered (c ∷ chunks) at to are fits =
     let is = All-head IsChunk c chunks are in
     let some = is.not_empty in
-    let line = length (print_size_line c.line) in
-    let whole : length (print_chunk c) ≡ line + (length c.bytes + 2) = length-append (print_size_line c.line) (c.bytes ++ crlf_bytes) ∙ ap (λ n. line + n) (length-append c.bytes crlf_bytes) in
-    let all = length-append (print_chunk c) (print_chunks chunks) in
-    let rest = parts_ordered chunks (at + length (print_chunk c)) to (All-tail IsChunk c chunks are) (omega arith) in
-    (omega arith, omega arith, ordered_from (chunk_parts (at + length (print_chunk c)) chunks) (at + line + length c.bytes) (at + length (print_chunk c)) to (omega arith) rest)
+    let line = length (opening_bytes c.line) in
+    let whole : length (chunk_bytes c) ≡ line + (length c.bytes + 2) = length-append (opening_bytes c.line) (c.bytes ++ crlf_bytes) ∙ ap (λ n. line + n) (length-append c.bytes crlf_bytes) in
+    let all = length-append (chunk_bytes c) (chunks_bytes chunks) in
+    let rest = parts_ordered chunks (at + length (chunk_bytes c)) to (All-tail IsChunk c chunks are) (omega arith) in
+    (omega arith, omega arith, ordered_from (chunk_parts (at + length (chunk_bytes c)) chunks) (at + line + length c.bytes) (at + length (chunk_bytes c)) to (omega arith) rest)
 
 -- a text between two others
 slice_between : (front text back : List ℕ) → slice_range (front ++ (text ++ back)) (length front) (length front + length text) ≡ text
@@ -62,21 +62,21 @@ slice_between front text back =
     up_to [] ys = refl
     up_to (x ∷ xs) ys = ap (λ t. x ∷ t) (up_to xs ys)
 
-parts_cover : (text front : List ℕ) (at : ℕ) (chunks : List Chunk) (back : List ℕ) → at ≡ length front → text ≡ front ++ (print_chunks chunks ++ back)
+parts_cover : (text front : List ℕ) (at : ℕ) (chunks : List Chunk) (back : List ℕ) → at ≡ length front → text ≡ front ++ (chunks_bytes chunks ++ back)
     → joined text (chunk_parts at chunks) ≡ flat_map (λ (c : Chunk). c.bytes) chunks
 parts_cover text front at [] back e is = refl
 parts_cover text front at (c ∷ chunks) back e is =
-    let line = print_size_line c.line in
-    let later = print_chunks chunks ++ back in
-    let here : text ≡ (front ++ line) ++ (c.bytes ++ (crlf_bytes ++ later)) = is ∙ before line c.bytes (print_chunks chunks) in
-    let next : text ≡ (front ++ print_chunk c) ++ later = is ∙ behind (print_chunk c) (print_chunks chunks) in
+    let line = opening_bytes c.line in
+    let later = chunks_bytes chunks ++ back in
+    let here : text ≡ (front ++ line) ++ (c.bytes ++ (crlf_bytes ++ later)) = is ∙ before line c.bytes (chunks_bytes chunks) in
+    let next : text ≡ (front ++ chunk_bytes c) ++ later = is ∙ behind (chunk_bytes c) (chunks_bytes chunks) in
     let start : at + length line ≡ length (front ++ line) = omega (arith, e, length-append front line) in
     let one : slice_range text (at + length line) (at + length line + length c.bytes) ≡ c.bytes =
     ap (λ t. slice_range t (at + length line) (at + length line + length c.bytes)) here
     ∙ ap (λ n. slice_range ((front ++ line) ++ (c.bytes ++ (crlf_bytes ++ later))) n (n + length c.bytes)) start
     ∙ slice_between (front ++ line) c.bytes (crlf_bytes ++ later) in
-    let rest = parts_cover text (front ++ print_chunk c) (at + length (print_chunk c)) chunks back (omega (arith, e, length-append front (print_chunk c))) next in
-    ap (λ t. t ++ joined text (chunk_parts (at + length (print_chunk c)) chunks)) one ∙ ap (λ t. c.bytes ++ t) rest
+    let rest = parts_cover text (front ++ chunk_bytes c) (at + length (chunk_bytes c)) chunks back (omega (arith, e, length-append front (chunk_bytes c))) next in
+    ap (λ t. t ++ joined text (chunk_parts (at + length (chunk_bytes c)) chunks)) one ∙ ap (λ t. c.bytes ++ t) rest
   where
     before : (line bytes later : List ℕ) → front ++ (((line ++ (bytes ++ crlf_bytes)) ++ later) ++ back) ≡ (front ++ line) ++ (bytes ++ (crlf_bytes ++ (later ++ back)))
     before line bytes later = simp append_assoc
@@ -86,11 +86,11 @@ parts_cover text front at (c ∷ chunks) back e is =
 
 pub parts_are_the_data : PartsAreData
 parts_are_the_data limit front bytes back parts data_bytes (body, is, small, text, parts_are, data_is) =
-    let tail = print_size_line body.last ++ print_trailers body.trailers in
+    let tail = opening_bytes body.last ++ trailers_bytes body.trailers in
     let at = length front in
-    let whole : length (print_chunked body) ≡ length (print_chunks body.chunks) + length tail = length-append (print_chunks body.chunks) tail in
-    let stands : front ++ (bytes ++ back) ≡ front ++ (print_chunks body.chunks ++ (tail ++ back)) =
-    ap (λ t. front ++ (t ++ back)) text ∙ ap (λ t. front ++ t) (append_assoc (print_chunks body.chunks) tail back) in (
+    let whole : length (chunked_bytes body) ≡ length (chunks_bytes body.chunks) + length tail = length-append (chunks_bytes body.chunks) tail in
+    let stands : front ++ (bytes ++ back) ≡ front ++ (chunks_bytes body.chunks ++ (tail ++ back)) =
+    ap (λ t. front ++ (t ++ back)) text ∙ ap (λ t. front ++ t) (append_assoc (chunks_bytes body.chunks) tail back) in (
       subst (AreOrdered at (at + length bytes)) (sym parts_are) (parts_ordered body.chunks at (at + length bytes) is.chunks (omega (arith, ap length text))),
       ap (joined (front ++ (bytes ++ back))) parts_are ∙ parts_cover (front ++ (bytes ++ back)) front at body.chunks (tail ++ back) refl stands ∙ sym data_is,
     )
@@ -100,14 +100,14 @@ pub body_is_sound : BodyIsSound
 body_is_sound limit body front rest is small e = (
   (body, rest, is, sym e),
   λ large.
-      let done : place_after limit Start (print_chunked body) ≡ Done = ap (place_after limit Start) (sym (append-nil (print_chunked body))) ∙ run_body limit body [] is small ∙ place_after-nil limit Done in
-      let over : place_after limit Start (print_chunked body) ≡ TooLarge = ap (place_after limit Start) e ∙ place_after-append limit Start front rest ∙ ap (λ p. place_after limit p rest) (large_is limit front large) ∙ too_large_stays limit rest in
+      let done : place_after limit Start (chunked_bytes body) ≡ Done = ap (place_after limit Start) (sym (append-nil (chunked_bytes body))) ∙ run_body limit body [] is small ∙ place_after-nil limit Done in
+      let over : place_after limit Start (chunked_bytes body) ≡ TooLarge = ap (place_after limit Start) e ∙ place_after-append limit Start front rest ∙ ap (λ p. place_after limit p rest) (large_is limit front large) ∙ too_large_stays limit rest in
       cc,
 )
 
 pub large_may_become : LargeMayBecome
 large_may_become limit bytes large =
-    let high = digits_value 16 large.1 + length (print_chunks large.0) in
+    let high = digits_value 16 large.1 + length (chunks_bytes large.0) in
     let leads = large_leads limit bytes high large (omega arith) in
     (open_is_undecided high bytes (ap is_settled leads)).may_become
 
@@ -148,7 +148,7 @@ module _ (limit : ℕ) (input : List ℕ) where
   one_whole : (n m : ℕ) → IsWhole n → IsWhole m → n ≡ m
   one_whole n m (body, rest, begins, len) (other, later, starts, long) =
       let same = body_unique body other rest later begins.0 starts.0 (sym begins.2 ∙ starts.2) in
-      len ∙ ap (λ (b : ChunkedBody). length (print_chunked b)) same.0 ∙ sym long
+      len ∙ ap (λ (b : ChunkedBody). length (chunked_bytes b)) same.0 ∙ sym long
 
 pub one_scan_each : OneScanPerInput
 one_scan_each limit input (scan.Whole n) (scan.Whole m) h k = ap scan.Whole (one_whole limit input n m h k)
@@ -172,7 +172,7 @@ one_scan_each limit input scan.Bad scan.Bad h k = refl
 pub no_bare_lf : NoBareLfInSizeLine
 no_bare_lf chunks digits extension rest are is_size is_extension =
     let size = digits_value 16 digits in
-    let limit = length (print_chunks chunks) + size in
+    let limit = length (chunks_bytes chunks) + size in
     bad_never limit _
     (run_chunks limit chunks _ are (sizes_fit chunks limit are (omega arith))
     ∙ run_size limit digits _ is_size (omega arith)
@@ -189,8 +189,8 @@ no_bare_lf chunks digits extension rest are is_size is_extension =
 pub crlf_behind_data : CrlfBehindData
 crlf_behind_data chunks line bytes b c rest are is some sized may =
     let size = chunk_size line in
-    let limit = length (print_chunks chunks) + size in
-    let to_cr : place_after limit Start (print_chunks chunks ++ (print_size_line line ++ (bytes ++ b ∷ c ∷ rest))) ≡ place_after limit DataCr (b ∷ c ∷ rest) =
+    let limit = length (chunks_bytes chunks) + size in
+    let to_cr : place_after limit Start (chunks_bytes chunks ++ (opening_bytes line ++ (bytes ++ b ∷ c ∷ rest))) ≡ place_after limit DataCr (b ∷ c ∷ rest) =
     run_chunks limit chunks _ are (sizes_fit chunks limit are (omega arith))
     ∙ run_size_line limit line _ is (omega arith)
     ∙ ap (λ p. place_after limit p (bytes ++ b ∷ c ∷ rest)) (after_some limit size some)
@@ -222,4 +222,4 @@ done_is_whole limit at bytes done =
 
 pub whole_is_done : WholeIsDone
 whole_is_done limit body is small =
-    ap (place_after limit Start) (sym (append-nil (print_chunked body))) ∙ run_body limit body [] is small ∙ place_after-nil limit Done
+    ap (place_after limit Start) (sym (append-nil (chunked_bytes body))) ∙ run_body limit body [] is small ∙ place_after-nil limit Done

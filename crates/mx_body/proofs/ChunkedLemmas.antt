@@ -10,7 +10,7 @@ use Rattle.std.specs.Str.Parse.{digits_value}
 use Rattle.mx_body.specs.declared.part.Part.{Part}
 use Rattle.mx_body.specs.declared.chunked.place.Place.{Place}
 use Rattle.mx_body.specs.declared.chunked.place.Place.TheVariants.{Start, Size, Extension, SizeLf, Data, DataCr, DataLf, TrailerStart, Trailer, TrailerLf, EndLf, Done, Bad, TooLarge}
-use Rattle.mx_body.specs.Chunked.{print_size_line, chunk_size, Chunk, print_chunk, IsChunk, ChunkedBody, print_chunks, print_trailers, print_chunked, IsChunkedBody, HasSizes, MayBecomeChunked, EndsInLargeSize}
+use Rattle.mx_body.specs.Chunked.{opening_bytes, chunk_size, Chunk, chunk_bytes, IsChunk, ChunkedBody, chunks_bytes, trailers_bytes, chunked_bytes, IsChunkedBody, HasSizes, MayBecomeChunked, EndsInLargeSize}
 use Rattle.mx_body.specs.ChunkedPlace.{sized, after_digits, next_place, place_after, is_settled, parts_begun}
 use Rattle.mx_body.specs.ChunkedScan.{IsUndecidedChunked, NeverHasChunked, IsDecidedBy}
 use Rattle.mx_body.proofs.ChunkedRun.{place_after-nil, place_after-cons, place_after-append, by_byte, data_all, bad_stays, too_large_stays, done_ends, settled_stays}
@@ -18,18 +18,18 @@ use Rattle.mx_body.proofs.ChunkedSound.{Reads, reads_byte, reads_input, IsRead}
 use Rattle.mx_body.proofs.ChunkedComplete.{run_size, run_chunks, run_body}
 
 -- the sizes of some chunks are at most the length of their bytes
-pub sizes_fit : (chunks : List Chunk) (n : ℕ) → All IsChunk chunks → length (print_chunks chunks) ≤ n → All (λ c. chunk_size c.line ≤ n) chunks
+pub sizes_fit : (chunks : List Chunk) (n : ℕ) → All IsChunk chunks → length (chunks_bytes chunks) ≤ n → All (λ c. chunk_size c.line ≤ n) chunks
 sizes_fit [] n are fits = All-nil (λ (c : Chunk). chunk_size c.line ≤ n)
 sizes_fit (c ∷ chunks) n are fits =
     let is = All-head IsChunk c chunks are in
-    let whole = length-append (print_chunk c) (print_chunks chunks) in
-    let first = length-append (print_size_line c.line) (c.bytes ++ 13 ∷ 10 ∷ []) in
+    let whole = length-append (chunk_bytes c) (chunks_bytes chunks) in
+    let first = length-append (opening_bytes c.line) (c.bytes ++ 13 ∷ 10 ∷ []) in
     let inner = length-append c.bytes (13 ∷ 10 ∷ []) in
     All-cons (λ (c : Chunk). chunk_size c.line ≤ n) c chunks (omega (arith, is.sized)) (sizes_fit chunks n (All-tail IsChunk c chunks are) (omega arith))
 
-pub body_sizes_fit : (body : ChunkedBody) (n : ℕ) → IsChunkedBody body → length (print_chunked body) ≤ n → HasSizes n body
+pub body_sizes_fit : (body : ChunkedBody) (n : ℕ) → IsChunkedBody body → length (chunked_bytes body) ≤ n → HasSizes n body
 body_sizes_fit body n is fits =
-    sizes_fit body.chunks n is.chunks (omega (arith, length-append (print_chunks body.chunks) (print_size_line body.last ++ print_trailers body.trailers)))
+    sizes_fit body.chunks n is.chunks (omega (arith, length-append (chunks_bytes body.chunks) (opening_bytes body.last ++ trailers_bytes body.trailers)))
 
 -- a limit and one above it
 module _ (low high : ℕ) (below : low ≤ high) where
@@ -80,22 +80,22 @@ module _ (limit : ℕ) where
   At bs = place_after limit Start bs
 
   -- what is behind a whole body
-  pub behind_body : (body : ChunkedBody) (rest : List ℕ) → IsChunkedBody body → (At (print_chunked body ++ rest) ≡ TooLarge) ⊎ (At (print_chunked body ++ rest) ≡ place_after limit Done rest)
+  pub behind_body : (body : ChunkedBody) (rest : List ℕ) → IsChunkedBody body → (At (chunked_bytes body ++ rest) ≡ TooLarge) ⊎ (At (chunked_bytes body ++ rest) ≡ place_after limit Done rest)
   behind_body body rest is =
-      let high = limit + length (print_chunked body) in
+      let high = limit + length (chunked_bytes body) in
       ⊎_elim inl
       (λ same. inr (sym same ∙ run_body high body rest is (body_sizes_fit body high is (omega arith)) ∙ done_same rest))
-      (place_same limit high (omega arith) (print_chunked body ++ rest) Start)
+      (place_same limit high (omega arith) (chunked_bytes body ++ rest) Start)
     where
-      done_same : (rest : List ℕ) → place_after (limit + length (print_chunked body)) Done rest ≡ place_after limit Done rest
+      done_same : (rest : List ℕ) → place_after (limit + length (chunked_bytes body)) Done rest ≡ place_after limit Done rest
       done_same [] = place_after-nil _ Done ∙ sym (place_after-nil limit Done)
       done_same (b ∷ rest) = done_ends _ b rest ∙ sym (done_ends limit b rest)
 
   -- bytes that end in a size, where the limit is no less than any size
-  pub large_leads : (bs : List ℕ) (high : ℕ) (h : EndsInLargeSize limit bs) → digits_value 16 h.1 + length (print_chunks h.0) ≤ high
+  pub large_leads : (bs : List ℕ) (high : ℕ) (h : EndsInLargeSize limit bs) → digits_value 16 h.1 + length (chunks_bytes h.0) ≤ high
       → place_after high Start bs ≡ Size (digits_value 16 h.1)
   large_leads bs high (chunks, digits, are, is_size, text, large) above =
-      ap (place_after high Start) (text ∙ sym (ap (λ t. print_chunks chunks ++ t) (append-nil digits)))
+      ap (place_after high Start) (text ∙ sym (ap (λ t. chunks_bytes chunks ++ t) (append-nil digits)))
       ∙ run_chunks high chunks (digits ++ []) are (sizes_fit chunks high are (omega arith))
       ∙ run_size high digits [] is_size (omega arith)
       ∙ place_after-nil high (Size (digits_value 16 digits))
@@ -104,7 +104,7 @@ module _ (limit : ℕ) where
   pub large_is : (bs : List ℕ) → EndsInLargeSize limit bs → At bs ≡ TooLarge
   large_is bs (chunks, digits, are, is_size, text, large) =
       let value = digits_value 16 digits in
-      let high = value + length (print_chunks chunks) in
+      let high = value + length (chunks_bytes chunks) in
       let leads : place_after high Start bs ≡ Size value = large_leads bs high (chunks, digits, are, is_size, text, large) (omega arith) in
       ⊎_elim (λ e. e)
       (λ same. let at : At bs ≡ Size value = sym same ∙ leads in
@@ -116,7 +116,7 @@ module _ (limit : ℕ) where
   -- bad bytes become no body
   pub bad_never : (bs : List ℕ) → At bs ≡ Bad → ¬ (MayBecomeChunked bs)
   bad_never bs bad (body, more, is, text) =
-      let e : At (print_chunked body ++ []) ≡ Bad = ap (place_after limit Start) (append-nil (print_chunked body) ∙ sym text) ∙ place_after-append limit Start bs more ∙ ap (λ p. place_after limit p more) bad ∙ bad_stays limit more in
+      let e : At (chunked_bytes body ++ []) ≡ Bad = ap (place_after limit Start) (append-nil (chunked_bytes body) ∙ sym text) ∙ place_after-append limit Start bs more ∙ ap (λ p. place_after limit p more) bad ∙ bad_stays limit more in
       let nil = place_after-nil limit Done in
       ⊎_elim (λ large. cc) (λ done. cc) (behind_body body [] is)
 
@@ -191,7 +191,7 @@ module _ (limit : ℕ) where
       record {
         may_become = (read.body, f.0, read.is_body, read.text);
         not_whole = λ body rest is text.
-            let here : At bs ≡ At (print_chunked body ++ rest) = ap (place_after limit Start) text in
+            let here : At bs ≡ At (chunked_bytes body ++ rest) = ap (place_after limit Start) text in
             let settled = settled_stays limit Done rest refl in
             ⊎_elim (λ large. let e : is_settled (At bs) ≡ true = ap is_settled (here ∙ large) in cc)
             (λ done. let e : is_settled (At bs) ≡ true = ap is_settled (here ∙ done) ∙ settled in cc)
@@ -213,11 +213,11 @@ module _ (limit : ℕ) where
 
   -- where a byte decides, and no body begins with the bytes so far
   module _ (input front rest : List ℕ) (b : ℕ) (is : input ≡ front ++ b ∷ rest) (undecided : IsUndecidedChunked limit front) where
-    never : ((body : ChunkedBody) (x : List ℕ) → IsChunkedBody body → HasSizes limit body → ¬ (print_chunked body ≡ (front ++ b ∷ []) ++ x)) → NeverHasChunked limit input
+    never : ((body : ChunkedBody) (x : List ℕ) → IsChunkedBody body → HasSizes limit body → ¬ (chunked_bytes body ≡ (front ++ b ∷ []) ++ x)) → NeverHasChunked limit input
     never none more body behind (is_body, fits, text) =
-        let here : print_chunked body ++ behind ≡ front ++ b ∷ (rest ++ more) = sym text ∙ ap (λ t. t ++ more) is ∙ append_assoc front (b ∷ rest) more in
+        let here : chunked_bytes body ++ behind ≡ front ++ b ∷ (rest ++ more) = sym text ∙ ap (λ t. t ++ more) is ∙ append_assoc front (b ∷ rest) more in
         ⊎_elim (λ w. undecided.not_whole body w.0 is_body w.1) (λ w. none body w.0 is_body fits w.1)
-        (cut (print_chunked body) behind front (rest ++ more) b here)
+        (cut (chunked_bytes body) behind front (rest ++ more) b here)
 
     pub bad_decides : At (front ++ b ∷ []) ≡ Bad → IsDecidedBy limit input (λ bytes. ¬ (MayBecomeChunked bytes)) × NeverHasChunked limit input
     bad_decides bad =
@@ -228,8 +228,8 @@ module _ (limit : ℕ) where
     large_decides large ends = (
       (front, b, rest, is, undecided, ends),
       never (λ body x is_body fits e.
-          let done : At (print_chunked body) ≡ Done = ap (place_after limit Start) (sym (append-nil (print_chunked body))) ∙ run_body limit body [] is_body fits ∙ place_after-nil limit Done in
-          let over : At (print_chunked body) ≡ TooLarge = ap (place_after limit Start) e ∙ place_after-append limit Start (front ++ b ∷ []) x ∙ ap (λ p. place_after limit p x) large ∙ too_large_stays limit x in
+          let done : At (chunked_bytes body) ≡ Done = ap (place_after limit Start) (sym (append-nil (chunked_bytes body))) ∙ run_body limit body [] is_body fits ∙ place_after-nil limit Done in
+          let over : At (chunked_bytes body) ≡ TooLarge = ap (place_after limit Start) e ∙ place_after-append limit Start (front ++ b ∷ []) x ∙ ap (λ p. place_after limit p x) large ∙ too_large_stays limit x in
           cc),
     )
 

@@ -6,7 +6,7 @@ use Rattle.std.proofs.lemmas.Bool.{leb-true, leb-false}
 use Rattle.mx_body.specs.declared.part.Part.{Part}
 use Rattle.mx_body.specs.declared.chunked.place.Place.{Place}
 use Rattle.mx_body.specs.declared.chunked.place.Place.TheVariants.{Start, Size, Extension, SizeLf, Data, DataCr, DataLf, TrailerStart, Trailer, TrailerLf, EndLf, Done, Bad, TooLarge}
-use Rattle.mx_body.specs.Chunked.{ChunkedBody, IsChunkedBody, print_chunked, chunk_parts}
+use Rattle.mx_body.specs.Chunked.{ChunkedBody, IsChunkedBody, chunked_bytes, chunk_parts}
 use Rattle.mx_body.specs.ChunkedPlace.{place_after, data_left, begun, parts_begun}
 use Rattle.mx_body.proofs.ChunkedRun.{place_after-nil, place_after-append, by_byte, data_more, parts_begun-append}
 use Rattle.mx_body.proofs.ChunkedComplete.{run_body}
@@ -50,10 +50,10 @@ module _ (limit at : ℕ) (input : List ℕ) where
       ∙ ap (λ t. parts_begun limit Start at front ++ parts_begun limit place (at + n) (take len t)) (sym (take_rest input n))
       ∙ ap (λ ps. parts_begun limit Start at front ++ ps) (more ∙ ap (begun place next) regrouped)
 
-  module _ (body : ChunkedBody) (is : IsChunkedBody body) (text : input ≡ print_chunked body) (fits : length input ≤ limit) where
+  module _ (body : ChunkedBody) (is : IsChunkedBody body) (text : input ≡ chunked_bytes body) (fits : length input ≤ limit) where
     ends : place_after limit Start input ≡ Done
     ends =
-        ap (place_after limit Start) (text ∙ sym (append-nil (print_chunked body)))
+        ap (place_after limit Start) (text ∙ sym (append-nil (chunked_bytes body)))
         ∙ run_body limit body [] is (body_sizes_fit body limit is (omega (arith, ap length text)))
         ∙ place_after-nil limit Done
 
@@ -81,7 +81,7 @@ module _ (limit at : ℕ) (input : List ℕ) where
     pub all_parts : (n : ℕ) → length input ≤ n → parts_begun limit Start at (take n input) ≡ chunk_parts at body.chunks
     all_parts n all =
         let read = done_reads limit at input ends in
-        let texts : print_chunked read.body ++ [] ≡ print_chunked body ++ [] = ap (λ t. t ++ []) (sym read.text ∙ text) in
+        let texts : chunked_bytes read.body ++ [] ≡ chunked_bytes body ++ [] = ap (λ t. t ++ []) (sym read.text ∙ text) in
         let same = body_unique read.body body [] [] read.is_body is texts in
         ap (parts_begun limit Start at) (take_all n input all) ∙ read.parts_are ∙ ap (λ (b : ChunkedBody). chunk_parts at b.chunks) same.0
 

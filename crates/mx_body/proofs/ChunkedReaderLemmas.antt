@@ -4,7 +4,7 @@ use Rattle.std.proofs.lemmas.List.{take_all}
 use Rattle.mx_body.specs.declared.chunked.place.Place.{Place}
 use Rattle.mx_body.specs.declared.chunked.place.Place.TheVariants.{Start, Size, Extension, SizeLf, Data, DataCr, DataLf, TrailerStart, Trailer, TrailerLf, EndLf, Done, Bad, TooLarge}
 use Rattle.mx_body.specs.ChunkedPlace.{place_after, data_left, parts_begun}
-use Rattle.mx_body.specs.Chunked.{ChunkedBody, IsChunkedBody, print_chunked, chunk_parts}
+use Rattle.mx_body.specs.Chunked.{ChunkedBody, IsChunkedBody, chunked_bytes, chunk_parts}
 use Rattle.mx_body.proofs.ChunkedSound.{Reads, reads_input}
 use Rattle.mx_body.proofs.ChunkedParts.{all_parts}
 
@@ -28,7 +28,7 @@ left_fits limit bs Bad e = omega arith
 left_fits limit bs TooLarge e = omega arith
 
 -- the parts that a whole body begins are its own
-pub whole_parts : (limit at : ℕ) (text : List ℕ) (body : ChunkedBody) → IsChunkedBody body → text ≡ print_chunked body → length text ≤ limit
+pub whole_parts : (limit at : ℕ) (text : List ℕ) (body : ChunkedBody) → IsChunkedBody body → text ≡ chunked_bytes body → length text ≤ limit
     → parts_begun limit Start at text ≡ chunk_parts at body.chunks
 whole_parts limit at text body is e fits =
     let same : length text ≤ length text = omega arith in

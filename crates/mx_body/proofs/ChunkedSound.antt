@@ -13,7 +13,7 @@ use Rattle.httparse.specs.Ascii.{crlf_bytes}
 use Rattle.mx_body.specs.declared.part.Part.{Part}
 use Rattle.mx_body.specs.declared.chunked.place.Place.{Place}
 use Rattle.mx_body.specs.declared.chunked.place.Place.TheVariants.{Start, Size, Extension, SizeLf, Data, DataCr, DataLf, TrailerStart, Trailer, TrailerLf, EndLf, Done, Bad, TooLarge}
-use Rattle.mx_body.specs.Chunked.{is_line_byte, IsChunkSize, IsChunkExtension, SizeLine, print_size_line, chunk_size, IsSizeLine, Chunk, print_chunk, IsChunk, IsTrailer, ChunkedBody, print_chunks, print_chunked, IsChunkedBody, HasSizes, chunk_parts, EndsInLargeSize}
+use Rattle.mx_body.specs.Chunked.{is_line_byte, IsChunkSize, IsChunkExtension, ChunkOpening, opening_bytes, chunk_size, IsChunkOpening, Chunk, chunk_bytes, IsChunk, IsTrailer, ChunkedBody, chunks_bytes, chunked_bytes, IsChunkedBody, HasSizes, chunk_parts, EndsInLargeSize}
 use Rattle.mx_body.specs.ChunkedPlace.{sized, after_digits, in_line, expect, after_line, next_place, place_after, is_settled, begun, parts_begun}
 use Rattle.mx_body.proofs.ChunkedRun.{parts_begun-nil, parts_begun-cons, place_after-nil, place_after-cons, bad_stays, too_large_stays, done_ends}
 
@@ -36,42 +36,42 @@ module _ (limit at : ℕ) where
     pub is_size : IsChunkSize digits
     pub value : digits_value 16 digits ≡ size
     pub small : size ≤ limit
-    pub text : bytes ≡ print_chunks chunks ++ digits
+    pub text : bytes ≡ chunks_bytes chunks ++ digits
 
   -- whole chunks, and a size line without its CRLF
   pub record InLine (size : ℕ) (behind bytes : List ℕ) (parts : List Part) : Type 0 where
     pub chunks : List Chunk
-    pub line : SizeLine
+    pub line : ChunkOpening
     pub before : AreChunks chunks parts
-    pub is_line : IsSizeLine line
+    pub is_line : IsChunkOpening line
     pub value : chunk_size line ≡ size
     pub small : size ≤ limit
-    pub text : bytes ≡ print_chunks chunks ++ (line.digits ++ (line.extension ++ behind))
+    pub text : bytes ≡ chunks_bytes chunks ++ (line.digits ++ (line.extension ++ behind))
 
   -- whole chunks, a size line, and data but for so many bytes
   pub record InData (left : ℕ) (behind bytes : List ℕ) (parts : List Part) : Type 0 where
     pub chunks : List Chunk
-    pub line : SizeLine
+    pub line : ChunkOpening
     pub got : List ℕ
     pub front : List Part
     pub before : AreChunks chunks front
-    pub is_line : IsSizeLine line
+    pub is_line : IsChunkOpening line
     pub value : chunk_size line ≡ left + length got
     pub some : 0 < chunk_size line
     pub small : chunk_size line ≤ limit
-    pub parts_are : parts ≡ front ++ part_at (at + length (print_chunks chunks) + length (print_size_line line)) (chunk_size line) ∷ []
-    pub text : bytes ≡ print_chunks chunks ++ (print_size_line line ++ (got ++ behind))
+    pub parts_are : parts ≡ front ++ part_at (at + length (chunks_bytes chunks) + length (opening_bytes line)) (chunk_size line) ∷ []
+    pub text : bytes ≡ chunks_bytes chunks ++ (opening_bytes line ++ (got ++ behind))
 
   -- all the chunks, and some of the trailer section
   pub record InTrailers (behind bytes : List ℕ) (parts : List Part) : Type 0 where
     pub chunks : List Chunk
-    pub last : SizeLine
+    pub last : ChunkOpening
     pub trailers : List (List ℕ)
     pub before : AreChunks chunks parts
-    pub is_last : IsSizeLine last
+    pub is_last : IsChunkOpening last
     pub ends : chunk_size last ≡ 0
     pub are_trailers : All IsTrailer trailers
-    pub text : bytes ≡ print_chunks chunks ++ (print_size_line last ++ (flat_map (λ t. t ++ crlf_bytes) trailers ++ behind))
+    pub text : bytes ≡ chunks_bytes chunks ++ (opening_bytes last ++ (flat_map (λ t. t ++ crlf_bytes) trailers ++ behind))
 
   -- a whole body
   pub record IsRead (bytes : List ℕ) (parts : List Part) : Type 0 where
@@ -79,11 +79,11 @@ module _ (limit at : ℕ) where
     pub is_body : IsChunkedBody body
     pub sizes : HasSizes limit body
     pub parts_are : parts ≡ chunk_parts at body.chunks
-    pub text : bytes ≡ print_chunked body
+    pub text : bytes ≡ chunked_bytes body
 
   -- what the bytes are at each place, and the parts begun
   abbrev pub Reads : Place → List ℕ → List Part → Type 0
-  Reads Start bytes parts = (chunks : List Chunk) × AreChunks chunks parts × (bytes ≡ print_chunks chunks)
+  Reads Start bytes parts = (chunks : List Chunk) × AreChunks chunks parts × (bytes ≡ chunks_bytes chunks)
   Reads (Size size) bytes parts = InSize size bytes parts
   Reads (Extension size) bytes parts = (l : InLine size [] bytes parts) × (0 < length l.line.extension)
   Reads (SizeLf size) bytes parts = InLine size (13 ∷ []) bytes parts
@@ -113,8 +113,8 @@ module _ (limit at : ℕ) where
   extension_push [] b some is test = absurd (omega arith)
   extension_push (x ∷ bytes) b some is test = (is.0, All-push (λ x. is_line_byte x ≡ true) bytes b is.1 test)
 
-  print_chunks-push : (chunks : List Chunk) (c : Chunk) → print_chunks (chunks ++ c ∷ []) ≡ print_chunks chunks ++ print_chunk c
-  print_chunks-push chunks c = flat_map-append print_chunk chunks (c ∷ []) ∙ ap (λ t. print_chunks chunks ++ t) (append-nil (print_chunk c))
+  print_chunks-push : (chunks : List Chunk) (c : Chunk) → chunks_bytes (chunks ++ c ∷ []) ≡ chunks_bytes chunks ++ chunk_bytes c
+  print_chunks-push chunks c = flat_map-append chunk_bytes chunks (c ∷ []) ∙ ap (λ t. chunks_bytes chunks ++ t) (append-nil (chunk_bytes c))
 
   print_trailer_lines-push : (ts : List (List ℕ)) (t : List ℕ) → flat_map (λ t. t ++ crlf_bytes) (ts ++ t ∷ []) ≡ flat_map (λ t. t ++ crlf_bytes) ts ++ (t ++ crlf_bytes)
   print_trailer_lines-push ts t =
@@ -122,15 +122,15 @@ module _ (limit at : ℕ) where
 
   -- the part of a chunk that begins at the offset
   abbrev part_of : ℕ → Chunk → Part
-  part_of at c = part_at (at + length (print_size_line c.line)) (length c.bytes)
+  part_of at c = part_at (at + length (opening_bytes c.line)) (length c.bytes)
 
-  chunk_parts-push : (chunks : List Chunk) (at : ℕ) (c : Chunk) → chunk_parts at (chunks ++ c ∷ []) ≡ chunk_parts at chunks ++ part_of (at + length (print_chunks chunks)) c ∷ []
+  chunk_parts-push : (chunks : List Chunk) (at : ℕ) (c : Chunk) → chunk_parts at (chunks ++ c ∷ []) ≡ chunk_parts at chunks ++ part_of (at + length (chunks_bytes chunks)) c ∷ []
   chunk_parts-push [] at c =
       let same : at ≡ at + 0 = omega arith in
       ap (λ n. part_of n c ∷ []) same
   chunk_parts-push (d ∷ chunks) at c =
-      let front = length (print_chunk d) in
-      let same : at + front + length (print_chunks chunks) ≡ at + length (print_chunks (d ∷ chunks)) = omega (arith, length-append (print_chunk d) (print_chunks chunks)) in
+      let front = length (chunk_bytes d) in
+      let same : at + front + length (chunks_bytes chunks) ≡ at + length (chunks_bytes (d ∷ chunks)) = omega (arith, length-append (chunk_bytes d) (chunks_bytes chunks)) in
       ap (λ ps. part_of at d ∷ ps) (chunk_parts-push chunks (at + front) c ∙ ap (λ n. chunk_parts (at + front) chunks ++ part_of n c ∷ []) same)
 
   module _ (b : ℕ) (bytes : List ℕ) (parts : List Part) where
@@ -145,13 +145,13 @@ module _ (limit at : ℕ) where
     with_byte : (text : List ℕ) (wanted : ℕ) → bytes ≡ text → (b == wanted) ≡ true → bytes ++ b ∷ [] ≡ text ++ wanted ∷ []
     with_byte text wanted e is = ap (λ t. t ++ b ∷ []) e ∙ ap (λ x. text ++ x ∷ []) (eqb-true b wanted is)
 
-    after_digit : (chunks : List Chunk) (digits : List ℕ) → AreChunks chunks parts → AllPass is_ascii_hexdigit digits → is_ascii_hexdigit b ≡ true → bytes ≡ print_chunks chunks ++ digits → Then (sized limit (digits_value 16 digits * 16 + digit_value b))
+    after_digit : (chunks : List Chunk) (digits : List ℕ) → AreChunks chunks parts → AllPass is_ascii_hexdigit digits → is_ascii_hexdigit b ≡ true → bytes ≡ chunks_bytes chunks ++ digits → Then (sized limit (digits_value 16 digits * 16 + digit_value b))
     after_digit chunks digits before hex is text =
         let size = digits_value 16 digits * 16 + digit_value b in
         let more = digits ++ b ∷ [] in
         let is_size : IsChunkSize more = (omega (arith, length_push digits b), All-push (λ x. is_ascii_hexdigit x ≡ true) digits b hex is) in
         let value : digits_value 16 more ≡ size = digits_value_push 16 digits b in
-        let whole : bytes ++ b ∷ [] ≡ print_chunks chunks ++ more = ap (λ t. t ++ b ∷ []) text ∙ append_assoc (print_chunks chunks) digits (b ∷ []) in
+        let whole : bytes ++ b ∷ [] ≡ chunks_bytes chunks ++ more = ap (λ t. t ++ b ∷ []) text ∙ append_assoc (chunks_bytes chunks) digits (b ∷ []) in
         by_test Then (nat_le size limit) (Size size) TooLarge
         (λ t. let small : size ≤ limit = omega (arith, leb-true size limit t) in
         same_parts (Size size) (record { chunks = chunks; digits = more; before = before; is_size = is_size; value = value; small = small; text = whole }))
@@ -160,14 +160,14 @@ module _ (limit at : ℕ) where
 
     after_size : (size : ℕ) → InSize size bytes parts → Then (after_digits size b)
     after_size size h =
-        let before : bytes ++ b ∷ [] ≡ print_chunks h.chunks ++ (h.digits ++ b ∷ []) = ap (λ t. t ++ b ∷ []) h.text ∙ append_assoc (print_chunks h.chunks) h.digits (b ∷ []) in
+        let before : bytes ++ b ∷ [] ≡ chunks_bytes h.chunks ++ (h.digits ++ b ∷ []) = ap (λ t. t ++ b ∷ []) h.text ∙ append_assoc (chunks_bytes h.chunks) h.digits (b ∷ []) in
         by_test Then _ (Extension size) _
         (λ is. same_parts (Extension size) (
           record { chunks = h.chunks; line = record { digits = h.digits; extension = b ∷ [] }; before = h.before; is_line = record { digits = h.is_size; extension = (is, All-nil (λ x. is_line_byte x ≡ true)) }; value = h.value; small = h.small; text = before },
           omega arith,
         ))
         (λ _. by_test Then _ (SizeLf size) Bad
-        (λ cr. same_parts (SizeLf size) (record { chunks = h.chunks; line = record { digits = h.digits; extension = [] }; before = h.before; is_line = record { digits = h.is_size; extension = tt }; value = h.value; small = h.small; text = before ∙ ap (λ x. print_chunks h.chunks ++ (h.digits ++ x ∷ [])) (eqb-true b 13 cr) }))
+        (λ cr. same_parts (SizeLf size) (record { chunks = h.chunks; line = record { digits = h.digits; extension = [] }; before = h.before; is_line = record { digits = h.is_size; extension = tt }; value = h.value; small = h.small; text = before ∙ ap (λ x. chunks_bytes h.chunks ++ (h.digits ++ x ∷ [])) (eqb-true b 13 cr) }))
         (λ _. tt))
 
     after_extension : (size : ℕ) → Reads (Extension size) bytes parts → Then (in_line b (Extension size) (SizeLf size))
@@ -177,11 +177,11 @@ module _ (limit at : ℕ) where
         (λ not_cr. by_test Then _ Bad (Extension size) (λ _. tt)
         (λ not_lf. let more = h.line.extension ++ b ∷ [] in
         same_parts (Extension size) (
-          record { chunks = h.chunks; line = record { digits = h.line.digits; extension = more }; before = h.before; is_line = record { digits = h.is_line.digits; extension = extension_push h.line.extension b some h.is_line.extension (line_byte b not_cr not_lf) }; value = h.value; small = h.small; text = ap (λ t. t ++ b ∷ []) h.text ∙ regroup h.line.digits h.line.extension b ∙ ap (λ t. print_chunks h.chunks ++ (h.line.digits ++ t)) (sym (append-nil more)) },
+          record { chunks = h.chunks; line = record { digits = h.line.digits; extension = more }; before = h.before; is_line = record { digits = h.is_line.digits; extension = extension_push h.line.extension b some h.is_line.extension (line_byte b not_cr not_lf) }; value = h.value; small = h.small; text = ap (λ t. t ++ b ∷ []) h.text ∙ regroup h.line.digits h.line.extension b ∙ ap (λ t. chunks_bytes h.chunks ++ (h.line.digits ++ t)) (sym (append-nil more)) },
           omega (arith, length_push h.line.extension b),
         )))
       where
-        regroup : (digits extension : List ℕ) (x : ℕ) → (print_chunks h.chunks ++ (digits ++ (extension ++ []))) ++ x ∷ [] ≡ print_chunks h.chunks ++ (digits ++ (extension ++ x ∷ []))
+        regroup : (digits extension : List ℕ) (x : ℕ) → (chunks_bytes h.chunks ++ (digits ++ (extension ++ []))) ++ x ∷ [] ≡ chunks_bytes h.chunks ++ (digits ++ (extension ++ x ∷ []))
         regroup digits extension x = simp (append_assoc, append-nil)
 
     after_size_lf : (size : ℕ) → InLine size (13 ∷ []) bytes parts → Reads (next_place limit (SizeLf size) b) (bytes ++ b ∷ []) (parts ++ begun (SizeLf size) (next_place limit (SizeLf size) b) (at + length bytes + 1))
@@ -209,17 +209,17 @@ module _ (limit at : ℕ) where
         )))
         (λ _. tt)
       where
-        regroup : (digits extension : List ℕ) → (print_chunks h.chunks ++ (digits ++ (extension ++ 13 ∷ []))) ++ 10 ∷ [] ≡ print_chunks h.chunks ++ ((digits ++ (extension ++ crlf_bytes)) ++ [])
+        regroup : (digits extension : List ℕ) → (chunks_bytes h.chunks ++ (digits ++ (extension ++ 13 ∷ []))) ++ 10 ∷ [] ≡ chunks_bytes h.chunks ++ ((digits ++ (extension ++ crlf_bytes)) ++ [])
         regroup digits extension = simp (append_assoc, append-nil)
 
         lengths : (xs ys zs : List ℕ) → length (xs ++ (ys ++ (zs ++ 13 ∷ []))) + 1 ≡ length xs + length (ys ++ (zs ++ crlf_bytes))
         lengths xs ys zs = simp length-append (omega arith)
 
-        start_is : at + length bytes + 1 ≡ at + length (print_chunks h.chunks) + length (print_size_line h.line)
-        start_is = omega (arith, ap length h.text, lengths (print_chunks h.chunks) h.line.digits h.line.extension)
+        start_is : at + length bytes + 1 ≡ at + length (chunks_bytes h.chunks) + length (opening_bytes h.line)
+        start_is = omega (arith, ap length h.text, lengths (chunks_bytes h.chunks) h.line.digits h.line.extension)
 
-        part_is : part_at (at + length bytes + 1) size ≡ part_at (at + length (print_chunks h.chunks) + length (print_size_line h.line)) (chunk_size h.line)
-        part_is = ap (λ n. part_at n size) start_is ∙ ap (part_at (at + length (print_chunks h.chunks) + length (print_size_line h.line))) (sym h.value)
+        part_is : part_at (at + length bytes + 1) size ≡ part_at (at + length (chunks_bytes h.chunks) + length (opening_bytes h.line)) (chunk_size h.line)
+        part_is = ap (λ n. part_at n size) start_is ∙ ap (part_at (at + length (chunks_bytes h.chunks) + length (opening_bytes h.line))) (sym h.value)
 
     after_data : (left : ℕ) → 0 < left → InData left [] bytes parts → Then (next_place limit (Data left) b)
     after_data left more h =
@@ -243,13 +243,13 @@ module _ (limit at : ℕ) where
           some = h.some;
           small = h.small;
           parts_are = h.parts_are;
-          text = ap (λ t. t ++ b ∷ []) h.text ∙ regroup (print_chunks h.chunks) (print_size_line h.line) h.got;
+          text = ap (λ t. t ++ b ∷ []) h.text ∙ regroup (chunks_bytes h.chunks) (opening_bytes h.line) h.got;
         }
 
     after_data_cr : InData 0 [] bytes parts → Then (expect b 13 DataLf)
     after_data_cr h =
         by_test Then _ DataLf Bad
-        (λ cr. same_parts DataLf (record { chunks = h.chunks; line = h.line; got = h.got; front = h.front; before = h.before; is_line = h.is_line; value = h.value; some = h.some; small = h.small; parts_are = h.parts_are; text = with_byte _ 13 h.text cr ∙ regroup (print_chunks h.chunks) (print_size_line h.line) h.got }))
+        (λ cr. same_parts DataLf (record { chunks = h.chunks; line = h.line; got = h.got; front = h.front; before = h.before; is_line = h.is_line; value = h.value; some = h.some; small = h.small; parts_are = h.parts_are; text = with_byte _ 13 h.text cr ∙ regroup (chunks_bytes h.chunks) (opening_bytes h.line) h.got }))
         (λ _. tt)
       where
         regroup : (xs ys zs : List ℕ) → (xs ++ (ys ++ (zs ++ []))) ++ 13 ∷ [] ≡ xs ++ (ys ++ (zs ++ 13 ∷ []))
@@ -260,8 +260,8 @@ module _ (limit at : ℕ) where
         let c : Chunk = record { line = h.line; bytes = h.got } in
         let sized : chunk_size h.line ≡ length h.got = omega (arith, h.value) in
         let is : IsChunk c = record { line = h.is_line; sized = sized; not_empty = omega (arith, h.some, sized) } in
-        let begin = at + length (print_chunks h.chunks) + length (print_size_line h.line) in
-        let ended : part_at begin (chunk_size h.line) ≡ part_of (at + length (print_chunks h.chunks)) c = ap (part_at begin) sized in
+        let begin = at + length (chunks_bytes h.chunks) + length (opening_bytes h.line) in
+        let ended : part_at begin (chunk_size h.line) ≡ part_of (at + length (chunks_bytes h.chunks)) c = ap (part_at begin) sized in
         by_test Then _ Start Bad
         (λ lf. same_parts Start (
           h.chunks ++ c ∷ [],
@@ -270,7 +270,7 @@ module _ (limit at : ℕ) where
             small = All-push (λ (d : Chunk). chunk_size d.line ≤ limit) h.chunks c h.before.small h.small;
             parts_are = h.parts_are ∙ ap (λ ps. ps ++ part_at begin (chunk_size h.line) ∷ []) h.before.parts_are ∙ ap (λ p. chunk_parts at h.chunks ++ p ∷ []) ended ∙ sym (chunk_parts-push h.chunks at c);
           },
-          with_byte _ 10 h.text lf ∙ regroup (print_chunks h.chunks) (print_size_line h.line) h.got ∙ sym (print_chunks-push h.chunks c),
+          with_byte _ 10 h.text lf ∙ regroup (chunks_bytes h.chunks) (opening_bytes h.line) h.got ∙ sym (print_chunks-push h.chunks c),
         ))
         (λ _. tt)
       where
@@ -287,7 +287,7 @@ module _ (limit at : ℕ) where
       is_last = h.is_last;
       ends = h.ends;
       are_trailers = h.are_trailers;
-      text = with_byte _ x h.text is ∙ regroup (print_chunks h.chunks) (print_size_line h.last) (flat_map (λ t. t ++ crlf_bytes) h.trailers) ∙ ap (λ t. print_chunks h.chunks ++ (print_size_line h.last ++ (flat_map (λ t. t ++ crlf_bytes) h.trailers ++ t))) e;
+      text = with_byte _ x h.text is ∙ regroup (chunks_bytes h.chunks) (opening_bytes h.last) (flat_map (λ t. t ++ crlf_bytes) h.trailers) ∙ ap (λ t. chunks_bytes h.chunks ++ (opening_bytes h.last ++ (flat_map (λ t. t ++ crlf_bytes) h.trailers ++ t))) e;
     }
       where
         regroup : (xs ys zs : List ℕ) → (xs ++ (ys ++ (zs ++ behind))) ++ x ∷ [] ≡ xs ++ (ys ++ (zs ++ (behind ++ x ∷ [])))
@@ -318,7 +318,7 @@ module _ (limit at : ℕ) where
           is_last = h.is_last;
           ends = h.ends;
           are_trailers = All-push IsTrailer h.trailers t h.are_trailers is;
-          text = with_byte _ 10 h.text lf ∙ regroup (print_chunks h.chunks) (print_size_line h.last) (flat_map (λ t. t ++ crlf_bytes) h.trailers) ∙ ap (λ ts. print_chunks h.chunks ++ (print_size_line h.last ++ (ts ++ []))) (sym (print_trailer_lines-push h.trailers t));
+          text = with_byte _ 10 h.text lf ∙ regroup (chunks_bytes h.chunks) (opening_bytes h.last) (flat_map (λ t. t ++ crlf_bytes) h.trailers) ∙ ap (λ ts. chunks_bytes h.chunks ++ (opening_bytes h.last ++ (ts ++ []))) (sym (print_trailer_lines-push h.trailers t));
         }))
         (λ _. tt)
       where
@@ -334,18 +334,18 @@ module _ (limit at : ℕ) where
           is_body = record { chunks = h.before.are; last = h.is_last; ends = h.ends; trailers = h.are_trailers };
           sizes = h.before.small;
           parts_are = h.before.parts_are;
-          text = with_byte _ 10 h.text lf ∙ regroup (print_chunks h.chunks) (print_size_line h.last) (flat_map (λ t. t ++ crlf_bytes) h.trailers);
+          text = with_byte _ 10 h.text lf ∙ regroup (chunks_bytes h.chunks) (opening_bytes h.last) (flat_map (λ t. t ++ crlf_bytes) h.trailers);
         }))
         (λ _. tt)
       where
         regroup : (xs ys zs : List ℕ) → (xs ++ (ys ++ (zs ++ 13 ∷ []))) ++ 10 ∷ [] ≡ xs ++ (ys ++ (zs ++ crlf_bytes))
         regroup xs ys zs = simp append_assoc
 
-    after_start : (chunks : List Chunk) → AreChunks chunks parts → bytes ≡ print_chunks chunks → Then (next_place limit Start b)
+    after_start : (chunks : List Chunk) → AreChunks chunks parts → bytes ≡ chunks_bytes chunks → Then (next_place limit Start b)
     after_start chunks before text =
         by_test Then _ _ Bad
         (λ hex. let zero : 0 * 16 + digit_value b ≡ digit_value b = omega arith in
-        subst (λ n. Then (sized limit n)) zero (after_digit chunks [] before (All-nil (λ x. is_ascii_hexdigit x ≡ true)) hex (text ∙ sym (append-nil (print_chunks chunks)))))
+        subst (λ n. Then (sized limit n)) zero (after_digit chunks [] before (All-nil (λ x. is_ascii_hexdigit x ≡ true)) hex (text ∙ sym (append-nil (chunks_bytes chunks)))))
         (λ _. tt)
 
     after_size_byte : (size : ℕ) → InSize size bytes parts → Then (next_place limit (Size size) b)

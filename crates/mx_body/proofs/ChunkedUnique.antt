@@ -8,7 +8,7 @@ use Rattle.std.proofs.lemmas.Bool.Decides.{nat_tests}
 use Rattle.std.specs.Char.{is_ascii_hexdigit}
 use Rattle.httparse.specs.Ascii.{crlf_bytes, semicolon}
 use Rattle.httparse.specs.Grammar.{is_ows}
-use Rattle.mx_body.specs.Chunked.{is_line_byte, IsChunkExtension, SizeLine, print_size_line, chunk_size, IsSizeLine, Chunk, print_chunk, IsChunk, IsTrailer, ChunkedBody, print_chunks, print_chunked, IsChunkedBody}
+use Rattle.mx_body.specs.Chunked.{is_line_byte, IsChunkExtension, ChunkOpening, opening_bytes, chunk_size, IsChunkOpening, Chunk, chunk_bytes, IsChunk, IsTrailer, ChunkedBody, chunks_bytes, chunked_bytes, IsChunkedBody}
 use Rattle.mx_body.proofs.ChunkedComplete.{pass_head, pass_tail, opens_no_digit}
 
 -- the bytes of a class up to the first that is none
@@ -60,7 +60,7 @@ stops_digits : (extension rest : List ℕ) → IsChunkExtension extension → St
 stops_digits [] rest is = record { first = 13; rest = 10 ∷ rest; is = refl; stops = refl }
 stops_digits (b ∷ bytes) rest is = record { first = b; rest = bytes ++ (crlf_bytes ++ rest); is = refl; stops = opens_no_digit b is.0 }
 
-size_line_unique : (l k : SizeLine) (x y : List ℕ) → IsSizeLine l → IsSizeLine k → print_size_line l ++ x ≡ print_size_line k ++ y → (l ≡ k) × (x ≡ y)
+size_line_unique : (l k : ChunkOpening) (x y : List ℕ) → IsChunkOpening l → IsChunkOpening k → opening_bytes l ++ x ≡ opening_bytes k ++ y → (l ≡ k) × (x ≡ y)
 size_line_unique l k x y is too e =
     let s = stops_digits l.extension x is.extension in
     let t = stops_digits k.extension y too.extension in
@@ -72,43 +72,43 @@ size_line_unique l k x y is too e =
     let behind : x ≡ y = let h = extensions.1 in cc in
     (λ i. record { digits = digits.0 i; extension = extensions.0 i }, behind)
   where
-    grouped : (l : SizeLine) (x : List ℕ) → print_size_line l ++ x ≡ l.digits ++ (l.extension ++ (crlf_bytes ++ x))
+    grouped : (l : ChunkOpening) (x : List ℕ) → opening_bytes l ++ x ≡ l.digits ++ (l.extension ++ (crlf_bytes ++ x))
     grouped l x = simp append_assoc
 
 -- the chunks up to a last line
-chunks_unique : (cs ds : List Chunk) (l k : SizeLine) (x y : List ℕ) → All IsChunk cs → All IsChunk ds → IsSizeLine l → IsSizeLine k
-    → chunk_size l ≡ 0 → chunk_size k ≡ 0 → print_chunks cs ++ (print_size_line l ++ x) ≡ print_chunks ds ++ (print_size_line k ++ y)
+chunks_unique : (cs ds : List Chunk) (l k : ChunkOpening) (x y : List ℕ) → All IsChunk cs → All IsChunk ds → IsChunkOpening l → IsChunkOpening k
+    → chunk_size l ≡ 0 → chunk_size k ≡ 0 → chunks_bytes cs ++ (opening_bytes l ++ x) ≡ chunks_bytes ds ++ (opening_bytes k ++ y)
     → (cs ≡ ds) × (l ≡ k) × (x ≡ y)
 chunks_unique [] [] l k x y are too is has none zero e =
     let last = size_line_unique l k x y is has e in
     (refl, last.0, last.1)
 chunks_unique [] (d ∷ ds) l k x y are too is has none zero e =
     let h = All-head IsChunk d ds too in
-    let line = size_line_unique l d.line x _ is h.line (e ∙ grouped d (print_chunks ds) (print_size_line k ++ y)) in
+    let line = size_line_unique l d.line x _ is h.line (e ∙ grouped d (chunks_bytes ds) (opening_bytes k ++ y)) in
     let sizes : chunk_size l ≡ chunk_size d.line = ap chunk_size line.0 in
     absurd (omega (arith, h.sized, h.not_empty))
   where
-    grouped : (c : Chunk) (later rest : List ℕ) → (print_chunk c ++ later) ++ rest ≡ print_size_line c.line ++ (c.bytes ++ (crlf_bytes ++ (later ++ rest)))
+    grouped : (c : Chunk) (later rest : List ℕ) → (chunk_bytes c ++ later) ++ rest ≡ opening_bytes c.line ++ (c.bytes ++ (crlf_bytes ++ (later ++ rest)))
     grouped c later rest = simp append_assoc
 chunks_unique (c ∷ cs) [] l k x y are too is has none zero e =
     let h = All-head IsChunk c cs are in
-    let line = size_line_unique c.line k _ y h.line has (sym (grouped c (print_chunks cs) (print_size_line l ++ x)) ∙ e) in
+    let line = size_line_unique c.line k _ y h.line has (sym (grouped c (chunks_bytes cs) (opening_bytes l ++ x)) ∙ e) in
     let sizes : chunk_size c.line ≡ chunk_size k = ap chunk_size line.0 in
     absurd (omega (arith, h.sized, h.not_empty))
   where
-    grouped : (c : Chunk) (later rest : List ℕ) → (print_chunk c ++ later) ++ rest ≡ print_size_line c.line ++ (c.bytes ++ (crlf_bytes ++ (later ++ rest)))
+    grouped : (c : Chunk) (later rest : List ℕ) → (chunk_bytes c ++ later) ++ rest ≡ opening_bytes c.line ++ (c.bytes ++ (crlf_bytes ++ (later ++ rest)))
     grouped c later rest = simp append_assoc
 chunks_unique (c ∷ cs) (d ∷ ds) l k x y are too is has none zero e =
     let g = All-head IsChunk c cs are in
     let h = All-head IsChunk d ds too in
-    let line = size_line_unique c.line d.line _ _ g.line h.line (sym (grouped c (print_chunks cs) (print_size_line l ++ x)) ∙ e ∙ grouped d (print_chunks ds) (print_size_line k ++ y)) in
+    let line = size_line_unique c.line d.line _ _ g.line h.line (sym (grouped c (chunks_bytes cs) (opening_bytes l ++ x)) ∙ e ∙ grouped d (chunks_bytes ds) (opening_bytes k ++ y)) in
     let sizes : length c.bytes ≡ length d.bytes = sym g.sized ∙ ap chunk_size line.0 ∙ h.sized in
     let bytes = append_unique c.bytes d.bytes _ _ sizes line.1 in
-    let behind : print_chunks cs ++ (print_size_line l ++ x) ≡ print_chunks ds ++ (print_size_line k ++ y) = let b = bytes.1 in cc in
+    let behind : chunks_bytes cs ++ (opening_bytes l ++ x) ≡ chunks_bytes ds ++ (opening_bytes k ++ y) = let b = bytes.1 in cc in
     let later = chunks_unique cs ds l k x y (All-tail IsChunk c cs are) (All-tail IsChunk d ds too) is has none zero behind in
     (λ i. record { line = line.0 i; bytes = bytes.0 i } ∷ later.0 i, later.1, later.2)
   where
-    grouped : (c : Chunk) (later rest : List ℕ) → (print_chunk c ++ later) ++ rest ≡ print_size_line c.line ++ (c.bytes ++ (crlf_bytes ++ (later ++ rest)))
+    grouped : (c : Chunk) (later rest : List ℕ) → (chunk_bytes c ++ later) ++ rest ≡ opening_bytes c.line ++ (c.bytes ++ (crlf_bytes ++ (later ++ rest)))
     grouped c later rest = simp append_assoc
 
 -- the bytes of some trailer lines
@@ -149,12 +149,12 @@ trailers_unique (t ∷ ts) (u ∷ us) x y are too e =
     grouped t later rest = simp append_assoc
 
 -- two bodies at the front of one text are one
-pub body_unique : (body other : ChunkedBody) (x y : List ℕ) → IsChunkedBody body → IsChunkedBody other → print_chunked body ++ x ≡ print_chunked other ++ y → (body ≡ other) × (x ≡ y)
+pub body_unique : (body other : ChunkedBody) (x y : List ℕ) → IsChunkedBody body → IsChunkedBody other → chunked_bytes body ++ x ≡ chunked_bytes other ++ y → (body ≡ other) × (x ≡ y)
 body_unique body other x y is too e =
     let front = chunks_unique body.chunks other.chunks body.last other.last _ _ is.chunks too.chunks is.last too.last is.ends too.ends (sym (grouped body x) ∙ e ∙ grouped other y) in
     let back = trailers_unique body.trailers other.trailers x y is.trailers too.trailers front.2 in
     (λ i. record { chunks = front.0 i; last = front.1 i; trailers = back.0 i }, back.1)
   where
-    grouped : (body : ChunkedBody) (x : List ℕ) → print_chunked body ++ x ≡ print_chunks body.chunks ++ (print_size_line body.last ++ (lines body.trailers ++ (crlf_bytes ++ x)))
+    grouped : (body : ChunkedBody) (x : List ℕ) → chunked_bytes body ++ x ≡ chunks_bytes body.chunks ++ (opening_bytes body.last ++ (lines body.trailers ++ (crlf_bytes ++ x)))
     grouped body x =
-        append_assoc (print_chunks body.chunks) _ x ∙ ap (λ t. print_chunks body.chunks ++ t) (append_assoc (print_size_line body.last) _ x ∙ ap (λ t. print_size_line body.last ++ t) (append_assoc (lines body.trailers) crlf_bytes x))
+        append_assoc (chunks_bytes body.chunks) _ x ∙ ap (λ t. chunks_bytes body.chunks ++ t) (append_assoc (opening_bytes body.last) _ x ∙ ap (λ t. opening_bytes body.last ++ t) (append_assoc (lines body.trailers) crlf_bytes x))

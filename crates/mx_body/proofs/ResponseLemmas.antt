@@ -9,7 +9,7 @@ use Rattle.mx_head.specs.declared.types.Framing.TheVariants.{Empty, Counted, Chu
 use Rattle.mx_head.specs.Limits.{most_bytes}
 use Rattle.mx_head.proofs.LineLemmas.{front_of}
 use Rattle.mx_body.specs.declared.part.Part.{Part}
-use Rattle.mx_body.specs.Chunked.{ChunkedBody, print_chunked, chunk_parts, chunked_data}
+use Rattle.mx_body.specs.Chunked.{ChunkedBody, chunked_bytes, chunk_parts, chunked_data}
 use Rattle.mx_body.specs.Response.{print_heads, StandsAtBody, IsBody, one_part, Response, heads_of, IsResponse}
 use Rattle.mx_body.specs.Causes.{BodyCause, bad_framing, unknown_coding, too_big, bad_chunk, MeetsAtBody}
 use Rattle.mx_body.specs.Decision.{BeginsWithResponse}
@@ -47,7 +47,7 @@ one_body (Counted n) ended later at body other left after parts pieces content m
     (same.0, x.1 ∙ sym y.1, x.2 ∙ same.0 ∙ sym y.2, same.1)
 one_body Chunked ended later at body other left after parts pieces content more x y p q e =
     let same = body_unique x.0 y.0 left after x.1 y.1 (ap (λ (t : List ℕ). t ++ left) (sym x.3) ∙ e ∙ ap (λ (t : List ℕ). t ++ after) y.3) in (
-      x.3 ∙ ap print_chunked same.0 ∙ sym y.3,
+      x.3 ∙ ap chunked_bytes same.0 ∙ sym y.3,
       x.4 ∙ ap (λ (b : ChunkedBody). chunk_parts at b.chunks) same.0 ∙ sym y.4,
       x.5 ∙ ap chunked_data same.0 ∙ sym y.5,
       same.1,

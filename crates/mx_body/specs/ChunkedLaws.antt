@@ -3,7 +3,7 @@ use Rattle.std.specs.Prelude.{false, ◌≡◌, ℕ, ◌+◌, ◌<◌, List, [],
 use Rattle.mx_body.specs.declared.part.Part.{Part}
 use Rattle.mx_body.specs.Parts.{AreOrdered, joined}
 use Rattle.mx_body.specs.declared.chunked.scan.ChunkedScan.{ChunkedScan}
-use Rattle.mx_body.specs.Chunked.{IsChunkSize, IsChunkExtension, IsSizeLine, SizeLine, chunk_size, print_size_line, Chunk, IsChunk, ChunkedBody, IsChunkedBody, HasSizes, print_chunks, print_chunked, IsChunked, MayBecomeChunked, EndsInLargeSize}
+use Rattle.mx_body.specs.Chunked.{IsChunkSize, IsChunkExtension, IsChunkOpening, ChunkOpening, chunk_size, opening_bytes, Chunk, IsChunk, ChunkedBody, IsChunkedBody, HasSizes, chunks_bytes, chunked_bytes, IsChunked, MayBecomeChunked, EndsInLargeSize}
 use Rattle.mx_body.specs.ChunkedScan.{IsUndecidedChunked, IsChunkedScan}
 use Rattle.mx_body.specs.declared.chunked.place.Place.TheVariants.{Start, Done, Bad, TooLarge}
 use Rattle.mx_body.specs.ChunkedPlace.{place_after, is_settled, parts_begun}
@@ -13,7 +13,7 @@ use Rattle.mx_body.specs.ChunkedRfc.{IsRfcChunked, HasRfcText}
 abbrev pub OneBodyPerText : Type 0
 OneBodyPerText =
     (body other : ChunkedBody) (rest later : List ℕ) → IsChunkedBody body → IsChunkedBody other
-    → print_chunked body ++ rest ≡ print_chunked other ++ later → (body ≡ other) × (rest ≡ later)
+    → chunked_bytes body ++ rest ≡ chunked_bytes other ++ later → (body ≡ other) × (rest ≡ later)
 
 -- so it is with the parts and the data
 abbrev pub OneReadingPerText : Type 0
@@ -34,7 +34,7 @@ PartsAreData =
 abbrev pub BodyIsSound : Type 0
 BodyIsSound =
     (limit : ℕ) (body : ChunkedBody) (front rest : List ℕ) → IsChunkedBody body → HasSizes limit body
-    → print_chunked body ≡ front ++ rest → MayBecomeChunked front × ¬ (EndsInLargeSize limit front)
+    → chunked_bytes body ≡ front ++ rest → MayBecomeChunked front × ¬ (EndsInLargeSize limit front)
 
 -- a size over the limit is no bad byte
 abbrev pub LargeMayBecome : Type 0
@@ -62,14 +62,14 @@ ChunkedIsRfc =
 abbrev pub NoBareLfInSizeLine : Type 0
 NoBareLfInSizeLine =
     (chunks : List Chunk) (digits extension rest : List ℕ) → All IsChunk chunks → IsChunkSize digits → IsChunkExtension extension
-    → ¬ (MayBecomeChunked (print_chunks chunks ++ (digits ++ (extension ++ 10 ∷ rest))))
+    → ¬ (MayBecomeChunked (chunks_bytes chunks ++ (digits ++ (extension ++ 10 ∷ rest))))
 
 -- behind the data of a chunk stands CRLF
 abbrev pub CrlfBehindData : Type 0
 CrlfBehindData =
-    (chunks : List Chunk) (line : SizeLine) (bytes : List ℕ) (b c : ℕ) (rest : List ℕ) → All IsChunk chunks → IsSizeLine line
+    (chunks : List Chunk) (line : ChunkOpening) (bytes : List ℕ) (b c : ℕ) (rest : List ℕ) → All IsChunk chunks → IsChunkOpening line
     → 0 < chunk_size line → chunk_size line ≡ length bytes
-    → MayBecomeChunked (print_chunks chunks ++ (print_size_line line ++ (bytes ++ b ∷ c ∷ rest))) → (b ≡ 13) × (c ≡ 10)
+    → MayBecomeChunked (chunks_bytes chunks ++ (opening_bytes line ++ (bytes ++ b ∷ c ∷ rest))) → (b ≡ 13) × (c ≡ 10)
 
 -- worked cases: `5\n`, `0\r\n\n` and `0\r\na:b\n` begin no chunked body, whatever follows
 abbrev pub BareLfExamples : Type 0
@@ -87,7 +87,7 @@ DoneIsWhole =
 -- and each body leads there
 abbrev pub WholeIsDone : Type 0
 WholeIsDone =
-    (limit : ℕ) (body : ChunkedBody) → IsChunkedBody body → HasSizes limit body → place_after limit Start (print_chunked body) ≡ Done
+    (limit : ℕ) (body : ChunkedBody) → IsChunkedBody body → HasSizes limit body → place_after limit Start (chunked_bytes body) ≡ Done
 
 -- while nothing is settled, nothing is decided
 abbrev pub OpenIsUndecided : Type 0

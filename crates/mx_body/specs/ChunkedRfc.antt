@@ -5,7 +5,7 @@ use Rattle.std.specs.Prelude.{◌≡◌, ℕ, ◌<◌, ◌⊎◌, not, ◌&&◌,
 use Rattle.std.specs.List.{AllPass}
 use Rattle.httparse.specs.Ascii.{semicolon, colon, digit_zero}
 use Rattle.httparse.specs.Grammar.{is_ows, is_value_byte, IsToken}
-use Rattle.mx_body.specs.Chunked.{IsChunkSize, SizeLine, chunk_size, Chunk, ChunkedBody, HasSizes, print_chunked, chunked_data}
+use Rattle.mx_body.specs.Chunked.{IsChunkSize, ChunkOpening, chunk_size, Chunk, ChunkedBody, HasSizes, chunked_bytes, chunked_data}
 
 -- b'"'
 abbrev pub double_quote : ℕ
@@ -118,7 +118,7 @@ pub record IsRfcChunk (c : Chunk) : Type 0 where
   pub sized : chunk_size c.line ≡ length c.bytes
 
 -- last-chunk = 1*"0" [ chunk-ext ] CRLF
-pub record IsRfcLast (l : SizeLine) : Type 0 where
+pub record IsRfcLast (l : ChunkOpening) : Type 0 where
   pub some : 0 < length l.digits
   pub zeros : AllPass (λ b. b == digit_zero) l.digits
   pub extension : IsRfcExtension l.extension
@@ -138,4 +138,4 @@ pub record HasRfcText (body : ChunkedBody) : Type 0 where
 -- the bytes are a chunked body by the standard, with this data and no size over the limit
 abbrev pub IsRfcChunked : ℕ → List ℕ → List ℕ → Type 0
 IsRfcChunked limit bytes data_bytes =
-    (body : ChunkedBody) × IsRfcBody body × HasSizes limit body × (bytes ≡ print_chunked body) × (data_bytes ≡ chunked_data body)
+    (body : ChunkedBody) × IsRfcBody body × HasSizes limit body × (bytes ≡ chunked_bytes body) × (data_bytes ≡ chunked_data body)

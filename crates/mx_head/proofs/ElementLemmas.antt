@@ -1,53 +1,57 @@
 -- The elements of a value, one at a time.
 use Rattle.std.proofs.Common.{◌≡◌, ◌≢◌, ℕ, zero, suc, ◌+◌, ◌<◌, Bool, true, false, not, cond, ◌||◌, List, [], ◌∷◌, ◌++◌, map, length, get_or, take, drop, fold, refl, sym, ap, ◌∙◌, arith}
-use Rattle.std.specs.Prelude.{codes, filter, slice_get, Some}
+use Rattle.std.specs.Prelude.{codes, filter, slice_get, Some, ◌==◌}
 use Rattle.std.proofs.lemmas.List.{at_drop_more}
-use Rattle.std.specs.List.{list_any}
+use Rattle.std.specs.List.{list_any, slice_split, onto_first}
 use Rattle.std.proofs.lemmas.Bool.{eq-eqb, ne_eqb}
 use Rattle.std.proofs.lemmas.List.Sums.{fold-append}
+use Rattle.httparse.specs.Ascii.{comma}
 use Rattle.httparse.specs.Grammar.{trim_ows}
 use Rattle.mx_head.specs.declared.types.Coding.TheVariants as coding
 use Rattle.mx_head.specs.declared.fields.Seen.{Seen}
 use Rattle.mx_head.specs.declared.fields.Seen.TheVariants.{Nothing, Blank, Chunked, Other}
-use Rattle.mx_head.specs.Fields.{Line, cons_first, between_commas, elements_of, elements, same_word}
+use Rattle.mx_head.specs.Fields.{Line, elements_of, elements, same_word}
 use Rattle.mx_head.specs.Framing.{is_blank, is_chunked_alone, has_word}
 use Rattle.mx_head.specs.Summary.{coding_of}
 use Rattle.mx_head.specs.Steps.{seen_after, seen_after_line, coding_seen}
 
--- the first piece ends at the first comma
-between_commas_at : (xs : List ℕ) (i : ℕ) → i < length xs → get_or xs i 0 ≡ 44 → ((k : ℕ) → k < i → get_or xs k 0 ≢ 44) → between_commas xs ≡ take i xs ∷ between_commas (drop (suc i) xs)
-between_commas_at [] i inside comma before = absurd (omega arith)
-between_commas_at (b ∷ bs) zero inside comma before =
-    ap (λ t. cond t ([] ∷ between_commas bs) (cons_first b (between_commas bs))) (eq-eqb b 44 comma)
-between_commas_at (b ∷ bs) (suc i) inside comma before =
-    ap (λ t. cond t ([] ∷ between_commas bs) (cons_first b (between_commas bs))) (ne_eqb b 44 (before 0 (omega arith)))
-    ∙ ap (cons_first b) (between_commas_at bs i (omega arith) comma (λ k below. before (suc k) (omega arith)))
+abbrev commas : List ℕ → List (List ℕ)
+commas value = slice_split (λ (b : ℕ). b == comma) value
 
-between_commas_whole : (xs : List ℕ) → ((k : ℕ) → k < length xs → get_or xs k 0 ≢ 44) → between_commas xs ≡ xs ∷ []
-between_commas_whole [] none = refl
-between_commas_whole (b ∷ bs) none =
-    ap (λ t. cond t ([] ∷ between_commas bs) (cons_first b (between_commas bs))) (ne_eqb b 44 (none 0 (omega arith)))
-    ∙ ap (cons_first b) (between_commas_whole bs (λ k below. none (suc k) (omega arith)))
+-- up to the first comma, and on behind it
+cut_at : (xs : List ℕ) (i : ℕ) → i < length xs → get_or xs i 0 ≡ 44 → ((k : ℕ) → k < i → get_or xs k 0 ≢ 44) → commas xs ≡ take i xs ∷ commas (drop (suc i) xs)
+cut_at [] i inside here before = absurd (omega arith)
+cut_at (b ∷ bs) zero inside here before =
+    ap (λ t. cond t ([] ∷ commas bs) (onto_first b (commas bs))) (eq-eqb b 44 here)
+cut_at (b ∷ bs) (suc i) inside here before =
+    ap (λ t. cond t ([] ∷ commas bs) (onto_first b (commas bs))) (ne_eqb b 44 (before 0 (omega arith)))
+    ∙ ap (onto_first b) (cut_at bs i (omega arith) here (λ k below. before (suc k) (omega arith)))
+
+not_cut : (xs : List ℕ) → ((k : ℕ) → k < length xs → get_or xs k 0 ≢ 44) → commas xs ≡ xs ∷ []
+not_cut [] none = refl
+not_cut (b ∷ bs) none =
+    ap (λ t. cond t ([] ∷ commas bs) (onto_first b (commas bs))) (ne_eqb b 44 (none 0 (omega arith)))
+    ∙ ap (onto_first b) (not_cut bs (λ k below. none (suc k) (omega arith)))
 
 pub elements_at : (xs : List ℕ) (i : ℕ) → i < length xs → get_or xs i 0 ≡ 44 → ((k : ℕ) → k < i → get_or xs k 0 ≢ 44) → elements_of xs ≡ trim_ows (take i xs) ∷ elements_of (drop (suc i) xs)
 unfolding elements_of
-elements_at xs i inside comma before = ap (map trim_ows) (between_commas_at xs i inside comma before)
+elements_at xs i inside comma before = ap (map trim_ows) (cut_at xs i inside comma before)
 
 pub elements_whole : (xs : List ℕ) → ((k : ℕ) → k < length xs → get_or xs k 0 ≢ 44) → elements_of xs ≡ trim_ows xs ∷ []
 unfolding elements_of
-elements_whole xs none = ap (map trim_ows) (between_commas_whole xs none)
+elements_whole xs none = ap (map trim_ows) (not_cut xs none)
 
 -- ---- the lines of one name
 
-fold-cond : {X Y : Type 0} (f : Y → X → Y) (a : Y) (t : Bool) (xs : List X) → fold f a (cond t xs []) ≡ cond t (fold f a xs) a
-fold-cond f a true xs = refl
-fold-cond f a false xs = refl
+fold_if : {X Y : Type 0} (f : Y → X → Y) (start : Y) (xs : List X) (t : Bool) → fold f start (cond t xs []) ≡ cond t (fold f start xs) start
+fold_if f start xs false = refl
+fold_if f start xs true = refl
 
 pub fold_line : {Y : Type 0} (f : Y → List ℕ → Y) (a : Y) (name : List ℕ) (l : Line) (ls : List Line)
     → fold f a (elements name (l ∷ ls)) ≡ fold f (cond (same_word l.0 name) (fold f a (elements_of l.1)) a) (elements name ls)
 fold_line f a name l ls =
     fold-append f a (cond (same_word l.0 name) (elements_of l.1) []) (elements name ls)
-    ∙ ap (λ s. fold f s (elements name ls)) (fold-cond f a (same_word l.0 name) (elements_of l.1))
+    ∙ ap (λ s. fold f s (elements name ls)) (fold_if f a (elements_of l.1) (same_word l.0 name))
 
 any-append : {X : Type 0} (p : X → Bool) (xs ys : List X) → list_any p (xs ++ ys) ≡ (list_any p xs || list_any p ys)
 any-append p [] ys = refl

@@ -1,8 +1,8 @@
 -- How the body of a response ends (RFC 9112, section 6.3), and whether its connection is kept
 -- (RFC 9112, sections 6.1 and 9.3).
 use Rattle.std.specs.Prelude.{ℕ, min, ◌^◌, ◌-◌, Bool, true, false, not, ◌&&◌, ◌||◌, List, [], ◌∷◌, length, if◌then◌else◌, nat_lt, ◌==◌, codes, Result, Ok, Err, filter}
-use Rattle.std.specs.List.{list_all, list_any}
 use Rattle.std.specs.Char.{is_ascii_digit}
+use Rattle.std.specs.List.{list_all, list_any}
 use Rattle.std.specs.Str.Parse.{digits_value}
 use Rattle.httparse.specs.Grammar.{ResponseHead, status_code}
 use Rattle.mx_types.specs.declared.code.Code.{Code}
@@ -29,7 +29,7 @@ has_no_body m status = asks_head_alone m || ((status == 204) || (status == 304))
 -- an element with nothing in it, which doesn't count in Transfer-Encoding (RFC 9110, section 5.6.1.2)
 abbrev pub is_blank : List ℕ → Bool
 is_blank [] = true
-is_blank (b ∷ bs) = false
+is_blank (first ∷ rest) = false
 
 -- exactly one element, and it is `chunked`
 abbrev pub is_chunked_alone : List (List ℕ) → Bool

@@ -5,18 +5,18 @@ use Rattle.mx_head.specs.declared.types.Coding.{Coding}
 use Rattle.mx_head.specs.declared.types.Coding.TheVariants as coding
 use Rattle.mx_head.specs.declared.fields.Seen.{Seen}
 use Rattle.mx_head.specs.declared.fields.Seen.TheVariants.{Nothing, Blank, Chunked, Other}
-use Rattle.mx_head.specs.declared.elements.Elements.{Elements}
+use Rattle.mx_head.specs.declared.elements.CommaList.{CommaList}
 use Rattle.mx_head.specs.Fields.{Line, same_word, elements_of}
 use Rattle.mx_head.specs.Framing.{is_blank}
 
--- the elements of what is left, if anything is
-abbrev pub elements_of_rest : Option (Bor (List ℕ)) → List (List ℕ)
-elements_of_rest None = []
-elements_of_rest (Some rest) = elements_of rest.now
+-- the elements of the value behind a comma; none where there was no comma
+abbrev pub elements_behind : Option (Bor (List ℕ)) → List (List ℕ)
+elements_behind (Some value) = elements_of value.now
+elements_behind None = []
 
--- the elements that the iterator has still to give
-abbrev pub elements_left : Elements → List (List ℕ)
-elements_left it = elements_of_rest it.rest
+-- those that a list over a value has still to give
+abbrev pub elements_ahead : CommaList → List (List ℕ)
+elements_ahead list = elements_behind list.ahead
 
 -- the first element that counts
 abbrev pub first_seen : List ℕ → Seen

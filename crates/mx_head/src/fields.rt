@@ -9,7 +9,7 @@ ghost use Rattle.mx_head.specs.Framing.{has_word, is_number, is_number_of};
 ghost use Rattle.mx_head.specs.Steps.{seen_after, seen_after_line, coding_seen, stripped};
 ghost use Rattle.mx_head.specs.Summary.{coding_of, length_of};
 
-use crate::elements::{Elements, first_element};
+use crate::elements::{comma_list, first_element};
 use crate::text::same_word;
 use crate::types::{Coding, Length};
 use httparse::spans::HeaderSpan;
@@ -37,13 +37,14 @@ impl Seen {
         }
     }
 
-    fn add_all(mut self, value: &[u8]) -> Seen
+    fn add_all(self, value: &[u8]) -> Seen
         ensures { result ≡ fold seen_after self (elements_of value.now) }
     {
-        for element in Elements::new(value) {
-            self = self.add(element);
+        let mut seen = self;
+        for element in comma_list(value) {
+            seen = seen.add(element);
         }
-        self
+        seen
     }
 
     fn add_line(self, name: &[u8], value: &[u8]) -> Seen
@@ -84,7 +85,7 @@ pub(crate) fn coding(buf: &[u8], headers: &[HeaderSpan]) -> Coding
 fn has_word(value: &[u8], word: &[u8]) -> bool
     ensures { result ≡ has_word word.now (elements_of value.now) }
 {
-    Elements::new(value).any(|e| same_word(e, word))
+    comma_list(value).any(|e| same_word(e, word))
 }
 
 /// Whether one of the elements of Connection is the word.
@@ -149,7 +150,7 @@ fn all_numbers_of(value: &[u8], first: &[u8]) -> bool
     ensures { result ≡ list_all (is_number_of (digits_value 10 first.now)) (elements_of value.now) }
 {
     let mut same = true;
-    for element in Elements::new(value) {
+    for element in comma_list(value) {
         same &= is_number_of(first, element);
     }
     same

@@ -1,7 +1,7 @@
 //! Where the data of a chunked body stand.
 
 ghost use Rattle.std.specs.Prelude.{◌≡◌, ◌+◌, ◌<◌, ◌^◌, ◌≢◌, [], length, IfOk, OnErr, option_to_list};
-ghost use Rattle.mx_body.specs.Chunked.{ChunkedBody, IsChunkedBody, print_chunked, chunk_parts};
+ghost use Rattle.mx_body.specs.Chunked.{ChunkedBody, IsChunkedBody, chunked_bytes, chunk_parts};
 ghost use Rattle.mx_body.specs.ChunkedPlace.{begun, data_left};
 
 use crate::Part;
@@ -27,13 +27,13 @@ pub(crate) fn begun(place: Place, next: Place, at: u32) -> Option<Part>
 /// `input` is the body, which begins at the offset `at`; the parts are offsets counted as `at` is. The error
 /// comes where there is no room for another part.
 pub fn chunked_parts(alloc: Global, input: &[u8], at: u32) -> Result<Vec<Part>, OutOfMemory>
-    requires whole { (body : ChunkedBody) × IsChunkedBody body × (input.now ≡ print_chunked body) }
+    requires whole { (body : ChunkedBody) × IsChunkedBody body × (input.now ≡ chunked_bytes body) }
     requires room { at + length input.now < 2 ^ 32 }
     ensures parts { IfOk result (λ parts. (body : ChunkedBody) → IsChunkedBody body
-        → input.now ≡ print_chunked body → parts.items ≡ chunk_parts at body.chunks) }
+        → input.now ≡ chunked_bytes body → parts.items ≡ chunk_parts at body.chunks) }
     // a body with no data takes no memory
     ensures memory { OnErr result ((body : ChunkedBody) → IsChunkedBody body
-        → input.now ≡ print_chunked body → body.chunks ≢ []) }
+        → input.now ≡ chunked_bytes body → body.chunks ≢ []) }
 {
     let mut parts = Vec::new(alloc);
     let mut place = Place::Start;

@@ -1,7 +1,7 @@
 use Rattle.std.proofs.Common.{ℕ, List, ◌++◌, length, take, slice_range, ap, sym, subst, ◌∙◌, arith, length-append, false}
 use Rattle.mx_head.specs.Limits.{most_bytes}
 use Rattle.mx_head.proofs.SummaryLemmas.{framing_agrees, keeps_agrees}
-use Rattle.mx_body.specs.Chunked.{print_chunked, chunk_parts}
+use Rattle.mx_body.specs.Chunked.{chunked_bytes, chunk_parts}
 use Rattle.mx_body.specs.ChunkedScan.{IsChunkedScan}
 use Rattle.mx_body.specs.Decision.{first_bytes}
 use Rattle.mx_body.specs.ChunkedPlace.{parts_begun}
@@ -55,11 +55,11 @@ returns-in-Whole-clause-verdict c =
       x.1 ++ g.after,
       body_response c.args.method c.args.wire.now false d.interim d.head d.rest d.stands _ _ _ _ _ b,
       c.status.ensures ∙ d.describes.status,
-      omega (arith, d.end_is, x.3, input_length c.args.wire.now d.interim d.head d.rest d.stands, ap length b.splits, length-append (print_chunked x.0) (x.1 ++ g.after)),
+      omega (arith, d.end_is, x.3, input_length c.args.wire.now d.interim d.head d.rest d.stands, ap length b.splits, length-append (chunked_bytes x.0) (x.1 ++ g.after)),
       ap (λ v. v.items) c.replace.ensures.value ∙ read.parts
           ∙ ap (λ n. parts_begun most_bytes Start n (take c.read_on.new.self.read (slice_range c.args.wire.now c.args.at c.min.result))) (c.in_ok-read_on.ensures.at ∙ c.requires.at)
           ∙ ap (λ n. parts_begun most_bytes Start c.args.at (take n (slice_range c.args.wire.now c.args.at c.min.result))) (sym len_is)
-          ∙ whole_parts most_bytes c.args.at _ x.0 x.2.0 text (omega (arith, ap length text, ap length x.2.2, length-append (print_chunked x.0) x.1, input_length (first_bytes c.args.wire.now) d.interim d.head g.seen g.stands, length-first_bytes c.args.wire.now))
+          ∙ whole_parts most_bytes c.args.at _ x.0 x.2.0 text (omega (arith, ap length text, ap length x.2.2, length-append (chunked_bytes x.0) x.1, input_length (first_bytes c.args.wire.now) d.interim d.head g.seen g.stands, length-first_bytes c.args.wire.now))
           ∙ (λ i. chunk_parts (d.end_is i) x.0.chunks),
       c.keeps.ensures ∙ keeps_agrees _ d.head d.describes ∙ grind arith,
     )

@@ -1,7 +1,7 @@
 use Rattle.std.proofs.Common.{ℕ, List, ◌++◌, length, take, ap, subst, ◌∙◌, arith, length-append, sym}
 use Rattle.mx_head.specs.Limits.{most_bytes}
 use Rattle.mx_head.proofs.SummaryLemmas.{framing_agrees, keeps_agrees}
-use Rattle.mx_body.specs.Chunked.{print_chunked, chunk_parts}
+use Rattle.mx_body.specs.Chunked.{chunked_bytes, chunk_parts}
 use Rattle.mx_body.specs.ChunkedScan.{IsChunkedScan}
 use Rattle.mx_body.proofs.MeetsLemmas.{body_start, body_response}
 use Rattle.mx_body.proofs.FirstBytesLemmas.{first_body}
@@ -65,7 +65,7 @@ returns-in_ok-parts-in-Whole-clause-verdict c =
       x.1 ++ g.after,
       body_response c.args.method c.args.input.now c.args.ended d.interim d.head d.rest d.stands _ _ _ _ _ b,
       c.status.ensures ∙ d.describes.status,
-      omega (arith, d.end_is, x.3, input_length c.args.input.now d.interim d.head d.rest d.stands, ap length b.splits, length-append (print_chunked x.0) (x.1 ++ g.after)),
+      omega (arith, d.end_is, x.3, input_length c.args.input.now d.interim d.head d.rest d.stands, ap length b.splits, length-append (chunked_bytes x.0) (x.1 ++ g.after)),
       c.in_ok-parts-in-Whole.ensures.parts x.0 x.2.0 text ∙ (λ i. chunk_parts (d.end_is i) x.0.chunks),
       c.keeps.ensures ∙ keeps_agrees _ d.head d.describes ∙ grind arith,
     )

@@ -4,4 +4,4 @@ use Rattle.mx_head.proofs.text.trim_ows.Goals as goal
 
 pub returns : goal.returns
 unfolding trim_ows
-returns c = search rules
+returns c = search (rules)
