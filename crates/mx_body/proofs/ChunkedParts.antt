@@ -35,10 +35,11 @@ module _ (limit at : ℕ) (input : List ℕ) where
   At n = place_after limit Start (take n input)
 
   -- the parts, a piece of the rest on
-  pub further_parts : (n len : ℕ) (place next : Place) → n ≤ length input → At n ≡ place
-      → parts_begun limit place (at + n) (take len (take (length input - n) (drop n input))) ≡ begun place next (at + n + len)
-      → parts_begun limit Start at (take (n + len) input) ≡ parts_begun limit Start at (take n input) ++ begun place next (at + (n + len))
-  further_parts n len place next within here more =
+  -- the parts begun further on, by the offset behind the bytes that begin them
+  pub further_begun : (n len : ℕ) (place : Place) (more : ℕ → List Part) → n ≤ length input → At n ≡ place
+      → parts_begun limit place (at + n) (take len (take (length input - n) (drop n input))) ≡ more (at + n + len)
+      → parts_begun limit Start at (take (n + len) input) ≡ parts_begun limit Start at (take n input) ++ more (at + (n + len))
+  further_begun n len place more within here begins =
       let front = take n input in
       let piece = take len (drop n input) in
       let offset : at + length front ≡ at + n = omega (arith, length-take-le n input within) in
@@ -48,7 +49,12 @@ module _ (limit at : ℕ) (input : List ℕ) where
       ∙ ap (λ p. parts_begun limit Start at front ++ parts_begun limit p (at + length front) piece) here
       ∙ ap (λ m. parts_begun limit Start at front ++ parts_begun limit place m piece) offset
       ∙ ap (λ t. parts_begun limit Start at front ++ parts_begun limit place (at + n) (take len t)) (sym (take_rest input n))
-      ∙ ap (λ ps. parts_begun limit Start at front ++ ps) (more ∙ ap (begun place next) regrouped)
+      ∙ ap (λ ps. parts_begun limit Start at front ++ ps) (begins ∙ ap more regrouped)
+
+  pub further_parts : (n len : ℕ) (place next : Place) → n ≤ length input → At n ≡ place
+      → parts_begun limit place (at + n) (take len (take (length input - n) (drop n input))) ≡ begun place next (at + n + len)
+      → parts_begun limit Start at (take (n + len) input) ≡ parts_begun limit Start at (take n input) ++ begun place next (at + (n + len))
+  further_parts n len place next = further_begun n len place (begun place next)
 
   module _ (body : ChunkedBody) (is : IsChunkedBody body) (text : input ≡ chunked_bytes body) (fits : length input ≤ limit) where
     ends : place_after limit Start input ≡ Done

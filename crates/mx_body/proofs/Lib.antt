@@ -17,5 +17,6 @@ pub mod ChunkedBodyLemmas
 pub mod LawLemmas
 pub mod DecoderLemmas
 pub mod EmptyLemmas
+pub mod ChunkedStretchLemmas
 pub mod ChunkedReaderLemmas
 pub mod ProgressLemmas

@@ -12,5 +12,6 @@ pub mod Laws
 -- Private: what the functions behind these promise one another.
 pub mod ChunkedPlace
 pub mod Steps
+pub mod ChunkedStretch
 pub mod ChunkedReader
 pub mod Progress

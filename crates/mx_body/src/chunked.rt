@@ -5,3 +5,4 @@ pub mod parts;
 pub mod place;
 pub(crate) mod reader;
 pub mod scan;
+pub(crate) mod stretch;

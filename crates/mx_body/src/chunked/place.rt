@@ -74,7 +74,7 @@ fn expect(b: u8, wanted: u8, next: Place) -> Place
     if b == wanted { next } else { Place::Bad }
 }
 
-fn after_line(size: u32) -> Place
+pub(crate) fn after_line(size: u32) -> Place
     ensures { result ≡ after_line size }
 {
     if size == 0 {

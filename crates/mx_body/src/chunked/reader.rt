@@ -9,9 +9,9 @@ ghost use Rattle.mx_body.specs.declared.chunked.scan.ChunkedScan.TheVariants.{Wh
 ghost use Rattle.mx_body.specs.ChunkedReader.{HasRead};
 
 use crate::Part;
-use crate::chunked::parts::begun;
 use crate::chunked::place::Place;
 use crate::chunked::scan::ChunkedScan;
+use crate::chunked::stretch::{go_over, part_at};
 use crate::limits::MOST_BYTES;
 use mx_types::OutOfMemory;
 use std::alloc::Global;
@@ -74,29 +74,32 @@ impl ChunkedReader {
         let mut place = self.place;
         let mut read = self.read;
         while read < body.len() {
-            let (next, len) = place.advance(MOST_BYTES as u32, &body[read..]);
-            read += len;
-            match add_part(&mut self.parts, begun(place, next, self.at + read as u32)) {
+            let stretch = go_over(place, MOST_BYTES as u32, &body[read..]);
+            read += stretch.len;
+            match add_part(
+                &mut self.parts,
+                part_at(stretch.ahead, self.at + read as u32),
+            ) {
                 Ok(()) => {}
                 Err(error) => {
                     self.parts.truncate(count);
                     return Err(error);
                 }
             }
-            place = next;
-            match next {
+            place = stretch.next;
+            match place {
                 Place::Done => {
-                    self.place = next;
+                    self.place = place;
                     self.read = read;
                     return Ok(ChunkedScan::Whole { len: read });
                 }
                 Place::Bad => {
-                    self.place = next;
+                    self.place = place;
                     self.read = read;
                     return Ok(ChunkedScan::Bad);
                 }
                 Place::TooLarge => {
-                    self.place = next;
+                    self.place = place;
                     self.read = read;
                     return Ok(ChunkedScan::TooLarge);
                 }
