@@ -117,7 +117,7 @@ try_tests() {
     echo "$crate, $test: $((which - 1)) growths refused, $failed_calls by a call, $stopped seen by an assertion"
   done
 }
-for crate in mx_request mx_link mx_cache mx_replay; do
+for crate in mx_request mx_link mx_cache mx_exchange_tests; do
   try_tests "$crate"
 done
 
