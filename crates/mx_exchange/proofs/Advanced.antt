@@ -19,6 +19,7 @@ use Rattle.mx_exchange.specs.Order.{InOrder}
 use Rattle.mx_exchange.specs.Endings.{IsUndecided, EndsBy, by_bytes, by_end, by_fault, by_memory, MustRetry, may_keep, code_of, fault_code}
 use Rattle.mx_exchange.specs.Transfers.{OutcomeValue, TransferState, IsDue, clocked, dropped, is_link_code}
 use Rattle.mx_exchange.specs.Turns.{How, waits, asks, ends, ProbeFails, Probed, Answered, GoesOn, EndsWith, StopsWith, Exchanged, unserved, lost, blocked, unfinished, ended, Turns, late, given_up, paused, refused, turned}
+use Rattle.mx_exchange.specs.Outcomes.{MayEnd}
 use Rattle.mx_exchange.specs.Service.{IsGoing, ServeTurn}
 use Rattle.mx_exchange.specs.declared.service.Served.{Served}
 use Rattle.mx_exchange.specs.declared.service.Served.TheVariants as served
@@ -179,6 +180,12 @@ module _ {L : Type 0} (history : L → List Answer) where
   Turns-request t new o (given_up early is s) = s.0.0
   Turns-request t new o (turned m mid p (ended a e r)) = e.ends.0 ∙ (probed_stays t mid p).0
 
+  -- once it has ended, its code is the outcome's, and the bytes received are the wire
+  pub Turns-ended : (t new : TransferState L) (o : OutcomeValue) → Turns history t new (ends o) → (new.code ≡ Some o.code) × (new.received ≡ length o.wire)
+  Turns-ended t new o (late due is s) = rw s.0.2 (refl, refl)
+  Turns-ended t new o (given_up early is s) = rw s.0.2 (refl, refl)
+  Turns-ended t new o (turned m mid p (ended a e r)) = rw e.ends.2 (refl, refl)
+
   -- a transfer that waits, or asks to be polled again, is of the same request, and hasn't ended
   pub Turns-waits : (t new : TransferState L) → Turns history t new waits → Stays t new
   Turns-waits t new (refused m f) = rw f.after (refl, refl, refl)
@@ -214,3 +221,27 @@ module _ {L : Type 0} (history : L → List Answer) where
     (λ d. absurd (early d)),
   )
   Turns-late t new o f (turned m mid p (ended a e r)) = ((λ c. absurd (untimely _ _ _ _ _ e.cause c)), (λ d. absurd (m.0.0 d)))
+
+no_parts : (v : Verdict) (c : Code) → code_of v ≡ Some c → (c ≡ code.Ok → ⊥) → parts_of v ≡ []
+no_parts (verdict.Complete status len parts keep) c is bad = absurd (bad (let k : Some code.Ok ≡ Some c = is in cc))
+no_parts verdict.More c is bad = refl
+no_parts (verdict.Fault f) c is bad = refl
+
+faulted : (last : Answer) (c : Code) → fault_code last ≡ Some c → c ≡ code.Ok → ⊥
+faulted said.Connected c e ok = cc
+faulted said.ConnectBlocked c e ok = cc
+faulted said.ConnectFailed c e ok = cc
+faulted (said.Gave piece) c e ok = cc
+faulted said.ReadBlocked c e ok = cc
+faulted said.ReadEnded c e ok = cc
+faulted said.ReadFailed c e ok = cc
+faulted (said.Took piece) c e ok = cc
+faulted said.WriteBlocked c e ok = cc
+faulted said.WriteFailed c e ok = cc
+
+-- how a link's last answer ends the exchange is a way that it may end
+pub may_end : (rq : RequestValue) (past : List Answer) (d : Decoded) (c : Code) → EndsBy rq.method past d.wire d.verdict c → MayEnd rq d c
+may_end rq past d c (by_bytes earlier piece e w h is) = ((λ ok. (false, h, is ∙ ap (λ (x : Code). Some x) ok)), no_parts d.verdict c is)
+may_end rq past d c (by_end earlier e w h is) = ((λ ok. (true, h, is ∙ ap (λ (x : Code). Some x) ok)), no_parts d.verdict c is)
+may_end rq past d c (by_fault earlier last e w m is) = ((λ ok. absurd (faulted last c is ok)), (λ bad. ap parts_of m))
+may_end rq past d c (by_memory earlier last e h w m) = ((λ ok. cc), (λ bad. ap parts_of m))

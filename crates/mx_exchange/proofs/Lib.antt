@@ -1,3 +1,4 @@
+mod Fronts
 pub mod Ordered
 pub mod Steps
 pub mod Serves

@@ -2,6 +2,8 @@ pub mod Order
 pub mod Endings
 pub mod Transfers
 pub mod Turns
+pub mod Outcomes
+pub mod Laws
 -- Private: what the functions behind a turn promise one another.
 pub mod Service
 pub mod Turned

@@ -1,6 +1,7 @@
 //! A transfer: one request over a link, as a future, and its outcome.
 #![tactic(auto)]
 
+pub mod laws;
 mod outcomes;
 mod service;
 mod transfers;

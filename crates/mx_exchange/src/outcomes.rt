@@ -1,10 +1,12 @@
 //! What a transfer ends with.
-ghost use Rattle.std.specs.Prelude.{◌≡◌, ◌<◌, ◌↔◌, ℕ, length, slice_range, Some, IsSome, IfSome, IfOk};
+ghost use Rattle.std.specs.Prelude.{◌≡◌, ◌≢◌, ◌<◌, ◌↔◌, ℕ, length, slice_range, Some, IsSome, IfSome, IfOk};
 ghost use Rattle.std.specs.List.{slice_get};
 ghost use Rattle.mx_body.specs.declared.part.Part.{Part};
 ghost use Rattle.mx_body.specs.Parts.{AreOrdered, joined};
 ghost use Rattle.mx_body.specs.Decision.{HasStatus};
 ghost use Rattle.mx_exchange.specs.Transfers.{OutcomeValue};
+ghost use Rattle.mx_exchange.specs.Outcomes.{IsOutcome, IsWhole};
+ghost use Rattle.mx_types.specs.declared.code.Code.TheVariants as code;
 
 use mx_body::Part as BodyPart;
 use mx_request::Request;
@@ -27,6 +29,7 @@ impl Model for Outcome {
     ghost use Rattle.std.specs.Prelude.{length};
     ghost use Rattle.mx_body.specs.Parts.{AreOrdered};
     ghost use Rattle.mx_exchange.specs.Transfers.{OutcomeValue};
+    ghost use Rattle.mx_exchange.specs.Outcomes.{IsOutcome};
 
     ghost Value = { OutcomeValue };
 
@@ -38,7 +41,8 @@ impl Model for Outcome {
       parts = o.parts.items;
     } };
 
-    ghost invariant = { λ o. AreOrdered 0 (length o.wire.items) o.parts.items };
+    ghost invariant = { λ o. AreOrdered 0 (length o.wire.items) o.parts.items
+        × IsOutcome (record { request = o.request; wire = o.wire.items; code = o.code; status = o.status; parts = o.parts.items }) };
 }
 
 impl Outcome {
@@ -49,7 +53,8 @@ impl Outcome {
         status: u16,
         parts: Vec<BodyPart>,
     ) -> Outcome
-        requires { AreOrdered 0 (length wire.items) parts.items }
+        requires ordered { AreOrdered 0 (length wire.items) parts.items }
+        requires told { IsOutcome (record { request = request; wire = wire.items; code = code; status = status; parts = parts.items }) }
         ensures { result ≡ record {
           request = request;
           wire = wire.items;
@@ -83,21 +88,24 @@ impl Outcome {
 
     /// The code.
     pub fn code(&self) -> Code
-        ensures { result ≡ self.now.code }
+        ensures code { result ≡ self.now.code }
+        ensures whole { result ≡ code.Ok → IsWhole self.now }
     {
         self.code
     }
 
     /// The status of the final head, 0 where none was read.
     pub fn status(&self) -> u16
-        ensures { result ≡ self.now.status }
+        ensures status { result ≡ self.now.status }
+        ensures wire { HasStatus self.now.wire result }
     {
         self.status
     }
 
     /// How many parts the body has; 0 where the code isn't `Ok`.
     pub fn part_count(&self) -> usize
-        ensures { result ≡ length self.now.parts }
+        ensures count { result ≡ length self.now.parts }
+        ensures none { self.now.code ≢ code.Ok → result ≡ 0 }
     {
         self.parts.len()
     }

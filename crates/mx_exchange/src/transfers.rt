@@ -276,8 +276,9 @@ impl<L: Link> Transfer<L> {
     /// The link, once it has ended and where the link may be kept; `None` where it was taken before.
     pub fn take_link(&mut self) -> Option<L>
         ensures link { result ≡ if self.old.is_kept then self.old.link else None }
-        ensures rest { self.new ≡ if self.old.is_kept then self.new else self.old }
-        ensures taken { self.new.is_kept ≡ false }
+        ensures rest { self.new ≡ if self.old.is_kept
+            then record self.old { link = None; attached = None; answers = []; is_reused = false; needs_probe = false; is_kept = false }
+            else self.old }
     {
         if !self.is_kept {
             return None;
@@ -301,6 +302,7 @@ enum Turn {
 
 impl<L: Link> Transfer<L> {
     ghost use Rattle.mx_exchange.specs.Turned.{how_of, ProbeSo};
+    ghost use Rattle.mx_types.specs.declared.code.Code.TheVariants as Codes;
     ghost use Rattle.mx_exchange.specs.Turns.{StopsWith, Exchanged, Turns};
     ghost use Rattle.futures.specs.Task.{Hears, IsArmed, Keeps};
     ghost use Rattle.futures.specs.Slot.{IsLeftIn};
@@ -346,7 +348,8 @@ impl<L: Link> Transfer<L> {
 
     // Ends without a look at the link.
     fn stop(&mut self, code: Code) -> Outcome
-        requires { self.old.code ≡ None }
+        requires alive { self.old.code ≡ None }
+        requires failed { code ≢ Codes.Ok }
         ensures code { result.code ≡ code }
         ensures stopped { StopsWith self.old self.new result }
     {
@@ -471,7 +474,7 @@ impl<L: Link> Transfer<L> {
 impl<L: Link> Future for Transfer<L> {
     type Output = Outcome;
 
-    ghost use Rattle.std.specs.Prelude.{◌≡◌, ◌⊎◌, ℕ, None, IsSome};
+    ghost use Rattle.std.specs.Prelude.{◌≡◌, ◌⊎◌, ℕ, None, Some, IsSome, length};
     ghost use Rattle.futures.specs.Task.{Covers, Keeps};
     ghost use Rattle.futures.specs.Poll.{IfReady, OnPending};
     ghost use Rattle.mx_types.specs.declared.code.Code.TheVariants as Code;
@@ -494,6 +497,7 @@ impl<L: Link> Future for Transfer<L> {
         ensures turn { PollSo L.history self.old self.new result cx.old cx.new }
         // 28 comes where the deadline is due, and only there
         ensures late { IfReady result (λ outcome. (outcome.code ≡ Code.OperationTimedout) ↔ IsDue (clocked self.old).deadline self.old.moment) }
+        ensures ended { IfReady result (λ outcome. (self.new.code ≡ Some outcome.code) × (self.new.received ≡ length outcome.wire)) }
         ensures served { IsServed L.history self.new }
         ensures undecided { OnPending result (IsUndecided self.new.request.method self.new.answers) }
     {
@@ -513,6 +517,7 @@ impl Exchange {
     ghost use Rattle.mx_body.specs.Decoder.{IsExact, parts_of};
     ghost use Rattle.mx_body.specs.declared.verdict.Verdict.TheVariants as verdict;
     ghost use Rattle.mx_exchange.specs.Endings as spec;
+    ghost use Rattle.mx_exchange.specs.Outcomes.{MayEnd};
 
     // The same request from the start.
     fn again(self, alloc: Global) -> Exchange
@@ -536,6 +541,7 @@ impl Exchange {
     }
 
     fn end(self, code: Code) -> Outcome
+        requires { MayEnd self.request self.decoder code }
         ensures request { result.request ≡ self.request }
         ensures wire { result.wire ≡ self.decoder.wire }
         ensures code { result.code ≡ code }

@@ -1,6 +1,6 @@
 use Rattle.std.proofs.Common.{◌≡◌, Some, None, refl, sym, ◌∙◌}
 use Rattle.mx_exchange.specs.Turns.{unserved}
-use Rattle.mx_exchange.proofs.Advanced.{Exchange-blocked, Exchange-unfinished, Exchange-lost, Exchange-ended}
+use Rattle.mx_exchange.proofs.Advanced.{Exchange-blocked, Exchange-unfinished, Exchange-lost, Exchange-ended, may_end}
 use Rattle.mx_exchange.proofs.transfers.Transfer.exchange.Goals as goal
 
 pub returns-in_default-take : goal.returns-in_default-take
@@ -40,3 +40,6 @@ returns-in-Over g c =
     let about = rw was at c.self.invariant.about in
     rw (← c.self.view_is, was, had, c.take.ensures.after, c.in-Over.ensures.attached, c.in-Over.ensures.reused, c.in-Over.ensures.probe, c.wire.ensures)
     (Exchange-ended _ _ _ _ _ _ _ _ _ refl about refl _ c.in-Over.code _ refl c.end.ensures.request c.end.ensures.wire c.end.ensures.code c.end.ensures.status c.end.ensures.parts c.may_keep-self-inside.ensures refl c.in-Over.ensures.turn)
+
+pub end-requires : goal.end-requires
+end-requires g c = may_end c.in-Some.work.request _ c.serve.new.decoder _ c.in-Over.ensures.turn.so.cause

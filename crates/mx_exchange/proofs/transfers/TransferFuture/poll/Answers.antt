@@ -1,5 +1,5 @@
 use Rattle.std.proofs.Common.{inl, ◌∙◌}
-use Rattle.mx_exchange.proofs.Advanced.{Turns-request, Turns-waits, Turns-asks, Turns-late, Waits-left}
+use Rattle.mx_exchange.proofs.Advanced.{Turns-request, Turns-ended, Turns-waits, Turns-asks, Turns-late, Waits-left}
 use Rattle.mx_exchange.proofs.transfers.TransferFuture.poll.Goals as goal
 
 pub returns-in-Ended-clause-value : goal.returns-in-Ended-clause-value
@@ -28,3 +28,6 @@ returns-in-Waits-clause-undecided g c = rw (c.wait.ensures.pending, c.wait.ensur
 
 pub returns-in-Waits-clause-turn : goal.returns-in-Waits-clause-turn
 returns-in-Waits-clause-turn g c = rw c.wait.ensures.pending (inl (Waits-left _ c.args.self.now _ _ c.in-Waits.ensures c.wait.ensures.same, c.wait.ensures.left))
+
+pub returns-in-Ended-clause-ended : goal.returns-in-Ended-clause-ended
+returns-in-Ended-clause-ended g c = Turns-ended _ _ _ _ c.in-Ended.ensures
