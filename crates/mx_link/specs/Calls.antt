@@ -1,5 +1,5 @@
--- The answer that a call's result stands for.
-use Rattle.std.specs.Prelude.{ℕ, ◌≤◌, List, take}
+-- The answer that a call's result stands for, and what a link tells of its calls.
+use Rattle.std.specs.Prelude.{ℕ, ◌≤◌, List, [], ◌∷◌, ◌++◌, take}
 use Rattle.mx_link.specs.declared.answers.Answer.{Answer}
 use Rattle.mx_link.specs.declared.answers.Answer.TheVariants as answers
 use Rattle.mx_link.specs.declared.answers.Connect.{Connect}
@@ -36,3 +36,12 @@ IsReadWithin _ len = Unit {0}
 abbrev pub IsWriteWithin : Write → ℕ → Type 0
 IsWriteWithin (write.Bytes n) len = (1 ≤ n) × (n ≤ len)
 IsWriteWithin _ len = Unit {0}
+
+-- what a link tells of its calls so far: its answers, and how many bytes it was asked for at each
+pub record Told : Type 0 where
+  pub history : List Answer
+  pub asked : List ℕ
+
+-- and after one more
+abbrev pub with_answer : Told → Answer → ℕ → Told
+with_answer told answer len = record { history = told.history ++ answer ∷ []; asked = told.asked ++ len ∷ [] }

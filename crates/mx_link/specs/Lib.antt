@@ -2,5 +2,5 @@ pub mod Answers
 pub mod Calls
 pub mod Script
 pub mod Plan
-pub mod Sockets
+pub mod Streams
 pub mod Laws

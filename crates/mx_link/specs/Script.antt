@@ -7,11 +7,13 @@ use Rattle.mx_link.specs.declared.answers.Write.TheVariants as write
 use Rattle.mx_link.specs.declared.scripted.ScriptRead.{ScriptRead}
 use Rattle.mx_link.specs.declared.scripted.ScriptRead.TheVariants as read
 
--- what contracts see of a scripted link: what is planned for reads and for writes, and its answers so far
+-- what contracts see of a scripted link: what is planned for reads and for writes, its answers so far, and how many bytes it was
+-- asked for at each
 pub record Script : Type 0 where
   pub reads : List Answer
   pub writes : List Write
   pub history : List Answer
+  pub asked : List ℕ
 
 -- the answer that an entry plans; one of no bytes plans none
 abbrev pub planned : ScriptRead → Option Answer

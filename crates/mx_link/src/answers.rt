@@ -94,42 +94,46 @@ impl Answer {
     }
 }
 
-/// The answers of a link so far, and how many of them were faults.
+/// What a link tells of its calls so far: its answers, how much it was asked for at each, and how many of the answers
+/// were faults.
 #[derive(Drop)]
 pub(crate) struct Answers {
     history: History<Answer>,
+    asked: History<usize>,
     failures: u64,
 }
 
 impl Model for Answers {
-    ghost use Rattle.std.specs.Prelude.{◌≡◌, List, min, ◌-◌, ◌^◌};
-    ghost use Rattle.mx_link.specs.declared.answers.Answer.{Answer as OneAnswer};
+    ghost use Rattle.std.specs.Prelude.{◌≡◌, min, ◌-◌, ◌^◌};
     ghost use Rattle.mx_link.specs.Answers.{faults};
+    ghost use Rattle.mx_link.specs.Calls.{Told};
 
-    ghost Value = { List OneAnswer };
+    ghost Value = { Told };
 
-    ghost view = { λ a. a.history };
+    ghost view = { λ a. record { history = a.history; asked = a.asked } };
 
     ghost invariant = { λ a. a.failures ≡ min (faults a.history) (2 ^ 64 - 1) };
 }
 
 impl Answers {
     ghost use Rattle.mx_link.specs.Answers.{faults};
-    ghost use Rattle.mx_link.specs.Calls.{connect_answer, read_answer, write_answer, IsReadWithin, IsWriteWithin};
+    ghost use Rattle.mx_link.specs.Calls.{connect_answer, read_answer, write_answer, IsReadWithin, IsWriteWithin, with_answer};
 
     pub fn new() -> Answers
-        ensures { result ≡ [] }
+        ensures { result ≡ record { history = []; asked = [] } }
     {
         Answers {
             history: History::new(),
+            asked: History::new(),
             failures: 0,
         }
     }
 
     pub fn note_connect(&mut self, connect: Connect)
-        ensures { self.new ≡ self.old ++ connect_answer connect ∷ [] }
+        ensures { self.new ≡ with_answer self.old (connect_answer connect) 0 }
     {
         self.history.note(Answer::to_connect(connect));
+        self.asked.note(0);
         if connect == Connect::Fault {
             self.failures = self.failures.saturating_add(1);
         }
@@ -137,9 +141,10 @@ impl Answers {
 
     pub fn note_read(&mut self, read: Read, buffer: &[u8])
         requires { IsReadWithin read (length buffer.now) }
-        ensures { self.new ≡ self.old ++ read_answer read buffer.now ∷ [] }
+        ensures { self.new ≡ with_answer self.old (read_answer read buffer.now) (length buffer.now) }
     {
         self.history.note(Answer::to_read(read, buffer));
+        self.asked.note(buffer.len());
         if read == Read::Fault {
             self.failures = self.failures.saturating_add(1);
         }
@@ -147,16 +152,17 @@ impl Answers {
 
     pub fn note_write(&mut self, write: Write, bytes: &[u8])
         requires { IsWriteWithin write (length bytes.now) }
-        ensures { self.new ≡ self.old ++ write_answer write bytes.now ∷ [] }
+        ensures { self.new ≡ with_answer self.old (write_answer write bytes.now) (length bytes.now) }
     {
         self.history.note(Answer::to_write(write, bytes));
+        self.asked.note(bytes.len());
         if write == Write::Fault {
             self.failures = self.failures.saturating_add(1);
         }
     }
 
     pub fn failures(&self) -> u64
-        ensures { result ≡ min (faults self.now) (2 ^ 64 - 1) }
+        ensures { result ≡ min (faults self.now.history) (2 ^ 64 - 1) }
     {
         self.failures
     }

@@ -8,6 +8,7 @@ pub mod laws;
 mod links;
 mod scripted;
 mod sockets;
+mod streams;
 #[cfg(test)]
 mod tests;
 
@@ -15,4 +16,5 @@ pub use crate::answers::{Answer, Connect, Read, Write};
 pub use crate::history::{History, bytes_of};
 pub use crate::links::Link;
 pub use crate::scripted::{ScriptLink, ScriptRead};
-pub use crate::sockets::TcpLink;
+pub use crate::sockets::{TcpLink, TcpSocket};
+pub use crate::streams::{Called, Stream, StreamLink};

@@ -4,7 +4,7 @@ ghost use Rattle.std.specs.Prelude.{◌≡◌, ◌<◌, ◌-◌, ◌^◌, ℕ, L
 use crate::answers::{Connect, Read, Write};
 
 /// A connection whose calls never wait. Whatever may be said of a link follows from its history, the list of its
-/// answers so far.
+/// answers so far, and from how much it was asked for at each.
 pub trait Link: Drop {
     ghost use Rattle.mx_link.specs.declared.answers.Answer.{Answer};
     ghost use Rattle.mx_link.specs.Answers.{faults};
@@ -13,12 +13,17 @@ pub trait Link: Drop {
     // Its answers so far, in order.
     ghost history: { Self → List Answer };
 
+    // How many bytes it was asked for at each of its answers: as many as the buffer of a read had room for, as many
+    // as a write was offered, and none where it was asked whether the connection stands.
+    ghost asked: { Self → List ℕ };
+
     // The number under which its readiness is told.
     ghost token_of: { Self → ℕ };
 
     /// Whether the connection stands.
     fn try_connect(&mut self) -> Connect
         ensures told { history self.new ≡ history self.old ++ connect_answer result ∷ [] }
+        ensures asked { asked self.new ≡ asked self.old ++ 0 ∷ [] }
         ensures token { token_of self.new ≡ token_of self.old };
 
     /// Reads what is there into the front of `buffer`, which isn't empty: at least one byte. Behind what was read
@@ -26,6 +31,7 @@ pub trait Link: Drop {
     fn try_read(&mut self, buffer: &mut [u8]) -> Read
         requires { 0 < length buffer.old }
         ensures told { history self.new ≡ history self.old ++ read_answer result buffer.new ∷ [] }
+        ensures asked { asked self.new ≡ asked self.old ++ length buffer.new ∷ [] }
         ensures within { IsReadWithin result (length buffer.new) }
         ensures length { length buffer.new ≡ length buffer.old }
         ensures token { token_of self.new ≡ token_of self.old };
@@ -34,6 +40,7 @@ pub trait Link: Drop {
     fn try_write(&mut self, bytes: &[u8]) -> Write
         requires { 0 < length bytes.now }
         ensures told { history self.new ≡ history self.old ++ write_answer result bytes.now ∷ [] }
+        ensures asked { asked self.new ≡ asked self.old ++ length bytes.now ∷ [] }
         ensures within { IsWriteWithin result (length bytes.now) }
         ensures token { token_of self.new ≡ token_of self.old };
 

@@ -150,7 +150,7 @@ impl Model for ScriptLink {
 
     ghost Value = { Script };
 
-    ghost view = { λ l. record { reads = l.reads; writes = l.writes; history = l.answers } };
+    ghost view = { λ l. record { reads = l.reads; writes = l.writes; history = l.answers.history; asked = l.answers.asked } };
 }
 
 // The entry that answers as this one plans, if it plans an answer.
@@ -216,6 +216,7 @@ impl ScriptLink {
           reads = filter_map planned reads.now;
           writes = filter is_planned writes.now;
           history = [];
+          asked = [];
         }) }
     {
         Ok(ScriptLink {
@@ -233,11 +234,13 @@ impl Link for ScriptLink {
 
     ghost history = { λ link. link.history };
 
+    ghost asked = { λ link. link.asked };
+
     ghost token_of = { λ _. 0 };
 
     fn try_connect(&mut self) -> Connect
         ensures done { result ≡ Connect.Done }
-        ensures rest { self.new ≡ record self.old { history = self.old.history ++ connect_answer result ∷ [] } }
+        ensures rest { self.new ≡ record self.old { history = self.old.history ++ connect_answer result ∷ []; asked = self.old.asked ++ 0 ∷ [] } }
     {
         self.answers.note_connect(Connect::Done);
         Connect::Done
@@ -246,7 +249,7 @@ impl Link for ScriptLink {
     fn try_read(&mut self, buffer: &mut [u8]) -> Read
         requires { 0 < length buffer.old }
         ensures planned { next_read self.old.reads (length buffer.old) ≡ (read_answer result buffer.new, self.new.reads) }
-        ensures rest { self.new ≡ record self.old { reads = self.new.reads; history = self.old.history ++ read_answer result buffer.new ∷ [] } }
+        ensures rest { self.new ≡ record self.old { reads = self.new.reads; history = self.old.history ++ read_answer result buffer.new ∷ []; asked = self.old.asked ++ length buffer.new ∷ [] } }
         ensures within { IsReadWithin result (length buffer.new) }
         ensures length { length buffer.new ≡ length buffer.old }
     {
@@ -258,7 +261,7 @@ impl Link for ScriptLink {
     fn try_write(&mut self, bytes: &[u8]) -> Write
         requires { 0 < length bytes.now }
         ensures planned { next_write self.old.writes bytes.now ≡ (write_answer result bytes.now, self.new.writes) }
-        ensures rest { self.new ≡ record self.old { writes = self.new.writes; history = self.old.history ++ write_answer result bytes.now ∷ [] } }
+        ensures rest { self.new ≡ record self.old { writes = self.new.writes; history = self.old.history ++ write_answer result bytes.now ∷ []; asked = self.old.asked ++ length bytes.now ∷ [] } }
         ensures within { IsWriteWithin result (length bytes.now) }
     {
         let write = self.writes.answer(bytes);

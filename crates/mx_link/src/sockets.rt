@@ -1,43 +1,45 @@
 //! A link over a TCP stream.
-ghost use Rattle.std.specs.Prelude.{◌≡◌, ℕ, ◌<◌, ◌≤◌, ◌-◌, ◌^◌, List, [], ◌∷◌, ◌++◌, length, min, IfOk};
-ghost use Rattle.mx_link.specs.Calls.{IsReadWithin, IsWriteWithin};
-ghost use Rattle.mx_link.specs.Sockets.{read_of, write_of, connect_of, is_wait, is_unconnected};
+ghost use Rattle.std.specs.Prelude.{◌≡◌, []};
+ghost use Rattle.mx_link.specs.Streams.{by_kind};
 
-use crate::answers::{Answers, Connect, Read, Write};
-use crate::links::Link;
+use crate::history::History;
+use crate::streams::{Called, Stream, StreamLink};
 use mio::net::TcpStream;
 use mio::{Interest, Registry, Token};
 use std::io;
-use std::io::{Read as _, Write as _};
+use std::io::{ErrorKind, Read as _, Write as _};
 use std::marker::Model;
 
-/// A link over a TCP stream whose calls don't wait. Contracts see its token and its history; what a socket gives and
+/// A TCP stream, with the results of its system calls for contracts alone. Contracts see these; what a socket gives and
 /// takes, and when, no contract can say.
 #[derive(Drop)]
-pub struct TcpLink {
+pub struct TcpSocket {
     stream: TcpStream,
-    token: u64,
-    answers: Answers,
+    results: History<Called>,
 }
 
-impl Model for TcpLink {
-    ghost use Rattle.mx_link.specs.Sockets.{Socket};
+impl Model for TcpSocket {
+    ghost use Rattle.std.specs.Prelude.{List};
+    ghost use Rattle.mx_link.specs.declared.streams.Called.{Called as Results};
 
-    ghost Value = { Socket };
+    ghost Value = { List Results };
 
-    ghost view = { λ l. record { token = l.token; history = l.answers } };
+    ghost view = { λ s. s.results };
 }
 
-impl TcpLink {
+/// A link over a TCP stream.
+pub type TcpLink = StreamLink<TcpSocket>;
+
+impl StreamLink<TcpSocket> {
     /// A link over `stream`, whose readiness is told under `token`. The stream may still be connecting.
-    pub fn new(stream: TcpStream, token: u64) -> TcpLink
-        ensures { result ≡ record { token = token; history = [] } }
+    pub fn new(stream: TcpStream, token: u64) -> StreamLink<TcpSocket>
+        ensures { result ≡ record { stream = []; token = token; history = []; asked = [] } }
     {
-        TcpLink {
+        let socket = TcpSocket {
             stream,
-            token,
-            answers: Answers::new(),
-        }
+            results: History::new(),
+        };
+        StreamLink::over(socket, token)
     }
 
     /// Has the registry's poll report, under the link's token, when there is something to read or room to write.
@@ -48,6 +50,14 @@ impl TcpLink {
         ensures { self.new ≡ self.old }
     {
         let token = Token(self.token as usize);
+        self.stream.register(registry, token)
+    }
+}
+
+impl TcpSocket {
+    fn register(&mut self, registry: &Registry, token: Token) -> io::Result<()>
+        ensures { self.new ≡ self.old }
+    {
         registry.register(
             &mut self.stream,
             token,
@@ -56,74 +66,47 @@ impl TcpLink {
     }
 }
 
-fn is_wait(kind: io::ErrorKind) -> bool
-    ensures { result ≡ is_wait kind }
-{
-    matches!(kind, io::ErrorKind::WouldBlock | io::ErrorKind::Interrupted)
-}
-
-fn read_of(count: io::Result<usize>) -> Read
-    ensures { result ≡ read_of count }
+// A count, or the kind of its error.
+fn by_kind(count: io::Result<usize>) -> Result<usize, ErrorKind>
+    ensures { result ≡ by_kind count }
 {
     match count {
-        Ok(0) => Read::End,
-        Ok(n) => Read::Bytes(n),
-        Err(e) if is_wait(e.kind()) => Read::WouldBlock,
-        Err(_) => Read::Fault,
+        Ok(n) => Ok(n),
+        Err(error) => Err(error.kind()),
     }
 }
 
-fn write_of(count: io::Result<usize>) -> Write
-    ensures { result ≡ write_of count }
-{
-    match count {
-        Ok(0) => Write::Fault,
-        Ok(n) => Write::Bytes(n),
-        Err(e) if is_wait(e.kind()) => Write::WouldBlock,
-        Err(_) => Write::Fault,
-    }
-}
+impl Stream for TcpSocket {
+    ghost results = { λ socket. socket };
 
-fn connect_of<A: Drop>(error: io::Result<Option<io::Error>>, peer: io::Result<A>) -> Connect
-    ensures { result ≡ connect_of error peer }
-{
-    match (error, peer) {
-        (Ok(None), Ok(_)) => Connect::Done,
-        (Ok(None), Err(e)) if e.kind() == io::ErrorKind::NotConnected => Connect::WouldBlock,
-        (Ok(None), Err(_)) => Connect::Fault,
-        (Ok(Some(_)), _) => Connect::Fault,
-        (Err(_), _) => Connect::Fault,
-    }
-}
-
-impl Link for TcpLink {
-    ghost history = { λ link. link.history };
-
-    ghost token_of = { λ link. link.token };
-
-    fn try_connect(&mut self) -> Connect {
-        let connect = connect_of(self.stream.take_error(), self.stream.peer_addr());
-        self.answers.note_connect(connect);
-        connect
+    fn take_error(&mut self) -> Result<Option<ErrorKind>, ErrorKind> {
+        let result = match self.stream.take_error() {
+            Ok(None) => Ok(None),
+            Ok(Some(error)) => Ok(Some(error.kind())),
+            Err(error) => Err(error.kind()),
+        };
+        self.results.note(Called::Error(result));
+        result
     }
 
-    fn try_read(&mut self, buffer: &mut [u8]) -> Read {
-        let read = read_of(self.stream.read(buffer));
-        self.answers.note_read(read, buffer);
-        read
+    fn find_peer(&mut self) -> Result<(), ErrorKind> {
+        let result = match self.stream.peer_addr() {
+            Ok(_) => Ok(()),
+            Err(error) => Err(error.kind()),
+        };
+        self.results.note(Called::Peer(result));
+        result
     }
 
-    fn try_write(&mut self, bytes: &[u8]) -> Write {
-        let write = write_of(self.stream.write(bytes));
-        self.answers.note_write(write, bytes);
-        write
+    fn read(&mut self, buffer: &mut [u8]) -> Result<usize, ErrorKind> {
+        let result = by_kind(self.stream.read(buffer));
+        self.results.note(Called::Read(result));
+        result
     }
 
-    fn failures(&self) -> u64 {
-        self.answers.failures()
-    }
-
-    fn token(&self) -> u64 {
-        self.token
+    fn write(&mut self, bytes: &[u8]) -> Result<usize, ErrorKind> {
+        let result = by_kind(self.stream.write(bytes));
+        self.results.note(Called::Write(result));
+        result
     }
 }

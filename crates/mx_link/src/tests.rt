@@ -3,10 +3,10 @@ ghost use Rattle.std.specs.Prelude.{◌<◌, length};
 use crate::{Connect, Link, Read, ScriptLink, ScriptRead, TcpLink, Write};
 use mio::net::{TcpListener, TcpStream};
 use mio::{Events, Poll, Token};
-use std::io;
 use std::net::{Ipv4Addr, SocketAddr};
 use std::test::Fail;
 use std::time::Duration;
+use std::{io, net};
 
 // How often a test asks again, ten milliseconds apart, before it gives up.
 const TURNS: u32 = 1000;
@@ -176,5 +176,23 @@ fn a_refused_connection_is_a_fault(rt: HostRuntime) -> Result<(), Fail> {
     let mut link = connecting(&rt, address, &poll)?;
     assert_eq!(rt; connect(&mut link, &mut poll, &mut events)?, Connect::Fault);
     assert_eq!(rt; link.failures(), 1);
+    // its error was told, and it has no peer
+    assert_eq!(rt; link.try_connect(), Connect::WouldBlock);
     Ok(())
+}
+
+#[test]
+fn a_connection_that_is_not_there_yet_would_block(rt: HostRuntime) -> Result<(), Fail> {
+    // it accepts nothing, so once its queue is full a connection stays unmade
+    let listener = net::TcpListener::bind(&rt, SocketAddr::from((Ipv4Addr::LOCALHOST, 0)))?;
+    let address = listener.local_addr()?;
+    let mut standing = Vec::new(rt.alloc());
+    for _ in 0..TURNS {
+        let mut link = TcpLink::new(TcpStream::connect(&rt, address)?, 7);
+        if link.try_connect() == Connect::WouldBlock {
+            return Ok(());
+        }
+        standing.push(link)?;
+    }
+    Err(Fail::from("each connection stood at once"))
 }

@@ -1,0 +1,76 @@
+-- What the results of a stream's calls mean (read(2), write(2), connect(2), with errors by their kind).
+use Rattle.std.specs.Prelude.{◌≡◌, ℕ, ◌≤◌, ◌==◌, Bool, true, false, List, [], ◌∷◌, ◌++◌, Option, Some, None, Result, Ok, Err, if◌then◌else◌}
+use Rattle.std.specs.IoError.{error_kind}
+use Rattle.std.specs.declared.io.Error.{Error}
+use Rattle.std.specs.declared.io.ErrorKind.{ErrorKind}
+use Rattle.std.specs.declared.io.ErrorKind.TheVariants as kind
+use Rattle.mx_link.specs.declared.answers.Answer.{Answer}
+use Rattle.mx_link.specs.declared.answers.Connect.{Connect}
+use Rattle.mx_link.specs.declared.answers.Connect.TheVariants as connect
+use Rattle.mx_link.specs.declared.answers.Read.{Read}
+use Rattle.mx_link.specs.declared.answers.Read.TheVariants as read
+use Rattle.mx_link.specs.declared.answers.Write.{Write}
+use Rattle.mx_link.specs.declared.answers.Write.TheVariants as write
+use Rattle.mx_link.specs.declared.streams.Called.{Called}
+use Rattle.mx_link.specs.declared.streams.Called.TheVariants as called
+
+-- the kind of the error in place of the error
+abbrev pub by_kind : Result ℕ Error → Result ℕ ErrorKind
+by_kind (Ok n) = Ok n
+by_kind (Err e) = Err (error_kind e)
+
+-- what contracts see of a link over a stream: the stream, the number under which its readiness is told, its answers so far, and
+-- how many bytes it was asked for at each
+pub record StreamState (S : Type 0) : Type 0 where
+  pub stream : S
+  pub token : ℕ
+  pub history : List Answer
+  pub asked : List ℕ
+
+-- the call would have waited (EAGAIN), or is to be made again (EINTR)
+abbrev pub is_wait : ErrorKind → Bool
+is_wait kind.WouldBlock = true
+is_wait kind.Interrupted = true
+is_wait _ = false
+
+-- the connection is still being made
+abbrev pub is_unconnected : ErrorKind → Bool
+is_unconnected kind.NotConnected = true
+is_unconnected _ = false
+
+-- 0 bytes are the end of what the other side sends
+abbrev pub read_of : Result ℕ ErrorKind → Read
+read_of (Ok n) = if n == 0 then read.End else read.Bytes n
+read_of (Err e) = if is_wait e then read.WouldBlock else read.Fault
+
+-- a write of 0 bytes is a fault
+abbrev pub write_of : Result ℕ ErrorKind → Write
+write_of (Ok n) = if n == 0 then write.Fault else write.Bytes n
+write_of (Err e) = if is_wait e then write.WouldBlock else write.Fault
+
+-- of the error that the socket holds (SO_ERROR), and of its peer, which it has once it is connected
+abbrev pub connect_of : {A : Type 0} → Result (Option ErrorKind) ErrorKind → Result A ErrorKind → Connect
+connect_of (Ok None) (Ok peer) = connect.Done
+connect_of (Ok None) (Err e) = if is_unconnected e then connect.WouldBlock else connect.Fault
+connect_of (Ok (Some error)) peer = connect.Fault
+connect_of (Err e) peer = connect.Fault
+
+-- a count of bytes is at most the length of what was lent
+abbrev pub IsCountWithin : Result ℕ ErrorKind → ℕ → Type 0
+IsCountWithin (Ok n) len = n ≤ len
+IsCountWithin (Err e) len = Unit {0}
+
+-- one read of the stream, and the answer is what its result means
+abbrev pub IsReadBy : List Called → List Called → Read → Type 0
+IsReadBy before after answer = (count : Result ℕ ErrorKind) × (after ≡ before ++ called.Read count ∷ []) × (answer ≡ read_of count)
+
+-- one write
+abbrev pub IsWrittenBy : List Called → List Called → Write → Type 0
+IsWrittenBy before after answer = (count : Result ℕ ErrorKind) × (after ≡ before ++ called.Write count ∷ []) × (answer ≡ write_of count)
+
+-- the stream was asked for its error, and then for its peer
+pub record IsConnectedBy (before after : List Called) (answer : Connect) : Type 0 where
+  pub error : Result (Option ErrorKind) ErrorKind
+  pub peer : Result Unit ErrorKind
+  pub asked : after ≡ before ++ called.Error error ∷ called.Peer peer ∷ []
+  pub answer_is : answer ≡ connect_of error peer

@@ -1,0 +1,172 @@
+//! A link over a stream.
+ghost use Rattle.std.specs.Prelude.{◌≡◌, ℕ, ◌<◌, ◌≤◌, ◌-◌, ◌^◌, List, [], ◌∷◌, ◌++◌, length, min, Result};
+ghost use Rattle.mx_link.specs.Calls.{connect_answer, read_answer, write_answer, IsReadWithin, IsWriteWithin};
+ghost use Rattle.mx_link.specs.Streams.{read_of, write_of, connect_of, is_wait, is_unconnected};
+
+use crate::answers::{Answers, Connect, Read, Write};
+use crate::links::Link;
+use std::io::ErrorKind;
+use std::marker::Model;
+
+/// A result of a stream's call, as the list of its results has it. An error is told by its kind.
+#[derive(Clone, Copy, Debug, PartialEq, Eq)]
+pub enum Called {
+    /// The error that the socket held, if it held one.
+    Error(Result<Option<ErrorKind>, ErrorKind>),
+    /// Whether it has a peer.
+    Peer(Result<(), ErrorKind>),
+    /// How many bytes were read.
+    Read(Result<usize, ErrorKind>),
+    /// How many bytes were written.
+    Write(Result<usize, ErrorKind>),
+}
+
+/// What a link needs of a socket, whose calls don't wait. An error is told by its kind.
+pub trait Stream: Drop {
+    ghost use Rattle.mx_link.specs.declared.streams.Called.{Called};
+    ghost use Rattle.mx_link.specs.declared.streams.Called.TheVariants as called;
+    ghost use Rattle.mx_link.specs.Streams.{IsCountWithin};
+
+    // The results of its calls so far, in order.
+    ghost results: { Self → List Called };
+
+    /// The error that the socket holds, if it holds one, and then holds no more (SO_ERROR of socket(7)).
+    fn take_error(&mut self) -> Result<Option<ErrorKind>, ErrorKind>
+        ensures { results self.new ≡ results self.old ++ called.Error result ∷ [] };
+
+    /// Whether it has a peer (getpeername(2)): `NotConnected` as long as it is connecting.
+    fn find_peer(&mut self) -> Result<(), ErrorKind>
+        ensures { results self.new ≡ results self.old ++ called.Peer result ∷ [] };
+
+    /// Reads into the front of `buffer` (read(2)). Behind what was read the buffer may have changed.
+    fn read(&mut self, buffer: &mut [u8]) -> Result<usize, ErrorKind>
+        ensures told { results self.new ≡ results self.old ++ called.Read result ∷ [] }
+        ensures within { IsCountWithin result (length buffer.new) }
+        ensures length { length buffer.new ≡ length buffer.old };
+
+    /// Writes what there is room for (write(2)).
+    fn write(&mut self, bytes: &[u8]) -> Result<usize, ErrorKind>
+        ensures told { results self.new ≡ results self.old ++ called.Write result ∷ [] }
+        ensures within { IsCountWithin result (length bytes.now) };
+}
+
+fn is_wait(kind: ErrorKind) -> bool
+    ensures { result ≡ is_wait kind }
+{
+    matches!(kind, ErrorKind::WouldBlock | ErrorKind::Interrupted)
+}
+
+fn read_of(count: Result<usize, ErrorKind>) -> Read
+    ensures { result ≡ read_of count }
+{
+    match count {
+        Ok(0) => Read::End,
+        Ok(n) => Read::Bytes(n),
+        Err(kind) if is_wait(kind) => Read::WouldBlock,
+        Err(_) => Read::Fault,
+    }
+}
+
+fn write_of(count: Result<usize, ErrorKind>) -> Write
+    ensures { result ≡ write_of count }
+{
+    match count {
+        Ok(0) => Write::Fault,
+        Ok(n) => Write::Bytes(n),
+        Err(kind) if is_wait(kind) => Write::WouldBlock,
+        Err(_) => Write::Fault,
+    }
+}
+
+fn connect_of(error: Result<Option<ErrorKind>, ErrorKind>, peer: Result<(), ErrorKind>) -> Connect
+    ensures { result ≡ connect_of error peer }
+{
+    match (error, peer) {
+        (Ok(None), Ok(())) => Connect::Done,
+        (Ok(None), Err(ErrorKind::NotConnected)) => Connect::WouldBlock,
+        (Ok(None), Err(_)) => Connect::Fault,
+        (Ok(Some(_)), _) => Connect::Fault,
+        (Err(_), _) => Connect::Fault,
+    }
+}
+
+/// A link over a stream. Each of its answers is what the stream's result means.
+#[derive(Drop)]
+pub struct StreamLink<S: Stream> {
+    pub(crate) stream: S,
+    pub(crate) token: u64,
+    answers: Answers,
+}
+
+impl<S: Stream> Model for StreamLink<S> {
+    ghost use Rattle.mx_link.specs.Streams.{StreamState};
+
+    ghost Value = { StreamState S };
+
+    ghost view = { λ l. record { stream = l.stream; token = l.token; history = l.answers.history; asked = l.answers.asked } };
+}
+
+impl<S: Stream> StreamLink<S> {
+    /// A link over `stream`, whose readiness is told under `token`. The stream may still be connecting.
+    pub fn over(stream: S, token: u64) -> StreamLink<S>
+        ensures { result ≡ record { stream = stream; token = token; history = []; asked = [] } }
+    {
+        StreamLink {
+            stream,
+            token,
+            answers: Answers::new(),
+        }
+    }
+}
+
+impl<S: Stream> Link for StreamLink<S> {
+    ghost use Rattle.mx_link.specs.Streams.{IsConnectedBy, IsReadBy, IsWrittenBy};
+
+    ghost history = { λ link. link.history };
+
+    ghost asked = { λ link. link.asked };
+
+    ghost token_of = { λ link. link.token };
+
+    fn try_connect(&mut self) -> Connect
+        ensures called { IsConnectedBy (S.results self.old.stream) (S.results self.new.stream) result }
+        ensures rest { self.new ≡ record self.old { stream = self.new.stream; history = self.old.history ++ connect_answer result ∷ []; asked = self.old.asked ++ 0 ∷ [] } }
+    {
+        let error = self.stream.take_error();
+        let peer = self.stream.find_peer();
+        let connect = connect_of(error, peer);
+        self.answers.note_connect(connect);
+        connect
+    }
+
+    fn try_read(&mut self, buffer: &mut [u8]) -> Read
+        requires { 0 < length buffer.old }
+        ensures called { IsReadBy (S.results self.old.stream) (S.results self.new.stream) result }
+        ensures rest { self.new ≡ record self.old { stream = self.new.stream; history = self.old.history ++ read_answer result buffer.new ∷ []; asked = self.old.asked ++ length buffer.new ∷ [] } }
+        ensures within { IsReadWithin result (length buffer.new) }
+        ensures length { length buffer.new ≡ length buffer.old }
+    {
+        let read = read_of(self.stream.read(buffer));
+        self.answers.note_read(read, buffer);
+        read
+    }
+
+    fn try_write(&mut self, bytes: &[u8]) -> Write
+        requires { 0 < length bytes.now }
+        ensures called { IsWrittenBy (S.results self.old.stream) (S.results self.new.stream) result }
+        ensures rest { self.new ≡ record self.old { stream = self.new.stream; history = self.old.history ++ write_answer result bytes.now ∷ []; asked = self.old.asked ++ length bytes.now ∷ [] } }
+        ensures within { IsWriteWithin result (length bytes.now) }
+    {
+        let write = write_of(self.stream.write(bytes));
+        self.answers.note_write(write, bytes);
+        write
+    }
+
+    fn failures(&self) -> u64 {
+        self.answers.failures()
+    }
+
+    fn token(&self) -> u64 {
+        self.token
+    }
+}
