@@ -1,56 +1,28 @@
 -- What one poll does, by the way it ends.
-use Rattle.std.proofs.Common.{◌≡◌, ℕ, Bool, true, false, List, [], length, refl, sym, ◌∙◌, ap, subst, Option, Some, None, ◌↔◌, inl, inr, arith}
-use Rattle.std.specs.Prelude.{◌||◌, IfSome}
+use Rattle.std.proofs.Common.{◌≡◌, ℕ, ◌+◌, ◌≤◌, Bool, true, false, List, [], ◌∷◌, ◌++◌, length, refl, sym, ◌∙◌, ap, subst, append_assoc, length-append, Option, Some, None, ◌↔◌, inl, inr, arith}
+use Rattle.std.specs.Prelude.{IfSome}
+use Rattle.std.proofs.lemmas.Grind.{flat_map-append}
 use Rattle.futures.specs.declared.task.waker.Waker.{Waker}
 use Rattle.mx_types.specs.declared.code.Code.{Code}
 use Rattle.mx_types.specs.declared.code.Code.TheVariants as code
 use Rattle.mx_types.specs.declared.method.Method.{Method}
 use Rattle.mx_request.specs.Request.{RequestValue}
 use Rattle.mx_body.specs.Decision.{IsVerdict, HasStatus}
-use Rattle.mx_body.specs.Decoder.{Decoded, IsExact, parts_of, is_verdict_code}
+use Rattle.mx_body.specs.Decoder.{Decoded, parts_of, is_verdict_code}
 use Rattle.mx_body.specs.declared.decoder.Stand.TheVariants as stand
 use Rattle.mx_body.proofs.DecoderLemmas.{code_is}
 use Rattle.mx_body.specs.declared.verdict.Verdict.{Verdict}
 use Rattle.mx_body.specs.declared.verdict.Verdict.TheVariants as verdict
-use Rattle.mx_link.specs.Answers.{given}
+use Rattle.mx_link.specs.Answers.{given, given_by}
 use Rattle.mx_link.specs.declared.answers.Answer.{Answer}
 use Rattle.mx_link.specs.declared.answers.Answer.TheVariants as said
 use Rattle.mx_exchange.specs.Order.{InOrder}
-use Rattle.mx_exchange.specs.Endings.{IsUndecided, EndsBy, by_bytes, by_end, by_fault, by_memory, MustRetry, may_keep, code_of, fault_code}
-use Rattle.mx_exchange.specs.Transfers.{OutcomeValue, TransferState, IsDue, clocked, dropped, is_link_code}
+use Rattle.mx_exchange.specs.Endings.{IsUndecided, EndsBy, by_bytes, by_end, by_fault, by_memory, MustRetry, may_keep, code_of, fault_code, is_link_code}
+use Rattle.mx_exchange.specs.Transfers.{OutcomeValue, TransferState, IsServed, IsDue, KeepsToken, clocked, dropped}
 use Rattle.mx_exchange.specs.Turns.{How, waits, asks, ends, ProbeFails, Probed, Answered, GoesOn, EndsWith, StopsWith, Exchanged, unserved, lost, blocked, unfinished, ended, Turns, late, given_up, paused, refused, turned}
-use Rattle.mx_exchange.specs.Outcomes.{MayEnd}
-use Rattle.mx_exchange.specs.Service.{IsGoing, ServeTurn}
+use Rattle.mx_exchange.specs.Lines.{LineState, IsLine, ServeTurn}
 use Rattle.mx_exchange.specs.declared.service.Served.{Served}
 use Rattle.mx_exchange.specs.declared.service.Served.TheVariants as served
-
--- nothing was asked of the link
-pub Going-begun : (rq : RequestValue) (reused : Bool) (d : Decoded) → d ≡ record { method = rq.method; wire = []; ended = false; verdict = verdict.More } → IsExact d
-    → IsGoing rq reused reused 0 [] d
-Going-begun rq reused d e exact = record {
-  order = tt;
-  stood_is = elim reused as (λ b. b ≡ (b || false)) [ true ↦ refl | false ↦ refl ];
-  sent = refl;
-  fits = omega arith;
-  method = ap (λ (x : Decoded). x.method) e;
-  wire = ap (λ (x : Decoded). x.wire) e;
-  unended = ap (λ (x : Decoded). x.ended) e;
-  more = ap (λ (x : Decoded). x.verdict) e;
-  undecided = (refl, subst (λ (x : Decoded). IsVerdict x.method x.wire x.ended x.verdict) e exact);
-}
-
-pub Going-other : (rq : RequestValue) (reused stood now : Bool) (w : ℕ) (past : List Answer) (d : Decoded) → IsGoing rq reused stood w past d → past ≡ [] → IsGoing rq now now 0 [] d
-Going-other rq reused stood now w past d g e = record {
-  order = tt;
-  stood_is = elim now as (λ b. b ≡ (b || false)) [ true ↦ refl | false ↦ refl ];
-  sent = refl;
-  fits = omega arith;
-  method = g.method;
-  wire = g.wire ∙ ap given e;
-  unended = g.unended;
-  more = g.more;
-  undecided = subst (λ (l : List Answer). IsUndecided rq.method l) e g.undecided;
-}
 
 no_fault : (a : Answer) → fault_code a ≡ Some code.OperationTimedout → ⊥
 no_fault said.Connected e = cc
@@ -73,63 +45,100 @@ no_verdict kind wire e (verdict.Fault c) h is =
     let x : is_verdict_code code.OperationTimedout ≡ true = ap is_verdict_code (sym same) ∙ listed in cc
 
 module _ {L : Type 0} (history : L → List Answer) where
-  module _ (old new : TransferState L) (link : L) (rq : RequestValue) (reused stood : Bool) (w : ℕ) (d : Decoded)
-      (had : old.link ≡ Some link) (about : rq ≡ old.request) (again : reused ≡ old.is_reused) where
-    abbrev answered : (last : TransferState L) (next : L) (how : Served) → last.link ≡ Some next → ServeTurn (history link) (history next) old.answers last.answers how rq reused stood w d → Answered history old last
-    answered last next how has t = record {
+  module _ (old new : TransferState L) (line next : LineState L) (d : Decoded) (how : Served)
+      (had : old.link ≡ Some line.link) (answers : old.answers ≡ line.answers) (again : line.is_reused ≡ old.is_reused) (about : line.request ≡ old.request)
+      (was : history line.link ≡ history line.attached ++ line.answers) (is : history next.link ≡ history next.attached ++ next.answers) (t : ServeTurn line next how d) where
+    grown : next.answers ≡ old.answers ++ t.more
+    grown = ap (λ (l : LineState L). l.answers) t.grows ∙ ap (λ (l : List Answer). l ++ t.more) (sym answers)
+
+    told : history next.link ≡ history line.link ++ t.more
+    told =
+        is
+        ∙ ap (λ (l : L). history l ++ next.answers) (ap (λ (l : LineState L). l.attached) t.grows)
+        ∙ ap (λ (l : List Answer). history line.attached ++ l) (ap (λ (l : LineState L). l.answers) t.grows)
+        ∙ sym (append_assoc (history line.attached) line.answers t.more)
+        ∙ ap (λ (l : List Answer). l ++ t.more) (sym was)
+
+    abbrev answered : (last : TransferState L) → last.link ≡ Some next.link → last.answers ≡ next.answers → Answered history old last
+    answered last has same = record {
       more = t.more;
-      noted = t.noted;
-      told = rw (had, has) t.told;
-      served = λ e. let x : Some link ≡ None = sym had ∙ e in cc;
+      noted = same ∙ grown;
+      asked = t.asked;
+      told = rw (had, has) told;
+      served = λ e. let x : Some line.link ≡ None = sym had ∙ e in cc;
       connects = t.connects;
       reads = t.reads;
       writes = t.writes;
     }
 
-    goes : new ≡ record old { link = new.link; answers = new.answers; received = length d.wire } → d.wire ≡ given new.answers → GoesOn old new
-    goes e f = e ∙ ap (λ (n : ℕ). record old { link = new.link; answers = new.answers; received = n }) (ap (λ (l : List ℕ). length l) f)
+    same_reused : next.is_reused ≡ old.is_reused
+    same_reused = ap (λ (l : LineState L). l.is_reused) t.grows ∙ again
 
-    retried : (past : List Answer) → MustRetry rq.method reused past → MustRetry old.request.method old.is_reused past
-    retried past m = subst (λ (b : Bool). MustRetry old.request.method b past) again (subst (λ (r : RequestValue). MustRetry r.method reused past) about m)
+    retried : MustRetry line.request.method line.is_reused next.answers → MustRetry old.request.method old.is_reused next.answers
+    retried m = subst (λ (b : Bool). MustRetry old.request.method b next.answers) again (subst (λ (r : RequestValue). MustRetry r.method line.is_reused next.answers) about m)
 
-    ordered : (past : List Answer) → InOrder reused rq.bytes past → InOrder old.is_reused old.request.bytes past
-    ordered past o = subst (λ (b : Bool). InOrder b old.request.bytes past) again (subst (λ (r : RequestValue). InOrder reused r.bytes past) about o)
+    unretried : ¬ (MustRetry line.request.method line.is_reused next.answers) → ¬ (MustRetry old.request.method old.is_reused next.answers)
+    unretried never m = never (subst (λ (b : Bool). MustRetry line.request.method b next.answers) (sym again) (subst (λ (r : RequestValue). MustRetry r.method old.is_reused next.answers) (sym about) m))
 
-    unretried : (past : List Answer) → ¬ (MustRetry rq.method reused past) → ¬ (MustRetry old.request.method old.is_reused past)
-    unretried past never m = never (subst (λ (b : Bool). MustRetry rq.method b past) (sym again) (subst (λ (r : RequestValue). MustRetry r.method old.is_reused past) (sym about) m))
+    goes : new ≡ record old { link = Some next.link; answers = next.answers; received = length d.wire } → d.wire ≡ given next.answers → GoesOn old new
+    goes e f =
+        let link : new.link ≡ Some next.link = ap (λ (x : TransferState L). x.link) e in
+        let all : new.answers ≡ next.answers = ap (λ (x : TransferState L). x.answers) e in
+        e
+        ∙ ap (λ (n : ℕ). record old { link = Some next.link; answers = next.answers; received = n }) (ap (λ (l : List ℕ). length l) f)
+        ∙ ap (λ (x : Option L). record old { link = x; answers = next.answers; received = length (given next.answers) }) (sym link)
+        ∙ ap (λ (l : List Answer). record old { link = new.link; answers = l; received = length (given l) }) (sym all)
 
-    pub Exchange-blocked : (next : L) → new.link ≡ Some next → new ≡ record old { link = new.link; answers = new.answers; received = length d.wire }
-        → ServeTurn (history link) (history next) old.answers new.answers served.Blocked rq reused stood w d → Exchanged history old new waits
-    Exchange-blocked next has same t = blocked (answered new next served.Blocked has t) t.so.1 (goes same t.so.0.wire)
+    pub Exchange-blocked : how ≡ served.Blocked → new ≡ record old { link = Some next.link; answers = next.answers; received = length d.wire } → Exchanged history old new waits
+    Exchange-blocked e same =
+        let so = rw e at t.so in
+        let link : new.link ≡ Some next.link = ap (λ (x : TransferState L). x.link) same in
+        let all : new.answers ≡ next.answers = ap (λ (x : TransferState L). x.answers) same in
+        blocked (answered new link all) so.1 (goes same so.0.wire)
 
-    pub Exchange-unfinished : (next : L) → new.link ≡ Some next → new ≡ record old { link = new.link; answers = new.answers; received = length d.wire }
-        → ServeTurn (history link) (history next) old.answers new.answers served.Unfinished rq reused stood w d → Exchanged history old new asks
-    Exchange-unfinished next has same t = unfinished (answered new next served.Unfinished has t) t.so.1 (goes same t.so.0.wire)
+    pub Exchange-unfinished : how ≡ served.Unfinished → new ≡ record old { link = Some next.link; answers = next.answers; received = length d.wire } → Exchanged history old new asks
+    Exchange-unfinished e same =
+        let so = rw e at t.so in
+        let link : new.link ≡ Some next.link = ap (λ (x : TransferState L). x.link) same in
+        let all : new.answers ≡ next.answers = ap (λ (x : TransferState L). x.answers) same in
+        unfinished (answered new link all) so.1 (goes same so.0.wire)
 
-    pub Exchange-lost : (next : L) (past : List Answer) → new ≡ dropped old
-        → ServeTurn (history link) (history next) old.answers past served.Lost rq reused stood w d → Exchanged history old new waits
-    Exchange-lost next past same t =
-        let last : TransferState L = record old { link = Some next; answers = past } in
-        lost last (answered last next served.Lost refl t) (ordered past t.order) (retried past t.so) same
+    pub Exchange-lost : how ≡ served.Lost → InOrder next.is_reused next.request.bytes next.answers → new ≡ dropped old → Exchanged history old new waits
+    Exchange-lost e order same =
+        let last : TransferState L = record old { link = Some next.link; answers = next.answers } in
+        let so = rw e at t.so in
+        let bytes : next.request ≡ old.request = ap (λ (l : LineState L). l.request) t.grows ∙ about in
+        lost last (answered last refl refl)
+        (subst (λ (b : Bool). InOrder b old.request.bytes next.answers) same_reused (subst (λ (r : RequestValue). InOrder next.is_reused r.bytes next.answers) bytes order))
+        (retried so) same
 
-    pub Exchange-ended : (next : L) (c : Code) (o : OutcomeValue) → new.link ≡ Some next → o.request ≡ rq → o.wire ≡ d.wire → o.code ≡ c → HasStatus o.wire o.status → o.parts ≡ parts_of d.verdict
-        → new.is_kept ≡ may_keep d.verdict d.wire
-        → new ≡ record old { link = new.link; answers = new.answers; code = Some c; is_kept = new.is_kept; received = length d.wire }
-        → ServeTurn (history link) (history next) old.answers new.answers (served.Over c) rq reused stood w d → Exchanged history old new (ends o)
-    Exchange-ended next c o has er ew ec st ep kept same t =
-        let end : EndsWith old new o = (
-          er ∙ about,
-          st,
-          same ∙ ap (λ (x : Code). record old { link = new.link; answers = new.answers; code = Some x; is_kept = new.is_kept; received = length d.wire }) (sym ec)
-              ∙ ap (λ (l : List ℕ). record old { link = new.link; answers = new.answers; code = Some o.code; is_kept = new.is_kept; received = length l }) (sym ew),
-        ) in
+    pub Exchange-ended : (c : Code) (o : OutcomeValue) → how ≡ served.Over c → o.request ≡ line.request → o.wire ≡ d.wire → o.code ≡ c → HasStatus o.wire o.status → o.parts ≡ parts_of d.verdict
+        → o.answers ≡ next.answers → o.is_reused ≡ next.is_reused → new.is_kept ≡ may_keep d.verdict d.wire
+        → new ≡ record old { link = Some next.link; answers = next.answers; code = Some c; is_kept = new.is_kept; received = length d.wire } → Exchanged history old new (ends o)
+    Exchange-ended c o e er ew ec st ep ea eu kept same =
+        let so = rw e at t.so in
+        let link : new.link ≡ Some next.link = ap (λ (x : TransferState L). x.link) same in
+        let all : new.answers ≡ next.answers = ap (λ (x : TransferState L). x.answers) same in
         let cause : EndsBy old.request.method new.answers o.wire d.verdict o.code =
         subst (λ (x : Code). EndsBy old.request.method new.answers o.wire d.verdict x) (sym ec)
         (subst (λ (l : List ℕ). EndsBy old.request.method new.answers l d.verdict c) (sym ew)
-        (subst (λ (r : RequestValue). EndsBy r.method new.answers d.wire d.verdict c) about t.so.cause)) in
-        ended (answered new next (served.Over c) has t)
+        (subst (λ (p : List Answer). EndsBy old.request.method p d.wire d.verdict c) (sym all)
+        (subst (λ (r : RequestValue). EndsBy r.method next.answers d.wire d.verdict c) about so.cause))) in
+        let end : EndsWith old new o = record {
+          request = er ∙ about;
+          status = st;
+          answers = ea ∙ sym all;
+          reused = eu ∙ same_reused;
+          after =
+              same
+              ∙ ap (λ (x : Option L). record old { link = x; answers = next.answers; code = Some c; is_kept = new.is_kept; received = length d.wire }) (sym link)
+              ∙ ap (λ (l : List Answer). record old { link = new.link; answers = l; code = Some c; is_kept = new.is_kept; received = length d.wire }) (sym all)
+              ∙ ap (λ (x : Code). record old { link = new.link; answers = new.answers; code = Some x; is_kept = new.is_kept; received = length d.wire }) (sym ec)
+              ∙ ap (λ (l : List ℕ). record old { link = new.link; answers = new.answers; code = Some o.code; is_kept = new.is_kept; received = length l }) (sym ew);
+        } in
+        ended (answered new link all)
         (record { ends = end; verdict = d.verdict; cause = cause; parts = ep; kept = kept ∙ ap (λ (l : List ℕ). may_keep d.verdict l) (sym ew) })
-        (unretried new.answers t.so.final)
+        (rw all (unretried so.final))
 
   -- the request, the code and the waker are as they were
   abbrev Stays : TransferState L → TransferState L → Type 0
@@ -176,15 +185,18 @@ module _ {L : Type 0} (history : L → List Answer) where
 
   -- an outcome is of the transfer's request
   pub Turns-request : (t new : TransferState L) (o : OutcomeValue) → Turns history t new (ends o) → o.request ≡ t.request
-  Turns-request t new o (late due is s) = s.0.0
-  Turns-request t new o (given_up early is s) = s.0.0
-  Turns-request t new o (turned m mid p (ended a e r)) = e.ends.0 ∙ (probed_stays t mid p).0
+  Turns-request t new o (late due is s) = s.ends.request
+  Turns-request t new o (given_up early is s) = s.ends.request
+  Turns-request t new o (turned m mid p (ended a e r)) = e.ends.request ∙ (probed_stays t mid p).0
+
+  ending : {t new : TransferState L} {o : OutcomeValue} → EndsWith t new o → (new.code ≡ Some o.code) × (new.received ≡ length o.wire)
+  ending e = (ap (λ (x : TransferState L). x.code) e.after, ap (λ (x : TransferState L). x.received) e.after)
 
   -- once it has ended, its code is the outcome's, and the bytes received are the wire
   pub Turns-ended : (t new : TransferState L) (o : OutcomeValue) → Turns history t new (ends o) → (new.code ≡ Some o.code) × (new.received ≡ length o.wire)
-  Turns-ended t new o (late due is s) = rw s.0.2 (refl, refl)
-  Turns-ended t new o (given_up early is s) = rw s.0.2 (refl, refl)
-  Turns-ended t new o (turned m mid p (ended a e r)) = rw e.ends.2 (refl, refl)
+  Turns-ended t new o (late due is s) = ending s.ends
+  Turns-ended t new o (given_up early is s) = ending s.ends
+  Turns-ended t new o (turned m mid p (ended a e r)) = ending e.ends
 
   -- a transfer that waits, or asks to be polled again, is of the same request, and hasn't ended
   pub Turns-waits : (t new : TransferState L) → Turns history t new waits → Stays t new
@@ -222,26 +234,56 @@ module _ {L : Type 0} (history : L → List Answer) where
   )
   Turns-late t new o f (turned m mid p (ended a e r)) = ((λ c. absurd (untimely _ _ _ _ _ e.cause c)), (λ d. absurd (m.0.0 d)))
 
-no_parts : (v : Verdict) (c : Code) → code_of v ≡ Some c → (c ≡ code.Ok → ⊥) → parts_of v ≡ []
-no_parts (verdict.Complete status len parts keep) c is bad = absurd (bad (let k : Some code.Ok ≡ Some c = is in cc))
-no_parts verdict.More c is bad = refl
-no_parts (verdict.Fault f) c is bad = refl
+  -- the count never falls
+  given-append : (past more : List Answer) → given (past ++ more) ≡ given past ++ given more
+  given-append past more = flat_map-append given_by past more
 
-faulted : (last : Answer) (c : Code) → fault_code last ≡ Some c → c ≡ code.Ok → ⊥
-faulted said.Connected c e ok = cc
-faulted said.ConnectBlocked c e ok = cc
-faulted said.ConnectFailed c e ok = cc
-faulted (said.Gave piece) c e ok = cc
-faulted said.ReadBlocked c e ok = cc
-faulted said.ReadEnded c e ok = cc
-faulted said.ReadFailed c e ok = cc
-faulted (said.Took piece) c e ok = cc
-faulted said.WriteBlocked c e ok = cc
-faulted said.WriteFailed c e ok = cc
+  longer : (past more all : List Answer) → all ≡ past ++ more → length (given past) ≤ length (given all)
+  longer past more all e = omega (arith, ap (λ (l : List Answer). length (given l)) e, ap (λ (l : List ℕ). length l) (given-append past more), length-append (given past) (given more))
 
--- how a link's last answer ends the exchange is a way that it may end
-pub may_end : (rq : RequestValue) (past : List Answer) (d : Decoded) (c : Code) → EndsBy rq.method past d.wire d.verdict c → MayEnd rq d c
-may_end rq past d c (by_bytes earlier piece e w h is) = ((λ ok. (false, h, is ∙ ap (λ (x : Code). Some x) ok)), no_parts d.verdict c is)
-may_end rq past d c (by_end earlier e w h is) = ((λ ok. (true, h, is ∙ ap (λ (x : Code). Some x) ok)), no_parts d.verdict c is)
-may_end rq past d c (by_fault earlier last e w m is) = ((λ ok. absurd (faulted last c is ok)), (λ bad. ap parts_of m))
-may_end rq past d c (by_memory earlier last e h w m) = ((λ ok. cc), (λ bad. ap parts_of m))
+  -- what came before the last answer has all that came before this poll
+  before_last : (past more earlier : List Answer) (last : Answer) → (more ≡ [] → ⊥) → past ++ more ≡ earlier ++ last ∷ [] → (rest : List Answer) × (earlier ≡ past ++ rest)
+  before_last [] more earlier last some e = (earlier, refl)
+  before_last (x ∷ past) more [] last some e =
+      let tail : past ++ more ≡ [] = (let k : x ∷ (past ++ more) ≡ last ∷ [] = e in cc) in absurd (some (none past more tail)) where
+        none : (past more : List Answer) → past ++ more ≡ [] → more ≡ []
+        none [] more e = e
+        none (y ∷ past) more e = cc
+  before_last (x ∷ past) more (y ∷ earlier) last some e =
+      let head : x ≡ y = (let k : x ∷ (past ++ more) ≡ y ∷ (earlier ++ last ∷ []) = e in cc) in
+      let tail : past ++ more ≡ earlier ++ last ∷ [] = (let k : x ∷ (past ++ more) ≡ y ∷ (earlier ++ last ∷ []) = e in cc) in
+      let r = before_last past more earlier last some tail in
+      (r.0, ap (λ (l : List Answer). y ∷ l) r.1 ∙ ap (λ (a : Answer). a ∷ (past ++ r.0)) (sym head))
+
+  wire_holds : (kind : Method) (past more answers : List Answer) (wire : List ℕ) (v : Verdict) (c : Code) → answers ≡ past ++ more → (more ≡ [] → ⊥) → EndsBy kind answers wire v c
+      → length (given past) ≤ length wire
+  wire_holds kind past more answers wire v c n some (by_bytes earlier piece e w h is) = rw w (longer past more answers n)
+  wire_holds kind past more answers wire v c n some (by_end earlier e w h is) = rw w (longer past more answers n)
+  wire_holds kind past more answers wire v c n some (by_fault earlier last e w m is) = rw w (longer past more answers n)
+  wire_holds kind past more answers wire v c n some (by_memory earlier last e h w m) =
+      let r = before_last past more earlier last some (sym n ∙ e.0) in rw w (longer past r.0 earlier r.1)
+
+  module _ (t : TransferState L) (counts : t.received ≡ length (given t.answers)) where
+    counted_on : (mid new : TransferState L) (how : How) → mid.received ≡ length (given mid.answers) → Exchanged history mid new how → mid.received ≤ new.received
+    counted_on mid new how c (unserved none e) = omega (arith, ap (λ (x : TransferState L). x.received) e)
+    counted_on mid new how c (lost last a o m e) =
+        let nothing : length (given last.answers) ≡ 0 = ap (λ (l : List ℕ). length l) m.silent in
+        omega (arith, c, longer mid.answers a.more last.answers a.noted, nothing)
+    counted_on mid new how c (blocked a b g) = omega (arith, c, longer mid.answers a.more new.answers a.noted, ap (λ (x : TransferState L). x.received) g)
+    counted_on mid new how c (unfinished a b g) = omega (arith, c, longer mid.answers a.more new.answers a.noted, ap (λ (x : TransferState L). x.received) g)
+    counted_on mid new how c (ended {o} a e r) =
+        omega (arith, c, wire_holds mid.request.method mid.answers a.more new.answers o.wire e.verdict o.code a.noted a.asked e.cause, (ending e.ends).1)
+
+    stopped_count : {new : TransferState L} {o : OutcomeValue} → StopsWith t new o → t.received ≤ new.received
+    stopped_count s = omega (arith, counts, ap (λ (l : List ℕ). length l) s.wire, (ending s.ends).1)
+
+    pub Turns-counted : (new : TransferState L) (how : How) → (t.needs_probe ≡ true → t.answers ≡ []) → Turns history t new how → t.received ≤ new.received
+    Turns-counted new how u (late due is s) = stopped_count s
+    Turns-counted new how u (given_up early is s) = stopped_count s
+    Turns-counted new how u (paused m still e) = omega (arith, ap (λ (x : TransferState L). x.received) e)
+    Turns-counted new how u (refused m f) = omega (arith, counts, ap (λ (l : List Answer). length (given l)) (u f.needed))
+    Turns-counted new how u (turned m mid (inl p) x) = subst (λ (y : TransferState L). y.received ≤ new.received) p.1 (counted_on mid new how (rw p.1 counts) x)
+    Turns-counted new how u (turned m mid (inr p) x) =
+        let same : mid.received ≡ t.received = ap (λ (y : TransferState L). y.received) p.after in
+        let heard : mid.answers ≡ t.answers = ap (λ (y : TransferState L). y.answers) p.after in
+        omega (arith, same, counted_on mid new how (same ∙ counts ∙ ap (λ (l : List Answer). length (given l)) (sym heard)) x)

@@ -48,7 +48,7 @@ module _ (reused : Bool) (bytes : List ℕ) (before : List Answer) (f : TakesFro
   push (said.Took piece) may = took piece may
   push said.WriteBlocked may = still said.WriteBlocked refl refl
   push said.WriteFailed may = still said.WriteFailed refl refl
-  push (said.Gave piece) may = read (said.Gave piece) refl may
+  push (said.Gave piece) may = read (said.Gave piece) refl may.0
   push said.ReadBlocked may = read said.ReadBlocked refl may
   push said.ReadEnded may = read said.ReadEnded refl may
   push said.ReadFailed may = read said.ReadFailed refl may

@@ -1,7 +1,9 @@
 mod Fronts
 pub mod Ordered
+pub mod LineSteps
 pub mod Steps
 pub mod Serves
+pub mod OutcomeLemmas
 pub mod Advanced
 pub mod Bodies
 pub mod Wakers

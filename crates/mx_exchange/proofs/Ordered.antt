@@ -8,7 +8,7 @@ use Rattle.std.proofs.lemmas.Grind.{flat_map-append}
 use Rattle.std.proofs.Math.Seq.{take-length}
 use Rattle.mx_link.specs.Answers.{given, given_by, taken, taken_by}
 use Rattle.mx_link.specs.declared.answers.Answer.{Answer}
-use Rattle.mx_exchange.specs.Order.{FollowInOrder, MayFollow, is_last}
+use Rattle.mx_exchange.specs.Order.{FollowInOrder, MayFollow, is_last, asked_at, asked_from}
 
 pub taken-push : (past : List Answer) (a : Answer) → taken (past ++ a ∷ []) ≡ taken past ++ taken_by a
 taken-push past a = flat_map-append taken_by past (a ∷ []) ∙ ap (λ (l : List ℕ). taken past ++ l) (append-nil (taken_by a))
@@ -68,3 +68,16 @@ pushed was is next more a e f = f ∙ ap (λ (l : List Answer). l ++ a ∷ []) e
 -- what a slice from an index on has
 pub rest_of : (n : ℕ) (xs : List ℕ) → take (length xs - n) (drop n xs) ≡ drop n xs
 rest_of n xs = rw (← length-drop n xs) (take-length (drop n xs))
+
+-- how much is asked for with one more answer
+pub asked_from-push : (bytes : List ℕ) (before rest : List Answer) (a : Answer) → asked_from bytes before (rest ++ a ∷ []) ≡ asked_from bytes before rest ++ asked_at bytes (before ++ rest) a ∷ []
+asked_from-push bytes before [] a = ap (λ (l : List Answer). asked_at bytes l a ∷ []) (sym (append-nil before))
+asked_from-push bytes before (x ∷ rest) a =
+    ap (λ (l : List ℕ). asked_at bytes before x ∷ l) (asked_from-push bytes (before ++ x ∷ []) rest a
+    ∙ ap (λ (l : List Answer). asked_from bytes (before ++ x ∷ []) rest ++ asked_at bytes l a ∷ []) (append_assoc before (x ∷ []) rest))
+
+-- the last of answers that came in order may have come
+pub FollowInOrder-last : (reused : Bool) (bytes : List ℕ) (before rest : List Answer) (a : Answer) → FollowInOrder reused bytes before (rest ++ a ∷ []) → MayFollow reused bytes (before ++ rest) a
+FollowInOrder-last reused bytes before [] a h = subst (λ (l : List Answer). MayFollow reused bytes l a) (sym (append-nil before)) h.1
+FollowInOrder-last reused bytes before (x ∷ rest) a h =
+    subst (λ (l : List Answer). MayFollow reused bytes l a) (append_assoc before (x ∷ []) rest) (FollowInOrder-last reused bytes (before ++ x ∷ []) rest a h.2)

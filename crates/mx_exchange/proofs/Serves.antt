@@ -1,18 +1,19 @@
 -- The calls of one turn.
-use Rattle.std.proofs.Common.{◌≡◌, ℕ, ◌+◌, ◌≤◌, ◌<◌, Bool, true, false, List, [], ◌∷◌, ◌++◌, refl, sym, ◌∙◌, ap, append-nil, arith, inl, inr, ◌⊎◌}
+use Rattle.std.proofs.Common.{◌≡◌, ℕ, ◌+◌, ◌≤◌, ◌<◌, Bool, true, false, List, [], ◌∷◌, ◌++◌, refl, sym, ◌∙◌, ap, subst, append_assoc, append-nil, arith, inl, inr, ◌⊎◌}
 use Rattle.std.specs.Prelude.{count_by}
 use Rattle.mx_types.specs.declared.code.Code.{Code}
-use Rattle.mx_request.specs.Request.{RequestValue}
+use Rattle.std.specs.List.{list_any}
 use Rattle.mx_body.specs.Decoder.{Decoded}
 use Rattle.mx_link.specs.Answers.{is_read, is_write}
 use Rattle.mx_link.specs.declared.answers.Answer.{Answer}
 use Rattle.mx_link.specs.declared.answers.Answer.TheVariants as said
 use Rattle.mx_exchange.specs.Order.{is_connect}
-use Rattle.mx_exchange.specs.Service.{IsGoing, StepTurn, CallsTurn, ServeTurn}
+use Rattle.mx_exchange.specs.Lines.{LineState, IsOpen, IsGoing, Calls, Grows, StepTurn, ServeSo, ServeTurn}
 use Rattle.mx_exchange.specs.declared.service.Step.{Step}
 use Rattle.mx_exchange.specs.declared.service.Step.TheVariants as step
+use Rattle.mx_exchange.specs.declared.service.Served.{Served}
 use Rattle.mx_exchange.specs.declared.service.Served.TheVariants as served
-use Rattle.mx_exchange.proofs.Ordered.{count-push, pushed}
+use Rattle.mx_exchange.proofs.Ordered.{count-push}
 
 -- an answer is of one kind
 pub kinds : (a : Answer) → (count_by is_connect (a ∷ []) + count_by is_read (a ∷ []) + count_by is_write (a ∷ []) ≡ 1)
@@ -42,133 +43,151 @@ unconnects (said.Took piece) never = refl
 unconnects said.WriteBlocked never = refl
 unconnects said.WriteFailed never = refl
 
+not_none : (more : List Answer) (a : Answer) → more ++ a ∷ [] ≡ [] → ⊥
+not_none [] a e = cc
+not_none (x ∷ more) a e = cc
+
 -- the turn so far
-pub record Serves (was is old new : List Answer) (request : RequestValue) (reused stood : Bool) (written turn reads writes : ℕ) (d : Decoded) : Type 0 where
+pub record Serves {L : Type 0} (old new : LineState L) (turn reads writes : ℕ) (d : Decoded) : Type 0 where
+  pub more : List Answer
+  pub grows : Grows old new more
   pub connects : ℕ
-  pub calls : CallsTurn was is old new connects reads writes
-  pub going : IsGoing request reused stood written new d
+  pub calls : Calls more connects reads writes
+  pub going : IsGoing old.request.method new.answers d
   pub turn_is : turn ≡ connects + reads + writes
   pub once : connects ≤ 1
-  pub unmade : stood ≡ false → connects ≡ 0
+  pub unmade : new.stands ≡ false → connects ≡ 0
 
-pub Serves-none : (was old : List Answer) (request : RequestValue) (reused stood : Bool) (written : ℕ) (d : Decoded) → IsGoing request reused stood written old d → Serves was was old old request reused stood written 0 0 0 d
-Serves-none was old request reused stood written d g = record {
-  connects = 0;
-  calls = record { more = []; told = sym (append-nil was); noted = sym (append-nil old); connects_are = refl; reads_are = refl; writes_are = refl };
-  going = g;
-  turn_is = refl;
-  once = omega arith;
-  unmade = λ e. refl;
-}
+module _ {L : Type 0} where
+  pub Serves-none : (old : LineState L) (d : Decoded) → IsGoing old.request.method old.answers d → Serves old old 0 0 0 d
+  Serves-none old d g = record {
+    more = [];
+    grows = ap (λ (l : List Answer). record old { answers = l }) (sym (append-nil old.answers));
+    connects = 0;
+    calls = record { connects_are = refl; reads_are = refl; writes_are = refl };
+    going = g;
+    turn_is = refl;
+    once = omega arith;
+    unmade = λ e. refl;
+  }
 
-module _ {was is old new next newer : List Answer} {request : RequestValue} {reused stood : Bool} {written turn reads writes : ℕ} {d : Decoded} (s : Serves was is old new request reused stood written turn reads writes d) where
-  abbrev longer : (a : Answer) → next ≡ is ++ a ∷ [] → newer ≡ new ++ a ∷ [] → CallsTurn was next old newer (s.connects + count_by is_connect (a ∷ [])) (reads + count_by is_read (a ∷ [])) (writes + count_by is_write (a ∷ []))
-  longer a e f = record {
-    more = s.calls.more ++ a ∷ [];
-    told = pushed was is next s.calls.more a s.calls.told e;
-    noted = pushed old new newer s.calls.more a s.calls.noted f;
-    connects_are = count-push is_connect s.calls.more a ∙ ap (λ (n : ℕ). n + count_by is_connect (a ∷ [])) s.calls.connects_are;
-    reads_are = count-push is_read s.calls.more a ∙ ap (λ (n : ℕ). n + count_by is_read (a ∷ [])) s.calls.reads_are;
-    writes_are = count-push is_write s.calls.more a ∙ ap (λ (n : ℕ). n + count_by is_write (a ∷ [])) s.calls.writes_are;
+  -- growing twice is growing
+  pub Grows-push : (old mid new : LineState L) (more : List Answer) (a : Answer) → Grows old mid more → Grows mid new (a ∷ []) → Grows old new (more ++ a ∷ [])
+  Grows-push old mid new more a e f =
+      f
+      ∙ ap (λ (m : LineState L). record m { link = new.link; answers = m.answers ++ a ∷ []; stands = new.stands; written = new.written }) e
+      ∙ ap (λ (l : List Answer). record old { link = new.link; answers = l; stands = new.stands; written = new.written }) (append_assoc old.answers more (a ∷ []))
+
+module _ {L : Type 0} {old mid : LineState L} {turn reads writes : ℕ} {d : Decoded} (s : Serves old mid turn reads writes d) where
+  -- the request of the turn, and the link that it asks
+  pub same_request : mid.request ≡ old.request
+  same_request = ap (λ (l : LineState L). l.request) s.grows
+
+  same_reused : mid.is_reused ≡ old.is_reused
+  same_reused = ap (λ (l : LineState L). l.is_reused) s.grows
+
+  pub Serves-going : IsGoing mid.request.method mid.answers d
+  Serves-going = rw same_request s.going
+
+  pub Serves-open : IsOpen old → IsOpen mid
+  Serves-open o = record {
+    probed = ap (λ (l : LineState L). l.needs_probe) s.grows ∙ o.probed;
+    fresh = ap (λ (l : LineState L). l.is_stale) s.grows ∙ o.fresh;
+    lasts = s.going.undecided.0;
+  }
+
+  abbrev longer : (a : Answer) → Calls (s.more ++ a ∷ []) (s.connects + count_by is_connect (a ∷ [])) (reads + count_by is_read (a ∷ [])) (writes + count_by is_write (a ∷ []))
+  longer a = record {
+    connects_are = count-push is_connect s.more a ∙ ap (λ (n : ℕ). n + count_by is_connect (a ∷ [])) s.calls.connects_are;
+    reads_are = count-push is_read s.more a ∙ ap (λ (n : ℕ). n + count_by is_read (a ∷ [])) s.calls.reads_are;
+    writes_are = count-push is_write s.more a ∙ ap (λ (n : ℕ). n + count_by is_write (a ∷ [])) s.calls.writes_are;
   }
 
   -- at most one connect
-  once_more : {now : Bool} {n : ℕ} {to : Decoded} {how : Step} (t : StepTurn is next new newer how request reused stood now n to) → s.connects + count_by is_connect (t.answer ∷ []) ≤ 1
-  once_more t = elim (is_connect t.answer) as (λ b. (is_connect t.answer ≡ b) → s.connects + count_by is_connect (t.answer ∷ []) ≤ 1) [
-    | true ↦ λ e. omega (arith, counted is_connect t.answer e, s.unmade (t.asked e))
-    | false ↦ λ e. omega (arith, unconnects t.answer (λ y. let x : true ≡ false = sym y ∙ e in cc), s.once)
+  once_more : (a : Answer) → (is_connect a ≡ true → mid.stands ≡ false) → s.connects + count_by is_connect (a ∷ []) ≤ 1
+  once_more a unmade = elim (is_connect a) as (λ b. (is_connect a ≡ b) → s.connects + count_by is_connect (a ∷ []) ≤ 1) [
+    | true ↦ λ e. omega (arith, counted is_connect a e, s.unmade (unmade e))
+    | false ↦ λ e. omega (arith, unconnects a (λ y. let x : true ≡ false = sym y ∙ e in cc), s.once)
   ] refl
 
-  pub Serve-blocked : {now : Bool} {n : ℕ} {to : Decoded} → reads < 64 → writes < 64 → StepTurn is next new newer step.Blocked request reused stood now n to → ServeTurn was next old newer served.Blocked request reused now n to
-  Serve-blocked few fewer t =
-      let c = longer t.answer t.told t.noted in
+module _ {L : Type 0} {old mid new : LineState L} {turn reads writes : ℕ} {d : Decoded} (s : Serves old mid turn reads writes d) where
+  -- the turn ends by this answer
+  ends : (how : Served) (to : Decoded) (a : Answer) → reads < 64 → writes < 64 → Grows mid new (a ∷ []) → (is_connect a ≡ true → mid.stands ≡ false)
+      → ServeSo how old.request.method old.is_reused new.answers to (s.more ++ a ∷ []) → ServeTurn old new how to
+  ends how to a few fewer grows unmade so =
+      let c = longer s a in
       record {
-        more = c.more;
-        told = c.told;
-        noted = c.noted;
-        connects = omega (arith, c.connects_are, once_more t);
-        reads = omega (arith, c.reads_are, kinds t.answer, few);
-        writes = omega (arith, c.writes_are, kinds t.answer, fewer);
-        order = t.order;
-        so = (t.so.0, (s.calls.more, t.answer, refl, t.so.1));
+        more = s.more ++ a ∷ [];
+        grows = Grows-push old mid new s.more a s.grows grows;
+        asked = not_none s.more a;
+        connects = omega (arith, c.connects_are, once_more s a unmade);
+        reads = omega (arith, c.reads_are, kinds a, few);
+        writes = omega (arith, c.writes_are, kinds a, fewer);
+        so = so;
       }
 
-  pub Serve-lost : {now : Bool} {n : ℕ} {to : Decoded} → reads < 64 → writes < 64 → StepTurn is next new newer step.Lost request reused stood now n to → ServeTurn was next old newer served.Lost request reused now n to
-  Serve-lost few fewer t =
-      let c = longer t.answer t.told t.noted in
-      record {
-        more = c.more;
-        told = c.told;
-        noted = c.noted;
-        connects = omega (arith, c.connects_are, once_more t);
-        reads = omega (arith, c.reads_are, kinds t.answer, few);
-        writes = omega (arith, c.writes_are, kinds t.answer, fewer);
-        order = t.order;
-        so = t.so;
-      }
+  pub Serve-blocked : reads < 64 → writes < 64 → (to : Decoded) → StepTurn mid new step.Blocked to → ServeTurn old new served.Blocked to
+  Serve-blocked few fewer to t = ends served.Blocked to t.answer few fewer t.grows t.unmade ((rw (same_request s) at t.so.0), (s.more, t.answer, refl, t.so.1))
 
-  pub Serve-over : {now : Bool} {n : ℕ} {to : Decoded} (c : Code) → reads < 64 → writes < 64 → StepTurn is next new newer (step.Over c) request reused stood now n to → ServeTurn was next old newer (served.Over c) request reused now n to
-  Serve-over code few fewer t =
-      let c = longer t.answer t.told t.noted in
-      record {
-        more = c.more;
-        told = c.told;
-        noted = c.noted;
-        connects = omega (arith, c.connects_are, once_more t);
-        reads = omega (arith, c.reads_are, kinds t.answer, few);
-        writes = omega (arith, c.writes_are, kinds t.answer, fewer);
-        order = t.order;
-        so = t.so;
-      }
+  pub Serve-lost : reads < 64 → writes < 64 → (to : Decoded) → StepTurn mid new step.Lost to → ServeTurn old new served.Lost to
+  Serve-lost few fewer to t = ends served.Lost to t.answer few fewer t.grows t.unmade (rw (same_request s, same_reused s) at t.so)
+
+  pub Serve-over : reads < 64 → writes < 64 → (to : Decoded) (c : Code) → StepTurn mid new (step.Over c) to → ServeTurn old new (served.Over c) to
+  Serve-over few fewer to c t = ends (served.Over c) to t.answer few fewer t.grows t.unmade (rw (same_request s, same_reused s) at t.so)
 
   -- the turn goes on
-  grown : {now : Bool} {n : ℕ} {to : Decoded} {how : Step} (r w : ℕ) (t : StepTurn is next new newer how request reused stood now n to) → IsGoing request reused now n newer to
-      → (now ≡ false → is_connect t.answer ≡ true → ⊥)
-      → reads + count_by is_read (t.answer ∷ []) ≡ r → writes + count_by is_write (t.answer ∷ []) ≡ w → Serves was next old newer request reused now n (turn + 1) r w to
-  grown {now} r w t g other er ew =
-      let c = longer t.answer t.told t.noted in
-      let unstood : now ≡ false → stood ≡ false = λ e. elim stood as (λ b. (stood ≡ b) → stood ≡ false) [
-        | true ↦ λ y. let x : true ≡ false = sym (t.kept y) ∙ e in cc
+  grown : (r w : ℕ) (to : Decoded) (a : Answer) → Grows mid new (a ∷ []) → (is_connect a ≡ true → mid.stands ≡ false) → (mid.stands ≡ true → new.stands ≡ true)
+      → IsGoing mid.request.method new.answers to → (new.stands ≡ false → is_connect a ≡ true → ⊥)
+      → reads + count_by is_read (a ∷ []) ≡ r → writes + count_by is_write (a ∷ []) ≡ w → Serves old new (turn + 1) r w to
+  grown r w to a grows unmade kept g other er ew =
+      let c = longer s a in
+      let unstood : new.stands ≡ false → mid.stands ≡ false = λ e. elim mid.stands as (λ b. (mid.stands ≡ b) → mid.stands ≡ false) [
+        | true ↦ λ y. let x : true ≡ false = sym (kept y) ∙ e in cc
         | false ↦ λ y. y
       ] refl in
       record {
-        connects = s.connects + count_by is_connect (t.answer ∷ []);
-        calls = record { more = c.more; told = c.told; noted = c.noted; connects_are = c.connects_are; reads_are = c.reads_are ∙ er; writes_are = c.writes_are ∙ ew };
-        going = g;
-        turn_is = omega (arith, kinds t.answer, s.turn_is, er, ew);
-        once = once_more t;
-        unmade = λ e. omega (arith, unconnects t.answer (other e), s.unmade (unstood e));
+        more = s.more ++ a ∷ [];
+        grows = Grows-push old mid new s.more a s.grows grows;
+        connects = s.connects + count_by is_connect (a ∷ []);
+        calls = record { connects_are = c.connects_are; reads_are = c.reads_are ∙ er; writes_are = c.writes_are ∙ ew };
+        going = rw (same_request s) at g;
+        turn_is = omega (arith, kinds a, s.turn_is, er, ew);
+        once = once_more s a unmade;
+        unmade = λ e. omega (arith, unconnects a (other e), s.unmade (unstood e));
       }
 
-  pub Serves-connected : {now : Bool} {n : ℕ} {to : Decoded} → StepTurn is next new newer step.Connected request reused stood now n to → Serves was next old newer request reused now n (turn + 1) reads writes to
-  Serves-connected {now} t =
+  pub Serves-connected : (to : Decoded) → StepTurn mid new step.Connected to → Serves old new (turn + 1) reads writes to
+  Serves-connected to t =
       let one = counted is_connect t.answer t.so.1 in
       let all = kinds t.answer in
-      grown reads writes t t.so.0 (λ e y. let x : true ≡ false = sym t.so.2 ∙ e in cc) (omega (arith, one, all)) (omega (arith, one, all))
+      grown reads writes to t.answer t.grows t.unmade t.kept t.so.0 (λ e y. let x : true ≡ false = sym t.so.2 ∙ e in cc) (omega (arith, one, all)) (omega (arith, one, all))
 
-  pub Serves-wrote : {now : Bool} {n : ℕ} {to : Decoded} → StepTurn is next new newer step.Wrote request reused stood now n to → Serves was next old newer request reused now n (turn + 1) reads (writes + 1) to
-  Serves-wrote t =
+  pub Serves-wrote : (to : Decoded) → StepTurn mid new step.Wrote to → Serves old new (turn + 1) reads (writes + 1) to
+  Serves-wrote to t =
       let one = counted is_write t.answer t.so.1 in
       let all = kinds t.answer in
-      grown reads (writes + 1) t t.so.0 (λ e y. let two = counted is_connect t.answer y in omega (arith, one, two, all)) (omega (arith, one, all)) (omega (arith, one))
+      grown reads (writes + 1) to t.answer t.grows t.unmade t.kept t.so.0 (λ e y. let two = counted is_connect t.answer y in omega (arith, one, two, all)) (omega (arith, one, all)) (omega (arith, one))
 
-  pub Serves-heard : {now : Bool} {n : ℕ} {to : Decoded} → StepTurn is next new newer step.Heard request reused stood now n to → Serves was next old newer request reused now n (turn + 1) (reads + 1) writes to
-  Serves-heard t =
+  pub Serves-heard : (to : Decoded) → StepTurn mid new step.Heard to → Serves old new (turn + 1) (reads + 1) writes to
+  Serves-heard to t =
       let one = counted is_read t.answer t.so.1 in
       let all = kinds t.answer in
-      grown (reads + 1) writes t t.so.0 (λ e y. let two = counted is_connect t.answer y in omega (arith, one, two, all)) (omega (arith, one)) (omega (arith, one, all))
+      grown (reads + 1) writes to t.answer t.grows t.unmade t.kept t.so.0 (λ e y. let two = counted is_connect t.answer y in omega (arith, one, two, all)) (omega (arith, one)) (omega (arith, one, all))
 
 -- as many calls were made as one turn may make
-pub Serves-full : {was is old new : List Answer} {request : RequestValue} {reused stood : Bool} {written turn reads writes : ℕ} {d : Decoded}
-    → (s : Serves was is old new request reused stood written turn reads writes d) → reads ≤ 64 → writes ≤ 64 → (reads ≡ 64) ⊎ (writes ≡ 64)
-    → ServeTurn was is old new served.Unfinished request reused stood written d
+pub Serves-full : {L : Type 0} {old new : LineState L} {turn reads writes : ℕ} {d : Decoded} → (s : Serves old new turn reads writes d) → reads ≤ 64 → writes ≤ 64
+    → (reads ≡ 64) ⊎ (writes ≡ 64) → ServeTurn old new served.Unfinished d
 Serves-full s few fewer full = record {
-  more = s.calls.more;
-  told = s.calls.told;
-  noted = s.calls.noted;
+  more = s.more;
+  grows = s.grows;
+  asked = λ none.
+      let nothing : (p : Answer → Bool) → count_by p s.more ≡ 0 = λ p. ap (λ (l : List Answer). count_by p l) none in
+      elim full [
+        | inl x ↦ let y = s.calls.reads_are in let z = nothing is_read in absurd (omega (arith, x, y, z))
+        | inr x ↦ let y = s.calls.writes_are in let z = nothing is_write in absurd (omega (arith, x, y, z))
+      ];
   connects = omega (arith, s.calls.connects_are, s.once);
   reads = omega (arith, s.calls.reads_are, few);
   writes = omega (arith, s.calls.writes_are, fewer);
-  order = s.going.order;
   so = (s.going, elim full [ inl x ↦ inl (s.calls.reads_are ∙ x) | inr x ↦ inr (s.calls.writes_are ∙ x) ]);
 }

@@ -1,5 +1,5 @@
 -- How a transfer ends by what its link answers.
-use Rattle.std.specs.Prelude.{◌≡◌, ◌==◌, ℕ, Bool, true, false, ◌&&◌, List, [], ◌∷◌, ◌++◌, length, Option, Some, None}
+use Rattle.std.specs.Prelude.{◌≡◌, ◌==◌, ℕ, Bool, true, false, ◌&&◌, ◌⊎◌, List, [], ◌∷◌, ◌++◌, length, Option, Some, None}
 use Rattle.std.specs.List.{list_any}
 use Rattle.mx_types.specs.declared.code.Code.{Code}
 use Rattle.mx_types.specs.declared.code.Code.TheVariants as code
@@ -18,6 +18,18 @@ use Rattle.mx_exchange.specs.Order.{is_last}
 abbrev pub IsUndecided : Method → List Answer → Type 0
 IsUndecided kind answers =
     (list_any is_last answers ≡ false) × IsVerdict kind (given answers) false verdict.More
+
+-- the codes of a link that can't be had: the host wasn't found, or not reached, or memory wasn't found
+abbrev pub is_link_code : Code → Bool
+is_link_code code.CouldntResolveHost = true
+is_link_code code.CouldntConnect = true
+is_link_code code.OutOfMemory = true
+is_link_code _ = false
+
+-- these, and that of a deadline
+abbrev pub is_stop_code : Code → Bool
+is_stop_code code.OperationTimedout = true
+is_stop_code c = is_link_code c
 
 -- this was the last answer, and those before it decided nothing
 abbrev pub EndsAt : Method → List Answer → Answer → List Answer → Type 0
@@ -81,3 +93,16 @@ pub record MustRetry (kind : Method) (reused : Bool) (answers : List Answer) : T
   pub last : Answer
   pub ends : answers ≡ earlier ++ last ∷ []
   pub lost : is_loss last ≡ true
+
+-- Why a transfer ended with a code and no look at what its link could still give: its deadline had come, or the code was given in
+-- place of a link. What the link gave until then decided nothing.
+pub record IsStopped (kind : Method) (answers : List Answer) (wire : List ℕ) (v : Verdict) (c : Code) : Type 0 where
+  pub listed : is_stop_code c ≡ true
+  pub undecided : IsUndecided kind answers
+  pub wire_is : wire ≡ given answers
+  pub more : v ≡ verdict.More
+
+-- how a transfer ended: over its link, which is not to be tried again, or without it
+abbrev pub Ends : Method → Bool → List Answer → List ℕ → Verdict → Code → Type 0
+Ends kind reused answers wire v c =
+    (EndsBy kind answers wire v c × ¬ (MustRetry kind reused answers)) ⊎ IsStopped kind answers wire v c

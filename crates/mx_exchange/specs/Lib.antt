@@ -5,5 +5,5 @@ pub mod Turns
 pub mod Outcomes
 pub mod Laws
 -- Private: what the functions behind a turn promise one another.
-pub mod Service
+pub mod Lines
 pub mod Turned

@@ -1,7 +1,7 @@
--- In which order a link is asked, which serves a request.
-use Rattle.std.specs.Prelude.{◌≡◌, ◌≢◌, ℕ, Bool, true, false, ◌||◌, List, [], ◌∷◌, ◌++◌}
+-- In which order a link is asked, which serves a request, and for how much.
+use Rattle.std.specs.Prelude.{◌≡◌, ◌≢◌, ℕ, ◌<◌, ◌≤◌, ◌-◌, Bool, true, false, ◌||◌, List, [], ◌∷◌, ◌++◌, length, if◌then◌else◌}
 use Rattle.std.specs.List.{list_any}
-use Rattle.mx_link.specs.Answers.{taken}
+use Rattle.mx_link.specs.Answers.{taken, is_read, is_write}
 use Rattle.mx_link.specs.declared.answers.Answer.{Answer}
 use Rattle.mx_link.specs.declared.answers.Answer.TheVariants as said
 
@@ -39,6 +39,14 @@ MayWrite reused bytes before piece =
 abbrev pub MayRead : Bool → List ℕ → List Answer → Type 0
 MayRead reused bytes before = (stands reused before ≡ true) × (taken before ≡ bytes)
 
+-- the most bytes of one read
+abbrev pub most_read : ℕ
+most_read = 16384
+
+-- it stands, and has taken all of the bytes; what a read gives is some bytes, and no more than a read asks for
+abbrev pub MayGive : Bool → List ℕ → List Answer → List ℕ → Type 0
+MayGive reused bytes before piece = MayRead reused bytes before × (0 < length piece) × (length piece ≤ most_read)
+
 -- The answer may come after those before it. A link is asked whether it stands until it does, then takes the
 -- bytes from the front, and is read once it has taken all of them.
 abbrev pub MayFollow : Bool → List ℕ → List Answer → Answer → Type 0
@@ -48,7 +56,7 @@ MayFollow reused bytes before said.ConnectFailed = stands reused before ≡ fals
 MayFollow reused bytes before (said.Took piece) = MayWrite reused bytes before piece
 MayFollow reused bytes before said.WriteBlocked = MayWrite reused bytes before []
 MayFollow reused bytes before said.WriteFailed = MayWrite reused bytes before []
-MayFollow reused bytes before (said.Gave piece) = MayRead reused bytes before
+MayFollow reused bytes before (said.Gave piece) = MayGive reused bytes before piece
 MayFollow reused bytes before said.ReadBlocked = MayRead reused bytes before
 MayFollow reused bytes before said.ReadEnded = MayRead reused bytes before
 MayFollow reused bytes before said.ReadFailed = MayRead reused bytes before
@@ -63,3 +71,18 @@ FollowInOrder reused bytes before (answer ∷ rest) =
 -- the answers, from the first on, of a link that is to take these bytes
 abbrev pub InOrder : Bool → List ℕ → List Answer → Type 0
 InOrder reused bytes answers = FollowInOrder reused bytes [] answers
+
+-- How many bytes the link is asked for where it answers so after those before: a read asks for 16,384, and a write offers
+-- all that the link hasn't taken.
+abbrev pub asked_at : List ℕ → List Answer → Answer → ℕ
+asked_at bytes before answer =
+    if is_read answer then most_read else (if is_write answer then length bytes - length (taken before) else 0)
+
+-- the same of each of these answers
+abbrev pub asked_from : List ℕ → List Answer → List Answer → List ℕ
+asked_from bytes before [] = []
+asked_from bytes before (answer ∷ rest) = asked_at bytes before answer ∷ asked_from bytes (before ++ answer ∷ []) rest
+
+-- the same of the answers, from the first on, of a link that is to take these bytes
+abbrev pub asks_of : List ℕ → List Answer → List ℕ
+asks_of bytes answers = asked_from bytes [] answers

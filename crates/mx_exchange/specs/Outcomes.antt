@@ -1,30 +1,65 @@
 -- What holds of every outcome.
-use Rattle.std.specs.Prelude.{◌≡◌, ◌≢◌, Bool, [], Some}
+use Rattle.std.specs.Prelude.{◌≡◌, ℕ, ◌≤◌, ◌||◌, Bool, true, false, List, ◌++◌, length, take, drop}
 use Rattle.mx_types.specs.declared.code.Code.{Code}
 use Rattle.mx_types.specs.declared.code.Code.TheVariants as code
 use Rattle.mx_request.specs.Request.{RequestValue}
 use Rattle.mx_body.specs.Decision.{HasStatus, IsVerdict}
-use Rattle.mx_body.specs.Decoder.{Decoded, parts_of}
+use Rattle.mx_body.specs.Decoder.{Decoded, parts_of, is_verdict_code}
+use Rattle.mx_body.specs.Laws.{IsComplete}
+use Rattle.mx_body.specs.Parts.{joined}
+use Rattle.mx_body.specs.Response.{Response, IsResponse}
 use Rattle.mx_body.specs.declared.verdict.Verdict.{Verdict}
-use Rattle.mx_exchange.specs.Endings.{code_of}
+use Rattle.mx_link.specs.Answers.{given}
+use Rattle.mx_link.specs.declared.answers.Answer.{Answer}
+use Rattle.mx_exchange.specs.Order.{InOrder}
+use Rattle.mx_exchange.specs.Endings.{Ends}
 use Rattle.mx_exchange.specs.Transfers.{OutcomeValue}
+
+-- The status is that of the wire, the link was asked in order, and the code and the parts are what its answers come to.
+pub record IsOutcome (o : OutcomeValue) : Type 0 where
+  pub status : HasStatus o.wire o.status
+  pub order : InOrder o.is_reused o.request.bytes o.answers
+  pub verdict : Verdict
+  pub ends : Ends o.request.method o.is_reused o.answers o.wire verdict o.code
+  pub parts : o.parts ≡ parts_of verdict
 
 -- the wire begins with a whole response, or is one once it has ended, and the parts are those of its content
 pub record IsWhole (o : OutcomeValue) : Type 0 where
   pub ended : Bool
   pub verdict : Verdict
   pub decided : IsVerdict o.request.method o.wire ended verdict
-  pub complete : code_of verdict ≡ Some code.Ok
+  pub complete : IsComplete verdict
   pub parts : o.parts ≡ parts_of verdict
 
--- the status is that of the wire; with code 0 the wire has a whole response; with any other there are no parts
-pub record IsOutcome (o : OutcomeValue) : Type 0 where
-  pub status : HasStatus o.wire o.status
-  pub whole : o.code ≡ code.Ok → IsWhole o
-  pub partless : o.code ≢ code.Ok → o.parts ≡ []
+-- the first bytes of the wire are a response, and what stands at the parts, joined, is its content
+pub record HasContent (o : OutcomeValue) : Type 0 where
+  pub len : ℕ
+  pub fits : len ≤ length o.wire
+  pub ended : Bool
+  pub response : Response
+  pub is : IsResponse o.request.method (take len o.wire) ended response
+  pub content : joined o.wire o.parts ≡ response.content
 
--- the code may end the exchange of this request, with what the decoder has
-abbrev pub MayEnd : RequestValue → Decoded → Code → Type 0
-MayEnd request d c =
-    (c ≡ code.Ok → (ended : Bool) × IsVerdict request.method d.wire ended d.verdict × (code_of d.verdict ≡ Some code.Ok))
-    × (c ≢ code.Ok → parts_of d.verdict ≡ [])
+-- the wire is the front of what the link gave
+abbrev pub IsFront : OutcomeValue → Type 0
+IsFront o = given o.answers ≡ o.wire ++ drop (length o.wire) (given o.answers)
+
+-- the codes of a response, of a link and of memory, and that of a deadline
+abbrev pub is_exchange_code : Code → Bool
+is_exchange_code code.Ok = true
+is_exchange_code code.CouldntResolveHost = true
+is_exchange_code code.CouldntConnect = true
+is_exchange_code code.OutOfMemory = true
+is_exchange_code code.OperationTimedout = true
+is_exchange_code code.SendError = true
+is_exchange_code code.RecvError = true
+is_exchange_code _ = false
+
+-- the codes that a transfer ends with: these, and those that the bytes of an exchange come to
+abbrev pub is_outcome_code : Code → Bool
+is_outcome_code c = is_verdict_code c || is_exchange_code c
+
+-- the code may end the exchange of this request over the link that answered so, with what the decoder has
+abbrev pub MayEnd : RequestValue → Bool → List Answer → Decoded → Code → Type 0
+MayEnd request reused answers d c =
+    InOrder reused request.bytes answers × Ends request.method reused answers d.wire d.verdict c

@@ -1,21 +1,25 @@
 -- What contracts see of a transfer and of an outcome.
-use Rattle.std.specs.Prelude.{◌≡◌, ℕ, ◌≤◌, ◌+◌, ◌-◌, ◌^◌, ◌==◌, min, Bool, true, false, List, [], ◌++◌, length, Option, Some, None, if◌then◌else◌}
+use Rattle.std.specs.Prelude.{◌≡◌, ℕ, ◌≤◌, ◌+◌, ◌-◌, ◌^◌, ◌==◌, min, Bool, true, false, List, [], ◌++◌, length, Option, Some, None, IsSome, IfSome, if◌then◌else◌}
 use Rattle.mx_types.specs.declared.code.Code.{Code}
-use Rattle.mx_types.specs.declared.code.Code.TheVariants as code
 use Rattle.mx_request.specs.Request.{RequestValue}
 use Rattle.mx_body.specs.declared.part.Part.{Part}
 use Rattle.futures.specs.declared.task.waker.Waker.{Waker}
 use Rattle.mx_link.specs.Answers.{given}
 use Rattle.mx_link.specs.declared.answers.Answer.{Answer}
-use Rattle.mx_exchange.specs.Order.{InOrder}
+use Rattle.mx_head.specs.Limits.{most_bytes}
+use Rattle.mx_exchange.specs.Order.{InOrder, most_read, asks_of}
+use Rattle.mx_exchange.specs.Endings.{IsUndecided, is_link_code}
 
--- An outcome. The parts are where the data of the body stand in the wire.
+-- An outcome. The parts are where the data of the body stand in the wire; `answers` are what the link answered since it was attached
+-- or probed, in order, and `is_reused` says whether it was in use before.
 pub record OutcomeValue : Type 0 where
   pub request : RequestValue
   pub wire : List ℕ
   pub code : Code
   pub status : ℕ
   pub parts : List Part
+  pub answers : List Answer
+  pub is_reused : Bool
 
 -- A transfer. `answers` are what its link answered since it was attached or probed, in order, and `attached` is the link as it was
 -- then. `received` counts the bytes of the wire. `waker` is where a poll that waits leaves its task's waker, for all that it waits for.
@@ -43,13 +47,6 @@ pub record TransferState (L : Type 0) : Type 0 where
 -- it needs a link, and no code was given in place of one
 abbrev pub WantsLink : {L : Type 0} → TransferState L → Type 0
 WantsLink t = (t.code ≡ None) × (t.link ≡ None) × (t.failure ≡ None)
-
--- the codes of a link that can't be had: the host wasn't found, or not reached, or memory wasn't found
-abbrev pub is_link_code : Code → Bool
-is_link_code code.CouldntResolveHost = true
-is_link_code code.CouldntConnect = true
-is_link_code code.OutOfMemory = true
-is_link_code _ = false
 
 -- a deadline that is not after the moment
 abbrev pub IsDue : Option ℕ → ℕ → Type 0
@@ -80,14 +77,40 @@ dropped t = record t {
   received = 0;
 }
 
--- what a link tells of itself grew by these answers
-abbrev pub LinkTold : {L : Type 0} → (L → List Answer) → Option L → Option L → List Answer → Type 0
-LinkTold history None None more = more ≡ []
-LinkTold history (Some link) (Some next) more = history next ≡ history link ++ more
-LinkTold history _ _ more = ⊥
+-- what a link tells of itself grew by this
+abbrev pub LinkTold : {L A : Type 0} → (L → List A) → Option L → Option L → List A → Type 0
+LinkTold tells None None more = more ≡ []
+LinkTold tells (Some link) (Some next) more = tells next ≡ tells link ++ more
+LinkTold tells _ _ more = ⊥
+
+-- the link that is left, if one is, has the number that it had
+abbrev pub KeepsToken : {L : Type 0} → (L → ℕ) → Option L → Option L → Type 0
+KeepsToken token_of (Some link) (Some next) = token_of next ≡ token_of link
+KeepsToken token_of _ _ = Unit {0}
 
 -- what the link answered since it was attached or probed is what the transfer has of it, in order
 pub record IsServed {L : Type 0} (history : L → List Answer) (t : TransferState L) : Type 0 where
   pub told : LinkTold history t.attached t.link t.answers
   pub order : InOrder t.is_reused t.request.bytes t.answers
   pub received : t.code ≡ None → t.received ≡ length (given t.answers)
+
+-- the most bytes that a link gives: as many as may decide nothing yet, and one read more
+abbrev pub most_received : ℕ
+most_received = most_bytes + most_read
+
+-- What holds of every transfer.
+pub record IsTransfer {L : Type 0} (history : L → List Answer) (asked : L → List ℕ) (token_of : L → ℕ) (t : TransferState L) : Type 0 where
+  pub served : IsServed history t
+  -- how much the link was asked for, at each of its answers
+  pub asked_for : LinkTold asked t.attached t.link (asks_of t.request.bytes t.answers)
+  pub token : KeepsToken token_of t.attached t.link
+  -- as long as it has not ended, what the link gave decides nothing
+  pub undecided : t.code ≡ None → IsUndecided t.request.method t.answers
+  -- a link that needs its probe was in use before, and was asked nothing
+  pub unprobed : t.needs_probe ≡ true → (t.is_reused ≡ true) × (t.answers ≡ [])
+  -- where only a fresh link is wanted, none that was in use before serves
+  pub fresh : t.needs_fresh ≡ true → t.is_reused ≡ false
+  -- a code given in place of a link is one of these, and there is no link
+  pub failed : IfSome t.failure (λ c. is_link_code c ≡ true)
+  pub unlinked : IsSome t.failure → t.link ≡ None
+  pub bounded : t.received ≤ most_received

@@ -3,8 +3,8 @@ use Rattle.std.specs.Prelude.{Bool, true, false, List}
 use Rattle.mx_link.specs.declared.answers.Answer.{Answer}
 use Rattle.mx_exchange.specs.Transfers.{TransferState}
 use Rattle.mx_exchange.specs.Turns.{How, waits, asks, ends, Probed, ProbeFails}
-use Rattle.mx_exchange.specs.declared.transfers.Turn.{Turn}
-use Rattle.mx_exchange.specs.declared.transfers.Turn.TheVariants as turn
+use Rattle.mx_exchange.specs.declared.transfers.turn.Turn.{Turn}
+use Rattle.mx_exchange.specs.declared.transfers.turn.Turn.TheVariants as turn
 
 -- what a turn comes to
 abbrev pub how_of : Turn → How

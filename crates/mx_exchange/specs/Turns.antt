@@ -52,6 +52,7 @@ Probed history t mid = ((t.needs_probe ≡ false) × (mid ≡ t)) ⊎ ProbeBlock
 pub record Answered {L : Type 0} (history : L → List Answer) (t new : TransferState L) : Type 0 where
   pub more : List Answer
   pub noted : new.answers ≡ t.answers ++ more
+  pub asked : more ≢ []
   pub told : LinkTold history t.link new.link more
   pub served : t.link ≢ None
   pub connects : count_by is_connect more ≤ 1
@@ -67,16 +68,21 @@ abbrev pub EndsBlocked : List Answer → Type 0
 EndsBlocked more = (earlier : List Answer) × (last : Answer) × (more ≡ earlier ++ last ∷ []) × (is_blocked last ≡ true)
 
 -- it has ended with the outcome
-abbrev pub EndsWith : {L : Type 0} → TransferState L → TransferState L → OutcomeValue → Type 0
-EndsWith t new o =
-    (o.request ≡ t.request) × HasStatus o.wire o.status
-    × (new ≡ record t { link = new.link; answers = new.answers; code = Some o.code; is_kept = new.is_kept; received = length o.wire })
+pub record EndsWith {L : Type 0} (t new : TransferState L) (o : OutcomeValue) : Type 0 where
+  pub request : o.request ≡ t.request
+  pub status : HasStatus o.wire o.status
+  pub answers : o.answers ≡ new.answers
+  pub reused : o.is_reused ≡ t.is_reused
+  pub after : new ≡ record t { link = new.link; answers = new.answers; code = Some o.code; is_kept = new.is_kept; received = length o.wire }
 
 -- it has ended untouched, with no body and no link to keep
-abbrev pub StopsWith : {L : Type 0} → TransferState L → TransferState L → OutcomeValue → Type 0
-StopsWith t new o =
-    EndsWith t new o × (new.link ≡ t.link) × (new.answers ≡ t.answers) × (new.is_kept ≡ false)
-    × (o.wire ≡ given t.answers) × (o.parts ≡ [])
+pub record StopsWith {L : Type 0} (t new : TransferState L) (o : OutcomeValue) : Type 0 where
+  pub ends : EndsWith t new o
+  pub link : new.link ≡ t.link
+  pub answers : new.answers ≡ t.answers
+  pub unkept : new.is_kept ≡ false
+  pub wire : o.wire ≡ given t.answers
+  pub parts : o.parts ≡ []
 
 -- it has ended over its link
 pub record EndsOver {L : Type 0} (t new : TransferState L) (o : OutcomeValue) : Type 0 where

@@ -2,6 +2,7 @@
 #![tactic(auto)]
 
 pub mod laws;
+mod line;
 mod outcomes;
 mod service;
 mod transfers;

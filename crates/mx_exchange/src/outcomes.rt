@@ -1,21 +1,27 @@
 //! What a transfer ends with.
-ghost use Rattle.std.specs.Prelude.{◌≡◌, ◌≢◌, ◌<◌, ◌↔◌, ℕ, length, slice_range, Some, IsSome, IfSome, IfOk};
+ghost use Rattle.std.specs.Prelude.{◌≡◌, ◌≢◌, ◌<◌, ◌↔◌, ℕ, true, length, slice_range, Some, IsSome, IfSome, IfOk};
 ghost use Rattle.std.specs.List.{slice_get};
 ghost use Rattle.mx_body.specs.declared.part.Part.{Part};
 ghost use Rattle.mx_body.specs.Parts.{AreOrdered, joined};
 ghost use Rattle.mx_body.specs.Decision.{HasStatus};
 ghost use Rattle.mx_exchange.specs.Transfers.{OutcomeValue};
-ghost use Rattle.mx_exchange.specs.Outcomes.{IsOutcome, IsWhole};
+ghost use Rattle.mx_link.specs.Answers.{given};
+ghost use Rattle.mx_exchange.specs.Order.{InOrder};
+ghost use Rattle.mx_exchange.specs.Outcomes.{IsOutcome, IsWhole, HasContent, IsFront, is_outcome_code};
 ghost use Rattle.mx_types.specs.declared.code.Code.TheVariants as code;
 
+use crate::laws;
 use mx_body::Part as BodyPart;
+use mx_link::{Answer, History};
 use mx_request::Request;
 use mx_types::{Code, Ending, OutOfMemory};
 use std::alloc::Global;
 use std::marker::Model;
+use std::snapshot::Snapshot;
 
 /// What a transfer ended with: its request, the bytes of the response, the code, the status, and where the data
-/// of the body stand in the bytes.
+/// of the body stand in the bytes. For contracts alone it has what its link answered since it was attached or probed, too, and whether
+/// that link was in use before.
 #[derive(Drop)]
 pub struct Outcome {
     request: Request,
@@ -23,6 +29,8 @@ pub struct Outcome {
     code: Code,
     status: u16,
     parts: Vec<BodyPart>,
+    answers: Snapshot<History<Answer>>,
+    is_reused: Snapshot<bool>,
 }
 
 impl Model for Outcome {
@@ -39,10 +47,22 @@ impl Model for Outcome {
       code = o.code;
       status = o.status;
       parts = o.parts.items;
+      answers = o.answers.value;
+      is_reused = o.is_reused.value;
     } };
 
-    ghost invariant = { λ o. AreOrdered 0 (length o.wire.items) o.parts.items
-        × IsOutcome (record { request = o.request; wire = o.wire.items; code = o.code; status = o.status; parts = o.parts.items }) };
+    ghost invariant = { λ o. record {
+      ordered : AreOrdered 0 (length o.wire.items) o.parts.items;
+      outcome : IsOutcome (record {
+        request = o.request;
+        wire = o.wire.items;
+        code = o.code;
+        status = o.status;
+        parts = o.parts.items;
+        answers = o.answers.value;
+        is_reused = o.is_reused.value;
+      });
+    } };
 }
 
 impl Outcome {
@@ -52,15 +72,27 @@ impl Outcome {
         code: Code,
         status: u16,
         parts: Vec<BodyPart>,
+        answers: Snapshot<History<Answer>>,
+        is_reused: Snapshot<bool>,
     ) -> Outcome
         requires ordered { AreOrdered 0 (length wire.items) parts.items }
-        requires told { IsOutcome (record { request = request; wire = wire.items; code = code; status = status; parts = parts.items }) }
+        requires outcome { IsOutcome (record {
+          request = request;
+          wire = wire.items;
+          code = code;
+          status = status;
+          parts = parts.items;
+          answers = answers.value;
+          is_reused = is_reused.value;
+        }) }
         ensures { result ≡ record {
           request = request;
           wire = wire.items;
           code = code;
           status = status;
           parts = parts.items;
+          answers = answers.value;
+          is_reused = is_reused.value;
         } }
     {
         Outcome {
@@ -69,28 +101,45 @@ impl Outcome {
             code,
             status,
             parts,
+            answers,
+            is_reused,
         }
     }
 
-    /// The request that was handed to the transfer.
+    /// What holds of every outcome. It does nothing: a call gives its caller's proof the law.
+    pub fn know(&self)
+        ensures { IsOutcome self.now }
+    {
+        let _code = self.code;
+    }
+
+    /// The request that was handed to the transfer. Its link was asked in order.
     pub fn request(&self) -> &Request
-        ensures { result.now ≡ self.now.request }
+        ensures request { result.now ≡ self.now.request }
+        ensures order { InOrder self.now.is_reused result.now.bytes self.now.answers }
     {
         &self.request
     }
 
-    /// The bytes that the link gave.
+    /// The bytes of the response, or of what came of one: the front of what the link gave, and all of it unless the code is
+    /// `OutOfMemory`.
     pub fn wire(&self) -> &[u8]
-        ensures { result.now ≡ self.now.wire }
+        ensures wire { result.now ≡ self.now.wire }
+        ensures front { IsFront self.now }
+        ensures all { self.now.code ≢ code.OutOfMemory → result.now ≡ given self.now.answers }
     {
         self.wire.as_slice()
     }
 
-    /// The code.
+    /// The code. Where it is `Ok`, the wire begins with a whole response, or is one, and its data stand at the parts.
     pub fn code(&self) -> Code
         ensures code { result ≡ self.now.code }
         ensures whole { result ≡ code.Ok → IsWhole self.now }
+        ensures content { result ≡ code.Ok → HasContent self.now }
+        ensures listed { is_outcome_code result ≡ true }
     {
+        laws::ok_has_content();
+        laws::codes_are_listed();
         self.code
     }
 
@@ -107,7 +156,7 @@ impl Outcome {
         ensures count { result ≡ length self.now.parts }
         ensures none { self.now.code ≢ code.Ok → result ≡ 0 }
     {
-        self.parts.len()
+        self.parts.as_slice().len()
     }
 
     /// A part of the body, counted from 0; `None` past the last.

@@ -1,13 +1,14 @@
 //! One request over a link.
-ghost use Rattle.std.specs.Prelude.{◌≡◌, ◌≢◌, ◌-◌, ◌^◌, ℕ, true, false, min, List, [], length, Some, None, IsSome, IfSome, is_some, is_none, IsTrue, ◌↔◌, ◌&&◌, if◌then◌else◌};
-ghost use Rattle.mx_exchange.specs.Transfers.{IsDue, IsServed, WantsLink, is_link_code, first_deadline, clocked, dropped};
-ghost use Rattle.mx_exchange.specs.Endings.{IsUndecided};
+ghost use Rattle.std.specs.Prelude.{◌≡◌, true, false, [], Some, None, IsSome, IfSome, is_some, option_map, ◌↔◌, if◌then◌else◌};
+ghost use Rattle.mx_exchange.specs.Transfers.{IsTransfer, WantsLink};
+ghost use Rattle.mx_exchange.specs.Endings.{is_link_code};
 
-use crate::outcomes::Outcome;
-use crate::service::{Served, Service};
-use futures::Future;
-use futures::task::{Context, Poll, Source, Waker};
-use mx_body::Decoder;
+mod exchange;
+mod turn;
+
+use crate::line::Line;
+use crate::transfers::exchange::Exchange;
+use futures::task::{Source, Waker};
 use mx_link::Link;
 use mx_request::{Endpoint, Request};
 use mx_types::{Code, Work};
@@ -24,13 +25,6 @@ pub struct Want<'a> {
     pub fresh: bool,
 }
 
-// What goes over a link, and what comes back.
-#[derive(Drop)]
-struct Exchange {
-    request: Request,
-    decoder: Decoder,
-}
-
 /// A request and the link that serves it, if one does.
 #[derive(Drop)]
 pub struct Transfer<L: Link> {
@@ -38,7 +32,7 @@ pub struct Transfer<L: Link> {
     about: Snapshot<Request>,
     // None once it has ended.
     work: Option<Exchange>,
-    service: Option<Service<L>>,
+    line: Option<Line<L>>,
     needs_fresh: bool,
     is_started: bool,
     failure: Option<Code>,
@@ -57,20 +51,20 @@ pub struct Transfer<L: Link> {
 }
 
 impl<L: Link> Model for Transfer<L> {
-    ghost use Rattle.std.specs.Prelude.{◌≡◌, true, false, Some, None, IsSome, IfSome, MatchOption, [], ◌++◌, length, option_map, unwrap_or};
-    ghost use Rattle.mx_exchange.specs.Order.{InOrder};
-    ghost use Rattle.mx_exchange.specs.Service.{IsGoing};
-    ghost use Rattle.mx_exchange.specs.Transfers.{TransferState, is_link_code};
+    ghost use Rattle.std.specs.Prelude.{◌≡◌, ◌≤◌, true, false, Some, None, IsSome, IfSome, [], length, option_map, unwrap_or};
+    ghost use Rattle.mx_exchange.specs.Endings.{is_link_code};
+    ghost use Rattle.mx_exchange.specs.Lines.{IsLine, IsGoing, MayHandOut};
+    ghost use Rattle.mx_exchange.specs.Transfers.{TransferState, most_received};
 
     ghost Value = { TransferState L };
 
     ghost view = { λ t. record {
       request = t.about.value;
-      link = option_map (λ s. s.link) t.service;
-      attached = option_map (λ s. s.attached.value) t.service;
-      answers = unwrap_or (option_map (λ s. s.answers) t.service) [];
-      is_reused = unwrap_or (option_map (λ s. s.is_reused) t.service) false;
-      needs_probe = unwrap_or (option_map (λ s. s.needs_probe) t.service) false;
+      link = option_map (λ l. l.link) t.line;
+      attached = option_map (λ l. l.attached) t.line;
+      answers = unwrap_or (option_map (λ l. l.answers) t.line) [];
+      is_reused = unwrap_or (option_map (λ l. l.is_reused) t.line) false;
+      needs_probe = unwrap_or (option_map (λ l. l.needs_probe) t.line) false;
       needs_fresh = t.needs_fresh;
       is_started = t.is_started;
       failure = t.failure;
@@ -88,13 +82,16 @@ impl<L: Link> Model for Transfer<L> {
 
     ghost invariant = { λ t. record {
       alive : (t.code ≡ None → IsSome t.work) × (IsSome t.work → t.code ≡ None);
-      kept : (t.is_kept ≡ true) → t.work ≡ None;
-      failed : IfSome t.failure (λ c. is_link_code c ≡ true);
       about : IfSome t.work (λ w. w.request ≡ t.about.value);
-      told : IfSome t.service (λ s. L.history s.link ≡ L.history s.attached.value ++ s.answers);
-      order : IfSome t.service (λ s. InOrder s.is_reused t.about.value.bytes s.answers);
-      unprobed : IfSome t.service (λ s. (s.needs_probe ≡ true) → s.answers ≡ []);
-      going : IfSome t.work (λ w. MatchOption t.service (IsGoing w.request false false 0 [] w.decoder) (λ s. IsGoing w.request s.is_reused s.stands s.written s.answers w.decoder));
+      going : IfSome t.work (λ w. IsGoing t.about.value.method (unwrap_or (option_map (λ l. l.answers) t.line) []) w.decoder);
+      serves : IfSome t.line (λ l. l.request ≡ t.about.value);
+      fresh : IfSome t.line (λ l. l.is_stale ≡ false);
+      line : IfSome t.line (IsLine L.history L.asked L.token_of);
+      unreused : t.needs_fresh ≡ true → unwrap_or (option_map (λ l. l.is_reused) t.line) false ≡ false;
+      failed : IfSome t.failure (λ c. is_link_code c ≡ true);
+      unlinked : IsSome t.failure → t.line ≡ None;
+      kept : (t.is_kept ≡ true) → (t.work ≡ None) × IfSome t.line MayHandOut;
+      bounded : t.received ≤ most_received;
     } };
 }
 
@@ -127,12 +124,12 @@ impl<L: Link> Transfer<L> {
           waker = None;
         } }
     {
-        let decoder = Decoder::new(alloc, request.method());
+        let about = Snapshot::of(&request);
         Transfer {
             alloc,
-            about: Snapshot::of(&request),
-            work: Some(Exchange { request, decoder }),
-            service: None,
+            about,
+            work: Some(Exchange::new(alloc, request)),
+            line: None,
             needs_fresh: false,
             is_started: false,
             failure: None,
@@ -158,7 +155,7 @@ impl<L: Link> Transfer<L> {
             alloc: _,
             about: _,
             work,
-            service: _,
+            line: _,
             needs_fresh: _,
             is_started: _,
             failure: _,
@@ -174,11 +171,7 @@ impl<L: Link> Transfer<L> {
             waker: _,
         } = self;
         let Some(work) = work else { unreachable!() };
-        let Exchange {
-            request,
-            decoder: _,
-        } = work;
-        request
+        work.into_request()
     }
 
     /// The link that it wants, where it wants one: it has none, has not ended, and no code was given in place of one.
@@ -186,14 +179,14 @@ impl<L: Link> Transfer<L> {
         ensures wants { IsSome result ↔ WantsLink self.now }
         ensures which { IfSome result (λ want. (want.fresh ≡ self.now.needs_fresh) × (want.endpoint.now ≡ self.now.request.endpoint)) }
     {
-        if self.code.is_some() || self.service.is_some() || self.failure.is_some() {
+        if self.code.is_some() || self.line.is_some() || self.failure.is_some() {
             return None;
         }
         let Some(work) = &self.work else {
             unreachable!()
         };
         Some(Want {
-            endpoint: work.request.endpoint(),
+            endpoint: work.request().endpoint(),
             fresh: self.needs_fresh,
         })
     }
@@ -212,7 +205,10 @@ impl<L: Link> Transfer<L> {
           is_started = true;
         } }
     {
-        self.service = Some(Service::new(link, is_reused));
+        let Some(work) = &self.work else {
+            unreachable!()
+        };
+        self.line = Some(Line::new(link, work.request(), is_reused));
         self.is_started = true;
     }
 
@@ -248,15 +244,43 @@ impl<L: Link> Transfer<L> {
         self.deadline
     }
 
-    /// How many bytes of a response its link has given, held at 2^32 - 1.
+    /// How many bytes of a response its link has given: those of the wire. They are at most 67,108,864, which may decide nothing
+    /// yet, and those of one read more, which are at most 16,384.
     pub fn received(&self) -> u32
-        ensures { result ≡ min self.now.received (2 ^ 32 - 1) }
+        ensures { result ≡ self.now.received }
     {
         let received = match &self.work {
-            Some(work) => work.decoder.wire().len(),
+            Some(work) => work.received(),
             None => self.received,
         };
-        received.min(4_294_967_295) as u32
+        received as u32
+    }
+
+    /// The number under which the readiness of its link is told; `None` where it has no link.
+    pub fn token(&self) -> Option<u64>
+        ensures { result ≡ option_map L.token_of self.now.link }
+    {
+        match &self.line {
+            Some(line) => Some(line.token()),
+            None => None,
+        }
+    }
+
+    /// Wakes the task whose poll waits: its link may have become ready, or its deadline may have come. Nothing happens where no
+    /// poll waits.
+    pub fn wake(&mut self)
+        ensures { self.new ≡ record self.old { waker = None } }
+    {
+        if let Some(waker) = self.waker.take() {
+            waker.wake();
+        }
+    }
+
+    /// What holds of every transfer. It does nothing: a call gives its caller's proof the law.
+    pub fn know(&self)
+        ensures { IsTransfer L.history L.asked L.token_of self.now }
+    {
+        let _work = &self.work;
     }
 
     /// Whether it has ended.
@@ -266,7 +290,7 @@ impl<L: Link> Transfer<L> {
         self.code.is_some()
     }
 
-    /// The code that it ended with, for good.
+    /// The code that it ended with.
     pub fn code(&self) -> Option<Code>
         ensures { result ≡ self.now.code }
     {
@@ -284,273 +308,9 @@ impl<L: Link> Transfer<L> {
             return None;
         }
         self.is_kept = false;
-        match self.service.take() {
-            Some(service) => Some(service.link),
+        match self.line.take() {
+            Some(line) => Some(line.into_link()),
             None => None,
         }
-    }
-}
-
-// What a turn comes to.
-#[derive(Drop)]
-enum Turn {
-    Waits,
-    // It asks to be polled again.
-    Asks,
-    Ended(Outcome),
-}
-
-impl<L: Link> Transfer<L> {
-    ghost use Rattle.mx_exchange.specs.Turned.{how_of, ProbeSo};
-    ghost use Rattle.mx_types.specs.declared.code.Code.TheVariants as Codes;
-    ghost use Rattle.mx_exchange.specs.Turns.{StopsWith, Exchanged, Turns};
-    ghost use Rattle.futures.specs.Task.{Hears, IsArmed, Keeps};
-    ghost use Rattle.futures.specs.Slot.{IsLeftIn};
-    ghost use Rattle.futures.specs.declared.task.Poll.TheVariants as Poll;
-
-    // What is true of every transfer.
-    fn know(&self)
-        ensures served { IsServed L.history self.now }
-        ensures undecided { self.now.code ≡ None → IsUndecided self.now.request.method self.now.answers }
-        ensures failed { IfSome self.now.failure (λ c. is_link_code c ≡ true) }
-    {
-        let _work = &self.work;
-    }
-
-    // The first poll sets the deadline.
-    fn start_clock(&mut self)
-        requires { self.old.code ≡ None }
-        ensures { self.new ≡ clocked self.old }
-    {
-        if self.is_polled {
-            return;
-        }
-        self.is_polled = true;
-        let Some(work) = &self.work else {
-            unreachable!()
-        };
-        let timeout_ms = work.request.timeout_ms();
-        self.deadline = if timeout_ms == 0 {
-            None
-        } else {
-            Some(self.moment.saturating_add(u64::from(timeout_ms)))
-        };
-    }
-
-    fn is_due(&self) -> bool
-        ensures { IsTrue result ↔ IsDue self.now.deadline self.now.moment }
-    {
-        match self.deadline {
-            Some(deadline) => deadline <= self.moment,
-            None => false,
-        }
-    }
-
-    // Ends without a look at the link.
-    fn stop(&mut self, code: Code) -> Outcome
-        requires alive { self.old.code ≡ None }
-        requires failed { code ≢ Codes.Ok }
-        ensures code { result.code ≡ code }
-        ensures stopped { StopsWith self.old self.new result }
-    {
-        let Some(work) = self.work.take() else {
-            unreachable!()
-        };
-        self.code = Some(code);
-        self.is_kept = false;
-        self.received = work.decoder.wire().len();
-        work.end(code)
-    }
-
-    // Asks a reused link for a byte first, and drops it where it doesn't answer that it would wait. False where
-    // it was dropped.
-    fn probe(&mut self) -> bool
-        requires { self.old.code ≡ None }
-        ensures { ProbeSo result L.history self.old self.new }
-    {
-        let Some(mut service) = self.service.take() else {
-            return true;
-        };
-        if !service.needs_probe {
-            self.service = Some(service);
-            return true;
-        }
-        if service.probe() {
-            self.service = Some(service);
-            return true;
-        }
-        service.discard();
-        self.needs_fresh = true;
-        false
-    }
-
-    // One turn over the link, if there is one.
-    fn exchange(&mut self) -> Turn
-        requires alive { self.old.code ≡ None }
-        requires probed { self.old.needs_probe ≡ false }
-        ensures { Exchanged L.history self.old self.new (how_of result) }
-    {
-        let Some(mut work) = self.work.take() else {
-            unreachable!()
-        };
-        let Some(mut service) = self.service.take() else {
-            self.work = Some(work);
-            return Turn::Waits;
-        };
-        match service.serve(&work.request, &mut work.decoder) {
-            Served::Blocked => {
-                self.service = Some(service);
-                self.work = Some(work);
-                Turn::Waits
-            }
-            Served::Unfinished => {
-                self.service = Some(service);
-                self.work = Some(work);
-                Turn::Asks
-            }
-            Served::Lost => {
-                service.discard();
-                self.work = Some(work.again(self.alloc));
-                self.needs_fresh = true;
-                Turn::Waits
-            }
-            Served::Over(code) => {
-                self.service = Some(service);
-                self.code = Some(code);
-                self.is_kept = work.may_keep();
-                self.received = work.decoder.wire().len();
-                Turn::Ended(work.end(code))
-            }
-        }
-    }
-
-    // One turn: the deadline, the code given in place of a link, the pause, the probe, and then the link.
-    fn advance(&mut self) -> Turn
-        requires { self.old.code ≡ None }
-        ensures { Turns L.history (clocked self.old) self.new (how_of result) }
-    {
-        self.start_clock();
-        if self.is_due() {
-            return Turn::Ended(self.stop(Code::OperationTimedout));
-        }
-        if let Some(code) = self.failure {
-            return Turn::Ended(self.stop(code));
-        }
-        if self.is_paused {
-            return Turn::Asks;
-        }
-        if !self.probe() {
-            return Turn::Waits;
-        }
-        self.exchange()
-    }
-
-    // Registers with the deadline, where it has one.
-    fn hear_deadline(&mut self, cx: &mut Context<'_>)
-        ensures same { self.new ≡ record self.old { waker = self.new.waker } }
-        ensures time { IsSome self.new.deadline → Hears cx.new self.new.time_source }
-        ensures kept { Keeps cx.old cx.new }
-    {
-        if self.deadline.is_some() {
-            let _waiting: Poll<()> = cx.register(&self.time_source, &mut self.waker);
-        }
-    }
-
-    // Registers with what the transfer waits for: its deadline, and its link. One waker is left, for both.
-    fn wait(&mut self, cx: &mut Context<'_>) -> Poll<Outcome>
-        ensures pending { result ≡ Poll.Pending }
-        ensures same { self.new ≡ record self.old { waker = self.new.waker } }
-        ensures armed { IsArmed cx.new }
-        ensures link { Hears cx.new self.new.link_source }
-        ensures time { IsSome self.new.deadline → Hears cx.new self.new.time_source }
-        ensures kept { Keeps cx.old cx.new }
-        ensures left { IsLeftIn cx.old cx.new self.new.waker }
-    {
-        self.hear_deadline(cx);
-        cx.register(&self.link_source, &mut self.waker)
-    }
-}
-
-impl<L: Link> Future for Transfer<L> {
-    type Output = Outcome;
-
-    ghost use Rattle.std.specs.Prelude.{◌≡◌, ◌⊎◌, ℕ, None, Some, IsSome, length};
-    ghost use Rattle.futures.specs.Task.{Covers, Keeps};
-    ghost use Rattle.futures.specs.Poll.{IfReady, OnPending};
-    ghost use Rattle.mx_types.specs.declared.code.Code.TheVariants as Code;
-    ghost use Rattle.mx_exchange.specs.Turns.{PollSo};
-
-    ghost can_poll = { λ t. t.code ≡ None };
-
-    ghost needs = { λ t s. (s ≡ t.link_source) ⊎ (IsSome t.deadline × (s ≡ t.time_source)) };
-
-    ghost gives = { λ t outcome. outcome.request ≡ t.request };
-
-    /// Takes one turn.
-    fn poll(&mut self, cx: &mut Context<'_>) -> Poll<Outcome>
-        requires { self.old.code ≡ None }
-        ensures value { IfReady result (λ outcome. outcome.request ≡ self.old.request) }
-        ensures again { OnPending result (self.new.code ≡ None) }
-        ensures same { OnPending result (self.new.request ≡ self.old.request) }
-        ensures registered { OnPending result (Covers cx.new (λ s. (s ≡ self.new.link_source) ⊎ (IsSome self.new.deadline × (s ≡ self.new.time_source)))) }
-        ensures kept { Keeps cx.old cx.new }
-        ensures turn { PollSo L.history self.old self.new result cx.old cx.new }
-        // 28 comes where the deadline is due, and only there
-        ensures late { IfReady result (λ outcome. (outcome.code ≡ Code.OperationTimedout) ↔ IsDue (clocked self.old).deadline self.old.moment) }
-        ensures ended { IfReady result (λ outcome. (self.new.code ≡ Some outcome.code) × (self.new.received ≡ length outcome.wire)) }
-        ensures served { IsServed L.history self.new }
-        ensures undecided { OnPending result (IsUndecided self.new.request.method self.new.answers) }
-    {
-        self.know();
-        let turn = self.advance();
-        self.know();
-        match turn {
-            Turn::Ended(outcome) => Poll::Ready(outcome),
-            Turn::Asks => cx.yield_now(),
-            Turn::Waits => self.wait(cx),
-        }
-    }
-}
-
-impl Exchange {
-    ghost use Rattle.mx_body.specs.Decision.{HasStatus};
-    ghost use Rattle.mx_body.specs.Decoder.{IsExact, parts_of};
-    ghost use Rattle.mx_body.specs.declared.verdict.Verdict.TheVariants as verdict;
-    ghost use Rattle.mx_exchange.specs.Endings as spec;
-    ghost use Rattle.mx_exchange.specs.Outcomes.{MayEnd};
-
-    // The same request from the start.
-    fn again(self, alloc: Global) -> Exchange
-        ensures request { result.request ≡ self.request }
-        ensures decoder { result.decoder ≡ record { method = self.request.method; wire = []; ended = false; verdict = verdict.More } }
-        ensures exact { IsExact result.decoder }
-    {
-        let Exchange {
-            request,
-            decoder: _,
-        } = self;
-        let decoder = Decoder::new(alloc, request.method());
-        Exchange { request, decoder }
-    }
-
-    // Whether the link may serve again.
-    fn may_keep(&self) -> bool
-        ensures { result ≡ spec.may_keep self.now.decoder.verdict self.now.decoder.wire }
-    {
-        self.decoder.keep() && self.decoder.len() == self.decoder.wire().len()
-    }
-
-    fn end(self, code: Code) -> Outcome
-        requires { MayEnd self.request self.decoder code }
-        ensures request { result.request ≡ self.request }
-        ensures wire { result.wire ≡ self.decoder.wire }
-        ensures code { result.code ≡ code }
-        ensures status { HasStatus result.wire result.status }
-        ensures parts { result.parts ≡ parts_of self.decoder.verdict }
-    {
-        let Exchange { request, decoder } = self;
-        let status = decoder.status();
-        let (wire, parts) = decoder.into_parts();
-        Outcome::new(request, wire, code, status, parts)
     }
 }

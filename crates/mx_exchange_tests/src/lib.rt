@@ -1,6 +1,9 @@
-//! Tests of transfers, polled by hand over scripted links. There is nothing else in this crate.
+//! Tests of transfers, polled by hand over scripted links, and callers with contracts of their own.
 #![tactic(auto)]
 
+pub mod callers;
+#[cfg(test)]
+mod connecting;
 #[cfg(test)]
 mod replay;
 #[cfg(test)]

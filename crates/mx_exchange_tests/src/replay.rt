@@ -18,8 +18,8 @@ use std::test::Fail;
 pub(crate) enum Call<'a> {
     /// Hands over a link that was never in use, and that answers so.
     Fresh(&'a [ScriptRead<'a>], &'a [Write]),
-    /// Hands over a link that was in use before.
-    Reused(&'a [ScriptRead<'a>]),
+    /// Hands over a link that was in use before, and that answers so.
+    Reused(&'a [ScriptRead<'a>], &'a [Write]),
     /// Says that no link can be had, as the lookup of the host failed.
     NoLink,
     /// Sets the moment, and whether the transfer is paused.
@@ -212,8 +212,8 @@ fn make(
             let link = ScriptLink::new(alloc, reads, writes)?;
             Ok(attach(transfer, link, false))
         }
-        Call::Reused(reads) => {
-            let link = ScriptLink::new(alloc, reads, &[])?;
+        Call::Reused(reads, writes) => {
+            let link = ScriptLink::new(alloc, reads, writes)?;
             Ok(attach(transfer, link, true))
         }
         Call::NoLink => Ok(give_up(transfer)),

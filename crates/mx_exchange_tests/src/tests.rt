@@ -158,7 +158,7 @@ fn a_byte_at_a_time(rt: HostRuntime) -> Result<(), Fail> {
 
 #[test]
 fn a_get_is_sent_again_over_a_fresh_link(rt: HostRuntime) -> Result<(), Fail> {
-    let lost = Call::Reused(&[ScriptRead::WouldBlock, ScriptRead::End]);
+    let lost = Call::Reused(&[ScriptRead::WouldBlock, ScriptRead::End], &[]);
     let fresh = Call::Fresh(&[ScriptRead::Bytes(COUNTED)], &[]);
     let calls = [lost, Call::Poll, fresh, Call::Poll];
     sees(&rt, Method::Get, &calls, &[LOST], hello(COUNTED, 1))
@@ -166,7 +166,7 @@ fn a_get_is_sent_again_over_a_fresh_link(rt: HostRuntime) -> Result<(), Fail> {
 
 #[test]
 fn a_get_is_sent_again_once(rt: HostRuntime) -> Result<(), Fail> {
-    let lost = Call::Reused(&[ScriptRead::WouldBlock, ScriptRead::End]);
+    let lost = Call::Reused(&[ScriptRead::WouldBlock, ScriptRead::End], &[]);
     let fresh = Call::Fresh(&[ScriptRead::End], &[]);
     let calls = [lost, Call::Poll, fresh, Call::Poll];
     let ended = failed(Code::GotNothing, 0, b"");
@@ -175,14 +175,14 @@ fn a_get_is_sent_again_once(rt: HostRuntime) -> Result<(), Fail> {
 
 #[test]
 fn a_post_is_not_sent_again(rt: HostRuntime) -> Result<(), Fail> {
-    let lost = Call::Reused(&[ScriptRead::WouldBlock, ScriptRead::End]);
+    let lost = Call::Reused(&[ScriptRead::WouldBlock, ScriptRead::End], &[]);
     let ended = failed(Code::GotNothing, 0, b"");
     sees(&rt, Method::Post, &[lost, Call::Poll], &[], ended)
 }
 
 #[test]
 fn what_a_probe_reads_is_in_no_wire(rt: HostRuntime) -> Result<(), Fail> {
-    let stale = Call::Reused(&[ScriptRead::Bytes(CHUNKED)]);
+    let stale = Call::Reused(&[ScriptRead::Bytes(CHUNKED)], &[]);
     let fresh = Call::Fresh(&[ScriptRead::Bytes(COUNTED)], &[]);
     let calls = [stale, Call::Poll, fresh, Call::Poll];
     sees(&rt, Method::Get, &calls, &[LOST], hello(COUNTED, 1))?;
@@ -237,4 +237,104 @@ fn a_deadline_is_held_at_the_greatest_moment(rt: HostRuntime) -> Result<(), Fail
 fn no_timeout_is_no_deadline(rt: HostRuntime) -> Result<(), Fail> {
     let calls = [Call::Prepare(LAST, false), Call::Poll];
     sees_timed(&rt, 0, &calls, &[unserved(false, None)], None)
+}
+
+/// The body that the test of a whole response is to see: where it stands, how the link is kept.
+fn answers_hello<R: Abort + RandomSource + AllocGlobal>(
+    rt: &R,
+    wire: &[u8],
+    links: u32,
+) -> Result<(), Fail> {
+    let link = Call::Fresh(&[ScriptRead::Bytes(wire)], &[]);
+    sees(
+        rt,
+        Method::Get,
+        &[link, Call::Poll],
+        &[],
+        hello(wire, links),
+    )
+}
+
+#[test]
+fn interim_heads_are_passed_over(rt: HostRuntime) -> Result<(), Fail> {
+    let wire =
+        b"HTTP/1.1 100 Continue\r\n\r\nHTTP/1.1 103 Early Hints\r\nA: b\r\n\r\nHTTP/1.1 200 OK\r\nContent-Length: 5\r\n\r\nhello";
+    answers_hello(&rt, wire, 1)
+}
+
+#[test]
+fn a_link_is_kept_as_the_response_says(rt: HostRuntime) -> Result<(), Fail> {
+    // RFC 9112, section 9.3
+    let closes = b"HTTP/1.1 200 OK\r\nConnection: close\r\nContent-Length: 5\r\n\r\nhello";
+    answers_hello(&rt, closes, 0)?;
+    let old = b"HTTP/1.0 200 OK\r\nContent-Length: 5\r\n\r\nhello";
+    answers_hello(&rt, old, 0)?;
+    let stays = b"HTTP/1.0 200 OK\r\nConnection: keep-alive\r\nContent-Length: 5\r\n\r\nhello";
+    answers_hello(&rt, stays, 1)
+}
+
+#[test]
+fn the_end_of_the_link_ends_a_body(rt: HostRuntime) -> Result<(), Fail> {
+    let wire = b"HTTP/1.1 200 OK\r\n\r\nhello";
+    let link = Call::Fresh(&[ScriptRead::Bytes(wire), ScriptRead::End], &[]);
+    sees(&rt, Method::Get, &[link, Call::Poll], &[], hello(wire, 0))
+}
+
+#[test]
+fn a_head_has_no_body(rt: HostRuntime) -> Result<(), Fail> {
+    let link = Call::Fresh(&[ScriptRead::Bytes(HEAD)], &[]);
+    let ended = Ended {
+        links: 1,
+        ..failed(Code::Ok, 200, HEAD)
+    };
+    sees(&rt, Method::Head, &[link, Call::Poll], &[], ended)
+}
+
+#[test]
+fn a_poll_writes_64_times_at_most(rt: HostRuntime) -> Result<(), Fail> {
+    let writes = [Write::Bytes(1); 64];
+    let link = Call::Fresh(&[ScriptRead::Bytes(COUNTED)], &writes);
+    let waiting = Waiting {
+        asks: true,
+        ..SERVED
+    };
+    let calls = [link, Call::Poll, Call::Poll];
+    sees(&rt, Method::Get, &calls, &[waiting], hello(COUNTED, 1))
+}
+
+/// A reused link whose first write fails.
+const UNWRITTEN: Call<'static> = Call::Reused(&[ScriptRead::WouldBlock], &[Write::Fault]);
+
+#[test]
+fn a_failed_write_is_tried_again(rt: HostRuntime) -> Result<(), Fail> {
+    let fresh = Call::Fresh(&[ScriptRead::Bytes(COUNTED)], &[]);
+    let calls = [UNWRITTEN, Call::Poll, fresh, Call::Poll];
+    sees(&rt, Method::Get, &calls, &[LOST], hello(COUNTED, 1))
+}
+
+#[test]
+fn other_methods_are_not_tried_again(rt: HostRuntime) -> Result<(), Fail> {
+    // not even those that are idempotent (RFC 9110, section 9.2.2): only GET and HEAD
+    for method in [Method::Post, Method::Put, Method::Delete, Method::Options] {
+        let ended = failed(Code::SendError, 0, b"");
+        sees(&rt, method, &[UNWRITTEN, Call::Poll], &[], ended)?;
+    }
+    Ok(())
+}
+
+/// What is seen of a transfer whose reused link answers its probe so, and that gets a fresh one then.
+fn is_dropped_at_its_probe<R: Abort + RandomSource + AllocGlobal>(
+    rt: &R,
+    probe: ScriptRead<'_>,
+) -> Result<(), Fail> {
+    let stale = Call::Reused(&[probe], &[]);
+    let fresh = Call::Fresh(&[ScriptRead::Bytes(COUNTED)], &[]);
+    let calls = [stale, Call::Poll, fresh, Call::Poll];
+    sees(rt, Method::Post, &calls, &[LOST], hello(COUNTED, 1))
+}
+
+#[test]
+fn a_link_that_has_ended_or_failed_serves_nothing(rt: HostRuntime) -> Result<(), Fail> {
+    is_dropped_at_its_probe(&rt, ScriptRead::End)?;
+    is_dropped_at_its_probe(&rt, ScriptRead::Fault)
 }

@@ -11,5 +11,5 @@ loop-part-preserved c =
     let next : c.loop-part.part-index + 1 ≡ suc c.loop-part.part-index = omega arith in
     let was = rw (← c.self.view_is) at c.loop-part.invariant in
     let none : Part = record { start = 0; end = 0 } in
-    let step = joined_next inside.wire.items 0 (length inside.wire.items) inside.parts.items c.loop-part.part-index none c.self.invariant.0 (omega arith) less in
+    let step = joined_next inside.wire.items 0 (length inside.wire.items) inside.parts.items c.loop-part.part-index none c.self.invariant.ordered (omega arith) less in
     rw (← c.self.view_is, c.deref-part-items.ensures.value, next) (ap (λ (n : ℕ). n + ((get_or inside.parts.items c.loop-part.part-index none).end - (get_or inside.parts.items c.loop-part.part-index none).start)) was ∙ sym step)

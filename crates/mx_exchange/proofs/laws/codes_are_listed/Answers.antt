@@ -1,0 +1,5 @@
+use Rattle.mx_exchange.proofs.OutcomeLemmas.{outcome_listed}
+use Rattle.mx_exchange.proofs.laws.codes_are_listed.Goals as goal
+
+pub returns : goal.returns
+returns c = outcome_listed

@@ -1,0 +1,9 @@
+use Rattle.std.proofs.Common.{◌∙◌}
+use Rattle.mx_exchange.proofs.OutcomeLemmas.{front_of_outcome, all_of_outcome}
+use Rattle.mx_exchange.proofs.outcomes.Outcome.wire.Goals as goal
+
+pub returns-clause-front : goal.returns-clause-front
+returns-clause-front c = rw (← c.self.view_is) (front_of_outcome _ c.self.invariant.outcome)
+
+pub returns-clause-all : goal.returns-clause-all
+returns-clause-all c = rw (← c.self.view_is) (λ other. c.as_slice.ensures.value ∙ all_of_outcome _ c.self.invariant.outcome other)

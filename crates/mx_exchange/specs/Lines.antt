@@ -1,0 +1,141 @@
+-- What the functions that ask a link promise one another.
+use Rattle.std.specs.Prelude.{◌≡◌, ◌≢◌, ℕ, ◌≤◌, Bool, true, false, List, [], ◌∷◌, ◌++◌, length, drop, ◌⊎◌, count_by}
+use Rattle.std.specs.List.{list_any}
+use Rattle.mx_types.specs.declared.code.Code.{Code}
+use Rattle.mx_types.specs.declared.code.Code.TheVariants as code
+use Rattle.mx_types.specs.declared.method.Method.{Method}
+use Rattle.mx_request.specs.Request.{RequestValue}
+use Rattle.mx_body.specs.Decoder.{Decoded}
+use Rattle.mx_body.specs.declared.verdict.Verdict.{Verdict}
+use Rattle.mx_body.specs.declared.verdict.Verdict.TheVariants as verdict
+use Rattle.mx_link.specs.Answers.{given, taken, is_read, is_write, is_blocked}
+use Rattle.mx_link.specs.declared.answers.Answer.{Answer}
+use Rattle.mx_link.specs.declared.answers.Answer.TheVariants as said
+use Rattle.mx_link.specs.declared.answers.Write.{Write}
+use Rattle.mx_link.specs.declared.answers.Write.TheVariants as write
+use Rattle.mx_exchange.specs.Order.{InOrder, stands, is_connect, is_last, asks_of}
+use Rattle.mx_exchange.specs.Endings.{IsUndecided, EndsBy, MustRetry}
+use Rattle.mx_exchange.specs.declared.service.Step.{Step}
+use Rattle.mx_exchange.specs.declared.service.Step.TheVariants as step
+use Rattle.mx_exchange.specs.declared.service.Served.{Served}
+use Rattle.mx_exchange.specs.declared.service.Served.TheVariants as served
+
+-- A link while it serves a request, as it was attached or probed; its answers since then; whether it was in use before, and is
+-- still to be probed; whether its probe found something; whether its connection stands, and how many bytes it has taken.
+pub record LineState (L : Type 0) : Type 0 where
+  pub request : RequestValue
+  pub link : L
+  pub attached : L
+  pub answers : List Answer
+  pub is_reused : Bool
+  pub needs_probe : Bool
+  pub is_stale : Bool
+  pub stands : Bool
+  pub written : ℕ
+
+-- what is known of a link that isn't stale
+pub record IsServing {L : Type 0} (asked : L → List ℕ) (l : LineState L) : Type 0 where
+  pub order : InOrder l.is_reused l.request.bytes l.answers
+  pub asked_for : asked l.link ≡ asked l.attached ++ asks_of l.request.bytes l.answers
+  pub stood : l.stands ≡ stands l.is_reused l.answers
+  pub sent : l.request.bytes ≡ taken l.answers ++ drop l.written l.request.bytes
+  pub fits : l.written ≤ length l.request.bytes
+
+-- what is known of every link that serves
+pub record IsLine {L : Type 0} (history : L → List Answer) (asked : L → List ℕ) (token_of : L → ℕ) (l : LineState L) : Type 0 where
+  pub told : history l.link ≡ history l.attached ++ l.answers
+  pub token : token_of l.link ≡ token_of l.attached
+  pub unprobed : l.needs_probe ≡ true → (l.is_reused ≡ true) × (l.answers ≡ [])
+  pub serving : l.is_stale ≡ false → IsServing asked l
+
+-- it may be asked on
+pub record IsOpen {L : Type 0} (l : LineState L) : Type 0 where
+  pub probed : l.needs_probe ≡ false
+  pub fresh : l.is_stale ≡ false
+  pub lasts : list_any is_last l.answers ≡ false
+
+-- a link that was asked for a byte has answered so
+pub record ProbedBy {L : Type 0} (history : L → List Answer) (asked : L → List ℕ) (old new : LineState L) (answer : Answer) : Type 0 where
+  pub told : history new.link ≡ history old.link ++ answer ∷ []
+  pub asked_for : asked new.link ≡ asked old.link ++ 1 ∷ []
+  pub read : is_read answer ≡ true
+
+-- one that had nothing serves from there on; any other is stale
+abbrev pub IsProbed : {L : Type 0} → (L → List Answer) → (L → List ℕ) → LineState L → LineState L → Bool → Type 0
+IsProbed history asked old new true =
+    ProbedBy history asked old new said.ReadBlocked
+    × (new ≡ record old { link = new.link; attached = new.link; needs_probe = false })
+IsProbed history asked old new false =
+    (answer : Answer) × ProbedBy history asked old new answer × (answer ≢ said.ReadBlocked)
+    × (new ≡ record old { link = new.link; answers = answer ∷ []; needs_probe = false; is_stale = true })
+
+-- what is known of a decoder as long as nothing is decided: it has what the link gave
+pub record IsGoing (kind : Method) (answers : List Answer) (d : Decoded) : Type 0 where
+  pub method : d.method ≡ kind
+  pub wire : d.wire ≡ given answers
+  pub unended : d.ended ≡ false
+  pub more : d.verdict ≡ verdict.More
+  pub undecided : IsUndecided kind answers
+
+-- how it ended
+pub record IsOver (kind : Method) (reused : Bool) (answers : List Answer) (d : Decoded) (c : Code) : Type 0 where
+  pub cause : EndsBy kind answers d.wire d.verdict c
+  pub final : ¬ (MustRetry kind reused answers)
+
+-- the link may be handed out: what it gave has a whole response
+abbrev pub MayHandOut : {L : Type 0} → LineState L → Type 0
+MayHandOut l = (wire : List ℕ) × (v : Verdict) × EndsBy l.request.method l.answers wire v code.Ok
+
+-- only the link has changed, by these further answers
+abbrev pub Grows : {L : Type 0} → LineState L → LineState L → List Answer → Type 0
+Grows old new more =
+    new ≡ record old { link = new.link; answers = old.answers ++ more; stands = new.stands; written = new.written }
+
+-- what one answer comes to
+abbrev pub StepSo : Step → Method → Bool → Bool → List Answer → Decoded → Answer → Type 0
+StepSo step.Connected kind reused stood answers d answer =
+    IsGoing kind answers d × (is_connect answer ≡ true) × (stood ≡ true)
+StepSo step.Wrote kind reused stood answers d answer = IsGoing kind answers d × (is_write answer ≡ true)
+StepSo step.Heard kind reused stood answers d answer = IsGoing kind answers d × (is_read answer ≡ true)
+StepSo step.Blocked kind reused stood answers d answer = IsGoing kind answers d × (is_blocked answer ≡ true)
+StepSo step.Lost kind reused stood answers d answer = MustRetry kind reused answers
+StepSo (step.Over c) kind reused stood answers d answer = IsOver kind reused answers d c
+
+-- one call on the link
+pub record StepTurn {L : Type 0} (old new : LineState L) (how : Step) (d : Decoded) : Type 0 where
+  pub answer : Answer
+  pub grows : Grows old new (answer ∷ [])
+  pub unmade : is_connect answer ≡ true → old.stands ≡ false
+  pub kept : old.stands ≡ true → new.stands ≡ true
+  pub so : StepSo how old.request.method old.is_reused new.stands new.answers d answer
+
+-- how a turn ends
+abbrev pub ServeSo : Served → Method → Bool → List Answer → Decoded → List Answer → Type 0
+ServeSo served.Blocked kind reused answers d more =
+    IsGoing kind answers d
+    × ((earlier : List Answer) × (last : Answer) × (more ≡ earlier ++ last ∷ []) × (is_blocked last ≡ true))
+ServeSo served.Unfinished kind reused answers d more =
+    IsGoing kind answers d × ((count_by is_read more ≡ 64) ⊎ (count_by is_write more ≡ 64))
+ServeSo served.Lost kind reused answers d more = MustRetry kind reused answers
+ServeSo (served.Over c) kind reused answers d more = IsOver kind reused answers d c
+
+-- so many calls were made
+pub record Calls (more : List Answer) (connects reads writes : ℕ) : Type 0 where
+  pub connects_are : count_by is_connect more ≡ connects
+  pub reads_are : count_by is_read more ≡ reads
+  pub writes_are : count_by is_write more ≡ writes
+
+-- the calls of one turn on the link
+pub record ServeTurn {L : Type 0} (old new : LineState L) (how : Served) (d : Decoded) : Type 0 where
+  pub more : List Answer
+  pub grows : Grows old new more
+  pub asked : more ≢ []
+  pub connects : count_by is_connect more ≤ 1
+  pub reads : count_by is_read more ≤ 64
+  pub writes : count_by is_write more ≤ 64
+  pub so : ServeSo how old.request.method old.is_reused new.answers d more
+
+-- how many bytes a write took
+abbrev pub taken_count : Write → ℕ
+taken_count (write.Bytes n) = n
+taken_count _ = 0

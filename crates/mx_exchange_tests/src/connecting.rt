@@ -1,0 +1,136 @@
+//! A transfer whose connection takes some polls, over a stream that is made up.
+
+use futures::task::Poll;
+use futures::test::MockTask;
+use mx_exchange::Transfer;
+use mx_link::{Called, History, Stream, StreamLink};
+use mx_request::Request;
+use mx_types::{Code, Method, Settings};
+use std::alloc::Global;
+use std::io::ErrorKind;
+use std::test::Fail;
+
+/// 43 bytes, of which the last five are the body.
+const COUNTED: &[u8] = b"HTTP/1.1 200 OK\r\nContent-Length: 5\r\n\r\nhello";
+
+/// A stream that has no peer for some questions, and then one, or an error. It takes what is written, and answers with `COUNTED`.
+#[derive(Drop)]
+struct SlowStream {
+    waits: u32,
+    is_refused: bool,
+    given: usize,
+    results: History<Called>,
+}
+
+impl Stream for SlowStream {
+    ghost results = { λ stream. stream.results };
+
+    fn take_error(&mut self) -> Result<Option<ErrorKind>, ErrorKind> {
+        let result = if self.waits == 0 && self.is_refused {
+            Ok(Some(ErrorKind::ConnectionRefused))
+        } else {
+            Ok(None)
+        };
+        self.results.note(Called::Error(result));
+        result
+    }
+
+    fn find_peer(&mut self) -> Result<(), ErrorKind> {
+        let result = if self.waits == 0 {
+            Ok(())
+        } else {
+            Err(ErrorKind::NotConnected)
+        };
+        self.waits = self.waits.saturating_sub(1);
+        self.results.note(Called::Peer(result));
+        result
+    }
+
+    fn read(&mut self, buffer: &mut [u8]) -> Result<usize, ErrorKind> {
+        let left = &COUNTED[self.given.min(COUNTED.len())..];
+        let n = left.len().min(buffer.len());
+        buffer[..n].copy_from_slice(&left[..n]);
+        self.given = self.given.saturating_add(n);
+        let result = Ok(n);
+        self.results.note(Called::Read(result));
+        result
+    }
+
+    fn write(&mut self, bytes: &[u8]) -> Result<usize, ErrorKind> {
+        let result = Ok(bytes.len());
+        self.results.note(Called::Write(result));
+        result
+    }
+}
+
+type SlowLink = StreamLink<SlowStream>;
+
+fn link(waits: u32, is_refused: bool) -> SlowLink {
+    let stream = SlowStream {
+        waits,
+        is_refused,
+        given: 0,
+        results: History::new(),
+    };
+    StreamLink::over(stream, 9)
+}
+
+/// Hands over the link; false where none is wanted.
+fn attach(transfer: &mut Transfer<SlowLink>, link: SlowLink) -> bool {
+    let fits = transfer.wants().is_some();
+    if fits {
+        transfer.attach(link, false);
+    }
+    fits
+}
+
+/// The code, or nothing where it is pending or has ended before.
+fn poll(task: &MockTask, transfer: &mut Transfer<SlowLink>) -> Option<Code> {
+    if transfer.spent() {
+        return None;
+    }
+    match task.poll(transfer) {
+        Poll::Ready(outcome) => Some(outcome.code()),
+        Poll::Pending => None,
+    }
+}
+
+fn transfer(alloc: Global, waits: u32, is_refused: bool) -> Result<Transfer<SlowLink>, Fail> {
+    let request = Request::build(
+        alloc,
+        Method::Get,
+        "http://127.0.0.1/",
+        Settings::new(alloc),
+    )?;
+    let mut transfer = Transfer::new(alloc, request);
+    if !attach(&mut transfer, link(waits, is_refused)) {
+        return Err(Fail::from("a new transfer wants a link"));
+    }
+    Ok(transfer)
+}
+
+#[test]
+fn a_connection_takes_its_polls(rt: HostRuntime) -> Result<(), Fail> {
+    let task = MockTask::new(&rt)?;
+    let mut transfer = transfer(rt.alloc(), 2, false)?;
+    assert_eq!(rt; transfer.token(), Some(9));
+    assert_eq!(rt; poll(&task, &mut transfer), None);
+    assert!(rt; !task.is_woken());
+    // who hears of the link wakes the task
+    transfer.wake();
+    assert!(rt; task.is_woken());
+    assert_eq!(rt; poll(&task, &mut transfer), None);
+    assert_eq!(rt; poll(&task, &mut transfer), Some(Code::Ok));
+    assert_eq!(rt; transfer.received(), 43);
+    Ok(())
+}
+
+#[test]
+fn a_connection_that_fails_is_code_7(rt: HostRuntime) -> Result<(), Fail> {
+    let task = MockTask::new(&rt)?;
+    let mut transfer = transfer(rt.alloc(), 1, true)?;
+    assert_eq!(rt; poll(&task, &mut transfer), None);
+    assert_eq!(rt; poll(&task, &mut transfer), Some(Code::CouldntConnect));
+    assert_eq!(rt; transfer.code(), Some(Code::CouldntConnect));
+    Ok(())
+}
