@@ -115,7 +115,12 @@ impl Ending {
 fn build(alloc: Global, method: Method, timeout_ms: u32) -> Result<Request, Fail> {
     let mut settings = Settings::new(alloc);
     settings.timeout_ms = timeout_ms;
-    Ok(Request::build(alloc, method, "http://127.0.0.1:8080/a?b", settings)?)
+    Ok(Request::build(
+        alloc,
+        method,
+        "http://127.0.0.1:8080/a/longer/path?b",
+        settings,
+    )?)
 }
 
 fn wants_of(transfer: &Transfer<ScriptLink>) -> Wanted {

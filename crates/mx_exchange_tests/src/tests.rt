@@ -239,45 +239,54 @@ fn no_timeout_is_no_deadline(rt: HostRuntime) -> Result<(), Fail> {
     sees_timed(&rt, 0, &calls, &[unserved(false, None)], None)
 }
 
-/// The body that the test of a whole response is to see: where it stands, how the link is kept.
-fn answers_hello<R: Abort + RandomSource + AllocGlobal>(
-    rt: &R,
-    wire: &[u8],
-    links: u32,
-) -> Result<(), Fail> {
-    let link = Call::Fresh(&[ScriptRead::Bytes(wire)], &[]);
-    sees(
-        rt,
-        Method::Get,
-        &[link, Call::Poll],
-        &[],
-        hello(wire, links),
-    )
-}
+/// Two heads of interim responses, the final one, and its body.
+const INTERIM: &[u8] =
+    b"HTTP/1.1 100 Continue\r\n\r\nHTTP/1.1 103 Early Hints\r\nA: b\r\n\r\nHTTP/1.1 200 OK\r\nContent-Length: 5\r\n\r\nhello";
 
 #[test]
 fn interim_heads_are_passed_over(rt: HostRuntime) -> Result<(), Fail> {
-    let wire =
-        b"HTTP/1.1 100 Continue\r\n\r\nHTTP/1.1 103 Early Hints\r\nA: b\r\n\r\nHTTP/1.1 200 OK\r\nContent-Length: 5\r\n\r\nhello";
-    answers_hello(&rt, wire, 1)
+    let link = Call::Fresh(&[ScriptRead::Bytes(INTERIM)], &[]);
+    let ended = hello(INTERIM, 1);
+    sees(&rt, Method::Get, &[link, Call::Poll], &[], ended)
+}
+
+/// The keep rules are those of RFC 9112, section 9.3.
+const CLOSES: &[u8] = b"HTTP/1.1 200 OK\r\nConnection: close\r\nContent-Length: 5\r\n\r\nhello";
+
+const OLD: &[u8] = b"HTTP/1.0 200 OK\r\nContent-Length: 5\r\n\r\nhello";
+
+const OLD_STAYS: &[u8] =
+    b"HTTP/1.0 200 OK\r\nConnection: keep-alive\r\nContent-Length: 5\r\n\r\nhello";
+
+#[test]
+fn a_link_that_closes_is_not_kept(rt: HostRuntime) -> Result<(), Fail> {
+    let link = Call::Fresh(&[ScriptRead::Bytes(CLOSES)], &[]);
+    let ended = hello(CLOSES, 0);
+    sees(&rt, Method::Get, &[link, Call::Poll], &[], ended)
 }
 
 #[test]
-fn a_link_is_kept_as_the_response_says(rt: HostRuntime) -> Result<(), Fail> {
-    // RFC 9112, section 9.3
-    let closes = b"HTTP/1.1 200 OK\r\nConnection: close\r\nContent-Length: 5\r\n\r\nhello";
-    answers_hello(&rt, closes, 0)?;
-    let old = b"HTTP/1.0 200 OK\r\nContent-Length: 5\r\n\r\nhello";
-    answers_hello(&rt, old, 0)?;
-    let stays = b"HTTP/1.0 200 OK\r\nConnection: keep-alive\r\nContent-Length: 5\r\n\r\nhello";
-    answers_hello(&rt, stays, 1)
+fn a_link_of_http_1_0_is_not_kept(rt: HostRuntime) -> Result<(), Fail> {
+    let link = Call::Fresh(&[ScriptRead::Bytes(OLD)], &[]);
+    let ended = hello(OLD, 0);
+    sees(&rt, Method::Get, &[link, Call::Poll], &[], ended)
 }
+
+#[test]
+fn a_link_of_http_1_0_that_stays_is_kept(rt: HostRuntime) -> Result<(), Fail> {
+    let link = Call::Fresh(&[ScriptRead::Bytes(OLD_STAYS)], &[]);
+    let ended = hello(OLD_STAYS, 1);
+    sees(&rt, Method::Get, &[link, Call::Poll], &[], ended)
+}
+
+/// 24 bytes, of which the last five are the body.
+const UNFRAMED: &[u8] = b"HTTP/1.1 200 OK\r\n\r\nhello";
 
 #[test]
 fn the_end_of_the_link_ends_a_body(rt: HostRuntime) -> Result<(), Fail> {
-    let wire = b"HTTP/1.1 200 OK\r\n\r\nhello";
-    let link = Call::Fresh(&[ScriptRead::Bytes(wire), ScriptRead::End], &[]);
-    sees(&rt, Method::Get, &[link, Call::Poll], &[], hello(wire, 0))
+    let link = Call::Fresh(&[ScriptRead::Bytes(UNFRAMED), ScriptRead::End], &[]);
+    let ended = hello(UNFRAMED, 0);
+    sees(&rt, Method::Get, &[link, Call::Poll], &[], ended)
 }
 
 #[test]
@@ -322,19 +331,18 @@ fn other_methods_are_not_tried_again(rt: HostRuntime) -> Result<(), Fail> {
     Ok(())
 }
 
-/// What is seen of a transfer whose reused link answers its probe so, and that gets a fresh one then.
-fn is_dropped_at_its_probe<R: Abort + RandomSource + AllocGlobal>(
-    rt: &R,
-    probe: ScriptRead<'_>,
-) -> Result<(), Fail> {
-    let stale = Call::Reused(&[probe], &[]);
+#[test]
+fn a_link_that_has_ended_serves_nothing(rt: HostRuntime) -> Result<(), Fail> {
+    let stale = Call::Reused(&[ScriptRead::End], &[]);
     let fresh = Call::Fresh(&[ScriptRead::Bytes(COUNTED)], &[]);
     let calls = [stale, Call::Poll, fresh, Call::Poll];
-    sees(rt, Method::Post, &calls, &[LOST], hello(COUNTED, 1))
+    sees(&rt, Method::Post, &calls, &[LOST], hello(COUNTED, 1))
 }
 
 #[test]
-fn a_link_that_has_ended_or_failed_serves_nothing(rt: HostRuntime) -> Result<(), Fail> {
-    is_dropped_at_its_probe(&rt, ScriptRead::End)?;
-    is_dropped_at_its_probe(&rt, ScriptRead::Fault)
+fn a_link_that_has_failed_serves_nothing(rt: HostRuntime) -> Result<(), Fail> {
+    let stale = Call::Reused(&[ScriptRead::Fault], &[]);
+    let fresh = Call::Fresh(&[ScriptRead::Bytes(COUNTED)], &[]);
+    let calls = [stale, Call::Poll, fresh, Call::Poll];
+    sees(&rt, Method::Post, &calls, &[LOST], hello(COUNTED, 1))
 }
