@@ -1,4 +1,5 @@
 mod Fronts
+mod Lives
 pub mod Ordered
 pub mod LineSteps
 pub mod Steps

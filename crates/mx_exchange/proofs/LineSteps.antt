@@ -1,5 +1,5 @@
 -- One more answer of a link that serves keeps what is known of it.
-use Rattle.std.proofs.Common.{◌≡◌, ◌≢◌, ℕ, ◌+◌, ◌-◌, ◌≤◌, ◌<◌, Bool, true, false, List, [], ◌∷◌, ◌++◌, length, take, drop, refl, sym, ◌∙◌, ap, subst, append_assoc, append-nil, arith, length-drop, length-append}
+use Rattle.std.proofs.Common.{◌≡◌, ◌≢◌, ℕ, ◌+◌, ◌-◌, ◌≤◌, ◌<◌, Bool, true, false, List, [], ◌∷◌, ◌++◌, length, take, drop, refl, sym, ◌∙◌, ap, append_assoc, append-nil, arith, length-drop, length-append}
 use Rattle.std.specs.Prelude.{◌||◌}
 use Rattle.std.specs.List.{list_any}
 use Rattle.std.proofs.lemmas.List.{take-append-drop, drop-drop, length-take-le}
@@ -15,8 +15,8 @@ use Rattle.mx_link.specs.declared.answers.Read.{Read}
 use Rattle.mx_link.specs.declared.answers.Read.TheVariants as read
 use Rattle.mx_link.specs.declared.answers.Write.{Write}
 use Rattle.mx_link.specs.declared.answers.Write.TheVariants as write
-use Rattle.mx_exchange.specs.Order.{MayFollow, MayWrite, MayRead, stands, is_connected, is_last, most_read, asked_at, asks_of}
-use Rattle.mx_exchange.specs.Lines.{LineState, IsLine, IsServing, taken_count}
+use Rattle.mx_exchange.specs.Order.{MayFollow, MayRead, stands, is_connected, is_last, most_read, asked_at, asks_of}
+use Rattle.mx_exchange.specs.Lines.{LineState, IsLine, taken_count}
 use Rattle.mx_exchange.proofs.Ordered.{taken-push, taken-same, any-push, any-same, FollowInOrder-push, asked_from-push}
 
 or_none : (a b c : Bool) → (a || b) ≡ false → (a || (b || c)) ≡ c

@@ -1,5 +1,5 @@
 -- What follows from how a transfer ended.
-use Rattle.std.proofs.Common.{◌≡◌, ◌≢◌, ℕ, ◌+◌, ◌≤◌, Bool, true, false, List, [], ◌∷◌, ◌++◌, length, drop, refl, sym, ◌∙◌, ap, subst, append-nil, length-append, arith, inl, inr, Option, Some, None}
+use Rattle.std.proofs.Common.{◌≡◌, ◌≢◌, ℕ, ◌+◌, ◌≤◌, Bool, true, false, List, [], ◌++◌, length, drop, refl, sym, ◌∙◌, ap, subst, append-nil, length-append, arith, inl, inr, Some, None}
 use Rattle.std.specs.Prelude.{◌||◌}
 use Rattle.std.proofs.Math.Seq.{drop-append_seam}
 use Rattle.mx_types.specs.declared.code.Code.{Code}
@@ -17,7 +17,7 @@ use Rattle.mx_body.specs.declared.verdict.Verdict.TheVariants as verdict
 use Rattle.mx_link.specs.Answers.{given, given_by}
 use Rattle.mx_link.specs.declared.answers.Answer.{Answer}
 use Rattle.mx_link.specs.declared.answers.Answer.TheVariants as said
-use Rattle.mx_exchange.specs.Endings.{EndsAt, EndsBy, by_bytes, by_end, by_fault, by_memory, Ends, IsUndecided, code_of, fault_code, may_keep, is_stop_code, is_link_code}
+use Rattle.mx_exchange.specs.Endings.{EndsBy, by_bytes, by_end, by_fault, by_memory, Ends, IsUndecided, code_of, fault_code, may_keep, is_stop_code}
 use Rattle.mx_exchange.specs.Transfers.{OutcomeValue}
 use Rattle.mx_exchange.specs.Outcomes.{IsOutcome, IsWhole, HasContent, IsFront, is_exchange_code, is_outcome_code}
 use Rattle.mx_head.specs.Limits.{most_bytes}

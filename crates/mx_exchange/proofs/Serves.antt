@@ -1,15 +1,13 @@
 -- The calls of one turn.
-use Rattle.std.proofs.Common.{◌≡◌, ℕ, ◌+◌, ◌≤◌, ◌<◌, Bool, true, false, List, [], ◌∷◌, ◌++◌, refl, sym, ◌∙◌, ap, subst, append_assoc, append-nil, arith, inl, inr, ◌⊎◌}
+use Rattle.std.proofs.Common.{◌≡◌, ℕ, ◌+◌, ◌≤◌, ◌<◌, Bool, true, false, List, [], ◌∷◌, ◌++◌, refl, sym, ◌∙◌, ap, append_assoc, append-nil, arith, inl, inr, ◌⊎◌}
 use Rattle.std.specs.Prelude.{count_by}
 use Rattle.mx_types.specs.declared.code.Code.{Code}
-use Rattle.std.specs.List.{list_any}
 use Rattle.mx_body.specs.Decoder.{Decoded}
 use Rattle.mx_link.specs.Answers.{is_read, is_write}
 use Rattle.mx_link.specs.declared.answers.Answer.{Answer}
 use Rattle.mx_link.specs.declared.answers.Answer.TheVariants as said
 use Rattle.mx_exchange.specs.Order.{is_connect}
 use Rattle.mx_exchange.specs.Lines.{LineState, IsOpen, IsGoing, Calls, Grows, StepTurn, ServeSo, ServeTurn}
-use Rattle.mx_exchange.specs.declared.service.Step.{Step}
 use Rattle.mx_exchange.specs.declared.service.Step.TheVariants as step
 use Rattle.mx_exchange.specs.declared.service.Served.{Served}
 use Rattle.mx_exchange.specs.declared.service.Served.TheVariants as served

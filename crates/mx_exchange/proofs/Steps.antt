@@ -1,6 +1,5 @@
 -- One more answer of a link that serves.
-use Rattle.std.proofs.Common.{◌≡◌, ℕ, ◌≤◌, Bool, true, false, List, [], ◌∷◌, ◌++◌, length, take, refl, sym, ◌∙◌, ap, subst, Option, Some, None}
-use Rattle.std.specs.List.{list_any}
+use Rattle.std.proofs.Common.{◌≡◌, ℕ, Bool, true, false, List, [], ◌∷◌, ◌++◌, refl, sym, ◌∙◌, ap, subst, Option, Some, None}
 use Rattle.mx_types.specs.declared.code.Code.{Code}
 use Rattle.mx_types.specs.declared.code.Code.TheVariants as code
 use Rattle.mx_types.specs.declared.method.Method.{Method}
@@ -13,8 +12,8 @@ use Rattle.mx_body.specs.declared.verdict.Verdict.TheVariants as verdict
 use Rattle.mx_link.specs.Answers.{given, given_by}
 use Rattle.mx_link.specs.declared.answers.Answer.{Answer}
 use Rattle.mx_link.specs.declared.answers.Answer.TheVariants as said
-use Rattle.mx_exchange.specs.Order.{is_connect, is_connected, is_last}
-use Rattle.mx_exchange.specs.Endings.{EndsBy, by_bytes, by_end, by_fault, by_memory, MustRetry, code_of, fault_code, is_loss, is_repeated, is_heard}
+use Rattle.mx_exchange.specs.Order.{is_connect, is_last}
+use Rattle.mx_exchange.specs.Endings.{by_bytes, by_end, by_fault, by_memory, MustRetry, code_of, fault_code, is_loss, is_repeated, is_heard}
 use Rattle.mx_exchange.specs.Lines.{LineState, IsGoing, IsOver, Grows, StepTurn, StepSo}
 use Rattle.mx_exchange.specs.declared.service.Step.{Step}
 use Rattle.mx_exchange.specs.declared.service.Step.TheVariants as step

@@ -1,8 +1,9 @@
-//! What holds of every link that serves a request, and of every outcome. Each law is a function that does nothing: its contract
-//! is the law.
-ghost use Rattle.mx_exchange.specs.Laws.{TakenIsTheFront, OkHasContent, CodesAreListed};
+//! What holds of every link that serves a request, of every outcome, and of every transfer's life. Each law is a function that does
+//! nothing: its contract is the law.
+ghost use Rattle.mx_exchange.specs.Laws.{TakenIsTheFront, OkHasContent, CodesAreListed, DropsOnce};
 
 use mx_body::laws;
+use mx_link::Link;
 
 /// What a link has taken is the front of the request, and the whole of it once the link was read.
 pub fn request_is_taken_from_the_front()
@@ -19,4 +20,9 @@ pub fn ok_has_content()
 /// An outcome's code is `Ok`, one that the bytes of an exchange come to, one of a link or of memory, or that of a deadline.
 pub fn codes_are_listed()
     ensures { CodesAreListed }
+{}
+
+/// In its life a transfer drops one link at most for a fresh one, and so it tries its request again once at most.
+pub fn link_is_dropped_once<L: Link>()
+    ensures { DropsOnce L.history }
 {}

@@ -1,4 +1,4 @@
-use Rattle.std.proofs.Common.{◌≡◌, sym, ap, ◌∙◌}
+use Rattle.std.proofs.Common.{◌≡◌, ap}
 use Rattle.mx_request.specs.Request.{RequestValue}
 use Rattle.mx_exchange.proofs.Ordered.{rest_of}
 use Rattle.mx_exchange.proofs.LineSteps.{Line-write}

@@ -1,4 +1,4 @@
-use Rattle.std.proofs.Common.{◌≡◌, ap, ◌∙◌}
+use Rattle.std.proofs.Common.{ap}
 use Rattle.mx_exchange.specs.Lines.{LineState}
 use Rattle.mx_exchange.proofs.Steps.{Turn-unsent}
 use Rattle.mx_exchange.proofs.line.Line.write_step.Goals as goal

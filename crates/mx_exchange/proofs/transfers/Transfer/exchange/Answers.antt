@@ -1,7 +1,6 @@
-use Rattle.std.proofs.Common.{◌≡◌, true, rules, Some, None, refl, sym, ap, ◌∙◌, arith}
+use Rattle.std.proofs.Common.{◌≡◌, rules, Some, None, refl, sym, ap, ◌∙◌}
 use Rattle.mx_exchange.specs.Lines.{LineState}
 use Rattle.mx_exchange.specs.Turns.{unserved}
-use Rattle.mx_exchange.specs.declared.service.Served.TheVariants as served
 use Rattle.mx_exchange.proofs.Advanced.{Exchange-blocked, Exchange-unfinished, Exchange-lost, Exchange-ended}
 use Rattle.mx_exchange.proofs.OutcomeLemmas.{received_bounded, kept_ends}
 use Rattle.mx_exchange.proofs.transfers.Transfer.exchange.Goals as goal
