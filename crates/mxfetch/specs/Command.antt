@@ -1,5 +1,5 @@
 -- What a command line may ask for.
-use Rattle.std.specs.Prelude.{ℕ, ◌≤◌}
+use Rattle.std.specs.Prelude.{◌≤◌}
 use Rattle.mxfetch.specs.declared.command.Task.{Task}
 use Rattle.mxfetch.specs.declared.command.Task.TheVariants.{Body, Play}
 

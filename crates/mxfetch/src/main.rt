@@ -3,22 +3,14 @@
 
 ghost use Rattle.std.specs.Prelude.{◌≤◌};
 
-mod body;
 mod command;
-#[cfg(test)]
-mod fakes;
-mod input;
-mod output;
-mod play;
 
-use crate::body::text::print_fault;
-use crate::body::{MOST_READS, UNWRITTEN, run_body};
 use crate::command::{Task, read_command};
-use crate::input::Input;
-use crate::output::Output;
-use crate::play::run_play;
 use clap::Error;
 use clap::error::ErrorKind;
+use mx_run_body::run_body;
+use mx_run_io::{Input, Output, UNWRITTEN, end_with};
+use mx_run_play::run_play;
 use mx_types::{Code, Method};
 use std::io::BufWriter;
 use std::process::ExitCode;
@@ -29,8 +21,8 @@ const REFUSED: u8 = 120;
 
 /// Prints the want of memory, which takes none.
 fn out_of_memory(rt: &impl Print) -> u8 {
-    match print_fault(&mut Output::new(io::writer(rt)), Code::OutOfMemory.number()) {
-        Ok(()) => Code::OutOfMemory.number() as u8,
+    match end_with(&mut Output::new(io::writer(rt)), Code::OutOfMemory) {
+        Ok(status) => status,
         Err(_) => UNWRITTEN,
     }
 }
@@ -52,7 +44,7 @@ fn explain(rt: &(impl Print + Eprint), error: &Error) -> u8 {
 
 /// Runs `body` from standard input to standard output.
 fn decode_stdin<R: io::Input + Print + AllocGlobal>(rt: &R, method: Method) -> u8 {
-    let mut input = Input::new(rt.reader(), MOST_READS);
+    let mut input = Input::new(rt.reader(), mx_run_body::MOST_READS);
     match BufWriter::new(rt.alloc(), io::writer(rt)) {
         Ok(writer) => run_body(rt.alloc(), method, &mut input, &mut Output::new(writer)),
         Err(_) => out_of_memory(rt),
@@ -63,7 +55,7 @@ fn decode_stdin<R: io::Input + Print + AllocGlobal>(rt: &R, method: Method) -> u
 fn play_stdin<R: io::Input + Print + AllocGlobal>(rt: &R, history: u32) -> u8
     requires { (4 ≤ history) × (history ≤ 1048576) }
 {
-    let mut input = Input::new(rt.reader(), play::MOST_READS);
+    let mut input = Input::new(rt.reader(), mx_run_play::MOST_READS);
     match BufWriter::new(rt.alloc(), io::writer(rt)) {
         Ok(writer) => run_play(rt.alloc(), history, &mut input, &mut Output::new(writer)),
         Err(_) => out_of_memory(rt),

@@ -1,0 +1,3 @@
+mod PartsWithin
+mod WasRead
+mod Printed

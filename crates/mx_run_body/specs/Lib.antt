@@ -1,0 +1,4 @@
+-- What `run_body` promises, in the order to read it.
+pub mod Reading
+pub mod Texts
+pub mod Run

@@ -1,0 +1,53 @@
+-- What `body` prints: the text of the verdict on what was read.
+use Rattle.std.specs.Prelude.{◌≡◌, ℕ, ◌-◌, ◌≤◌, ◌⊎◌, true, List, [], ◌++◌, length, Option, IfSome}
+use Rattle.std.specs.Io.KnownBytes.{Appends}
+use Rattle.mx_types.specs.Code.{code_number}
+use Rattle.mx_types.specs.declared.code.Code.TheVariants as codes
+use Rattle.mx_types.specs.declared.method.Method.{Method}
+use Rattle.mx_body.specs.declared.verdict.Verdict.{Verdict}
+use Rattle.mx_body.specs.declared.verdict.Verdict.TheVariants as verdict
+use Rattle.mx_body.specs.Decision.{IsVerdict}
+use Rattle.mx_body.specs.Parts.{AreOrdered, joined}
+use Rattle.mx_body.specs.Laws.{ContentIs}
+use Rattle.mx_head.specs.Limits.{most_bytes}
+use Rattle.mx_run_body.specs.Reading.{bytes_read}
+use Rattle.mx_run_io.specs.Faults.{fault_line, PrintsFault}
+use Rattle.mx_run_body.specs.Texts.{response_line}
+
+-- the text of a verdict on that input: a line and the body, or the line of a fault
+abbrev pub text_of : List ℕ → Verdict → List ℕ
+text_of input (verdict.Complete status len parts keep) =
+    response_line status (length (joined input parts.items)) keep (length input - len) ++ joined input parts.items
+text_of input verdict.More = []
+text_of input (verdict.Fault code) = fault_line (code_number code)
+
+-- the exit status that goes with it
+abbrev pub exit_status : Verdict → ℕ
+exit_status (verdict.Complete status len parts keep) = 0
+exit_status verdict.More = 0
+exit_status (verdict.Fault code) = code_number code
+
+-- From old to new the text of the verdict on the whole input is written and nothing else, and the program
+-- ends with the verdict's exit status. The body that is written is the content of the response.
+pub record PrintsVerdict (m : Method) (input : List ℕ) (old new : Option (List ℕ)) (ends_with : ℕ) : Type 0 where
+  pub verdict : Verdict
+  pub decided : IsVerdict m input true verdict
+  pub content : ContentIs m input true verdict
+  pub written : Appends old new (text_of input verdict)
+  pub status : ends_with ≡ exit_status verdict
+
+-- the pieces of a verdict stand in the input, and it is decided
+abbrev pub FitsIn : List ℕ → Verdict → Type 0
+FitsIn input (verdict.Complete status len parts keep) = AreOrdered 0 len parts.items × (len ≤ length input)
+FitsIn input verdict.More = ⊥
+FitsIn input (verdict.Fault code) = Unit {0}
+
+-- what was read of the bytes that the input had, where they are known: all, or one more than a response has
+abbrev pub IsRead : Option (List ℕ) → List ℕ → Type 0
+IsRead known bytes = IfSome known (λ input. bytes ≡ bytes_read most_bytes input)
+
+-- The verdict on what was read is printed, or the want of memory.
+abbrev pub AnswersRead : Method → Option (List ℕ) → Option (List ℕ) → Option (List ℕ) → ℕ → Type 0
+AnswersRead m known old new ends_with =
+    PrintsFault (code_number codes.OutOfMemory) old new ends_with
+    ⊎ ((bytes : List ℕ) × IsRead known bytes × PrintsVerdict m bytes old new ends_with)

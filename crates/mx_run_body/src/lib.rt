@@ -1,0 +1,8 @@
+//! The command `body` of `mxfetch`: a whole HTTP/1.1 response from its bytes, over any reader and writer.
+#![tactic(auto)]
+
+mod reading;
+mod run;
+mod text;
+
+pub use crate::run::{MOST_READS, run_body};

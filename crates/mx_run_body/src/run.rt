@@ -1,0 +1,148 @@
+//! The command `body`: a whole response from its bytes.
+ghost use Rattle.std.specs.Prelude.{◌≡◌, ◌≢◌, ◌+◌, ◌<◌, ◌≤◌, ◌^◌, ◌++◌, ◌↔◌, true, All, IfOk, OnOk, IsErr, length, sum_by};
+ghost use Rattle.std.specs.Io.KnownBytes.{Appends};
+ghost use Rattle.mx_types.specs.Code.{code_number};
+ghost use Rattle.mx_head.specs.Limits.{most_bytes};
+ghost use Rattle.mx_run_io.specs.Ends.{reader_of, reads_of, has_failed_read, writer_of, has_failed_write};
+ghost use Rattle.mx_body.specs.Parts.{joined};
+ghost use Rattle.mx_run_body.specs.Texts.{part_len, response_line, StandsWithin};
+ghost use Rattle.mx_run_io.specs.Faults.{PrintsFault};
+ghost use Rattle.mx_run_body.specs.Run.{text_of, exit_status, AnswersRead, FitsIn};
+
+use crate::reading::{InputError, read_input};
+use crate::text::{print_parts, print_response};
+use mx_body::laws::parts_are_content;
+use mx_body::{Part, Verdict, decode_whole};
+use mx_run_io::{Input, Output, UNWRITTEN, WriteFailed, end_with};
+use mx_types::{Code, Method};
+use std::alloc::Global;
+use std::io::{Read, Write};
+
+/// The most bytes of a whole response.
+const MOST_BYTES: usize = 67_108_864;
+
+/// The most reads that `run_body` makes: each but the last gives a byte.
+pub const MOST_READS: u64 = 67_108_866;
+
+/// How many bytes the pieces have together.
+fn body_len(parts: &[Part]) -> usize
+    requires ordered { All (λ part. part.start ≤ part.end) parts.now }
+    requires small { sum_by part_len parts.now < 2 ^ 64 }
+    ensures { result ≡ sum_by part_len parts.now }
+{
+    let mut total: usize = 0;
+    for part in parts {
+        total += (part.end - part.start) as usize;
+    }
+    total
+}
+
+/// Prints the line of a whole response, and then its body.
+fn print_whole<W: Write>(
+    output: &mut Output<W>,
+    input: &[u8],
+    status: u16,
+    parts: &[Part],
+    keep: bool,
+    left: usize,
+) -> Result<(), WriteFailed>
+    requires within { All (StandsWithin (length input.now)) parts.now }
+    requires small { sum_by part_len parts.now < 2 ^ 64 }
+    ensures written { OnOk result (Appends (W.contents (writer_of output.old))
+        (W.contents (writer_of output.new))
+        (response_line status (sum_by part_len parts.now) keep left ++ joined input.now parts.now)) }
+    ensures failed { IsErr result ↔ (has_failed_write output.new ≡ true) }
+{
+    print_response(output, status, body_len(parts), keep, left)?;
+    print_parts(output, input, parts)
+}
+
+/// Prints the text of a verdict on the input, and answers its exit status.
+fn print_verdict<W: Write>(
+    output: &mut Output<W>,
+    input: &[u8],
+    verdict: &Verdict,
+) -> Result<u8, WriteFailed>
+    requires { FitsIn input.now verdict.now }
+    ensures written { OnOk result (Appends (W.contents (writer_of output.old))
+        (W.contents (writer_of output.new)) (text_of input.now verdict.now)) }
+    ensures status { IfOk result (λ status. status ≡ exit_status verdict.now) }
+    ensures failed { IsErr result ↔ (has_failed_write output.new ≡ true) }
+{
+    match verdict {
+        Verdict::Complete {
+            status,
+            len,
+            parts,
+            keep,
+        } => {
+            print_whole(
+                output,
+                input,
+                *status,
+                parts,
+                *keep,
+                input.len() - *len as usize,
+            )?;
+            Ok(0)
+        }
+        Verdict::More => unreachable!(),
+        Verdict::Fault(code) => end_with(output, *code),
+    }
+}
+
+/// What `run_body` prints, and its exit status, where each write succeeds.
+fn print_body<R: Read, W: Write>(
+    alloc: Global,
+    method: Method,
+    input: &mut Input<R>,
+    output: &mut Output<W>,
+) -> Result<u8, WriteFailed>
+    ensures reads { reads_of input.new ≤ reads_of input.old + (most_bytes + 2) }
+    ensures unread { has_failed_read input.new ≡ true → IfOk result (PrintsFault (code_number Code.RecvError)
+        (W.contents (writer_of output.old)) (W.contents (writer_of output.new))) }
+    ensures answered { has_failed_read input.new ≢ true → IfOk result (AnswersRead method
+        (R.remaining (reader_of input.old)) (W.contents (writer_of output.old)) (W.contents (writer_of output.new))) }
+    ensures small { IfOk result (λ status. status < 121) }
+    ensures failed { IsErr result ↔ (has_failed_write output.new ≡ true) }
+{
+    let bytes = match read_input(alloc, input, MOST_BYTES) {
+        Ok(bytes) => bytes,
+        Err(InputError::Failed) => return end_with(output, Code::RecvError),
+        Err(InputError::OutOfMemory) => return end_with(output, Code::OutOfMemory),
+    };
+    let verdict = match decode_whole(alloc, method, &bytes, true) {
+        Ok(verdict) => verdict,
+        Err(_) => return end_with(output, Code::OutOfMemory),
+    };
+    parts_are_content();
+    print_verdict(output, &bytes, &verdict)
+}
+
+/// Reads a response whole, as the answer to a request of that method, and prints it: one line and the body,
+/// or the line of a fault. The answer is the exit status: 0, the number of the fault's code, or 121 where the
+/// output couldn't be written.
+///
+/// The input is read to its end, or until there are more than 67,108,864 bytes, by at most two reads more
+/// than that. A read that fails prints `FAULT 56`, whatever came before it; where there is no memory for what was
+/// read or for the pieces of its body, `FAULT 27` is printed.
+pub fn run_body<R: Read, W: Write>(
+    alloc: Global,
+    method: Method,
+    input: &mut Input<R>,
+    output: &mut Output<W>,
+) -> u8
+    ensures reads { reads_of input.new ≤ reads_of input.old + (most_bytes + 2) }
+    ensures unwritten { (result ≡ UNWRITTEN) ↔ (has_failed_write output.new ≡ true) }
+    ensures unread { has_failed_write output.new ≢ true → has_failed_read input.new ≡ true
+        → PrintsFault (code_number Code.RecvError)
+        (W.contents (writer_of output.old)) (W.contents (writer_of output.new)) result }
+    ensures answered { has_failed_write output.new ≢ true → has_failed_read input.new ≢ true
+        → AnswersRead method (R.remaining (reader_of input.old))
+        (W.contents (writer_of output.old)) (W.contents (writer_of output.new)) result }
+{
+    match print_body(alloc, method, input, output) {
+        Ok(status) if output.flush().is_ok() => status,
+        _ => UNWRITTEN,
+    }
+}

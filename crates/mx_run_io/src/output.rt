@@ -1,0 +1,86 @@
+//! The output of a run.
+use std::fmt::Display;
+use std::io::Write;
+
+/// A write failed.
+#[derive(Clone, Copy, Debug, PartialEq, Eq)]
+pub struct WriteFailed;
+
+/// A writer that remembers whether a write failed. Once one did, each further one fails too and writes nothing.
+#[derive(Drop)]
+pub struct Output<W> {
+    writer: W,
+    failed: bool,
+}
+
+impl<W: Write> Output<W> {
+    ghost use Rattle.std.specs.Prelude.{◌≡◌, true, false, IsErr, OnOk, IfSome, ◌↔◌};
+    ghost use Rattle.std.specs.Io.KnownBytes.{Appends, Keeps};
+    ghost use Rattle.mx_run_io.specs.Ends.{writer_of, has_failed_write};
+
+    /// The output of a run.
+    pub fn new(writer: W) -> Output<W>
+        ensures writer { writer_of result ≡ writer }
+        ensures failed { has_failed_write result ≡ false }
+    {
+        Output {
+            writer,
+            failed: false,
+        }
+    }
+
+    /// Writes all of the bytes.
+    pub fn write_all(&mut self, bytes: &[u8]) -> Result<(), WriteFailed>
+        ensures bytes { OnOk result (Appends (W.contents (writer_of self.old)) (W.contents (writer_of self.new)) bytes.now) }
+        ensures failed { IsErr result ↔ (has_failed_write self.new ≡ true) }
+        ensures stays { has_failed_write self.old ≡ true → self.new ≡ self.old }
+    {
+        if self.failed {
+            return Err(WriteFailed);
+        }
+        match self.writer.write_all(bytes) {
+            Ok(()) => Ok(()),
+            Err(_) => {
+                self.failed = true;
+                Err(WriteFailed)
+            }
+        }
+    }
+
+    /// Writes a text.
+    pub fn print<D: Display + Drop>(&mut self, text: D) -> Result<(), WriteFailed>
+        ensures bytes { OnOk result (IfSome (D.output text)
+            (Appends (W.contents (writer_of self.old)) (W.contents (writer_of self.new)))) }
+        ensures failed { IsErr result ↔ (has_failed_write self.new ≡ true) }
+        ensures stays { has_failed_write self.old ≡ true → self.new ≡ self.old }
+    {
+        if self.failed {
+            return Err(WriteFailed);
+        }
+        match self.writer.write_fmt(text) {
+            Ok(()) => Ok(()),
+            Err(_) => {
+                self.failed = true;
+                Err(WriteFailed)
+            }
+        }
+    }
+
+    /// Hands on what the writer still keeps.
+    pub fn flush(&mut self) -> Result<(), WriteFailed>
+        ensures bytes { OnOk result (Keeps (W.contents (writer_of self.old)) (W.contents (writer_of self.new))) }
+        ensures failed { IsErr result ↔ (has_failed_write self.new ≡ true) }
+        ensures stays { has_failed_write self.old ≡ true → self.new ≡ self.old }
+    {
+        if self.failed {
+            return Err(WriteFailed);
+        }
+        match self.writer.flush() {
+            Ok(()) => Ok(()),
+            Err(_) => {
+                self.failed = true;
+                Err(WriteFailed)
+            }
+        }
+    }
+}

@@ -1,0 +1,153 @@
+-- What a run of a script has printed in the end.
+use Rattle.std.proofs.Common.{◌≡◌, ℕ, ◌+◌, ◌∙◌, sym, refl, ap, subst, List, [], ◌++◌, inl, inr}
+use Rattle.std.specs.Prelude.{Option, Some, None, Result, Ok, Err, IfOk}
+use Rattle.std.specs.Io.KnownBytes.{Appends, Keeps}
+use Rattle.std.proofs.KnownBytes.{Appends-kept, Appends-trans}
+use Rattle.mx_run_play.specs.declared.session.Session.{Session}
+use Rattle.mx_run_play.specs.declared.session.Turn.{Turn}
+use Rattle.mx_run_play.specs.declared.session.Turn.TheVariants as turn
+use Rattle.mx_run_io.specs.Faults.{fault_line, PrintsFault}
+use Rattle.mx_run_play.specs.Script.{lines_of}
+use Rattle.mx_run_play.specs.Run.{Outcome, outcome, fresh, run_of_lines, run_of, IsScript, PrintsRun, PrintsUnread, AnswersScript}
+use Rattle.mx_run_play.specs.Session.{rest_of, ran, RanWhole, RanShort, RanUnread, PlaysAll}
+use Rattle.mx_run_play.proofs.Words.{first_piece}
+
+-- a session that begins
+pub record Begins (history : ℕ) (s : Session) : Type 0 where
+  pub player : s.player ≡ fresh history
+  pub first : s.lines ≡ 0
+  pub empty : s.line.items ≡ []
+
+from_first : (history : ℕ) (s : Session) → Begins history s → (texts : List (List ℕ)) → rest_of s texts ≡ run_of_lines history texts
+from_first history s b texts =
+    ap (λ p. outcome texts p (s.lines + 1)) b.player ∙ ap (λ n. outcome texts (fresh history) (n + 1)) b.first
+
+cut_from : (history : ℕ) (s : Session) → Begins history s → (script : List ℕ) → lines_of script ≡ lines_of (s.line.items ++ script)
+cut_from history s b script = ap (λ z. lines_of (z ++ script)) (sym b.empty)
+
+pub prints_run : (history : ℕ) (s : Session) (status : ℕ) (known old new : Option (List ℕ)) → Begins history s
+    → RanWhole s status known old new → PrintsRun history known old new status
+prints_run history s status known old new b w =
+    let is : run_of history w.script ≡ ran w.printed status =
+    ap (run_of_lines history) (cut_from history s b w.script) ∙ sym (from_first history s b (lines_of (s.line.items ++ w.script))) ∙ w.run in
+    record {
+      script = w.script;
+      is_it = w.is_it;
+      written = subst (Appends old new) (sym (ap (λ (o : Outcome). o.text) is)) w.written;
+      status = sym (ap (λ (o : Outcome). o.status) is);
+    }
+
+-- the fault behind the lines that were told
+told_fault : (history : ℕ) (s : Session) (told : List (List ℕ)) (printed fault : List ℕ) (old mid new : Option (List ℕ)) → Begins history s
+    → rest_of s told ≡ ran printed 0 → Appends old mid printed → Appends mid new fault
+    → ((run_of_lines history told).status ≡ 0) × Appends old new ((run_of_lines history told).text ++ fault)
+told_fault history s told printed fault old mid new b run written more =
+    let is : run_of_lines history told ≡ ran printed 0 = sym (from_first history s b told) ∙ run in (
+      ap (λ (o : Outcome). o.status) is,
+      subst (λ z. Appends old new (z ++ fault)) (sym (ap (λ (o : Outcome). o.text) is)) (Appends-trans old mid new printed fault written more),
+    )
+
+pub prints_short : {E : Type 0} (history : ℕ) (s : Session) (known old mid new : Option (List ℕ)) (r : Result ℕ E) → Begins history s
+    → RanShort s known old mid → IfOk r (PrintsFault 27 mid new) → IfOk r (AnswersScript history known old new)
+prints_short history s known old mid new (Ok n) b w fault =
+    let k = told_fault history s w.told w.printed (fault_line 27) old mid new b w.run w.written fault.written in
+    inr (record {
+      script = w.script;
+      is_it = w.is_it;
+      told = w.told;
+      unanswered = w.unanswered;
+      more = w.more;
+      cut = cut_from history s b w.script ∙ w.cut;
+      good = k.0;
+      written = k.1;
+      status = fault.status;
+    })
+prints_short history s known old mid new (Err e) b w fault = tt
+
+pub prints_unread : {E : Type 0} (history : ℕ) (s : Session) (known left old mid new : Option (List ℕ)) (r : Result ℕ E) → Begins history s
+    → RanUnread s known left old mid → IfOk r (PrintsFault 56 mid new) → IfOk r (PrintsUnread history known left old new)
+prints_unread history s known left old mid new (Ok n) b w fault =
+    let k = told_fault history s w.told w.printed (fault_line 56) old mid new b w.run w.written fault.written in
+    record {
+      front = w.front;
+      given = w.given;
+      told = w.told;
+      last = w.last;
+      cut = cut_from history s b w.front ∙ w.cut;
+      good = k.0;
+      written = k.1;
+      status = fault.status;
+    }
+prints_unread history s known left old mid new (Err e) b w fault = tt
+
+-- there was no memory for the player
+some_script : (known : Option (List ℕ)) → (script : List ℕ) × IsScript known script
+some_script None = ([], tt)
+some_script (Some xs) = (xs, refl)
+
+pub prints_nothing : {E : Type 0} (history : ℕ) (known old new : Option (List ℕ)) (r : Result ℕ E)
+    → IfOk r (PrintsFault 27 old new) → IfOk r (AnswersScript history known old new)
+unfolding outcome
+prints_nothing history known old new (Ok n) fault =
+    let a = some_script known in
+    let l = first_piece 10 a.0 in
+    inr (record {
+      script = a.0;
+      is_it = a.1;
+      told = [];
+      unanswered = l.0;
+      more = l.1;
+      cut = l.2;
+      good = refl;
+      written = fault.written;
+      status = fault.status;
+    })
+prints_nothing history known old new (Err e) fault = tt
+
+-- the same, as the code has them
+pub whole_as : (history : ℕ) (s : Session) (o : Option Turn) (last : Turn) (status : ℕ) (known left old new : Option (List ℕ)) → Begins history s
+    → PlaysAll s o known left old new → o ≡ Some last → (PlaysAll s (Some last) known left old new → RanWhole s status known old new)
+    → AnswersScript history known old new status
+whole_as history s o last status known left old new b w is its =
+    inl (prints_run history s status known old new b (its (subst (λ z. PlaysAll s z known left old new) is w)))
+
+pub short_as : {E : Type 0} (history : ℕ) (s : Session) (o : Option Turn) (known left old mid new : Option (List ℕ)) (r : Result ℕ E) → Begins history s
+    → PlaysAll s o known left old mid → o ≡ Some turn.NoMemory → IfOk r (PrintsFault 27 mid new) → IfOk r (AnswersScript history known old new)
+short_as history s o known left old mid new r b w is fault =
+    prints_short history s known old mid new r b (subst (λ z. PlaysAll s z known left old mid) is w) fault
+
+pub unread_as : {E : Type 0} (history : ℕ) (s : Session) (o : Option Turn) (known left old mid new : Option (List ℕ)) (r : Result ℕ E) → Begins history s
+    → PlaysAll s o known left old mid → o ≡ None → IfOk r (PrintsFault 56 mid new) → IfOk r (PrintsUnread history known left old new)
+unread_as history s o known left old mid new r b w is fault =
+    prints_unread history s known left old mid new r b (subst (λ z. PlaysAll s z known left old mid) is w) fault
+
+-- a flush prints nothing
+pub unread_kept : (history : ℕ) (known left old mid new : Option (List ℕ)) (n : ℕ) → PrintsUnread history known left old mid n → Keeps mid new
+    → PrintsUnread history known left old new n
+unread_kept history known left old mid new n p kept = record {
+  front = p.front;
+  given = p.given;
+  told = p.told;
+  last = p.last;
+  cut = p.cut;
+  good = p.good;
+  written = Appends-kept old mid new _ p.written kept;
+  status = p.status;
+}
+
+pub answers_kept : (history : ℕ) (known old mid new : Option (List ℕ)) (n : ℕ) → AnswersScript history known old mid n → Keeps mid new
+    → AnswersScript history known old new n
+answers_kept history known old mid new n (inl p) kept =
+    inl (record { script = p.script; is_it = p.is_it; written = Appends-kept old mid new _ p.written kept; status = p.status })
+answers_kept history known old mid new n (inr p) kept =
+    inr (record {
+      script = p.script;
+      is_it = p.is_it;
+      told = p.told;
+      unanswered = p.unanswered;
+      more = p.more;
+      cut = p.cut;
+      good = p.good;
+      written = Appends-kept old mid new _ p.written kept;
+      status = p.status;
+    })

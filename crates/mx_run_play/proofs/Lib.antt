@@ -1,0 +1,5 @@
+mod Words
+mod Claims
+mod Sessions
+mod Reading
+mod Ending

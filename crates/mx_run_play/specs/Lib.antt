@@ -1,0 +1,7 @@
+-- What `run_play` promises, in the order to read it.
+pub mod Script
+pub mod Texts
+pub mod Turns
+pub mod Run
+-- Private: what the functions behind it promise one another.
+pub mod Session

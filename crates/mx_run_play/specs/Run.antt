@@ -1,0 +1,84 @@
+-- What playing a script prints, and how it ends.
+use Rattle.std.specs.Prelude.{◌≡◌, ℕ, ◌+◌, ◌⊎◌, List, [], ◌∷◌, ◌++◌, codes, decimal, Option, IfSome}
+use Rattle.std.specs.Io.KnownBytes.{Appends, Consumes}
+use Rattle.mx_run_play.specs.declared.script.Line.{Line}
+use Rattle.mx_run_play.specs.declared.script.Line.TheVariants as line
+use Rattle.mx_run_io.specs.Faults.{fault_line}
+use Rattle.mx_run_play.specs.Script.{line_of, lines_of}
+use Rattle.mx_run_play.specs.Texts.{said_text}
+use Rattle.mx_run_play.specs.Turns.{PlayerView, says, player_past}
+
+-- the text of a run, and its exit status
+pub record Outcome : Type 0 where
+  pub text : List ℕ
+  pub status : ℕ
+
+abbrev pub after : List ℕ → Outcome → Outcome
+after text o = record { text = text ++ o.text; status = o.status }
+
+-- the line that tells a bad line's number
+abbrev pub bad_line_text : ℕ → List ℕ
+bad_line_text number = codes "bad-line " ++ (decimal number ++ 10 ∷ [])
+
+-- a line, and then the rest: a bad line is told with its number and ends the run
+abbrev pub outcome_with : PlayerView → ℕ → Line → (PlayerView → Outcome) → Outcome
+outcome_with p number line.Silent rest = rest p
+outcome_with p number (line.Call c) rest = after (said_text (says p c)) (rest (player_past p c))
+outcome_with p number line.Bad rest = record { text = bad_line_text number; status = 122 }
+
+-- the run of lines from that player on, where the first of them has that number
+unfoldable pub outcome : List (List ℕ) → PlayerView → ℕ → Outcome
+outcome [] p number = record { text = []; status = 0 }
+outcome (text ∷ more) p number = outcome_with p number (line_of text) (λ q. outcome more q (number + 1))
+
+-- the player at first
+abbrev pub fresh : ℕ → PlayerView
+fresh history = record { opening = record { history = history }; journal = []; claims = []; mark = 0 }
+
+-- the run of some lines from the first on, and the run of a script
+abbrev pub run_of_lines : ℕ → List (List ℕ) → Outcome
+run_of_lines history texts = outcome texts (fresh history) 1
+
+abbrev pub run_of : ℕ → List ℕ → Outcome
+run_of history script = run_of_lines history (lines_of script)
+
+-- the script is what the reader had, where that is known
+abbrev pub IsScript : Option (List ℕ) → List ℕ → Type 0
+IsScript known script = IfSome known (λ all. all ≡ script)
+
+-- From old to new the run of the script is printed and nothing else, and the program ends with its status.
+pub record PrintsRun (history : ℕ) (known old new : Option (List ℕ)) (ends_with : ℕ) : Type 0 where
+  pub script : List ℕ
+  pub is_it : IsScript known script
+  pub written : Appends old new (run_of history script).text
+  pub status : ends_with ≡ (run_of history script).status
+
+-- The reader gave these bytes, and then a read failed: from old to new the run of the lines that they ended is
+-- printed, none of which was bad, and then the fault, and the program ends with its number. The last line was open.
+pub record PrintsUnread (history : ℕ) (known left old new : Option (List ℕ)) (ends_with : ℕ) : Type 0 where
+  pub front : List ℕ
+  pub given : Consumes known left front
+  pub told : List (List ℕ)
+  pub last : List ℕ
+  pub cut : lines_of front ≡ told ++ last ∷ []
+  pub good : (run_of_lines history told).status ≡ 0
+  pub written : Appends old new ((run_of_lines history told).text ++ fault_line 56)
+  pub status : ends_with ≡ 56
+
+-- There was no memory at some line: from old to new the run of the lines before it is printed, none of which was
+-- bad, and then the fault, and the program ends with its number.
+pub record PrintsNoMemory (history : ℕ) (known old new : Option (List ℕ)) (ends_with : ℕ) : Type 0 where
+  pub script : List ℕ
+  pub is_it : IsScript known script
+  pub told : List (List ℕ)
+  pub unanswered : List ℕ
+  pub more : List (List ℕ)
+  pub cut : lines_of script ≡ told ++ unanswered ∷ more
+  pub good : (run_of_lines history told).status ≡ 0
+  pub written : Appends old new ((run_of_lines history told).text ++ fault_line 27)
+  pub status : ends_with ≡ 27
+
+-- The run of the whole script is printed, or the want of memory.
+abbrev pub AnswersScript : ℕ → Option (List ℕ) → Option (List ℕ) → Option (List ℕ) → ℕ → Type 0
+AnswersScript history known old new ends_with =
+    PrintsRun history known old new ends_with ⊎ PrintsNoMemory history known old new ends_with

@@ -1,0 +1,77 @@
+//! The command `play`.
+ghost use Rattle.std.specs.Prelude.{◌≡◌, ◌≢◌, ◌+◌, ◌≤◌, ◌↔◌, true, IsErr, IfOk};
+ghost use Rattle.mx_run_io.specs.Ends.{reader_of, reads_of, most_reads_of, has_failed_read, writer_of, has_failed_write};
+ghost use Rattle.mx_run_play.specs.Run.{PrintsUnread, AnswersScript};
+
+use crate::player::Player;
+use crate::session::{Session, Turn};
+use mx_run_io::{Input, Output, UNWRITTEN, WriteFailed, end_with};
+use mx_types::Code;
+use std::alloc::Global;
+use std::io::{Read, Write};
+
+/// The exit status after a bad line.
+const BAD_LINE: u8 = 122;
+
+/// What `run_play` prints, and its exit status, where each write succeeds.
+fn play_script<R: Read, W: Write>(
+    alloc: Global,
+    history: u32,
+    input: &mut Input<R>,
+    output: &mut Output<W>,
+) -> Result<u8, WriteFailed>
+    requires history { (4 ≤ history) × (history ≤ 1048576) }
+    requires allowed { most_reads_of input.old ≤ 4294967295 }
+    ensures reads { reads_of input.new ≤ reads_of input.old + 4294967295 }
+    ensures unread { has_failed_read input.old ≢ true → has_failed_read input.new ≡ true
+        → IfOk result (PrintsUnread history
+        (R.remaining (reader_of input.old)) (R.remaining (reader_of input.new))
+        (W.contents (writer_of output.old)) (W.contents (writer_of output.new))) }
+    ensures answered { has_failed_read input.new ≢ true → IfOk result (AnswersScript history
+        (R.remaining (reader_of input.old)) (W.contents (writer_of output.old)) (W.contents (writer_of output.new))) }
+    ensures written { IfOk result (λ status. status ≢ 121) }
+    ensures failed { IsErr result → has_failed_write output.new ≡ true }
+{
+    let Ok(player) = Player::new(alloc, history) else {
+        return end_with(output, Code::OutOfMemory);
+    };
+    let mut session = Session::new(player);
+    match session.play_all(input, output)? {
+        Some(Turn::On) => Ok(0),
+        Some(Turn::Bad) => Ok(BAD_LINE),
+        Some(Turn::NoMemory) => end_with(output, Code::OutOfMemory),
+        None => end_with(output, Code::RecvError),
+    }
+}
+
+/// Plays a script of calls, as seat 0, on a control core with a history of so many events, and prints what each
+/// line is answered. The answer is the exit status: 0; 122 after a bad line, whose number is printed; 56 where a
+/// read failed, and 27 where there was no memory; 121 where the output couldn't be written.
+///
+/// The script is read to its end or to a bad line, by at most 4,294,967,295 reads, and no more may be allowed to the input:
+/// one more counts as failed. A
+/// read that fails prints `FAULT 56` after the replies to the lines that ended before it, and want of memory
+/// prints `FAULT 27` after those to some of the first lines.
+pub fn run_play<R: Read, W: Write>(
+    alloc: Global,
+    history: u32,
+    input: &mut Input<R>,
+    output: &mut Output<W>,
+) -> u8
+    requires history { (4 ≤ history) × (history ≤ 1048576) }
+    requires allowed { most_reads_of input.old ≤ 4294967295 }
+    ensures reads { reads_of input.new ≤ reads_of input.old + 4294967295 }
+    ensures unwritten { (result ≡ UNWRITTEN) ↔ (has_failed_write output.new ≡ true) }
+    ensures unread { has_failed_write output.new ≢ true
+        → has_failed_read input.old ≢ true → has_failed_read input.new ≡ true
+        → PrintsUnread history (R.remaining (reader_of input.old)) (R.remaining (reader_of input.new))
+        (W.contents (writer_of output.old)) (W.contents (writer_of output.new)) result }
+    ensures answered { has_failed_write output.new ≢ true → has_failed_read input.new ≢ true
+        → AnswersScript history (R.remaining (reader_of input.old))
+        (W.contents (writer_of output.old)) (W.contents (writer_of output.new)) result }
+{
+    match play_script(alloc, history, input, output) {
+        Ok(status) if output.flush().is_ok() => status,
+        _ => UNWRITTEN,
+    }
+}

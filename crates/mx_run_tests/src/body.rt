@@ -1,0 +1,368 @@
+//! `run_body` over readers and writers in memory.
+use crate::fakes::{Full, Trickle};
+use mx_run_body::{MOST_READS, run_body};
+use mx_run_io::{Input, Output};
+use mx_types::Method;
+use std::alloc::Global;
+use std::process::Abort;
+use std::test::Fail;
+
+/// Runs `body` on the bytes, and compares the exit status and all that is written.
+fn prints(rt: &impl Abort, alloc: Global, method: Method, input: &[u8], status: u8, output: &[u8]) {
+    let mut written = Vec::new(alloc);
+    let ended = run_body(
+        alloc,
+        method,
+        &mut Input::new(input, MOST_READS),
+        &mut Output::new(&mut written),
+    );
+    assert_eq!(rt; ended, status);
+    assert!(rt; written.as_slice() == output);
+}
+
+fn joined(alloc: Global, front: &[u8], rest: &[u8]) -> Result<Vec<u8>, Fail> {
+    let mut bytes = front.to_vec(alloc)?;
+    bytes.extend_from_slice(rest)?;
+    Ok(bytes)
+}
+
+/// A response head with so many field lines, and then the end.
+fn with_fields(alloc: Global, count: usize, end: &[u8]) -> Result<Vec<u8>, Fail> {
+    let mut bytes = b"HTTP/1.1 200 OK\r\n".to_vec(alloc)?;
+    for _ in 0..count {
+        bytes.extend_from_slice(b"A: b\r\n")?;
+    }
+    bytes.extend_from_slice(end)?;
+    Ok(bytes)
+}
+
+#[test]
+fn counted_bodies(rt: HostRuntime) {
+    let alloc = rt.alloc();
+    let whole = b"HTTP/1.1 200 OK\r\nContent-Length: 5\r\n\r\nhello";
+    let answer = b"OK status=200 body=5 keep=yes left=0\nhello";
+    prints(&rt, alloc, Method::Get, whole, 0, answer);
+    let twice = b"HTTP/1.1 200 OK\r\nContent-Length: 5, 5\r\n\r\nhello";
+    prints(&rt, alloc, Method::Get, twice, 0, answer);
+    let behind = b"HTTP/1.1 200 OK\r\nContent-Length: 5\r\n\r\nhelloHTTP";
+    prints(
+        &rt,
+        alloc,
+        Method::Get,
+        behind,
+        0,
+        b"OK status=200 body=5 keep=yes left=4\nhello",
+    );
+    let head = b"HTTP/1.1 200 OK\r\nContent-Length: 5\r\n\r\n";
+    prints(
+        &rt,
+        alloc,
+        Method::Head,
+        head,
+        0,
+        b"OK status=200 body=0 keep=yes left=0\n",
+    );
+    let short = b"HTTP/1.1 200 OK\r\nContent-Length: 5\r\n\r\nhell";
+    prints(&rt, alloc, Method::Get, short, 18, b"FAULT 18\n");
+    let fits = b"HTTP/1.1 200 OK\r\nContent-Length: 67108819\r\n\r\n";
+    prints(&rt, alloc, Method::Get, fits, 18, b"FAULT 18\n");
+    let large = b"HTTP/1.1 200 OK\r\nContent-Length: 67108820\r\n\r\n";
+    prints(&rt, alloc, Method::Get, large, 63, b"FAULT 63\n");
+}
+
+#[test]
+fn bodies_that_the_end_ends(rt: HostRuntime) -> Result<(), Fail> {
+    let alloc = rt.alloc();
+    let close = b"HTTP/1.0 200 OK\r\n\r\nabc";
+    prints(
+        &rt,
+        alloc,
+        Method::Get,
+        close,
+        0,
+        b"OK status=200 body=3 keep=no left=0\nabc",
+    );
+    let many = with_fields(alloc, 128, b"\r\n")?;
+    prints(
+        &rt,
+        alloc,
+        Method::Get,
+        &many,
+        0,
+        b"OK status=200 body=0 keep=no left=0\n",
+    );
+    Ok(())
+}
+
+#[test]
+fn chunked_bodies(rt: HostRuntime) -> Result<(), Fail> {
+    let alloc = rt.alloc();
+    let answer = b"OK status=200 body=5 keep=yes left=0\nhello";
+    let head = b"HTTP/1.1 200 OK\r\nTransfer-Encoding: chunked\r\n\r\n".as_slice();
+    let whole = joined(alloc, head, b"5;x=y\r\nhello\r\n0\r\nA: b\r\n\r\n")?;
+    prints(&rt, alloc, Method::Get, &whole, 0, answer);
+    let sized = b"HTTP/1.1 200 OK\r\nTransfer-Encoding: chunked\r\nContent-Length: 3\r\n\r\n\
+        5\r\nhello\r\n0\r\n\r\n";
+    let not_kept = b"OK status=200 body=5 keep=no left=0\nhello";
+    prints(&rt, alloc, Method::Get, sized, 0, not_kept);
+    let large = joined(alloc, head, b"FFFFFFFFFFFFFFFFF\r\n")?;
+    prints(&rt, alloc, Method::Get, &large, 63, b"FAULT 63\n");
+    let unended = joined(alloc, head, b"5\r\nhelloX")?;
+    prints(&rt, alloc, Method::Get, &unended, 56, b"FAULT 56\n");
+    let bare = joined(alloc, head, b"5\nhello")?;
+    prints(&rt, alloc, Method::Get, &bare, 56, b"FAULT 56\n");
+    let fits = joined(alloc, head, b"4000000\r\n")?;
+    prints(&rt, alloc, Method::Get, &fits, 18, b"FAULT 18\n");
+    let over = joined(alloc, head, b"4000001\r\n")?;
+    prints(&rt, alloc, Method::Get, &over, 63, b"FAULT 63\n");
+    let two = joined(alloc, head, b"2\r\nhe\r\n3\r\nllo\r\n0\r\n\r\nHTTP")?;
+    prints(
+        &rt,
+        alloc,
+        Method::Get,
+        &two,
+        0,
+        b"OK status=200 body=5 keep=yes left=4\nhello",
+    );
+    Ok(())
+}
+
+#[test]
+fn interim_heads(rt: HostRuntime) -> Result<(), Fail> {
+    let alloc = rt.alloc();
+    let hints = b"HTTP/1.1 103 Early Hints\r\n\r\nHTTP/1.1 204 No Content\r\n\r\n";
+    prints(
+        &rt,
+        alloc,
+        Method::Get,
+        hints,
+        0,
+        b"OK status=204 body=0 keep=yes left=0\n",
+    );
+    let switching = b"HTTP/1.1 101 Switching Protocols\r\n\r\n";
+    prints(&rt, alloc, Method::Get, switching, 8, b"FAULT 8\n");
+    let mut many = Vec::new(alloc);
+    for _ in 0..16 {
+        many.extend_from_slice(b"HTTP/1.1 103 Early Hints\r\n\r\n")?;
+    }
+    let whole = b"HTTP/1.1 200 OK\r\nContent-Length: 5\r\n\r\nhello";
+    let sixteen = joined(alloc, &many, whole)?;
+    prints(
+        &rt,
+        alloc,
+        Method::Get,
+        &sixteen,
+        0,
+        b"OK status=200 body=5 keep=yes left=0\nhello",
+    );
+    many.extend_from_slice(b"HTTP/1.1 103 Early Hints\r\n\r\n")?;
+    let seventeen = joined(alloc, &many, whole)?;
+    prints(&rt, alloc, Method::Get, &seventeen, 8, b"FAULT 8\n");
+    Ok(())
+}
+
+#[test]
+fn refused_heads(rt: HostRuntime) -> Result<(), Fail> {
+    let alloc = rt.alloc();
+    prints(&rt, alloc, Method::Get, b"", 52, b"FAULT 52\n");
+    prints(&rt, alloc, Method::Get, b"HTTP/1.1 20", 8, b"FAULT 8\n");
+    let differ = b"HTTP/1.1 200 OK\r\nContent-Length: 5, 6\r\n\r\nhello";
+    prints(&rt, alloc, Method::Get, differ, 8, b"FAULT 8\n");
+    let coded = b"HTTP/1.1 200 OK\r\nTransfer-Encoding: gzip, chunked\r\n\r\n";
+    prints(&rt, alloc, Method::Get, coded, 61, b"FAULT 61\n");
+    let old = b"HTTP/1.0 200 OK\r\nTransfer-Encoding: chunked\r\n\r\n";
+    prints(&rt, alloc, Method::Get, old, 8, b"FAULT 8\n");
+    let fields = with_fields(alloc, 129, b"\r\n")?;
+    prints(&rt, alloc, Method::Get, &fields, 100, b"FAULT 100\n");
+    let colon = with_fields(alloc, 128, b":")?;
+    prints(&rt, alloc, Method::Get, &colon, 100, b"FAULT 100\n");
+    Ok(())
+}
+
+/// What nginx 1.22 and Python's `http.server` sent on loopback: with a length, until the end, and in chunks.
+#[test]
+fn captures_of_real_servers(rt: HostRuntime) {
+    let alloc = rt.alloc();
+    let nginx =
+        b"HTTP/1.1 200 OK\r\nServer: nginx/1.22.1\r\nDate: Sun, 22 Nov 2026 08:49:54 GMT\r\n\
+        Content-Type: text/plain\r\nContent-Length: 14\r\nLast-Modified: Sun, 22 Nov 2026 08:49:52 GMT\r\n\
+        Connection: close\r\nETag: \"6b02acb0-e\"\r\nAccept-Ranges: bytes\r\n\r\nhello, world.\n";
+    prints(
+        &rt,
+        alloc,
+        Method::Get,
+        nginx,
+        0,
+        b"OK status=200 body=14 keep=no left=0\nhello, world.\n",
+    );
+    let until_the_end =
+        b"HTTP/1.1 200 OK\r\nServer: nginx/1.22.1\r\nDate: Sun, 22 Nov 2026 08:49:54 GMT\r\n\
+        Content-Type: text/html\r\nConnection: close\r\n\r\ntime: none\n";
+    prints(
+        &rt,
+        alloc,
+        Method::Get,
+        until_the_end,
+        0,
+        b"OK status=200 body=11 keep=no left=0\ntime: none\n",
+    );
+    let chunks =
+        b"HTTP/1.1 200 OK\r\nServer: nginx/1.22.1\r\nDate: Sun, 22 Nov 2026 08:49:55 GMT\r\n\
+        Content-Type: text/html\r\nTransfer-Encoding: chunked\r\nConnection: close\r\n\r\n\
+        b\r\ntime: none\n\r\n0\r\n\r\n";
+    prints(
+        &rt,
+        alloc,
+        Method::Get,
+        chunks,
+        0,
+        b"OK status=200 body=11 keep=no left=0\ntime: none\n",
+    );
+    let python = b"HTTP/1.0 200 OK\r\nServer: SimpleHTTP/0.6 Python/3.11.7\r\n\
+        Date: Sun, 22 Nov 2026 08:49:56 GMT\r\nContent-type: text/plain\r\nContent-Length: 14\r\n\
+        Last-Modified: Sun, 22 Nov 2026 08:49:52 GMT\r\n\r\nhello, world.\n";
+    prints(
+        &rt,
+        alloc,
+        Method::Get,
+        python,
+        0,
+        b"OK status=200 body=14 keep=no left=0\nhello, world.\n",
+    );
+}
+
+/// A head with that value of Content-Length, and then a body of five bytes.
+fn with_length(alloc: Global, value: &[u8]) -> Result<Vec<u8>, Fail> {
+    let mut bytes = b"HTTP/1.1 200 OK\r\nContent-Length: ".to_vec(alloc)?;
+    bytes.extend_from_slice(value)?;
+    bytes.extend_from_slice(b"\r\n\r\nhello")?;
+    Ok(bytes)
+}
+
+#[test]
+fn lengths_that_are_no_numbers(rt: HostRuntime) -> Result<(), Fail> {
+    let alloc = rt.alloc();
+    let refused: [&[u8]; 9] = [
+        b"", b"+5", b"-5", b"5 5", b"5,", b"5,,5", b"0x5", b"5.0", b"\xff",
+    ];
+    for value in refused {
+        let input = with_length(alloc, value)?;
+        prints(&rt, alloc, Method::Get, &input, 8, b"FAULT 8\n");
+    }
+    let large = with_length(alloc, b"18446744073709551616")?;
+    prints(&rt, alloc, Method::Get, &large, 63, b"FAULT 63\n");
+    let differ = with_length(alloc, b"18446744073709551616, 18446744073709551615")?;
+    prints(&rt, alloc, Method::Get, &differ, 8, b"FAULT 8\n");
+    let zeros = with_length(alloc, b"  0005\t,5 ")?;
+    prints(
+        &rt,
+        alloc,
+        Method::Get,
+        &zeros,
+        0,
+        b"OK status=200 body=5 keep=yes left=0\nhello",
+    );
+    Ok(())
+}
+
+#[test]
+fn hostile_bytes(rt: HostRuntime) -> Result<(), Fail> {
+    let alloc = rt.alloc();
+    let head = b"HTTP/1.1 200 OK\r\nContent-Length: 5\r\n\r\n".as_slice();
+    for cut in 1..head.len() {
+        prints(&rt, alloc, Method::Get, &head[..cut], 8, b"FAULT 8\n");
+    }
+    let refused: [&[u8]; 6] = [
+        b"\0",
+        b"HTTP/1.1 200 OK\rA: b\r\n\r\n",
+        b"HTTP/1.1 200 OK\r\nA: b\0c\r\n\r\n",
+        b"HTTP/1.1 200 OK\r\nA\0: b\r\n\r\n",
+        b"HTTP/1.1 200 OK\r\nA : b\r\n\r\n",
+        b"HTTP/2.0 200 OK\r\n\r\n",
+    ];
+    for input in refused {
+        prints(&rt, alloc, Method::Get, input, 8, b"FAULT 8\n");
+    }
+    let mut long = b"HTTP/1.1 200 OK\r\nA: ".to_vec(alloc)?;
+    for _ in 0..70_000 {
+        long.push(b'v')?;
+    }
+    prints(&rt, alloc, Method::Get, &long, 100, b"FAULT 100\n");
+    Ok(())
+}
+
+/// Bytes of a linear congruential generator, of which the first begins no head.
+#[test]
+fn random_bytes(rt: HostRuntime) -> Result<(), Fail> {
+    let alloc = rt.alloc();
+    let mut state: u32 = 20261122;
+    for _ in 0..200 {
+        let mut bytes = vec![in alloc; b'!']?;
+        for _ in 0..100 {
+            state = state.wrapping_mul(1664525).wrapping_add(1013904223);
+            bytes.push((state >> 24) as u8)?;
+        }
+        prints(&rt, alloc, Method::Get, &bytes, 8, b"FAULT 8\n");
+    }
+    Ok(())
+}
+
+#[test]
+fn reads_that_fail(rt: HostRuntime) {
+    let alloc = rt.alloc();
+    let whole = b"HTTP/1.1 200 OK\r\nContent-Length: 5\r\n\r\nhello".as_slice();
+    for cut in 0..=whole.len() {
+        let mut written = Vec::new(alloc);
+        let reader = Trickle {
+            bytes: &whole[..cut],
+            fails: true,
+        };
+        let ended = run_body(
+            alloc,
+            Method::Get,
+            &mut Input::new(reader, MOST_READS),
+            &mut Output::new(&mut written),
+        );
+        assert_eq!(&rt; ended, 56);
+        assert!(&rt; written.as_slice() == b"FAULT 56\n".as_slice());
+    }
+}
+
+#[test]
+fn bytes_that_trickle_in(rt: HostRuntime) {
+    let alloc = rt.alloc();
+    let mut written = Vec::new(alloc);
+    let reader = Trickle {
+        bytes: b"HTTP/1.1 200 OK\r\nContent-Length: 5\r\n\r\nhello",
+        fails: false,
+    };
+    let mut input = Input::new(reader, MOST_READS);
+    let ended = run_body(
+        alloc,
+        Method::Get,
+        &mut input,
+        &mut Output::new(&mut written),
+    );
+    assert_eq!(&rt; ended, 0);
+    assert!(&rt; written.as_slice() == b"OK status=200 body=5 keep=yes left=0\nhello".as_slice());
+}
+
+#[test]
+fn writes_that_fail(rt: HostRuntime) {
+    let alloc = rt.alloc();
+    let whole = b"HTTP/1.1 200 OK\r\nContent-Length: 5\r\n\r\nhello".as_slice();
+    for writes in 0..4 {
+        let mut taken = Vec::new(alloc);
+        let writer = Full {
+            taken: &mut taken,
+            writes,
+        };
+        let ended = run_body(
+            alloc,
+            Method::Get,
+            &mut Input::new(whole, MOST_READS),
+            &mut Output::new(writer),
+        );
+        assert_eq!(&rt; ended, 121);
+    }
+}

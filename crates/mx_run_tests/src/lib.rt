@@ -1,0 +1,9 @@
+//! The commands of `mxfetch` over readers and writers in memory. There is nothing in this crate but tests.
+#![tactic(auto)]
+
+#[cfg(test)]
+mod body;
+#[cfg(test)]
+mod fakes;
+#[cfg(test)]
+mod play;
