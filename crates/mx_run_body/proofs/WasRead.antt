@@ -1,8 +1,9 @@
 -- What was read, once the input ended or enough of it was there.
-use Rattle.std.proofs.Common.{◌≡◌, ℕ, ◌+◌, ◌<◌, ◌≤◌, List, [], ◌++◌, length, take, refl, sym, ◌∙◌, ap, arith, append-nil}
+use Rattle.std.proofs.Common.{◌≡◌, ◌≢◌, ℕ, ◌+◌, ◌<◌, ◌≤◌, List, [], ◌∷◌, ◌++◌, length, take, refl, sym, ◌∙◌, ap, subst, arith, append-nil, length-append}
 use Rattle.std.specs.Prelude.{Option, Some, None, IfSome}
 use Rattle.std.specs.Io.KnownBytes.{Consumes, IsAtEnd}
 use Rattle.std.proofs.lemmas.List.{take_all}
+use Rattle.std.proofs.KnownBytes.{Consumes-trans}
 use Rattle.std.proofs.Math.Seq.{take-append_seam}
 use Rattle.mx_run_body.specs.Reading.{bytes_read}
 
@@ -31,3 +32,29 @@ filled None new bytes most front full = tt
 filled (Some xs) None bytes most front full = absurd front
 filled (Some xs) (Some ys) bytes most front full =
     rw (← full, front) (sym (take-append_seam bytes ys))
+
+-- a read gave nothing
+pub given_none : (known mid left : Option (List ℕ)) (bytes buffer : List ℕ) (count : ℕ)
+    → Consumes known mid bytes → Consumes mid left (take count buffer) → count ≡ 0 → Consumes known left bytes
+given_none known mid left bytes buffer count front gave none =
+    subst (Consumes known left) (append-nil bytes)
+    (Consumes-trans known mid left bytes [] front (subst (λ n. Consumes mid left (take n buffer)) none gave))
+
+-- a read gave something, so the input had bytes
+pub had_bytes : (known mid left : Option (List ℕ)) (bytes got : List ℕ)
+    → Consumes known mid bytes → Consumes mid left got → 0 < length got → known ≢ Some []
+had_bytes None mid left bytes got front gave some = λ e. cc
+had_bytes (Some (x ∷ xs)) mid left bytes got front gave some = λ e. cc
+had_bytes (Some []) None left bytes got front gave some = absurd front
+had_bytes (Some []) (Some ys) None bytes got front gave some = absurd gave
+had_bytes (Some []) (Some ys) (Some zs) bytes got front gave some = λ e.
+    let all : 0 ≡ length bytes + length ys = ap length front ∙ length-append bytes ys in
+    let more : length ys ≡ length got + length zs = ap length gave ∙ length-append got zs in omega arith
+
+-- nothing was read of an input without bytes
+pub none_read : (known : Option (List ℕ)) (bytes : List ℕ) (most : ℕ)
+    → IfSome known (λ xs. bytes ≡ bytes_read most xs) → known ≡ Some [] → bytes ≡ []
+unfolding bytes_read
+none_read None bytes most read e = cc
+none_read (Some (x ∷ xs)) bytes most read e = cc
+none_read (Some []) bytes most read e = read ∙ take_all (most + 1) [] (omega arith)

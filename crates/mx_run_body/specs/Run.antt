@@ -1,6 +1,6 @@
 -- What `body` prints: the text of the verdict on what was read.
-use Rattle.std.specs.Prelude.{◌≡◌, ℕ, ◌-◌, ◌≤◌, ◌⊎◌, true, List, [], ◌++◌, length, Option, IfSome}
-use Rattle.std.specs.Io.KnownBytes.{Appends}
+use Rattle.std.specs.Prelude.{◌≡◌, ◌≢◌, ℕ, ◌-◌, ◌≤◌, ◌⊎◌, true, List, [], ◌++◌, length, Option, Some, IfSome}
+use Rattle.std.specs.Io.KnownBytes.{Appends, Consumes}
 use Rattle.mx_types.specs.Code.{code_number}
 use Rattle.mx_types.specs.declared.code.Code.TheVariants as codes
 use Rattle.mx_types.specs.declared.method.Method.{Method}
@@ -42,12 +42,14 @@ FitsIn input (verdict.Complete status len parts keep) = AreOrdered 0 len parts.i
 FitsIn input verdict.More = ⊥
 FitsIn input (verdict.Fault code) = Unit {0}
 
--- what was read of the bytes that the input had, where they are known: all, or one more than a response has
-abbrev pub IsRead : Option (List ℕ) → List ℕ → Type 0
-IsRead known bytes = IfSome known (λ input. bytes ≡ bytes_read most_bytes input)
+-- These bytes were read: they stood at the front of what the reader had, and are all of it, or one byte more than a
+-- response has.
+pub record WasRead (known left : Option (List ℕ)) (bytes : List ℕ) : Type 0 where
+  pub given : Consumes known left bytes
+  pub enough : IfSome known (λ input. bytes ≡ bytes_read most_bytes input)
 
--- The verdict on what was read is printed, or the want of memory.
-abbrev pub AnswersRead : Method → Option (List ℕ) → Option (List ℕ) → Option (List ℕ) → ℕ → Type 0
-AnswersRead m known old new ends_with =
-    PrintsFault (code_number codes.OutOfMemory) old new ends_with
-    ⊎ ((bytes : List ℕ) × IsRead known bytes × PrintsVerdict m bytes old new ends_with)
+-- The verdict on what was read is printed; or the want of memory, which an input without bytes never meets.
+abbrev pub AnswersRead : Method → Option (List ℕ) → Option (List ℕ) → Option (List ℕ) → Option (List ℕ) → ℕ → Type 0
+AnswersRead m known left old new ends_with =
+    (PrintsFault (code_number codes.OutOfMemory) old new ends_with × (known ≢ Some []))
+    ⊎ ((bytes : List ℕ) × WasRead known left bytes × PrintsVerdict m bytes old new ends_with)

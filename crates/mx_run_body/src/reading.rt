@@ -1,7 +1,8 @@
 //! Reading an input whole.
-ghost use Rattle.std.specs.Prelude.{◌≡◌, ◌+◌, ◌<◌, ◌≤◌, ◌^◌, ◌↔◌, true, false, Err, IfOk, IfErr, IfSome, ◌⊎◌};
+ghost use Rattle.std.specs.Prelude.{◌≡◌, ◌≢◌, ◌+◌, ◌<◌, ◌≤◌, ◌^◌, ◌↔◌, [], true, Some, Err, IfOk, IfSome, ◌⊎◌};
+ghost use Rattle.std.specs.Io.KnownBytes.{Consumes};
 ghost use Rattle.mx_run_io.specs.Ends.{reader_of, reads_of, most_reads_of, has_failed_read};
-ghost use Rattle.mx_run_body.specs.Reading.{bytes_read};
+ghost use Rattle.mx_run_body.specs.Reading.{bytes_read, ReadsUpTo};
 ghost use Rattle.mx_run_body.specs.declared.reading.InputError.TheVariants.{Failed, OutOfMemory};
 
 use mx_run_io::Input;
@@ -26,9 +27,16 @@ pub fn read_input<R: Read>(
     input: &mut Input<R>,
     most: usize,
 ) -> Result<Vec<u8>, InputError>
-    requires { most < 2 ^ 32 }
+    requires few { most < 2 ^ 32 }
+    requires room { reads_of input.old + (most + 2) ≤ most_reads_of input.old }
     ensures bytes { IfOk result (λ v. IfSome (R.remaining (reader_of input.old)) (λ xs. v.items ≡ bytes_read most xs)) }
+    ensures given { IfOk result (λ v. Consumes (R.remaining (reader_of input.old)) (R.remaining (reader_of input.new)) v.items) }
+    ensures left { ReadsUpTo most (has_failed_read input.new)
+        (R.remaining (reader_of input.old)) (R.remaining (reader_of input.new)) }
+    ensures memory { result ≡ Err OutOfMemory → R.remaining (reader_of input.old) ≢ Some [] }
     ensures failed { (result ≡ Err Failed) ↔ (has_failed_read input.new ≡ true) }
+    ensures asked { has_failed_read input.new ≡ true
+        → (has_failed_read input.old ≡ true) ⊎ (reads_of input.old < reads_of input.new) }
     ensures reads { reads_of input.new ≤ reads_of input.old + (most + 2) }
 {
     let mut bytes = Vec::new(alloc);

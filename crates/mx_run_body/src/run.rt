@@ -1,12 +1,13 @@
 //! The command `body`: a whole response from its bytes.
-ghost use Rattle.std.specs.Prelude.{◌≡◌, ◌≢◌, ◌+◌, ◌<◌, ◌≤◌, ◌^◌, ◌++◌, ◌↔◌, true, All, IfOk, OnOk, IsErr, length, sum_by};
+ghost use Rattle.std.specs.Prelude.{◌≡◌, ◌≢◌, ◌+◌, ◌<◌, ◌≤◌, ◌^◌, ◌++◌, ◌↔◌, ◌⊎◌, true, false, All, IfOk, OnOk, IsErr, length, sum_by};
 ghost use Rattle.std.specs.Io.KnownBytes.{Appends};
 ghost use Rattle.mx_types.specs.Code.{code_number};
 ghost use Rattle.mx_head.specs.Limits.{most_bytes};
-ghost use Rattle.mx_run_io.specs.Ends.{reader_of, reads_of, has_failed_read, writer_of, has_failed_write};
+ghost use Rattle.mx_run_io.specs.Ends.{reader_of, reads_of, most_reads_of, has_failed_read, writer_of, has_failed_write, is_pending};
 ghost use Rattle.mx_body.specs.Parts.{joined};
 ghost use Rattle.mx_run_body.specs.Texts.{part_len, response_line, StandsWithin};
 ghost use Rattle.mx_run_io.specs.Faults.{PrintsFault};
+ghost use Rattle.mx_run_body.specs.Reading.{ReadsUpTo};
 ghost use Rattle.mx_run_body.specs.Run.{text_of, exit_status, AnswersRead, FitsIn};
 
 use crate::reading::{InputError, read_input};
@@ -98,11 +99,17 @@ fn print_body<R: Read, W: Write>(
     input: &mut Input<R>,
     output: &mut Output<W>,
 ) -> Result<u8, WriteFailed>
+    requires room { reads_of input.old + (most_bytes + 2) ≤ most_reads_of input.old }
     ensures reads { reads_of input.new ≤ reads_of input.old + (most_bytes + 2) }
+    ensures left { ReadsUpTo most_bytes (has_failed_read input.new)
+        (R.remaining (reader_of input.old)) (R.remaining (reader_of input.new)) }
+    ensures asked { has_failed_read input.new ≡ true
+        → (has_failed_read input.old ≡ true) ⊎ (reads_of input.old < reads_of input.new) }
     ensures unread { has_failed_read input.new ≡ true → IfOk result (PrintsFault (code_number Code.RecvError)
         (W.contents (writer_of output.old)) (W.contents (writer_of output.new))) }
     ensures answered { has_failed_read input.new ≢ true → IfOk result (AnswersRead method
-        (R.remaining (reader_of input.old)) (W.contents (writer_of output.old)) (W.contents (writer_of output.new))) }
+        (R.remaining (reader_of input.old)) (R.remaining (reader_of input.new))
+        (W.contents (writer_of output.old)) (W.contents (writer_of output.new))) }
     ensures small { IfOk result (λ status. status < 121) }
     ensures failed { IsErr result ↔ (has_failed_write output.new ≡ true) }
 {
@@ -123,22 +130,30 @@ fn print_body<R: Read, W: Write>(
 /// or the line of a fault. The answer is the exit status: 0, the number of the fault's code, or 121 where the
 /// output couldn't be written.
 ///
-/// The input is read to its end, or until there are more than 67,108,864 bytes, by at most two reads more
-/// than that. A read that fails prints `FAULT 56`, whatever came before it; where there is no memory for what was
-/// read or for the pieces of its body, `FAULT 27` is printed.
+/// The input is read to its end, or until there are more than 67,108,864 bytes and then no further, by at most two
+/// reads more than that: so many the input has to have left. A read that fails prints `FAULT 56`, whatever came
+/// before it; where there is no memory for what was read or for the pieces of its body, `FAULT 27` is printed.
+///
+/// All that is printed is flushed, unless the answer is 121.
 pub fn run_body<R: Read, W: Write>(
     alloc: Global,
     method: Method,
     input: &mut Input<R>,
     output: &mut Output<W>,
 ) -> u8
+    requires room { reads_of input.old + (most_bytes + 2) ≤ most_reads_of input.old }
     ensures reads { reads_of input.new ≤ reads_of input.old + (most_bytes + 2) }
+    ensures left { ReadsUpTo most_bytes (has_failed_read input.new)
+        (R.remaining (reader_of input.old)) (R.remaining (reader_of input.new)) }
+    ensures asked { has_failed_read input.new ≡ true
+        → (has_failed_read input.old ≡ true) ⊎ (reads_of input.old < reads_of input.new) }
     ensures unwritten { (result ≡ UNWRITTEN) ↔ (has_failed_write output.new ≡ true) }
+    ensures flushed { result ≢ UNWRITTEN → is_pending output.new ≡ false }
     ensures unread { has_failed_write output.new ≢ true → has_failed_read input.new ≡ true
         → PrintsFault (code_number Code.RecvError)
         (W.contents (writer_of output.old)) (W.contents (writer_of output.new)) result }
     ensures answered { has_failed_write output.new ≢ true → has_failed_read input.new ≢ true
-        → AnswersRead method (R.remaining (reader_of input.old))
+        → AnswersRead method (R.remaining (reader_of input.old)) (R.remaining (reader_of input.new))
         (W.contents (writer_of output.old)) (W.contents (writer_of output.new)) result }
 {
     match print_body(alloc, method, input, output) {

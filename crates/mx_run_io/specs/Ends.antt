@@ -16,9 +16,12 @@ most_reads_of input = input.most
 abbrev pub has_failed_read : {R : Type 0} → Input R → Bool
 has_failed_read input = input.failed
 
--- the writer, and whether a write failed
+-- the writer, whether a write failed, and whether something was written since the last flush
 abbrev pub writer_of : {W : Type 0} → Output W → W
 writer_of output = output.writer
 
 abbrev pub has_failed_write : {W : Type 0} → Output W → Bool
 has_failed_write output = output.failed
+
+abbrev pub is_pending : {W : Type 0} → Output W → Bool
+is_pending output = output.pending

@@ -15,7 +15,7 @@ pub struct Input<R> {
 }
 
 impl<R: Read> Input<R> {
-    ghost use Rattle.std.specs.Prelude.{◌≡◌, ◌+◌, ◌<◌, ◌≤◌, true, false, IsErr, IsOk, OnOk, OnErr, ◌↔◌};
+    ghost use Rattle.std.specs.Prelude.{◌≡◌, ◌+◌, ◌<◌, ◌≤◌, true, false, IsErr, IsOk, OnOk, OnErr, ◌↔◌, ◌⊎◌};
     ghost use Rattle.std.specs.Io.{ReadsAtMost};
     ghost use Rattle.std.specs.Io.KnownBytes.{ReadConsumes};
     ghost use Rattle.mx_run_io.specs.Ends.{reader_of, reads_of, most_reads_of, has_failed_read};
@@ -42,9 +42,12 @@ impl<R: Read> Input<R> {
             result buffer.new }
         ensures counted { OnOk result (reads_of self.new ≡ reads_of self.old + 1) }
         ensures limited { OnOk result (reads_of self.new ≤ most_reads_of self.old) }
+        ensures at_least { reads_of self.old ≤ reads_of self.new }
         ensures at_most { reads_of self.new ≤ reads_of self.old + 1 }
         ensures most { most_reads_of self.new ≡ most_reads_of self.old }
         ensures failed { IsErr result ↔ (has_failed_read self.new ≡ true) }
+        ensures asked { OnErr result ((has_failed_read self.old ≡ true)
+            ⊎ ((most_reads_of self.old ≤ reads_of self.old) ⊎ (reads_of self.new ≡ reads_of self.old + 1))) }
         ensures stays { has_failed_read self.old ≡ true → self.new ≡ self.old }
     {
         if self.failed || self.reads >= self.most {

@@ -6,26 +6,30 @@ use std::io::Write;
 #[derive(Clone, Copy, Debug, PartialEq, Eq)]
 pub struct WriteFailed;
 
-/// A writer that remembers whether a write failed. Once one did, each further one fails too and writes nothing.
+/// A writer that remembers whether a write failed, and whether something was written since it was last flushed.
+/// Once a write failed, each further one fails too and writes nothing.
 #[derive(Drop)]
 pub struct Output<W> {
     writer: W,
     failed: bool,
+    pending: bool,
 }
 
 impl<W: Write> Output<W> {
     ghost use Rattle.std.specs.Prelude.{◌≡◌, true, false, IsErr, OnOk, IfSome, ◌↔◌};
     ghost use Rattle.std.specs.Io.KnownBytes.{Appends, Keeps};
-    ghost use Rattle.mx_run_io.specs.Ends.{writer_of, has_failed_write};
+    ghost use Rattle.mx_run_io.specs.Ends.{writer_of, has_failed_write, is_pending};
 
     /// The output of a run.
     pub fn new(writer: W) -> Output<W>
         ensures writer { writer_of result ≡ writer }
         ensures failed { has_failed_write result ≡ false }
+        ensures pending { is_pending result ≡ false }
     {
         Output {
             writer,
             failed: false,
+            pending: false,
         }
     }
 
@@ -33,11 +37,13 @@ impl<W: Write> Output<W> {
     pub fn write_all(&mut self, bytes: &[u8]) -> Result<(), WriteFailed>
         ensures bytes { OnOk result (Appends (W.contents (writer_of self.old)) (W.contents (writer_of self.new)) bytes.now) }
         ensures failed { IsErr result ↔ (has_failed_write self.new ≡ true) }
+        ensures pending { OnOk result (is_pending self.new ≡ true) }
         ensures stays { has_failed_write self.old ≡ true → self.new ≡ self.old }
     {
         if self.failed {
             return Err(WriteFailed);
         }
+        self.pending = true;
         match self.writer.write_all(bytes) {
             Ok(()) => Ok(()),
             Err(_) => {
@@ -52,11 +58,13 @@ impl<W: Write> Output<W> {
         ensures bytes { OnOk result (IfSome (D.output text)
             (Appends (W.contents (writer_of self.old)) (W.contents (writer_of self.new)))) }
         ensures failed { IsErr result ↔ (has_failed_write self.new ≡ true) }
+        ensures pending { OnOk result (is_pending self.new ≡ true) }
         ensures stays { has_failed_write self.old ≡ true → self.new ≡ self.old }
     {
         if self.failed {
             return Err(WriteFailed);
         }
+        self.pending = true;
         match self.writer.write_fmt(text) {
             Ok(()) => Ok(()),
             Err(_) => {
@@ -69,6 +77,7 @@ impl<W: Write> Output<W> {
     /// Hands on what the writer still keeps.
     pub fn flush(&mut self) -> Result<(), WriteFailed>
         ensures bytes { OnOk result (Keeps (W.contents (writer_of self.old)) (W.contents (writer_of self.new))) }
+        ensures flushed { OnOk result (is_pending self.new ≡ false) }
         ensures failed { IsErr result ↔ (has_failed_write self.new ≡ true) }
         ensures stays { has_failed_write self.old ≡ true → self.new ≡ self.old }
     {
@@ -76,7 +85,10 @@ impl<W: Write> Output<W> {
             return Err(WriteFailed);
         }
         match self.writer.flush() {
-            Ok(()) => Ok(()),
+            Ok(()) => {
+                self.pending = false;
+                Ok(())
+            }
             Err(_) => {
                 self.failed = true;
                 Err(WriteFailed)

@@ -1,16 +1,17 @@
 -- What a run of a script has printed in the end.
-use Rattle.std.proofs.Common.{◌≡◌, ℕ, ◌+◌, ◌∙◌, sym, refl, ap, subst, List, [], ◌++◌, inl, inr}
-use Rattle.std.specs.Prelude.{Option, Some, None, Result, Ok, Err, IfOk}
+use Rattle.std.proofs.Common.{◌≡◌, ℕ, ◌+◌, ◌∙◌, sym, refl, ap, subst, List, [], ◌++◌, inl, inr, true}
+use Rattle.std.specs.Prelude.{Option, Some, None, Result, Ok, Err, IfOk, OnOk}
+use Rattle.std.specs.Result.{is_ok}
+use Rattle.std.proofs.lemmas.Bool.{false≢true}
 use Rattle.std.specs.Io.KnownBytes.{Appends, Keeps}
 use Rattle.std.proofs.KnownBytes.{Appends-kept, Appends-trans}
 use Rattle.mx_run_play.specs.declared.session.Session.{Session}
 use Rattle.mx_run_play.specs.declared.session.Turn.{Turn}
 use Rattle.mx_run_play.specs.declared.session.Turn.TheVariants as turn
 use Rattle.mx_run_io.specs.Faults.{fault_line, PrintsFault}
-use Rattle.mx_run_play.specs.Script.{lines_of}
-use Rattle.mx_run_play.specs.Run.{Outcome, outcome, fresh, run_of_lines, run_of, IsScript, PrintsRun, PrintsUnread, AnswersScript}
+use Rattle.mx_run_play.specs.Script.{line_of, lines_of}
+use Rattle.mx_run_play.specs.Run.{Outcome, outcome, fresh, run_of_lines, run_of, IsScript, PrintsRun, PrintsUnread, PrintsNoMemory, AnswersScript, past_lines, WantsEvent}
 use Rattle.mx_run_play.specs.Session.{rest_of, ran, RanWhole, RanShort, RanUnread, PlaysAll}
-use Rattle.mx_run_play.proofs.Words.{first_piece}
 
 -- a session that begins
 pub record Begins (history : ℕ) (s : Session) : Type 0 where
@@ -47,11 +48,11 @@ told_fault history s told printed fault old mid new b run written more =
       subst (λ z. Appends old new (z ++ fault)) (sym (ap (λ (o : Outcome). o.text) is)) (Appends-trans old mid new printed fault written more),
     )
 
-pub prints_short : {E : Type 0} (history : ℕ) (s : Session) (known old mid new : Option (List ℕ)) (r : Result ℕ E) → Begins history s
-    → RanShort s known old mid → IfOk r (PrintsFault 27 mid new) → IfOk r (AnswersScript history known old new)
-prints_short history s known old mid new (Ok n) b w fault =
+prints_short : (history : ℕ) (s : Session) (known old mid new : Option (List ℕ)) (n : ℕ) → Begins history s
+    → RanShort s known old mid → PrintsFault 27 mid new n → PrintsNoMemory history known old new n
+prints_short history s known old mid new n b w fault =
     let k = told_fault history s w.told w.printed (fault_line 27) old mid new b w.run w.written fault.written in
-    inr (record {
+    record {
       script = w.script;
       is_it = w.is_it;
       told = w.told;
@@ -59,10 +60,10 @@ prints_short history s known old mid new (Ok n) b w fault =
       more = w.more;
       cut = cut_from history s b w.script ∙ w.cut;
       good = k.0;
+      wants = subst (λ z. WantsEvent (past_lines w.told z) (line_of w.unanswered)) b.player w.wants;
       written = k.1;
       status = fault.status;
-    })
-prints_short history s known old mid new (Err e) b w fault = tt
+    }
 
 pub prints_unread : {E : Type 0} (history : ℕ) (s : Session) (known left old mid new : Option (List ℕ)) (r : Result ℕ E) → Begins history s
     → RanUnread s known left old mid → IfOk r (PrintsFault 56 mid new) → IfOk r (PrintsUnread history known left old new)
@@ -81,40 +82,23 @@ prints_unread history s known left old mid new (Ok n) b w fault =
 prints_unread history s known left old mid new (Err e) b w fault = tt
 
 -- there was no memory for the player
-some_script : (known : Option (List ℕ)) → (script : List ℕ) × IsScript known script
-some_script None = ([], tt)
-some_script (Some xs) = (xs, refl)
-
-pub prints_nothing : {E : Type 0} (history : ℕ) (known old new : Option (List ℕ)) (r : Result ℕ E)
-    → IfOk r (PrintsFault 27 old new) → IfOk r (AnswersScript history known old new)
-unfolding outcome
-prints_nothing history known old new (Ok n) fault =
-    let a = some_script known in
-    let l = first_piece 10 a.0 in
-    inr (record {
-      script = a.0;
-      is_it = a.1;
-      told = [];
-      unanswered = l.0;
-      more = l.1;
-      cut = l.2;
-      good = refl;
-      written = fault.written;
-      status = fault.status;
-    })
-prints_nothing history known old new (Err e) fault = tt
+pub prints_nothing : {E : Type 0} (history before after : ℕ) (known old new : Option (List ℕ)) (r : Result ℕ E) → after ≡ before
+    → IfOk r (PrintsFault 27 old new) → IfOk r (AnswersScript history before after known old new)
+prints_nothing history before after known old new (Ok n) unread fault = inr (inr (record { unread = unread; printed = fault }))
+prints_nothing history before after known old new (Err e) unread fault = tt
 
 -- the same, as the code has them
-pub whole_as : (history : ℕ) (s : Session) (o : Option Turn) (last : Turn) (status : ℕ) (known left old new : Option (List ℕ)) → Begins history s
+pub whole_as : (history before after : ℕ) (s : Session) (o : Option Turn) (last : Turn) (status : ℕ) (known left old new : Option (List ℕ)) → Begins history s
     → PlaysAll s o known left old new → o ≡ Some last → (PlaysAll s (Some last) known left old new → RanWhole s status known old new)
-    → AnswersScript history known old new status
-whole_as history s o last status known left old new b w is its =
+    → AnswersScript history before after known old new status
+whole_as history before after s o last status known left old new b w is its =
     inl (prints_run history s status known old new b (its (subst (λ z. PlaysAll s z known left old new) is w)))
 
-pub short_as : {E : Type 0} (history : ℕ) (s : Session) (o : Option Turn) (known left old mid new : Option (List ℕ)) (r : Result ℕ E) → Begins history s
-    → PlaysAll s o known left old mid → o ≡ Some turn.NoMemory → IfOk r (PrintsFault 27 mid new) → IfOk r (AnswersScript history known old new)
-short_as history s o known left old mid new r b w is fault =
-    prints_short history s known old mid new r b (subst (λ z. PlaysAll s z known left old mid) is w) fault
+pub short_as : {E : Type 0} (history before after : ℕ) (s : Session) (o : Option Turn) (known left old mid new : Option (List ℕ)) (r : Result ℕ E) → Begins history s
+    → PlaysAll s o known left old mid → o ≡ Some turn.NoMemory → IfOk r (PrintsFault 27 mid new) → IfOk r (AnswersScript history before after known old new)
+short_as history before after s o known left old mid new (Ok n) b w is fault =
+    inr (inl (prints_short history s known old mid new n b (subst (λ z. PlaysAll s z known left old mid) is w) fault))
+short_as history before after s o known left old mid new (Err e) b w is fault = tt
 
 pub unread_as : {E : Type 0} (history : ℕ) (s : Session) (o : Option Turn) (known left old mid new : Option (List ℕ)) (r : Result ℕ E) → Begins history s
     → PlaysAll s o known left old mid → o ≡ None → IfOk r (PrintsFault 56 mid new) → IfOk r (PrintsUnread history known left old new)
@@ -135,12 +119,12 @@ unread_kept history known left old mid new n p kept = record {
   status = p.status;
 }
 
-pub answers_kept : (history : ℕ) (known old mid new : Option (List ℕ)) (n : ℕ) → AnswersScript history known old mid n → Keeps mid new
-    → AnswersScript history known old new n
-answers_kept history known old mid new n (inl p) kept =
+pub answers_kept : (history before after : ℕ) (known old mid new : Option (List ℕ)) (n : ℕ) → AnswersScript history before after known old mid n
+    → Keeps mid new → AnswersScript history before after known old new n
+answers_kept history before after known old mid new n (inl p) kept =
     inl (record { script = p.script; is_it = p.is_it; written = Appends-kept old mid new _ p.written kept; status = p.status })
-answers_kept history known old mid new n (inr p) kept =
-    inr (record {
+answers_kept history before after known old mid new n (inr (inl p)) kept =
+    inr (inl (record {
       script = p.script;
       is_it = p.is_it;
       told = p.told;
@@ -148,6 +132,17 @@ answers_kept history known old mid new n (inr p) kept =
       more = p.more;
       cut = p.cut;
       good = p.good;
+      wants = p.wants;
       written = Appends-kept old mid new _ p.written kept;
       status = p.status;
-    })
+    }))
+answers_kept history before after known old mid new n (inr (inr p)) kept =
+    inr (inr (record {
+      unread = p.unread;
+      printed = record { written = Appends-kept old mid new _ p.printed.written kept; status = p.printed.status };
+    }))
+
+-- what holds on success, where it succeeded
+pub when_ok : {T E P : Type 0} (r : Result T E) → is_ok r ≡ true → OnOk r P → P
+when_ok (Ok x) is holds = holds
+when_ok (Err e) is holds = absurd (false≢true is)

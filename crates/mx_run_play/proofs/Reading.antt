@@ -6,8 +6,8 @@ use Rattle.std.proofs.KnownBytes.{Appends-kept, Appends-trans, Consumes-trans, C
 use Rattle.mx_run_play.specs.declared.session.Session.{Session}
 use Rattle.mx_run_play.specs.declared.session.Turn.{Turn}
 use Rattle.mx_run_play.specs.declared.session.Turn.TheVariants as turn
-use Rattle.mx_run_play.specs.Script.{lines_of}
-use Rattle.mx_run_play.specs.Run.{after, outcome, IsScript}
+use Rattle.mx_run_play.specs.Script.{lines_of, line_of}
+use Rattle.mx_run_play.specs.Run.{after, outcome, IsScript, WantsEvent}
 use Rattle.mx_run_play.specs.Session.{IsUnended, rest_of, ran, EndsLine, Plays, PlaysAll}
 use Rattle.std.proofs.lemmas.List.{take_more}
 use Rattle.mx_run_play.proofs.Sessions.{unended_line, plays_then, plays_none, plays_further}
@@ -88,9 +88,10 @@ turned s t u turn.NoMemory known mid left old a b bytes p given more over =
       script = (p.seen ++ bytes) ++ r.0;
       is_it = r.1;
       told = q.follows.told;
-      unanswered = k.0;
-      more = k.1;
-      cut = k.2;
+      unanswered = q.follows.text;
+      more = k.0;
+      cut = k.1;
+      wants = q.follows.wants;
       printed = q.printed;
       run = q.follows.run;
       written = q.written;
@@ -123,9 +124,10 @@ script_ended s t u turn.NoMemory known left old a b p whole ends = record {
   unanswered = t.line.items;
   more = [];
   cut = lines_seen s t known left old a p;
+  wants = subst (λ z. WantsEvent z (line_of t.line.items)) p.played.follows.tells.player ends.1;
   printed = p.played.printed;
   run = ran_told s t known left old a p;
-  written = subst (Appends old b) (append-nil p.played.printed) (Appends-trans old a b p.played.printed [] p.played.written ends);
+  written = subst (Appends old b) (append-nil p.played.printed) (Appends-trans old a b p.played.printed [] p.played.written ends.0);
 }
 
 -- the last read gave nothing

@@ -15,8 +15,8 @@ use Rattle.mx_run_play.specs.declared.script.Line.TheVariants as line
 use Rattle.mx_types.specs.declared.call.Call.{Call}
 use Rattle.mx_run_play.specs.Script.{pieces, onto_first, lines_of, line_of}
 use Rattle.mx_run_play.specs.Texts.{said_text}
-use Rattle.mx_run_play.specs.Turns.{PlayerView, says, player_past}
-use Rattle.mx_run_play.specs.Run.{Outcome, after, outcome, outcome_with, bad_line_text}
+use Rattle.mx_run_play.specs.Turns.{PlayerView, says, player_past, MakesEvent}
+use Rattle.mx_run_play.specs.Run.{Outcome, after, outcome, outcome_with, bad_line_text, past_line, past_lines, WantsEvent}
 use Rattle.mx_run_play.specs.Session.{IsUnended, rest_of, TellsLine, EndsLine, Plays}
 
 apart : (b : ℕ) → b ≢ 10 → (b == 10) ≡ false
@@ -64,6 +64,7 @@ line_silent_ends s t a is player counted empty = record {
   printed = [];
   written = Appends-nil a;
   tells = record {
+    player = player ∙ ap (past_line s.player) is;
     run = λ more. run_with s.line.items line.Silent more s.player (s.lines + 1) is ∙ ap (λ n. outcome more s.player (n + 1)) (sym counted)
         ∙ ap (λ p. outcome more p (t.lines + 1)) (sym player);
   };
@@ -77,6 +78,7 @@ line_call_ends s t call a b is player counted empty written = record {
   printed = said_text (says s.player call);
   written = written;
   tells = record {
+    player = player ∙ ap (past_line s.player) is;
     run = λ more. run_with s.line.items (line.Call call) more s.player (s.lines + 1) is
         ∙ ap (λ n. after (said_text (says s.player call)) (outcome more (player_past s.player call) (n + 1))) (sym counted)
         ∙ ap (λ p. after (said_text (says s.player call)) (outcome more p (t.lines + 1))) (sym player);
@@ -92,8 +94,10 @@ line_bad_ends s t a b is written = record {
   last = λ more. run_with s.line.items line.Bad more s.player (s.lines + 1) is;
 }
 
-pub line_stops : (s t : Session) (a : Option (List ℕ)) → EndsLine s turn.NoMemory t a a
-line_stops s t a = Appends-nil a
+pub line_stops : (s t : Session) (l : Line) (call : Call) (text : List ℕ) (a : Option (List ℕ)) → l ≡ line.Call call → l ≡ line_of text
+    → text ≡ s.line.items → MakesEvent s.player call → EndsLine s turn.NoMemory t a a
+line_stops s t l call text a is its same makes =
+    (Appends-nil a, subst (WantsEvent s.player) (sym is ∙ its ∙ ap line_of same) makes)
 
 -- the same, as the code has them
 pub silent_told : (s t : Session) (l : Line) (text : List ℕ) (a b : Option (List ℕ)) → l ≡ line.Silent → l ≡ line_of text → text ≡ s.line.items
@@ -136,8 +140,14 @@ plays_end s t turn.Bad a b h ends = record {
 }
 plays_end s t turn.NoMemory a b h ends = record {
   printed = [];
-  written = ends;
-  follows = record { told = []; unanswered = λ rest. (s.line.items, lines_of rest, ended s.line.items rest h); run = refl };
+  written = ends.0;
+  follows = record {
+    told = [];
+    text = s.line.items;
+    unanswered = λ rest. (lines_of rest, ended s.line.items rest h);
+    wants = ends.1;
+    run = refl;
+  };
 }
 
 -- another byte stands in the line
@@ -149,6 +159,7 @@ plays_byte s t byte a h not_10 player counted items = record {
   follows = record {
     told = [];
     tells = record {
+      player = player;
       run = λ more. ap (λ p. outcome more p (s.lines + 1)) (sym player) ∙ ap (λ n. outcome more t.player (n + 1)) (sym counted);
     };
     ends = record {
@@ -177,8 +188,16 @@ pub plays_none : (s : Session) (a : Option (List ℕ)) → IsUnended s.line.item
 plays_none s a h = record {
   printed = [];
   written = Appends-nil a;
-  follows = record { told = []; tells = record { run = λ more. refl }; ends = record { cut = λ rest. refl; unended = h } };
+  follows = record { told = []; tells = record { player = refl; run = λ more. refl }; ends = record { cut = λ rest. refl; unended = h } };
 }
+
+-- what a player has after some lines and then some more
+past_all : (d e : List (List ℕ)) (p : PlayerView) → past_lines (d ++ e) p ≡ past_lines e (past_lines d p)
+past_all [] e p = refl
+past_all (text ∷ d) e p = past_all d e (past_line p (line_of text))
+
+past_both : (p q r : PlayerView) (d e : List (List ℕ)) → q ≡ past_lines d p → r ≡ past_lines e q → r ≡ past_lines (d ++ e) p
+past_both p q r d e first second = second ∙ ap (past_lines e) first ∙ sym (past_all d e p)
 
 -- bytes, and then more bytes
 pub plays_then : (s t u : Session) (xs ys : List ℕ) (next : Turn) (a b c : Option (List ℕ)) → Plays s xs turn.On t a b → Plays t ys next u b c
@@ -192,6 +211,7 @@ plays_then s t u xs ys turn.On a b c p q =
       follows = record {
         told = d ++ e;
         tells = record {
+          player = past_both s.player t.player u.player d e p.follows.tells.player q.follows.tells.player;
           run = λ more. ap (rest_of s) (append_assoc d e more) ∙ p.follows.tells.run (e ++ more) ∙ ap (after p.printed) (q.follows.tells.run more)
               ∙ ap (λ (z : List ℕ). let o : Outcome = record { text = z; status = (rest_of u more).status } in o)
               (sym (append_assoc p.printed q.printed (rest_of u more).text));
@@ -218,13 +238,15 @@ plays_then s t u xs ys turn.NoMemory a b c p q =
       written = Appends-trans a b c p.printed q.printed p.written q.written;
       follows = record {
         told = d ++ e;
+        text = q.follows.text;
         unanswered = λ rest.
             let r = q.follows.unanswered rest in (
               r.0,
-              r.1,
-              ap (λ z. lines_of (s.line.items ++ z)) (append_assoc xs ys rest) ∙ p.follows.ends.cut (ys ++ rest) ∙ ap (λ z. d ++ z) r.2
-                  ∙ sym (append_assoc d e (r.0 ∷ r.1)),
+              ap (λ z. lines_of (s.line.items ++ z)) (append_assoc xs ys rest) ∙ p.follows.ends.cut (ys ++ rest) ∙ ap (λ z. d ++ z) r.1
+                  ∙ sym (append_assoc d e (q.follows.text ∷ r.0)),
             );
+        wants = subst (λ z. WantsEvent z (line_of q.follows.text))
+            (past_both s.player t.player (past_lines e t.player) d e p.follows.tells.player refl) q.follows.wants;
         run = p.follows.tells.run e ∙ ap (after p.printed) q.follows.run;
       };
     }
@@ -243,8 +265,10 @@ plays_further s t xs ys turn.NoMemory a b over p = record {
   written = p.written;
   follows = record {
     told = p.follows.told;
+    text = p.follows.text;
     unanswered = λ rest.
-        let r = p.follows.unanswered (ys ++ rest) in (r.0, r.1, ap (λ z. lines_of (s.line.items ++ z)) (append_assoc xs ys rest) ∙ r.2);
+        let r = p.follows.unanswered (ys ++ rest) in (r.0, ap (λ z. lines_of (s.line.items ++ z)) (append_assoc xs ys rest) ∙ r.1);
+    wants = p.follows.wants;
     run = p.follows.run;
   };
 }

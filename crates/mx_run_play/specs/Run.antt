@@ -1,12 +1,12 @@
 -- What playing a script prints, and how it ends.
-use Rattle.std.specs.Prelude.{◌≡◌, ℕ, ◌+◌, ◌⊎◌, List, [], ◌∷◌, ◌++◌, codes, decimal, Option, IfSome}
+use Rattle.std.specs.Prelude.{◌≡◌, ℕ, ◌+◌, ◌<◌, ◌≤◌, ◌⊎◌, Bool, true, List, [], ◌∷◌, ◌++◌, codes, decimal, Option, IfSome}
 use Rattle.std.specs.Io.KnownBytes.{Appends, Consumes}
 use Rattle.mx_run_play.specs.declared.script.Line.{Line}
 use Rattle.mx_run_play.specs.declared.script.Line.TheVariants as line
-use Rattle.mx_run_io.specs.Faults.{fault_line}
+use Rattle.mx_run_io.specs.Faults.{fault_line, PrintsFault}
 use Rattle.mx_run_play.specs.Script.{line_of, lines_of}
 use Rattle.mx_run_play.specs.Texts.{said_text}
-use Rattle.mx_run_play.specs.Turns.{PlayerView, says, player_past}
+use Rattle.mx_run_play.specs.Turns.{PlayerView, says, player_past, MakesEvent}
 
 -- the text of a run, and its exit status
 pub record Outcome : Type 0 where
@@ -65,8 +65,24 @@ pub record PrintsUnread (history : ℕ) (known left old new : Option (List ℕ))
   pub written : Appends old new ((run_of_lines history told).text ++ fault_line 56)
   pub status : ends_with ≡ 56
 
--- There was no memory at some line: from old to new the run of the lines before it is printed, none of which was
--- bad, and then the fault, and the program ends with its number.
+-- what a player has after a line, and after some lines
+abbrev pub past_line : PlayerView → Line → PlayerView
+past_line p line.Silent = p
+past_line p (line.Call c) = player_past p c
+past_line p line.Bad = p
+
+abbrev pub past_lines : List (List ℕ) → PlayerView → PlayerView
+past_lines [] p = p
+past_lines (text ∷ more) p = past_lines more (past_line p (line_of text))
+
+-- the line is a call whose answer has an event
+abbrev pub WantsEvent : PlayerView → Line → Type 0
+WantsEvent p line.Silent = ⊥
+WantsEvent p (line.Call c) = MakesEvent p c
+WantsEvent p line.Bad = ⊥
+
+-- There was no memory for the event of some line's call: from old to new the run of the lines before it is printed,
+-- none of which was bad, and then the fault, and the program ends with its number.
 pub record PrintsNoMemory (history : ℕ) (known old new : Option (List ℕ)) (ends_with : ℕ) : Type 0 where
   pub script : List ℕ
   pub is_it : IsScript known script
@@ -75,10 +91,22 @@ pub record PrintsNoMemory (history : ℕ) (known old new : Option (List ℕ)) (e
   pub more : List (List ℕ)
   pub cut : lines_of script ≡ told ++ unanswered ∷ more
   pub good : (run_of_lines history told).status ≡ 0
+  pub wants : WantsEvent (past_lines told (fresh history)) (line_of unanswered)
   pub written : Appends old new ((run_of_lines history told).text ++ fault_line 27)
   pub status : ends_with ≡ 27
 
--- The run of the whole script is printed, or the want of memory.
-abbrev pub AnswersScript : ℕ → Option (List ℕ) → Option (List ℕ) → Option (List ℕ) → ℕ → Type 0
-AnswersScript history known old new ends_with =
-    PrintsRun history known old new ends_with ⊎ PrintsNoMemory history known old new ends_with
+-- There was no memory for a player at all: nothing was read, and the fault is all that is printed.
+pub record PrintsNoPlayer (reads_before reads_after : ℕ) (old new : Option (List ℕ)) (ends_with : ℕ) : Type 0 where
+  pub unread : reads_after ≡ reads_before
+  pub printed : PrintsFault 27 old new ends_with
+
+-- The run of the whole script is printed, or the want of memory: at a line whose call makes an event, or before any read.
+abbrev pub AnswersScript : ℕ → ℕ → ℕ → Option (List ℕ) → Option (List ℕ) → Option (List ℕ) → ℕ → Type 0
+AnswersScript history reads_before reads_after known old new ends_with =
+    PrintsRun history known old new ends_with
+    ⊎ (PrintsNoMemory history known old new ends_with ⊎ PrintsNoPlayer reads_before reads_after old new ends_with)
+
+-- A failed input had failed before, or was read, or had no reads left.
+abbrev pub WasAsked : Bool → ℕ → ℕ → ℕ → Type 0
+WasAsked failed_before most reads_before reads_after =
+    (failed_before ≡ true) ⊎ ((reads_before < reads_after) ⊎ (most ≤ reads_after))

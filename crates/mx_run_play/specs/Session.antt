@@ -5,8 +5,8 @@ use Rattle.std.specs.Io.KnownBytes.{Appends, Consumes}
 use Rattle.mx_run_play.specs.declared.session.Session.{Session}
 use Rattle.mx_run_play.specs.declared.session.Turn.{Turn}
 use Rattle.mx_run_play.specs.declared.session.Turn.TheVariants as turn
-use Rattle.mx_run_play.specs.Script.{lines_of}
-use Rattle.mx_run_play.specs.Run.{Outcome, after, outcome, IsScript}
+use Rattle.mx_run_play.specs.Script.{lines_of, line_of}
+use Rattle.mx_run_play.specs.Run.{Outcome, after, outcome, IsScript, past_lines, WantsEvent}
 
 -- no byte ends a line
 abbrev pub IsUnended : List ℕ → Type 0
@@ -21,6 +21,7 @@ ran printed status = record { text = printed; status = status }
 
 -- what it printed for some lines, and what their run is with any more behind them
 pub record Tells (s : Session) (told : List (List ℕ)) (t : Session) (printed : List ℕ) : Type 0 where
+  pub player : t.player ≡ past_lines told s.player
   pub run : (more : List (List ℕ)) → rest_of s (told ++ more) ≡ after printed (rest_of t more)
 
 -- the bytes ended those lines
@@ -33,11 +34,13 @@ abbrev pub IsLast : Session → List ℕ → List ℕ → Type 0
 IsLast s bytes printed =
     (rest : List ℕ) → rest_of s (lines_of (s.line.items ++ (bytes ++ rest))) ≡ ran printed 122
 
--- there was no memory for the line after those
+-- there was no memory for the event of the line after those
 pub record Stops (s : Session) (bytes : List ℕ) (printed : List ℕ) : Type 0 where
   pub told : List (List ℕ)
+  pub text : List ℕ
   pub unanswered : (rest : List ℕ)
-      → (text : List ℕ) × (more : List (List ℕ)) × (lines_of (s.line.items ++ (bytes ++ rest)) ≡ told ++ text ∷ more)
+      → (more : List (List ℕ)) × (lines_of (s.line.items ++ (bytes ++ rest)) ≡ told ++ text ∷ more)
+  pub wants : WantsEvent (past_lines told s.player) (line_of text)
   pub run : rest_of s told ≡ ran printed 0
 
 pub record GoesOn (s : Session) (bytes : List ℕ) (t : Session) (printed : List ℕ) : Type 0 where
@@ -65,7 +68,7 @@ pub record EndsRun (s : Session) (old new : Option (List ℕ)) : Type 0 where
 abbrev pub EndsLine : Session → Turn → Session → Option (List ℕ) → Option (List ℕ) → Type 0
 EndsLine s turn.On t old new = TellsLine s t old new
 EndsLine s turn.Bad t old new = EndsRun s old new
-EndsLine s turn.NoMemory t old new = Appends old new []
+EndsLine s turn.NoMemory t old new = Appends old new [] × WantsEvent s.player (line_of s.line.items)
 
 -- Bytes were taken in: from old to new that is printed and nothing else.
 pub record Plays (s : Session) (bytes : List ℕ) (next : Turn) (t : Session) (old new : Option (List ℕ)) : Type 0 where
@@ -89,6 +92,7 @@ pub record RanShort (s : Session) (known old new : Option (List ℕ)) : Type 0 w
   pub unanswered : List ℕ
   pub more : List (List ℕ)
   pub cut : lines_of (s.line.items ++ script) ≡ told ++ unanswered ∷ more
+  pub wants : WantsEvent (past_lines told s.player) (line_of unanswered)
   pub printed : List ℕ
   pub run : rest_of s told ≡ ran printed 0
   pub written : Appends old new printed

@@ -1,6 +1,6 @@
 -- What a player of `mxfetch play` says to a call, and what it then has. It calls as seat 0, claims each addition at
 -- once, and keeps the claim until its end is told.
-use Rattle.std.specs.Prelude.{ℕ, if◌then◌else◌, List, [], ◌∷◌, ◌++◌, length, map}
+use Rattle.std.specs.Prelude.{ℕ, if◌then◌else◌, List, [], ◌∷◌, ◌++◌, length, map, IsSome}
 use Rattle.std.specs.Option.{option_to_list}
 use Rattle.mx_types.specs.declared.names.Ticket.{Ticket}
 use Rattle.mx_types.specs.declared.event.Who.TheVariants as maker
@@ -52,3 +52,7 @@ player_past p (call.Finish t c n) =
     (if has_ticket t p.claims then record (past p (call.Finish t c n)) { claims = without_claim t p.claims } else p)
 player_past p (call.Add h) = record (past p (call.Add h)) { claims = with_claim (reply_to p (call.Add h)) p.claims }
 player_past p c = past p c
+
+-- the answer of the call has an event
+abbrev pub MakesEvent : PlayerView → Call → Type 0
+MakesEvent p c = IsSome (answer p.opening p.journal c).1

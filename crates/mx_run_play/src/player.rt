@@ -1,9 +1,9 @@
 //! The one who plays a script: seat 0 of a control core of its own.
-ghost use Rattle.std.specs.Prelude.{◌≡◌, ◌≤◌, [], IfOk, OnOk};
+ghost use Rattle.std.specs.Prelude.{◌≡◌, ◌≤◌, [], IfOk, OnOk, OnErr};
 ghost use Rattle.std.specs.List.{position};
 ghost use Rattle.mx_journal.specs.History.{same_ticket};
 ghost use Rattle.mx_types.specs.declared.call.Call.{Call};
-ghost use Rattle.mx_run_play.specs.Turns.{says, player_past, reply_to, past};
+ghost use Rattle.mx_run_play.specs.Turns.{says, player_past, reply_to, past, MakesEvent};
 
 use mx_journal::{
     AddReply, Claim, Control, FinishReply, InfoReply, PauseReply, RemoveReply, VecLog, WakeupReply,
@@ -100,10 +100,11 @@ impl Player {
         })
     }
 
-    /// Makes a call. Want of memory is for good: the run ends.
+    /// Makes a call. There is want of memory only at a call whose answer has an event, and it is for good: the run ends.
     pub fn call(&mut self, call: Call) -> Result<Said, OutOfMemory>
         ensures said { IfOk result (λ said. said ≡ says self.old call) }
         ensures past { OnOk result (self.new ≡ player_past self.old call) }
+        ensures refused { OnErr result (MakesEvent self.old call) }
     {
         match call {
             Call::Add(handle) => self.add(handle),
@@ -124,6 +125,7 @@ impl Player {
     fn add(&mut self, handle: HandleId) -> Result<Said, OutOfMemory>
         ensures said { IfOk result (λ said. said ≡ says self.old (Call.Add handle)) }
         ensures past { OnOk result (self.new ≡ player_past self.old (Call.Add handle)) }
+        ensures refused { OnErr result (MakesEvent self.old (Call.Add handle)) }
     {
         let reply = match self.control.add(&mut self.log, SEAT, handle, NoWork) {
             AddReply::Added(ticket) => {
@@ -144,6 +146,7 @@ impl Player {
     fn remove(&mut self, handle: HandleId) -> Result<Said, OutOfMemory>
         ensures said { IfOk result (λ said. said ≡ says self.old (Call.Remove handle)) }
         ensures past { OnOk result (self.new ≡ player_past self.old (Call.Remove handle)) }
+        ensures refused { OnErr result (MakesEvent self.old (Call.Remove handle)) }
     {
         match self.control.remove(&mut self.log, SEAT, handle) {
             RemoveReply::Removed => Ok(Said::Reply(Reply::Removed)),
@@ -155,6 +158,7 @@ impl Player {
     fn pause(&mut self, handle: HandleId) -> Result<Said, OutOfMemory>
         ensures said { IfOk result (λ said. said ≡ says self.old (Call.Pause handle)) }
         ensures past { OnOk result (self.new ≡ player_past self.old (Call.Pause handle)) }
+        ensures refused { OnErr result (MakesEvent self.old (Call.Pause handle)) }
     {
         match self.control.pause(&mut self.log, SEAT, handle) {
             PauseReply::Changed => Ok(Said::Reply(Reply::Changed)),
@@ -169,6 +173,7 @@ impl Player {
     fn unpause(&mut self, handle: HandleId) -> Result<Said, OutOfMemory>
         ensures said { IfOk result (λ said. said ≡ says self.old (Call.Unpause handle)) }
         ensures past { OnOk result (self.new ≡ player_past self.old (Call.Unpause handle)) }
+        ensures refused { OnErr result (MakesEvent self.old (Call.Unpause handle)) }
     {
         match self.control.unpause(&mut self.log, SEAT, handle) {
             PauseReply::Changed => Ok(Said::Reply(Reply::Changed)),
@@ -183,6 +188,7 @@ impl Player {
     fn info_read(&mut self) -> Result<Said, OutOfMemory>
         ensures said { IfOk result (λ said. said ≡ says self.old Call.InfoRead) }
         ensures past { OnOk result (self.new ≡ player_past self.old Call.InfoRead) }
+        ensures refused { OnErr result (MakesEvent self.old Call.InfoRead) }
     {
         match self.control.info_read(&mut self.log, SEAT) {
             InfoReply::Message {
@@ -205,6 +211,7 @@ impl Player {
     fn wakeup(&mut self) -> Result<Said, OutOfMemory>
         ensures said { IfOk result (λ said. said ≡ says self.old Call.Wakeup) }
         ensures past { OnOk result (self.new ≡ player_past self.old Call.Wakeup) }
+        ensures refused { OnErr result (MakesEvent self.old Call.Wakeup) }
     {
         match self.control.wakeup(&mut self.log, SEAT) {
             WakeupReply::Ok => Ok(Said::Reply(Reply::Ok)),
@@ -227,6 +234,7 @@ impl Player {
     fn finish(&mut self, ticket: Ticket, ending: ToldEnd) -> Result<Said, OutOfMemory>
         ensures said { IfOk result (λ said. said ≡ says self.old (Call.Finish ticket ending.code ending.size)) }
         ensures past { OnOk result (self.new ≡ player_past self.old (Call.Finish ticket ending.code ending.size)) }
+        ensures refused { OnErr result (MakesEvent self.old (Call.Finish ticket ending.code ending.size)) }
     {
         let Some(at) = claim_at(&self.claims, ticket) else {
             return Ok(Said::NoClaim);
@@ -240,6 +248,7 @@ impl Player {
         requires { claim.origin ≡ [] }
         ensures said { IfOk result (λ said. said ≡ Said.Reply (reply_to self.old (Call.Finish claim.ticket ending.code ending.size))) }
         ensures past { OnOk result (self.new ≡ past self.old (Call.Finish claim.ticket ending.code ending.size)) }
+        ensures refused { OnErr result (MakesEvent self.old (Call.Finish claim.ticket ending.code ending.size)) }
     {
         match self.control.finish(&mut self.log, SEAT, claim, ending) {
             FinishReply::Recorded => Ok(Said::Reply(Reply::Recorded)),

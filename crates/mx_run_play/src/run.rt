@@ -1,7 +1,7 @@
 //! The command `play`.
-ghost use Rattle.std.specs.Prelude.{◌≡◌, ◌≢◌, ◌+◌, ◌≤◌, ◌↔◌, true, IsErr, IfOk};
-ghost use Rattle.mx_run_io.specs.Ends.{reader_of, reads_of, most_reads_of, has_failed_read, writer_of, has_failed_write};
-ghost use Rattle.mx_run_play.specs.Run.{PrintsUnread, AnswersScript};
+ghost use Rattle.std.specs.Prelude.{◌≡◌, ◌≢◌, ◌+◌, ◌≤◌, ◌↔◌, true, false, IsErr, IfOk};
+ghost use Rattle.mx_run_io.specs.Ends.{reader_of, reads_of, most_reads_of, has_failed_read, writer_of, has_failed_write, is_pending};
+ghost use Rattle.mx_run_play.specs.Run.{PrintsUnread, AnswersScript, WasAsked};
 
 use crate::player::Player;
 use crate::session::{Session, Turn};
@@ -23,12 +23,14 @@ fn play_script<R: Read, W: Write>(
     requires history { (4 ≤ history) × (history ≤ 1048576) }
     requires allowed { most_reads_of input.old ≤ 4294967295 }
     ensures reads { reads_of input.new ≤ reads_of input.old + 4294967295 }
+    ensures asked { has_failed_read input.new ≡ true → WasAsked (has_failed_read input.old)
+        (most_reads_of input.old) (reads_of input.old) (reads_of input.new) }
     ensures unread { has_failed_read input.old ≢ true → has_failed_read input.new ≡ true
         → IfOk result (PrintsUnread history
         (R.remaining (reader_of input.old)) (R.remaining (reader_of input.new))
         (W.contents (writer_of output.old)) (W.contents (writer_of output.new))) }
     ensures answered { has_failed_read input.new ≢ true → IfOk result (AnswersScript history
-        (R.remaining (reader_of input.old)) (W.contents (writer_of output.old)) (W.contents (writer_of output.new))) }
+        (reads_of input.old) (reads_of input.new) (R.remaining (reader_of input.old)) (W.contents (writer_of output.old)) (W.contents (writer_of output.new))) }
     ensures written { IfOk result (λ status. status ≢ 121) }
     ensures failed { IsErr result → has_failed_write output.new ≡ true }
 {
@@ -48,10 +50,12 @@ fn play_script<R: Read, W: Write>(
 /// line is answered. The answer is the exit status: 0; 122 after a bad line, whose number is printed; 56 where a
 /// read failed, and 27 where there was no memory; 121 where the output couldn't be written.
 ///
-/// The script is read to its end or to a bad line, by at most 4,294,967,295 reads, and no more may be allowed to the input:
-/// one more counts as failed. A
-/// read that fails prints `FAULT 56` after the replies to the lines that ended before it, and want of memory
-/// prints `FAULT 27` after those to some of the first lines.
+/// The script is read to its end or to a bad line, by at most 4,294,967,295 reads, and no more may be allowed to the
+/// input: one more counts as failed. A read that fails prints `FAULT 56` after the replies to the lines that ended
+/// before it. Want of memory prints `FAULT 27`: before anything is read, where there is none for the core; or after
+/// the replies to the lines before one whose call makes an event.
+///
+/// All that is printed is flushed, unless the answer is 121.
 pub fn run_play<R: Read, W: Write>(
     alloc: Global,
     history: u32,
@@ -61,13 +65,16 @@ pub fn run_play<R: Read, W: Write>(
     requires history { (4 ≤ history) × (history ≤ 1048576) }
     requires allowed { most_reads_of input.old ≤ 4294967295 }
     ensures reads { reads_of input.new ≤ reads_of input.old + 4294967295 }
+    ensures asked { has_failed_read input.new ≡ true → WasAsked (has_failed_read input.old)
+        (most_reads_of input.old) (reads_of input.old) (reads_of input.new) }
     ensures unwritten { (result ≡ UNWRITTEN) ↔ (has_failed_write output.new ≡ true) }
+    ensures flushed { result ≢ UNWRITTEN → is_pending output.new ≡ false }
     ensures unread { has_failed_write output.new ≢ true
         → has_failed_read input.old ≢ true → has_failed_read input.new ≡ true
         → PrintsUnread history (R.remaining (reader_of input.old)) (R.remaining (reader_of input.new))
         (W.contents (writer_of output.old)) (W.contents (writer_of output.new)) result }
     ensures answered { has_failed_write output.new ≢ true → has_failed_read input.new ≢ true
-        → AnswersScript history (R.remaining (reader_of input.old))
+        → AnswersScript history (reads_of input.old) (reads_of input.new) (R.remaining (reader_of input.old))
         (W.contents (writer_of output.old)) (W.contents (writer_of output.new)) result }
 {
     match play_script(alloc, history, input, output) {

@@ -2,7 +2,7 @@
 ghost use Rattle.std.specs.Prelude.{◌≡◌, ◌+◌, ◌<◌, ◌≤◌, ◌^◌, ◌↔◌, ◌∷◌, [], true, length, IsErr, IfOk, OnOk, None};
 ghost use Rattle.std.specs.Io.KnownBytes.{Appends};
 ghost use Rattle.mx_run_io.specs.Ends.{reader_of, reads_of, most_reads_of, has_failed_read, writer_of, has_failed_write};
-ghost use Rattle.mx_run_play.specs.Run.{bad_line_text};
+ghost use Rattle.mx_run_play.specs.Run.{bad_line_text, WasAsked};
 ghost use Rattle.mx_run_play.specs.Session.{IsUnended, Plays, EndsLine, PlaysAll};
 ghost use Rattle.mx_run_play.specs.declared.session.Turn.TheVariants.{Bad};
 
@@ -135,6 +135,8 @@ impl Session {
         requires first { self.old.lines ≡ 0 }
         requires allowed { most_reads_of input.old ≤ 4294967295 }
         ensures reads { reads_of input.new ≤ reads_of input.old + 4294967295 }
+        ensures asked { has_failed_read input.new ≡ true → WasAsked (has_failed_read input.old)
+            (most_reads_of input.old) (reads_of input.old) (reads_of input.new) }
         ensures unread { IfOk result (λ turn. (turn ≡ None) ↔ (has_failed_read input.new ≡ true)) }
         ensures played { IfOk result (λ turn. PlaysAll self.old turn
             (R.remaining (reader_of input.old)) (R.remaining (reader_of input.new))

@@ -1,9 +1,10 @@
 //! `run_body` over readers and writers in memory.
-use crate::fakes::{Full, Trickle};
+use crate::fakes::{Full, Trickle, Unflushed};
 use mx_run_body::{MOST_READS, run_body};
 use mx_run_io::{Input, Output};
 use mx_types::Method;
 use std::alloc::Global;
+use std::io::{BufWriter, Write};
 use std::process::Abort;
 use std::test::Fail;
 
@@ -365,4 +366,39 @@ fn writes_that_fail(rt: HostRuntime) {
         );
         assert_eq!(&rt; ended, 121);
     }
+}
+
+/// What a writer answers to the worked example.
+fn answers<W: Write + Drop>(alloc: Global, writer: W) -> u8 {
+    run_body(
+        alloc,
+        Method::Get,
+        &mut Input::new(
+            b"HTTP/1.1 200 OK\r\nContent-Length: 5\r\n\r\nhello".as_slice(),
+            MOST_READS,
+        ),
+        &mut Output::new(writer),
+    )
+}
+
+#[test]
+fn a_buffer_before_a_full_disk(rt: HostRuntime) -> Result<(), Fail> {
+    let alloc = rt.alloc();
+    for writes in 0..2 {
+        let mut taken = Vec::new(alloc);
+        let writer = Full {
+            taken: &mut taken,
+            writes,
+        };
+        assert_eq!(&rt; answers(alloc, BufWriter::new(alloc, writer)?), 121);
+    }
+    Ok(())
+}
+
+#[test]
+fn a_flush_that_fails(rt: HostRuntime) -> Result<(), Fail> {
+    let alloc = rt.alloc();
+    assert_eq!(&rt; answers(alloc, Unflushed), 121);
+    assert_eq!(&rt; answers(alloc, BufWriter::new(alloc, Unflushed)?), 121);
+    Ok(())
 }

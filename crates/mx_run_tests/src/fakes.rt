@@ -46,3 +46,17 @@ impl Write for Full<'_> {
         Ok(())
     }
 }
+
+/// Takes each write, and refuses the flush.
+#[derive(Drop)]
+pub struct Unflushed;
+
+impl Write for Unflushed {
+    fn write(&mut self, bytes: &[u8]) -> io::Result<usize> {
+        Ok(bytes.len())
+    }
+
+    fn flush(&mut self) -> io::Result<()> {
+        Err(Error::from(ErrorKind::StorageFull))
+    }
+}

@@ -1,10 +1,11 @@
 //! Scripts, with what they print and how they end. The replies are those of the curl_multi_* manual pages.
 ghost use Rattle.std.specs.Prelude.{◌≤◌};
 
-use crate::fakes::{Full, Trickle};
+use crate::fakes::{Full, Trickle, Unflushed};
 use mx_run_io::{Input, Output};
 use mx_run_play::{MOST_READS, run_play};
 use std::alloc::Global;
+use std::io::{BufWriter, Write};
 use std::process::Abort;
 use std::str;
 use std::test::Fail;
@@ -292,4 +293,36 @@ fn the_table_is_full(rt: HostRuntime) -> Result<(), Fail> {
     script.push_str("add 256\nadd 0\n")?;
     printed.push_str("table-full\nadded-already\n")?;
     plays(&rt, rt.alloc(), 2048, script.as_str(), printed.as_str(), 0)
+}
+
+/// What a writer answers to a short script.
+fn answers<W: Write + Drop>(alloc: Global, writer: W) -> u8 {
+    run_play(
+        alloc,
+        1024,
+        &mut Input::new(SCRIPT.as_bytes(), MOST_READS),
+        &mut Output::new(writer),
+    )
+}
+
+#[test]
+fn a_buffer_before_a_full_disk(rt: HostRuntime) -> Result<(), Fail> {
+    let alloc = rt.alloc();
+    for writes in 0..2 {
+        let mut taken = Vec::new(alloc);
+        let writer = Full {
+            taken: &mut taken,
+            writes,
+        };
+        assert_eq!(&rt; answers(alloc, BufWriter::new(alloc, writer)?), 121);
+    }
+    Ok(())
+}
+
+#[test]
+fn a_flush_that_fails(rt: HostRuntime) -> Result<(), Fail> {
+    let alloc = rt.alloc();
+    assert_eq!(&rt; answers(alloc, Unflushed), 121);
+    assert_eq!(&rt; answers(alloc, BufWriter::new(alloc, Unflushed)?), 121);
+    Ok(())
 }

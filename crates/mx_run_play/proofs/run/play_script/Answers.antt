@@ -1,15 +1,15 @@
-use Rattle.std.proofs.Common.{ap, ◌∙◌}
+use Rattle.std.proofs.Common.{ap, ◌∙◌, refl}
 use Rattle.std.specs.Prelude.{Some}
 use Rattle.mx_run_play.proofs.Ending.{Begins, prints_nothing, short_as, unread_as}
 use Rattle.mx_run_play.proofs.run.play_script.Goals as goal
 
 pub returns-in_default-clause-answered : goal.returns-in_default-clause-answered
-returns-in_default-clause-answered g c alive = prints_nothing _ _ _ _ _ c.end_with.ensures.printed
+returns-in_default-clause-answered g c alive = prints_nothing _ _ _ _ _ _ _ refl c.end_with.ensures.printed
 
 pub returns-in-Some-NoMemory-clause-answered : goal.returns-in-Some-NoMemory-clause-answered
 returns-in-Some-NoMemory-clause-answered g c alive =
     let b : Begins c.args.history c.new-session.result = record { player = c.new-session.ensures.player ∙ c.in-Ok.ensures; first = c.new-session.ensures.first; empty = c.new-session.ensures.empty } in
-    short_as _ _ _ _ _ _ _ _ _ b c.in_ok-play_all.ensures.played (c.in-Some-NoMemory.is ∙ ap Some c.in-Some-NoMemory.field-0-is) c.end_with-in-Some-NoMemory.ensures.printed
+    short_as _ _ _ _ _ _ _ _ _ _ _ b c.in_ok-play_all.ensures.played (c.in-Some-NoMemory.is ∙ ap Some c.in-Some-NoMemory.field-0-is) c.end_with-in-Some-NoMemory.ensures.printed
 
 pub returns-clause-unread : goal.returns-clause-unread
 returns-clause-unread g c alive failed =

@@ -1,4 +1,4 @@
-use Rattle.std.proofs.Common.{◌∙◌, ◌<◌, ◌≤◌, ◌+◌, ◌*◌, length, take, arith, ℕ, subst, sym}
+use Rattle.std.proofs.Common.{rules, inl, inr, ◌∙◌, ◌<◌, ◌≤◌, ◌+◌, ◌*◌, length, take, arith, ℕ, subst, sym}
 use Rattle.std.proofs.KnownBytes.{Keeps-refl}
 use Rattle.std.specs.Io.KnownBytes.{Keeps}
 use Rattle.std.proofs.lemmas.List.{length-take}
@@ -22,6 +22,14 @@ pub returns-in-NoMemory-clause-played : goal.returns-in-NoMemory-clause-played
 returns-in-NoMemory-clause-played g c =
     turned_as _ _ _ _ turn.NoMemory _ _ _ _ _ _ _ c.loop.invariant.played c.in-Ok.ensures.bytes.0 c.in_ok-take_all.ensures.played c.in-NoMemory.is short_over
 
+pub returns-in-Err-clause-asked : goal.returns-in-Err-clause-asked
+returns-in-Err-clause-asked g c failed =
+    elim c.in-Err.ensures.asked [
+      | inl before ↦ inl (c.loop.invariant.first before)
+      | inr (inl spent) ↦ inr (inr (omega (arith, spent, c.loop.invariant.most, c.in-Err.ensures.at_least)))
+      | inr (inr more) ↦ inr (inl (omega (arith, more, c.loop.invariant.reads)))
+    ]
+
 pub loop-preserved : goal.loop-preserved
 loop-preserved g c =
     let size : length c.read.new.buffer ≤ 4096 = omega arith in
@@ -34,6 +42,7 @@ loop-preserved g c =
       counted = counted;
       reads = omega (arith, c.loop.invariant.reads, c.in-Ok.ensures.counted);
       most = c.in-Ok.ensures.most ∙ c.loop.invariant.most;
+      first = search rules;
     }
 
 pub returns-clause-played : goal.returns-clause-played

@@ -1,4 +1,4 @@
-use Rattle.std.proofs.Common.{◌≡◌, ◌≤◌, ◌+◌, ◌*◌}
+use Rattle.std.proofs.Common.{◌≡◌, ◌≤◌, ◌+◌, ◌*◌, true}
 use Rattle.mx_run_play.proofs.Reading.{HasPlayed}
 use Rattle.mx_run_play.proofs.session.Session.play_all.Given as goal
 
@@ -9,4 +9,5 @@ invariant-loop g l = record {
   counted : l.self.lines ≤ l.counter * 4096;
   reads : l.input.reads ≡ l.initial.input.reads + l.counter;
   most : l.input.most ≡ l.initial.input.most;
+  first : l.input.failed ≡ true → l.initial.input.failed ≡ true;
 }
