@@ -1,5 +1,5 @@
 //! `run_body` over readers and writers in memory.
-use crate::fakes::{Full, Trickle, Unflushed};
+use crate::fakes::{Filler, Full, Trickle, Unflushed};
 use mx_run_body::{MOST_READS, run_body};
 use mx_run_io::{Input, Output};
 use mx_types::Method;
@@ -401,4 +401,72 @@ fn a_flush_that_fails(rt: HostRuntime) -> Result<(), Fail> {
     assert_eq!(&rt; answers(alloc, Unflushed), 121);
     assert_eq!(&rt; answers(alloc, BufWriter::new(alloc, Unflushed)?), 121);
     Ok(())
+}
+
+/// Runs `body` on a head and then so many letters, and compares the exit status, the line, and how many letters follow.
+fn fills(
+    rt: &impl Abort,
+    alloc: Global,
+    head: &[u8],
+    letters: usize,
+    status: u8,
+    line: &[u8],
+    body: usize,
+) {
+    let mut written = Vec::new(alloc);
+    let reader = Filler {
+        first: head,
+        letters,
+    };
+    let ended = run_body(
+        alloc,
+        Method::Get,
+        &mut Input::new(reader, MOST_READS),
+        &mut Output::new(&mut written),
+    );
+    assert_eq!(rt; ended, status);
+    assert!(rt; written.starts_with(line));
+    assert_eq!(rt; written.len() - line.len(), body);
+    assert!(rt; written[line.len()..].iter().all(|byte| *byte == b'v'));
+}
+
+#[test]
+fn two_mebibytes_counted(rt: HostRuntime) {
+    let head = b"HTTP/1.1 200 OK\r\nContent-Length: 2097152\r\n\r\n";
+    let line = b"OK status=200 body=2097152 keep=yes left=7\n";
+    fills(&rt, rt.alloc(), head, 2_097_159, 0, line, 2_097_152);
+}
+
+#[test]
+fn two_hundred_full_reads(rt: HostRuntime) {
+    let line = b"OK status=200 body=13107200 keep=no left=0\n";
+    fills(
+        &rt,
+        rt.alloc(),
+        b"HTTP/1.0 200 OK\r\n\r\n",
+        13_107_200,
+        0,
+        line,
+        13_107_200,
+    );
+}
+
+#[test]
+fn as_many_bytes_as_a_response_may_have(rt: HostRuntime) {
+    let line = b"OK status=200 body=67108845 keep=no left=0\n";
+    fills(
+        &rt,
+        rt.alloc(),
+        b"HTTP/1.0 200 OK\r\n\r\n",
+        67_108_845,
+        0,
+        line,
+        67_108_845,
+    );
+}
+
+#[test]
+fn one_byte_more_than_a_response_may_have(rt: HostRuntime) {
+    let head = b"HTTP/1.0 200 OK\r\n\r\n";
+    fills(&rt, rt.alloc(), head, 67_108_846, 63, b"FAULT 63\n", 0);
 }

@@ -23,6 +23,28 @@ impl Read for Trickle<'_> {
     }
 }
 
+/// Gives its first bytes, and then so many of the letter `v`, as many as each read asks for.
+#[derive(Drop)]
+pub struct Filler<'a> {
+    pub first: &'a [u8],
+    pub letters: usize,
+}
+
+impl Read for Filler<'_> {
+    fn read(&mut self, buffer: &mut [u8]) -> io::Result<usize> {
+        if self.first.is_empty() {
+            let count = self.letters.min(buffer.len());
+            buffer[..count].fill(b'v');
+            self.letters -= count;
+            return Ok(count);
+        }
+        let count = self.first.len().min(buffer.len());
+        buffer[..count].copy_from_slice(&self.first[..count]);
+        self.first = &self.first[count..];
+        Ok(count)
+    }
+}
+
 /// Takes so many writes, and then fails.
 #[derive(Drop)]
 pub struct Full<'a> {

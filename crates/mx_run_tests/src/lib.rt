@@ -7,3 +7,5 @@ mod body;
 mod fakes;
 #[cfg(test)]
 mod play;
+#[cfg(test)]
+mod task;

@@ -1,2 +1,0 @@
--- What contracts cite of the command line.
-pub mod Command

@@ -1,0 +1,2 @@
+-- What `read_command` and `run_task` promise.
+pub mod Tasks

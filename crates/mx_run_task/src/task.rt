@@ -1,0 +1,67 @@
+//! What a command line asks for.
+ghost use Rattle.std.specs.Prelude.{◌≡◌, ◌≢◌, ◌≤◌, ◌↔◌, true, false};
+ghost use Rattle.mx_run_io.specs.Ends.{reader_of, reads_of, most_reads_of, has_failed_read, writer_of, has_failed_write, is_pending};
+ghost use Rattle.mx_run_play.specs.Run.{WasAsked};
+ghost use Rattle.mx_run_task.specs.Tasks.{IsTask, most_reads, AnswersTask, PrintsFailedRead, StopsReading};
+
+use mx_run_body::run_body;
+use mx_run_io::{Input, Output, UNWRITTEN};
+use mx_run_play::run_play;
+use mx_types::Method;
+use std::alloc::Global;
+use std::io::{Read, Write};
+
+/// What a command line asks for.
+#[derive(Clone, Copy, Debug, PartialEq, Eq)]
+pub enum Task {
+    /// Decode the response that is read, as the answer to that method.
+    Body(Method),
+    /// Play the script that is read, on a control core whose history has room for so many events.
+    Play(u32),
+}
+
+impl Task {
+    /// How often its run reads at most.
+    pub fn most_reads(self) -> u64
+        ensures { result ≡ most_reads self }
+    {
+        match self {
+            Task::Body(_) => mx_run_body::MOST_READS,
+            Task::Play(_) => mx_run_play::MOST_READS,
+        }
+    }
+}
+
+/// Runs a task over an input that wasn't read yet, and that may be read as often as the task may need. The answer is
+/// the exit status, and what is printed goes with it: that of `run_body` for the task's method, or that of `run_play`
+/// for its history; 121 exactly where the output couldn't be written, and else nothing is left pending in it.
+pub fn run_task<R: Read, W: Write>(
+    alloc: Global,
+    task: Task,
+    input: &mut Input<R>,
+    output: &mut Output<W>,
+) -> u8
+    requires task { IsTask task }
+    requires unread { reads_of input.old ≡ 0 }
+    requires allowed { most_reads_of input.old ≡ most_reads task }
+    ensures reads { reads_of input.new ≤ most_reads task }
+    ensures left { StopsReading task (has_failed_read input.new)
+        (R.remaining (reader_of input.old)) (R.remaining (reader_of input.new)) }
+    ensures asked { has_failed_read input.new ≡ true → WasAsked (has_failed_read input.old)
+        (most_reads_of input.old) (reads_of input.old) (reads_of input.new) }
+    ensures unwritten { (result ≡ UNWRITTEN) ↔ (has_failed_write output.new ≡ true) }
+    ensures flushed { result ≢ UNWRITTEN → is_pending output.new ≡ false }
+    ensures unread { has_failed_write output.new ≢ true
+        → has_failed_read input.old ≢ true → has_failed_read input.new ≡ true
+        → PrintsFailedRead task (R.remaining (reader_of input.old)) (R.remaining (reader_of input.new))
+        (W.contents (writer_of output.old)) (W.contents (writer_of output.new)) result }
+    ensures answered { has_failed_write output.new ≢ true → has_failed_read input.new ≢ true
+        → AnswersTask task (reads_of input.old) (reads_of input.new)
+        (R.remaining (reader_of input.old)) (R.remaining (reader_of input.new))
+        (W.contents (writer_of output.old)) (W.contents (writer_of output.new)) result }
+{
+    match task {
+        Task::Body(method) => run_body(alloc, method, input, output),
+        Task::Play(history) => run_play(alloc, history, input, output),
+    }
+}
