@@ -1,4 +1,5 @@
 use Rattle.std.proofs.Common.{◌≤◌, length, rules, sym, ap, ◌∙◌, subst, arith, not}
+use Rattle.std.proofs.lemmas.Grind.{common_steps}
 use Rattle.arrayvec.proofs.ArrayVecLemmas.{filter-from_retain}
 use Rattle.mx_clock.specs.declared.deadlines.Deadline.{Deadline}
 use Rattle.mx_clock.specs.InOrder.{IsInOrder, is_due, not_due_at}
@@ -11,6 +12,9 @@ push-requires c =
     let few = due-length c.as_slice-set.result.now c.args.now index (omega arith) in
     let all : length c.loop-deadline.due.items ≤ index = subst (λ due. length due ≤ index) (sym c.loop-deadline.invariant) few in
     (omega arith, omega arith)
+
+pub loop-deadline-preserved : goal.loop-deadline-preserved
+loop-deadline-preserved c = grind (arith, common_steps)
 
 pub invariant_of-self : goal.invariant_of-self
 invariant_of-self c =

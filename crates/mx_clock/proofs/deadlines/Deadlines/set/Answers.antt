@@ -1,6 +1,7 @@
 use Rattle.std.proofs.Common.{◌≡◌, ◌≤◌, length, sym, ap, ◌∙◌, arith}
 use Rattle.std.specs.List.{count_by}
 use Rattle.std.proofs.lemmas.List.Sums.{count_by-le-length}
+use Rattle.std.proofs.lemmas.Grind.{common_steps}
 use Rattle.mx_clock.specs.declared.deadlines.Deadline.{Deadline}
 use Rattle.mx_clock.specs.InOrder.{is_before}
 use Rattle.mx_clock.proofs.Order.{set-in_order, others-few}
@@ -25,6 +26,9 @@ invariant_of-self c =
       set-in_order d c.args.self.now rest _ _ c.self.invariant.0 (c.self.view_is ∙ c.clear.ensures) place c.insert.ensures.items,
       omega (arith, c.insert.ensures.len),
     )
+
+pub returns-clause-set : goal.returns-clause-set
+returns-clause-set c = grind (arith, common_steps)
 
 pub returns-clause-ordered : goal.returns-clause-ordered
 returns-clause-ordered c =
