@@ -3,7 +3,5 @@
 
 mod idle;
 pub mod laws;
-#[cfg(test)]
-mod tests;
 
 pub use crate::idle::IdleCache;

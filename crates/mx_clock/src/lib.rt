@@ -2,7 +2,5 @@
 #![tactic(auto)]
 
 mod deadlines;
-#[cfg(test)]
-mod tests;
 
 pub use crate::deadlines::{Deadline, Deadlines, MOST};

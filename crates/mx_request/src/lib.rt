@@ -6,8 +6,6 @@ mod error;
 mod fields;
 pub mod laws;
 mod request;
-#[cfg(test)]
-mod tests;
 mod wire;
 
 pub use crate::endpoint::Endpoint;

@@ -1,4 +1,4 @@
-use crate::IdleCache;
+use mx_cache::IdleCache;
 use mx_request::Endpoint;
 use mx_types::OutOfMemory;
 use std::test::Fail;

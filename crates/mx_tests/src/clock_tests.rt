@@ -1,4 +1,4 @@
-use crate::Deadlines;
+use mx_clock::Deadlines;
 use mx_types::Ticket;
 use std::test::Fail;
 

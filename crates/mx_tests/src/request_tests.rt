@@ -1,5 +1,5 @@
 //! Rows with the bytes that they have to give, the limits at their edges, and hostile texts.
-use crate::{Endpoint, Request, RequestError};
+use mx_request::{Endpoint, Request, RequestError};
 use mx_types::{Code, Method, Settings};
 use std::alloc::{AllocError, Global};
 use std::process::Abort;

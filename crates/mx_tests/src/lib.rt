@@ -1,0 +1,9 @@
+//! Requests, deadlines and idle links as their callers see them. There is nothing in this crate but tests.
+#![tactic(auto)]
+
+#[cfg(test)]
+mod cache_tests;
+#[cfg(test)]
+mod clock_tests;
+#[cfg(test)]
+mod request_tests;
