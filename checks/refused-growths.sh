@@ -12,9 +12,9 @@ set -u
 
 # The crates whose tests are run, crates/NAME/out/NAME_tests, each with the files in which an assertion may stop them.
 tests='
-mx_tests    src/[a-z_]*_tests\.rt
-mx_link     src/tests\.rt
-mx_replay   src/\(tests\|replay\)\.rt
+mx_tests            src/[a-z_]*_tests\.rt
+mx_link             src/tests\.rt
+mx_exchange_tests   src/\(tests\|replay\)\.rt
 '
 
 top=$(cd "$(dirname "$(readlink -f "$0")")/.." && pwd)
