@@ -7,6 +7,7 @@ usage() {
   cat <<'HELP'
 Use: checks/wrong-bodies.sh [-j N] [NAME..]   tries the edits of these crates, or of all crates that have some
      checks/wrong-bodies.sh --stale           names the crates that have changed since they were tried; tries nothing
+     checks/wrong-bodies.sh --applies         names the edits, of the gate too, whose old text isn't there once; tries nothing
 
 Each crates/NAME/more-edits/*.edit turns the meaning of one line. It is tried as `rt must-fail` tries the edits of the
 gate, in a copy of the tree, N crates side by side (1 where no -j is given). An edit is
@@ -20,7 +21,8 @@ and more-edits goes into the table of docs/GATE.md; --stale compares with it. Wh
 built first, in the tree itself, over the work kept in its out/. Then the crate is proved once, and each edit over that:
 reckon with one to five minutes a crate and some 25 seconds an edit.
 
-Exit status: 0 every edit was refused (--stale: no crate has changed); 1 some were not (some have); 2 it couldn't begin.
+Exit status: 0 every edit was refused (--stale: no crate has changed; --applies: all do); 1 some were not (some have; some
+don't); 2 it couldn't begin.
 HELP
 }
 
@@ -70,11 +72,46 @@ stale() {
   exit "$status"
 }
 
+applies() {
+  command -v python3 > /dev/null || stop "there is no python3 on the path: it is in Debian's package python3"
+  TOP=$top python3 - <<'PYTHON'
+import glob, os, sys
+
+os.chdir(os.environ["TOP"])
+wrong = 0
+for edit in sorted(glob.glob("crates/*/must-fail/*.edit") + glob.glob("crates/*/more-edits/*.edit")):
+    crate, texts, name, old = "/".join(edit.split("/")[:2]), {}, None, None
+    why = "it has no pair of an old and a new line"
+    with open(edit, encoding="utf-8") as it:
+        rows = it.read().splitlines()
+    for row in rows:
+        word, _, rest = row.partition(":")
+        rest = rest[1:] if rest.startswith(" ") else rest
+        if word == "file":
+            name = f"{crate}/{rest.strip()}"
+            if name not in texts:
+                texts[name] = open(name, encoding="utf-8").read() if os.path.isfile(name) else ""
+        elif word == "old":
+            old = rest
+        elif word == "new" and name and old:
+            times = texts[name].count(old)
+            why = None if times == 1 else f"its old text is in {name} {times} times"
+            if why:
+                break
+            texts[name], old = texts[name].replace(old, rest), None
+    if why:
+        print(f"{edit}: {why}")
+        wrong = 1
+sys.exit(wrong)
+PYTHON
+}
+
 side_by_side=1 names=()
 while [ $# -gt 0 ]; do
   case $1 in
     -h | --help) usage; exit 0 ;;
     --stale) [ $# -eq 1 ] || stop "--stale stands alone"; stale ;;
+    --applies) [ $# -eq 1 ] || stop "--applies stands alone"; applies; exit ;;
     -j) side_by_side=${2-}; shift; [[ $side_by_side =~ ^[1-9][0-9]*$ ]] || stop "-j wants a number" ;;
     -*) usage >&2; exit 2 ;;
     *) names+=("$1") ;;
