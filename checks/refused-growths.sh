@@ -14,7 +14,7 @@ set -u
 tests='
 mx_tests            src/[a-z_]*_tests\.rt
 mx_link             src/tests\.rt
-mx_exchange_tests   src/\(tests\|replay\)\.rt
+mx_exchange_tests   src/\(callers\|connecting\|replay\|tests\)\.rt
 '
 
 top=$(cd "$(dirname "$(readlink -f "$0")")/.." && pwd)
