@@ -137,7 +137,7 @@ try_tests() {
   for test in $names; do
     which=1 failed_calls=0 stopped=0
     while [ "$which" -le 200 ] && refused "$which" "$tests" "$test"; do
-      if [ "$status" -eq 101 ] && grep -q 'OutOfMemory\|AllocError' "$work/said"; then
+      if [ "$status" -eq 101 ] && grep -q 'OutOfMemory\|AllocError\|AllocFailed' "$work/said"; then
         failed_calls=$((failed_calls + 1))
       elif [ "$status" -eq 134 ] && grep -q "test stopped at $own:" "$work/printed"; then
         stopped=$((stopped + 1))
