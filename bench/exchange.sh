@@ -1,9 +1,8 @@
 #!/usr/bin/env bash
 # What an exchange costs a running program: instructions per byte for a response that a ScriptLink gives in reads of
-# 16 KiB, through a transfer and its decoder, beside the same reads into one vector. Several sizes, as the decoder
-# decodes all of its bytes anew at each read: it looks for the head in as many as 65,536 of them, and goes over each
-# chunk so far, so that with many chunks the cost of a byte grows with the size. It needs rt and valgrind, which
-# it looks for first, and builds in a folder of its own, which it removes. Ends with 1 where a number didn't come.
+# 16 KiB, through a transfer and its decoder, beside the same reads into one vector. Several sizes, so that a cost which
+# grows with the body shows. It needs rt and valgrind, which it looks for first, and builds in a folder of its own, which it
+# removes. Ends with 1 where a number didn't come.
 set -eu
 for tool in rt:'the Rattle toolchain' valgrind:"Debian's package valgrind" awk:"Debian's package mawk"; do
     command -v "${tool%%:*}" > /dev/null || { echo "there is no ${tool%%:*} on the path: it is in ${tool#*:}" >&2; exit 2; }
