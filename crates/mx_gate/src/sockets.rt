@@ -146,7 +146,7 @@ impl<'r, R: Net + Clock + AllocGlobal> SocketGate<'r, R> {
 
     // Begins to connect, and has the poll report when the connection is ready.
     fn connect(&mut self, address: SocketAddr) -> io::Result<TcpLink>
-        ensures opened { IfOk result (λ link. (link ≡ record { token = self.old.next_token; history = [] })
+        ensures opened { IfOk result (λ link. (link.token ≡ self.old.next_token) × (link.history ≡ [])
             × (self.new ≡ record self.old { next_token = next_token self.old.next_token })) }
         ensures refused { OnErr result (self.new ≡ self.old) }
     {
@@ -183,7 +183,7 @@ impl<R: Net + Clock + AllocGlobal> Gate for SocketGate<'_, R> {
         ensures fresh { IfOk result (λ link. link.history ≡ []) }
         ensures code { IfErr result (λ code. is_link_code code ≡ true) }
         ensures moment { self.new.latest ≡ self.old.latest }
-        ensures opened { IfOk result (λ link. (link ≡ record { token = self.old.next_token; history = [] })
+        ensures opened { IfOk result (λ link. (link.token ≡ self.old.next_token) × (link.history ≡ [])
             × (self.new ≡ record self.old { next_token = next_token self.old.next_token })) }
         ensures refused { OnErr result (self.new ≡ self.old) }
     {
