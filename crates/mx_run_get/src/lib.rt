@@ -1,0 +1,9 @@
+//! What `mxfetch get` prints: a line and the body of each transfer.
+#![tactic(auto)]
+
+mod fetched;
+mod run;
+mod text;
+
+pub use crate::fetched::Fetched;
+pub use crate::run::print_get;
