@@ -1,4 +1,5 @@
-use Rattle.std.proofs.Common.{sym, ◌∙◌}
+use Rattle.std.proofs.Common.{sym, ◌∙◌, arith}
+use Rattle.std.proofs.lemmas.Grind.{common_steps}
 use Rattle.mx_gate.proofs.ChoiceLemmas.{chosen_at, none_at}
 use Rattle.mx_gate.proofs.addresses.choose.Goals as goal
 
@@ -7,3 +8,6 @@ returns-then-is_ipv4 c = chosen_at _ _ _ c.loop-address-test.true c.loop-address
 
 pub loop-address-preserved : goal.loop-address-preserved
 loop-address-preserved c = none_at c.args.addresses.now c.loop-address.address-index _ c.loop-address.invariant (sym c.is_ipv4.ensures ∙ c.if-is_ipv4.false)
+
+pub returns : goal.returns
+returns c = grind (arith, common_steps)
