@@ -2,6 +2,9 @@ use Rattle.std.proofs.Common.{◌<◌, length, arith, rules}
 use Rattle.mx_run_get.proofs.Steps.{part_printed}
 use Rattle.mx_run_get.proofs.text.print_parts.Goals as goal
 
+pub loop-i-init : goal.loop-i-init
+loop-i-init g c = search rules
+
 pub loop-i-preserved : goal.loop-i-preserved
 loop-i-preserved g c =
     let less : c.loop-i.i < length c.args.outcome.now.parts = omega (arith, c.loop-i-test.true, c.part_count-i-end.ensures) in
