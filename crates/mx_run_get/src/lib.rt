@@ -2,6 +2,7 @@
 #![tactic(auto)]
 
 mod fetched;
+pub mod laws;
 mod run;
 mod text;
 
