@@ -1,0 +1,47 @@
+-- Lists that begin other lists, by their first elements.
+use Rattle.std.proofs.Common.{◌≡◌, ◌+◌, ◌<◌, ◌≤◌, ℕ, List, [], ◌∷◌, ◌++◌, append-nil, append_assoc, length, take, drop, get_or, sym, refl, ap, subst, ◌∙◌, Bool, true, false, MatchBool, arith}
+use Rattle.std.specs.Prelude.{Some, slice_get, nat_le}
+use Rattle.std.proofs.lemmas.List.{take_at, take_all, take-take, take_more, take-append-drop}
+use Rattle.std.proofs.lemmas.Option.{slice_get_within, get_or_from_slice_get}
+use Rattle.std.proofs.lemmas.Bool.{leb-true, leb-false}
+use mathlib.Core.List.{IsPrefix}
+
+pub prefix_self : {X : Type 0} (xs : List X) → IsPrefix xs xs
+prefix_self xs = ([], append-nil xs)
+
+pub prefix_trans : {X : Type 0} (xs ys zs : List X) → IsPrefix xs ys → IsPrefix ys zs → IsPrefix xs zs
+prefix_trans xs ys zs p q =
+    let whole : IsPrefix xs ((xs ++ p.0) ++ q.0) = (p.0 ++ q.0, sym (append_assoc xs p.0 q.0)) in
+    subst (IsPrefix xs) q.1 (subst (λ l. IsPrefix xs (l ++ q.0)) p.1 whole)
+
+-- what begins a list is its first elements
+pub prefix_takes : {X : Type 0} (xs ys : List X) → IsPrefix xs ys → take (length xs) ys ≡ xs
+prefix_takes xs ys p = ap (take (length xs)) (sym p.1) ∙ take_at xs p.0 (length xs) refl
+
+pub takes_prefix : {X : Type 0} (n : ℕ) (xs ys : List X) → take n ys ≡ xs → IsPrefix xs ys
+takes_prefix n xs ys e = subst (λ l. IsPrefix l ys) e (drop n ys, take-append-drop n ys)
+
+-- of two beginnings of one list the shorter begins the longer
+pub prefix_shorter : {X : Type 0} (xs ys zs : List X) → IsPrefix xs zs → IsPrefix ys zs → length xs ≤ length ys → IsPrefix xs ys
+prefix_shorter xs ys zs p q le =
+    takes_prefix (length xs) xs ys (ap (take (length xs)) (sym (prefix_takes ys zs q)) ∙ take-take (length xs) (length ys) zs le ∙ prefix_takes xs zs p)
+
+-- what begins a list and is no shorter is that list
+pub prefix_whole : {X : Type 0} (xs ys : List X) → IsPrefix xs ys → length ys ≤ length xs → xs ≡ ys
+prefix_whole xs ys p le = sym (prefix_takes xs ys p) ∙ take_all (length xs) ys le
+
+-- a beginning, and the element behind it
+pub prefix_next : {X : Type 0} (xs ys : List X) (x : X) → IsPrefix xs ys → slice_get ys (length xs) ≡ Some x → IsPrefix (xs ++ x ∷ []) ys
+prefix_next xs ys x p next =
+    let n = length xs in
+    let more = take_more ys n x (slice_get_within ys n x next) in
+    takes_prefix (n + 1) (xs ++ x ∷ []) ys (more ∙ ap (λ l. l ++ get_or ys n x ∷ []) (prefix_takes xs ys p) ∙ ap (λ y. xs ++ y ∷ []) (get_or_from_slice_get ys n x x next))
+
+-- of two beginnings of one list, told by their lengths, one begins the other
+pub one_begins : {X : Type 0} (xs ys zs : List X) → IsPrefix xs zs → IsPrefix ys zs → (m n : ℕ) → m ≡ length xs → n ≡ length ys
+    → MatchBool (nat_le m n) (IsPrefix xs ys) (IsPrefix ys xs)
+one_begins xs ys zs p q m n em en = go (nat_le m n) refl
+  where
+    go : (b : Bool) → nat_le m n ≡ b → MatchBool b (IsPrefix xs ys) (IsPrefix ys xs)
+    go true is = prefix_shorter xs ys zs p q (omega (arith, em, en, leb-true m n is))
+    go false is = prefix_shorter ys xs zs q p (omega (arith, em, en, leb-false m n is))

@@ -1,0 +1,119 @@
+//! What readers take: a table, and a mark of the journal that it stands for.
+ghost use Rattle.std.specs.Prelude.{◌≡◌, ◌++◌, true, IfOk, Option};
+ghost use Rattle.mx_journal.specs.Table.{empty_table};
+ghost use Rattle.std.specs.Option.{option_to_list};
+ghost use Rattle.mx_board.specs.Board.{shown_after, mark_of};
+
+use crate::journal::JournalMark;
+use crate::operation::Operation;
+use crate::view::ReaderView;
+use atomic_table::{Join, Split};
+use crossbeam_utils::rule::{Outcome, Protocol};
+use left_right::Absorb;
+use left_right::reader::Reader;
+use left_right::writer::Writer;
+use mx_journal::Table;
+use mx_types::{Event, OutOfMemory};
+use std::alloc::{AllocError, Global};
+use std::marker::Model;
+
+/// The table of a journal, which is that of the mark and one event more.
+#[derive(Drop)]
+pub struct Version {
+    table: Table,
+    before: JournalMark,
+    unconfirmed: Option<Event>,
+}
+
+impl Model for Version {
+    ghost use Rattle.std.specs.Prelude.{◌++◌};
+    ghost use Rattle.std.specs.Option.{option_to_list};
+    ghost use Rattle.mx_board.specs.Board.{Shown, mark_of};
+
+    ghost Value = { Shown };
+
+    ghost view = { λ v. (v.table, mark_of (v.before.events ++ option_to_list v.unconfirmed) v.before.book) };
+}
+
+impl Version {
+    pub fn new(alloc: Global, before: JournalMark) -> Result<Version, OutOfMemory>
+        ensures { IfOk result (λ v. v ≡ (empty_table, before)) }
+    {
+        Ok(Version {
+            table: Table::new(alloc)?,
+            before,
+            unconfirmed: None,
+        })
+    }
+
+    /// The mark, and the event behind it.
+    pub fn journal(&self) -> (JournalMark, Option<Event>)
+        ensures { mark_of (result.0.events ++ option_to_list result.1) result.0.book ≡ self.now.1 }
+    {
+        (self.before.again(), self.unconfirmed)
+    }
+
+    pub fn table(&self) -> &Table
+        ensures { result.now ≡ self.now.0 }
+    {
+        &self.table
+    }
+}
+
+impl Absorb<Operation> for Version {
+    type State = (Table, JournalMark);
+
+    ghost state = { λ v. v };
+
+    ghost applied = { λ s o. shown_after s o };
+
+    ghost never_fails = { Unit {0} };
+
+    fn absorb_first(&mut self, operation: &Operation, _other: &Version) -> Result<(), AllocError> {
+        self.table.apply(operation.event);
+        self.before = operation.before.again();
+        self.unconfirmed = Some(operation.event);
+        Ok(())
+    }
+}
+
+/// The rule of the published versions.
+pub struct BoardRule;
+
+impl Protocol<Version, ReaderView> for BoardRule {
+    ghost use Rattle.mx_board.specs.Board.{Keeps, first_view};
+
+    ghost holds = { Keeps };
+
+    ghost first = { first_view };
+}
+
+/// What an enter and a publish tell.
+pub struct CatchesUp;
+
+impl Outcome<Version, ReaderView> for CatchesUp {
+    ghost use Rattle.mx_board.specs.Board.{CaughtUp};
+
+    ghost then = { λ v x y w. CaughtUp v y w };
+}
+
+/// What the writer knows is told to a new reader.
+pub struct Tells;
+
+impl Split<ReaderView> for Tells {
+    ghost left = { λ v. v };
+
+    ghost right = { λ v. v };
+}
+
+impl Join<ReaderView> for Tells {
+    ghost use Rattle.mx_board.specs.Board.{first_view};
+
+    ghost both = { λ v w. w };
+
+    ghost spent = { first_view };
+}
+
+pub type VersionReader = Reader<Version, ReaderView, BoardRule>;
+
+pub type VersionWriter = Writer<Version, Operation, ReaderView, BoardRule>;
