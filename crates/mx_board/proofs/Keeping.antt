@@ -1,21 +1,22 @@
 -- Each step keeps the rule of the published versions.
-use Rattle.std.proofs.Common.{◌≡◌, ◌≢◌, ◌<◌, ℕ, zero, suc, List, [], ◌∷◌, ◌++◌, append-nil, length, length-append, refl, ap, sym, subst, ◌∙◌, ⊎_elim, true, false, arith}
-use Rattle.std.specs.Prelude.{slice_set, ◌&&◌}
+use Rattle.std.proofs.Common.{◌≡◌, ◌≢◌, ◌<◌, ℕ, List, [], ◌∷◌, ◌++◌, length, length-append, refl, ap, sym, subst, ◌∙◌, ⊎_elim, true, arith}
+use Rattle.std.specs.Prelude.{slice_set}
 use Rattle.std.proofs.lemmas.Bool.{and_parts}
-use mathlib.Core.Option.{some, some-ne-none, some-injective}
+use mathlib.Core.Option.{some, some-ne-none}
 use mathlib.Core.List.{IsPrefix}
 use lib.ListN.{get_elem?}
 use Rattle.left_right.specs.Register.{Admits, Turns, TurnsAt, Forks, Merges}
 use Rattle.atomic_table.proofs.Lists.{at_set, at_snoc}
 use Rattle.mx_types.specs.declared.event.Event.{Event}
 use Rattle.mx_journal.specs.History.{may_follow, is_legal}
-use Rattle.mx_journal.specs.Table.{IsTableOf, table_after, empty_table}
+use Rattle.mx_journal.specs.Table.{table_after}
 use Rattle.mx_journal.proofs.Snoc.{legal-snoc}
 use Rattle.mx_journal.proofs.Follows.{table_follows}
 use Rattle.mx_board.specs.Journal.{Mark}
 use Rattle.mx_board.specs.declared.view.ReaderView.{ReaderView}
 use Rattle.mx_board.specs.declared.operation.Operation.{Operation}
-use Rattle.mx_board.specs.Board.{Shown, mark_of, shown_after, first_view, named, told_of, IsSound, Agrees, Keeps, CaughtUp, IsWaiting, shown_by}
+use Rattle.mx_board.specs.Board.{mark_of}
+use Rattle.mx_board.specs.Published.{Shown, first_view, view_of, IsSound, Agrees, Keeps, CaughtUp, IsWaiting, shown_by}
 use Rattle.mx_board.proofs.Prefixes.{prefix_self, prefix_trans}
 
 abbrev pub CatchesUp : ReaderView → Shown → Shown → ReaderView → Type 0
@@ -27,7 +28,7 @@ All x views = (place : ℕ) (v : ReaderView) → get_elem? views place ≡ some 
 new : (x : Shown) → Agrees x first_view
 new x = record { later = (x.1.events, refl); book = λ e. absurd (cc (e)) }
 
-seen : (x : Shown) → Agrees x (told_of x.1)
+seen : (x : Shown) → Agrees x (view_of x.1)
 seen x = record { later = prefix_self x.1.events; book = λ _. refl }
 
 set_all : (x : Shown) (views : List ReaderView) (place : ℕ) (w : ReaderView) → Agrees x w → All x views → All x (slice_set views place w)
@@ -57,7 +58,7 @@ grown x y u up same a = record { later = prefix_trans u.seen x.1.events y.1.even
 pub grows : (place : ℕ) (v : ReaderView) (x y : Shown) → IsPrefix x.1.events y.1.events → x.1.book ≡ y.1.book → IsSound y → TurnsAt Keeps place v x y CatchesUp
 grows place v x y up same sound views h at =
     let all : All y views = λ j u e. grown x y u up same (h.1 j u e) in
-    (told_of y.1, (sound, set_all y views place (told_of y.1) (seen y) all), (all place v at, sound, refl))
+    (view_of y.1, (sound, set_all y views place (view_of y.1) (seen y) all), (all place v at, sound, refl))
 
 pub reads : (place : ℕ) (v : ReaderView) → Turns Keeps place v (λ x. x) CatchesUp
 reads place v x views h at = grows place v x x (prefix_self x.1.events) refl h.0 views h at

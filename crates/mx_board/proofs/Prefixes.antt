@@ -1,5 +1,5 @@
 -- Lists that begin other lists, by their first elements.
-use Rattle.std.proofs.Common.{◌≡◌, ◌+◌, ◌<◌, ◌≤◌, ℕ, List, [], ◌∷◌, ◌++◌, append-nil, append_assoc, length, take, drop, get_or, sym, refl, ap, subst, ◌∙◌, Bool, true, false, MatchBool, arith}
+use Rattle.std.proofs.Common.{◌≡◌, ◌+◌, ◌≤◌, ℕ, List, [], ◌∷◌, ◌++◌, append-nil, append_assoc, length, take, drop, get_or, sym, refl, ap, subst, ◌∙◌, Bool, true, false, MatchBool, arith}
 use Rattle.std.specs.Prelude.{Some, slice_get, nat_le}
 use Rattle.std.proofs.lemmas.List.{take_at, take_all, take-take, take_more, take-append-drop}
 use Rattle.std.proofs.lemmas.Option.{slice_get_within, get_or_from_slice_get}

@@ -1,27 +1,34 @@
-//! What one seat has seen of the journal, and its reads of the published versions.
-ghost use Rattle.std.specs.Prelude.{◌≡◌, ◌++◌, ◌∷◌, ◌<◌, ◌^◌, [], true, length, slice_get, IfSome, MatchOption};
+//! What one maker has seen of the journal, and its reads of the published versions.
+ghost use Rattle.std.specs.Prelude.{◌≡◌, ◌++◌, ◌∷◌, ◌≤◌, [], true, length, map, slice_get, IfSome, MatchOption};
 ghost use Rattle.std.specs.Bool.{OnTrue};
+ghost use Rattle.std.specs.Option.{option_to_list};
 ghost use mathlib.Core.List.{IsPrefix};
 ghost use Rattle.left_right.specs.Sides.{view};
-ghost use Rattle.mx_journal.specs.History.{is_maker, made_by};
-ghost use Rattle.mx_journal.specs.Table.{IsTableOf};
-ghost use Rattle.std.specs.Option.{option_to_list};
-ghost use Rattle.mx_board.specs.Board.{mark_of, told_of, Shown, CaughtUp, Reads, AreOfOneJournal};
+ghost use Rattle.mx_journal.specs.History.{added, is_maker, made_by, running};
+ghost use Rattle.mx_journal.specs.Answers.{look_of, state_of};
+ghost use Rattle.mx_board.specs.Board.{AreOfOneJournal, ConfirmsAllButLast, OneBeginsOther, Reads, caught_up, confirmed_of, mark_of};
+ghost use Rattle.mx_board.specs.Published.{CaughtUp, Shown, view_of};
 
 use crate::journal::JournalMark;
-use crate::queries::Query;
+use crate::queries::{Handles, LookAt, Query, Running, StateOf};
 use crate::same::same_event;
 use crate::version::{CatchesUp, VersionReader};
 use crate::writer::BoardWriter;
-use mx_types::{Event, Who};
+use mx_types::{AddedHandles, Event, HandleId, Look, State, Ticket, Who};
 use std::marker::Model;
 
-/// A seat's view of the board: its events, the part of the journal that it has seen, and a reader of what is published.
+/// A maker's reader of the published versions. Contracts see the maker, the events that it has seen, of which journal, and
+/// how many of these are confirmed: by a place in the journal, and not by a read alone.
+///
+/// A read answers by a published version that begins with all that the reader has seen, and it has then seen that version.
+/// It takes no lock and no memory, and waits for nobody. It answers None, and nothing changes, where the board is
+/// closed, where the reader found no free place when it caught up, and where the version has not as many of the maker's events
+/// as the reader has seen, which doesn't happen.
 #[derive(Drop)]
 pub struct BoardReader {
-    reader: Option<VersionReader>,
+    place: Option<VersionReader>,
     mark: JournalMark,
-    /// The event behind the mark that only a read has shown.
+    /// The event behind the mark, which a read alone has shown.
     unconfirmed: Option<Event>,
     who: Who,
     made: u32,
@@ -30,55 +37,54 @@ pub struct BoardReader {
 
 impl Model for BoardReader {
     ghost use Rattle.std.specs.Prelude.{◌≡◌, ◌++◌, length, IfSome, true};
-    ghost use Rattle.mx_journal.specs.History.{is_maker, made_by};
     ghost use Rattle.std.specs.Option.{option_to_list};
-    ghost use Rattle.mx_board.specs.Board.{ReaderState, mark_of, HasSeen};
+    ghost use Rattle.mx_journal.specs.History.{is_maker, made_by};
+    ghost use Rattle.mx_board.specs.Board.{ReaderState, mark_of};
+    ghost use Rattle.mx_board.specs.Published.{HasSeen};
 
     ghost Value = { ReaderState };
 
     ghost view = { λ r. record { who = r.who; seen = r.mark.events ++ option_to_list r.unconfirmed; book = r.mark.book; confirmed = length r.mark.events } };
 
-    ghost invariant = { λ r. IfSome r.reader (λ x. HasSeen (mark_of (r.mark.events ++ option_to_list r.unconfirmed) r.mark.book) x.place.me.0.client) × (r.made ≡ made_by r.who (r.mark.events ++ option_to_list r.unconfirmed)) × (is_maker r.who ≡ true) × (r.cut ≡ length (r.mark.events ++ option_to_list r.unconfirmed)) };
+    ghost invariant = { λ r. IfSome r.place (λ x. HasSeen (mark_of (r.mark.events ++ option_to_list r.unconfirmed) r.mark.book) x.place.me.0.client) × (r.made ≡ made_by r.who (r.mark.events ++ option_to_list r.unconfirmed)) × (is_maker r.who ≡ true) × (r.cut ≡ length (r.mark.events ++ option_to_list r.unconfirmed)) };
 }
 
-/// What a read found: the answer, how many events the reader's owner has made, and the journal.
+/// What a version shows: the answer, how many events the reader's maker made, how many there are, and the journal.
 #[derive(Drop)]
-struct Found<A: Drop> {
+struct Reading<A: Drop> {
     answer: A,
     made: u32,
     cut: u32,
     mark: JournalMark,
-    unconfirmed: Option<Event>,
+    last: Option<Event>,
 }
 
-// Reads what was published last. It begins with all that this reader saw.
+// Asks the version that was published last, which begins with all that the place has seen.
 fn look<Q: Query>(
-    reader: VersionReader,
+    place: VersionReader,
     query: &Q,
     who: Who,
-) -> (VersionReader, Option<Found<Q::Answer>>)
+) -> (VersionReader, Option<Reading<Q::Answer>>)
     requires { is_maker who ≡ true }
-    ensures { MatchOption result.1 (view result.0.place ≡ view reader.place) (λ f. (x : Shown) × (x.1 ≡ mark_of (f.mark.events ++ option_to_list f.unconfirmed) f.mark.book) × CaughtUp (view reader.place) x (view result.0.place) × Q.is_answer query.now x.1.events f.answer × (f.made ≡ made_by who x.1.events) × (f.cut ≡ length x.1.events)) }
+    ensures { MatchOption result.1 (view result.0.place ≡ view place.place) (λ f. (x : Shown) × (x.1 ≡ mark_of (f.mark.events ++ option_to_list f.last) f.mark.book) × CaughtUp (view place.place) x (view result.0.place) × Q.is_answer query.now x.1.events f.answer × (f.made ≡ made_by who x.1.events) × (f.cut ≡ length x.1.events)) }
 {
-    match reader.enter_as::<CatchesUp>() {
-        Ok(reading) => {
-            let version = reading.get();
+    match place.enter_as::<CatchesUp>() {
+        Ok(entered) => {
+            let version = entered.get();
             let answer = query.ask(version.table());
             let made = version.table().made(who);
             let cut = version.table().len();
-            let (mark, unconfirmed) = version.journal();
-            (
-                reading.leave(),
-                Some(Found {
-                    answer,
-                    made,
-                    cut,
-                    mark,
-                    unconfirmed,
-                }),
-            )
+            let (mark, last) = version.journal();
+            let reading = Reading {
+                answer,
+                made,
+                cut,
+                mark,
+                last,
+            };
+            (entered.leave(), Some(reading))
         }
-        Err(reader) => (reader, None),
+        Err(place) => (place, None),
     }
 }
 
@@ -102,11 +108,13 @@ fn stands_next(event: Event, next: Option<Event>, mark: &JournalMark, all: &Jour
 }
 
 impl BoardReader {
-    /// How many events the reader has a token for: all that it has seen, or all but the last.
-    pub fn confirmed(&self) -> u64
-        ensures { result ≡ self.now.confirmed }
+    /// Whose reader it is.
+    pub fn who(&self) -> Who
+        ensures is { result ≡ self.now.who }
+        ensures maker { is_maker result ≡ true }
     {
-        self.mark.len()
+        let _ = &self.mark;
+        self.who
     }
 
     /// How many events it has seen.
@@ -116,23 +124,24 @@ impl BoardReader {
         self.cut
     }
 
-    /// How many of these its owner made.
+    /// How many of these its maker made.
     pub fn made(&self) -> u32
         ensures { result ≡ made_by self.now.who self.now.seen }
     {
         self.made
     }
 
-    pub fn who(&self) -> Who
-        ensures is { result ≡ self.now.who }
-        ensures maker { is_maker result ≡ true }
+    /// How many of these are confirmed: all, or all but the last.
+    pub fn confirmed(&self) -> u64
+        ensures is { result ≡ self.now.confirmed }
+        ensures but_last { ConfirmsAllButLast self.now }
     {
-        let _ = &self.mark;
-        self.who
+        let _ = &self.unconfirmed;
+        self.mark.len()
     }
 
-    /// Whether the journal begins with what the reader has seen. `next` is the event of the journal behind those that it
-    /// has a token for.
+    /// Whether the journal of `all` begins with what the reader has seen. `next` is its event behind those that are
+    /// confirmed.
     pub fn is_behind(&self, all: &JournalMark, next: Option<Event>) -> bool
         requires book { self.now.book ≡ all.now.book }
         requires next { next ≡ slice_get all.now.events self.now.confirmed }
@@ -147,62 +156,122 @@ impl BoardReader {
         false
     }
 
-    /// Reads the version that was published last, which begins with all that was seen. It takes no lock and no memory.
-    /// None, and nothing changes, where there is no version to be had, or where the owner's events aren't those that it
-    /// counted, which does not happen.
-    pub fn read<Q: Query>(&mut self, query: &Q) -> Option<Q::Answer>
+    // A read. Where it finds nothing new, what is confirmed stays so.
+    fn ask<Q: Query>(&mut self, query: &Q) -> Option<Q::Answer>
         ensures { MatchOption result (self.new ≡ self.old) (λ a. Reads self.old self.new × Q.is_answer query.now self.new.seen a) }
     {
-        let Some(reader) = self.reader.take() else {
+        let Some(place) = self.place.take() else {
             return None;
         };
-        let (reader, found) = look(reader, query, self.who);
-        self.reader = Some(reader);
-        let Some(found) = found else {
+        let (place, reading) = look(place, query, self.who);
+        self.place = Some(place);
+        let Some(reading) = reading else {
             return None;
         };
-        let Found {
+        let Reading {
             answer,
             made,
             cut,
             mark,
-            unconfirmed,
-        } = found;
+            last,
+        } = reading;
         if made != self.made {
             return None;
         }
+        if cut == self.cut {
+            return Some(answer);
+        }
         self.mark = mark;
-        self.unconfirmed = unconfirmed;
+        self.unconfirmed = last;
         self.cut = cut;
         Some(answer)
+    }
+
+    /// The added handles, in the order of their additions (curl_multi_get_handles(3)).
+    pub fn handles(&mut self) -> Option<AddedHandles>
+        ensures { MatchOption result (self.new ≡ self.old) (λ a. Reads self.old self.new × (a ≡ map (λ x. x.handle) (added self.new.seen))) }
+    {
+        self.ask(&Handles)
+    }
+
+    /// How many transfers run, paused ones too (curl_multi_perform(3)).
+    pub fn running(&mut self) -> Option<u32>
+        ensures { MatchOption result (self.new ≡ self.old) (λ a. Reads self.old self.new × (a ≡ length (running self.new.seen))) }
+    {
+        self.ask(&Running)
+    }
+
+    /// Where a handle stands.
+    pub fn state(&mut self, handle: HandleId) -> Option<State>
+        ensures { MatchOption result (self.new ≡ self.old) (λ a. Reads self.old self.new × (a ≡ state_of handle self.new.seen)) }
+    {
+        self.ask(&StateOf(handle))
+    }
+
+    /// What a worker is told of a ticket.
+    pub fn look(&mut self, ticket: Ticket) -> Option<Look>
+        ensures { MatchOption result (self.new ≡ self.old) (λ a. Reads self.old self.new × (a ≡ look_of ticket self.new.seen)) }
+    {
+        self.ask(&LookAt(ticket))
+    }
+
+    /// Sees all that is published, and all of it is confirmed. It keeps its place where there was nothing new; else it gives
+    /// it up and takes another, so that a board with as many places as readers has one for each. Where none is free,
+    /// reads answer None until the reader catches up again.
+    pub fn catch_up(&mut self, board: &mut BoardWriter)
+        requires published { board.old.published ≡ board.old.events }
+        requires book { self.old.book ≡ board.old.book }
+        requires later { IsPrefix self.old.seen board.old.events }
+        ensures same { board.new ≡ board.old }
+        ensures is { self.new ≡ caught_up self.old.who board.old.events board.old.book }
+    {
+        if self.place.is_some() && board.cut() == self.cut {
+            self.mark = board.mark();
+            self.unconfirmed = None;
+            return;
+        }
+        self.place = None;
+        let place = board.place();
+        *self = at_place(place, board, self.who);
+    }
+}
+
+// A reader of all that is published, at a place that has seen it.
+fn at_place(place: Option<VersionReader>, board: &BoardWriter, who: Who) -> BoardReader
+    requires published { board.now.published ≡ board.now.events }
+    requires maker { is_maker who ≡ true }
+    requires place { IfSome place (λ r. view r.place ≡ view_of (mark_of board.now.published board.now.book)) }
+    ensures { result ≡ caught_up who board.now.events board.now.book }
+{
+    BoardReader {
+        place,
+        mark: board.mark(),
+        unconfirmed: None,
+        who,
+        made: board.made(who),
+        cut: board.cut(),
     }
 }
 
 impl BoardWriter {
-    /// A reader for a maker, which has seen all that is published.
-    pub fn reader(&mut self, who: Who, made: u32, cut: u32) -> BoardReader
+    /// A reader for a maker, which has seen all that is published. None where every place for a reader is in use.
+    pub fn reader(&mut self, who: Who) -> Option<BoardReader>
         requires published { self.old.published ≡ self.old.events }
         requires maker { is_maker who ≡ true }
-        requires made { made ≡ made_by who self.old.events }
-        requires cut { cut ≡ length self.old.events }
         ensures same { self.new ≡ self.old }
-        ensures is { result ≡ record { who = who; seen = self.old.events; book = self.old.book; confirmed = length self.old.events } }
+        ensures is { IfSome result (λ r. r ≡ caught_up who self.old.events self.old.book) }
     {
-        BoardReader {
-            reader: self.place(),
-            mark: self.mark(),
-            unconfirmed: None,
-            who,
-            made,
-            cut,
-        }
+        let place = self.place()?;
+        Some(at_place(Some(place), self, who))
     }
 }
 
-/// What two readers of one journal have seen are beginnings of one list, but for the last event of each.
+/// Of what two readers of one journal have seen, but for the last event of each, one begins the other; and of what is
+/// confirmed outright.
 pub fn are_of_one_journal(one: &BoardReader, two: &BoardReader)
     requires { one.now.book ≡ two.now.book }
-    ensures { AreOfOneJournal one.now.seen two.now.seen }
+    ensures seen { AreOfOneJournal one.now.seen two.now.seen }
+    ensures confirmed { OneBeginsOther (confirmed_of one.now) (confirmed_of two.now) }
 {
     one.mark.reaches(&two.mark);
 }

@@ -1,8 +1,8 @@
-//! What readers take: a table, and a mark of the journal that it stands for.
-ghost use Rattle.std.specs.Prelude.{◌≡◌, ◌++◌, true, IfOk, Option};
-ghost use Rattle.mx_journal.specs.Table.{empty_table};
+//! What readers take: a table, and the journal that it stands for.
+ghost use Rattle.std.specs.Prelude.{◌≡◌, ◌++◌, IfOk};
 ghost use Rattle.std.specs.Option.{option_to_list};
-ghost use Rattle.mx_board.specs.Board.{shown_after, mark_of};
+ghost use Rattle.mx_journal.specs.Table.{empty_table};
+ghost use Rattle.mx_board.specs.Board.{mark_of};
 
 use crate::journal::JournalMark;
 use crate::operation::Operation;
@@ -17,40 +17,43 @@ use mx_types::{Event, OutOfMemory};
 use std::alloc::{AllocError, Global};
 use std::marker::Model;
 
-/// The table of a journal, which is that of the mark and one event more.
+/// The table of a journal, which is that of the mark and, where there is one, the event behind it. (The mark of all the
+/// events is made only once their operation waits, so a version can't have it.)
 #[derive(Drop)]
 pub struct Version {
     table: Table,
     before: JournalMark,
-    unconfirmed: Option<Event>,
+    last: Option<Event>,
 }
 
 impl Model for Version {
     ghost use Rattle.std.specs.Prelude.{◌++◌};
     ghost use Rattle.std.specs.Option.{option_to_list};
-    ghost use Rattle.mx_board.specs.Board.{Shown, mark_of};
+    ghost use Rattle.mx_board.specs.Board.{mark_of};
+    ghost use Rattle.mx_board.specs.Published.{Shown};
 
     ghost Value = { Shown };
 
-    ghost view = { λ v. (v.table, mark_of (v.before.events ++ option_to_list v.unconfirmed) v.before.book) };
+    ghost view = { λ v. (v.table, mark_of (v.before.events ++ option_to_list v.last) v.before.book) };
 }
 
 impl Version {
+    /// The empty table of a journal with no events.
     pub fn new(alloc: Global, before: JournalMark) -> Result<Version, OutOfMemory>
         ensures { IfOk result (λ v. v ≡ (empty_table, before)) }
     {
         Ok(Version {
             table: Table::new(alloc)?,
             before,
-            unconfirmed: None,
+            last: None,
         })
     }
 
-    /// The mark, and the event behind it.
+    /// A mark, and the event behind it: together the version's journal.
     pub fn journal(&self) -> (JournalMark, Option<Event>)
         ensures { mark_of (result.0.events ++ option_to_list result.1) result.0.book ≡ self.now.1 }
     {
-        (self.before.again(), self.unconfirmed)
+        (self.before.again(), self.last)
     }
 
     pub fn table(&self) -> &Table
@@ -58,9 +61,18 @@ impl Version {
     {
         &self.table
     }
+
+    pub fn into_table(self) -> Table
+        ensures { result ≡ self.0 }
+    {
+        let Version { table, .. } = self;
+        table
+    }
 }
 
 impl Absorb<Operation> for Version {
+    ghost use Rattle.mx_board.specs.Published.{shown_after};
+
     type State = (Table, JournalMark);
 
     ghost state = { λ v. v };
@@ -72,7 +84,7 @@ impl Absorb<Operation> for Version {
     fn absorb_first(&mut self, operation: &Operation, _other: &Version) -> Result<(), AllocError> {
         self.table.apply(operation.event);
         self.before = operation.before.again();
-        self.unconfirmed = Some(operation.event);
+        self.last = Some(operation.event);
         Ok(())
     }
 }
@@ -81,7 +93,7 @@ impl Absorb<Operation> for Version {
 pub struct BoardRule;
 
 impl Protocol<Version, ReaderView> for BoardRule {
-    ghost use Rattle.mx_board.specs.Board.{Keeps, first_view};
+    ghost use Rattle.mx_board.specs.Published.{Keeps, first_view};
 
     ghost holds = { Keeps };
 
@@ -92,7 +104,7 @@ impl Protocol<Version, ReaderView> for BoardRule {
 pub struct CatchesUp;
 
 impl Outcome<Version, ReaderView> for CatchesUp {
-    ghost use Rattle.mx_board.specs.Board.{CaughtUp};
+    ghost use Rattle.mx_board.specs.Published.{CaughtUp};
 
     ghost then = { λ v x y w. CaughtUp v y w };
 }
@@ -101,17 +113,17 @@ impl Outcome<Version, ReaderView> for CatchesUp {
 pub struct Tells;
 
 impl Split<ReaderView> for Tells {
-    ghost left = { λ v. v };
+    ghost right = { λ known. known };
 
-    ghost right = { λ v. v };
+    ghost left = { λ known. known };
 }
 
 impl Join<ReaderView> for Tells {
-    ghost use Rattle.mx_board.specs.Board.{first_view};
-
-    ghost both = { λ v w. w };
+    ghost use Rattle.mx_board.specs.Published.{first_view};
 
     ghost spent = { first_view };
+
+    ghost both = { λ _ told. told };
 }
 
 pub type VersionReader = Reader<Version, ReaderView, BoardRule>;

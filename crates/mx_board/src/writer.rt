@@ -1,37 +1,42 @@
-//! Where events are appended and published.
+//! Where events are appended, and their table published.
 ghost use Rattle.std.specs.Prelude.{◌≡◌, ◌++◌, ◌∷◌, ◌<◌, [], true, false, length, drop, IfOk, IfSome, OnOk, OnErr};
 ghost use Rattle.std.specs.Mem.{manually_drop_value};
 ghost use Rattle.left_right.specs.Sides.{view};
-ghost use Rattle.mx_journal.specs.History.{is_legal, made_by, is_maker};
-ghost use Rattle.mx_journal.specs.Table.{empty_table};
-ghost use Rattle.mx_board.specs.Board.{IsSound, IsWaiting, CaughtUp, told_of, mark_of, shown_by};
+ghost use Rattle.mx_journal.specs.History.{is_legal, is_maker, made_by};
+ghost use Rattle.mx_journal.specs.Table.{IsTableOf};
+ghost use Rattle.mx_board.specs.Board.{mark_of};
+ghost use Rattle.mx_board.specs.Published.{CaughtUp, IsSound, IsWaiting, shown_by, view_of};
 
 use crate::journal::{JournalMark, JournalWord, begin_journal};
 use crate::operation::Operation;
 use crate::version::{CatchesUp, Tells, Version, VersionReader, VersionWriter};
 use left_right::writer::Writer;
-use mx_journal::Log;
-use mx_types::{Event, OutOfMemory};
+use mx_journal::{Log, Table};
+use mx_types::{Event, OutOfMemory, Who};
 use std::alloc::Global;
 use std::marker::Model;
 use std::mem::ManuallyDrop;
 use std::snapshot::Snapshot;
 use std::sync::Wait;
 
-/// The log of a multi handle, whose table is published to readers after each event.
+/// The log of a multi handle, which publishes the table of its events to readers. Contracts see the events that were
+/// appended, those that are published, and which journal it is.
+///
+/// One that is let go keeps its memory: `close` gives it back.
 #[derive(Drop)]
 pub struct BoardWriter {
     writer: ManuallyDrop<VersionWriter>,
     mark: JournalMark,
     word: JournalWord,
-    /// An event was refused after its operation was taken, which does not happen: none is taken any more.
+    /// An event was refused once its operation waited, which doesn't happen: none is taken any more.
     broken: bool,
 }
 
 impl Model for BoardWriter {
     ghost use Rattle.std.specs.Prelude.{drop};
     ghost use Rattle.std.specs.Mem.{manually_drop_value};
-    ghost use Rattle.mx_board.specs.Board.{BoardState, IsBoard};
+    ghost use Rattle.mx_board.specs.Board.{BoardState};
+    ghost use Rattle.mx_board.specs.Published.{IsBoard};
 
     ghost Value = { BoardState };
 
@@ -40,14 +45,14 @@ impl Model for BoardWriter {
     ghost invariant = { λ w. IsBoard (manually_drop_value w.writer).desk.shown.value (manually_drop_value w.writer).desk.place.me.0.client (drop (manually_drop_value w.writer).behind (manually_drop_value w.writer).log.items) w.mark w.word w.broken };
 }
 
-// A writer is not `Drop`, so a board that is let go leaks it.
+// A writer of two copies isn't `Drop`: it ends by `take`, which waits.
 fn hold(writer: VersionWriter) -> ManuallyDrop<VersionWriter>
     ensures { manually_drop_value result ≡ writer }
 {
     unsafe { ManuallyDrop::new_unchecked(writer) }
 }
 
-// Publishes what waits.
+// Publishes what waits, so that the version stands for these events.
 fn publish_all<R: Wait>(
     rt: &R,
     writer: VersionWriter,
@@ -59,15 +64,15 @@ fn publish_all<R: Wait>(
     requires few { length events.now.value.events < 4294967295 }
     ensures shown { result.desk.shown.value ≡ shown_by writer.desk.shown.value (drop writer.behind writer.log.items) }
     ensures none { drop result.behind result.log.items ≡ [] }
-    ensures saw { CaughtUp (view writer.desk.place) result.desk.shown.value (view result.desk.place) }
+    ensures caught_up { CaughtUp (view writer.desk.place) result.desk.shown.value (view result.desk.place) }
 {
     let _ = events;
     writer.publish_as::<CatchesUp, R>(rt).0
 }
 
-/// A board with no events, for so many readers.
+/// A board with no events, and places for so many readers at a time.
 pub fn board<R: Wait>(rt: &R, alloc: Global, readers: usize) -> Result<BoardWriter, OutOfMemory>
-    requires readers { (0 < readers) × (readers < 65) }
+    requires { (0 < readers) × (readers < 65) }
     ensures { IfOk result (λ w. (w.events ≡ []) × (w.published ≡ [])) }
 {
     let (word, mark) = begin_journal();
@@ -76,6 +81,7 @@ pub fn board<R: Wait>(rt: &R, alloc: Global, readers: usize) -> Result<BoardWrit
     let Ok(writer) = VersionWriter::new(alloc, first, second, readers) else {
         return Err(OutOfMemory);
     };
+    // The writer's own place is told of the empty journal.
     let events = Snapshot::of(&mark);
     let writer = publish_all(rt, writer, &events);
     Ok(BoardWriter {
@@ -86,8 +92,8 @@ pub fn board<R: Wait>(rt: &R, alloc: Global, readers: usize) -> Result<BoardWrit
     })
 }
 
-// The greatest length of a journal.
-const MOST: u64 = 4294967294;
+// The greatest length of a journal: the table counts its events in a u32.
+const MOST_EVENTS: u64 = 4294967294;
 
 impl Log for BoardWriter {
     ghost use Rattle.mx_board.specs.Board.{name_of};
@@ -96,14 +102,12 @@ impl Log for BoardWriter {
 
     ghost name = { λ w. name_of w.book };
 
+    /// It is refused for want of memory, where an event waits to be published, and where the journal is as long as it can be.
     fn append(&mut self, event: Event) -> Result<(), OutOfMemory> {
-        if self.broken {
+        if self.broken || self.writer.has_pending_operations() {
             return Err(OutOfMemory);
         }
-        if self.writer.has_pending_operations() {
-            return Err(OutOfMemory);
-        }
-        if self.mark.len() >= MOST {
+        if self.mark.len() >= MOST_EVENTS {
             return Err(OutOfMemory);
         }
         let operation = Operation {
@@ -124,26 +128,21 @@ impl Log for BoardWriter {
 }
 
 impl BoardWriter {
-    /// Publishes what was appended.
+    /// Publishes what was appended: it waits for the readers that still read the copy that it changes. Where nothing waits
+    /// to be published, it does nothing.
     pub fn publish<R: Wait>(self, rt: &R) -> BoardWriter
-        requires legal { is_legal self.events ≡ true }
-        requires few { length self.events < 4294967295 }
+        requires { is_legal self.events ≡ true }
         ensures { result ≡ record { events = self.events; published = self.events; book = self.book } }
     {
+        if self.broken || !self.writer.has_pending_operations() {
+            return self;
+        }
         let BoardWriter {
             writer,
             mark,
             word,
             broken,
         } = self;
-        if broken {
-            return BoardWriter {
-                writer,
-                mark,
-                word,
-                broken,
-            };
-        }
         let events = Snapshot::of(&mark);
         let writer = publish_all(rt, ManuallyDrop::into_inner(writer), &events);
         BoardWriter {
@@ -154,6 +153,13 @@ impl BoardWriter {
         }
     }
 
+    /// The published version: the table of the published events.
+    pub fn table(&self) -> &Table
+        ensures { IsTableOf self.now.published result.now }
+    {
+        self.writer.published().table()
+    }
+
     /// A mark of all events.
     pub fn mark(&self) -> JournalMark
         ensures { result ≡ mark_of self.now.events self.now.book }
@@ -161,10 +167,20 @@ impl BoardWriter {
         self.mark.again()
     }
 
-    // A new reader, which has seen what is published. None where every place for one is in use.
+    /// Ends the board: it waits for the readers that read, gives its memory back, and hands out the table that was
+    /// published last. From then on every read answers None.
+    pub fn close<R: Wait>(self, rt: &R) -> Table
+        ensures { IsTableOf self.published result }
+    {
+        let BoardWriter { writer, .. } = self;
+        let version = ManuallyDrop::into_inner(writer).take(rt);
+        Box::into_inner(version).into_table()
+    }
+
+    // A place for a reader, which has seen what is published. None where every place is in use.
     pub(crate) fn place(&mut self) -> Option<VersionReader>
         ensures same { self.new ≡ self.old }
-        ensures seen { IfSome result (λ r. view r.place ≡ told_of (mark_of self.old.published self.old.book)) }
+        ensures seen { IfSome result (λ r. view r.place ≡ view_of (mark_of self.old.published self.old.book)) }
     {
         match self.writer.factory().reader() {
             Ok(mut reader) => {
@@ -173,5 +189,20 @@ impl BoardWriter {
             }
             Err(_) => None,
         }
+    }
+
+    // How many of the published events the maker made.
+    pub(crate) fn made(&self, who: Who) -> u32
+        requires { is_maker who ≡ true }
+        ensures { result ≡ made_by who self.now.published }
+    {
+        self.table().made(who)
+    }
+
+    // How many events are published.
+    pub(crate) fn cut(&self) -> u32
+        ensures { result ≡ length self.now.published }
+    {
+        self.table().len()
     }
 }

@@ -1,5 +1,5 @@
-use Rattle.std.proofs.Common.{◌≡◌, ap, sym, ◌∙◌}
-use Rattle.logbook.specs.Pages.{Book, Named}
+use Rattle.std.proofs.Common.{◌≡◌, ap, ◌∙◌}
+use Rattle.logbook.specs.Pages.{Named}
 use Rattle.mx_board.specs.Journal.{Mark}
 use Rattle.mx_board.proofs.Adding.{exchange_keeps}
 use Rattle.mx_board.proofs.journal.JournalMark.add.Goals as goal

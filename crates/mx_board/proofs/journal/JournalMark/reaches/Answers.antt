@@ -1,7 +1,5 @@
-use Rattle.std.proofs.Common.{◌≡◌, ap, sym, subst, List, length, nat_le, MatchBool}
+use Rattle.std.proofs.Common.{ap}
 use mathlib.Core.List.{IsPrefix}
-use Rattle.mx_types.specs.declared.event.Event.{Event}
-use Rattle.mx_board.specs.Journal.{Mark}
 use Rattle.mx_board.proofs.Prefixes.{one_begins}
 use Rattle.mx_board.proofs.journal.JournalMark.reaches.Goals as goal
 

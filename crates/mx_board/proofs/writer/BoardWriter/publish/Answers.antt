@@ -1,0 +1,17 @@
+use Rattle.std.proofs.Common.{◌≡◌, ap, List}
+use Rattle.std.specs.Mem.{manually_drop_value}
+use Rattle.mx_types.specs.declared.event.Event.{Event}
+use Rattle.mx_board.specs.Board.{BoardState}
+use Rattle.mx_board.proofs.Keeping.{follows}
+use Rattle.mx_board.proofs.writer.BoardWriter.publish.Goals as goal
+
+pub returns : goal.returns
+returns g c =
+    let i = c.self.invariant in
+    let journal = c.self.inside.mark.events in
+    let legal = rw (← c.self.view_is) at c.requires in
+    let all = follows _ _ journal i.sound (i.waits c.if-self.false) legal i.few in
+    let published : (manually_drop_value c.hold.result).desk.shown.value.1.events ≡ journal =
+    rw (c.hold.ensures, c.publish_all-writer.ensures.shown, c.into_inner.ensures) all.whole in
+    let state : List Event → BoardState = λ l. record { events = journal; published = l; book = c.self.inside.mark.book } in
+    rw (← c.self.view_is) (ap state published)
