@@ -6,11 +6,11 @@ ghost use mathlib.Core.List.{IsPrefix};
 ghost use Rattle.left_right.specs.Sides.{view};
 ghost use Rattle.mx_journal.specs.History.{added, is_maker, made_by, running};
 ghost use Rattle.mx_journal.specs.Answers.{look_of, state_of};
-ghost use Rattle.mx_board.specs.Board.{AreOfOneJournal, ConfirmsAllButLast, OneBeginsOther, Reads, caught_up, confirmed_of, mark_of};
+ghost use Rattle.mx_board.specs.Board.{AreOfOneJournal, ConfirmsAllButLast, IsFound, OneBeginsOther, Reads, caught_up, confirmed_of, mark_of};
 ghost use Rattle.mx_board.specs.Published.{CaughtUp, Shown, view_of};
 
 use crate::journal::JournalMark;
-use crate::queries::{Handles, LookAt, Query, Running, StateOf};
+use crate::queries::{Find, Found, Handles, LookAt, Query, Running, StateOf};
 use crate::same::same_event;
 use crate::version::{CatchesUp, VersionReader};
 use crate::writer::BoardWriter;
@@ -213,6 +213,13 @@ impl BoardReader {
         ensures { MatchOption result (self.new ≡ self.old) (λ a. Reads self.old self.new × (a ≡ look_of ticket self.new.seen)) }
     {
         self.ask(&LookAt(ticket))
+    }
+
+    /// Where a handle is found: the ticket and the slot of its addition, or None where it isn't added.
+    pub fn find(&mut self, handle: HandleId) -> Option<Option<Found>>
+        ensures { MatchOption result (self.new ≡ self.old) (λ a. Reads self.old self.new × IsFound handle self.new.seen a) }
+    {
+        self.ask(&Find(handle))
     }
 
     /// Sees all that is published, and all of it is confirmed. It keeps its place where there was nothing new; else it gives
