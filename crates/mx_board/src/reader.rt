@@ -22,8 +22,8 @@ use std::marker::Model;
 ///
 /// A read answers by a published version that begins with all that the reader has seen, and it has then seen that version.
 /// It takes no lock and no memory, and waits for nobody. It answers None, and nothing changes, where the board is
-/// closed, where the reader found no free place when it caught up, and where the version has not as many of the maker's events
-/// as the reader has seen, which doesn't happen.
+/// closed, where the reader found no free place when it caught up, and where the version has an event of its maker that the
+/// reader hasn't seen: after its own event a maker catches up before it reads.
 #[derive(Drop)]
 pub struct BoardReader {
     place: Option<VersionReader>,

@@ -1,0 +1,52 @@
+//! Progress words by their worked examples.
+ghost use Rattle.std.specs.Prelude.{◌≡◌, IfSome};
+ghost use Rattle.std.specs.List.{All};
+ghost use Rattle.mx_board.specs.Progress.{new_seat};
+
+use crate::notes::{Count, note_in_two_threads};
+use mx_board::{NoteSeat, ProgressTable};
+use mx_types::Ticket;
+use std::test::Fail;
+
+// Takes two seats off the list.
+fn two(table: &ProgressTable, mut seats: Vec<NoteSeat>) -> Option<(NoteSeat, NoteSeat)>
+    requires { All (λ s. s ≡ new_seat table.now) seats.items }
+    ensures { IfSome result (λ r. (r.0 ≡ new_seat table.now) × (r.1 ≡ new_seat table.now)) }
+{
+    let _ = table;
+    let last = seats.pop()?;
+    let first = seats.pop()?;
+    Some((first, last))
+}
+
+#[test]
+fn a_word_is_the_greatest_that_was_noted(rt: HostRuntime) -> Result<(), Fail> {
+    let (table, seats) = ProgressTable::new(rt.alloc(), 2)?;
+    let (mut one, mut other) = two(&table, seats).ok_or("two seats")?;
+    assert_eq!(rt; table.read(&mut one, 0), (Ticket(0), 0));
+    table.note(&mut one, 0, Ticket(3), 5);
+    assert_eq!(rt; table.read(&mut one, 0), (Ticket(3), 5));
+    table.note(&mut other, 0, Ticket(2), 900);
+    assert_eq!(rt; table.read(&mut other, 0), (Ticket(3), 5));
+    table.note(&mut other, 255, Ticket(4294967295), 4294967295);
+    assert_eq!(rt; table.read(&mut one, 255), (Ticket(4294967295), 4294967295));
+    assert_eq!(rt; table.read(&mut one, 0), (Ticket(3), 5));
+    Ok(())
+}
+
+#[test]
+fn notes_of_two_threads(rt: HostRuntime) -> Result<(), Fail> {
+    let (table, seats) = ProgressTable::new(rt.alloc(), 2)?;
+    let seats = two(&table, seats).ok_or("two seats")?;
+    let older = Count {
+        ticket: Ticket(6),
+        bytes: 4000,
+    };
+    let newer = Count {
+        ticket: Ticket(7),
+        bytes: 1,
+    };
+    let word = note_in_two_threads(&rt, &table, seats, 9, (older, newer));
+    assert_eq!(rt; word, (Ticket(7), 1));
+    Ok(())
+}
