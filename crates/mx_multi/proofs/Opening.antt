@@ -1,0 +1,74 @@
+-- New seats.
+use Rattle.std.proofs.Common.{◌≡◌, ℕ, zero, suc, ◌+◌, ◌-◌, ◌<◌, ◌∙◌, sym, refl, ap, subst, List, [], ◌∷◌, ◌++◌, length, length-append, Bool, true, false, cond, arith}
+use Rattle.std.specs.Prelude.{nat_lt, slice_index_or}
+use Rattle.std.proofs.lemmas.Bool.{lt-ltb, le-ltb}
+use Rattle.logbook.specs.Pages.{Book}
+use Rattle.mx_types.specs.declared.event.Who.{Who}
+use Rattle.mx_types.specs.declared.event.Who.TheVariants as who
+use Rattle.mx_types.specs.declared.event.Event.{Event}
+use Rattle.mx_journal.specs.Receipts.{IsPlaced}
+use Rattle.mx_board.specs.Board.{ReaderState, caught_up}
+use Rattle.mx_multi.specs.Shared.{Engine}
+use Rattle.mx_multi.specs.Lock.{maker, engine_of, founder_at, child}
+use Rattle.mx_multi.specs.Seats.{MultiView, SeatView, IsSeat, IsReceived, IsNew}
+use Rattle.mx_multi.specs.Opening.{maker_of, first_of, AreReaders, AreNew}
+use Rattle.mx_multi.proofs.Standing.{seat_of}
+use Rattle.mx_multi.specs.declared.key_view.KeyView.{KeyView}
+
+pub key_maker : (worker : Bool) (n : ℕ) → n < 16 → maker (first_of worker + n) ≡ maker_of worker n
+key_maker false n lt =
+    let e : 1 + n ≡ suc n = omega arith in
+    ap maker e ∙ ap (λ b. cond b (who.Seat n) (who.Worker (n - 16))) (lt-ltb n 16 lt)
+key_maker true n lt =
+    let e : 17 + n ≡ suc (16 + n) = omega arith in
+    let back : 16 + n - 16 ≡ n = omega arith in
+    ap maker e ∙ ap (λ b. cond b (who.Seat (16 + n)) (who.Worker (16 + n - 16))) (le-ltb (16 + n) 16 (omega arith)) ∙ ap who.Worker back
+
+pub new_seat : (e : Engine) (n : ℕ) (v : KeyView) (r : ReaderState) (w : Who) → v ≡ child (founder_at e n) → maker n ≡ w → r ≡ caught_up w [] e.book → IsSeat v r
+new_seat e n v r w key who got =
+    subst (λ (k : KeyView). IsSeat k r) (sym key)
+    (subst (λ (z : ReaderState). IsSeat (child (founder_at e n)) z) (sym got) (record { free = refl; told = refl; who = who; book = refl; later = ([], refl); own = refl }))
+
+pub new_received : {Q O : Type 0} (s : SeatView Q O) → s.seen ≡ [] → s.polled ≡ 0 → IsReceived s
+new_received s e p = ([], record { placed = subst (λ l. IsPlaced s.of.engine.opening s.who [] l) (sym e) (record { fit = tt; within = tt; rise = tt; each_once = refl }); polled = sym p })
+
+pub new_more : {Q O : Type 0} (m : MultiView Q O) (worker : Bool) (n : ℕ) (ss : List (SeatView Q O)) (s : SeatView Q O) → AreNew m worker n ss → IsNew m (maker_of worker (n + length ss)) s → AreNew m worker n (ss ++ s ∷ [])
+new_more {Q} {O} m worker n [] s h new = let e : n + 0 ≡ n = omega arith in (subst (λ k. IsNew m (maker_of worker k) s) e new, tt)
+new_more {Q} {O} m worker n (x ∷ ss) s h new = let e : n + suc (length ss) ≡ n + 1 + length ss = omega arith in (h.0, new_more m worker (n + 1) ss s h.1 (subst (λ k. IsNew m (maker_of worker k) s) e new))
+
+pub readers_more : (worker : Bool) (n : ℕ) (book : Book) (rs : List ReaderState) (r : ReaderState) → AreReaders worker n book rs → r ≡ caught_up (maker_of worker (n + length rs)) [] book → AreReaders worker n book (rs ++ r ∷ [])
+readers_more worker n book [] r h new = let e : n + 0 ≡ n = omega arith in (subst (λ k. r ≡ caught_up (maker_of worker k) [] book) e new, tt)
+readers_more worker n book (x ∷ rs) r h new = let e : n + suc (length rs) ≡ n + 1 + length rs = omega arith in (h.0, readers_more worker (n + 1) book rs r h.1 (subst (λ k. r ≡ caught_up (maker_of worker k) [] book) e new))
+
+-- a reader that was made for a maker
+pub reader_is : (worker : Bool) (n m : ℕ) (w : Who) (j : List Event) (a b : Book) (r : ReaderState) → r ≡ caught_up w j a → w ≡ maker_of worker n → j ≡ [] → a ≡ b → n ≡ m → r ≡ caught_up (maker_of worker m) [] b
+reader_is worker n m w j a b r got who none book same =
+    let maker : w ≡ maker_of worker m = who ∙ ap (maker_of worker) same in
+    let path : caught_up w j a ≡ caught_up (maker_of worker m) [] b = λ i. record { who = maker i; seen = none i; book = book i; confirmed = length (none i) } in
+    got ∙ path
+
+-- a key and a reader make a new seat
+pub is_new : {Q O : Type 0} (m of : MultiView Q O) (v : KeyView) (r : ReaderState) (worker : Bool) (n k : ℕ) → of.table ≡ m.table → of.keys ≡ m.keys → of.engine ≡ engine_of v → v ≡ child (founder_at m.engine k) → r ≡ caught_up (maker_of worker n) [] m.engine.book
+    → IsNew m (maker_of worker n) (seat_of of v r 0)
+is_new {Q} {O} m of v r worker n k table keys engine key got =
+    let same : of ≡ m = λ i. record { table = table i; keys = keys i; engine = (engine ∙ ap engine_of key) i } in
+    record {
+      of = same;
+      who = ap (λ (z : ReaderState). z.who) got;
+      seen = ap (λ (z : ReaderState). z.seen) got;
+      confirmed = ap (λ (z : ReaderState). z.confirmed) got;
+      polled = refl;
+      claims = ap (λ (z : KeyView). z.claims) key;
+    }
+
+pub length_more : {X : Type 0} (xs ys : List X) (x : X) (n m : ℕ) → ys ≡ xs ++ x ∷ [] → length xs ≡ n → m ≡ n + 1 → length ys ≡ m
+length_more xs ys x n m e at more = omega (arith, ap length e, length-append xs (x ∷ []), at, more)
+
+pub new_at : {Q O : Type 0} (m : MultiView Q O) (worker : Bool) (n k : ℕ) (s : SeatView Q O) → n ≡ k → IsNew m (maker_of worker n) s → IsNew m (maker_of worker k) s
+new_at m worker n k s e h = subst (λ i. IsNew m (maker_of worker i) s) e h
+
+-- each new seat is one of the multi handle
+pub all_own : {Q O : Type 0} (m : MultiView Q O) (worker : Bool) (n : ℕ) (ss : List (SeatView Q O)) → AreNew m worker n ss → (k : ℕ) (d : SeatView Q O) → k < length ss → (slice_index_or ss k d).of ≡ m
+all_own m worker n [] h k d lt = absurd (omega arith)
+all_own m worker n (s ∷ ss) h zero d lt = h.0.of
+all_own m worker n (s ∷ ss) h (suc k) d lt = all_own m worker (n + 1) ss h.1 k d (omega arith)

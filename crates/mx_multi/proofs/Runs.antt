@@ -1,0 +1,46 @@
+-- Runs of calls.
+use Rattle.std.proofs.Common.{◌≡◌, ℕ, ◌+◌, ◌<◌, ◌∙◌, sym, refl, ap, subst, List, [], ◌∷◌, ◌++◌, append-nil, append_assoc, length, map, take, get_or, true}
+use Rattle.std.proofs.lemmas.List.{take_more, map-append}
+use Rattle.mx_types.specs.declared.call.Call.{Call}
+use Rattle.mx_types.specs.declared.call.Receipt.{Receipt}
+use Rattle.mx_types.specs.declared.reply.Reply.{Reply}
+use Rattle.mx_journal.specs.History.{is_legal}
+use Rattle.mx_board.proofs.Prefixes.{prefix_self, prefix_trans}
+use Rattle.mx_multi.specs.declared.laws.Step.{Step}
+use Rattle.mx_multi.specs.Seats.{SeatView, HasReceipts, Stands, Sees, Ran}
+use Rattle.mx_multi.specs.Laws.{call_of, RanScript}
+
+ran_none : {Q O : Type 0} (s : SeatView Q O) → Ran s s []
+ran_none s = record { of = refl; who = refl; later = prefix_self s.seen; legal = λ l. l; claims = refl; placed = λ mine h. subst (HasReceipts s) (sym (append-nil mine)) h }
+
+ran_more : {Q O : Type 0} (s t u : SeatView Q O) (more : List Receipt) (call : Call) (reply : Reply) → Ran s t more → Stands t u call reply → Ran s u (more ++ record { cut = length u.seen; call = call; reply = reply } ∷ [])
+ran_more s t u more call reply r h =
+    let new : Receipt = record { cut = length u.seen; call = call; reply = reply } in
+    record {
+      of = h.of ∙ r.of;
+      who = h.who ∙ r.who;
+      later = prefix_trans s.seen t.seen u.seen r.later h.later;
+      legal = λ _. h.legal;
+      claims = h.claims ∙ r.claims;
+      placed = λ mine p. subst (HasReceipts u) (append_assoc mine more (new ∷ [])) (h.placed (mine ++ more) (r.placed mine p));
+    }
+
+pub script_none : {Q O : Type 0} (s : SeatView Q O) → RanScript s s []
+script_none s = record { more = []; ran = ran_none s; calls = refl }
+
+-- one step more
+pub script_more : {Q O : Type 0} (s t u : SeatView Q O) (script : List Step) (n i : ℕ) (d : Step) → n ≡ i → i < length script → RanScript s t (take n script) → (reply : Reply) × Stands t u (call_of (get_or script i d)) reply → RanScript s u (take (n + 1) script)
+script_more s t u script n i d e lt r h =
+    let step = get_or script i d in
+    let new : Receipt = record { cut = length u.seen; call = call_of step; reply = h.0 } in
+    let called = map-append (λ (x : Receipt). x.call) r.more (new ∷ []) in
+    let named = map-append call_of (take i script) (step ∷ []) in
+    record {
+      more = r.more ++ new ∷ [];
+      ran = ran_more s t u r.more (call_of step) h.0 r.ran h.1;
+      calls = called ∙ ap (λ l. l ++ call_of step ∷ []) (r.calls ∙ ap (λ k. map call_of (take k script)) e) ∙ sym named ∙ ap (map call_of) (sym (take_more script i d lt)) ∙ ap (λ k. map call_of (take (k + 1) script)) (sym e);
+    }
+
+-- a step's call was answered
+pub step_by : {Q O : Type 0} (s t : SeatView Q O) (a b : Call) (reply : Reply) → a ≡ b → Stands s t b reply → (r : Reply) × Stands s t a r
+step_by {Q} {O} s t a b reply e h = (reply, subst (λ k. Stands s t k reply) (sym e) h)

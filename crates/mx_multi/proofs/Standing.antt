@@ -1,0 +1,288 @@
+-- What a call says of its seat.
+use Rattle.std.proofs.Common.{◌≡◌, ◌⊎◌, inl, inr, ⊎_elim, ℕ, ◌∙◌, sym, refl, ap, subst, List, [], ◌∷◌, ◌++◌, append-nil, append_assoc, length, Bool, true, false, cond}
+use Rattle.std.specs.Prelude.{not, ◌||◌}
+use Rattle.std.specs.List.{AllByRecursion, filter}
+use mathlib.Core.List.{IsPrefix}
+use Rattle.std.proofs.lemmas.Bool.{cases_Bool, false≢true, or_left, or_right}
+use Rattle.std.proofs.lemmas.List.Sums.{fold-append}
+use Rattle.logbook.specs.Pages.{Book}
+use Rattle.mx_types.specs.declared.names.Ticket.{Ticket}
+use Rattle.mx_types.specs.declared.event.Who.{Who}
+use Rattle.mx_types.specs.declared.event.Event.{Event}
+use Rattle.mx_types.specs.declared.call.Call.{Call}
+use Rattle.mx_types.specs.declared.call.Receipt.{Receipt}
+use Rattle.mx_types.specs.declared.call.Call.TheVariants as call
+use Rattle.mx_types.specs.declared.reply.Reply.{Reply}
+use Rattle.mx_types.specs.declared.reply.Reply.TheVariants as reply
+use Rattle.mx_journal.specs.Core.{claimed}
+use Rattle.mx_journal.specs.History.{has_ticket, is_legal, made_by, same_ticket}
+use Rattle.mx_journal.specs.Answers.{Answers, is_ready}
+use Rattle.mx_journal.specs.Receipts.{is_poll, mark, IsPlaced}
+use Rattle.mx_journal.specs.Laws.{HasAtMostOneMore}
+use Rattle.mx_journal.proofs.Lists.{same-is, same-refl}
+use Rattle.mx_journal.proofs.Placing.{call_adds_at_most_one, call_is_placed, placed_stays}
+use Rattle.mx_board.specs.Board.{ReaderState, Reads, caught_up}
+use Rattle.mx_board.proofs.Prefixes.{prefix_self, prefix_trans}
+use Rattle.mx_multi.specs.Shared.{SharedState, Engine, content, HasNoOther, Leaves, IsLeft}
+use Rattle.mx_multi.specs.Lock.{maker, engine_of, newly, Took, given, released}
+use Rattle.mx_multi.specs.Seats.{MultiView, SeatView, IsSeat, HasReceipts, IsReceived, Finds, Stands, Sees, ClaimsOnly}
+use Rattle.mx_multi.specs.declared.key_view.KeyView.{KeyView}
+use Rattle.mx_multi.proofs.Keys.{longer}
+
+-- 1. Of seats as values.
+
+-- how many events a seat had seen at its last poll, after a call
+abbrev pub polled_after : Call → ℕ → ℕ → ℕ
+polled_after call n p = cond (is_poll call) n p
+
+mark_more : (mine : List Receipt) (call : Call) (reply : Reply) (n : ℕ) → mark (mine ++ record { cut = n; call = call; reply = reply } ∷ []) ≡ polled_after call n (mark mine)
+mark_more mine call reply n = fold-append (λ m (r : Receipt). cond (is_poll r.call) r.cut m) 0 mine (record { cut = n; call = call; reply = reply } ∷ [])
+
+module _ {Q O : Type 0} where
+  pub stands_at : (s t : SeatView Q O) (j : List Event) (call : Call) (reply : Reply) → t.of ≡ s.of → t.who ≡ s.who → Finds s j → Answers s.of.engine.opening s.who call j reply t.seen → is_legal t.seen ≡ true
+      → t.claims ≡ s.claims → t.polled ≡ polled_after call (length t.seen) s.polled → (is_poll call ≡ true → is_ready s.polled t.seen ≡ true) → Stands s t call reply
+  stands_at s t j call reply same who f a legal claims at ready =
+      let new : Receipt = record { cut = length t.seen; call = call; reply = reply } in
+      record {
+        of = same;
+        who = who;
+        later = prefix_trans s.seen j t.seen f.later (longer s.who j t.seen (call_adds_at_most_one s.of.engine.opening s.who call reply j t.seen a));
+        legal = legal;
+        found = (j, f, a);
+        claims = claims;
+        polled = at;
+        ready = ready;
+        placed = λ mine h. record {
+          placed = subst (λ w. IsPlaced t.of.engine.opening w (mine ++ new ∷ []) t.seen) (sym who)
+              (subst (λ (o : MultiView Q O). IsPlaced o.engine.opening s.who (mine ++ new ∷ []) t.seen) (sym same)
+              (call_is_placed s.of.engine.opening s.who mine s.seen j t.seen call reply h.placed f.later f.own a (λ is. ap (λ m. is_ready m t.seen) h.polled ∙ ready is)));
+          polled = mark_more mine call reply (length t.seen) ∙ ap (λ m. polled_after call (length t.seen) m) h.polled ∙ sym at;
+        };
+      }
+
+  pub sees_at : (s t : SeatView Q O) → t.of ≡ s.of → t.who ≡ s.who → Finds s t.seen → is_legal t.seen ≡ true → t.polled ≡ s.polled → t.confirmed ≡ length t.seen → Sees s t
+  sees_at s t same who f legal polled confirmed = record {
+    of = same;
+    who = who;
+    polled = polled;
+    confirmed = confirmed;
+    found = f;
+    legal = legal;
+    placed = λ mine h. record {
+      placed = subst (λ w. IsPlaced t.of.engine.opening w mine t.seen) (sym who)
+          (subst (λ (o : MultiView Q O). IsPlaced o.engine.opening s.who mine t.seen) (sym same) (placed_stays s.of.engine.opening s.who mine s.seen t.seen h.placed f.later f.own));
+      polled = h.polled ∙ sym polled;
+    };
+  }
+
+  pub received_more : (s t : SeatView Q O) (call : Call) (reply : Reply) → Stands s t call reply → IsReceived s → IsReceived t
+  received_more s t call reply h r = (r.0 ++ record { cut = length t.seen; call = call; reply = reply } ∷ [], h.placed r.0 r.1)
+
+  pub received_same : (s t : SeatView Q O) → Sees s t → IsReceived s → IsReceived t
+  received_same s t h r = (r.0, h.placed r.0 r.1)
+
+  pub stands_from : (old s t : SeatView Q O) (call : Call) (reply : Reply) → old ≡ s → Stands old t call reply → Stands s t call reply
+  stands_from old s t call reply e h = subst (λ (z : SeatView Q O). Stands z t call reply) e h
+
+  pub sees_from : (old s t : SeatView Q O) → old ≡ s → Sees old t → Sees s t
+  sees_from old s t e h = subst (λ (z : SeatView Q O). Sees z t) e h
+
+  of_is : (a b : MultiView Q O) → a.table ≡ b.table → a.keys ≡ b.keys → a.engine ≡ b.engine → a ≡ b
+  of_is a b p q r i = record { table = p i; keys = q i; engine = r i }
+
+  -- a key that stays at its lock is of the same engine
+  pub same_of : (old new inner multi : MultiView Q O) (s : SeatView Q O) → s.of ≡ multi → inner ≡ multi → old ≡ s.of → new.table ≡ inner.table → new.keys ≡ inner.keys → new.engine ≡ old.engine → new ≡ old
+  same_of old new inner multi s own in_ was t k e =
+      let all : inner ≡ old = in_ ∙ sym own ∙ sym was in
+      of_is new old (t ∙ ap (λ (m : MultiView Q O). m.table) all) (k ∙ ap (λ (m : MultiView Q O). m.keys) all) e
+
+-- 2. A key and its reader.
+
+module _ {Q O : Type 0} where
+  -- the seat of a key and a reader
+  abbrev pub seat_of : MultiView Q O → KeyView → ReaderState → ℕ → SeatView Q O
+  seat_of of v r p = record { of = of; who = r.who; seen = r.seen; confirmed = r.confirmed; polled = p; claims = v.claims }
+
+  -- a reader that has seen the whole journal
+  abbrev pub at_end : Who → SharedState Q O → ReaderState
+  at_end who y = caught_up who y.core.journal y.book
+
+none_new : (before : List Ticket) (p : Ticket → Bool) (after : List Ticket) → ((t : Ticket) → has_ticket t after ≡ true → p t ≡ false) → filter p after ≡ []
+none_new before p [] h = refl
+none_new before p (t ∷ after) h = ap (λ b. cond b (t ∷ filter p after) (filter p after)) (h t (or_left _ _ (same-refl t))) ∙ none_new before p after (λ u k. h u (or_right _ _ k))
+
+only_new : (t : Ticket) (p : Ticket → Bool) (after : List Ticket) → ((u : Ticket) → has_ticket u after ≡ true → p u ≡ true → u ≡ t) → AllByRecursion (λ u. u ≡ t) (filter p after)
+only_new t p [] h = tt
+only_new t p (u ∷ after) h = go (p u) refl (only_new t p after (λ x k q. h x (or_right _ _ k) q)) where
+  go : (b : Bool) → p u ≡ b → AllByRecursion (λ x. x ≡ t) (filter p after) → AllByRecursion (λ x. x ≡ t) (cond b (u ∷ filter p after) (filter p after))
+  go true is rest = (h u (or_left _ _ (same-refl u)) is, rest)
+  go false is rest = rest
+
+-- the engine that a key took, before anything was done
+module _ {Q O : Type 0} (v w : KeyView) (r : ReaderState) (x : SharedState Q O) (seat : IsSeat v r) (took : Took content v x w) where
+  -- the journal that was found
+  pub finds : (of : MultiView Q O) (p : ℕ) → IsPrefix r.seen x.core.journal → Finds (seat_of of v r p) x.core.journal
+  finds of p pre =
+      let own : made_by r.who x.core.journal ≡ made_by r.who v.seen = subst (λ m. made_by m x.core.journal ≡ made_by m v.seen) seat.who took.own in
+      record { later = pre; own = own ∙ sym seat.own }
+
+  pub book_found : r.book ≡ x.book
+  book_found = seat.book ∙ ap (λ (e : Engine). e.book) took.engine
+
+  pub engine_found : (y : SharedState Q O) → y.book ≡ x.book → y.core.opening ≡ x.core.opening → engine_of w ≡ (content y).engine
+  engine_found y book opening = ap engine_of took.is ∙ took.engine ∙ sym (engine_is y book opening)
+    where
+      engine_is : (y : SharedState Q O) → y.book ≡ x.book → y.core.opening ≡ x.core.opening → (content y).engine ≡ (content x).engine
+      engine_is y b o i = record { book = b i; opening = o i }
+
+  pub grows_by : (y : SharedState Q O) (by : Who) (call : Call) (reply : Reply) → by ≡ r.who → Leaves by call x reply y → HasAtMostOneMore (maker w.number) w.held y.core.journal
+  grows_by y by call reply is leaves =
+      subst (λ (k : KeyView). HasAtMostOneMore (maker k.number) k.held y.core.journal) (sym took.is)
+      (subst (λ m. HasAtMostOneMore m x.core.journal y.core.journal) (is ∙ sym seat.who) (call_adds_at_most_one x.core.opening by call reply x.core.journal y.core.journal leaves.answers))
+
+  pub grows_none : (y : SharedState Q O) → y.core.journal ≡ x.core.journal → HasAtMostOneMore (maker w.number) w.held y.core.journal
+  grows_none y same = inl (same ∙ ap (λ (k : KeyView). k.held) (sym took.is))
+
+  pub begins_by : (y : SharedState Q O) (by : Who) (call : Call) (reply : Reply) → Leaves by call x reply y → IsPrefix r.seen x.core.journal → IsPrefix r.seen y.core.journal
+  begins_by y by call reply leaves pre =
+      prefix_trans r.seen x.core.journal y.core.journal pre (longer by x.core.journal y.core.journal (call_adds_at_most_one x.core.opening by call reply x.core.journal y.core.journal leaves.answers))
+
+  -- a key that put back what it took
+  pub seat_released : (u : KeyView) → u ≡ released w → IsSeat u r
+  seat_released u back =
+      let is : u ≡ released v = back ∙ ap released took.is in
+      subst (λ (k : KeyView). IsSeat k r) (sym is) (record { free = refl; told = seat.told; who = seat.who; book = seat.book; later = seat.later; own = seat.own })
+
+  -- after the engine was given back, and the reader brought up to it
+  module _ (u : KeyView) (t : ReaderState) (y : SharedState Q O) (gave : u ≡ given w (content y)) (got : t ≡ at_end r.who y) where
+    is_given : u ≡ given (record v { holding = true; held = x.core.journal; found = (content x).claimed }) (content y)
+    is_given = gave ∙ ap (λ (k : KeyView). given k (content y)) took.is
+
+    pub seat_after : y.book ≡ x.book → IsSeat u t
+    seat_after book =
+        subst (λ (k : KeyView). IsSeat k t) (sym is_given)
+        (subst (λ (z : ReaderState). IsSeat (given (record v { holding = true; held = x.core.journal; found = (content x).claimed }) (content y)) z) (sym got)
+        (record {
+          free = refl;
+          told = seat.told;
+          who = seat.who;
+          book = book ∙ ap (λ (e : Engine). e.book) (sym took.engine);
+          later = prefix_self y.core.journal;
+          own = refl;
+        }))
+
+    claims_are : u.claims ≡ v.claims ++ newly (content x).claimed (content y).claimed
+    claims_are = ap (λ (k : KeyView). k.claims) is_given
+
+    pub claims_after : HasNoOther (content x).claimed (content y).claimed → u.claims ≡ v.claims
+    claims_after none =
+        claims_are ∙ ap (λ l. v.claims ++ l) (none_new (content x).claimed (λ s. not (has_ticket s (content x).claimed)) (content y).claimed (λ s k. ap not (none s k))) ∙ append-nil v.claims
+
+    pub claims_only : (of of' : MultiView Q O) (p q : ℕ) (ticket : Ticket) → HasNoOther (ticket ∷ (content x).claimed) (content y).claimed → ClaimsOnly (seat_of of v r p) (seat_of of' u t q) ticket
+    claims_only of of' p q ticket none = record {
+      more = newly (content x).claimed (content y).claimed;
+      claims = claims_are;
+      only = only_new ticket (λ s. not (has_ticket s (content x).claimed)) (content y).claimed (λ s k n. first s (same_ticket s ticket) refl n (none s k));
+    }
+      where
+        first : (s : Ticket) (b : Bool) → same_ticket s ticket ≡ b → not (has_ticket s (content x).claimed) ≡ true → has_ticket s (ticket ∷ (content x).claimed) ≡ true → s ≡ ticket
+        first s true is n k = same-is s ticket is
+        first s false is n k = absurd (false≢true (sym (ap not (sym (ap (λ b. b || has_ticket s (content x).claimed) is) ∙ k)) ∙ n))
+
+    pub lock_stands : (of of' : MultiView Q O) (p q : ℕ) (by : Who) (call : Call) (reply : Reply) → of.engine ≡ engine_of v → of' ≡ of → by ≡ r.who → IsPrefix r.seen x.core.journal → Leaves by call x reply y
+        → q ≡ polled_after call (length y.core.journal) p → (is_poll call ≡ true → is_ready p y.core.journal ≡ true) → Stands (seat_of of v r p) (seat_of of' u t q) call reply
+    lock_stands of of' p q by call reply engine same is pre leaves at ready =
+        let opening : x.core.opening ≡ of.engine.opening = ap (λ (e : Engine). e.opening) (sym (engine ∙ took.engine)) in
+        let a = subst (λ o. Answers o by call x.core.journal reply y.core.journal) opening leaves.answers in
+        let b = subst (λ m. Answers of.engine.opening m call x.core.journal reply y.core.journal) is a in
+        let seen : t.seen ≡ y.core.journal = ap (λ (z : ReaderState). z.seen) got in
+        stands_at (seat_of of v r p) (seat_of of' u t q) x.core.journal call reply same (ap (λ (z : ReaderState). z.who) got) (finds of p pre)
+        (subst (λ l. Answers of.engine.opening r.who call x.core.journal reply l) (sym seen) b) (ap is_legal seen ∙ leaves.legal) (claims_after leaves.claims)
+        (at ∙ ap (λ l. polled_after call (length l) p) (sym seen)) (λ poll. ap (is_ready p) seen ∙ ready poll)
+
+    pub lock_sees : (of of' : MultiView Q O) (p : ℕ) → of' ≡ of → IsPrefix r.seen x.core.journal → IsLeft x y → Sees (seat_of of v r p) (seat_of of' u t p)
+    lock_sees of of' p same pre left =
+        let seen : t.seen ≡ x.core.journal = ap (λ (z : ReaderState). z.seen) got ∙ left.journal in
+        sees_at (seat_of of v r p) (seat_of of' u t p) same (ap (λ (z : ReaderState). z.who) got) (subst (Finds (seat_of of v r p)) (sym seen) (finds of p pre)) (ap is_legal (ap (λ (z : ReaderState). z.seen) got) ∙ left.legal) refl
+        (ap (λ (z : ReaderState). z.confirmed) got ∙ ap length (sym (ap (λ (z : ReaderState). z.seen) got)))
+
+  -- the key's engine stays
+  pub engine_kept : (u : KeyView) (c : SharedState Q O) → u ≡ given w (content c) → engine_of u ≡ engine_of v
+  engine_kept u c gave = ap engine_of gave ∙ ap engine_of took.is
+
+  pub engine_released : (u : KeyView) → u ≡ released w → engine_of u ≡ engine_of v
+  engine_released u back = ap engine_of back ∙ ap engine_of took.is
+
+  pub claims_released : (u : KeyView) → u ≡ released w → u.claims ≡ v.claims
+  claims_released u back = ap (λ (k : KeyView). k.claims) back ∙ ap (λ (k : KeyView). k.claims) took.is
+
+-- 3. A read.
+
+-- a reader that has read
+pub seat_read : (v : KeyView) (r t : ReaderState) → IsSeat v r → Reads r t → IsSeat v t
+seat_read v r t s h = record {
+  free = s.free;
+  told = s.told;
+  who = s.who ∙ sym h.who;
+  book = h.book ∙ s.book;
+  later = prefix_trans v.seen r.seen t.seen s.later h.later;
+  own = subst (λ m. made_by m t.seen ≡ made_by m v.seen) (sym h.who) (h.own ∙ s.own);
+}
+
+-- a read stands at what it has then seen
+pub stands_read : {Q O : Type 0} (of : MultiView Q O) (v : KeyView) (r t : ReaderState) (p : ℕ) (call : Call) (reply : Reply) → Reads r t → is_poll call ≡ false → Answers of.engine.opening r.who call t.seen reply t.seen
+    → Stands (seat_of of v r p) (seat_of of v t p) call reply
+stands_read of v r t p call reply h quiet a =
+    stands_at (seat_of of v r p) (seat_of of v t p) t.seen call reply refl h.who (record { later = h.later; own = h.own }) a h.legal refl
+    (ap (λ b. cond b (length t.seen) p) (sym quiet)) (λ is. absurd (false≢true (sym quiet ∙ is)))
+
+-- 4. A seat that meets another.
+
+-- a key whose reader sees more
+pub seat_sees : {Q O : Type 0} (v : KeyView) (r t : ReaderState) (x : SharedState Q O) → IsSeat v r → IsPrefix r.seen x.core.journal → made_by r.who x.core.journal ≡ made_by r.who r.seen → r.book ≡ x.book → t ≡ at_end r.who x → IsSeat v t
+seat_sees v r t x s pre own book got =
+    subst (IsSeat v) (sym got) (record {
+      free = s.free;
+      told = s.told;
+      who = s.who;
+      book = sym book ∙ s.book;
+      later = prefix_trans v.seen r.seen x.core.journal s.later pre;
+      own = own ∙ s.own;
+    })
+
+pub other_sees : {Q O : Type 0} (of : MultiView Q O) (v : KeyView) (r t : ReaderState) (p : ℕ) (x : SharedState Q O) → IsPrefix r.seen x.core.journal → made_by r.who x.core.journal ≡ made_by r.who r.seen → is_legal x.core.journal ≡ true → t ≡ at_end r.who x
+    → Sees (seat_of of v r p) (seat_of of v t p)
+other_sees of v r t p x pre own legal got =
+    let seen : t.seen ≡ x.core.journal = ap (λ (z : ReaderState). z.seen) got in
+    sees_at (seat_of of v r p) (seat_of of v t p) refl (ap (λ (z : ReaderState). z.who) got)
+    (subst (Finds (seat_of of v r p)) (sym seen) (record { later = pre; own = own })) (ap is_legal seen ∙ legal) refl (ap (λ (z : ReaderState). z.confirmed) got ∙ ap length (sym seen))
+
+-- 5. How the engine is left.
+
+pub left_same : {Q O : Type 0} (x y : SharedState Q O) → y ≡ x → is_legal x.core.journal ≡ true → IsLeft x y
+left_same {Q} {O} x y e legal = subst (IsLeft x) (sym e) (record { journal = refl; opening = refl; book = refl; legal = legal })
+
+pub no_other : {Q O : Type 0} (x y : SharedState Q O) → y ≡ x → HasNoOther (content x).claimed (content y).claimed
+no_other {Q} {O} x y e = subst (λ (z : SharedState Q O). HasNoOther (content x).claimed (content z).claimed) (sym e) (λ t h. h)
+
+pub none_claimed : {Q : Type 0} (j k : List Event) (q r : List (Ticket × Q)) → k ≡ j → q ≡ [] → r ≡ [] → HasNoOther (claimed j q) (claimed k r)
+none_claimed {Q} j k q r e none still = λ t h.
+    sym (ap (λ l. has_ticket t (claimed l r)) e ∙ ap (λ (z : List (Ticket × Q)). has_ticket t (claimed j z)) (still ∙ sym none)) ∙ h
+
+-- a poll that may return
+pub woken : {Q O : Type 0} (who : Who) (x : SharedState Q O) → is_legal x.core.journal ≡ true → Leaves who call.Poll x reply.Woken x
+woken who x legal = record { answers = (refl, sym (append-nil x.core.journal)); opening = refl; book = refl; legal = legal; claims = λ t h. h }
+
+pub caught_confirmed : {Q O : Type 0} (who : Who) (t : ReaderState) (y : SharedState Q O) → t ≡ at_end who y → t.confirmed ≡ length t.seen
+caught_confirmed who t y got = ap (λ (z : ReaderState). z.confirmed) got ∙ ap length (sym (ap (λ (z : ReaderState). z.seen) got))
+
+pub quiet_mark : (c : Call) (n p : ℕ) → is_poll c ≡ false → p ≡ polled_after c n p
+quiet_mark c n p quiet = ap (λ b. cond b n p) (sym quiet)
+
+-- a seat whose key put back what it took
+pub received_released : {Q O : Type 0} (v u : KeyView) (r : ReaderState) (of of' : MultiView Q O) (p : ℕ) → of'.engine ≡ of.engine → IsReceived (seat_of of v r p) → IsReceived (seat_of of' u r p)
+received_released v u r of of' p same h =
+    (h.0, record { placed = subst (λ (e : Engine). IsPlaced e.opening r.who h.0 r.seen) (sym same) h.1.placed; polled = h.1.polled })
+
+pub claims_from : {Q O : Type 0} (old s t : SeatView Q O) (ticket : Ticket) → old ≡ s → ClaimsOnly old t ticket → ClaimsOnly s t ticket
+claims_from {Q} {O} old s t ticket e h = subst (λ (z : SeatView Q O). ClaimsOnly z t ticket) e h

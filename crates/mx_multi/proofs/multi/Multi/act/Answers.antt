@@ -1,0 +1,43 @@
+use Rattle.std.proofs.Common.{◌≡◌, ◌∙◌, ap, sym, refl, false, true}
+use Rattle.std.proofs.lemmas.Bool.{false≢true}
+use Rattle.crossbeam_channel.specs.Claims.{IsSeatAt}
+use Rattle.crossbeam_channel.specs.Ends.{sends_on}
+use Rattle.mx_multi.specs.Seats.{SeatView, Stands}
+use Rattle.mx_multi.proofs.Standing.{grows_by, begins_by, seat_after, received_more, lock_stands, same_of, engine_kept, stands_from, quiet_mark}
+use Rattle.mx_multi.proofs.multi.Multi.act.Goals as goal
+
+pub leave-requires-clause-grows : goal.leave-requires-clause-grows
+leave-requires-clause-grows g c =
+    grows_by _ _ c.seat.inside.reader c.in-Some.taken.shared c.seat.invariant.0 c.in-Some.ensures.entered.0 c.run-taken.result.0.shared _ _ _ c.who-who.ensures.is c.run-taken.ensures.leaves
+
+pub leave-requires-clause-begins : goal.leave-requires-clause-begins
+leave-requires-clause-begins g c =
+    begins_by _ _ c.seat.inside.reader c.in-Some.taken.shared c.seat.invariant.0 c.in-Some.ensures.entered.0 c.run-taken.result.0.shared _ _ _ c.run-taken.ensures.leaves c.in-Some.ensures.entered.1
+
+pub invariant_of-seat-2 : goal.invariant_of-seat-2
+invariant_of-seat-2 g c =
+    let k : IsSeatAt (sends_on c.self.inside.lock.into) c.leave.new.key = c.leave.ensures.kept in
+    let took = c.in-Some.ensures.entered.0 in
+    let x = c.in-Some.taken.shared in
+    let y = c.run-taken.result.0.shared in
+    let leaves = c.run-taken.ensures.leaves in
+    let quiet = c.run-taken.ensures.quiet in (
+      seat_after _ _ c.seat.inside.reader x c.seat.invariant.0 took _ _ y c.leave.ensures.gave c.leave.ensures.reader leaves.book,
+      k.2,
+      received_more _ _ _ _
+          (lock_stands _ _ c.seat.inside.reader x c.seat.invariant.0 took _ c.leave.new.reader y c.leave.ensures.gave c.leave.ensures.reader _ _ c.seat.inside.polled c.seat.inside.polled _ _ _ refl (same_of _ _ _ c.args.self.now c.args.seat.now c.requires.own c.self.view_is (ap (λ (s : SeatView g.row.Q.Denot g.row.O.Denot). s.of) c.seat.view_is) k.0 k.1 (engine_kept _ _ c.seat.inside.reader x c.seat.invariant.0 took _ y c.leave.ensures.gave))
+          c.who-who.ensures.is c.in-Some.ensures.entered.1 leaves (quiet_mark _ _ _ quiet) (λ is. absurd (false≢true (sym quiet ∙ is))))
+          c.seat.invariant.2,
+    )
+
+pub returns-clause-stands : goal.returns-clause-stands
+returns-clause-stands g c =
+    let k : IsSeatAt (sends_on c.self.inside.lock.into) c.leave.new.key = c.leave.ensures.kept in
+    let took = c.in-Some.ensures.entered.0 in
+    let x = c.in-Some.taken.shared in
+    let y = c.run-taken.result.0.shared in
+    let leaves = c.run-taken.ensures.leaves in
+    let quiet = c.run-taken.ensures.quiet in
+    stands_from _ _ _ _ _ c.seat.view_is
+    (lock_stands _ _ c.seat.inside.reader x c.seat.invariant.0 took _ c.leave.new.reader y c.leave.ensures.gave c.leave.ensures.reader _ _ c.seat.inside.polled c.seat.inside.polled _ _ _ refl (same_of _ _ _ c.args.self.now c.args.seat.now c.requires.own c.self.view_is (ap (λ (s : SeatView g.row.Q.Denot g.row.O.Denot). s.of) c.seat.view_is) k.0 k.1 (engine_kept _ _ c.seat.inside.reader x c.seat.invariant.0 took _ y c.leave.ensures.gave))
+    c.who-who.ensures.is c.in-Some.ensures.entered.1 leaves (quiet_mark _ _ _ quiet) (λ is. absurd (false≢true (sym quiet ∙ is))))

@@ -1,0 +1,35 @@
+use Rattle.std.proofs.Common.{◌≡◌, ◌∙◌, ◌+◌, ◌∷◌, [], ap, sym, subst, refl, length, arith}
+use Rattle.std.specs.Prelude.{vec_len}
+use Rattle.crossbeam_channel.specs.Claims.{view}
+use Rattle.crossbeam_channel.specs.Ends.{sends_on}
+use Rattle.mx_multi.specs.Lock.{engine_of, founder_at, parent, child}
+use Rattle.mx_multi.specs.Seats.{MultiView, IsNew}
+use Rattle.mx_multi.specs.Opening.{first_of, maker_of, AreReaders, AreNew}
+use Rattle.mx_multi.proofs.Opening.{new_more, new_at, is_new, length_more}
+use Rattle.mx_multi.proofs.open.seated.Goals as goal
+
+pub loop-reader-preserved : goal.loop-reader-preserved
+loop-reader-preserved g c =
+    let inv = c.loop-reader.invariant in
+    let e = engine_of (view c.args.founder.now) in
+    let n = vec_len c.loop-reader.seats in
+    let items = c.in_ok-push.ensures.items in
+    let was = c.loop-reader.seats.items in
+    let r = c.in-Some.reader in
+    let new = c.another-key.ensures.new in
+    let more : vec_len c.push.new.self ≡ n + 1 = c.in_ok-push.ensures.len in
+    let next : first_of c.args.worker + n + 1 ≡ first_of c.args.worker + vec_len c.push.new.self = omega (arith, more) in
+    let h = subst (AreReaders c.args.worker n e.book) c.in-Some.ensures.items inv.readers in
+    let m : MultiView g.row.Q.Denot g.row.O.Denot = record { table = (sends_on c.args.lock.now.into).stamps.shared.table_id; keys = (sends_on c.args.lock.now.into).stamps.shared.key; engine = e } in
+    let key = c.another-key.result in
+    let of : MultiView g.row.Q.Denot g.row.O.Denot = record { table = key.table_id; keys = key.me.0.of; engine = engine_of (view key) } in
+    let at : n ≡ 0 + length was = omega (arith, inv.made) in
+    record {
+      own = c.another-key.ensures.kept.0;
+      founder = c.another-key.ensures.kept.1 ∙ ap parent inv.founder ∙ ap (founder_at e) next;
+      new = subst (AreNew m c.args.worker 0) (sym items)
+          (new_more m c.args.worker 0 was _ inv.new (new_at m c.args.worker n (0 + length was) _ at (is_new m of (view key) r c.args.worker n (first_of c.args.worker + n) new.0.0 new.0.1 refl (new.1 ∙ ap child inv.founder) h.0)));
+      readers = subst (λ k. AreReaders c.args.worker k e.book c.pop_front.new.self.items) (sym more) h.1;
+      made = length_more _ _ _ _ _ items inv.made more;
+      all = omega (arith, more, inv.all, c.in-Some.ensures.len);
+    }

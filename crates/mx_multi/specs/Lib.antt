@@ -1,0 +1,5 @@
+pub mod Laws
+pub mod Lock
+pub mod Opening
+pub mod Seats
+pub mod Shared

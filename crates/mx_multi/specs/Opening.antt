@@ -1,0 +1,40 @@
+-- Opening a multi handle.
+use Rattle.std.specs.Prelude.{◌≡◌, ℕ, ◌+◌, ◌<◌, nat_le, ◌&&◌, Bool, true, false, if◌then◌else◌, List, [], ◌∷◌, length, All}
+use Rattle.logbook.specs.Pages.{Book}
+use Rattle.mx_types.specs.declared.event.Who.{Who}
+use Rattle.mx_types.specs.declared.event.Who.TheVariants as who
+use Rattle.mx_board.specs.Board.{ReaderState, caught_up}
+use Rattle.mx_multi.specs.declared.open.Limits.{Limits}
+use Rattle.mx_multi.specs.Seats.{MultiView, SeatView, IsNew}
+
+-- 1 to 16 seats and workers, a history of 4 to 1,048,576 events, at most 64 idle connections a worker
+abbrev pub are_within : Limits → Bool
+are_within l = nat_le 1 l.seats && nat_le l.seats 16 && nat_le 1 l.workers && nat_le l.workers 16 && nat_le 4 l.history && nat_le l.history 1048576 && nat_le l.max_connects 64
+
+-- the maker of the seat, or of the worker's seat, with the number
+abbrev pub maker_of : Bool → ℕ → Who
+maker_of worker n = if worker then who.Worker n else who.Seat n
+
+-- the number of the first key of the seats, and of the workers' seats
+abbrev pub first_of : Bool → ℕ
+first_of worker = if worker then 17 else 1
+
+-- readers for the makers from the nth on, which have seen an empty journal
+abbrev pub AreReaders : Bool → ℕ → Book → List ReaderState → Type 0
+AreReaders worker n book [] = Unit {0}
+AreReaders worker n book (r ∷ rs) = (r ≡ caught_up (maker_of worker n) [] book) × AreReaders worker (n + 1) book rs
+
+-- new seats of the makers from the nth on
+abbrev pub AreNew : {Q O : Type 0} → MultiView Q O → Bool → ℕ → List (SeatView Q O) → Type 0
+AreNew m worker n [] = Unit {0}
+AreNew m worker n (s ∷ ss) = IsNew m (maker_of worker n) s × AreNew m worker (n + 1) ss
+
+-- what was opened: the seats and the workers' seats, each with a maker of its own, have seen nothing
+pub record IsOpened {Q O : Type 0} (l : Limits) (m : MultiView Q O) (seats workers : List (SeatView Q O)) : Type 0 where
+  pub history : m.engine.opening ≡ record { history = l.history }
+  pub seats_new : AreNew m false 0 seats
+  pub seats_all : length seats ≡ l.seats
+  pub workers_new : AreNew m true 0 workers
+  pub workers_all : length workers ≡ l.workers
+  pub seats_own : All (λ (s : SeatView Q O). s.of ≡ m) seats
+  pub workers_own : All (λ (s : SeatView Q O). s.of ≡ m) workers

@@ -1,0 +1,106 @@
+-- What a seat has seen, and what a call says of it.
+use Rattle.std.specs.Prelude.{◌≡◌, ℕ, if◌then◌else◌, Bool, true, false, List, [], ◌∷◌, ◌++◌, length}
+use Rattle.std.specs.List.{AllByRecursion}
+use mathlib.Core.List.{IsPrefix}
+use Rattle.atomic_table.specs.Seated.{TableId}
+use Rattle.atomic_table.specs.declared.badge.Badge.{Badge}
+use Rattle.crossbeam_channel.specs.declared.flavors.array.Key.{Key}
+use Rattle.mx_types.specs.declared.names.Ticket.{Ticket}
+use Rattle.mx_types.specs.declared.event.Who.{Who}
+use Rattle.mx_types.specs.declared.event.Event.{Event}
+use Rattle.mx_types.specs.declared.call.Call.{Call}
+use Rattle.mx_types.specs.declared.call.Receipt.{Receipt}
+use Rattle.mx_types.specs.declared.reply.Reply.{Reply}
+use Rattle.mx_journal.specs.History.{is_legal, made_by}
+use Rattle.mx_journal.specs.Answers.{Answers, is_ready}
+use Rattle.mx_journal.specs.Receipts.{is_poll, mark, IsPlaced}
+use Rattle.mx_board.specs.Board.{ReaderState}
+use Rattle.mx_multi.specs.Shared.{SharedState, Engine}
+use Rattle.mx_multi.specs.Lock.{maker, engine_of}
+use Rattle.mx_multi.specs.declared.key_view.KeyView.{KeyView}
+
+-- which engine it is: its lock, its journal, and what it was opened with
+pub record MultiView (Q O : Type 0) : Type 0 where
+  pub table : TableId
+  pub keys : Badge (Key (SharedState Q O))
+  pub engine : Engine
+
+-- a seat: of which engine it is, which maker, the events that it has seen, how many of these are confirmed by more than a
+-- read, how many they were at its last poll, and the tickets that it has claimed
+pub record SeatView (Q O : Type 0) : Type 0 where
+  pub of : MultiView Q O
+  pub who : Who
+  pub seen : List Event
+  pub confirmed : ℕ
+  pub polled : ℕ
+  pub claims : List Ticket
+
+-- the seat's key is free, and its reader has seen no less than the key, and no event more of its maker
+pub record IsSeat (v : KeyView) (r : ReaderState) : Type 0 where
+  pub free : v.holding ≡ false
+  pub told : v.told ≡ true
+  pub who : maker v.number ≡ r.who
+  pub book : r.book ≡ (engine_of v).book
+  pub later : IsPrefix v.seen r.seen
+  pub own : made_by r.who r.seen ≡ made_by r.who v.seen
+
+-- the receipts are those of the seat's calls: they stand in what it has seen, and the last poll among them is its last poll
+pub record HasReceipts {Q O : Type 0} (s : SeatView Q O) (mine : List Receipt) : Type 0 where
+  pub placed : IsPlaced s.of.engine.opening s.who mine s.seen
+  pub polled : mark mine ≡ s.polled
+
+-- there are receipts of all its calls
+abbrev pub IsReceived : {Q O : Type 0} → SeatView Q O → Type 0
+IsReceived s = (mine : List Receipt) × HasReceipts s mine
+
+-- a journal that begins with what the seat has seen, and has no event more of its own
+pub record Finds {Q O : Type 0} (s : SeatView Q O) (j : List Event) : Type 0 where
+  pub later : IsPrefix s.seen j
+  pub own : made_by s.who j ≡ made_by s.who s.seen
+
+-- The call was answered: after a journal that begins with what the seat has seen, it left the events that the seat has
+-- then seen, and its receipt stands behind the others.
+pub record Stands {Q O : Type 0} (s t : SeatView Q O) (call : Call) (reply : Reply) : Type 0 where
+  pub of : t.of ≡ s.of
+  pub who : t.who ≡ s.who
+  pub later : IsPrefix s.seen t.seen
+  pub legal : is_legal t.seen ≡ true
+  pub found : (j : List Event) × Finds s j × Answers s.of.engine.opening s.who call j reply t.seen
+  pub claims : t.claims ≡ s.claims
+  pub polled : t.polled ≡ (if is_poll call then length t.seen else s.polled)
+  pub ready : is_poll call ≡ true → is_ready s.polled t.seen ≡ true
+  pub placed : (mine : List Receipt) → HasReceipts s mine → HasReceipts t (mine ++ record { cut = length t.seen; call = call; reply = reply } ∷ [])
+
+-- the seat has seen a journal, with no receipt for that: what was placed stays placed
+pub record Sees {Q O : Type 0} (s t : SeatView Q O) : Type 0 where
+  pub of : t.of ≡ s.of
+  pub who : t.who ≡ s.who
+  pub polled : t.polled ≡ s.polled
+  pub confirmed : t.confirmed ≡ length t.seen
+  pub found : Finds s t.seen
+  pub legal : is_legal t.seen ≡ true
+  pub placed : (mine : List Receipt) → HasReceipts s mine → HasReceipts t mine
+
+-- the seat has claimed no ticket but this
+pub record ClaimsOnly {Q O : Type 0} (s t : SeatView Q O) (ticket : Ticket) : Type 0 where
+  pub more : List Ticket
+  pub claims : t.claims ≡ s.claims ++ more
+  pub only : AllByRecursion (λ u. u ≡ ticket) more
+
+-- a seat of the engine that has seen nothing
+pub record IsNew {Q O : Type 0} (m : MultiView Q O) (w : Who) (s : SeatView Q O) : Type 0 where
+  pub of : s.of ≡ m
+  pub who : s.who ≡ w
+  pub seen : s.seen ≡ []
+  pub confirmed : s.confirmed ≡ 0
+  pub polled : s.polled ≡ 0
+  pub claims : s.claims ≡ []
+
+-- from s on, calls of the seat were answered, with these receipts: they stand behind those that it had
+pub record Ran {Q O : Type 0} (s t : SeatView Q O) (more : List Receipt) : Type 0 where
+  pub of : t.of ≡ s.of
+  pub who : t.who ≡ s.who
+  pub later : IsPrefix s.seen t.seen
+  pub legal : is_legal s.seen ≡ true → is_legal t.seen ≡ true
+  pub claims : t.claims ≡ s.claims
+  pub placed : (mine : List Receipt) → HasReceipts s mine → HasReceipts t (mine ++ more)

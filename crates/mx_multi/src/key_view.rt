@@ -1,0 +1,30 @@
+use mx_types::{Event, Ticket};
+use std::collections::LinkedList;
+
+/// Which engine. No value of it is made.
+pub struct EngineName {
+    pub number: u64,
+    pub log_name: u64,
+    pub cells_name: u64,
+    pub history: u64,
+}
+
+/// What a key of the lock knows. No value of it is made.
+pub struct KeyView {
+    /// The number of the key.
+    pub number: u64,
+    /// The number of the next key, where this one may make keys, and else 0.
+    pub next: u64,
+    /// Whether it knows which engine it is.
+    pub told: bool,
+    pub engine: EngineName,
+    /// Whether it has taken the engine.
+    pub holding: bool,
+    /// The journal that it found there, and the tickets that were claimed.
+    pub held: LinkedList<Event>,
+    pub found: LinkedList<Ticket>,
+    /// The journal that it left last.
+    pub seen: LinkedList<Event>,
+    /// The tickets that it has claimed.
+    pub claims: LinkedList<Ticket>,
+}

@@ -1,0 +1,15 @@
+//! One multi handle for many threads: a lock with a rule, seats, and the calls. It is generic in the work that is added
+//! and in the endings that are recorded.
+#![tactic(auto)]
+
+mod key_view;
+mod laws;
+mod lock;
+mod multi;
+mod open;
+mod seat;
+
+pub use crate::laws::Step;
+pub use crate::multi::{HandleList, Multi, WrongSeat};
+pub use crate::open::{Limits, OpenError};
+pub use crate::seat::{Seat, WorkerSeat};

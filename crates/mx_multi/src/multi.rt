@@ -1,0 +1,431 @@
+//! The calls of a multi handle that threads share.
+ghost use Rattle.std.specs.Prelude.{◌⊎◌, ◌≡◌, ◌≤◌, true, length, take, Some, IfSome, IfOk, OnOk, MatchBool, MatchResult, MatchOption};
+ghost use Rattle.mx_types.specs.declared.call.Call.{Call};
+ghost use Rattle.mx_types.specs.declared.reply.Reply.{Reply};
+ghost use Rattle.mx_journal.specs.History.{has_ticket, running};
+ghost use Rattle.mx_journal.specs.Answers.{handle_of};
+ghost use Rattle.mx_journal.specs.Slots.{slot_of};
+ghost use Rattle.mx_journal.specs.Replies.{handed_back, work_back, IsHandedBack, reply_of_add, reply_of_finish, reply_of_info, reply_of_pause, reply_of_remove, reply_of_wakeup};
+ghost use Rattle.mx_board.specs.Board.{AreOfOneJournal, OneBeginsOther};
+ghost use Rattle.mx_multi.specs.Shared.{SharedState};
+ghost use Rattle.mx_multi.specs.Seats.{Stands, Sees, ClaimsOnly};
+
+use crate::lock::{
+    Addition, Deed, Finishing, Lock, Pausing, Reading, Removal, Shared, Unpausing, Waking,
+};
+use crate::seat::{Seat, WorkerSeat};
+use mx_board::{JournalMark, are_of_one_journal};
+use mx_journal::{AddReply, Claim, FinishReply, InfoReply, PauseReply, RemoveReply, WakeupReply};
+use mx_types::{AddedHandles, Ending, HandleId, Look, State, Ticket, Work};
+use std::marker::Model;
+use std::sync::{Condvar, Mutex, Wait};
+
+/// The seat has seen a journal that isn't the beginning of this one, which does not happen with the seats that `open` gave.
+/// What the call was given comes back, and nothing was changed.
+#[derive(Drop)]
+pub struct WrongSeat<T>(pub T);
+
+/// The handles that are added, with the number of events that the seat had then seen.
+#[derive(Drop)]
+pub struct HandleList {
+    pub cut: u32,
+    pub list: AddedHandles,
+}
+
+/// A multi handle that threads share, each through a seat of its own.
+#[derive(Drop)]
+pub struct Multi<Q: Work + Drop, O: Ending + Drop> {
+    pub(crate) lock: Lock<Q, O>,
+    /// The beginning of the journal, which tells journals apart.
+    pub(crate) start: JournalMark,
+    pub(crate) history: u32,
+    pub(crate) max_connects: u8,
+    /// How many wake-ups and ends there were, for those that wait.
+    pub(crate) changes: Mutex<u64>,
+    pub(crate) changed: Condvar,
+}
+
+impl<Q: Work + Drop, O: Ending + Drop> Model for Multi<Q, O> {
+    ghost use Rattle.crossbeam_channel.specs.Claims.{IsKeyed};
+    ghost use Rattle.crossbeam_channel.specs.Ends.{sends_on};
+    ghost use Rattle.mx_multi.specs.Seats.{MultiView};
+
+    ghost Value = { MultiView Q O };
+
+    ghost view = { λ m. record { table = (sends_on m.lock.into).stamps.shared.table_id; keys = (sends_on m.lock.into).stamps.shared.key; engine = record { book = m.start.book; opening = record { history = m.history } } } };
+
+    ghost invariant = { λ m. IsKeyed (sends_on m.lock.into) };
+}
+
+impl<Q: Work + Drop, O: Ending + Drop> Multi<Q, O> {
+    // Tells those that wait that they are to look again.
+    fn tell<R: Wait>(&self, rt: &R) {
+        let mut changes = self.changes.lock(rt);
+        *changes = changes.wrapping_add(1);
+        self.changed.notify_all();
+    }
+
+    // Makes a call under the lock.
+    fn act<D: Deed<Shared<Q, O>, Q, O>, R: Wait>(
+        &self,
+        rt: &R,
+        seat: &mut Seat<Q, O>,
+        deed: D,
+    ) -> Result<D::Reply, WrongSeat<D>>
+        requires own { seat.old.of ≡ self.now }
+        requires state { (x : SharedState Q O) → D.state x ≡ x }
+        ensures stands { MatchResult result (λ r. Stands seat.old seat.new (D.call deed) (D.reply r)) (λ w. (seat.new ≡ seat.old) × (w.0 ≡ deed)) }
+        ensures back { IfOk result (λ r. D.back deed r) }
+        ensures confirmed { OnOk result (seat.new.confirmed ≡ length seat.new.seen) }
+    {
+        let Some(taken) = self.lock.enter(rt, &mut seat.key, &seat.reader) else {
+            return Err(WrongSeat(deed));
+        };
+        let who = seat.reader.who();
+        let (taken, reply) = taken.run(rt, deed, who);
+        self.lock.leave(rt, &mut seat.key, taken, &mut seat.reader);
+        if D::wakes(&reply) {
+            self.tell(rt);
+        }
+        Ok(reply)
+    }
+
+    /// Adds a handle with its work (curl_multi_add_handle(3)).
+    pub fn add<R: Wait>(
+        &self,
+        rt: &R,
+        seat: &mut Seat<Q, O>,
+        handle: HandleId,
+        work: Q,
+    ) -> Result<AddReply<Q>, WrongSeat<Q>>
+        requires own { seat.old.of ≡ self.now }
+        ensures stands { MatchResult result (λ r. Stands seat.old seat.new (Call.Add handle) (reply_of_add r)) (λ w. (seat.new ≡ seat.old) × (w.0 ≡ work)) }
+        ensures back { IfOk result (λ r. handed_back r ≡ work_back r work) }
+        ensures confirmed { OnOk result (seat.new.confirmed ≡ length seat.new.seen) }
+    {
+        match self.act(rt, seat, Addition { handle, work }) {
+            Ok(reply) => Ok(reply),
+            Err(WrongSeat(deed)) => Err(WrongSeat(deed.work)),
+        }
+    }
+
+    /// Removes a handle, whatever its state (curl_multi_remove_handle(3)).
+    pub fn remove<R: Wait>(
+        &self,
+        rt: &R,
+        seat: &mut Seat<Q, O>,
+        handle: HandleId,
+    ) -> Result<RemoveReply, WrongSeat<()>>
+        requires own { seat.old.of ≡ self.now }
+        ensures stands { MatchResult result (λ r. Stands seat.old seat.new (Call.Remove handle) (reply_of_remove r)) (λ _. seat.new ≡ seat.old) }
+        ensures confirmed { OnOk result (seat.new.confirmed ≡ length seat.new.seen) }
+    {
+        match self.act(rt, seat, Removal(handle)) {
+            Ok(reply) => Ok(reply),
+            Err(_) => Err(WrongSeat(())),
+        }
+    }
+
+    /// Pauses a handle's transfer.
+    pub fn pause<R: Wait>(
+        &self,
+        rt: &R,
+        seat: &mut Seat<Q, O>,
+        handle: HandleId,
+    ) -> Result<PauseReply, WrongSeat<()>>
+        requires own { seat.old.of ≡ self.now }
+        ensures stands { MatchResult result (λ r. Stands seat.old seat.new (Call.Pause handle) (reply_of_pause r)) (λ _. seat.new ≡ seat.old) }
+        ensures confirmed { OnOk result (seat.new.confirmed ≡ length seat.new.seen) }
+    {
+        match self.act(rt, seat, Pausing(handle)) {
+            Ok(reply) => Ok(reply),
+            Err(_) => Err(WrongSeat(())),
+        }
+    }
+
+    /// Resumes a handle's transfer.
+    pub fn unpause<R: Wait>(
+        &self,
+        rt: &R,
+        seat: &mut Seat<Q, O>,
+        handle: HandleId,
+    ) -> Result<PauseReply, WrongSeat<()>>
+        requires own { seat.old.of ≡ self.now }
+        ensures stands { MatchResult result (λ r. Stands seat.old seat.new (Call.Unpause handle) (reply_of_pause r)) (λ _. seat.new ≡ seat.old) }
+        ensures confirmed { OnOk result (seat.new.confirmed ≡ length seat.new.seen) }
+    {
+        match self.act(rt, seat, Unpausing(handle)) {
+            Ok(reply) => Ok(reply),
+            Err(_) => Err(WrongSeat(())),
+        }
+    }
+
+    /// Reads the first message (curl_multi_info_read(3)).
+    pub fn info_read<R: Wait>(
+        &self,
+        rt: &R,
+        seat: &mut Seat<Q, O>,
+    ) -> Result<InfoReply<O>, WrongSeat<()>>
+        requires own { seat.old.of ≡ self.now }
+        ensures stands { MatchResult result (λ r. Stands seat.old seat.new Call.InfoRead (reply_of_info O.code_of O.size_of r)) (λ _. seat.new ≡ seat.old) }
+        ensures confirmed { OnOk result (seat.new.confirmed ≡ length seat.new.seen) }
+    {
+        match self.act(rt, seat, Reading) {
+            Ok(reply) => Ok(reply),
+            Err(_) => Err(WrongSeat(())),
+        }
+    }
+
+    /// Lets polls return (curl_multi_wakeup(3)).
+    pub fn wakeup<R: Wait>(
+        &self,
+        rt: &R,
+        seat: &mut Seat<Q, O>,
+    ) -> Result<WakeupReply, WrongSeat<()>>
+        requires own { seat.old.of ≡ self.now }
+        ensures stands { MatchResult result (λ r. Stands seat.old seat.new Call.Wakeup (reply_of_wakeup r)) (λ _. seat.new ≡ seat.old) }
+        ensures confirmed { OnOk result (seat.new.confirmed ≡ length seat.new.seen) }
+    {
+        match self.act(rt, seat, Waking) {
+            Ok(reply) => Ok(reply),
+            Err(_) => Err(WrongSeat(())),
+        }
+    }
+
+    // Records the end of a claimed transfer.
+    pub(crate) fn finish_at<R: Wait>(
+        &self,
+        rt: &R,
+        seat: &mut Seat<Q, O>,
+        claim: Claim<Q>,
+        ending: O,
+    ) -> Result<FinishReply<Q, O>, WrongSeat<(Claim<Q>, O)>>
+        requires own { seat.old.of ≡ self.now }
+        requires origin { O.origin ending ≡ claim.origin }
+        ensures stands { MatchResult result (λ r. Stands seat.old seat.new (Call.Finish claim.ticket (O.code_of ending) (O.size_of ending)) (reply_of_finish r)) (λ w. (seat.new ≡ seat.old) × (w.0 ≡ (claim, ending))) }
+        ensures back { IfOk result (λ r. IsHandedBack claim ending r) }
+        ensures confirmed { OnOk result (seat.new.confirmed ≡ length seat.new.seen) }
+    {
+        match self.act(rt, seat, Finishing { claim, ending }) {
+            Ok(reply) => Ok(reply),
+            Err(WrongSeat(deed)) => Err(WrongSeat((deed.claim, deed.ending))),
+        }
+    }
+
+    /// The handles that are added, in order, by the version that was published last (curl_multi_get_handles(3)). It takes no
+    /// lock and no memory. None, and nothing changes, where there is no version to be had.
+    pub(crate) fn added(&self, seat: &mut Seat<Q, O>) -> Option<AddedHandles>
+        requires own { seat.old.of ≡ self.now }
+        ensures { MatchOption result (seat.new ≡ seat.old) (λ r. Stands seat.old seat.new Call.Handles (Reply.Handles r)) }
+    {
+        let Some(answer) = seat.reader.handles() else {
+            return None;
+        };
+        Some(answer)
+    }
+
+    /// How many transfers run, paused ones too, by the version that was published last. It takes no lock and no memory.
+    /// None, and nothing changes, where there is no version to be had.
+    pub fn running(&self, seat: &mut Seat<Q, O>) -> Option<u32>
+        requires own { seat.old.of ≡ self.now }
+        ensures { MatchOption result (seat.new ≡ seat.old) (λ r. Stands seat.old seat.new Call.Running (Reply.Running r)) }
+    {
+        let Some(answer) = seat.reader.running() else {
+            return None;
+        };
+        Some(answer)
+    }
+
+    /// Where a handle stands, by the version that was published last. It takes no lock and no memory. None, and nothing
+    /// changes, where there is no version to be had.
+    pub fn state(&self, seat: &mut Seat<Q, O>, handle: HandleId) -> Option<State>
+        requires own { seat.old.of ≡ self.now }
+        ensures { MatchOption result (seat.new ≡ seat.old) (λ r. Stands seat.old seat.new (Call.State handle) (Reply.State r)) }
+    {
+        let Some(answer) = seat.reader.state(handle) else {
+            return None;
+        };
+        Some(answer)
+    }
+
+    // What a worker is told of a ticket, by the version that was published last.
+    pub(crate) fn look_at(&self, seat: &mut Seat<Q, O>, ticket: Ticket) -> Option<Look>
+        requires own { seat.old.of ≡ self.now }
+        ensures { MatchOption result (seat.new ≡ seat.old) (λ r. Stands seat.old seat.new (Call.Look ticket) (Reply.Look r)) }
+    {
+        let Some(answer) = seat.reader.look(ticket) else {
+            return None;
+        };
+        Some(answer)
+    }
+
+    // Takes the work of the lowest ticket in the queue.
+    pub(crate) fn claim_at<R: Wait>(&self, rt: &R, seat: &mut Seat<Q, O>) -> Option<(Claim<Q>, Q)>
+        requires own { seat.old.of ≡ self.now }
+        ensures sees { MatchOption result ((seat.new ≡ seat.old) ⊎ Sees seat.old seat.new) (λ r. Sees seat.old seat.new) }
+        ensures claims { MatchOption result (seat.new.claims ≡ seat.old.claims) (λ r. ClaimsOnly seat.old seat.new r.0.ticket) }
+        ensures runs { IfSome result (λ r. has_ticket r.0.ticket (running seat.new.seen) ≡ true) }
+        ensures origin { IfSome result (λ r. r.0.origin ≡ Q.origin r.1) }
+        ensures handle { IfSome result (λ r. handle_of r.0.ticket seat.new.seen ≡ Some r.0.handle) }
+        ensures slot { IfSome result (λ r. slot_of r.0.ticket seat.new.seen ≡ Some r.0.slot) }
+    {
+        let Some(mut taken) = self.lock.enter(rt, &mut seat.key, &seat.reader) else {
+            return None;
+        };
+        let _cut = taken.len();
+        let claimed = taken.claim();
+        self.lock.leave(rt, &mut seat.key, taken, &mut seat.reader);
+        let Some(claimed) = claimed else {
+            return None;
+        };
+        Some(claimed)
+    }
+
+    /// Both seats see the journal. It answers how many events that has. `WrongSeat`, and nothing changes, where a seat isn't
+    /// one of this multi handle's, which does not happen.
+    pub fn meet<R: Wait>(
+        &self,
+        rt: &R,
+        one: &mut Seat<Q, O>,
+        two: &mut Seat<Q, O>,
+    ) -> Result<u32, WrongSeat<()>>
+        requires own { (one.old.of ≡ self.now) × (two.old.of ≡ self.now) }
+        ensures meets { MatchResult result (λ n. Sees one.old one.new × Sees two.old two.new × (one.new.seen ≡ two.new.seen) × (n ≡ length one.new.seen)) (λ _. (one.new ≡ one.old) × (two.new ≡ two.old)) }
+        ensures claims { (one.new.claims ≡ one.old.claims) × (two.new.claims ≡ two.old.claims) }
+    {
+        let Some(mut taken) = self.lock.enter(rt, &mut one.key, &one.reader) else {
+            return Err(WrongSeat(()));
+        };
+        if taken.begins_with(&two.reader) {
+            let other = two.reader.who();
+            if taken.made(other) == two.reader.made() {
+                let cut = taken.len();
+                taken.refresh(&mut two.reader);
+                self.lock.leave(rt, &mut one.key, taken, &mut one.reader);
+                return Ok(cut);
+            }
+        }
+        self.lock.put_back(rt, &mut one.key, taken);
+        Err(WrongSeat(()))
+    }
+
+    /// Records the end of a claimed transfer, by a worker's seat. What isn't recorded comes back.
+    pub fn finish<R: Wait>(
+        &self,
+        rt: &R,
+        worker: &mut WorkerSeat<Q, O>,
+        claim: Claim<Q>,
+        ending: O,
+    ) -> Result<FinishReply<Q, O>, WrongSeat<(Claim<Q>, O)>>
+        requires own { worker.old.of ≡ self.now }
+        requires origin { O.origin ending ≡ claim.origin }
+        ensures stands { MatchResult result (λ r. Stands worker.old worker.new (Call.Finish claim.ticket (O.code_of ending) (O.size_of ending)) (reply_of_finish r)) (λ w. (worker.new ≡ worker.old) × (w.0 ≡ (claim, ending))) }
+        ensures back { IfOk result (λ r. IsHandedBack claim ending r) }
+        ensures confirmed { OnOk result (worker.new.confirmed ≡ length worker.new.seen) }
+    {
+        self.finish_at(rt, &mut worker.seat, claim, ending)
+    }
+
+    /// Takes the work of the lowest ticket in the queue, which then runs as this worker's seat has seen; its claim has the
+    /// handle and the slot of that addition. None where the queue is empty, which the seat has then seen too, or where the
+    /// seat isn't one of this multi handle's, and nothing changes.
+    pub fn claim<R: Wait>(&self, rt: &R, worker: &mut WorkerSeat<Q, O>) -> Option<(Claim<Q>, Q)>
+        requires own { worker.old.of ≡ self.now }
+        ensures sees { MatchOption result ((worker.new ≡ worker.old) ⊎ Sees worker.old worker.new) (λ r. Sees worker.old worker.new) }
+        ensures claims { MatchOption result (worker.new.claims ≡ worker.old.claims) (λ r. ClaimsOnly worker.old worker.new r.0.ticket) }
+        ensures runs { IfSome result (λ r. has_ticket r.0.ticket (running worker.new.seen) ≡ true) }
+        ensures origin { IfSome result (λ r. r.0.origin ≡ Q.origin r.1) }
+        ensures handle { IfSome result (λ r. handle_of r.0.ticket worker.new.seen ≡ Some r.0.handle) }
+        ensures slot { IfSome result (λ r. slot_of r.0.ticket worker.new.seen ≡ Some r.0.slot) }
+    {
+        self.claim_at(rt, &mut worker.seat)
+    }
+
+    /// What a worker is told of a ticket, by the version that was published last. It takes no lock and no memory. None, and
+    /// nothing changes, where there is no version to be had.
+    pub fn look(&self, worker: &mut WorkerSeat<Q, O>, ticket: Ticket) -> Option<Look>
+        requires own { worker.old.of ≡ self.now }
+        ensures { MatchOption result (worker.new ≡ worker.old) (λ r. Stands worker.old worker.new (Call.Look ticket) (Reply.Look r)) }
+    {
+        self.look_at(&mut worker.seat, ticket)
+    }
+
+    /// The handles that are added, in order, by the version that was published last (curl_multi_get_handles(3)), with the
+    /// number of events that the seat has then seen. It takes no lock and no memory. None, and nothing changes, where there
+    /// is no version to be had.
+    pub fn handles(&self, seat: &mut Seat<Q, O>) -> Option<HandleList>
+        requires own { seat.old.of ≡ self.now }
+        ensures { MatchOption result (seat.new ≡ seat.old) (λ r. Stands seat.old seat.new Call.Handles (Reply.Handles r.list) × (r.cut ≡ length seat.new.seen)) }
+    {
+        let Some(list) = self.added(seat) else {
+            return None;
+        };
+        Some(HandleList {
+            cut: seat.cut(),
+            list,
+        })
+    }
+
+    /// What two seats have seen are beginnings of one journal, but for the last event of each, which a read alone may have
+    /// shown; and of what is confirmed of them one begins the other.
+    pub fn are_of_one_journal(&self, one: &Seat<Q, O>, two: &Seat<Q, O>)
+        requires own { (one.now.of ≡ self.now) × (two.now.of ≡ self.now) }
+        ensures seen { AreOfOneJournal one.now.seen two.now.seen }
+        ensures confirmed { OneBeginsOther (take one.now.confirmed one.now.seen) (take two.now.confirmed two.now.seen) }
+    {
+        are_of_one_journal(&one.reader, &two.reader)
+    }
+
+    fn heard<R: Wait>(&self, rt: &R) -> u64 {
+        *self.changes.lock(rt)
+    }
+
+    // Waits until something was told since `heard`.
+    fn wait_after<R: Wait>(&self, rt: &R, heard: u64) {
+        let mut changes = self.changes.lock(rt);
+        for _ in rt.forever() {
+            if *changes != heard {
+                return;
+            }
+            changes = self.changed.wait(rt, changes);
+        }
+    }
+
+    // Polls once. False, and nothing changes, where no event lets the poll return.
+    fn try_poll<R: Wait>(&self, rt: &R, seat: &mut Seat<Q, O>) -> Result<bool, WrongSeat<()>>
+        requires own { seat.old.of ≡ self.now }
+        ensures { MatchResult result (λ woken. MatchBool woken (Stands seat.old seat.new Call.Poll Reply.Woken × (seat.new.confirmed ≡ length seat.new.seen)) (seat.new ≡ seat.old)) (λ _. seat.new ≡ seat.old) }
+    {
+        let Some(taken) = self.lock.enter(rt, &mut seat.key, &seat.reader) else {
+            return Err(WrongSeat(()));
+        };
+        if taken.is_ready(seat.polled) {
+            let cut = taken.len();
+            self.lock.leave(rt, &mut seat.key, taken, &mut seat.reader);
+            seat.polled = cut;
+            return Ok(true);
+        }
+        self.lock.put_back(rt, &mut seat.key, taken);
+        Ok(false)
+    }
+
+    /// Waits until there is a wake-up or an end at or after what the seat had seen at its last poll (curl_multi_poll(3)). It
+    /// sleeps until one is told.
+    pub fn poll<R: Wait>(&self, rt: &R, seat: &mut Seat<Q, O>) -> Result<(), WrongSeat<()>>
+        requires own { seat.old.of ≡ self.now }
+        ensures stands { MatchResult result (λ _. Stands seat.old seat.new Call.Poll Reply.Woken) (λ _. seat.new ≡ seat.old) }
+        ensures confirmed { OnOk result (seat.new.confirmed ≡ length seat.new.seen) }
+    {
+        for _ in rt.forever() {
+            // The count is read before the journal: an event that comes after the look is told after the count was read,
+            // and ends the wait.
+            let heard = self.heard(rt);
+            match self.try_poll(rt, seat) {
+                Ok(true) => return Ok(()),
+                Ok(false) => self.wait_after(rt, heard),
+                Err(wrong) => return Err(wrong),
+            }
+        }
+        unreachable!()
+    }
+}

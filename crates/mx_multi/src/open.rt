@@ -1,0 +1,191 @@
+//! Opening and closing a multi handle.
+ghost use Rattle.std.specs.Prelude.{◌≡◌, ◌≤◌, ◌+◌, [], Bool, true, false, vec_len, Err, IfOk, IfErr};
+ghost use Rattle.std.specs.VecDeque.{deque_len};
+ghost use Rattle.crossbeam_channel.specs.Claims.{view, IsSeatAt};
+ghost use Rattle.crossbeam_channel.specs.Ends.{sends_on};
+ghost use Rattle.mx_multi.specs.Lock.{engine_of, founder_at};
+ghost use Rattle.mx_multi.specs.Opening.{are_within, first_of, maker_of, AreNew, AreReaders, IsOpened};
+
+use crate::lock::{Key, Lock, Shared};
+use crate::multi::Multi;
+use crate::seat::{Seat, WorkerSeat};
+use mx_board::BoardReader;
+use mx_types::{Ending, OutOfMemory, Who, Work};
+use std::alloc::Global;
+use std::collections::VecDeque;
+use std::sync::{Condvar, Mutex, Wait};
+
+/// What a multi handle is opened with.
+#[derive(Clone, Copy, Debug, PartialEq, Eq)]
+pub struct Limits {
+    /// Seats for application threads, 1 to 16.
+    pub seats: u8,
+    /// Seats for workers, 1 to 16.
+    pub workers: u8,
+    /// The greatest number of events of its history, 4 to 1,048,576.
+    pub history: u32,
+    /// The greatest number of idle connections that a worker keeps, 0 to 64.
+    pub max_connects: u8,
+}
+
+impl Limits {
+    /// Whether each number is within its limits.
+    pub fn are_within(&self) -> bool
+        ensures { result ≡ are_within self.now }
+    {
+        1 <= self.seats
+            && self.seats <= 16
+            && 1 <= self.workers
+            && self.workers <= 16
+            && 4 <= self.history
+            && self.history <= 1048576
+            && self.max_connects <= 64
+    }
+}
+
+/// Why a multi handle was not opened: a number isn't within its limits, which is tried first; or memory was refused.
+#[derive(Clone, Copy, Debug, PartialEq, Eq)]
+pub enum OpenError {
+    BadLimits,
+    OutOfMemory,
+}
+
+fn maker(worker: bool, number: u8) -> Who
+    ensures { result ≡ maker_of worker number }
+{
+    if worker {
+        return Who::Worker(number);
+    }
+    Who::Seat(number)
+}
+
+// Readers for seats or workers, which have seen the empty journal.
+fn readers<Q: Work + Drop, O: Ending + Drop>(
+    alloc: Global,
+    shared: &mut Shared<Q, O>,
+    count: u8,
+    worker: bool,
+) -> Result<VecDeque<BoardReader>, OutOfMemory>
+    requires few { count ≤ 16 }
+    requires none { shared.old.core.journal ≡ [] }
+    ensures same { shared.new ≡ shared.old }
+    ensures readers { IfOk result (λ v. AreReaders worker 0 shared.old.book v.items × (deque_len v ≡ count)) }
+{
+    let mut readers = VecDeque::new(alloc);
+    for number in 0..count {
+        let Some(reader) = shared.reader(maker(worker, number)) else {
+            return Err(OutOfMemory);
+        };
+        readers.push_back(reader)?;
+    }
+    Ok(readers)
+}
+
+// A seat for each reader, with the next keys.
+fn seated<Q: Work + Drop, O: Ending + Drop>(
+    alloc: Global,
+    lock: &Lock<Q, O>,
+    founder: &mut Key<Q, O>,
+    readers: VecDeque<BoardReader>,
+    worker: bool,
+) -> Result<Vec<Seat<Q, O>>, OutOfMemory>
+    requires few { deque_len readers ≤ 16 }
+    requires own { IsSeatAt (sends_on lock.now.into) founder.old }
+    requires founder { view founder.old ≡ founder_at (engine_of (view founder.old)) (first_of worker) }
+    requires readers { AreReaders worker 0 (engine_of (view founder.old)).book readers.items }
+    ensures kept { IsSeatAt (sends_on lock.now.into) founder.new }
+    ensures next { IfOk result (λ v. view founder.new ≡ founder_at (engine_of (view founder.old)) (first_of worker + vec_len v)) }
+    ensures new { IfOk result (λ v. AreNew (record { table = (sends_on lock.now.into).stamps.shared.table_id; keys = (sends_on lock.now.into).stamps.shared.key; engine = engine_of (view founder.old) }) worker 0 v.items) }
+    ensures all { IfOk result (λ v. vec_len v ≡ deque_len readers) }
+{
+    let mut readers = readers;
+    let mut seats = Vec::new(alloc);
+    while let Some(reader) = readers.pop_front() {
+        let key = lock.another(founder);
+        seats.push(Seat {
+            key,
+            reader,
+            polled: 0,
+        })?;
+    }
+    Ok(seats)
+}
+
+// Lets keys go, so that those of the workers come next.
+fn skip<Q: Work + Drop, O: Ending + Drop>(lock: &Lock<Q, O>, founder: &mut Key<Q, O>, seats: u8)
+    requires few { seats ≤ 16 }
+    requires own { IsSeatAt (sends_on lock.now.into) founder.old }
+    requires founder { view founder.old ≡ founder_at (engine_of (view founder.old)) (1 + seats) }
+    ensures kept { IsSeatAt (sends_on lock.now.into) founder.new }
+    ensures next { view founder.new ≡ founder_at (engine_of (view founder.old)) 17 }
+{
+    for spare in seats..16 {
+        let _ = spare;
+        let _key = lock.another(founder);
+    }
+}
+
+impl<Q: Work + Drop, O: Ending + Drop> Multi<Q, O> {
+    /// Opens a multi handle, with its seats and its workers' seats. It waits until the empty version is published.
+    pub fn open<R: Wait>(
+        rt: &R,
+        alloc: Global,
+        limits: Limits,
+    ) -> Result<(Multi<Q, O>, Vec<Seat<Q, O>>, Vec<WorkerSeat<Q, O>>), OpenError>
+        ensures bad { are_within limits ≡ false → result ≡ Err OpenError.BadLimits }
+        ensures good { IfErr result (λ e. e ≡ OpenError.BadLimits → are_within limits ≡ false) }
+        ensures opened { IfOk result (λ r. IsOpened limits r.0 r.1.items r.2.items) }
+    {
+        if !limits.are_within() {
+            return Err(OpenError::BadLimits);
+        }
+        match Multi::open_within(rt, alloc, limits) {
+            Ok(opened) => Ok(opened),
+            Err(OutOfMemory) => Err(OpenError::OutOfMemory),
+        }
+    }
+
+    fn open_within<R: Wait>(
+        rt: &R,
+        alloc: Global,
+        limits: Limits,
+    ) -> Result<(Multi<Q, O>, Vec<Seat<Q, O>>, Vec<WorkerSeat<Q, O>>), OutOfMemory>
+        requires { are_within limits ≡ true }
+        ensures { IfOk result (λ r. IsOpened limits r.0 r.1.items r.2.items) }
+    {
+        let places = usize::from(limits.seats) + usize::from(limits.workers);
+        let mut shared = Shared::new(rt, alloc, limits.history, places)?;
+        let start = shared.mark();
+        let for_seats = readers(alloc, &mut shared, limits.seats, false)?;
+        let for_workers = readers(alloc, &mut shared, limits.workers, true)?;
+        let (lock, mut founder) = Lock::new(rt, alloc, shared)?;
+        let seats = seated(alloc, &lock, &mut founder, for_seats, false)?;
+        skip(&lock, &mut founder, limits.seats);
+        let at_work = seated(alloc, &lock, &mut founder, for_workers, true)?;
+        let workers = WorkerSeat::all(alloc, at_work)?;
+        let multi = Multi {
+            lock,
+            start,
+            history: limits.history,
+            max_connects: limits.max_connects,
+            changes: Mutex::new(0),
+            changed: Condvar::new(),
+        };
+        Ok((multi, seats, workers))
+    }
+
+    /// How many idle connections a worker keeps at most.
+    pub fn max_connects(&self) -> u8 {
+        self.max_connects
+    }
+
+    /// Ends the multi handle, through one of its seats: it waits for a call that is under way, and gives all memory back, with
+    /// the work that waits and the endings that were not read. Reads through the other seats then answer None; a call under
+    /// the lock can't be made, as the multi handle is gone.
+    pub fn close<R: Wait>(self, rt: &R, seat: Seat<Q, O>)
+        requires { seat.of ≡ self }
+    {
+        let mut seat = seat;
+        self.lock.end(rt, &mut seat.key);
+    }
+}

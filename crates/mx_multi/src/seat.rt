@@ -1,0 +1,93 @@
+//! A caller's seat at a multi handle.
+ghost use Rattle.std.specs.Prelude.{◌≡◌, length, IfOk};
+ghost use Rattle.mx_multi.specs.Seats.{IsReceived};
+
+use crate::lock::Key;
+use mx_board::BoardReader;
+use mx_types::{Ending, OutOfMemory, Work};
+use std::alloc::Global;
+use std::marker::Model;
+
+/// An application thread's seat: its key to the lock, and what it has seen. Contracts see of which multi handle it is, whose
+/// it is, the events that it has seen and how many of them are confirmed, how many they were at its last poll, and the
+/// tickets that it has claimed.
+#[derive(Drop)]
+pub struct Seat<Q: Work + Drop, O: Ending + Drop> {
+    pub(crate) key: Key<Q, O>,
+    pub(crate) reader: BoardReader,
+    /// How many events it had seen at its last poll.
+    pub(crate) polled: u32,
+}
+
+impl<Q: Work + Drop, O: Ending + Drop> Model for Seat<Q, O> {
+    ghost use Rattle.std.specs.Prelude.{◌≡◌, []};
+    ghost use Rattle.mx_multi.specs.Lock.{engine_of};
+    ghost use Rattle.mx_multi.specs.Seats.{SeatView, IsReceived, IsSeat};
+
+    ghost Value = { SeatView Q O };
+
+    ghost view = { λ s. record { of = record { table = s.key.table_id; keys = s.key.me.0.of; engine = engine_of s.key.me.0.client }; who = s.reader.who; seen = s.reader.seen; confirmed = s.reader.confirmed; polled = s.polled; claims = s.key.me.0.client.claims } };
+
+    ghost invariant = { λ s. IsSeat s.key.me.0.client s.reader × (s.key.me.1 ≡ []) × IsReceived (record { of = record { table = s.key.table_id; keys = s.key.me.0.of; engine = engine_of s.key.me.0.client }; who = s.reader.who; seen = s.reader.seen; confirmed = s.reader.confirmed; polled = s.polled; claims = s.key.me.0.client.claims }) };
+}
+
+impl<Q: Work + Drop, O: Ending + Drop> Seat<Q, O> {
+    /// How many events the seat has seen.
+    pub fn cut(&self) -> u32
+        ensures { result ≡ length self.now.seen }
+    {
+        self.reader.cut()
+    }
+
+    /// Each seat is placed: there are receipts of all its calls, which stand in what it has seen.
+    pub fn is_placed(&self)
+        ensures { IsReceived self.now }
+    {
+        let _ = &self.reader;
+    }
+}
+
+/// A worker's seat: contracts see the same of it as of a `Seat`.
+#[derive(Drop)]
+pub struct WorkerSeat<Q: Work + Drop, O: Ending + Drop> {
+    pub(crate) seat: Seat<Q, O>,
+}
+
+impl<Q: Work + Drop, O: Ending + Drop> Model for WorkerSeat<Q, O> {
+    ghost use Rattle.mx_multi.specs.Seats.{SeatView};
+
+    ghost Value = { SeatView Q O };
+
+    ghost view = { λ s. s.seat };
+}
+
+impl<Q: Work + Drop, O: Ending + Drop> WorkerSeat<Q, O> {
+    // Seats for workers.
+    pub(crate) fn all(
+        alloc: Global,
+        seats: Vec<Seat<Q, O>>,
+    ) -> Result<Vec<WorkerSeat<Q, O>>, OutOfMemory>
+        ensures { IfOk result (λ v. v.items ≡ seats.items) }
+    {
+        Ok(
+            seats
+                .into_iter()
+                .map(|seat| WorkerSeat { seat })
+                .collect(alloc)?,
+        )
+    }
+
+    /// How many events the seat has seen.
+    pub fn cut(&self) -> u32
+        ensures { result ≡ length self.now.seen }
+    {
+        self.seat.cut()
+    }
+
+    /// Each seat is placed: there are receipts of all its calls, which stand in what it has seen.
+    pub fn is_placed(&self)
+        ensures { IsReceived self.now }
+    {
+        self.seat.is_placed()
+    }
+}
