@@ -18,8 +18,8 @@ use Rattle.mx_types.specs.declared.reply.Reply.{Reply}
 use Rattle.mx_types.specs.declared.reply.Reply.TheVariants as reply
 use Rattle.mx_journal.specs.declared.replies.AddReply.{AddReply}
 use Rattle.mx_journal.specs.declared.replies.AddReply.TheVariants as add
-use Rattle.mx_journal.specs.History.{Addition, Message, Opening, same_ticket, has_ticket, occurs, ends, removes, addition_of, added, waiting, running, paused, has_room}
-use Rattle.mx_journal.specs.Answers.{Answer, only, answer, add_answer, read_answer, ticket_of, next_ticket, pausing_answer, Answers}
+use Rattle.mx_journal.specs.History.{Addition, Message, Opening, same_ticket, has_ticket, occurs, ends, removes, addition_of, waiting, running, paused, has_room}
+use Rattle.mx_journal.specs.Answers.{Answer, only, answer, read_answer, ticket_of, next_ticket, pausing_answer, Answers}
 use Rattle.mx_journal.specs.Core.{queued, claimed, still_running}
 use Rattle.mx_journal.specs.Replies.{queue_added, reply_of_add}
 use Rattle.mx_journal.specs.Laws.{then}

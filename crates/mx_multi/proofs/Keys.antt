@@ -1,9 +1,9 @@
 -- Each step keeps the rule of the lock.
 use Rattle.std.proofs.Common.{◌≡◌, ◌≢◌, ◌⊎◌, inl, inr, ℕ, zero, suc, ◌+◌, ◌-◌, ◌<◌, ◌≤◌, Bool, true, false, cond, List, [], ◌∷◌, ◌++◌, length, refl, ap, sym, subst, ◌∙◌, ⊎_elim, arith, length-append, length-set}
-use Rattle.std.proofs.lemmas.Bool.{ne_eqb, ltb-true, ltb-false, false≢true, cases_Bool, or_left, or_right}
+use Rattle.std.proofs.lemmas.Bool.{ne_eqb, ltb-true, ltb-false, false≢true, cases_Bool, or_right}
 use Rattle.std.proofs.lemmas.List.Folds.{list_any-append}
 use Rattle.std.proofs.lemmas.List.Sums.{sum_by_push}
-use Rattle.std.specs.Prelude.{slice_set, ◌==◌, nat_lt, not}
+use Rattle.std.specs.Prelude.{slice_set, nat_lt, not}
 use mathlib.Core.Option.{some, some-ne-none, some-injective}
 use mathlib.Core.List.{IsPrefix}
 use lib.ListN.{get_elem?}
@@ -18,9 +18,9 @@ use Rattle.mx_journal.specs.History.{same_maker, same_ticket, has_ticket, made_b
 use Rattle.mx_journal.specs.Laws.{then, HasAtMostOneMore}
 use Rattle.mx_journal.proofs.Lists.{has-stays, has-append_left}
 use Rattle.mx_board.proofs.Prefixes.{prefix_self, prefix_trans}
-use Rattle.mx_multi.specs.Shared.{Engine, Content}
+use Rattle.mx_multi.specs.Shared.{Content}
 use Rattle.mx_multi.specs.declared.key_view.KeyView.{KeyView}
-use Rattle.mx_multi.specs.Lock.{maker, engine_of, name_of, first_key, newly, Agrees, IsOwned, Lies, Keeps, Took, given, released, founded, parent, child}
+use Rattle.mx_multi.specs.Lock.{maker, engine_of, first_key, newly, Agrees, IsOwned, Lies, Keeps, Took, given, released, founded, parent, child}
 
 abbrev Views : Type 0
 Views = List KeyView

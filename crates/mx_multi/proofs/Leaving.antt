@@ -1,5 +1,5 @@
 -- How a call leaves the engine.
-use Rattle.std.proofs.Common.{◌≡◌, ◌⊎◌, inl, inr, ℕ, ◌∙◌, sym, refl, ap, subst, List, [], ◌∷◌, ◌++◌, append-nil, length, true}
+use Rattle.std.proofs.Common.{◌≡◌, inl, inr, ℕ, ◌∙◌, sym, refl, ap, subst, List, [], ◌∷◌, ◌++◌, append-nil, length, true}
 use Rattle.std.specs.Prelude.{drop, slice_index}
 use Rattle.logbook.specs.Pages.{Book}
 use Rattle.mx_types.specs.declared.event.Who.{Who}

@@ -1,10 +1,9 @@
 -- Runs of calls.
-use Rattle.std.proofs.Common.{◌≡◌, ℕ, ◌+◌, ◌<◌, ◌∙◌, sym, refl, ap, subst, List, [], ◌∷◌, ◌++◌, append-nil, append_assoc, length, map, take, get_or, true}
+use Rattle.std.proofs.Common.{◌≡◌, ℕ, ◌+◌, ◌<◌, ◌∙◌, sym, refl, ap, subst, List, [], ◌∷◌, ◌++◌, append-nil, append_assoc, length, map, take, get_or}
 use Rattle.std.proofs.lemmas.List.{take_more, map-append}
 use Rattle.mx_types.specs.declared.call.Call.{Call}
 use Rattle.mx_types.specs.declared.call.Receipt.{Receipt}
 use Rattle.mx_types.specs.declared.reply.Reply.{Reply}
-use Rattle.mx_journal.specs.History.{is_legal}
 use Rattle.mx_board.proofs.Prefixes.{prefix_self, prefix_trans}
 use Rattle.mx_multi.specs.declared.laws.Step.{Step}
 use Rattle.mx_multi.specs.Seats.{SeatView, HasReceipts, Stands, Sees, Ran}
@@ -40,6 +39,21 @@ script_more s t u script n i d e lt r h =
       ran = ran_more s t u r.more (call_of step) h.0 r.ran h.1;
       calls = called ∙ ap (λ l. l ++ call_of step ∷ []) (r.calls ∙ ap (λ k. map call_of (take k script)) e) ∙ sym named ∙ ap (map call_of) (sym (take_more script i d lt)) ∙ ap (λ k. map call_of (take (k + 1) script)) (sym e);
     }
+
+-- a seat that then met another
+pub script_met : {Q O : Type 0} (s t u : SeatView Q O) (script : List Step) → RanScript s t script → Sees t u → u.claims ≡ t.claims → RanScript s u script
+script_met s t u script r h claims = record {
+  more = r.more;
+  ran = record {
+    of = h.of ∙ r.ran.of;
+    who = h.who ∙ r.ran.who;
+    later = prefix_trans s.seen t.seen u.seen r.ran.later h.found.later;
+    legal = λ _. h.legal;
+    claims = claims ∙ r.ran.claims;
+    placed = λ mine p. h.placed (mine ++ r.more) (r.ran.placed mine p);
+  };
+  calls = r.calls;
+}
 
 -- a step's call was answered
 pub step_by : {Q O : Type 0} (s t : SeatView Q O) (a b : Call) (reply : Reply) → a ≡ b → Stands s t b reply → (r : Reply) × Stands s t a r

@@ -1,11 +1,10 @@
 -- What a call says of its seat.
-use Rattle.std.proofs.Common.{◌≡◌, ◌⊎◌, inl, inr, ⊎_elim, ℕ, ◌∙◌, sym, refl, ap, subst, List, [], ◌∷◌, ◌++◌, append-nil, append_assoc, length, Bool, true, false, cond}
+use Rattle.std.proofs.Common.{◌≡◌, inl, ℕ, ◌∙◌, sym, refl, ap, subst, List, [], ◌∷◌, ◌++◌, append-nil, length, Bool, true, false, cond}
 use Rattle.std.specs.Prelude.{not, ◌||◌}
 use Rattle.std.specs.List.{AllByRecursion, filter}
 use mathlib.Core.List.{IsPrefix}
-use Rattle.std.proofs.lemmas.Bool.{cases_Bool, false≢true, or_left, or_right}
+use Rattle.std.proofs.lemmas.Bool.{false≢true, or_left, or_right}
 use Rattle.std.proofs.lemmas.List.Sums.{fold-append}
-use Rattle.logbook.specs.Pages.{Book}
 use Rattle.mx_types.specs.declared.names.Ticket.{Ticket}
 use Rattle.mx_types.specs.declared.event.Who.{Who}
 use Rattle.mx_types.specs.declared.event.Event.{Event}
@@ -25,7 +24,7 @@ use Rattle.mx_board.specs.Board.{ReaderState, Reads, caught_up}
 use Rattle.mx_board.proofs.Prefixes.{prefix_self, prefix_trans}
 use Rattle.mx_multi.specs.Shared.{SharedState, Engine, content, HasNoOther, Leaves, IsLeft}
 use Rattle.mx_multi.specs.Lock.{maker, engine_of, newly, Took, given, released}
-use Rattle.mx_multi.specs.Seats.{MultiView, SeatView, IsSeat, HasReceipts, IsReceived, Finds, Stands, Sees, ClaimsOnly}
+use Rattle.mx_multi.specs.Seats.{MultiView, SeatView, IsSeat, IsReceived, Finds, Stands, Sees, ClaimsOnly}
 use Rattle.mx_multi.specs.declared.key_view.KeyView.{KeyView}
 use Rattle.mx_multi.proofs.Keys.{longer}
 

@@ -1,8 +1,9 @@
 -- What is known of a seat after many calls.
-use Rattle.std.specs.Prelude.{◌≡◌, List, map}
+use Rattle.std.specs.Prelude.{◌≡◌, true, List, map}
 use Rattle.mx_types.specs.declared.call.Call.{Call}
 use Rattle.mx_types.specs.declared.call.Call.TheVariants as call
 use Rattle.mx_types.specs.declared.call.Receipt.{Receipt}
+use Rattle.mx_journal.specs.History.{is_legal}
 use Rattle.mx_multi.specs.declared.laws.Step.{Step}
 use Rattle.mx_multi.specs.declared.laws.Step.TheVariants as step
 use Rattle.mx_multi.specs.Seats.{SeatView, Ran}
@@ -22,3 +23,8 @@ pub record RanScript {Q O : Type 0} (s t : SeatView Q O) (script : List Step) : 
   pub more : List Receipt
   pub ran : Ran s t more
   pub calls : map (λ (r : Receipt). r.call) more ≡ map call_of script
+
+-- the seats have seen one legal journal
+pub record Met {Q O : Type 0} (s t : SeatView Q O) : Type 0 where
+  pub seen : s.seen ≡ t.seen
+  pub legal : is_legal s.seen ≡ true

@@ -1,5 +1,5 @@
 -- The rule of the lock, over what lies in it and what each key knows.
-use Rattle.std.specs.Prelude.{◌≡◌, ◌≢◌, ◌⊎◌, ℕ, zero, suc, ◌+◌, ◌-◌, ◌≤◌, nat_lt, if◌then◌else◌, Bool, true, false, not, List, [], ◌∷◌, ◌++◌, length}
+use Rattle.std.specs.Prelude.{◌≡◌, ◌≢◌, ℕ, zero, suc, ◌+◌, ◌-◌, ◌≤◌, nat_lt, if◌then◌else◌, true, false, not, List, [], ◌∷◌, ◌++◌, length}
 use Rattle.std.specs.List.{filter}
 use mathlib.Core.Option.{some}
 use mathlib.Core.List.{IsPrefix}
@@ -7,9 +7,7 @@ use lib.ListN.{get_elem?}
 use Rattle.mx_types.specs.declared.event.Who.{Who}
 use Rattle.mx_types.specs.declared.event.Who.TheVariants as who
 use Rattle.mx_types.specs.declared.names.Ticket.{Ticket}
-use Rattle.mx_types.specs.declared.event.Event.{Event}
 use Rattle.mx_journal.specs.History.{has_ticket, made_by}
-use Rattle.mx_journal.specs.Laws.{HasAtMostOneMore}
 use Rattle.mx_multi.specs.Shared.{Engine, Content}
 use Rattle.mx_multi.specs.declared.key_view.KeyView.{KeyView}
 use Rattle.mx_multi.specs.declared.key_view.EngineName.{EngineName}

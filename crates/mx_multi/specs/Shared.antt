@@ -1,5 +1,5 @@
 -- What the lock keeps, for contracts.
-use Rattle.std.specs.Prelude.{ℕ, List, ◌≡◌, true}
+use Rattle.std.specs.Prelude.{List, ◌≡◌, true}
 use Rattle.logbook.specs.Pages.{Book}
 use Rattle.mx_types.specs.declared.names.Ticket.{Ticket}
 use Rattle.mx_types.specs.declared.event.Event.{Event}

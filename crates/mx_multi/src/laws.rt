@@ -1,13 +1,14 @@
 //! Runs of calls: what is known of a seat after many of them.
-ghost use Rattle.std.specs.Prelude.{◌≡◌, take, MatchBool};
+ghost use Rattle.std.specs.Prelude.{◌≡◌, take, MatchBool, MatchOption};
 ghost use Rattle.mx_types.specs.declared.reply.Reply.{Reply};
 ghost use Rattle.mx_multi.specs.Seats.{Stands};
-ghost use Rattle.mx_multi.specs.Laws.{call_of, RanScript};
+ghost use Rattle.mx_multi.specs.Laws.{call_of, RanScript, Met};
 
 use crate::multi::Multi;
 use crate::seat::Seat;
 use mx_types::{Ending, HandleId, Work};
 use std::sync::Wait;
+use std::thread::{Threads, join};
 
 /// A step of a script: a call that is handed no work.
 #[derive(Clone, Copy, Debug, PartialEq, Eq)]
@@ -87,5 +88,43 @@ impl<Q: Work + Drop, O: Ending + Drop> Multi<Q, O> {
             made += 1;
         }
         made
+    }
+}
+
+// The seat comes back.
+fn run_one<Q: Work + Drop, O: Ending + Drop, R: Wait>(
+    rt: &R,
+    multi: &Multi<Q, O>,
+    mut seat: Seat<Q, O>,
+    script: &[Step],
+) -> (Seat<Q, O>, usize)
+    requires own { seat.of ≡ multi.now }
+    ensures { RanScript seat result.0 (take result.1 script.now) }
+{
+    let made = multi.run_script(rt, &mut seat, script);
+    (seat, made)
+}
+
+/// Two threads, each with a seat and a script of its own; then the seats meet. Where they met, both have seen one legal
+/// journal, in which the receipts of both runs are placed.
+pub fn run_two<Q: Work + Drop + Send, O: Ending + Drop + Send, R: Threads + Wait + Sync>(
+    rt: &R,
+    multi: &Multi<Q, O>,
+    one: Seat<Q, O>,
+    one_script: &[Step],
+    two: Seat<Q, O>,
+    two_script: &[Step],
+) -> (Seat<Q, O>, Seat<Q, O>, Option<(usize, usize)>)
+    requires own { (one.of ≡ multi.now) × (two.of ≡ multi.now) }
+    ensures { MatchOption result.2 ((result.0.of ≡ multi.now) × (result.1.of ≡ multi.now)) (λ n. Met result.0 result.1 × RanScript one result.0 (take n.0 one_script.now) × RanScript two result.1 (take n.1 two_script.now)) }
+{
+    let ((mut first, one_made), (mut second, two_made)) = join(
+        rt,
+        move || run_one(rt, multi, one, one_script),
+        move || run_one(rt, multi, two, two_script),
+    );
+    match multi.meet(rt, &mut first, &mut second) {
+        Ok(_) => (first, second, Some((one_made, two_made))),
+        Err(_) => (first, second, None),
     }
 }

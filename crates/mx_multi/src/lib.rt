@@ -9,7 +9,7 @@ mod multi;
 mod open;
 mod seat;
 
-pub use crate::laws::Step;
+pub use crate::laws::{Step, run_two};
 pub use crate::multi::{HandleList, Multi, WrongSeat};
 pub use crate::open::{Limits, OpenError};
 pub use crate::seat::{Seat, WorkerSeat};

@@ -1,4 +1,4 @@
-use Rattle.std.proofs.Common.{◌≡◌, ◌∙◌, ◌+◌, ◌∷◌, [], ap, sym, subst, length, length-append, arith}
+use Rattle.std.proofs.Common.{◌∙◌, ◌+◌, ◌∷◌, [], ap, sym, subst, length, length-append, arith}
 use Rattle.mx_multi.specs.Shared.{SharedState}
 use Rattle.mx_multi.specs.Opening.{AreReaders}
 use Rattle.mx_multi.proofs.Opening.{readers_more, reader_is}

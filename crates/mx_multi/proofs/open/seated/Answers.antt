@@ -1,10 +1,10 @@
-use Rattle.std.proofs.Common.{◌≡◌, ◌∙◌, ◌+◌, ◌∷◌, [], ap, sym, subst, refl, length, arith}
+use Rattle.std.proofs.Common.{◌≡◌, ◌∙◌, ◌+◌, ap, sym, subst, refl, length, arith}
 use Rattle.std.specs.Prelude.{vec_len}
 use Rattle.crossbeam_channel.specs.Claims.{view}
 use Rattle.crossbeam_channel.specs.Ends.{sends_on}
 use Rattle.mx_multi.specs.Lock.{engine_of, founder_at, parent, child}
-use Rattle.mx_multi.specs.Seats.{MultiView, IsNew}
-use Rattle.mx_multi.specs.Opening.{first_of, maker_of, AreReaders, AreNew}
+use Rattle.mx_multi.specs.Seats.{MultiView}
+use Rattle.mx_multi.specs.Opening.{first_of, AreReaders, AreNew}
 use Rattle.mx_multi.proofs.Opening.{new_more, new_at, is_new, length_more}
 use Rattle.mx_multi.proofs.open.seated.Goals as goal
 

@@ -1,8 +1,8 @@
-use Rattle.std.proofs.Common.{◌≡◌, ◌∙◌, ap, sym, refl, false, true}
+use Rattle.std.proofs.Common.{◌∙◌, ap, sym, refl}
 use Rattle.std.proofs.lemmas.Bool.{false≢true}
 use Rattle.crossbeam_channel.specs.Claims.{IsSeatAt}
 use Rattle.crossbeam_channel.specs.Ends.{sends_on}
-use Rattle.mx_multi.specs.Seats.{SeatView, Stands}
+use Rattle.mx_multi.specs.Seats.{SeatView}
 use Rattle.mx_multi.proofs.Standing.{grows_by, begins_by, seat_after, received_more, lock_stands, same_of, engine_kept, stands_from, quiet_mark}
 use Rattle.mx_multi.proofs.multi.Multi.act.Goals as goal
 

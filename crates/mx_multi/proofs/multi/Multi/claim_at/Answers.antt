@@ -1,4 +1,4 @@
-use Rattle.std.proofs.Common.{rules, ◌≡◌, ◌∙◌, ap, sym, [], inr}
+use Rattle.std.proofs.Common.{rules, ◌≡◌, ◌∙◌, ap, [], inr}
 use Rattle.crossbeam_channel.specs.Claims.{IsSeatAt}
 use Rattle.crossbeam_channel.specs.Ends.{sends_on}
 use Rattle.mx_journal.specs.History.{is_legal}

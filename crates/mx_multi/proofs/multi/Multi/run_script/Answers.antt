@@ -1,4 +1,4 @@
-use Rattle.std.proofs.Common.{◌≡◌, ◌+◌, ap, refl}
+use Rattle.std.proofs.Common.{◌+◌, ap, refl}
 use Rattle.mx_multi.proofs.Runs.{script_none, script_more}
 use Rattle.mx_multi.proofs.multi.Multi.run_script.Goals as goal
 

@@ -1,4 +1,4 @@
-use Rattle.std.proofs.Common.{◌≡◌, ap, sym, refl, append-nil}
+use Rattle.std.proofs.Common.{ap, sym, refl, append-nil}
 use Rattle.mx_types.specs.declared.call.Call.TheVariants as call
 use Rattle.mx_types.specs.declared.reply.Reply.TheVariants as reply
 use Rattle.crossbeam_channel.specs.Claims.{view}
