@@ -4,3 +4,4 @@ pub mod Claims
 pub mod Standing
 pub mod Opening
 pub mod Runs
+pub mod Sends
