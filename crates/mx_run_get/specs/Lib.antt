@@ -1,3 +1,0 @@
-pub mod Fetched
-pub mod Texts
-pub mod Laws
