@@ -214,7 +214,7 @@ TableFollows = (j : List Event) (t : TableView) (e : Event) → IsTableOf j t �
 abbrev pub HasAtMostOneMore : Who → List Event → List Event → Type 0
 HasAtMostOneMore w j k = (k ≡ j) ⊎ ((e : What) × (k ≡ then j w e))
 
--- a call leaves the journal, or adds one event, the caller's; it adds one exactly where its reply comes with an event
+-- a call leaves the journal, or adds one event, the caller's
 abbrev pub CallAddsAtMostOne : Type 0
 CallAddsAtMostOne = (opening : Opening) (w : Who) (call : Call) (reply : Reply) (j k : List Event) → Answers opening w call j reply k → HasAtMostOneMore w j k
 
