@@ -1,3 +1,0 @@
-mod BracketLemmas
-mod ChoiceLemmas
-mod LawProofs

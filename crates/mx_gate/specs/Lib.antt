@@ -1,5 +1,0 @@
-pub mod Faults
-pub mod Addresses
-pub mod Gates
-pub mod Laws
-pub mod Script
