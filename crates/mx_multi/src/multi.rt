@@ -20,7 +20,7 @@ use mx_types::{AddedHandles, Ending, HandleId, Look, State, Ticket, Work};
 use std::marker::Model;
 use std::sync::{Condvar, Mutex, Wait};
 
-/// The seat has seen a journal that isn't the beginning of this one, which does not happen with the seats that `open` gave.
+/// The seat has seen a journal that isn't the beginning of this one. No contract rules that out for a seat that `open` gave.
 /// What the call was given comes back, and nothing was changed.
 #[derive(Drop)]
 pub struct WrongSeat<T>(pub T);
@@ -282,7 +282,7 @@ impl<Q: Work + Drop, O: Ending + Drop> Multi<Q, O> {
     }
 
     /// Both seats see the journal. It answers how many events that has. `WrongSeat`, and nothing changes, where a seat isn't
-    /// one of this multi handle's, which does not happen.
+    /// one of this multi handle's.
     pub fn meet<R: Wait>(
         &self,
         rt: &R,
