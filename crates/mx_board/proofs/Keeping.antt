@@ -8,10 +8,10 @@ use lib.ListN.{get_elem?}
 use Rattle.left_right.specs.Register.{Admits, Turns, TurnsAt, Forks, Merges}
 use Rattle.atomic_table.proofs.Lists.{at_set, at_snoc}
 use Rattle.mx_types.specs.declared.event.Event.{Event}
-use Rattle.mx_journal.specs.History.{may_follow, is_legal}
-use Rattle.mx_journal.specs.Table.{table_after}
-use Rattle.mx_journal.proofs.Snoc.{legal-snoc}
-use Rattle.mx_journal.proofs.Follows.{table_follows}
+use Rattle.mx_history.specs.History.{may_follow, is_legal}
+use Rattle.mx_history.specs.Table.{table_after}
+use Rattle.mx_history.proofs.Snoc.{legal-snoc}
+use Rattle.mx_history.proofs.Follows.{table_follows}
 use Rattle.mx_board.specs.Journal.{Mark}
 use Rattle.mx_board.specs.declared.view.ReaderView.{ReaderView}
 use Rattle.mx_board.specs.declared.operation.Operation.{Operation}

@@ -7,7 +7,7 @@ use mathlib.Core.List.{IsPrefix}
 use Rattle.logbook.specs.Pages.{Book}
 use Rattle.mx_types.specs.declared.event.Who.{Who}
 use Rattle.mx_types.specs.declared.event.Event.{Event}
-use Rattle.mx_journal.specs.History.{is_legal, made_by}
+use Rattle.mx_history.specs.History.{is_legal, made_by}
 use Rattle.mx_board.specs.Journal.{Mark}
 use Rattle.mx_board.specs.declared.view.ReaderView.{ReaderView}
 use Rattle.mx_board.specs.Board.{mark_of, ReaderState, ConfirmsAllButLast, Reads, BeginsButLast, AreOfOneJournal, OneBeginsOther}

@@ -6,9 +6,9 @@ use Rattle.logbook.specs.Pages.{Book}
 use Rattle.mx_types.specs.declared.names.HandleId.{HandleId}
 use Rattle.mx_types.specs.declared.event.Who.{Who}
 use Rattle.mx_types.specs.declared.event.Event.{Event}
-use Rattle.mx_journal.specs.History.{is_legal, made_by}
-use Rattle.mx_journal.specs.Answers.{ticket_of}
-use Rattle.mx_journal.specs.Slots.{slot_of}
+use Rattle.mx_history.specs.History.{is_legal, made_by}
+use Rattle.mx_history.specs.Answers.{ticket_of}
+use Rattle.mx_history.specs.Slots.{slot_of}
 use Rattle.mx_board.specs.Journal.{Mark}
 use Rattle.mx_board.specs.declared.queries.Found.{Found}
 

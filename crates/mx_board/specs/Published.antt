@@ -5,7 +5,7 @@ use mathlib.Core.List.{IsPrefix}
 use lib.ListN.{get_elem?}
 use Rattle.logbook.specs.Pages.{Book}
 use Rattle.mx_types.specs.declared.event.Event.{Event}
-use Rattle.mx_journal.specs.Table.{TableView, IsTableOf, HasCounters, table_after}
+use Rattle.mx_history.specs.Table.{TableView, IsTableOf, HasCounters, table_after}
 use Rattle.mx_board.specs.Board.{mark_of}
 use Rattle.mx_board.specs.Journal.{Mark}
 use Rattle.mx_board.specs.declared.view.ReaderView.{ReaderView}

@@ -4,8 +4,8 @@ ghost use Rattle.std.specs.Bool.{OnTrue};
 ghost use Rattle.std.specs.Option.{option_to_list};
 ghost use mathlib.Core.List.{IsPrefix};
 ghost use Rattle.left_right.specs.Sides.{view};
-ghost use Rattle.mx_journal.specs.History.{added, is_maker, made_by, running};
-ghost use Rattle.mx_journal.specs.Answers.{look_of, state_of};
+ghost use Rattle.mx_history.specs.History.{added, is_maker, made_by, running};
+ghost use Rattle.mx_history.specs.Answers.{look_of, state_of};
 ghost use Rattle.mx_board.specs.Board.{AreOfOneJournal, ConfirmsAllButLast, IsFound, OneBeginsOther, Reads, caught_up, confirmed_of, mark_of};
 ghost use Rattle.mx_board.specs.Published.{CaughtUp, Shown, view_of};
 
@@ -38,7 +38,7 @@ pub struct BoardReader {
 impl Model for BoardReader {
     ghost use Rattle.std.specs.Prelude.{◌≡◌, ◌++◌, length, IfSome, true};
     ghost use Rattle.std.specs.Option.{option_to_list};
-    ghost use Rattle.mx_journal.specs.History.{is_maker, made_by};
+    ghost use Rattle.mx_history.specs.History.{is_maker, made_by};
     ghost use Rattle.mx_board.specs.Board.{ReaderState, mark_of};
     ghost use Rattle.mx_board.specs.Published.{HasSeen};
 

@@ -1,7 +1,7 @@
 //! What readers take: a table, and the journal that it stands for.
 ghost use Rattle.std.specs.Prelude.{◌≡◌, ◌++◌, IfOk};
 ghost use Rattle.std.specs.Option.{option_to_list};
-ghost use Rattle.mx_journal.specs.Table.{empty_table};
+ghost use Rattle.mx_history.specs.Table.{empty_table};
 ghost use Rattle.mx_board.specs.Board.{mark_of};
 
 use crate::journal::JournalMark;
@@ -12,7 +12,7 @@ use crossbeam_utils::rule::{Outcome, Protocol};
 use left_right::Absorb;
 use left_right::reader::Reader;
 use left_right::writer::Writer;
-use mx_journal::Table;
+use mx_table::Table;
 use mx_types::{Event, OutOfMemory};
 use std::alloc::{AllocError, Global};
 use std::marker::Model;

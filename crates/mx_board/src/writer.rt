@@ -2,8 +2,8 @@
 ghost use Rattle.std.specs.Prelude.{◌≡◌, ◌++◌, ◌∷◌, ◌<◌, [], true, false, length, drop, IfOk, IfSome, OnOk, OnErr};
 ghost use Rattle.std.specs.Mem.{manually_drop_value};
 ghost use Rattle.left_right.specs.Sides.{view};
-ghost use Rattle.mx_journal.specs.History.{is_legal, is_maker, made_by};
-ghost use Rattle.mx_journal.specs.Table.{IsTableOf};
+ghost use Rattle.mx_history.specs.History.{is_legal, is_maker, made_by};
+ghost use Rattle.mx_history.specs.Table.{IsTableOf};
 ghost use Rattle.mx_board.specs.Board.{mark_of};
 ghost use Rattle.mx_board.specs.Published.{CaughtUp, IsSound, IsWaiting, shown_by, view_of};
 
@@ -11,7 +11,8 @@ use crate::journal::{JournalMark, JournalWord, begin_journal};
 use crate::operation::Operation;
 use crate::version::{CatchesUp, Tells, Version, VersionReader, VersionWriter};
 use left_right::writer::Writer;
-use mx_journal::{Log, Table};
+use mx_history::Log;
+use mx_table::Table;
 use mx_types::{Event, OutOfMemory, Who};
 use std::alloc::Global;
 use std::marker::Model;

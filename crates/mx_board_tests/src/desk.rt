@@ -1,10 +1,11 @@
 //! A board beside the list of its events, which is looked up in.
 ghost use Rattle.std.specs.Prelude.{◌≡◌, true, IfOk, IfSome};
-ghost use Rattle.mx_journal.specs.History.{is_maker};
+ghost use Rattle.mx_history.specs.History.{is_maker};
 ghost use Rattle.mx_board.specs.Board.{caught_up};
 
 use mx_board::{BoardReader, BoardWriter, board};
-use mx_journal::{Log, Table, VecLog, definitions};
+use mx_history::{Log, VecLog, definitions};
+use mx_table::Table;
 use mx_types::{Event, OutOfMemory, What, Who};
 use std::alloc::Global;
 use std::marker::Model;

@@ -1,13 +1,11 @@
 -- What an event keeps of a control state.
-use Rattle.std.proofs.Common.{◌≡◌, ℕ, ◌+◌, ◌<◌, ◌≤◌, ◌∙◌, sym, refl, ap, subst, List, [], ◌∷◌, ◌++◌, append-nil, append_assoc, inl, inr, length, Bool, true, false, cond, map, arith}
-use Rattle.std.specs.Prelude.{not, ◌&&◌, ◌||◌, ◌==◌, Option, Some, None, nat_le}
-use Rattle.std.specs.List.{filter, list_any, find, AllByRecursion, remove}
-use Rattle.std.specs.Prelude.{slice_index_or}
+use Rattle.std.proofs.Common.{◌≡◌, ℕ, ◌<◌, ◌≤◌, ◌∙◌, sym, refl, ap, subst, List, [], ◌∷◌, ◌++◌, append-nil, length, Bool, true, false, cond, map, arith}
+use Rattle.std.specs.Prelude.{not, ◌||◌, ◌==◌, None, slice_index_or}
+use Rattle.std.specs.List.{filter, AllByRecursion, remove}
 use Rattle.mx_journal.specs.Replies.{is_pausing}
-use Rattle.std.specs.Option.{is_some, is_none, option_map, option_to_list}
-use Rattle.std.proofs.lemmas.Bool.{eqb-false, le-leb, false_from_ne_true, ne_eqb, cases_Bool, true≢false, and_from, eq-eqb, or_left, or_right, false≢true, not-true, not_from_false, eqb-true, and_parts}
+use Rattle.std.specs.Option.{option_to_list}
+use Rattle.std.proofs.lemmas.Bool.{ne_eqb, or_left, or_right, false≢true, not-true, eqb-true, and_parts}
 use Rattle.std.proofs.lemmas.List.{map-append, length-map}
-use Rattle.std.proofs.lemmas.List.Sums.{length-filter, count_by-le-length}
 use Rattle.mx_types.specs.declared.code.Code.{Code}
 use Rattle.mx_types.specs.declared.names.HandleId.{HandleId}
 use Rattle.mx_types.specs.declared.names.Ticket.{Ticket}
@@ -15,72 +13,28 @@ use Rattle.mx_types.specs.declared.event.Who.{Who}
 use Rattle.mx_types.specs.declared.event.What.{What}
 use Rattle.mx_types.specs.declared.event.What.TheVariants as what
 use Rattle.mx_types.specs.declared.event.Event.{Event}
-use Rattle.mx_journal.specs.History.{Addition}
-use Rattle.mx_journal.specs.History.{Message}
-use Rattle.mx_journal.specs.History.{same_ticket, occurs, addition_of, message_of, removes, ends, reads, added, waiting, running, additions, has_ticket, may_follow, is_legal, is_legal_after, has_room, same_handle}
-use Rattle.mx_journal.specs.JournalTable.{needs}
-use Rattle.mx_journal.specs.History.{HasRoomForDue}
-use Rattle.mx_journal.specs.Answers.{ticket_of, handle_of, next_ticket}
-use Rattle.mx_journal.specs.declared.row.Row.{Row}
-use Rattle.std.proofs.lemmas.Bool.Decides.{nat_tests}
-use Rattle.mx_journal.specs.Core.{IsInOrder, queued, claimed, message, IsControl}
-use Rattle.mx_journal.proofs.Snoc.{occurs-snoc, or_false, phase_of-snoc}
-use Rattle.mx_journal.proofs.Lists.{Each-map, Each-append, Each-filter, filter_idle, filter_true, has-stays, has-filter, has-append_left, same-refl, same-is, at_ticket, Each-both}
-use Rattle.mx_journal.proofs.Histories.{tickets, Laws, laws, added-then, waiting-then, below, running-has, map-filter_tickets, filter_messages, laws-then, laws_none}
-use Rattle.mx_journal.specs.Laws.{then, IsOncePerTicket}
-use Rattle.mx_journal.proofs.JournalTables.{kept-then, few}
-use Rattle.mx_journal.proofs.Tables.{runs-phase, not_found, has-kept}
-use Rattle.mx_journal.specs.Rows.{is_open}
-use Rattle.mx_journal.specs.History.{phase_of}
-use Rattle.mx_journal.specs.declared.row.Phase.TheVariants as phase
+use Rattle.mx_history.specs.History.{Message, same_ticket, message_of, removes, ends, reads, added, waiting, running, additions, has_ticket, may_follow, is_legal, has_room, needs, IsInOrder}
+use Rattle.mx_history.specs.Answers.{handle_of}
+use Rattle.mx_journal.specs.Core.{queued, claimed, message, IsControl}
+use Rattle.mx_history.proofs.Snoc.{phase_of-snoc}
+use Rattle.mx_history.proofs.Lists.{Each-map, Each-append, Each-filter, filter_idle, filter_true, same-refl}
+use Rattle.mx_history.proofs.Histories.{tickets, laws, waiting-then, below, running-has}
+use Rattle.mx_history.specs.Laws.{then}
+use Rattle.mx_history.proofs.TableLaws.{kept-then, few, event_fits}
+use Rattle.mx_history.proofs.Tables.{runs-phase, has-kept}
+use Rattle.mx_history.specs.Rows.{is_open}
 use Rattle.std.proofs.lemmas.List.Folds.{list_any-append}
+use Rattle.mx_history.proofs.Tickets.{tickets-then, runs-then, in_order-filter, in_order-push, queued-filter, fewer, ordered, room_none, once, wait_tickets, pigeons, waits_added, waits_short, read_rest, none_added}
+use Rattle.mx_history.specs.Table.{TableView, table_after}
+use Rattle.mx_journal.specs.JournalTable.{IsJournalTable}
+use Rattle.mx_history.proofs.Follows.{table_follows}
 
-pub tickets-then : (j : List Event) (w : Who) (e : What)
-    → tickets (then j w e) ≡ filter (λ t. not (removes t e)) (tickets j) ++ map (λ a. a.ticket) (option_to_list (addition_of e))
-tickets-then j w e =
-    ap (map (λ (a : Addition). a.ticket)) (added-then j w e)
-    ∙ map-append (λ (a : Addition). a.ticket) (filter (λ a. not (removes a.ticket e)) (added j)) (option_to_list (addition_of e))
-    ∙ ap (λ z. z ++ map (λ (a : Addition). a.ticket) (option_to_list (addition_of e))) (map-filter_tickets (λ t. not (removes t e)) (added j))
-
--- a running ticket runs on, unless it ends or is removed
-pub runs-then : (j : List Event) (w : Who) (e : What) (u : Ticket) → has_ticket u (running j) ≡ true → ends u e ≡ false → removes u e ≡ false
-    → has_ticket u (running (then j w e)) ≡ true
-runs-then j w e u h f r =
-    let k = has-filter u (λ t. not (occurs (ends t) j)) (tickets j) h in
-    let i : has_ticket u (tickets (then j w e)) ≡ true =
-    rw (tickets-then j w e) (has-append_left u _ _ (has-stays u (λ t. not (removes t e)) (tickets j) k.0 (not_from_false _ r))) in
-    has-stays u (λ t. not (occurs (ends t) (then j w e))) (tickets (then j w e)) i
-    (ap not (occurs-snoc (ends u) j (record { who = w; what = e }) ∙ ap (λ b. occurs (ends u) j || b) f ∙ or_false (occurs (ends u) j)) ∙ k.1)
-
--- 1. The queue.
+-- 1. Events that touch neither queue nor endings.
 
 pub queue-quiet : (j : List Event) (w : Who) (e : What) → ((t : Ticket) → ends t e ≡ false) → ((t : Ticket) → removes t e ≡ false) → (ts : List Ticket)
     → AllByRecursion (λ t. has_ticket t (running j) ≡ true) ts → AllByRecursion (λ t. has_ticket t (running (then j w e)) ≡ true) ts
 queue-quiet j w e f r ts a =
     Each-map (λ t. has_ticket t (running j) ≡ true) (λ t. has_ticket t (running (then j w e)) ≡ true) (λ t h. runs-then j w e t h (f t) (r t)) ts a
-
-in_order_kept : (t : Ticket) (ts : List Ticket) (b : Bool) → AllByRecursion (λ u. t.0 < u.0) ts → IsInOrder ts → IsInOrder (cond b (t ∷ ts) ts)
-in_order_kept t ts true a h = (a, h)
-in_order_kept t ts false a h = h
-
-pub in_order-filter : (p : Ticket → Bool) (ts : List Ticket) → IsInOrder ts → IsInOrder (filter p ts)
-in_order-filter p [] h = tt
-in_order-filter p (t ∷ ts) h = in_order_kept t (filter p ts) (p t) (Each-filter p (λ u. t.0 < u.0) (λ u. t.0 < u.0) (λ _ _ x. x) ts h.0) (in_order-filter p ts h.1)
-
-pub in_order-push : (ts : List Ticket) (t : Ticket) → IsInOrder ts → AllByRecursion (λ u. u.0 < t.0) ts → IsInOrder (ts ++ t ∷ [])
-in_order-push [] t h a = (tt, tt)
-in_order-push (u ∷ ts) t h a = (Each-append (λ v. u.0 < v.0) ts (t ∷ []) h.0 (a.0, tt), in_order-push ts t h.1 a.1)
-
-pub queued-filter : {X : Type 0} (p : Ticket → Bool) (xs : List (Ticket × X)) → map (λ x. x.0) (filter (λ x. p x.0) xs) ≡ filter p (map (λ x. x.0) xs)
-queued-filter p [] = refl
-queued-filter {X} p (x ∷ xs) = go (p x.0) ∙ ap (λ z. cond (p x.0) (x.0 ∷ z) z) (queued-filter p xs)
-  where
-    go : (b : Bool) → map (λ (y : Ticket × X). y.0) (cond b (x ∷ filter (λ y. p y.0) xs) (filter (λ y. p y.0) xs))
-        ≡ cond b (x.0 ∷ map (λ (y : Ticket × X). y.0) (filter (λ y. p y.0) xs)) (map (λ (y : Ticket × X). y.0) (filter (λ y. p y.0) xs))
-    go true = refl
-    go false = refl
-
--- 2. Events that touch neither.
 
 pub control-quiet : {Q O : Type 0} (code : O → Code) (size : O → ℕ) (history : ℕ) (j : List Event) (w : Who) (e : What) (queue : List (Ticket × Q)) (endings : List (Ticket × O)) (cq ce : ℕ)
     → IsControl code size history j queue endings cq ce → may_follow j e ≡ true → has_room history j (needs e) ≡ true
@@ -103,7 +57,7 @@ control-quiet code size history j w e queue endings cq ce c m r f g h n =
     quiet_filter [] = ap option_to_list n
     quiet_filter (m ∷ ms) = rw (h m.ticket, g m.ticket) (ap (λ z. m ∷ z) (quiet_filter ms))
 
--- 3. An addition.
+-- 2. An addition.
 
 pub control-added : {Q O : Type 0} (code : O → Code) (size : O → ℕ) (history : ℕ) (j : List Event) (w : Who) (h : HandleId) (t : Ticket) (queue : List (Ticket × Q)) (endings : List (Ticket × O)) (work : Q) (cq ce : ℕ)
     → IsControl code size history j queue endings cq ce → may_follow j (what.Added h t) ≡ true → has_room history j 4 ≡ true
@@ -132,88 +86,13 @@ control-added code size history j w h t queue endings work cq ce c m r =
       endings_fit = c.endings_fit;
     }
 
--- 4. How long the queue is.
-
-has_later : (u y : Ticket) (ys : List Ticket) → y.0 < u.0 → has_ticket u (y ∷ ys) ≡ true → has_ticket u ys ≡ true
-has_later u y ys lt h = ap (λ b. b || has_ticket u ys) (sym (ne_eqb u.0 y.0 (λ e. omega arith))) ∙ h
-
-pub fewer : (xs ys : List Ticket) → IsInOrder xs → IsInOrder ys → AllByRecursion (λ t. has_ticket t ys ≡ true) xs → length xs ≤ length ys
-fewer [] ys a b h = omega arith
-fewer (x ∷ xs) [] a b h = absurd (false≢true h.0)
-fewer (x ∷ xs) (y ∷ ys) a b h =
-    elim (cases_Bool (same_ticket x y)) [
-      | inl s ↦ (
-          let e = same-is x y s in
-          let later = Each-both (λ u. x.0 < u.0) (λ u. has_ticket u (y ∷ ys) ≡ true) (λ u. has_ticket u ys ≡ true)
-          (λ u lt i. has_later u y ys (subst (λ (z : Ticket). z.0 < u.0) e lt) i) xs a.0 h.1 in
-          let k = fewer xs ys a.1 b.1 later in omega arith
-          )
-      | inr s ↦ (
-          let here : has_ticket x ys ≡ true = ap (λ b. b || has_ticket x ys) (sym s) ∙ h.0 in
-          let above : y.0 < x.0 = at_ticket (λ u. y.0 < u.0) x ys b.0 here in
-          let later = Each-both (λ u. x.0 < u.0) (λ u. has_ticket u (y ∷ ys) ≡ true) (λ u. has_ticket u ys ≡ true)
-          (λ u lt i. has_later u y ys (omega arith) i) xs a.0 h.1 in
-          let k = fewer (x ∷ xs) ys a b.1 (here, later) in omega arith
-          )
-    ]
-
-ordered-then : (j : List Event) (w : Who) (e : What) → Laws j → may_follow j e ≡ true → IsInOrder (tickets j) → IsInOrder (tickets (then j w e))
-ordered-then j w (what.Added h t) l m o =
-    let new : t.0 ≡ additions j = eqb-true t.0 (additions j) (and_parts _ (t.0 == additions j) m).1 in
-    rw (tickets-then j w (what.Added h t))
-    (in_order-push (filter (λ u. true) (tickets j)) t (in_order-filter (λ u. true) (tickets j) o)
-    (Each-filter (λ u. true) (λ u. (u.0 < additions j) × (occurs (removes u) j ≡ false)) (λ u. u.0 < t.0) (λ u _ x. let b = x.0 in omega arith) (tickets j) l.kept))
-ordered-then j w (what.Removed h t) l m o = rw (tickets-then j w (what.Removed h t)) (rw (append-nil (filter (λ u. not (same_ticket u t)) (tickets j))) (in_order-filter _ (tickets j) o))
-ordered-then j w (what.Done t c n) l m o = rw (tickets-then j w (what.Done t c n)) (rw (append-nil (filter (λ u. true) (tickets j))) (in_order-filter (λ u. true) (tickets j) o))
-ordered-then j w (what.Read t) l m o = rw (tickets-then j w (what.Read t)) (rw (append-nil (filter (λ u. true) (tickets j))) (in_order-filter (λ u. true) (tickets j) o))
-ordered-then j w (what.Paused t) l m o = rw (tickets-then j w (what.Paused t)) (rw (append-nil (filter (λ u. true) (tickets j))) (in_order-filter (λ u. true) (tickets j) o))
-ordered-then j w (what.Resumed t) l m o = rw (tickets-then j w (what.Resumed t)) (rw (append-nil (filter (λ u. true) (tickets j))) (in_order-filter (λ u. true) (tickets j) o))
-ordered-then j w what.Wake l m o = rw (tickets-then j w what.Wake) (rw (append-nil (filter (λ u. true) (tickets j))) (in_order-filter (λ u. true) (tickets j) o))
-
-ordered_from : (f j : List Event) → Laws f → IsInOrder (tickets f) → is_legal_after f j ≡ true → IsInOrder (tickets (f ++ j))
-ordered_from f [] l o h = rw (append-nil f) o
-ordered_from f (e ∷ j) l o h =
-    let k = and_parts (may_follow f e.what) (is_legal_after (f ++ e ∷ []) j) h in
-    rw (← append_assoc f (e ∷ []) j) (ordered_from (f ++ e ∷ []) j (laws-then f e.who e.what l k.0) (ordered-then f e.who e.what l k.0 o) k.1)
-
-pub ordered : (j : List Event) → is_legal j ≡ true → IsInOrder (tickets j)
-ordered j h = ordered_from [] j laws_none tt h
-
 pub queue_length : {Q : Type 0} (j : List Event) (queue : List (Ticket × Q)) → is_legal j ≡ true → IsInOrder (queued queue)
     → AllByRecursion (λ t. has_ticket t (running j) ≡ true) (queued queue) → length queue ≤ length (added j)
 queue_length j queue l o r =
     let k = fewer (queued queue) (tickets j) o (ordered j l) (Each-map (λ t. has_ticket t (running j) ≡ true) (λ t. has_ticket t (tickets j) ≡ true) (λ t h. (running-has j t h).0) (queued queue) r) in
     omega (arith, length-map queue (λ x. x.0), length-map (added j) (λ a. a.ticket))
 
--- 5. When a handle may be added.
-
-none_is : (p : Addition → Bool) (o : Option Row) (xs : List Addition) → is_some o ≡ false → option_map (λ r. r.ticket) o ≡ option_map (λ a. a.ticket) (find p xs) → list_any p xs ≡ false
-none_is p (Some r) xs h e = absurd (true≢false h)
-none_is p None xs h e = go (find p xs) refl e where
-  go : (o : Option Addition) → find p xs ≡ o → None ≡ option_map (λ a. a.ticket) o → list_any p xs ≡ false
-  go None is k = not_found p xs ∙ ap (λ (x : Option Addition). not (is_none x)) is
-  go (Some a) is k = cc
-
-pub may_add : (j : List Event) (h : HandleId) (t : Ticket) (o : Option Row) → is_some o ≡ false → option_map (λ r. r.ticket) o ≡ ticket_of h j
-    → nat_le 256 (length (added j)) ≡ false → t ≡ next_ticket j → may_follow j (what.Added h t) ≡ true
-may_add j h t o none is full new =
-    and_from _ _ (and_from _ _ (not_from_false _ (none_is (λ a. same_handle h a.handle) o (added j) none is)) (grind (arith, nat_tests))) (eq-eqb t.0 (additions j) (ap (λ u. u.0) new))
-
--- 6. Removal.
-
-pub room_none : (history : ℕ) (j : List Event) → HasRoomForDue history j → has_room history j 0 ≡ true
-room_none history j k = let r = k.room in le-leb _ history (omega arith)
-
-pub found_any : (p : Addition → Bool) (t : Ticket) (xs : List Addition) → Some t ≡ option_map (λ a. a.ticket) (find p xs) → list_any (λ a. p a && same_ticket t a.ticket) xs ≡ true
-found_any p t [] h = cc
-found_any p t (x ∷ xs) h = go (p x) h (found_any p t xs) where
-  go : (b : Bool) → Some t ≡ option_map (λ a. a.ticket) (cond b (Some x) (find p xs)) → (Some t ≡ option_map (λ a. a.ticket) (find p xs) → list_any (λ a. p a && same_ticket t a.ticket) xs ≡ true)
-      → ((b && same_ticket t x.ticket) || list_any (λ a. p a && same_ticket t a.ticket) xs) ≡ true
-  go true k r = let e : t ≡ x.ticket = cc in let q : same_ticket t x.ticket ≡ true = rw e (same-refl x.ticket) in or_left (same_ticket t x.ticket) (list_any (λ a. p a && same_ticket t a.ticket) xs) q
-  go false k r = r k
-
-pub may_remove : (j : List Event) (h : HandleId) (o : Option Row) (r : Row) → o ≡ Some r → option_map (λ r. r.ticket) o ≡ ticket_of h j → may_follow j (what.Removed h r.ticket) ≡ true
-may_remove j h o r is e = found_any (λ a. same_handle h a.handle) r.ticket (added j) (sym (ap (option_map (λ (x : Row). x.ticket)) is) ∙ e)
+-- 3. A removal.
 
 messages-filter : {O : Type 0} (code : O → Code) (size : O → ℕ) (p : Ticket → Bool) (xs : List (Ticket × O))
     → map (message code size) (filter (λ x. p x.0) xs) ≡ filter (λ m. p m.ticket) (map (message code size) xs)
@@ -253,123 +132,13 @@ control-removed code size history j w h t queue endings cq ce c m =
       endings_fit = c.endings_fit;
     }
 
--- 7. Messages wait once each.
-
-once_kept : (t : Ticket) (p : Ticket → Bool) (ts : List Ticket) (b : Bool) → has_ticket t ts ≡ false → IsOncePerTicket (filter p ts) → IsOncePerTicket (cond b (t ∷ filter p ts) (filter p ts))
-once_kept t p ts true h o = (false_from_ne_true _ (λ k. false≢true (sym h ∙ (has-filter t p ts k).0)), o)
-once_kept t p ts false h o = o
-
-once-filter : (p : Ticket → Bool) (ts : List Ticket) → IsOncePerTicket ts → IsOncePerTicket (filter p ts)
-once-filter p [] h = tt
-once-filter p (t ∷ ts) h = once_kept t p ts (p t) h.0 (once-filter p ts h.1)
-
-neither_has : (u t : Ticket) (ts : List Ticket) → has_ticket u ts ≡ false → same_ticket u t ≡ false → has_ticket u (ts ++ t ∷ []) ≡ false
-neither_has u t ts h s = list_any-append (same_ticket u) ts (t ∷ []) ∙ ap (λ b. b || (same_ticket u t || false)) h ∙ ap (λ b. b || false) s
-
-same-sym : (t u : Ticket) → same_ticket t u ≡ false → same_ticket u t ≡ false
-same-sym t u h = ne_eqb u.0 t.0 (λ e. eqb-false t.0 u.0 h (sym e))
-
-parts_false : (a b : Bool) → (a || b) ≡ false → (a ≡ false) × (b ≡ false)
-parts_false false false h = (refl, refl)
-parts_false false true h = absurd (false≢true (sym h))
-parts_false true b h = absurd (false≢true (sym h))
-
-once-push : (ts : List Ticket) (t : Ticket) → IsOncePerTicket ts → has_ticket t ts ≡ false → IsOncePerTicket (ts ++ t ∷ [])
-once-push [] t o h = (refl, tt)
-once-push (u ∷ ts) t o h =
-    let k = parts_false (same_ticket t u) (has_ticket t ts) h in
-    (neither_has u t ts o.0 (same-sym t u k.0), once-push ts t o.1 k.1)
-
-abbrev pub wait_tickets : List Event → List Ticket
-wait_tickets j = map (λ m. m.ticket) (waiting j)
-
-waits_done : (j : List Event) (ms : List Message) → AllByRecursion (λ m. (phase_of m.ticket j ≡ phase.Done m.code) × (has_ticket m.ticket (tickets j) ≡ true)) ms
-    → AllByRecursion (λ t. is_open (phase_of t j) ≡ false) (map (λ m. m.ticket) ms)
-waits_done j [] a = tt
-waits_done j (m ∷ ms) a = (ap is_open a.0.0, waits_done j ms a.1)
-
--- a running ticket has no message
-pub runs_unread : (j : List Event) → Laws j → (t : Ticket) → has_ticket t (running j) ≡ true → has_ticket t (wait_tickets j) ≡ false
-runs_unread j l t h = false_from_ne_true _ (λ k. false≢true (sym (at_ticket (λ u. is_open (phase_of u j) ≡ false) t (wait_tickets j) (waits_done j (waiting j) l.waits) k) ∙ (running-has j t h).1))
-
-pub once-then : (j : List Event) (w : Who) (e : What) → Laws j → may_follow j e ≡ true → IsOncePerTicket (wait_tickets j) → IsOncePerTicket (wait_tickets (then j w e))
-once-then j w e l m o =
-    rw (waiting-then j w e)
-    (rw (map-append (λ (x : Message). x.ticket) (filter (λ x. not (reads x.ticket e || removes x.ticket e)) (waiting j)) (option_to_list (message_of e)), filter_messages (λ t. not (reads t e || removes t e)) (waiting j))
-    (go e m (once-filter (λ t. not (reads t e || removes t e)) (wait_tickets j) o)))
-  where
-    go : (e : What) → may_follow j e ≡ true → IsOncePerTicket (filter (λ t. not (reads t e || removes t e)) (wait_tickets j))
-        → IsOncePerTicket (filter (λ t. not (reads t e || removes t e)) (wait_tickets j) ++ map (λ m. m.ticket) (option_to_list (message_of e)))
-    go (what.Done t c n) m x = once-push _ t x (false_from_ne_true _ (λ k. false≢true (sym (runs_unread j l t m) ∙ (has-filter t (λ u. true) (wait_tickets j) k).0)))
-    go (what.Added h t) m x = rw (append-nil (filter (λ u. true) (wait_tickets j))) x
-    go (what.Removed h t) m x = rw (append-nil (filter (λ u. not (same_ticket u t)) (wait_tickets j))) x
-    go (what.Read t) m x = rw (append-nil (filter (λ u. not (same_ticket u t || false)) (wait_tickets j))) x
-    go (what.Paused t) m x = rw (append-nil (filter (λ u. true) (wait_tickets j))) x
-    go (what.Resumed t) m x = rw (append-nil (filter (λ u. true) (wait_tickets j))) x
-    go what.Wake m x = rw (append-nil (filter (λ u. true) (wait_tickets j))) x
-
-once_from : (f j : List Event) → Laws f → IsOncePerTicket (wait_tickets f) → is_legal_after f j ≡ true → IsOncePerTicket (wait_tickets (f ++ j))
-once_from f [] l o h = rw (append-nil f) o
-once_from f (e ∷ j) l o h =
-    let k = and_parts (may_follow f e.what) (is_legal_after (f ++ e ∷ []) j) h in
-    rw (← append_assoc f (e ∷ []) j) (once_from (f ++ e ∷ []) j (laws-then f e.who e.what l k.0) (once-then f e.who e.what l k.0 o) k.1)
-
-pub once : (j : List Event) → is_legal j ≡ true → IsOncePerTicket (wait_tickets j)
-once j h = once_from [] j laws_none tt h
-
--- 8. An end.
-
-has_gone : (x t : Ticket) (ys : List Ticket) → has_ticket x ys ≡ true → same_ticket x t ≡ false → has_ticket x (filter (λ y. not (same_ticket t y)) ys) ≡ true
-has_gone x t ys h s = has-stays x (λ y. not (same_ticket t y)) ys h (not_from_false _ (same-sym x t s))
-
-shorter_one : (t y : Ticket) (ys : List Ticket) (b : Bool) → same_ticket t y ≡ b → (has_ticket t ys ≡ true → length (filter (λ z. not (same_ticket t z)) ys) + 1 ≤ length ys)
-    → length (filter (λ z. not (same_ticket t z)) ys) ≤ length ys → (b || has_ticket t ys) ≡ true
-    → length (cond (not b) (y ∷ filter (λ z. not (same_ticket t z)) ys) (filter (λ z. not (same_ticket t z)) ys)) + 1 ≤ length ys + 1
-shorter_one t y ys true s r le h = omega arith
-shorter_one t y ys false s r le h = let k = r h in omega arith
-
-shorter_le : (t : Ticket) (ys : List Ticket) → length (filter (λ z. not (same_ticket t z)) ys) ≤ length ys
-shorter_le t ys = omega (arith, length-filter (λ z. not (same_ticket t z)) ys, count_by-le-length (λ z. not (same_ticket t z)) ys)
-
-shorter : (t : Ticket) (ys : List Ticket) → has_ticket t ys ≡ true → length (filter (λ z. not (same_ticket t z)) ys) + 1 ≤ length ys
-shorter t [] h = absurd (false≢true h)
-shorter t (y ∷ ys) h = let k = shorter_one t y ys (same_ticket t y) refl (shorter t ys) (shorter_le t ys) h in omega (arith, k)
-
-each_off : (x : Ticket) (xs : List Ticket) → has_ticket x xs ≡ false → AllByRecursion (λ u. same_ticket x u ≡ false) xs
-each_off x [] h = tt
-each_off x (u ∷ xs) h = let k = parts_false (same_ticket x u) (has_ticket x xs) h in (k.0, each_off x xs k.1)
-
--- tickets that differ, each in a list, are no more than that list has
-pub pigeons : (xs ys : List Ticket) → IsOncePerTicket xs → AllByRecursion (λ t. has_ticket t ys ≡ true) xs → length xs ≤ length ys
-pigeons [] ys o h = omega arith
-pigeons (x ∷ xs) ys o h =
-    let rest = Each-both (λ u. same_ticket x u ≡ false) (λ u. has_ticket u ys ≡ true) (λ u. has_ticket u (filter (λ z. not (same_ticket x z)) ys) ≡ true)
-    (λ u off i. has_gone u x ys i (same-sym x u off)) xs (each_off x xs o.0) h.1 in
-    let k = pigeons xs (filter (λ z. not (same_ticket x z)) ys) o.1 rest in
-    let l = shorter x ys h.0 in
-    omega (arith, k, l)
-
-waits_added : (j : List Event) (ms : List Message) → AllByRecursion (λ m. (phase_of m.ticket j ≡ phase.Done m.code) × (has_ticket m.ticket (tickets j) ≡ true)) ms
-    → AllByRecursion (λ t. has_ticket t (tickets j) ≡ true) (map (λ m. m.ticket) ms)
-waits_added j [] a = tt
-waits_added j (m ∷ ms) a = (a.0.1, waits_added j ms a.1)
-
--- one more waiting ticket, and one more ending, has its space
-pub waits_short : (j : List Event) (t : Ticket) → is_legal j ≡ true → has_ticket t (running j) ≡ true → length (wait_tickets j) < 256
-waits_short j t l r =
-    let x = laws j l in
-    let k = pigeons (t ∷ wait_tickets j) (tickets j) (runs_unread j x t r, once j l) ((running-has j t r).0, waits_added j (waiting j) x.waits) in
-    let f = few j l in
-    omega (arith, k, length-map (added j) (λ a. a.ticket))
+-- 4. An end.
 
 pub endings_short : {O : Type 0} (code : O → Code) (size : O → ℕ) (j : List Event) (endings : List (Ticket × O)) (t : Ticket) → is_legal j ≡ true
     → map (message code size) endings ≡ waiting j → has_ticket t (running j) ≡ true → length endings < 256
 endings_short code size j endings t l w r =
     let k = waits_short j t l r in
     omega (arith, k, length-map (waiting j) (λ m. m.ticket), length-map endings (message code size), ap length w)
-
-pub may_finish : (j : List Event) (t : Ticket) (r : Row) → r.ticket ≡ t → has_ticket r.ticket (running j) ≡ is_open r.phase → is_open r.phase ≡ true → has_ticket t (running j) ≡ true
-may_finish j t r e runs open' = ap (λ u. has_ticket u (running j)) (sym e) ∙ runs ∙ open'
 
 pub control-finished : {Q O : Type 0} (code : O → Code) (size : O → ℕ) (history : ℕ) (j : List Event) (w : Who) (t : Ticket) (o : O) (queue : List (Ticket × Q)) (endings : List (Ticket × O)) (cq ce : ℕ)
     → IsControl code size history j queue endings cq ce → has_ticket t (running j) ≡ true
@@ -389,16 +158,7 @@ control-finished code size history j w t o queue endings cq ce c m =
       endings_fit = c.endings_fit;
     }
 
--- 9. A reading.
-
-off_kept : (t : Ticket) (ms : List Message) → has_ticket t (map (λ m. m.ticket) ms) ≡ false → filter (λ m. not (same_ticket m.ticket t || false)) ms ≡ ms
-off_kept t [] h = refl
-off_kept t (m ∷ ms) h =
-    let k = parts_false (same_ticket t m.ticket) (has_ticket t (map (λ m. m.ticket) ms)) h in
-    rw (same-sym t m.ticket k.0) (ap (λ z. m ∷ z) (off_kept t ms k.1))
-
-pub read_rest : (m : Message) (ms : List Message) → IsOncePerTicket (map (λ m. m.ticket) (m ∷ ms)) → filter (λ x. not (same_ticket x.ticket m.ticket || false)) (m ∷ ms) ++ [] ≡ ms
-read_rest m ms o = append-nil _ ∙ rw (same-refl m.ticket) (off_kept m.ticket ms o.0)
+-- 5. A reading.
 
 pub control-read : {Q O : Type 0} (code : O → Code) (size : O → ℕ) (history : ℕ) (j : List Event) (w : Who) (x : Ticket × O) (xs : List (Ticket × O)) (queue : List (Ticket × Q)) (cq ce : ℕ)
     → IsControl code size history j queue (x ∷ xs) cq ce → IsControl code size history (then j w (what.Read x.0)) queue xs cq ce
@@ -441,7 +201,7 @@ endings_few code size j endings l w =
     let f = few j l in
     omega (arith, k, length-map (waiting j) (λ m. m.ticket), length-map (added j) (λ a. a.ticket), length-map endings (message code size), ap length w)
 
--- 10. A claim.
+-- 6. A claim.
 
 above_off : (t : Ticket) (ts : List Ticket) → AllByRecursion (λ u. t.0 < u.0) ts → has_ticket t ts ≡ false
 above_off t [] a = refl
@@ -454,16 +214,6 @@ pub claimed_first : {Q : Type 0} (j : List Event) (t : Ticket) (queue : List (Ti
     → has_ticket t (claimed j queue) ≡ true
 claimed_first j t queue a r = has-kept t (λ u. not (has_ticket u (queued queue))) (running j) r ∙ ap not (above_off t (queued queue) a)
 
-pub none_added : (j : List Event) → is_legal j ≡ true → (t : Ticket) → None ≡ handle_of t j → has_ticket t (tickets j) ≡ false
-none_added j l t e = has_added (added j) ∙ not_found (λ (a : Addition). same_ticket t a.ticket) (added j) ∙ go (find (λ a. same_ticket t a.ticket) (added j)) e where
-  has_added : (xs : List Addition) → has_ticket t (map (λ a. a.ticket) xs) ≡ list_any (λ a. same_ticket t a.ticket) xs
-  has_added [] = refl
-  has_added (a ∷ xs) = ap (λ b. same_ticket t a.ticket || b) (has_added xs)
-
-  go : (o : Option Addition) → None ≡ option_map (λ a. a.handle) o → not (is_none o) ≡ false
-  go None k = refl
-  go (Some a) k = cc
-
 -- the first message's handle is added
 pub message_has_row : {O : Type 0} (code : O → Code) (size : O → ℕ) (j : List Event) (endings : List (Ticket × O)) (d : Ticket × O) (t : Ticket)
     → is_legal j ≡ true → map (message code size) endings ≡ waiting j → 0 < length endings → t ≡ (slice_index_or endings 0 d).0 → None ≡ handle_of t j → ⊥
@@ -475,3 +225,12 @@ message_has_row code size j (x ∷ xs) d t l w h e n =
 pub split_first : {X : Type 0} (xs ys : List X) (x : X) → 0 < length xs → x ≡ slice_index_or xs 0 x → ys ≡ remove xs 0 → xs ≡ x ∷ ys
 split_first [] ys x h v r = absurd (omega arith)
 split_first (z ∷ zs) ys x h v r = rw (v, r) refl
+
+-- 7. The journal with its table.
+
+pub journal-then : (history : ℕ) (j : List Event) (t : TableView) (space : ℕ) (e : Event)
+    → IsJournalTable history j t space → may_follow j e.what ≡ true → has_room history j (needs e.what) ≡ true → IsJournalTable history (j ++ e ∷ []) (table_after t e) space
+journal-then history j t space e b m r =
+    let lt = event_fits history j e.who e.what b.kept m r in
+    let u = table_follows j t e b.table b.sized m (omega (arith, lt, b.kept.limit)) in
+    record { kept = kept-then history j e.who e.what b.kept m r; table = u.0; sized = u.1; events_fit = b.events_fit }

@@ -11,12 +11,12 @@ use Rattle.mx_types.specs.declared.event.Who.{Who}
 use Rattle.mx_types.specs.declared.event.What.{What}
 use Rattle.mx_types.specs.declared.event.What.TheVariants as what
 use Rattle.mx_types.specs.declared.event.Event.{Event}
-use Rattle.mx_journal.specs.History.{addition_of, added, additions, has_handle, may_follow}
+use Rattle.mx_history.specs.History.{addition_of, added, additions, has_handle, may_follow}
 use Rattle.mx_journal.specs.Core.{AreOwn, KeepsOrigins}
 use Rattle.mx_journal.specs.Replies.{is_pausing}
-use Rattle.mx_journal.specs.Laws.{then}
-use Rattle.mx_journal.proofs.Lists.{Each-map, Each-append, Each-filter}
-use Rattle.mx_journal.proofs.Histories.{additions-then}
+use Rattle.mx_history.specs.Laws.{then}
+use Rattle.mx_history.proofs.Lists.{Each-map, Each-append, Each-filter}
+use Rattle.mx_history.proofs.Histories.{additions-then}
 
 stands_later : (xs more : List (List ℕ)) (i : ℕ) (y : List ℕ) → slice_get xs i ≡ Some y → slice_get (xs ++ more) i ≡ Some y
 stands_later [] more i y e = cc

@@ -11,14 +11,14 @@ use Rattle.mx_types.specs.declared.event.Who.{Who}
 use Rattle.mx_types.specs.declared.event.What.{What}
 use Rattle.mx_types.specs.declared.event.What.TheVariants as what
 use Rattle.mx_types.specs.declared.event.Event.{Event}
-use Rattle.mx_journal.specs.History.{Message, same_ticket, occurs, removes, ends, running, waiting, has_ticket}
+use Rattle.mx_history.specs.History.{Message, same_ticket, occurs, removes, ends, running, waiting, has_ticket}
 use Rattle.mx_journal.specs.Core.{queued, message, still_running, still_waiting}
-use Rattle.mx_journal.specs.Laws.{then}
-use Rattle.mx_journal.proofs.Snoc.{occurs-snoc}
-use Rattle.mx_journal.proofs.Lists.{filter_true, filter_where, has-filter, has-append_left, same-is, same-refl}
-use Rattle.mx_journal.proofs.Histories.{tickets, tickets-removed, waiting-then, filter_messages}
-use Rattle.mx_journal.proofs.Tables.{has-kept}
-use Rattle.mx_journal.proofs.Controls.{runs-then, wait_tickets}
+use Rattle.mx_history.specs.Laws.{then}
+use Rattle.mx_history.proofs.Snoc.{occurs-snoc}
+use Rattle.mx_history.proofs.Lists.{filter_true, filter_where, has-filter, has-append_left, same-is, same-refl}
+use Rattle.mx_history.proofs.Histories.{tickets, tickets-removed, waiting-then, filter_messages}
+use Rattle.mx_history.proofs.Tables.{has-kept}
+use Rattle.mx_history.proofs.Tickets.{runs-then, wait_tickets}
 
 all_stay : {X : Type 0} (P : X → Type 0) (p : X → Bool) → ((x : X) → P x → p x ≡ true) → (xs : List X) → AllByRecursion P xs → filter p xs ≡ xs
 all_stay P p h xs a = filter_where P p (λ _. true) h xs a ∙ filter_true xs

@@ -1,11 +1,11 @@
 -- What the core's state is, for contracts, and when it is sound.
-use Rattle.std.specs.Prelude.{ℕ, ◌<◌, ◌≤◌, ◌≡◌, List, [], ◌∷◌, length, map, true, not, Option, Some, slice_get}
+use Rattle.std.specs.Prelude.{ℕ, ◌≤◌, ◌≡◌, List, length, map, true, not, Option, Some, slice_get}
 use Rattle.std.specs.List.{AllByRecursion, filter, list_any}
 use Rattle.mx_types.specs.declared.code.Code.{Code}
 use Rattle.mx_types.specs.declared.names.HandleId.{HandleId}
 use Rattle.mx_types.specs.declared.names.Ticket.{Ticket}
 use Rattle.mx_types.specs.declared.event.Event.{Event}
-use Rattle.mx_journal.specs.History.{HasRoomForDue, Message, Opening, additions, same_ticket, waiting, running, has_ticket}
+use Rattle.mx_history.specs.History.{HasRoomForDue, IsInOrder, Message, Opening, additions, same_ticket, waiting, running, has_ticket}
 
 -- what it was opened with, the journal, the bytes of each addition's request, in the order of the additions, the work
 -- that waits for a worker, and the endings that wait to be read
@@ -30,11 +30,6 @@ origin_of t origins = slice_get origins t.0
 -- each is of the work that was added under its ticket
 abbrev pub AreOwn : {X : Type 0} → (X → List ℕ) → List (List ℕ) → List (Ticket × X) → Type 0
 AreOwn origin origins xs = AllByRecursion (λ x. origin_of x.0 origins ≡ Some (origin x.1)) xs
-
--- in order of the tickets, each once
-abbrev pub IsInOrder : List Ticket → Type 0
-IsInOrder [] = Unit {0}
-IsInOrder (t ∷ ts) = AllByRecursion (λ u. t.0 < u.0) ts × IsInOrder ts
 
 abbrev pub queued : {Q : Type 0} → List (Ticket × Q) → List Ticket
 queued queue = map (λ x. x.0) queue

@@ -1,10 +1,8 @@
 -- The journal with its table.
 use Rattle.std.specs.Prelude.{ℕ, ◌≤◌, List}
 use Rattle.mx_types.specs.declared.event.Event.{Event}
-use Rattle.mx_types.specs.declared.event.What.{What}
-use Rattle.mx_types.specs.declared.event.What.TheVariants as what
-use Rattle.mx_journal.specs.History.{HasRoomForDue}
-use Rattle.mx_journal.specs.Table.{TableView, IsTableOf, HasCounters}
+use Rattle.mx_history.specs.History.{HasRoomForDue}
+use Rattle.mx_history.specs.Table.{TableView, IsTableOf, HasCounters}
 
 -- the journal, and how many events it may have
 pub record JournalView : Type 0 where
@@ -17,11 +15,3 @@ pub record IsJournalTable (history : ℕ) (j : List Event) (t : TableView) (for_
   pub table : IsTableOf j t
   pub sized : HasCounters t.makers
   pub events_fit : history ≤ for_events
-
--- the room that an event needs beside what is due
-abbrev pub needs : What → ℕ
-needs (what.Added _ _) = 4
-needs (what.Paused _) = 1
-needs (what.Resumed _) = 1
-needs what.Wake = 1
-needs _ = 0

@@ -2,18 +2,18 @@
 ghost use Rattle.std.specs.Prelude.{map, ◌≡◌, ◌≤◌, ◌++◌, ◌∷◌, [], List, length, true, false, drop, OnOk, OnErr, IfOk, IfSome, IfNone, slice_get};
 ghost use Rattle.std.specs.List.{AllByRecursion};
 ghost use Rattle.mx_types.specs.declared.call.Call.{Call};
-ghost use Rattle.mx_journal.specs.History.{additions, may_follow, has_room, has_ticket, is_maker, made_by, running, added, waiting};
-ghost use Rattle.mx_journal.specs.Answers.{handle_of, Answers, is_ready, look_of, state_of};
+ghost use Rattle.mx_history.specs.History.{additions, may_follow, has_room, has_ticket, is_maker, made_by, running, added, waiting};
+ghost use Rattle.mx_history.specs.Answers.{handle_of, Answers, is_ready, look_of, state_of};
 ghost use Rattle.mx_journal.specs.Core.{claimed, queued, still_running, still_waiting, origin_of, AreOwn, IsSound};
 ghost use Rattle.mx_journal.specs.Replies.{is_pausing, journal_after_pausing, IsPausingAnswer, reply_of_info, ending_read, ending_recorded, IsHandedBack, reply_of_finish, origins_added, queue_added, handed_back, work_back, reply_of_add, reply_of_remove, reply_of_pause, reply_of_wakeup};
-ghost use Rattle.mx_journal.specs.Receipts.{comes_with_event, lacks_memory};
-ghost use Rattle.mx_journal.specs.Slots.{slot_of};
+ghost use Rattle.mx_history.specs.Receipts.{comes_with_event, lacks_memory};
+ghost use Rattle.mx_history.specs.Slots.{slot_of};
 
 use crate::claim::Claim;
 use crate::journal_table::JournalTable;
-use crate::log::Log;
 use crate::pairs::drop_ticket;
 use crate::replies::{AddReply, FinishReply, InfoReply, PauseReply, RemoveReply, WakeupReply};
+use mx_history::Log;
 use mx_types::{
     AddedHandles, Ending, Event, HandleId, Look, OutOfMemory, State, Ticket, What, Who, Work,
 };

@@ -1,14 +1,14 @@
 //! The journal of a multi handle, with the table beside it.
 ghost use Rattle.std.specs.Prelude.{◌≡◌, ◌≤◌, ◌++◌, ◌∷◌, [], length, true, false, map, IfOk, IfSome, IfNone, nat_le, slice_get};
 ghost use Rattle.std.specs.Option.{option_map};
-ghost use Rattle.mx_journal.specs.History.{added, waiting, running, has_ticket, may_follow, has_room, is_maker, made_by};
-ghost use Rattle.mx_journal.specs.Answers.{ticket_of, handle_of, next_ticket, is_ready, state_of, look_of};
-ghost use Rattle.mx_journal.specs.Slots.{slot_of};
-ghost use Rattle.mx_journal.specs.Table.{IsRow};
-ghost use Rattle.mx_journal.specs.JournalTable.{needs};
+ghost use Rattle.mx_history.specs.History.{added, waiting, running, has_ticket, may_follow, has_room, is_maker, made_by};
+ghost use Rattle.mx_history.specs.Answers.{ticket_of, handle_of, next_ticket, is_ready, state_of, look_of};
+ghost use Rattle.mx_history.specs.Slots.{slot_of};
+ghost use Rattle.mx_history.specs.Table.{IsRow};
+ghost use Rattle.mx_history.specs.History.{needs};
 
-use crate::row::Row;
-use crate::table::Table;
+use mx_history::Row;
+use mx_table::Table;
 use mx_types::{AddedHandles, Event, HandleId, Look, OutOfMemory, State, Ticket, Who};
 use std::alloc::Global;
 use std::marker::Model;

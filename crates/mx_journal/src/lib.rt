@@ -3,21 +3,12 @@
 
 mod claim;
 mod control;
-pub mod definitions;
 mod journal_table;
-pub mod laws;
-mod log;
-mod makers;
 mod pairs;
 mod replies;
-mod row;
-mod rows;
-mod table;
-mod waits;
 
 pub use crate::claim::Claim;
 pub use crate::control::Control;
-pub use crate::log::{Log, VecLog};
 pub use crate::replies::{AddReply, FinishReply, InfoReply, PauseReply, RemoveReply, WakeupReply};
-pub use crate::row::{Phase, Row};
-pub use crate::table::Table;
+pub use mx_history::{Log, Phase, Row, VecLog, definitions, laws};
+pub use mx_table::Table;

@@ -2,7 +2,7 @@
 ghost use Rattle.std.specs.Prelude.{◌≡◌, vec_capacity, not};
 ghost use Rattle.std.specs.List.{filter};
 ghost use Rattle.mx_types.specs.declared.names.Ticket.{Ticket};
-ghost use Rattle.mx_journal.specs.History.{same_ticket};
+ghost use Rattle.mx_history.specs.History.{same_ticket};
 
 use mx_types::Ticket;
 

@@ -23,10 +23,10 @@ use Rattle.mx_journal.specs.Answers.{Answer, only, answer, read_answer, ticket_o
 use Rattle.mx_journal.specs.Core.{queued, claimed, still_running}
 use Rattle.mx_journal.specs.Replies.{queue_added, reply_of_add}
 use Rattle.mx_journal.specs.Laws.{then}
-use Rattle.mx_journal.proofs.Lists.{has-filter, has-stays}
-use Rattle.mx_journal.proofs.Snoc.{occurs-snoc}
-use Rattle.mx_journal.proofs.Histories.{tickets}
-use Rattle.mx_journal.proofs.Controls.{queued-filter, tickets-then}
+use Rattle.mx_history.proofs.Lists.{has-filter, has-stays}
+use Rattle.mx_history.proofs.Snoc.{occurs-snoc}
+use Rattle.mx_history.proofs.Histories.{tickets}
+use Rattle.mx_history.proofs.Tickets.{queued-filter, tickets-then}
 use Rattle.mx_multi.specs.Shared.{HasNoOther}
 
 or_split : (a b : Bool) → (a || b) ≡ true → (a ≡ true) ⊎ (b ≡ true)

@@ -10,7 +10,7 @@ use Rattle.mx_journal.specs.History.{Opening, is_legal}
 use Rattle.mx_journal.specs.Core.{Core, claimed}
 use Rattle.mx_journal.specs.Answers.{Answers}
 use Rattle.mx_journal.specs.Laws.{HasAtMostOneMore}
-use Rattle.mx_journal.proofs.Placing.{call_adds_at_most_one}
+use Rattle.mx_history.proofs.Placing.{call_adds_at_most_one}
 use Rattle.mx_board.specs.Board.{name_of}
 use Rattle.mx_multi.specs.Shared.{SharedState, content, HasNoOther, Leaves}
 

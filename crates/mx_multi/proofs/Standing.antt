@@ -18,8 +18,8 @@ use Rattle.mx_journal.specs.History.{has_ticket, is_legal, made_by, same_ticket}
 use Rattle.mx_journal.specs.Answers.{Answers, is_ready}
 use Rattle.mx_journal.specs.Receipts.{is_poll, mark, IsPlaced}
 use Rattle.mx_journal.specs.Laws.{HasAtMostOneMore}
-use Rattle.mx_journal.proofs.Lists.{same-is, same-refl}
-use Rattle.mx_journal.proofs.Placing.{call_adds_at_most_one, call_is_placed, placed_stays}
+use Rattle.mx_history.proofs.Lists.{same-is, same-refl}
+use Rattle.mx_history.proofs.Placing.{call_adds_at_most_one, call_is_placed, placed_stays}
 use Rattle.mx_board.specs.Board.{ReaderState, Reads, caught_up}
 use Rattle.mx_board.proofs.Prefixes.{prefix_self, prefix_trans}
 use Rattle.mx_multi.specs.Shared.{SharedState, Engine, content, HasNoOther, Leaves, IsLeft}

@@ -1,7 +1,7 @@
 use Rattle.std.proofs.Common.{rules, ◌≡◌, ◌≢◌, ◌∙◌, ◌++◌, ap, sym, subst, List, Some, true, length, arith}
 use Rattle.std.specs.Option.{option_to_list}
 use Rattle.mx_types.specs.declared.event.Event.{Event}
-use Rattle.mx_journal.specs.History.{is_legal, made_by}
+use Rattle.mx_history.specs.History.{is_legal, made_by}
 use Rattle.mx_board.specs.Journal.{Mark}
 use Rattle.mx_board.specs.Board.{mark_of, ReaderState, Reads}
 use Rattle.mx_board.proofs.Prefixes.{prefix_whole}

@@ -2,8 +2,9 @@ use Rattle.std.proofs.Common.{◌≡◌, ◌<◌, ◌∙◌, [], ◌∷◌, map,
 use Rattle.std.specs.Prelude.{nat_le}
 use Rattle.std.proofs.lemmas.Bool.Decides.{nat_tests}
 use Rattle.mx_types.specs.declared.event.What.TheVariants as what
-use Rattle.mx_journal.specs.History.{added, addition_of, may_follow}
-use Rattle.mx_journal.proofs.Controls.{control-added, may_add, queue_length}
+use Rattle.mx_history.specs.History.{added, addition_of, may_follow}
+use Rattle.mx_journal.proofs.Controls.{control-added, queue_length}
+use Rattle.mx_history.proofs.Tickets.{may_add}
 use Rattle.std.specs.Option.{is_some}
 use Rattle.std.proofs.lemmas.Bool.{leb-true}
 use Rattle.std.proofs.lemmas.List.{length-map}

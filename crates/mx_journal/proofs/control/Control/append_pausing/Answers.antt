@@ -1,5 +1,5 @@
 use Rattle.std.proofs.Common.{◌≡◌, ◌∙◌, sym, rules, true}
-use Rattle.mx_journal.specs.History.{may_follow}
+use Rattle.mx_history.specs.History.{may_follow}
 use Rattle.mx_journal.proofs.Controls.{control-pausing}
 use Rattle.mx_journal.proofs.Origins.{origins-then, pausing_adds_none}
 use Rattle.mx_journal.proofs.control.Control.append_pausing.Goals as goal

@@ -1,6 +1,7 @@
 use Rattle.std.proofs.Common.{◌≡◌, ◌<◌, ◌∙◌, append-nil, refl, sym, true, arith, length}
-use Rattle.mx_journal.specs.History.{has_ticket, running, same_ticket}
-use Rattle.mx_journal.proofs.Controls.{control-finished, may_finish, endings_short}
+use Rattle.mx_history.specs.History.{has_ticket, running, same_ticket}
+use Rattle.mx_journal.proofs.Controls.{control-finished, endings_short}
+use Rattle.mx_history.proofs.Tickets.{may_finish}
 use Rattle.mx_journal.proofs.Remains.{queue_stays, queue_ended, endings_stay, endings_ended}
 use Rattle.std.specs.Prelude.{not}
 use Rattle.mx_types.specs.declared.event.What.TheVariants as what

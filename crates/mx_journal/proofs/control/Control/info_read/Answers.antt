@@ -2,7 +2,7 @@ use Rattle.std.proofs.Common.{◌≡◌, ◌<◌, ◌∙◌, refl, ap, sym, arit
 use Rattle.std.specs.Prelude.{◌==◌}
 use Rattle.std.specs.Option.{option_map}
 use Rattle.std.proofs.lemmas.Bool.Decides.{nat_tests}
-use Rattle.mx_journal.specs.declared.row.Row.{Row}
+use Rattle.mx_history.specs.declared.row.Row.{Row}
 use Rattle.mx_journal.proofs.Controls.{control-read_at, endings_few, message_has_row}
 use Rattle.mx_types.specs.declared.event.What.TheVariants as what
 use Rattle.mx_journal.proofs.Origins.{origins-then}

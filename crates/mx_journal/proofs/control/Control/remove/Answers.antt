@@ -1,9 +1,10 @@
 use Rattle.std.proofs.Common.{◌∙◌, refl, sym}
-use Rattle.mx_journal.proofs.Controls.{control-removed, may_remove}
+use Rattle.mx_journal.proofs.Controls.{control-removed}
+use Rattle.mx_history.proofs.Tickets.{may_remove}
 use Rattle.mx_journal.proofs.Remains.{queue_stays, queue_removed, endings_stay, endings_removed}
 use Rattle.std.specs.Prelude.{not}
 use Rattle.mx_types.specs.declared.event.What.TheVariants as what
-use Rattle.mx_journal.specs.History.{same_ticket}
+use Rattle.mx_history.specs.History.{same_ticket}
 use Rattle.mx_journal.proofs.Origins.{origins-then, own_filter}
 use Rattle.mx_journal.proofs.control.Control.remove.Goals as goal
 

@@ -1,8 +1,7 @@
 use Rattle.std.proofs.Common.{◌≡◌, arith, true}
-use Rattle.mx_journal.specs.History.{may_follow, has_room}
-use Rattle.mx_journal.specs.JournalTable.{needs}
-use Rattle.mx_journal.proofs.JournalTables.{event_fits}
-use Rattle.mx_journal.proofs.Follows.{journal-then}
+use Rattle.mx_history.specs.History.{may_follow, has_room, needs}
+use Rattle.mx_history.proofs.TableLaws.{event_fits}
+use Rattle.mx_journal.proofs.Controls.{journal-then}
 use Rattle.mx_journal.proofs.journal_table.JournalTable.enter.Goals as goal
 
 pub push_reserved-requires : goal.push_reserved-requires

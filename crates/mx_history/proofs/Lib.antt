@@ -1,0 +1,17 @@
+pub mod Snoc
+pub mod Lists
+pub mod Histories
+pub mod Tables
+pub mod TableLaws
+pub mod Tickets
+pub mod SlotLists
+pub mod LegalLaws
+pub mod Messages
+pub mod SlotLaws
+pub mod ReceiptLaws
+pub mod Defined
+pub mod AnswersFit
+pub mod Follows
+pub mod Placing
+pub mod Pinned
+pub mod States

@@ -1,0 +1,12 @@
+use Rattle.std.proofs.Common.{◌∙◌, ap, rules}
+use Rattle.std.specs.Prelude.{not}
+use Rattle.std.specs.List.{filter}
+use Rattle.std.proofs.lemmas.Fn.{filter_same}
+use Rattle.mx_types.specs.declared.names.Ticket.{Ticket}
+use Rattle.mx_history.specs.History.{ends, occurs}
+use Rattle.mx_history.proofs.definitions.running.Goals as goal
+
+pub returns : goal.returns
+returns c =
+    filter_same _ (λ (t : Ticket). not (occurs (ends t) c.args.events.now)) _ (λ x b f' k. search rules) _ _ c.retain.ensures.filtered
+    ∙ ap (filter (λ (t : Ticket). not (occurs (ends t) c.args.events.now))) c.in_ok-list.ensures

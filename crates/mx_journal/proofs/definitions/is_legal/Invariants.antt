@@ -1,6 +1,0 @@
-use Rattle.std.proofs.Common.{◌≡◌, take, true}
-use Rattle.mx_journal.specs.History.{is_legal}
-use Rattle.mx_journal.proofs.definitions.is_legal.Given as goal
-
-abbrev pub invariant-loop-at : goal.invariant-loop-at
-invariant-loop-at l = is_legal (take l.at l.events) ≡ true

@@ -1,5 +1,0 @@
-use Rattle.mx_journal.proofs.LegalLaws.{answer_is_legal}
-use Rattle.mx_journal.proofs.laws.answer_is_legal.Goals as goal
-
-pub returns : goal.returns
-returns c = answer_is_legal

@@ -1,5 +1,0 @@
-use Rattle.mx_journal.proofs.LegalLaws.{closing_finds_room}
-use Rattle.mx_journal.proofs.laws.closing_finds_room.Goals as goal
-
-pub returns : goal.returns
-returns c = closing_finds_room

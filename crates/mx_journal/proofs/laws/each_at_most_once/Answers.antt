@@ -1,5 +1,0 @@
-use Rattle.mx_journal.proofs.LegalLaws.{each_at_most_once}
-use Rattle.mx_journal.proofs.laws.each_at_most_once.Goals as goal
-
-pub returns : goal.returns
-returns c = each_at_most_once

@@ -1,5 +1,0 @@
-use Rattle.mx_journal.proofs.ReceiptLaws.{each_once_by_count}
-use Rattle.mx_journal.proofs.laws.each_once_by_count.Goals as goal
-
-pub returns : goal.returns
-returns c = each_once_by_count

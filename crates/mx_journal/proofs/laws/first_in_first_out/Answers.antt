@@ -1,5 +1,0 @@
-use Rattle.mx_journal.proofs.Messages.{first_in_first_out}
-use Rattle.mx_journal.proofs.laws.first_in_first_out.Goals as goal
-
-pub returns : goal.returns
-returns c = first_in_first_out

@@ -1,5 +1,0 @@
-use Rattle.mx_journal.proofs.ReceiptLaws.{fits_by_its_cut}
-use Rattle.mx_journal.proofs.laws.fits_by_its_cut.Goals as goal
-
-pub returns : goal.returns
-returns c = fits_by_its_cut

@@ -1,5 +1,0 @@
-use Rattle.mx_journal.proofs.Placing.{placed_stays}
-use Rattle.mx_journal.proofs.laws.placed_stays.Goals as goal
-
-pub returns : goal.returns
-returns c = placed_stays

@@ -1,5 +1,0 @@
-use Rattle.mx_journal.proofs.LegalLaws.{prefix_is_legal}
-use Rattle.mx_journal.proofs.laws.prefix_is_legal.Goals as goal
-
-pub returns : goal.returns
-returns c = prefix_is_legal

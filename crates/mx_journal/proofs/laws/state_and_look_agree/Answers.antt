@@ -1,5 +1,0 @@
-use Rattle.mx_journal.proofs.States.{state_and_look_agree}
-use Rattle.mx_journal.proofs.laws.state_and_look_agree.Goals as goal
-
-pub returns : goal.returns
-returns c = state_and_look_agree
