@@ -13,9 +13,9 @@ use Rattle.mx_types.specs.declared.event.Who.{Who}
 use Rattle.mx_types.specs.declared.event.What.{What}
 use Rattle.mx_types.specs.declared.event.What.TheVariants as what
 use Rattle.mx_types.specs.declared.event.Event.{Event}
-use Rattle.mx_history.specs.History.{Message, same_ticket, message_of, removes, ends, reads, added, waiting, running, additions, has_ticket, may_follow, is_legal, has_room, needs, IsInOrder}
+use Rattle.mx_history.specs.History.{Message, same_ticket, message_of, removes, ends, reads, added, waiting, running, additions, has_ticket, may_follow, is_legal, has_room, needs, HasRoomForDue, IsInOrder}
 use Rattle.mx_history.specs.Answers.{handle_of}
-use Rattle.mx_journal.specs.Core.{queued, claimed, message, IsControl}
+use Rattle.mx_journal.specs.Core.{queued, claimed, message, IsControl, IsTabled}
 use Rattle.mx_history.proofs.Snoc.{phase_of-snoc}
 use Rattle.mx_history.proofs.Lists.{Each-map, Each-append, Each-filter, filter_idle, filter_true, same-refl}
 use Rattle.mx_history.proofs.Histories.{tickets, laws, waiting-then, below, running-has}
@@ -26,7 +26,6 @@ use Rattle.mx_history.specs.Rows.{is_open}
 use Rattle.std.proofs.lemmas.List.Folds.{list_any-append}
 use Rattle.mx_history.proofs.Tickets.{tickets-then, runs-then, in_order-filter, in_order-push, queued-filter, fewer, ordered, room_none, once, wait_tickets, pigeons, waits_added, waits_short, read_rest, none_added}
 use Rattle.mx_history.specs.Table.{TableView, table_after}
-use Rattle.mx_journal.specs.JournalTable.{IsJournalTable}
 use Rattle.mx_history.proofs.Follows.{table_follows}
 
 -- 1. Events that touch neither queue nor endings.
@@ -228,9 +227,9 @@ split_first (z ∷ zs) ys x h v r = rw (v, r) refl
 
 -- 7. The journal with its table.
 
-pub journal-then : (history : ℕ) (j : List Event) (t : TableView) (space : ℕ) (e : Event)
-    → IsJournalTable history j t space → may_follow j e.what ≡ true → has_room history j (needs e.what) ≡ true → IsJournalTable history (j ++ e ∷ []) (table_after t e) space
-journal-then history j t space e b m r =
-    let lt = event_fits history j e.who e.what b.kept m r in
-    let u = table_follows j t e b.table b.sized m (omega (arith, lt, b.kept.limit)) in
-    record { kept = kept-then history j e.who e.what b.kept m r; table = u.0; sized = u.1; events_fit = b.events_fit }
+pub tabled-then : (history : ℕ) (j : List Event) (t : TableView) (space : ℕ) (e : Event)
+    → HasRoomForDue history j → IsTabled history j t space → may_follow j e.what ≡ true → has_room history j (needs e.what) ≡ true → IsTabled history (j ++ e ∷ []) (table_after t e) space
+tabled-then history j t space e k b m r =
+    let lt = event_fits history j e.who e.what k m r in
+    let u = table_follows j t e b.table b.sized m (omega (arith, lt, k.limit)) in
+    record { table = u.0; sized = u.1; fits = b.fits }

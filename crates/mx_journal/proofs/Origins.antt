@@ -12,7 +12,7 @@ use Rattle.mx_types.specs.declared.event.What.{What}
 use Rattle.mx_types.specs.declared.event.What.TheVariants as what
 use Rattle.mx_types.specs.declared.event.Event.{Event}
 use Rattle.mx_history.specs.History.{addition_of, added, additions, has_handle, may_follow}
-use Rattle.mx_journal.specs.Core.{AreOwn, KeepsOrigins}
+use Rattle.mx_journal.specs.Core.{AreOwn, KeepsOrigins, origin_of}
 use Rattle.mx_journal.specs.Replies.{is_pausing}
 use Rattle.mx_history.specs.Laws.{then}
 use Rattle.mx_history.proofs.Lists.{Each-map, Each-append, Each-filter}
@@ -71,3 +71,8 @@ pausing_adds_none what.Wake p = refl
 
 pub map-pushed : {X Y : Type 0} (f : X → Y) (xs : List X) (x : X) (y : Y) → f x ≡ y → map f (xs ++ x ∷ []) ≡ map f xs ++ y ∷ []
 map-pushed f xs x y e = map-append f xs (x ∷ []) ∙ ap (λ z. map f xs ++ z ∷ []) e
+
+-- with one more behind
+pub own_pushed : {X : Type 0} (origin : X → List ℕ) (origins : List (List ℕ)) (xs : List (Ticket × X)) (t : Ticket) (x : X) → AreOwn origin origins xs → origin_of t origins ≡ Some (origin x)
+    → AreOwn origin origins (xs ++ (t, x) ∷ [])
+own_pushed {X} origin origins xs t x own e = Each-append (λ (y : Ticket × X). slice_get origins y.0.0 ≡ Some (origin y.1)) xs ((t, x) ∷ []) own (e, tt)

@@ -5,6 +5,7 @@ use Rattle.mx_types.specs.declared.code.Code.{Code}
 use Rattle.mx_types.specs.declared.names.HandleId.{HandleId}
 use Rattle.mx_types.specs.declared.names.Ticket.{Ticket}
 use Rattle.mx_types.specs.declared.event.Event.{Event}
+use Rattle.mx_history.specs.Table.{TableView, IsTableOf, HasCounters}
 use Rattle.mx_history.specs.History.{HasRoomForDue, IsInOrder, Message, Opening, additions, same_ticket, waiting, running, has_ticket}
 
 -- what it was opened with, the journal, the bytes of each addition's request, in the order of the additions, the work
@@ -49,6 +50,12 @@ pub record IsSound {Q O : Type 0} (code : O → Code) (size : O → ℕ) (histor
   pub ordered : IsInOrder (queued queue)
   pub runs : AllByRecursion (λ t. has_ticket t (running journal) ≡ true) (queued queue)
   pub waits : map (message code size) endings ≡ waiting journal
+
+-- what is kept beside the journal agrees with it, and the journal has its space
+pub record IsTabled (history : ℕ) (j : List Event) (t : TableView) (space : ℕ) : Type 0 where
+  pub table : IsTableOf j t
+  pub sized : HasCounters t.makers
+  pub fits : history ≤ space
 
 -- the core's state with the space that it has reserved
 pub record IsControl {Q O : Type 0} (code : O → Code) (size : O → ℕ) (history : ℕ) (journal : List Event) (queue : List (Ticket × Q)) (endings : List (Ticket × O)) (for_queue for_endings : ℕ) : Type 0 where

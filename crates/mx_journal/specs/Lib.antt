@@ -1,5 +1,4 @@
 pub mod Core
-pub mod JournalTable
 pub mod Replies
 pub use Rattle.mx_history.specs.Answers
 pub use Rattle.mx_history.specs.Definitions

@@ -1,6 +1,9 @@
 -- The reply that a call's answer stands for.
 use Rattle.std.specs.Prelude.{ℕ, ◌≡◌, Bool, true, false, List, [], ◌∷◌, ◌++◌, Option, Some, None}
 use Rattle.mx_types.specs.declared.code.Code.{Code}
+use Rattle.mx_types.specs.declared.names.HandleId.{HandleId}
+use Rattle.mx_types.specs.declared.call.Call.{Call}
+use Rattle.mx_types.specs.declared.call.Call.TheVariants as call
 use Rattle.mx_types.specs.declared.event.What.{What}
 use Rattle.mx_types.specs.declared.event.What.TheVariants as what
 use Rattle.mx_types.specs.declared.event.Event.{Event}
@@ -95,6 +98,11 @@ abbrev pub ending_read : {O : Type 0} → InfoReply O → List (Ticket × O)
 ending_read (info.Message h t o left) = (t, o) ∷ []
 ending_read info.Empty = []
 ending_read info.OutOfMemory = []
+
+-- the call that pauses a handle, and the one that resumes it
+abbrev pub pausing_call : Bool → HandleId → Call
+pausing_call true h = call.Pause h
+pausing_call false h = call.Unpause h
 
 abbrev pub is_pausing : What → Bool
 is_pausing (what.Paused _) = true

@@ -1,19 +1,19 @@
 //! The control state of a multi handle.
-ghost use Rattle.std.specs.Prelude.{map, ◌≡◌, ◌≤◌, ◌++◌, ◌∷◌, [], List, length, true, false, drop, OnOk, OnErr, IfOk, IfSome, IfNone, slice_get};
+ghost use Rattle.std.specs.Prelude.{map, ◌≡◌, ◌≤◌, ◌++◌, ◌∷◌, [], List, length, true, false, drop, OnOk, OnErr, IfOk, IfSome, IfNone, slice_get, vec_capacity};
 ghost use Rattle.std.specs.List.{AllByRecursion};
 ghost use Rattle.mx_types.specs.declared.call.Call.{Call};
-ghost use Rattle.mx_history.specs.History.{additions, may_follow, has_room, has_ticket, is_maker, made_by, running, added, waiting};
+ghost use Rattle.mx_history.specs.History.{HasRoomForDue, additions, may_follow, has_room, needs, has_ticket, is_maker, made_by, running, added, waiting};
 ghost use Rattle.mx_history.specs.Answers.{handle_of, Answers, is_ready, look_of, state_of};
-ghost use Rattle.mx_journal.specs.Core.{claimed, queued, still_running, still_waiting, origin_of, AreOwn, IsSound};
-ghost use Rattle.mx_journal.specs.Replies.{is_pausing, journal_after_pausing, IsPausingAnswer, reply_of_info, ending_read, ending_recorded, IsHandedBack, reply_of_finish, origins_added, queue_added, handed_back, work_back, reply_of_add, reply_of_remove, reply_of_pause, reply_of_wakeup};
+ghost use Rattle.mx_journal.specs.Core.{claimed, queued, still_running, still_waiting, origin_of, AreOwn, IsSound, IsTabled};
+ghost use Rattle.mx_journal.specs.Replies.{pausing_call, is_pausing, journal_after_pausing, IsPausingAnswer, reply_of_info, ending_read, ending_recorded, IsHandedBack, reply_of_finish, origins_added, queue_added, handed_back, work_back, reply_of_add, reply_of_remove, reply_of_pause, reply_of_wakeup};
 ghost use Rattle.mx_history.specs.Receipts.{comes_with_event, lacks_memory};
 ghost use Rattle.mx_history.specs.Slots.{slot_of};
 
 use crate::claim::Claim;
-use crate::journal_table::JournalTable;
 use crate::pairs::drop_ticket;
 use crate::replies::{AddReply, FinishReply, InfoReply, PauseReply, RemoveReply, WakeupReply};
 use mx_history::Log;
+use mx_table::Table;
 use mx_types::{
     AddedHandles, Ending, Event, HandleId, Look, OutOfMemory, State, Ticket, What, Who, Work,
 };
@@ -25,7 +25,9 @@ use std::snapshot::Snapshot;
 /// endings that wait to be read.
 #[derive(Drop)]
 pub struct Control<Q: Work, O: Ending> {
-    table: JournalTable,
+    history: u32,
+    journal: Vec<Event>,
+    table: Table,
     /// The work of each addition, as it was, for contracts alone: it has no size.
     origins: Vec<Snapshot<Q>>,
     queue: Vec<(Ticket, Q)>,
@@ -34,15 +36,16 @@ pub struct Control<Q: Work, O: Ending> {
 
 impl<Q: Work, O: Ending> Model for Control<Q, O> {
     ghost use Rattle.std.specs.Prelude.{map, vec_capacity};
-    ghost use Rattle.mx_journal.specs.Core.{Core, IsControl, KeepsOrigins};
+    ghost use Rattle.mx_journal.specs.Core.{Core, IsControl, IsTabled, KeepsOrigins};
 
     ghost Value = { Core Q O };
 
-    ghost view = { λ c. record { opening = record { history = c.table.history }; journal = c.table.journal; origins = map (λ s. Q.origin s.value) c.origins.items; queue = c.queue.items; endings = c.endings.items } };
+    ghost view = { λ c. record { opening = record { history = c.history }; journal = c.journal.items; origins = map (λ s. Q.origin s.value) c.origins.items; queue = c.queue.items; endings = c.endings.items } };
 
     ghost invariant = { λ c. record {
-      kept : IsControl O.code_of O.size_of c.table.history c.table.journal c.queue.items c.endings.items (vec_capacity c.queue) (vec_capacity c.endings);
-      origins : KeepsOrigins Q.origin c.table.history c.table.journal (map (λ s. Q.origin s.value) c.origins.items) c.queue.items (vec_capacity c.origins);
+      tabled : IsTabled c.history c.journal.items c.table (vec_capacity c.journal);
+      kept : IsControl O.code_of O.size_of c.history c.journal.items c.queue.items c.endings.items (vec_capacity c.queue) (vec_capacity c.endings);
+      origins : KeepsOrigins Q.origin c.history c.journal.items (map (λ s. Q.origin s.value) c.origins.items) c.queue.items (vec_capacity c.origins);
     } };
 }
 
@@ -57,7 +60,9 @@ impl<Q: Work + Drop, O: Ending + Drop> Control<Q, O> {
         ensures { IfOk result (λ c. c ≡ record { opening = record { history = history }; journal = []; origins = []; queue = []; endings = [] }) }
     {
         Ok(Control {
-            table: JournalTable::new(alloc, history)?,
+            history,
+            journal: Vec::with_capacity(alloc, history as usize)?,
+            table: Table::new(alloc)?,
             origins: Vec::with_capacity(alloc, history as usize)?,
             queue: Vec::with_capacity(alloc, 256)?,
             endings: Vec::with_capacity(alloc, 256)?,
@@ -106,7 +111,7 @@ impl<Q: Work + Drop, O: Ending + Drop> Control<Q, O> {
         if self.table.is_full() {
             return AddReply::TableFull(work);
         }
-        if !self.table.has_room(4) {
+        if !self.has_room(4) {
             return AddReply::HistoryFull(work);
         }
         let ticket = self.table.next_ticket();
@@ -117,7 +122,7 @@ impl<Q: Work + Drop, O: Ending + Drop> Control<Q, O> {
         if log.append(event).is_err() {
             return AddReply::OutOfMemory(work);
         }
-        self.table.enter(event);
+        enter(self.history, &mut self.journal, &mut self.table, event);
         self.origins.push_reserved(Snapshot::of(&work));
         self.queue.push_reserved((ticket, work));
         AddReply::Added(ticket)
@@ -156,7 +161,7 @@ impl<Q: Work + Drop, O: Ending + Drop> Control<Q, O> {
         if log.append(event).is_err() {
             return RemoveReply::OutOfMemory;
         }
-        self.table.enter(event);
+        enter(self.history, &mut self.journal, &mut self.table, event);
         drop_ticket(&mut self.queue, row.ticket);
         drop_ticket(&mut self.endings, row.ticket);
         RemoveReply::Removed
@@ -185,22 +190,7 @@ impl<Q: Work + Drop, O: Ending + Drop> Control<Q, O> {
         ensures queue { self.new.queue ≡ self.old.queue }
         ensures endings { self.new.endings ≡ self.old.endings }
     {
-        let Some(row) = self.table.row_of_handle(handle) else {
-            return PauseReply::NotAdded;
-        };
-        if !row.phase.is_open() {
-            return PauseReply::NotRunning;
-        }
-        if row.phase.is_paused() {
-            return PauseReply::NoChange;
-        }
-        self.append_pausing(
-            log,
-            Event {
-                who,
-                what: What::Paused(row.ticket),
-            },
-        )
+        self.turn(log, who, handle, true)
     }
 
     /// Resumes a handle's transfer (curl_easy_pause(3)).
@@ -226,22 +216,45 @@ impl<Q: Work + Drop, O: Ending + Drop> Control<Q, O> {
         ensures queue { self.new.queue ≡ self.old.queue }
         ensures endings { self.new.endings ≡ self.old.endings }
     {
+        self.turn(log, who, handle, false)
+    }
+
+    // Pauses a handle's transfer, or resumes it.
+    fn turn<L: Log>(&mut self, log: &mut L, who: Who, handle: HandleId, pauses: bool) -> PauseReply
+        requires { is_maker who ≡ true }
+        ensures answers { Answers self.old.opening who (pausing_call pauses handle) self.old.journal (reply_of_pause result) self.new.journal }
+        ensures logged { L.events log.new ≡ L.events log.old ++ drop (length self.old.journal) self.new.journal }
+        ensures same_log { L.name log.new ≡ L.name log.old }
+        ensures memory { lacks_memory (reply_of_pause result) ≡ true → L.may_refuse log.old }
+        ensures unchanged { comes_with_event (reply_of_pause result) ≡ false → self.new ≡ self.old }
+        ensures opening { self.new.opening ≡ self.old.opening }
+        ensures origins { self.new.origins ≡ self.old.origins }
+        ensures queue { self.new.queue ≡ self.old.queue }
+        ensures endings { self.new.endings ≡ self.old.endings }
+    {
         let Some(row) = self.table.row_of_handle(handle) else {
             return PauseReply::NotAdded;
         };
         if !row.phase.is_open() {
             return PauseReply::NotRunning;
         }
-        if !row.phase.is_paused() {
+        if row.phase.is_paused() == pauses {
             return PauseReply::NoChange;
         }
-        self.append_pausing(
-            log,
-            Event {
-                who,
-                what: What::Resumed(row.ticket),
-            },
-        )
+        let what = if pauses {
+            What::Paused(row.ticket)
+        } else {
+            What::Resumed(row.ticket)
+        };
+        self.append_pausing(log, Event { who, what })
+    }
+
+    // Whether there is room for so many events beside those so far and those that are due.
+    fn has_room(&self, more: u32) -> bool
+        requires { more ≤ 4 }
+        ensures { result ≡ has_room self.now.opening.history self.now.journal more }
+    {
+        self.journal.len() as u32 + self.table.due() + more <= self.history
     }
 
     // Writes a pause or a resumption that may follow, where it has room.
@@ -260,13 +273,13 @@ impl<Q: Work + Drop, O: Ending + Drop> Control<Q, O> {
         ensures queue { self.new.queue ≡ self.old.queue }
         ensures endings { self.new.endings ≡ self.old.endings }
     {
-        if !self.table.has_room(1) {
+        if !self.has_room(1) {
             return PauseReply::HistoryFull;
         }
         if log.append(event).is_err() {
             return PauseReply::OutOfMemory;
         }
-        self.table.enter(event);
+        enter(self.history, &mut self.journal, &mut self.table, event);
         PauseReply::Changed
     }
 
@@ -306,7 +319,7 @@ impl<Q: Work + Drop, O: Ending + Drop> Control<Q, O> {
         let Some(row) = self.table.row_of_ticket(ticket) else {
             unreachable!()
         };
-        self.table.enter(event);
+        enter(self.history, &mut self.journal, &mut self.table, event);
         let (_, ending) = self.endings.remove(0);
         let left = self.endings.len() as u32;
         InfoReply::Message {
@@ -337,7 +350,7 @@ impl<Q: Work + Drop, O: Ending + Drop> Control<Q, O> {
         ensures queue { self.new.queue ≡ self.old.queue }
         ensures endings { self.new.endings ≡ self.old.endings }
     {
-        if !self.table.has_room(1) {
+        if !self.has_room(1) {
             return WakeupReply::Failure;
         }
         let event = Event {
@@ -347,7 +360,7 @@ impl<Q: Work + Drop, O: Ending + Drop> Control<Q, O> {
         if log.append(event).is_err() {
             return WakeupReply::OutOfMemory;
         }
-        self.table.enter(event);
+        enter(self.history, &mut self.journal, &mut self.table, event);
         WakeupReply::Ok
     }
 
@@ -393,7 +406,7 @@ impl<Q: Work + Drop, O: Ending + Drop> Control<Q, O> {
         if log.append(event).is_err() {
             return FinishReply::OutOfMemory(claim, ending);
         }
-        self.table.enter(event);
+        enter(self.history, &mut self.journal, &mut self.table, event);
         drop_ticket(&mut self.queue, ticket);
         self.endings.push_reserved((ticket, ending));
         FinishReply::Recorded
@@ -437,7 +450,7 @@ impl<Q: Work + Drop, O: Ending + Drop> Control<Q, O> {
     pub fn event(&self, index: u32) -> Option<Event>
         ensures { result ≡ slice_get self.now.journal index }
     {
-        self.table.event(index)
+        self.journal.get(index as usize).copied()
     }
 
     /// How many events the journal has.
@@ -489,4 +502,17 @@ impl<Q: Work + Drop, O: Ending + Drop> Control<Q, O> {
     {
         self.table.made(who)
     }
+}
+
+// Writes an event that may follow into the journal and the table.
+fn enter(history: u32, journal: &mut Vec<Event>, table: &mut Table, event: Event)
+    requires kept { HasRoomForDue history journal.old.items }
+    requires tabled { IsTabled history journal.old.items table.old (vec_capacity journal.old) }
+    requires may { may_follow journal.old.items event.what ≡ true }
+    requires room { has_room history journal.old.items (needs event.what) ≡ true }
+    ensures items { journal.new.items ≡ journal.old.items ++ event ∷ [] }
+    ensures tabled { IsTabled history journal.new.items table.new (vec_capacity journal.new) }
+{
+    table.apply(event);
+    journal.push_reserved(event);
 }

@@ -3,7 +3,6 @@
 
 mod claim;
 mod control;
-mod journal_table;
 mod pairs;
 mod replies;
 

@@ -16,47 +16,47 @@ use Rattle.mx_journal.proofs.control.Control.add.Goals as goal
 
 pub enter-requires-clause-may : goal.enter-requires-clause-may
 enter-requires-clause-may g c =
-    may_add c.self.inside.table.journal c.args.handle c.next_ticket-ticket.result c.row_of_handle.result (sym c.is_some.ensures ∙ c.if-is_some.false) c.row_of_handle.ensures.ticket
-    (sym c.is_full.ensures ∙ c.if-is_full.false) c.next_ticket-ticket.ensures
+    may_add c.self.inside.journal.items c.args.handle c.next_ticket-ticket.result c.row_of_handle.result (sym c.is_some.ensures ∙ c.if-is_some.false) (c.row_of_handle.ensures.ticket c.self.inside.journal.items c.self.invariant.tabled.table)
+    (sym (c.is_full.ensures c.self.inside.journal.items c.self.invariant.tabled.table) ∙ c.if-is_full.false) (c.next_ticket-ticket.ensures c.self.inside.journal.items c.self.invariant.tabled.table)
 
 pub push_reserved-requires : goal.push_reserved-requires
 push_reserved-requires g c =
     let room : c.has_room.result ≡ true = search rules in
-    let j = c.self.inside.table.journal in
+    let j = c.self.inside.journal.items in
     let k = c.self.invariant.origins in
-    let left = leb-true _ c.self.inside.table.history (sym c.has_room.ensures ∙ room) in
+    let left = leb-true _ c.self.inside.history (sym (rw (← c.self.view_is) at c.has_room.ensures) ∙ room) in
     omega (arith, left, k.each, k.fits, c.self.inside.origins.ok.0, length-map c.self.inside.origins.items (λ (s : Snapshot g.row.Q.Denot). g.Q.Work.origin s.value), count_by-le-length (λ (y : Event). is_some (addition_of y.what)) j)
 
 pub push_reserved-requires-2 : goal.push_reserved-requires-2
 push_reserved-requires-2 g c =
     let s = c.self.invariant.kept.sound in
-    let j = c.self.inside.table.journal in
+    let j = c.self.inside.journal.items in
     let short = queue_length j c.self.inside.queue.items s.kept.legal s.ordered s.runs in
-    let full : nat_le 256 (length (added j)) ≡ false = sym c.is_full.ensures ∙ c.if-is_full.false in
+    let full : nat_le 256 (length (added j)) ≡ false = sym (c.is_full.ensures c.self.inside.journal.items c.self.invariant.tabled.table) ∙ c.if-is_full.false in
     let few : length (added j) < 256 = grind (arith, nat_tests, full) in
     omega (arith, c.self.inside.queue.ok.0, c.self.invariant.kept.queue_fits)
 
 pub invariant_of-self : goal.invariant_of-self
 invariant_of-self g c =
     let room : c.has_room.result ≡ true = search rules in
-    let j = c.self.inside.table.journal in
+    let j = c.self.inside.journal.items in
     let may : may_follow j (what.Added c.args.handle c.next_ticket-ticket.result) ≡ true =
-    may_add j c.args.handle c.next_ticket-ticket.result c.row_of_handle.result (sym c.is_some.ensures ∙ c.if-is_some.false) c.row_of_handle.ensures.ticket
-    (sym c.is_full.ensures ∙ c.if-is_full.false) c.next_ticket-ticket.ensures in
+    may_add j c.args.handle c.next_ticket-ticket.result c.row_of_handle.result (sym c.is_some.ensures ∙ c.if-is_some.false) (c.row_of_handle.ensures.ticket c.self.inside.journal.items c.self.invariant.tabled.table)
+    (sym (c.is_full.ensures c.self.inside.journal.items c.self.invariant.tabled.table) ∙ c.if-is_full.false) (c.next_ticket-ticket.ensures c.self.inside.journal.items c.self.invariant.tabled.table) in
     let f = λ (s : Snapshot g.row.Q.Denot). g.Q.Work.origin s.value in
     record {
-      kept = rw (c.enter.ensures.history, c.enter.ensures.journal, c.push_reserved-2.ensures.items, c.push_reserved-2.ensures.capacity)
-          (control-added g.O.Ending.code_of g.O.Ending.size_of c.self.inside.table.history j c.args.who c.args.handle c.next_ticket-ticket.result c.self.inside.queue.items c.self.inside.endings.items c.args.work _ _
-          c.self.invariant.kept may (sym c.has_room.ensures ∙ room));
+      tabled = c.enter.ensures.tabled;
+      kept = rw (c.enter.ensures.items, c.push_reserved-2.ensures.items, c.push_reserved-2.ensures.capacity)
+          (control-added g.O.Ending.code_of g.O.Ending.size_of c.self.inside.history j c.args.who c.args.handle c.next_ticket-ticket.result c.self.inside.queue.items c.self.inside.endings.items c.args.work _ _
+          c.self.invariant.kept may (sym (rw (← c.self.view_is) at c.has_room.ensures) ∙ room));
       origins = rw (
-        c.enter.ensures.history,
-        c.enter.ensures.journal,
+        c.enter.ensures.items,
         c.push_reserved.ensures.items,
         c.push_reserved.ensures.capacity,
         c.push_reserved-2.ensures.items,
         map-pushed f c.self.inside.origins.items c.of.result (g.Q.Work.origin c.args.work) (ap g.Q.Work.origin c.of.ensures),
       )
-          (origins-added g.Q.Work.origin c.self.inside.table.history j c.args.who c.args.handle c.next_ticket-ticket.result (map f c.self.inside.origins.items) c.self.inside.queue.items c.args.work _
+          (origins-added g.Q.Work.origin c.self.inside.history j c.args.who c.args.handle c.next_ticket-ticket.result (map f c.self.inside.origins.items) c.self.inside.queue.items c.args.work _
           c.self.invariant.origins may);
     }
 

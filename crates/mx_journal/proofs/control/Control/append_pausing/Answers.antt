@@ -7,12 +7,13 @@ use Rattle.mx_journal.proofs.control.Control.append_pausing.Goals as goal
 pub invariant_of-self : goal.invariant_of-self
 invariant_of-self g c =
     let room : c.has_room.result ≡ true = search rules in
-    let m : may_follow c.self.inside.table.journal c.args.event.what ≡ true = rw (← c.self.view_is) at c.requires.may in
+    let m : may_follow c.self.inside.journal.items c.args.event.what ≡ true = rw (← c.self.view_is) at c.requires.may in
     record {
-      kept = rw (c.enter.ensures.history, c.enter.ensures.journal)
-          (control-pausing g.O.Ending.code_of g.O.Ending.size_of c.self.inside.table.history c.self.inside.table.journal c.args.event.who c.args.event.what c.self.inside.queue.items c.self.inside.endings.items _ _
-          c.self.invariant.kept m c.requires.kind (sym c.has_room.ensures ∙ room));
-      origins = rw (c.enter.ensures.history, c.enter.ensures.journal)
-          (origins-then g.Q.Work.origin c.self.inside.table.history c.self.inside.table.journal c.args.event.who c.args.event.what _ c.self.inside.queue.items c.self.inside.queue.items _
+      tabled = c.enter.ensures.tabled;
+      kept = rw c.enter.ensures.items
+          (control-pausing g.O.Ending.code_of g.O.Ending.size_of c.self.inside.history c.self.inside.journal.items c.args.event.who c.args.event.what c.self.inside.queue.items c.self.inside.endings.items _ _
+          c.self.invariant.kept m c.requires.kind (sym (rw (← c.self.view_is) at c.has_room.ensures) ∙ room));
+      origins = rw c.enter.ensures.items
+          (origins-then g.Q.Work.origin c.self.inside.history c.self.inside.journal.items c.args.event.who c.args.event.what _ c.self.inside.queue.items c.self.inside.queue.items _
           c.self.invariant.origins (pausing_adds_none c.args.event.what c.requires.kind) c.self.invariant.origins.own);
     }

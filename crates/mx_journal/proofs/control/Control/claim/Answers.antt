@@ -16,4 +16,4 @@ returns-clause-claimed g c =
     let e = split_first c.self.inside.queue.items c.remove-work.new.self.items c.remove-work.result some c.remove-work.ensures.value c.remove-work.ensures.items in
     let o = rw e at c.self.invariant.kept.sound.ordered in
     let r = rw e at c.self.invariant.kept.sound.runs in
-    rw c.of-claim.ensures (claimed_first c.self.inside.table.journal c.remove-work.result.0 c.remove-work.new.self.items o.0 r.0)
+    rw c.of-claim.ensures (claimed_first c.self.inside.journal.items c.remove-work.result.0 c.remove-work.new.self.items o.0 r.0)

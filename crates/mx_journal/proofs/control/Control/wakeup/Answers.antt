@@ -8,10 +8,11 @@ pub invariant_of-self : goal.invariant_of-self
 invariant_of-self g c =
     let room : c.has_room.result ≡ true = search rules in
     record {
-      kept = rw (c.enter.ensures.history, c.enter.ensures.journal)
-          (control-quiet g.O.Ending.code_of g.O.Ending.size_of c.self.inside.table.history c.self.inside.table.journal c.args.who what.Wake c.self.inside.queue.items c.self.inside.endings.items _ _
-          c.self.invariant.kept refl (sym c.has_room.ensures ∙ room) (λ _. refl) (λ _. refl) (λ _. refl) refl);
-      origins = rw (c.enter.ensures.history, c.enter.ensures.journal)
-          (origins-then g.Q.Work.origin c.self.inside.table.history c.self.inside.table.journal c.args.who what.Wake _ c.self.inside.queue.items c.self.inside.queue.items _
+      tabled = c.enter.ensures.tabled;
+      kept = rw c.enter.ensures.items
+          (control-quiet g.O.Ending.code_of g.O.Ending.size_of c.self.inside.history c.self.inside.journal.items c.args.who what.Wake c.self.inside.queue.items c.self.inside.endings.items _ _
+          c.self.invariant.kept refl (sym (rw (← c.self.view_is) at c.has_room.ensures) ∙ room) (λ _. refl) (λ _. refl) (λ _. refl) refl);
+      origins = rw c.enter.ensures.items
+          (origins-then g.Q.Work.origin c.self.inside.history c.self.inside.journal.items c.args.who what.Wake _ c.self.inside.queue.items c.self.inside.queue.items _
           c.self.invariant.origins refl c.self.invariant.origins.own);
     }
