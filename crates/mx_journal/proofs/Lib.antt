@@ -1,3 +1,4 @@
 pub mod Controls
 pub mod Remains
 pub mod Origins
+pub mod Returns

@@ -8,8 +8,8 @@ use Rattle.mx_types.specs.declared.event.Event.{Event}
 use Rattle.mx_history.specs.Table.{TableView, IsTableOf, HasCounters}
 use Rattle.mx_history.specs.History.{HasRoomForDue, IsInOrder, Message, Opening, additions, same_ticket, waiting, running, has_ticket}
 
--- what it was opened with, the journal, the bytes of each addition's request, in the order of the additions, the work
--- that waits for a worker, and the endings that wait to be read
+-- what it was opened with, the journal, for each addition, in their order, the bytes of the request of the work that was queued under its
+-- ticket last, the work that waits for a worker, and the endings that wait to be read
 pub record Core (Q O : Type 0) : Type 0 where
   pub opening : Opening
   pub journal : List Event
@@ -24,11 +24,11 @@ pub record Claimed : Type 0 where
   pub slot : ℕ
   pub origin : List ℕ
 
--- the bytes of the request of the work that was added under the ticket: tickets number the additions
+-- the bytes of the request of the work that was queued under the ticket: tickets number the additions
 abbrev pub origin_of : Ticket → List (List ℕ) → Option (List ℕ)
 origin_of t origins = slice_get origins t.0
 
--- each is of the work that was added under its ticket
+-- each is of the work that was queued under its ticket
 abbrev pub AreOwn : {X : Type 0} → (X → List ℕ) → List (List ℕ) → List (Ticket × X) → Type 0
 AreOwn origin origins xs = AllByRecursion (λ x. origin_of x.0 origins ≡ Some (origin x.1)) xs
 

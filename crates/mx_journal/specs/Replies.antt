@@ -1,5 +1,5 @@
 -- The reply that a call's answer stands for.
-use Rattle.std.specs.Prelude.{ℕ, ◌≡◌, Bool, true, false, List, [], ◌∷◌, ◌++◌, Option, Some, None}
+use Rattle.std.specs.Prelude.{ℕ, ◌≡◌, nat_lt, slice_set, if◌then◌else◌, Bool, true, false, List, [], ◌∷◌, ◌++◌, Option, Some, None}
 use Rattle.mx_types.specs.declared.code.Code.{Code}
 use Rattle.mx_types.specs.declared.names.HandleId.{HandleId}
 use Rattle.mx_types.specs.declared.call.Call.{Call}
@@ -11,7 +11,10 @@ use Rattle.mx_journal.specs.declared.replies.InfoReply.{InfoReply}
 use Rattle.mx_journal.specs.declared.replies.InfoReply.TheVariants as info
 use Rattle.mx_journal.specs.declared.replies.FinishReply.{FinishReply}
 use Rattle.mx_journal.specs.declared.replies.FinishReply.TheVariants as finish
-use Rattle.mx_journal.specs.Core.{Claimed}
+use Rattle.mx_journal.specs.Core.{Claimed, queued}
+use Rattle.mx_history.specs.History.{IsInOrder}
+use Rattle.mx_journal.specs.declared.replies.GiveBackReply.{GiveBackReply}
+use Rattle.mx_journal.specs.declared.replies.GiveBackReply.TheVariants as giving
 use Rattle.mx_types.specs.declared.names.Ticket.{Ticket}
 use Rattle.mx_types.specs.declared.reply.Reply.{Reply}
 use Rattle.mx_types.specs.declared.reply.Reply.TheVariants as reply
@@ -87,6 +90,34 @@ abbrev pub IsHandedBack : {Q O : Type 0} → Claimed → O → FinishReply Q O �
 IsHandedBack claim ending finish.Recorded = Unit {0}
 IsHandedBack claim ending (finish.Stale o) = o ≡ ending
 IsHandedBack claim ending (finish.OutOfMemory c o) = (c ≡ claim) × (o ≡ ending)
+
+-- given back work is queued again, or handed back
+abbrev pub is_back : {Q : Type 0} → GiveBackReply Q → Bool
+is_back giving.Back = true
+is_back (giving.Stale _) = false
+
+abbrev pub IsGivenBack : {Q : Type 0} → Q → GiveBackReply Q → Type 0
+IsGivenBack work giving.Back = Unit {0}
+IsGivenBack work (giving.Stale q) = q ≡ work
+
+-- a queue with work at the place of its ticket: behind the lower ones
+abbrev pub in_place : {Q : Type 0} → Ticket → Q → List (Ticket × Q) → List (Ticket × Q)
+in_place t work [] = (t, work) ∷ []
+in_place t work (x ∷ queue) = (if nat_lt x.0.0 t.0 then x ∷ in_place t work queue else (t, work) ∷ x ∷ queue)
+
+-- the queue after work was given back
+abbrev pub queue_given : {Q : Type 0} → GiveBackReply Q → List (Ticket × Q) → Ticket → Q → List (Ticket × Q)
+queue_given giving.Back queue t work = in_place t work queue
+queue_given (giving.Stale _) queue t work = queue
+
+-- the origins after work was given back: that of its ticket is this work's
+abbrev pub origins_given : {Q : Type 0} → GiveBackReply Q → List (List ℕ) → Ticket → List ℕ → List (List ℕ)
+origins_given giving.Back origins t origin = slice_set origins t.0 origin
+origins_given (giving.Stale _) origins t origin = origins
+
+-- what was first in the queue, and is given back, is first again
+abbrev pub GiveBackUndoesClaim : Type 0 → Type 0
+GiveBackUndoesClaim Q = (t : Ticket) (work : Q) (rest : List (Ticket × Q)) → IsInOrder (queued ((t, work) ∷ rest)) → queue_given giving.Back rest t work ≡ (t, work) ∷ rest
 
 abbrev pub reply_of_info : {O : Type 0} → (O → Code) → (O → ℕ) → InfoReply O → Reply
 reply_of_info code size (info.Message h t o left) = reply.Message h t (code o) (size o) left

@@ -5,13 +5,15 @@ ghost use Rattle.mx_types.specs.declared.call.Call.{Call};
 ghost use Rattle.mx_history.specs.History.{HasRoomForDue, additions, may_follow, has_room, needs, has_ticket, is_maker, made_by, running, added, waiting};
 ghost use Rattle.mx_history.specs.Answers.{handle_of, Answers, is_ready, look_of, state_of};
 ghost use Rattle.mx_journal.specs.Core.{claimed, queued, still_running, still_waiting, origin_of, AreOwn, IsSound, IsTabled};
-ghost use Rattle.mx_journal.specs.Replies.{pausing_call, is_pausing, journal_after_pausing, IsPausingAnswer, reply_of_info, ending_read, ending_recorded, IsHandedBack, reply_of_finish, origins_added, queue_added, handed_back, work_back, reply_of_add, reply_of_remove, reply_of_pause, reply_of_wakeup};
+ghost use Rattle.mx_journal.specs.Replies.{pausing_call, is_back, queue_given, origins_given, IsGivenBack, GiveBackUndoesClaim, is_pausing, journal_after_pausing, IsPausingAnswer, reply_of_info, ending_read, ending_recorded, IsHandedBack, reply_of_finish, origins_added, queue_added, handed_back, work_back, reply_of_add, reply_of_remove, reply_of_pause, reply_of_wakeup};
 ghost use Rattle.mx_history.specs.Receipts.{comes_with_event, lacks_memory};
 ghost use Rattle.mx_history.specs.Slots.{slot_of};
 
 use crate::claim::Claim;
-use crate::pairs::drop_ticket;
-use crate::replies::{AddReply, FinishReply, InfoReply, PauseReply, RemoveReply, WakeupReply};
+use crate::pairs::{drop_ticket, has_ticket, insert_ticket};
+use crate::replies::{
+    AddReply, FinishReply, GiveBackReply, InfoReply, PauseReply, RemoveReply, WakeupReply,
+};
 use mx_history::Log;
 use mx_table::Table;
 use mx_types::{
@@ -28,7 +30,7 @@ pub struct Control<Q: Work, O: Ending> {
     history: u32,
     journal: Vec<Event>,
     table: Table,
-    /// The work of each addition, as it was, for contracts alone: it has no size.
+    /// The work that was queued last for each addition, as it was then, for contracts alone: it has no size.
     origins: Vec<Snapshot<Q>>,
     queue: Vec<(Ticket, Q)>,
     endings: Vec<(Ticket, O)>,
@@ -438,6 +440,56 @@ impl<Q: Work + Drop, O: Ending + Drop> Control<Q, O> {
         let claim = Claim::of(row.handle, ticket, row.slot, &work);
         Some((claim, work))
     }
+
+    /// Puts claimed work back into the queue, to the place of its ticket. It makes no event, and can't be refused for want
+    /// of memory, since its place was kept.
+    ///
+    /// # Refusals
+    ///
+    /// `Stale`: the claimed addition was removed, or has ended, or its work is queued. The work is handed back, the claim is
+    /// spent, and nothing changes.
+    pub fn give_back(&mut self, claim: Claim<Q>, work: Q) -> GiveBackReply<Q>
+        requires origin { Q.origin work ≡ claim.origin }
+        ensures opening { self.new.opening ≡ self.old.opening }
+        ensures journal { self.new.journal ≡ self.old.journal }
+        ensures endings { self.new.endings ≡ self.old.endings }
+        ensures back { is_back result ≡ has_ticket claim.ticket (claimed self.old.journal self.old.queue) }
+        ensures queue { self.new.queue ≡ queue_given result self.old.queue claim.ticket work }
+        ensures handed { IsGivenBack work result }
+        ensures unchanged { is_back result ≡ false → self.new ≡ self.old }
+        ensures origins { self.new.origins ≡ origins_given result self.old.origins claim.ticket claim.origin }
+        ensures same { origin_of claim.ticket self.old.origins ≡ Some claim.origin → self.new.origins ≡ self.old.origins }
+        ensures own { AreOwn O.origin self.old.origins self.old.endings → AreOwn O.origin self.new.origins self.new.endings }
+    {
+        let ticket = claim.ticket();
+        if !self.is_claimed(ticket) {
+            return GiveBackReply::Stale(work);
+        }
+        self.origins[ticket.0 as usize] = Snapshot::of(&work);
+        insert_ticket(&mut self.queue, ticket, work);
+        GiveBackReply::Back
+    }
+
+    // Whether the ticket runs and its work isn't queued.
+    fn is_claimed(&self, ticket: Ticket) -> bool
+        ensures { result ≡ has_ticket ticket (claimed self.now.journal self.now.queue) }
+    {
+        self.runs(ticket) && !has_ticket(&self.queue, ticket)
+    }
+
+    fn runs(&self, ticket: Ticket) -> bool
+        ensures { result ≡ has_ticket ticket (running self.now.journal) }
+    {
+        let Some(row) = self.table.row_of_ticket(ticket) else {
+            return false;
+        };
+        row.phase.is_open()
+    }
+
+    /// A law: work that is given back right after its claim stands where it stood, first in the queue.
+    pub fn give_back_undoes_claim()
+        ensures { GiveBackUndoesClaim Q }
+    {}
 
     /// Whether an event at or after the mark lets a poll return.
     pub fn poll_ready(&self, since: u32) -> bool

@@ -8,6 +8,8 @@ mod replies;
 
 pub use crate::claim::Claim;
 pub use crate::control::Control;
-pub use crate::replies::{AddReply, FinishReply, InfoReply, PauseReply, RemoveReply, WakeupReply};
+pub use crate::replies::{
+    AddReply, FinishReply, GiveBackReply, InfoReply, PauseReply, RemoveReply, WakeupReply,
+};
 pub use mx_history::{Log, Phase, Row, VecLog, definitions, laws};
 pub use mx_table::Table;

@@ -60,6 +60,13 @@ pub enum FinishReply<Q: Work, O> {
     OutOfMemory(Claim<Q>, O),
 }
 
+/// Of `give_back`: the work is queued again, or it is stale and handed back.
+#[derive(Drop)]
+pub enum GiveBackReply<Q> {
+    Back,
+    Stale(Q),
+}
+
 impl<Q> AddReply<Q> {
     /// The reply, without what it hands back.
     pub fn reply(&self) -> Reply
