@@ -4,6 +4,7 @@ use denote.RattleType.{RattleType}
 use denote.Param.Send.{IsSend, IsSync, struct_send, struct_sync, sendable}
 use denote.Struct.Declared.{shape}
 use Rattle.std.proofs.Crossing.{crosses}
+use Rattle.mx_types.proofs.event.Event.TheSendSync.{the_send as event_send}
 use Rattle.mx_table.proofs.table.Table.TheSendSync.{the_send as table_send}
 use Rattle.mx_journal.specs.contracts.control.Control as Control
 use Rattle.mx_journal.specs.contracts.control.Control.TheInside as Inside
@@ -37,7 +38,7 @@ use Rattle.mx_types.specs.declared.work.Ending as ending
 inside_send : (Q O : RattleType) (g : work.Ghosts Q.Denot) (h : ending.Ghosts O.Denot) → IsSend Q → IsSend O → IsSend (Inside.the_field Q O g h).row
 inside_send Q O g h q o = struct_send (shape (Inside.the_type Q O g h)) (
   search (sendable, crosses) depth 40,
-  (search (sendable, crosses) depth 40, (search (table_send, sendable, crosses) depth 40, (search (sendable, crosses) depth 40, (search (sendable, crosses) depth 40, (search (sendable, crosses) depth 40, tt))))),
+  (search (event_send, sendable, crosses) depth 40, (search (table_send, sendable, crosses) depth 40, (search (sendable, crosses) depth 40, (search (sendable, crosses) depth 40, (search (sendable, crosses) depth 40, tt))))),
 )
 
 pub control_send : (Q O : RattleType) (g : work.Ghosts Q.Denot) (h : ending.Ghosts O.Denot) → IsSend Q → IsSend O → IsSend (Control.the_row Q O g h)
