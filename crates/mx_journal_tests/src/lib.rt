@@ -2,4 +2,6 @@
 #![tactic(auto)]
 
 #[cfg(test)]
+mod back;
+#[cfg(test)]
 mod tests;
