@@ -8,12 +8,12 @@ use Rattle.mx_types.specs.declared.event.Who.TheVariants as who
 use Rattle.mx_types.specs.declared.event.Event.{Event}
 use Rattle.mx_journal.specs.Receipts.{IsPlaced}
 use Rattle.mx_board.specs.Board.{ReaderState, caught_up}
-use Rattle.mx_multi.specs.Shared.{Engine}
-use Rattle.mx_multi.specs.Lock.{maker, engine_of, founder_at, child}
+use Rattle.mx_lock.specs.Shared.{Engine}
+use Rattle.mx_lock.specs.Lock.{maker, engine_of, founder_at, child}
 use Rattle.mx_multi.specs.Seats.{MultiView, SeatView, IsSeat, IsReceived, IsNew}
 use Rattle.mx_multi.specs.Opening.{maker_of, first_of, AreReaders, AreNew}
 use Rattle.mx_multi.proofs.Standing.{seat_of}
-use Rattle.mx_multi.specs.declared.key_view.KeyView.{KeyView}
+use Rattle.mx_lock.specs.declared.key_view.KeyView.{KeyView}
 
 pub key_maker : (worker : Bool) (n : ℕ) → n < 16 → maker (first_of worker + n) ≡ maker_of worker n
 key_maker false n lt =

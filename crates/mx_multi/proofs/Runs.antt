@@ -6,26 +6,39 @@ use Rattle.mx_types.specs.declared.call.Receipt.{Receipt}
 use Rattle.mx_types.specs.declared.reply.Reply.{Reply}
 use Rattle.mx_board.proofs.Prefixes.{prefix_self, prefix_trans}
 use Rattle.mx_multi.specs.declared.laws.Step.{Step}
-use Rattle.mx_multi.specs.Seats.{SeatView, HasReceipts, Stands, Sees, Ran}
+use Rattle.mx_multi.specs.Seats.{SeatView, HasReceipts, Stands, Sees, Later, Ran}
 use Rattle.mx_multi.specs.Laws.{call_of, RanScript}
 
-ran_none : {Q O : Type 0} (s : SeatView Q O) → Ran s s []
-ran_none s = record { of = refl; who = refl; later = prefix_self s.seen; legal = λ l. l; claims = refl; placed = λ mine h. subst (HasReceipts s) (sym (append-nil mine)) h }
+pub later_none : {Q O : Type 0} (s : SeatView Q O) → Later s s []
+later_none s = record { of = refl; who = refl; later = prefix_self s.seen; legal = λ l. l; placed = λ mine h. subst (HasReceipts s) (sym (append-nil mine)) h }
 
-ran_more : {Q O : Type 0} (s t u : SeatView Q O) (more : List Receipt) (call : Call) (reply : Reply) → Ran s t more → Stands t u call reply → Ran s u (more ++ record { cut = length u.seen; call = call; reply = reply } ∷ [])
-ran_more s t u more call reply r h =
+-- one call more
+pub later_more : {Q O : Type 0} (s t u : SeatView Q O) (more : List Receipt) (call : Call) (reply : Reply) → Later s t more → Stands t u call reply → Later s u (more ++ record { cut = length u.seen; call = call; reply = reply } ∷ [])
+later_more s t u more call reply r h =
     let new : Receipt = record { cut = length u.seen; call = call; reply = reply } in
     record {
       of = h.of ∙ r.of;
       who = h.who ∙ r.who;
       later = prefix_trans s.seen t.seen u.seen r.later h.later;
       legal = λ _. h.legal;
-      claims = h.claims ∙ r.claims;
       placed = λ mine p. subst (HasReceipts u) (append_assoc mine more (new ∷ [])) (h.placed (mine ++ more) (r.placed mine p));
     }
 
+-- a journal more that was seen
+pub later_sees : {Q O : Type 0} (s t u : SeatView Q O) (more : List Receipt) → Later s t more → Sees t u → Later s u more
+later_sees s t u more r h = record {
+  of = h.of ∙ r.of;
+  who = h.who ∙ r.who;
+  later = prefix_trans s.seen t.seen u.seen r.later h.found.later;
+  legal = λ _. h.legal;
+  placed = λ mine p. h.placed (mine ++ more) (r.placed mine p);
+}
+
+ran_more : {Q O : Type 0} (s t u : SeatView Q O) (more : List Receipt) (call : Call) (reply : Reply) → Ran s t more → Stands t u call reply → Ran s u (more ++ record { cut = length u.seen; call = call; reply = reply } ∷ [])
+ran_more s t u more call reply r h = record { run = later_more s t u more call reply r.run h; claims = h.claims ∙ r.claims }
+
 pub script_none : {Q O : Type 0} (s : SeatView Q O) → RanScript s s []
-script_none s = record { more = []; ran = ran_none s; calls = refl }
+script_none s = record { more = []; ran = record { run = later_none s; claims = refl }; calls = refl }
 
 -- one step more
 pub script_more : {Q O : Type 0} (s t u : SeatView Q O) (script : List Step) (n i : ℕ) (d : Step) → n ≡ i → i < length script → RanScript s t (take n script) → (reply : Reply) × Stands t u (call_of (get_or script i d)) reply → RanScript s u (take (n + 1) script)
@@ -44,14 +57,7 @@ script_more s t u script n i d e lt r h =
 pub script_met : {Q O : Type 0} (s t u : SeatView Q O) (script : List Step) → RanScript s t script → Sees t u → u.claims ≡ t.claims → RanScript s u script
 script_met s t u script r h claims = record {
   more = r.more;
-  ran = record {
-    of = h.of ∙ r.ran.of;
-    who = h.who ∙ r.ran.who;
-    later = prefix_trans s.seen t.seen u.seen r.ran.later h.found.later;
-    legal = λ _. h.legal;
-    claims = claims ∙ r.ran.claims;
-    placed = λ mine p. h.placed (mine ++ r.more) (r.ran.placed mine p);
-  };
+  ran = record { run = later_sees s t u r.more r.ran.run h; claims = claims ∙ r.ran.claims };
   calls = r.calls;
 }
 

@@ -1,66 +1,21 @@
 -- A multi handle may be shared by threads, and a seat may go to another thread, where work and endings may go to one.
--- `search` finds it for what these are made of, but not for the control state, so each step stands here.
 use denote.RattleType.{RattleType}
 use denote.Param.Send.{IsSend, IsSync, struct_send, struct_sync, sendable}
 use denote.Struct.Declared.{shape}
 use Rattle.std.proofs.Crossing.{crosses}
-use Rattle.mx_types.proofs.event.Event.TheSendSync.{the_send as event_send}
-use Rattle.mx_table.proofs.table.Table.TheSendSync.{the_send as table_send}
-use Rattle.mx_journal.specs.contracts.control.Control as Control
-use Rattle.mx_journal.specs.contracts.control.Control.TheInside as Inside
-use Rattle.crossbeam_channel.proofs.flavors.array.ruled.Sending.TheSendSync.{the_send as sending_send, the_sync as sending_sync}
-use Rattle.crossbeam_channel.proofs.flavors.array.ruled.Receiving.TheSendSync.{the_send as receiving_send, the_sync as receiving_sync}
-use Rattle.crossbeam_channel.proofs.flavors.array.ruled.Both.TheSendSync.{the_send as both_send, the_sync as both_sync}
-use Rattle.crossbeam_channel.proofs.flavors.array.calls.Array.TheSendSync.{the_send as array_send, the_sync as array_sync}
-use Rattle.crossbeam_channel.proofs.flavors.array.Stamps.TheSendSync.{the_send as stamps_send, the_sync as stamps_sync}
-use Rattle.crossbeam_channel.proofs.flavors.array.Key.TheSendSync.{the_send as key_send, the_sync as key_sync}
+use Rattle.crossbeam_channel.proofs.flavors.array.Key.TheSendSync.{the_send as key_send}
 use Rattle.crossbeam_channel.proofs.flavors.array.Doing.TheSendSync.{the_send as doing_send}
-use Rattle.crossbeam_channel.proofs.flavors.array.Whole.TheSendSync.{the_send as whole_send, the_sync as whole_sync}
-use Rattle.crossbeam_channel.proofs.flavors.array.Rounds.TheSendSync.{the_send as rounds_send, the_sync as rounds_sync}
-use Rattle.crossbeam_channel.proofs.flavors.array.Rows.TheSendSync.{the_send as rows_send, the_sync as rows_sync}
 use Rattle.atomic_table.proofs.badge.Badge.TheSendSync.{the_send as badge_send}
 use Rattle.atomic_table.proofs.shared.Seat.TheSendSync.{the_send as chair_send}
-use Rattle.atomic_table.proofs.shared.Shared.TheSendSync.{the_send as words_send, the_sync as words_sync}
-use Rattle.crossbeam_channel.proofs.bells.Bell.TheSendSync.{the_send as bell_send, the_sync as bell_sync}
-use Rattle.mx_board.proofs.writer.BoardWriter.TheSendSync.{the_send as board_send}
-use Rattle.mx_multi.specs.contracts.lock.shared.Shared as Shared
-use Rattle.mx_multi.specs.contracts.lock.shared.Shared.TheInside as SharedInside
 use Rattle.mx_board.proofs.journal.JournalMark.TheSendSync.{the_sync as mark_sync}
 use Rattle.mx_board.proofs.reader.BoardReader.TheSendSync.{the_send as reader_send}
-use Rattle.mx_multi.specs.contracts.lock.Lock as Lock
+use Rattle.mx_lock.proofs.Sends.{shared_send, lock_sync}
 use Rattle.mx_multi.specs.contracts.seat.Seat as Seat
 use Rattle.mx_multi.specs.contracts.seat.Seat.TheInside as SeatInside
 use Rattle.mx_multi.specs.contracts.multi.Multi as Multi
 use Rattle.mx_multi.specs.contracts.multi.Multi.TheInside as MultiInside
 use Rattle.mx_types.specs.declared.work.Work as work
 use Rattle.mx_types.specs.declared.work.Ending as ending
-
-inside_send : (Q O : RattleType) (g : work.Ghosts Q.Denot) (h : ending.Ghosts O.Denot) → IsSend Q → IsSend O → IsSend (Inside.the_field Q O g h).row
-inside_send Q O g h q o = struct_send (shape (Inside.the_type Q O g h)) (
-  search (sendable, crosses) depth 40,
-  (search (event_send, sendable, crosses) depth 40, (search (table_send, sendable, crosses) depth 40, (search (sendable, crosses) depth 40, (search (sendable, crosses) depth 40, (search (sendable, crosses) depth 40, tt))))),
-)
-
-pub control_send : (Q O : RattleType) (g : work.Ghosts Q.Denot) (h : ending.Ghosts O.Denot) → IsSend Q → IsSend O → IsSend (Control.the_row Q O g h)
-control_send Q O g h q o =
-    let a = inside_send Q O g h q o in
-    search (sendable) depth 40 fits 20000
-
-shared_inside : (Q O : RattleType) (g : work.Ghosts Q.Denot) (h : ending.Ghosts O.Denot) → IsSend Q → IsSend O → IsSend (SharedInside.the_field Q O g h).row
-shared_inside Q O g h q o = struct_send (shape (SharedInside.the_type Q O g h)) (control_send Q O g h q o, (board_send, tt))
-
-pub shared_send : (Q O : RattleType) (g : work.Ghosts Q.Denot) (h : ending.Ghosts O.Denot) → IsSend Q → IsSend O → IsSend (Shared.the_row Q O g h)
-shared_send Q O g h q o =
-    let a = shared_inside Q O g h q o in
-    search (sendable) depth 40 fits 20000
-
-lock_field : (Q O : RattleType) (g : work.Ghosts Q.Denot) (h : ending.Ghosts O.Denot) → IsSend Q → IsSend O → IsSync (Lock.the_field Q O g h).row
-lock_field Q O g h q o =
-    let s = shared_send Q O g h q o in
-    struct_sync (shape (Lock.the_type Q O g h)) (
-      search (sending_send, sending_sync, receiving_send, receiving_sync, both_send, both_sync, array_send, array_sync, stamps_send, stamps_sync, key_send, key_sync, doing_send, whole_send, whole_sync, rounds_send, rounds_sync, rows_send, rows_sync, badge_send, chair_send, words_send, words_sync, bell_send, bell_sync, sendable, crosses) depth 40 fits 20000,
-      (search (sending_send, sending_sync, receiving_send, receiving_sync, both_send, both_sync, array_send, array_sync, stamps_send, stamps_sync, key_send, key_sync, doing_send, whole_send, whole_sync, rounds_send, rounds_sync, rows_send, rows_sync, badge_send, chair_send, words_send, words_sync, bell_send, bell_sync, sendable, crosses) depth 40 fits 20000, tt),
-    )
 
 seat_inside : (Q O : RattleType) (g : work.Ghosts Q.Denot) (h : ending.Ghosts O.Denot) → IsSend Q → IsSend O → IsSend (SeatInside.the_field Q O g h).row
 seat_inside Q O g h q o =
@@ -74,7 +29,7 @@ seat_send Q O g h q o =
 
 multi_inside : (Q O : RattleType) (g : work.Ghosts Q.Denot) (h : ending.Ghosts O.Denot) → IsSend Q → IsSend O → IsSync (MultiInside.the_field Q O g h).row
 multi_inside Q O g h q o = struct_sync (shape (MultiInside.the_type Q O g h)) (
-  lock_field Q O g h q o,
+  lock_sync Q O g h q o,
   (mark_sync, (search (sendable, crosses) depth 40, (search (sendable, crosses) depth 40, (search (sendable, crosses) depth 40, (search (sendable, crosses) depth 40, tt))))),
 )
 

@@ -22,11 +22,11 @@ use Rattle.mx_history.proofs.Lists.{same-is, same-refl}
 use Rattle.mx_history.proofs.Placing.{call_adds_at_most_one, call_is_placed, placed_stays}
 use Rattle.mx_board.specs.Board.{ReaderState, Reads, caught_up}
 use Rattle.mx_board.proofs.Prefixes.{prefix_self, prefix_trans}
-use Rattle.mx_multi.specs.Shared.{SharedState, Engine, content, HasNoOther, Leaves, IsLeft}
-use Rattle.mx_multi.specs.Lock.{maker, engine_of, newly, Took, given, released}
+use Rattle.mx_lock.specs.Shared.{SharedState, Engine, content, HasNoOther, Leaves, IsLeft}
+use Rattle.mx_lock.specs.Lock.{maker, engine_of, newly, Took, given, released}
 use Rattle.mx_multi.specs.Seats.{MultiView, SeatView, IsSeat, IsReceived, Finds, Stands, Sees, ClaimsOnly}
-use Rattle.mx_multi.specs.declared.key_view.KeyView.{KeyView}
-use Rattle.mx_multi.proofs.Keys.{longer}
+use Rattle.mx_lock.specs.declared.key_view.KeyView.{KeyView}
+use Rattle.mx_lock.proofs.Keys.{longer}
 
 -- 1. Of seats as values.
 

@@ -15,9 +15,9 @@ use Rattle.mx_journal.specs.History.{is_legal, made_by}
 use Rattle.mx_journal.specs.Answers.{Answers, is_ready}
 use Rattle.mx_journal.specs.Receipts.{is_poll, mark, IsPlaced}
 use Rattle.mx_board.specs.Board.{ReaderState}
-use Rattle.mx_multi.specs.Shared.{SharedState, Engine}
-use Rattle.mx_multi.specs.Lock.{maker, engine_of}
-use Rattle.mx_multi.specs.declared.key_view.KeyView.{KeyView}
+use Rattle.mx_lock.specs.Shared.{SharedState, Engine}
+use Rattle.mx_lock.specs.Lock.{maker, engine_of}
+use Rattle.mx_lock.specs.declared.key_view.KeyView.{KeyView}
 
 -- which engine it is: its lock, its journal, and what it was opened with
 pub record MultiView (Q O : Type 0) : Type 0 where
@@ -96,11 +96,15 @@ pub record IsNew {Q O : Type 0} (m : MultiView Q O) (w : Who) (s : SeatView Q O)
   pub polled : s.polled ≡ 0
   pub claims : s.claims ≡ []
 
--- from s on, calls of the seat were answered, with these receipts: they stand behind those that it had
-pub record Ran {Q O : Type 0} (s t : SeatView Q O) (more : List Receipt) : Type 0 where
+-- the same seat, later: further calls of it were answered, with these receipts, which stand behind those that it had
+pub record Later {Q O : Type 0} (s t : SeatView Q O) (more : List Receipt) : Type 0 where
   pub of : t.of ≡ s.of
   pub who : t.who ≡ s.who
   pub later : IsPrefix s.seen t.seen
   pub legal : is_legal s.seen ≡ true → is_legal t.seen ≡ true
-  pub claims : t.claims ≡ s.claims
   pub placed : (mine : List Receipt) → HasReceipts s mine → HasReceipts t (mine ++ more)
+
+-- from s on, calls of the seat were answered, with these receipts, and it claimed no ticket
+pub record Ran {Q O : Type 0} (s t : SeatView Q O) (more : List Receipt) : Type 0 where
+  pub run : Later s t more
+  pub claims : t.claims ≡ s.claims

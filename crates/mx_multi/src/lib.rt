@@ -2,9 +2,7 @@
 //! and in the endings that are recorded.
 #![tactic(auto)]
 
-mod key_view;
 mod laws;
-mod lock;
 mod multi;
 mod open;
 mod seat;

@@ -7,15 +7,15 @@ ghost use Rattle.mx_journal.specs.Answers.{handle_of};
 ghost use Rattle.mx_journal.specs.Slots.{slot_of};
 ghost use Rattle.mx_journal.specs.Replies.{handed_back, work_back, IsHandedBack, reply_of_add, reply_of_finish, reply_of_info, reply_of_pause, reply_of_remove, reply_of_wakeup};
 ghost use Rattle.mx_board.specs.Board.{AreOfOneJournal, OneBeginsOther};
-ghost use Rattle.mx_multi.specs.Shared.{SharedState};
+ghost use Rattle.mx_lock.specs.Shared.{SharedState};
 ghost use Rattle.mx_multi.specs.Seats.{Stands, Sees, ClaimsOnly};
 
-use crate::lock::{
-    Addition, Deed, Finishing, Lock, Pausing, Reading, Removal, Shared, Unpausing, Waking,
-};
 use crate::seat::{Seat, WorkerSeat};
 use mx_board::{JournalMark, are_of_one_journal};
 use mx_journal::{AddReply, Claim, FinishReply, InfoReply, PauseReply, RemoveReply, WakeupReply};
+use mx_lock::{
+    Addition, Deed, Finishing, Lock, Pausing, Reading, Removal, Shared, Unpausing, Waking,
+};
 use mx_types::{AddedHandles, Ending, HandleId, Look, State, Ticket, Work};
 use std::marker::Model;
 use std::sync::{Condvar, Mutex, Wait};
@@ -46,15 +46,11 @@ pub struct Multi<Q: Work + Drop, O: Ending + Drop> {
 }
 
 impl<Q: Work + Drop, O: Ending + Drop> Model for Multi<Q, O> {
-    ghost use Rattle.crossbeam_channel.specs.Claims.{IsKeyed};
-    ghost use Rattle.crossbeam_channel.specs.Ends.{sends_on};
     ghost use Rattle.mx_multi.specs.Seats.{MultiView};
 
     ghost Value = { MultiView Q O };
 
-    ghost view = { λ m. record { table = (sends_on m.lock.into).stamps.shared.table_id; keys = (sends_on m.lock.into).stamps.shared.key; engine = record { book = m.start.book; opening = record { history = m.history } } } };
-
-    ghost invariant = { λ m. IsKeyed (sends_on m.lock.into) };
+    ghost view = { λ m. record { table = m.lock.table; keys = m.lock.keys; engine = record { book = m.start.book; opening = record { history = m.history } } } };
 }
 
 impl<Q: Work + Drop, O: Ending + Drop> Multi<Q, O> {

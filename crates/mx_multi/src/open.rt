@@ -1,15 +1,14 @@
 //! Opening and closing a multi handle.
 ghost use Rattle.std.specs.Prelude.{◌≡◌, ◌≤◌, ◌+◌, [], Bool, true, false, vec_len, Err, IfOk, IfErr};
 ghost use Rattle.std.specs.VecDeque.{deque_len};
-ghost use Rattle.crossbeam_channel.specs.Claims.{view, IsSeatAt};
-ghost use Rattle.crossbeam_channel.specs.Ends.{sends_on};
-ghost use Rattle.mx_multi.specs.Lock.{engine_of, founder_at};
+ghost use Rattle.crossbeam_channel.specs.Claims.{view};
+ghost use Rattle.mx_lock.specs.Lock.{engine_of, founder_at, IsKeyOf};
 ghost use Rattle.mx_multi.specs.Opening.{are_within, first_of, maker_of, AreNew, AreReaders, IsOpened};
 
-use crate::lock::{Key, Lock, Shared};
 use crate::multi::Multi;
 use crate::seat::{Seat, WorkerSeat};
 use mx_board::BoardReader;
+use mx_lock::{Key, Lock, Shared};
 use mx_types::{Ending, OutOfMemory, Who, Work};
 use std::alloc::Global;
 use std::collections::VecDeque;
@@ -90,12 +89,12 @@ fn seated<Q: Work + Drop, O: Ending + Drop>(
     worker: bool,
 ) -> Result<Vec<Seat<Q, O>>, OutOfMemory>
     requires few { deque_len readers ≤ 16 }
-    requires own { IsSeatAt (sends_on lock.now.into) founder.old }
+    requires own { IsKeyOf lock.now founder.old }
     requires founder { view founder.old ≡ founder_at (engine_of (view founder.old)) (first_of worker) }
     requires readers { AreReaders worker 0 (engine_of (view founder.old)).book readers.items }
-    ensures kept { IsSeatAt (sends_on lock.now.into) founder.new }
+    ensures kept { IsKeyOf lock.now founder.new }
     ensures next { IfOk result (λ v. view founder.new ≡ founder_at (engine_of (view founder.old)) (first_of worker + vec_len v)) }
-    ensures new { IfOk result (λ v. AreNew (record { table = (sends_on lock.now.into).stamps.shared.table_id; keys = (sends_on lock.now.into).stamps.shared.key; engine = engine_of (view founder.old) }) worker 0 v.items) }
+    ensures new { IfOk result (λ v. AreNew (record { table = lock.now.table; keys = lock.now.keys; engine = engine_of (view founder.old) }) worker 0 v.items) }
     ensures all { IfOk result (λ v. vec_len v ≡ deque_len readers) }
 {
     let mut readers = readers;
@@ -114,9 +113,9 @@ fn seated<Q: Work + Drop, O: Ending + Drop>(
 // Lets keys go, so that those of the workers come next.
 fn skip<Q: Work + Drop, O: Ending + Drop>(lock: &Lock<Q, O>, founder: &mut Key<Q, O>, seats: u8)
     requires few { seats ≤ 16 }
-    requires own { IsSeatAt (sends_on lock.now.into) founder.old }
+    requires own { IsKeyOf lock.now founder.old }
     requires founder { view founder.old ≡ founder_at (engine_of (view founder.old)) (1 + seats) }
-    ensures kept { IsSeatAt (sends_on lock.now.into) founder.new }
+    ensures kept { IsKeyOf lock.now founder.new }
     ensures next { view founder.new ≡ founder_at (engine_of (view founder.old)) 17 }
 {
     for spare in seats..16 {

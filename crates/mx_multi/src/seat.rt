@@ -2,8 +2,8 @@
 ghost use Rattle.std.specs.Prelude.{◌≡◌, length, IfOk};
 ghost use Rattle.mx_multi.specs.Seats.{IsReceived};
 
-use crate::lock::Key;
 use mx_board::BoardReader;
+use mx_lock::Key;
 use mx_types::{Ending, OutOfMemory, Work};
 use std::alloc::Global;
 use std::marker::Model;
@@ -21,7 +21,7 @@ pub struct Seat<Q: Work + Drop, O: Ending + Drop> {
 
 impl<Q: Work + Drop, O: Ending + Drop> Model for Seat<Q, O> {
     ghost use Rattle.std.specs.Prelude.{◌≡◌, []};
-    ghost use Rattle.mx_multi.specs.Lock.{engine_of};
+    ghost use Rattle.mx_lock.specs.Lock.{engine_of};
     ghost use Rattle.mx_multi.specs.Seats.{SeatView, IsReceived, IsSeat};
 
     ghost Value = { SeatView Q O };

@@ -1,5 +1,5 @@
 use Rattle.std.proofs.Common.{◌∙◌, ◌+◌, ◌∷◌, [], ap, sym, subst, length, length-append, arith}
-use Rattle.mx_multi.specs.Shared.{SharedState}
+use Rattle.mx_lock.specs.Shared.{SharedState}
 use Rattle.mx_multi.specs.Opening.{AreReaders}
 use Rattle.mx_multi.proofs.Opening.{readers_more, reader_is}
 use Rattle.mx_multi.proofs.open.readers.Goals as goal

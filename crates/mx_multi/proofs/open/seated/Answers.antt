@@ -1,8 +1,7 @@
 use Rattle.std.proofs.Common.{◌≡◌, ◌∙◌, ◌+◌, ap, sym, subst, refl, length, arith}
 use Rattle.std.specs.Prelude.{vec_len}
 use Rattle.crossbeam_channel.specs.Claims.{view}
-use Rattle.crossbeam_channel.specs.Ends.{sends_on}
-use Rattle.mx_multi.specs.Lock.{engine_of, founder_at, parent, child}
+use Rattle.mx_lock.specs.Lock.{engine_of, founder_at, parent, child}
 use Rattle.mx_multi.specs.Seats.{MultiView}
 use Rattle.mx_multi.specs.Opening.{first_of, AreReaders, AreNew}
 use Rattle.mx_multi.proofs.Opening.{new_more, new_at, is_new, length_more}
@@ -20,7 +19,7 @@ loop-reader-preserved g c =
     let more : vec_len c.push.new.self ≡ n + 1 = c.in_ok-push.ensures.len in
     let next : first_of c.args.worker + n + 1 ≡ first_of c.args.worker + vec_len c.push.new.self = omega (arith, more) in
     let h = subst (AreReaders c.args.worker n e.book) c.in-Some.ensures.items inv.readers in
-    let m : MultiView g.row.Q.Denot g.row.O.Denot = record { table = (sends_on c.args.lock.now.into).stamps.shared.table_id; keys = (sends_on c.args.lock.now.into).stamps.shared.key; engine = e } in
+    let m : MultiView g.row.Q.Denot g.row.O.Denot = record { table = c.args.lock.now.table; keys = c.args.lock.now.keys; engine = e } in
     let key = c.another-key.result in
     let of : MultiView g.row.Q.Denot g.row.O.Denot = record { table = key.table_id; keys = key.me.0.of; engine = engine_of (view key) } in
     let at : n ≡ 0 + length was = omega (arith, inv.made) in

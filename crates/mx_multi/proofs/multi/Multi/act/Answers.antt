@@ -1,25 +1,24 @@
 use Rattle.std.proofs.Common.{◌∙◌, ap, sym, refl}
 use Rattle.std.proofs.lemmas.Bool.{false≢true}
-use Rattle.crossbeam_channel.specs.Claims.{IsSeatAt}
-use Rattle.crossbeam_channel.specs.Ends.{sends_on}
+use Rattle.mx_lock.specs.Lock.{IsKeyOf}
 use Rattle.mx_multi.specs.Seats.{SeatView}
 use Rattle.mx_multi.proofs.Standing.{grows_by, begins_by, seat_after, received_more, lock_stands, same_of, engine_kept, stands_from, quiet_mark}
 use Rattle.mx_multi.proofs.multi.Multi.act.Goals as goal
 
 pub leave-requires-clause-grows : goal.leave-requires-clause-grows
 leave-requires-clause-grows g c =
-    grows_by _ _ c.seat.inside.reader c.in-Some.taken.shared c.seat.invariant.0 c.in-Some.ensures.entered.0 c.run-taken.result.0.shared _ _ _ c.who-who.ensures.is c.run-taken.ensures.leaves
+    grows_by _ _ c.seat.inside.reader c.in-Some.taken c.seat.invariant.0 c.in-Some.ensures.entered.0 c.run-taken.result.0 _ _ _ c.who-who.ensures.is c.run-taken.ensures.leaves
 
 pub leave-requires-clause-begins : goal.leave-requires-clause-begins
 leave-requires-clause-begins g c =
-    begins_by _ _ c.seat.inside.reader c.in-Some.taken.shared c.seat.invariant.0 c.in-Some.ensures.entered.0 c.run-taken.result.0.shared _ _ _ c.run-taken.ensures.leaves c.in-Some.ensures.entered.1
+    begins_by _ _ c.seat.inside.reader c.in-Some.taken c.seat.invariant.0 c.in-Some.ensures.entered.0 c.run-taken.result.0 _ _ _ c.run-taken.ensures.leaves c.in-Some.ensures.entered.1
 
 pub invariant_of-seat-2 : goal.invariant_of-seat-2
 invariant_of-seat-2 g c =
-    let k : IsSeatAt (sends_on c.self.inside.lock.into) c.leave.new.key = c.leave.ensures.kept in
+    let k : IsKeyOf c.self.inside.lock c.leave.new.key = c.leave.ensures.kept in
     let took = c.in-Some.ensures.entered.0 in
-    let x = c.in-Some.taken.shared in
-    let y = c.run-taken.result.0.shared in
+    let x = c.in-Some.taken in
+    let y = c.run-taken.result.0 in
     let leaves = c.run-taken.ensures.leaves in
     let quiet = c.run-taken.ensures.quiet in (
       seat_after _ _ c.seat.inside.reader x c.seat.invariant.0 took _ _ y c.leave.ensures.gave c.leave.ensures.reader leaves.book,
@@ -32,10 +31,10 @@ invariant_of-seat-2 g c =
 
 pub returns-clause-stands : goal.returns-clause-stands
 returns-clause-stands g c =
-    let k : IsSeatAt (sends_on c.self.inside.lock.into) c.leave.new.key = c.leave.ensures.kept in
+    let k : IsKeyOf c.self.inside.lock c.leave.new.key = c.leave.ensures.kept in
     let took = c.in-Some.ensures.entered.0 in
-    let x = c.in-Some.taken.shared in
-    let y = c.run-taken.result.0.shared in
+    let x = c.in-Some.taken in
+    let y = c.run-taken.result.0 in
     let leaves = c.run-taken.ensures.leaves in
     let quiet = c.run-taken.ensures.quiet in
     stands_from _ _ _ _ _ c.seat.view_is

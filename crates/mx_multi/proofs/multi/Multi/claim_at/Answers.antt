@@ -1,19 +1,18 @@
 use Rattle.std.proofs.Common.{rules, ◌≡◌, ◌∙◌, ap, [], inr}
-use Rattle.crossbeam_channel.specs.Claims.{IsSeatAt}
-use Rattle.crossbeam_channel.specs.Ends.{sends_on}
+use Rattle.mx_lock.specs.Lock.{IsKeyOf}
 use Rattle.mx_journal.specs.History.{is_legal}
-use Rattle.mx_multi.specs.Shared.{IsLeft}
+use Rattle.mx_lock.specs.Shared.{IsLeft}
 use Rattle.mx_multi.specs.Seats.{SeatView}
-use Rattle.mx_multi.proofs.Claims.{claims_first}
+use Rattle.mx_lock.proofs.Claims.{claims_first}
 use Rattle.mx_multi.proofs.Standing.{seat_after, received_same, lock_sees, same_of, engine_kept, sees_from, claims_after, claims_from, claims_only, none_claimed}
 use Rattle.mx_multi.proofs.multi.Multi.claim_at.Goals as goal
 
 pub invariant_of-seat-in_default-claimed : goal.invariant_of-seat-in_default-claimed
 invariant_of-seat-in_default-claimed g c =
-    let k : IsSeatAt (sends_on c.self.inside.lock.into) c.leave.new.key = c.leave.ensures.kept in
+    let k : IsKeyOf c.self.inside.lock c.leave.new.key = c.leave.ensures.kept in
     let took = c.in-Some.ensures.entered.0 in
-    let x = c.in-Some.taken.shared in
-    let y = c.claim-claimed.new.self.shared in
+    let x = c.in-Some.taken in
+    let y = c.claim-claimed.new.self in
     let j = c.claim-claimed.ensures.journal in
     let left : IsLeft x y = record { journal = j.0; opening = j.1; book = j.2; legal = ap is_legal j.0 ∙ c.len-cut.ensures.legal } in (
       seat_after _ _ c.seat.inside.reader x c.seat.invariant.0 took _ _ y c.leave.ensures.gave c.leave.ensures.reader left.book,
@@ -25,10 +24,10 @@ invariant_of-seat-in_default-claimed g c =
 
 pub invariant_of-seat-2 : goal.invariant_of-seat-2
 invariant_of-seat-2 g c =
-    let k : IsSeatAt (sends_on c.self.inside.lock.into) c.leave.new.key = c.leave.ensures.kept in
+    let k : IsKeyOf c.self.inside.lock c.leave.new.key = c.leave.ensures.kept in
     let took = c.in-Some.ensures.entered.0 in
-    let x = c.in-Some.taken.shared in
-    let y = c.claim-claimed.new.self.shared in
+    let x = c.in-Some.taken in
+    let y = c.claim-claimed.new.self in
     let j = c.claim-claimed.ensures.journal in
     let left : IsLeft x y = record { journal = j.0; opening = j.1; book = j.2; legal = ap is_legal j.0 ∙ c.len-cut.ensures.legal } in (
       seat_after _ _ c.seat.inside.reader x c.seat.invariant.0 took _ _ y c.leave.ensures.gave c.leave.ensures.reader left.book,
@@ -40,10 +39,10 @@ invariant_of-seat-2 g c =
 
 pub returns-in_default-claimed-clause-sees : goal.returns-in_default-claimed-clause-sees
 returns-in_default-claimed-clause-sees g c =
-    let k : IsSeatAt (sends_on c.self.inside.lock.into) c.leave.new.key = c.leave.ensures.kept in
+    let k : IsKeyOf c.self.inside.lock c.leave.new.key = c.leave.ensures.kept in
     let took = c.in-Some.ensures.entered.0 in
-    let x = c.in-Some.taken.shared in
-    let y = c.claim-claimed.new.self.shared in
+    let x = c.in-Some.taken in
+    let y = c.claim-claimed.new.self in
     let j = c.claim-claimed.ensures.journal in
     let left : IsLeft x y = record { journal = j.0; opening = j.1; book = j.2; legal = ap is_legal j.0 ∙ c.len-cut.ensures.legal } in
     inr (sees_from _ _ _ c.seat.view_is
@@ -51,10 +50,10 @@ returns-in_default-claimed-clause-sees g c =
 
 pub returns-clause-sees : goal.returns-clause-sees
 returns-clause-sees g c =
-    let k : IsSeatAt (sends_on c.self.inside.lock.into) c.leave.new.key = c.leave.ensures.kept in
+    let k : IsKeyOf c.self.inside.lock c.leave.new.key = c.leave.ensures.kept in
     let took = c.in-Some.ensures.entered.0 in
-    let x = c.in-Some.taken.shared in
-    let y = c.claim-claimed.new.self.shared in
+    let x = c.in-Some.taken in
+    let y = c.claim-claimed.new.self in
     let j = c.claim-claimed.ensures.journal in
     let left : IsLeft x y = record { journal = j.0; opening = j.1; book = j.2; legal = ap is_legal j.0 ∙ c.len-cut.ensures.legal } in
     sees_from _ _ _ c.seat.view_is
@@ -63,8 +62,8 @@ returns-clause-sees g c =
 pub returns-in_default-claimed-clause-claims : goal.returns-in_default-claimed-clause-claims
 returns-in_default-claimed-clause-claims g c =
     let took = c.in-Some.ensures.entered.0 in
-    let x = c.in-Some.taken.shared in
-    let y = c.claim-claimed.new.self.shared in
+    let x = c.in-Some.taken in
+    let y = c.claim-claimed.new.self in
     let none : (x.core.queue ≡ []) × (y.core.queue ≡ []) = search rules in
     claims_after _ _ c.seat.inside.reader x c.seat.invariant.0 took _ _ y c.leave.ensures.gave c.leave.ensures.reader (none_claimed x.core.journal y.core.journal x.core.queue y.core.queue c.claim-claimed.ensures.journal.0 none.0 none.1)
     ∙ ap (λ (s : SeatView g.row.Q.Denot g.row.O.Denot). s.claims) c.seat.view_is
@@ -72,8 +71,8 @@ returns-in_default-claimed-clause-claims g c =
 pub returns-clause-claims : goal.returns-clause-claims
 returns-clause-claims g c =
     let took = c.in-Some.ensures.entered.0 in
-    let x = c.in-Some.taken.shared in
-    let y = c.claim-claimed.new.self.shared in
+    let x = c.in-Some.taken in
+    let y = c.claim-claimed.new.self in
     let r = c.in-Some-claimed.claimed in
     claims_from _ _ _ r.0.ticket c.seat.view_is
     (claims_only _ _ c.seat.inside.reader x c.seat.invariant.0 took _ _ y c.leave.ensures.gave c.leave.ensures.reader _ _ c.seat.inside.polled c.seat.inside.polled r.0.ticket (claims_first x.core.journal y.core.journal r.0.ticket r.1 x.core.queue y.core.queue c.claim-claimed.ensures.journal.0 c.in-Some-claimed.ensures.some))

@@ -1,22 +1,21 @@
 use Rattle.std.proofs.Common.{rules, ◌≡◌, ◌∙◌, ap, sym, subst, length}
 use mathlib.Core.List.{IsPrefix}
-use Rattle.crossbeam_channel.specs.Claims.{view, IsSeatAt}
-use Rattle.crossbeam_channel.specs.Ends.{sends_on}
+use Rattle.crossbeam_channel.specs.Claims.{view}
+use Rattle.mx_lock.specs.Lock.{IsKeyOf}
 use Rattle.mx_journal.specs.History.{made_by}
 use Rattle.mx_board.specs.Board.{ReaderState}
-use Rattle.mx_multi.specs.declared.lock.taken.Taken.{Taken}
-use Rattle.mx_multi.specs.Shared.{SharedState, IsLeft}
+use Rattle.mx_lock.specs.Shared.{SharedState, IsLeft}
 use Rattle.mx_multi.specs.Seats.{SeatView}
 use Rattle.mx_multi.proofs.Standing.{seat_after, seat_released, received_same, received_released, lock_sees, other_sees, seat_sees, same_of, engine_kept, engine_released, sees_from, claims_after, left_same, no_other}
 use Rattle.mx_multi.proofs.multi.Multi.meet.Goals as goal
 
 pub invariant_of-one-then-made : goal.invariant_of-one-then-made
 invariant_of-one-then-made g c =
-    let k : IsSeatAt (sends_on c.self.inside.lock.into) c.leave.new.key = c.leave.ensures.kept in
+    let k : IsKeyOf c.self.inside.lock c.leave.new.key = c.leave.ensures.kept in
     let took = c.in-Some.ensures.entered.0 in
-    let x = c.in-Some.taken.shared in
-    let y = c.refresh.new.self.shared in
-    let same : y ≡ x = ap (λ (z : Taken g.row.Q.Denot g.row.O.Denot). z.shared) c.refresh.ensures.same in
+    let x = c.in-Some.taken in
+    let y = c.refresh.new.self in
+    let same : y ≡ x = c.refresh.ensures.same in
     let left : IsLeft x y = left_same x y same c.len-cut.ensures.legal in (
       seat_after _ _ c.one.inside.reader x c.one.invariant.0 took _ _ y c.leave.ensures.gave c.leave.ensures.reader left.book,
       k.2,
@@ -27,7 +26,7 @@ invariant_of-one-then-made g c =
 
 pub invariant_of-two : goal.invariant_of-two
 invariant_of-two g c =
-    let x = c.in-Some.taken.shared in
+    let x = c.in-Some.taken in
     let r = c.two.inside.reader in
     let pre : IsPrefix r.seen x.core.journal = search rules in
     let own : made_by r.who x.core.journal ≡ made_by r.who r.seen = subst (λ m. made_by m x.core.journal ≡ made_by r.who r.seen) c.who-other.ensures.is (sym c.made.ensures ∙ c.if-made.true ∙ c.made-then-begins_with.ensures) in
@@ -41,9 +40,9 @@ invariant_of-two g c =
 
 pub invariant_of-one-2 : goal.invariant_of-one-2
 invariant_of-one-2 g c =
-    let k : IsSeatAt (sends_on c.self.inside.lock.into) c.put_back.new.key = c.put_back.ensures.kept in
+    let k : IsKeyOf c.self.inside.lock c.put_back.new.key = c.put_back.ensures.kept in
     let took = c.in-Some.ensures.entered.0 in
-    let x = c.in-Some.taken.shared in (
+    let x = c.in-Some.taken in (
       seat_released _ _ c.one.inside.reader x c.one.invariant.0 took _ c.put_back.ensures.gave,
       k.2,
       received_released (view c.one.inside.key) (view c.put_back.new.key) c.one.inside.reader _ _ c.one.inside.polled (engine_released _ _ c.one.inside.reader x c.one.invariant.0 took _ c.put_back.ensures.gave) c.one.invariant.2,
@@ -51,11 +50,11 @@ invariant_of-one-2 g c =
 
 pub returns-then-made-clause-meets : goal.returns-then-made-clause-meets
 returns-then-made-clause-meets g c =
-    let k : IsSeatAt (sends_on c.self.inside.lock.into) c.leave.new.key = c.leave.ensures.kept in
+    let k : IsKeyOf c.self.inside.lock c.leave.new.key = c.leave.ensures.kept in
     let took = c.in-Some.ensures.entered.0 in
-    let x = c.in-Some.taken.shared in
-    let y = c.refresh.new.self.shared in
-    let same : y ≡ x = ap (λ (z : Taken g.row.Q.Denot g.row.O.Denot). z.shared) c.refresh.ensures.same in
+    let x = c.in-Some.taken in
+    let y = c.refresh.new.self in
+    let same : y ≡ x = c.refresh.ensures.same in
     let left : IsLeft x y = left_same x y same c.len-cut.ensures.legal in
     let r = c.two.inside.reader in
     let pre : IsPrefix r.seen x.core.journal = search rules in
@@ -72,9 +71,9 @@ returns-then-made-clause-meets g c =
 pub returns-then-made-clause-claims : goal.returns-then-made-clause-claims
 returns-then-made-clause-claims g c =
     let took = c.in-Some.ensures.entered.0 in
-    let x = c.in-Some.taken.shared in
-    let y = c.refresh.new.self.shared in
-    let same : y ≡ x = ap (λ (z : Taken g.row.Q.Denot g.row.O.Denot). z.shared) c.refresh.ensures.same in (
+    let x = c.in-Some.taken in
+    let y = c.refresh.new.self in
+    let same : y ≡ x = c.refresh.ensures.same in (
       claims_after _ _ c.one.inside.reader x c.one.invariant.0 took _ _ y c.leave.ensures.gave c.leave.ensures.reader (no_other x y same) ∙ ap (λ (s : SeatView g.row.Q.Denot g.row.O.Denot). s.claims) c.one.view_is,
       ap (λ (s : SeatView g.row.Q.Denot g.row.O.Denot). s.claims) c.two.view_is,
     )

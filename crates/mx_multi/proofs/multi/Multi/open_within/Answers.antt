@@ -1,9 +1,8 @@
 use Rattle.std.proofs.Common.{◌≡◌, ◌∙◌, ap, sym, subst, refl, length, true, false, arith}
 use Rattle.crossbeam_channel.specs.Claims.{view}
-use Rattle.crossbeam_channel.specs.Ends.{sends_on}
 use Rattle.mx_board.specs.Journal.{Mark}
-use Rattle.mx_multi.specs.Shared.{SharedState, Engine, content}
-use Rattle.mx_multi.specs.Lock.{engine_of}
+use Rattle.mx_lock.specs.Shared.{SharedState, Engine, content}
+use Rattle.mx_lock.specs.Lock.{engine_of}
 use Rattle.mx_multi.specs.Seats.{MultiView}
 use Rattle.mx_multi.specs.Opening.{AreNew}
 use Rattle.mx_multi.proofs.Opening.{all_own}
@@ -11,7 +10,7 @@ use Rattle.mx_multi.proofs.multi.Multi.open_within.Goals as goal
 
 pub returns : goal.returns
 returns g c =
-    let at = sends_on c.in_ok-lock.lock.into in
+    let at = c.in_ok-lock.lock in
     let all : Engine = record { book = c.mark-start.result.book; opening = record { history = c.args.limits.history } } in
     let shared = c.in_ok-shared.shared in
     let book : shared.book ≡ c.mark-start.result.book = sym (ap (λ (m : Mark). m.book) c.mark-start.ensures) in
@@ -19,12 +18,12 @@ returns g c =
     let here : (content shared).engine ≡ all = λ i. record { book = book i; opening = opening i } in
     let first : engine_of (view c.in_ok-lock.founder) ≡ all = ap engine_of c.in_ok-lock.ensures.1 ∙ ap (λ (z : SharedState g.row.Q.Denot g.row.O.Denot). (content z).engine) (c.readers-2.ensures.same ∙ c.readers.ensures.same) ∙ here in
     let later : engine_of (view c.skip.new.founder) ≡ all = ap engine_of c.skip.ensures.next ∙ ap engine_of c.in_ok-seats.ensures.next ∙ first in
-    let m : MultiView g.row.Q.Denot g.row.O.Denot = record { table = at.stamps.shared.table_id; keys = at.stamps.shared.key; engine = all } in
+    let m : MultiView g.row.Q.Denot g.row.O.Denot = record { table = at.table; keys = at.keys; engine = all } in
     let seats : AreNew m false 0 c.in_ok-seats.seats.items =
-    subst (λ (e : Engine). AreNew {Q = g.row.Q.Denot} {O = g.row.O.Denot} (record { table = at.stamps.shared.table_id; keys = at.stamps.shared.key; engine = e }) false 0 c.in_ok-seats.seats.items) first c.in_ok-seats.ensures.new in
+    subst (λ (e : Engine). AreNew {Q = g.row.Q.Denot} {O = g.row.O.Denot} (record { table = at.table; keys = at.keys; engine = e }) false 0 c.in_ok-seats.seats.items) first c.in_ok-seats.ensures.new in
     let workers : AreNew m true 0 c.in_ok-workers.workers.items =
     subst (AreNew m true 0) (sym c.in_ok-workers.ensures)
-    (subst (λ (e : Engine). AreNew {Q = g.row.Q.Denot} {O = g.row.O.Denot} (record { table = at.stamps.shared.table_id; keys = at.stamps.shared.key; engine = e }) true 0 c.in_ok-at_work.at_work.items) later c.in_ok-at_work.ensures.new) in
+    (subst (λ (e : Engine). AreNew {Q = g.row.Q.Denot} {O = g.row.O.Denot} (record { table = at.table; keys = at.keys; engine = e }) true 0 c.in_ok-at_work.at_work.items) later c.in_ok-at_work.ensures.new) in
     record {
       history = refl;
       seats_new = seats;

@@ -1,19 +1,19 @@
 use Rattle.std.proofs.Common.{◌∙◌, ap, sym, refl}
-use Rattle.crossbeam_channel.specs.Claims.{view, IsSeatAt}
-use Rattle.crossbeam_channel.specs.Ends.{sends_on}
+use Rattle.crossbeam_channel.specs.Claims.{view}
+use Rattle.mx_lock.specs.Lock.{IsKeyOf}
 use Rattle.mx_multi.specs.Seats.{SeatView}
 use Rattle.mx_types.specs.declared.call.Call.TheVariants as call
 use Rattle.mx_types.specs.declared.reply.Reply.TheVariants as reply
-use Rattle.mx_multi.specs.Shared.{Leaves}
+use Rattle.mx_lock.specs.Shared.{Leaves}
 use Rattle.mx_multi.proofs.Standing.{seat_after, seat_released, received_more, lock_stands, same_of, engine_kept, engine_released, received_released, stands_from, woken, caught_confirmed}
 use Rattle.mx_multi.proofs.multi.Multi.try_poll.Goals as goal
 
 pub invariant_of-seat-then-is_ready : goal.invariant_of-seat-then-is_ready
 invariant_of-seat-then-is_ready g c =
-    let k : IsSeatAt (sends_on c.self.inside.lock.into) c.leave.new.key = c.leave.ensures.kept in
+    let k : IsKeyOf c.self.inside.lock c.leave.new.key = c.leave.ensures.kept in
     let took = c.in-Some.ensures.entered.0 in
-    let x = c.in-Some.taken.shared in
-    let y = c.in-Some.taken.shared in
+    let x = c.in-Some.taken in
+    let y = c.in-Some.taken in
     let leaves : Leaves c.seat.inside.reader.who call.Poll x reply.Woken x = woken _ x c.len-cut.ensures.legal in (
       seat_after _ _ c.seat.inside.reader x c.seat.invariant.0 took _ _ x c.leave.ensures.gave c.leave.ensures.reader refl,
       k.2,
@@ -25,10 +25,10 @@ invariant_of-seat-then-is_ready g c =
 
 pub returns-then-is_ready : goal.returns-then-is_ready
 returns-then-is_ready g c =
-    let k : IsSeatAt (sends_on c.self.inside.lock.into) c.leave.new.key = c.leave.ensures.kept in
+    let k : IsKeyOf c.self.inside.lock c.leave.new.key = c.leave.ensures.kept in
     let took = c.in-Some.ensures.entered.0 in
-    let x = c.in-Some.taken.shared in
-    let y = c.in-Some.taken.shared in
+    let x = c.in-Some.taken in
+    let y = c.in-Some.taken in
     let leaves : Leaves c.seat.inside.reader.who call.Poll x reply.Woken x = woken _ x c.len-cut.ensures.legal in (
       stands_from _ _ _ _ _ c.seat.view_is
           (lock_stands _ _ c.seat.inside.reader x c.seat.invariant.0 took _ c.leave.new.reader x c.leave.ensures.gave c.leave.ensures.reader _ _ c.seat.inside.polled c.len-cut.result _ _ _ refl (same_of _ _ _ c.args.self.now c.args.seat.now c.requires.own c.self.view_is (ap (λ (s : SeatView g.row.Q.Denot g.row.O.Denot). s.of) c.seat.view_is) k.0 k.1 (engine_kept _ _ c.seat.inside.reader x c.seat.invariant.0 took _ y c.leave.ensures.gave))
@@ -38,9 +38,9 @@ returns-then-is_ready g c =
 
 pub invariant_of-seat-2 : goal.invariant_of-seat-2
 invariant_of-seat-2 g c =
-    let k : IsSeatAt (sends_on c.self.inside.lock.into) c.put_back.new.key = c.put_back.ensures.kept in
+    let k : IsKeyOf c.self.inside.lock c.put_back.new.key = c.put_back.ensures.kept in
     let took = c.in-Some.ensures.entered.0 in
-    let x = c.in-Some.taken.shared in (
+    let x = c.in-Some.taken in (
       seat_released _ _ c.seat.inside.reader x c.seat.invariant.0 took _ c.put_back.ensures.gave,
       k.2,
       received_released (view c.seat.inside.key) (view c.put_back.new.key) c.seat.inside.reader _ _ c.seat.inside.polled (engine_released _ _ c.seat.inside.reader x c.seat.invariant.0 took _ c.put_back.ensures.gave) c.seat.invariant.2,

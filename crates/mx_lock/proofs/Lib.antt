@@ -1,0 +1,4 @@
+pub mod Keys
+pub mod Leaving
+pub mod Claims
+pub mod Sends

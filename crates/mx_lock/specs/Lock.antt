@@ -1,0 +1,101 @@
+-- The rule of the lock, over what lies in it and what each key knows.
+use Rattle.std.specs.Prelude.{◌≡◌, ◌≢◌, ℕ, zero, suc, ◌+◌, ◌-◌, ◌≤◌, nat_lt, if◌then◌else◌, true, false, not, List, [], ◌∷◌, ◌++◌, length}
+use Rattle.std.specs.List.{filter}
+use mathlib.Core.Option.{some}
+use mathlib.Core.List.{IsPrefix}
+use lib.ListN.{get_elem?}
+use Rattle.atomic_table.specs.Seated.{TableId}
+use Rattle.atomic_table.specs.declared.badge.Badge.{Badge}
+use Rattle.crossbeam_channel.specs.declared.flavors.array.Key.{Key}
+use Rattle.crossbeam_channel.specs.Claims.{Pass}
+use Rattle.mx_types.specs.declared.event.Who.{Who}
+use Rattle.mx_types.specs.declared.event.Who.TheVariants as who
+use Rattle.mx_types.specs.declared.names.Ticket.{Ticket}
+use Rattle.mx_journal.specs.History.{has_ticket, made_by}
+use Rattle.mx_lock.specs.Shared.{Engine, Content}
+use Rattle.mx_lock.specs.declared.key_view.KeyView.{KeyView}
+use Rattle.mx_lock.specs.declared.key_view.EngineName.{EngineName}
+
+-- which lock it is: the table of its keys, and what they have in common
+pub record LockView (X : Type 0) : Type 0 where
+  pub table : TableId
+  pub keys : Badge (Key X)
+
+-- the key is one of the lock's
+abbrev pub IsKeyOf : {X : Type 0} → LockView X → Pass X KeyView → Type 0
+IsKeyOf l k = (k.table_id ≡ l.table) × (k.me.0.of ≡ l.keys) × (k.me.1 ≡ [])
+
+-- the maker whose key has the number: of the founder's key no seat's, then the seats, then the workers
+abbrev pub maker : ℕ → Who
+maker zero = who.Seat 16
+maker (suc k) = if nat_lt k 16 then who.Seat k else who.Worker (k - 16)
+
+abbrev pub name_of : Engine → EngineName
+name_of e = record { number = e.book.number; log_name = e.book.log_name; cells_name = e.book.cells_name; history = e.opening.history }
+
+abbrev pub named : EngineName → Engine
+named n = record { book = record { number = n.number; log_name = n.log_name; cells_name = n.cells_name }; opening = record { history = n.history } }
+
+abbrev pub engine_of : KeyView → Engine
+engine_of v = named v.engine
+
+abbrev pub no_name : EngineName
+no_name = record { number = 0; log_name = 0; cells_name = 0; history = 0 }
+
+abbrev pub first_key : KeyView
+first_key = record { number = 0; next = 1; told = false; engine = no_name; holding = true; held = []; found = []; seen = []; claims = [] }
+
+-- of n keys the one at number j: the journal begins with what it left last, and has no event more of its maker
+pub record Agrees (c : Content) (n j : ℕ) (v : KeyView) : Type 0 where
+  pub number : v.number ≡ j
+  pub later : IsPrefix v.seen c.journal
+  pub own : made_by (maker j) c.journal ≡ made_by (maker j) v.seen
+  pub next : v.next ≢ 0 → (v.next ≡ n) × (j ≡ 0)
+  pub engine : v.told ≡ true → engine_of v ≡ c.engine
+  pub alone : v.told ≡ false → n ≡ 1
+
+-- of the tickets `after` those that aren't among `before`
+abbrev pub newly : List Ticket → List Ticket → List Ticket
+newly before after = filter (λ t. not (has_ticket t before)) after
+
+-- each ticket that is claimed, some key has claimed
+abbrev pub IsOwned : List Ticket → List KeyView → Type 0
+IsOwned claimed views = (t : Ticket) → has_ticket t claimed ≡ true → (j : ℕ) × (u : KeyView) × (get_elem? views j ≡ some u) × (has_ticket t u.claims ≡ true)
+
+module _ {X : Type 0} (content : X → Content) where
+  -- one key holds the engine, with the journal that it found; or the engine lies in the lock
+  abbrev pub Lies : Content → List X → List KeyView → Type 0
+  Lies c [] views = (k : ℕ) × (v : KeyView) × (get_elem? views k ≡ some v) × (v.holding ≡ true) × (v.held ≡ c.journal) × (v.found ≡ c.claimed) × ((j : ℕ) (u : KeyView) → get_elem? views j ≡ some u → u.holding ≡ true → j ≡ k)
+  Lies c (x ∷ rest) views = (rest ≡ []) × (content x ≡ c) × ((j : ℕ) (u : KeyView) → get_elem? views j ≡ some u → u.holding ≡ false)
+
+  -- there is one engine with one journal, in which each event is of a maker that has a key; and what runs and isn't queued a key has claimed
+  abbrev pub Keeps : List X → List KeyView → Type 0
+  Keeps items views = (c : Content) × Lies c items views × ((j : ℕ) (v : KeyView) → get_elem? views j ≡ some v → Agrees c (length views) j v) × ((k : ℕ) → length views ≤ k → made_by (maker k) c.journal ≡ 0) × IsOwned c.claimed views
+
+  -- what is taken: a journal that begins with what the key left last, and has no event more of its maker
+  pub record Took (v : KeyView) (x : X) (w : KeyView) : Type 0 where
+    pub later : IsPrefix v.seen (content x).journal
+    pub own : made_by (maker v.number) (content x).journal ≡ made_by (maker v.number) v.seen
+    pub engine : engine_of v ≡ (content x).engine
+    pub is : w ≡ record v { holding = true; held = (content x).journal; found = (content x).claimed }
+
+-- the key after it gave the engine back: it has seen the journal, and what is claimed now and wasn't when it took the engine, it has claimed
+abbrev pub given : KeyView → Content → KeyView
+given v c = record v { holding = false; held = []; found = []; seen = c.journal; claims = v.claims ++ newly v.found c.claimed }
+
+-- the key after it put the engine back as it was found
+abbrev pub released : KeyView → KeyView
+released v = record v { holding = false; held = []; found = [] }
+
+-- the founder's key, which makes the others, once it has put the engine in; the next key gets the number n
+abbrev pub founder_at : Engine → ℕ → KeyView
+founder_at e n = record { number = 0; next = n; told = true; engine = name_of e; holding = false; held = []; found = []; seen = []; claims = [] }
+
+abbrev pub founded : Engine → KeyView
+founded e = founder_at e 1
+
+abbrev pub parent : KeyView → KeyView
+parent v = record v { next = v.next + 1 }
+
+abbrev pub child : KeyView → KeyView
+child v = record { number = v.next; next = 0; told = v.told; engine = v.engine; holding = false; held = []; found = []; seen = []; claims = [] }

@@ -1,0 +1,310 @@
+//! The calls that are made under the lock.
+ghost use Rattle.std.specs.Prelude.{◌≡◌, false, true};
+ghost use Rattle.mx_types.specs.declared.call.Call.{Call};
+ghost use Rattle.mx_types.specs.declared.reply.Reply.{Reply};
+ghost use Rattle.mx_journal.specs.History.{is_maker};
+ghost use Rattle.mx_journal.specs.Receipts.{is_poll};
+ghost use Rattle.mx_journal.specs.Replies.{handed_back, work_back, IsHandedBack, reply_of_add, reply_of_finish, reply_of_info, reply_of_pause, reply_of_remove, reply_of_wakeup};
+ghost use Rattle.mx_lock.specs.Shared.{Leaves, SharedState};
+
+use crate::shared::Shared;
+use mx_journal::{AddReply, Claim, FinishReply, InfoReply, PauseReply, RemoveReply, WakeupReply};
+use mx_types::{Ending, HandleId, Who, Work};
+use std::sync::Wait;
+
+/// A call that is made under the lock, at an engine of type `E`: which call of the history it is, what its answer stands
+/// for, and what comes back.
+pub trait Deed<E, Q, O> {
+    type Reply;
+
+    ghost state: { E → SharedState Q O };
+
+    ghost call: { Self → Call };
+
+    ghost reply: { Self.Reply → Reply };
+
+    ghost back: { Self → Self.Reply → Type 0 };
+
+    /// Makes the call for a maker.
+    fn run<R: Wait>(self, rt: &R, engine: E, who: Who) -> (E, Self::Reply)
+        requires { is_maker who ≡ true }
+        ensures leaves { Leaves who (call self) (state engine) (reply result.1) (state result.0) }
+        ensures back { back self result.1 }
+        ensures quiet { is_poll (call self) ≡ false };
+
+    /// Whether those that poll are to be told.
+    fn wakes(answer: &Self::Reply) -> bool;
+}
+
+/// Adds a handle with its work.
+#[derive(Drop)]
+pub struct Addition<Q> {
+    pub handle: HandleId,
+    pub work: Q,
+}
+
+impl<Q: Work + Drop, O: Ending + Drop> Deed<Shared<Q, O>, Q, O> for Addition<Q> {
+    ghost use Rattle.std.specs.Prelude.{◌≡◌};
+    ghost use Rattle.mx_types.specs.declared.call.Call.TheVariants as call_of;
+    ghost use Rattle.mx_journal.specs.Replies.{handed_back, reply_of_add, work_back};
+
+    type Reply = AddReply<Q>;
+
+    ghost state = { λ s. s };
+
+    ghost call = { λ d. call_of.Add d.handle };
+
+    ghost reply = { reply_of_add };
+
+    ghost back = { λ d r. handed_back r ≡ work_back r d.work };
+
+    fn run<R: Wait>(self, rt: &R, engine: Shared<Q, O>, who: Who) -> (Shared<Q, O>, AddReply<Q>)
+        requires { is_maker who ≡ true }
+        ensures leaves { Leaves who (Call.Add self.handle) engine (reply_of_add result.1) result.0 }
+        ensures back { handed_back result.1 ≡ work_back result.1 self.work }
+        ensures quiet { is_poll (Call.Add self.handle) ≡ false }
+    {
+        let Shared {
+            mut control,
+            mut board,
+        } = engine;
+        let reply = control.add(&mut board, who, self.handle, self.work);
+        (Shared::publish(rt, control, board), reply)
+    }
+
+    fn wakes(_answer: &AddReply<Q>) -> bool {
+        false
+    }
+}
+
+/// Removes a handle.
+#[derive(Clone, Copy)]
+pub struct Removal(pub HandleId);
+
+impl<Q: Work + Drop, O: Ending + Drop> Deed<Shared<Q, O>, Q, O> for Removal {
+    ghost use Rattle.mx_types.specs.declared.call.Call.TheVariants as call_of;
+    ghost use Rattle.mx_journal.specs.Replies.{reply_of_remove};
+
+    type Reply = RemoveReply;
+
+    ghost state = { λ s. s };
+
+    ghost call = { λ d. call_of.Remove d.0 };
+
+    ghost reply = { reply_of_remove };
+
+    ghost back = { λ d r. Unit {0} };
+
+    fn run<R: Wait>(self, rt: &R, engine: Shared<Q, O>, who: Who) -> (Shared<Q, O>, RemoveReply)
+        requires { is_maker who ≡ true }
+        ensures leaves { Leaves who (Call.Remove self.0) engine (reply_of_remove result.1) result.0 }
+        ensures back { Unit {0} }
+        ensures quiet { is_poll (Call.Remove self.0) ≡ false }
+    {
+        let Shared {
+            mut control,
+            mut board,
+        } = engine;
+        let reply = control.remove(&mut board, who, self.0);
+        (Shared::publish(rt, control, board), reply)
+    }
+
+    fn wakes(_answer: &RemoveReply) -> bool {
+        false
+    }
+}
+
+/// Pauses a handle.
+#[derive(Clone, Copy)]
+pub struct Pausing(pub HandleId);
+
+impl<Q: Work + Drop, O: Ending + Drop> Deed<Shared<Q, O>, Q, O> for Pausing {
+    ghost use Rattle.mx_types.specs.declared.call.Call.TheVariants as call_of;
+    ghost use Rattle.mx_journal.specs.Replies.{reply_of_pause};
+
+    type Reply = PauseReply;
+
+    ghost state = { λ s. s };
+
+    ghost call = { λ d. call_of.Pause d.0 };
+
+    ghost reply = { reply_of_pause };
+
+    ghost back = { λ d r. Unit {0} };
+
+    fn run<R: Wait>(self, rt: &R, engine: Shared<Q, O>, who: Who) -> (Shared<Q, O>, PauseReply)
+        requires { is_maker who ≡ true }
+        ensures leaves { Leaves who (Call.Pause self.0) engine (reply_of_pause result.1) result.0 }
+        ensures back { Unit {0} }
+        ensures quiet { is_poll (Call.Pause self.0) ≡ false }
+    {
+        let Shared {
+            mut control,
+            mut board,
+        } = engine;
+        let reply = control.pause(&mut board, who, self.0);
+        (Shared::publish(rt, control, board), reply)
+    }
+
+    fn wakes(_answer: &PauseReply) -> bool {
+        false
+    }
+}
+
+/// Resumes a handle.
+#[derive(Clone, Copy)]
+pub struct Unpausing(pub HandleId);
+
+impl<Q: Work + Drop, O: Ending + Drop> Deed<Shared<Q, O>, Q, O> for Unpausing {
+    ghost use Rattle.mx_types.specs.declared.call.Call.TheVariants as call_of;
+    ghost use Rattle.mx_journal.specs.Replies.{reply_of_pause};
+
+    type Reply = PauseReply;
+
+    ghost state = { λ s. s };
+
+    ghost call = { λ d. call_of.Unpause d.0 };
+
+    ghost reply = { reply_of_pause };
+
+    ghost back = { λ d r. Unit {0} };
+
+    fn run<R: Wait>(self, rt: &R, engine: Shared<Q, O>, who: Who) -> (Shared<Q, O>, PauseReply)
+        requires { is_maker who ≡ true }
+        ensures leaves { Leaves who (Call.Unpause self.0) engine (reply_of_pause result.1) result.0 }
+        ensures back { Unit {0} }
+        ensures quiet { is_poll (Call.Unpause self.0) ≡ false }
+    {
+        let Shared {
+            mut control,
+            mut board,
+        } = engine;
+        let reply = control.unpause(&mut board, who, self.0);
+        (Shared::publish(rt, control, board), reply)
+    }
+
+    fn wakes(_answer: &PauseReply) -> bool {
+        false
+    }
+}
+
+/// Reads the first message.
+#[derive(Clone, Copy)]
+pub struct Reading;
+
+impl<Q: Work + Drop, O: Ending + Drop> Deed<Shared<Q, O>, Q, O> for Reading {
+    ghost use Rattle.mx_types.specs.declared.call.Call.TheVariants as call_of;
+    ghost use Rattle.mx_journal.specs.Replies.{reply_of_info};
+
+    type Reply = InfoReply<O>;
+
+    ghost state = { λ s. s };
+
+    ghost call = { λ d. call_of.InfoRead };
+
+    ghost reply = { reply_of_info O.code_of O.size_of };
+
+    ghost back = { λ d r. Unit {0} };
+
+    fn run<R: Wait>(self, rt: &R, engine: Shared<Q, O>, who: Who) -> (Shared<Q, O>, InfoReply<O>)
+        requires { is_maker who ≡ true }
+        ensures leaves { Leaves who Call.InfoRead engine (reply_of_info O.code_of O.size_of result.1) result.0 }
+        ensures back { Unit {0} }
+        ensures quiet { is_poll Call.InfoRead ≡ false }
+    {
+        let Shared {
+            mut control,
+            mut board,
+        } = engine;
+        let reply = control.info_read(&mut board, who);
+        (Shared::publish(rt, control, board), reply)
+    }
+
+    fn wakes(_answer: &InfoReply<O>) -> bool {
+        false
+    }
+}
+
+/// Wakes those that poll.
+#[derive(Clone, Copy)]
+pub struct Waking;
+
+impl<Q: Work + Drop, O: Ending + Drop> Deed<Shared<Q, O>, Q, O> for Waking {
+    ghost use Rattle.mx_types.specs.declared.call.Call.TheVariants as call_of;
+    ghost use Rattle.mx_journal.specs.Replies.{reply_of_wakeup};
+
+    type Reply = WakeupReply;
+
+    ghost state = { λ s. s };
+
+    ghost call = { λ d. call_of.Wakeup };
+
+    ghost reply = { reply_of_wakeup };
+
+    ghost back = { λ d r. Unit {0} };
+
+    fn run<R: Wait>(self, rt: &R, engine: Shared<Q, O>, who: Who) -> (Shared<Q, O>, WakeupReply)
+        requires { is_maker who ≡ true }
+        ensures leaves { Leaves who Call.Wakeup engine (reply_of_wakeup result.1) result.0 }
+        ensures back { Unit {0} }
+        ensures quiet { is_poll Call.Wakeup ≡ false }
+    {
+        let Shared {
+            mut control,
+            mut board,
+        } = engine;
+        let reply = control.wakeup(&mut board, who);
+        (Shared::publish(rt, control, board), reply)
+    }
+
+    fn wakes(answer: &WakeupReply) -> bool {
+        matches!(answer, WakeupReply::Ok)
+    }
+}
+
+/// Records the end of a claimed transfer.
+#[derive(Drop)]
+pub struct Finishing<Q: Work, O: Ending> {
+    pub claim: Claim<Q>,
+    pub ending: O,
+    pub ghost origin: { O.origin ending ≡ claim.origin },
+}
+
+impl<Q: Work + Drop, O: Ending + Drop> Deed<Shared<Q, O>, Q, O> for Finishing<Q, O> {
+    ghost use Rattle.mx_types.specs.declared.call.Call.TheVariants as call_of;
+    ghost use Rattle.mx_journal.specs.Replies.{IsHandedBack, reply_of_finish};
+
+    type Reply = FinishReply<Q, O>;
+
+    ghost state = { λ s. s };
+
+    ghost call = { λ d. call_of.Finish d.claim.ticket (O.code_of d.ending) (O.size_of d.ending) };
+
+    ghost reply = { reply_of_finish };
+
+    ghost back = { λ d r. IsHandedBack d.claim d.ending r };
+
+    fn run<R: Wait>(
+        self,
+        rt: &R,
+        engine: Shared<Q, O>,
+        who: Who,
+    ) -> (Shared<Q, O>, FinishReply<Q, O>)
+        requires { is_maker who ≡ true }
+        ensures leaves { Leaves who (Call.Finish self.claim.ticket (O.code_of self.ending) (O.size_of self.ending)) engine (reply_of_finish result.1) result.0 }
+        ensures back { IsHandedBack self.claim self.ending result.1 }
+        ensures quiet { is_poll (Call.Finish self.claim.ticket (O.code_of self.ending) (O.size_of self.ending)) ≡ false }
+    {
+        let Finishing { claim, ending } = self;
+        let Shared {
+            mut control,
+            mut board,
+        } = engine;
+        let reply = control.finish(&mut board, who, claim, ending);
+        (Shared::publish(rt, control, board), reply)
+    }
+
+    fn wakes(answer: &FinishReply<Q, O>) -> bool {
+        matches!(answer, FinishReply::Recorded)
+    }
+}

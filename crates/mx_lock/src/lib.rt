@@ -1,0 +1,18 @@
+//! The lock of a multi handle: what lies in it, its rule, and how it is taken and given back. It is generic in the work that
+//! is added and in the endings that are recorded.
+#![tactic(auto)]
+
+mod deeds;
+mod key_view;
+mod lock;
+mod rule;
+mod shared;
+mod taken;
+
+pub use crate::deeds::{
+    Addition, Deed, Finishing, Pausing, Reading, Removal, Unpausing, Waking,
+};
+pub use crate::key_view::{EngineName, KeyView};
+pub use crate::lock::{Key, Lock};
+pub use crate::shared::Shared;
+pub use crate::taken::Taken;

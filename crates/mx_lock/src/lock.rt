@@ -1,0 +1,196 @@
+//! The lock: a channel with one place, in which the engine lies, under a rule over the keys.
+ghost use Rattle.std.specs.Prelude.{◌≡◌, ◌≢◌, [], true, false, IfOk, MatchOption};
+ghost use mathlib.Core.List.{IsPrefix};
+ghost use Rattle.crossbeam_channel.specs.Claims.{view};
+ghost use Rattle.mx_journal.specs.Laws.{HasAtMostOneMore};
+ghost use Rattle.mx_board.specs.Board.{caught_up};
+ghost use Rattle.mx_lock.specs.Shared.{content};
+ghost use Rattle.mx_lock.specs.Lock.{maker, engine_of, IsKeyOf, Took, given, released, founded, parent, child};
+
+use crate::key_view::KeyView;
+use crate::rule::{Founds, Gives, LockRule, NewKey, PutsBack, Takes};
+use crate::shared::Shared;
+use crate::taken::Taken;
+use crossbeam_channel::{Pass, RuledReceiver, RuledSender, bounded_with};
+use mx_board::BoardReader;
+use mx_types::{Ending, OutOfMemory, Work};
+use std::alloc::Global;
+use std::marker::Model;
+use std::sync::Wait;
+
+/// The right to take the engine out of a lock, one a maker. Contracts see what it knows.
+pub type Key<Q, O> = Pass<Shared<Q, O>, KeyView>;
+
+/// The engine's place. Contracts see which lock it is.
+#[derive(Drop)]
+pub struct Lock<Q: Work + Drop, O: Ending + Drop> {
+    into: RuledSender<Shared<Q, O>, KeyView, LockRule>,
+    from: RuledReceiver<Shared<Q, O>, KeyView, LockRule>,
+}
+
+impl<Q: Work + Drop, O: Ending + Drop> Model for Lock<Q, O> {
+    ghost use Rattle.std.specs.Prelude.{◌≡◌};
+    ghost use Rattle.crossbeam_channel.specs.Claims.{IsKeyed};
+    ghost use Rattle.crossbeam_channel.specs.Ends.{sends_on, receives_on};
+    ghost use Rattle.mx_lock.specs.Shared.{SharedState};
+    ghost use Rattle.mx_lock.specs.Lock.{LockView};
+
+    ghost Value = { LockView (SharedState Q O) };
+
+    ghost view = { λ l. record { table = (sends_on l.into).stamps.shared.table_id; keys = (sends_on l.into).stamps.shared.key } };
+
+    ghost invariant = { λ l. (receives_on l.from ≡ sends_on l.into) × IsKeyed (sends_on l.into) };
+}
+
+impl<Q: Work + Drop, O: Ending + Drop> Lock<Q, O> {
+    /// The lock with an engine that has no events, and the key that makes keys.
+    pub fn new<R: Wait>(
+        rt: &R,
+        alloc: Global,
+        shared: Shared<Q, O>,
+    ) -> Result<(Lock<Q, O>, Key<Q, O>), OutOfMemory>
+        requires { shared.core.journal ≡ [] }
+        ensures { IfOk result (λ r. IsKeyOf r.0 r.1 × (view r.1 ≡ founded (content shared).engine)) }
+    {
+        let Ok((into, from, mut key)) = bounded_with::<Shared<Q, O>, KeyView, LockRule, Global>(
+            alloc, 1,
+        ) else {
+            return Err(OutOfMemory);
+        };
+        match into.send_as::<Founds, R>(rt, &mut key, shared) {
+            Ok(()) => Ok((Lock { into, from }, key)),
+            Err(_) => Err(OutOfMemory),
+        }
+    }
+
+    /// One more key.
+    pub fn another(&self, key: &mut Key<Q, O>) -> Key<Q, O>
+        requires own { IsKeyOf self.now key.old }
+        requires makes { ((view key.old).next ≢ 0) × ((view key.old).told ≡ true) }
+        ensures kept { IsKeyOf self.now key.new × (view key.new ≡ parent (view key.old)) }
+        ensures new { IsKeyOf self.now result × (view result ≡ child (view key.old)) }
+    {
+        self.into.another::<NewKey>(key)
+    }
+
+    // Takes the engine, and waits until it is there.
+    fn take<R: Wait>(&self, rt: &R, key: &mut Key<Q, O>) -> Taken<Q, O>
+        requires own { IsKeyOf self.now key.old }
+        requires free { ((view key.old).holding ≡ false) × ((view key.old).told ≡ true) }
+        ensures kept { IsKeyOf self.now key.new }
+        ensures took { Took content (view key.old) result (view key.new) }
+    {
+        for _ in rt.forever() {
+            if let Ok(shared) = self.from.recv_as::<Takes, R>(rt, key) {
+                return Taken::of(shared);
+            }
+        }
+        unreachable!()
+    }
+
+    // Puts the engine in, with the journal that was found or with one event of the key's maker more.
+    fn give<R: Wait>(&self, rt: &R, key: &mut Key<Q, O>, shared: Shared<Q, O>)
+        requires own { IsKeyOf self.now key.old }
+        requires held { ((view key.old).holding ≡ true) × ((view key.old).told ≡ true) }
+        requires engine { engine_of (view key.old) ≡ (content shared).engine }
+        requires grows { HasAtMostOneMore (maker (view key.old).number) (view key.old).held (content shared).journal }
+        ensures kept { IsKeyOf self.now key.new }
+        ensures gave { view key.new ≡ given (view key.old) (content shared) }
+    {
+        let mut shared = shared;
+        for _ in rt.forever() {
+            match self.into.send_as::<Gives, R>(rt, key, shared) {
+                Ok(()) => return,
+                Err(refused) => shared = refused.into_inner(),
+            }
+        }
+        unreachable!()
+    }
+
+    // Puts the engine in as it was found.
+    fn restore<R: Wait>(&self, rt: &R, key: &mut Key<Q, O>, shared: Shared<Q, O>)
+        requires own { IsKeyOf self.now key.old }
+        requires held { ((view key.old).holding ≡ true) × ((view key.old).told ≡ true) }
+        requires engine { engine_of (view key.old) ≡ (content shared).engine }
+        requires same { (content shared).journal ≡ (view key.old).held }
+        requires queue { (content shared).claimed ≡ (view key.old).found }
+        ensures kept { IsKeyOf self.now key.new }
+        ensures gave { view key.new ≡ released (view key.old) }
+    {
+        let mut shared = shared;
+        for _ in rt.forever() {
+            match self.into.send_as::<PutsBack, R>(rt, key, shared) {
+                Ok(()) => return,
+                Err(refused) => shared = refused.into_inner(),
+            }
+        }
+        unreachable!()
+    }
+
+    /// Puts the engine back as it was found: no event was made, and no work left the queue.
+    pub fn put_back<R: Wait>(&self, rt: &R, key: &mut Key<Q, O>, taken: Taken<Q, O>)
+        requires own { IsKeyOf self.now key.old }
+        requires held { ((view key.old).holding ≡ true) × ((view key.old).told ≡ true) }
+        requires engine { engine_of (view key.old) ≡ (content taken).engine }
+        requires same { (content taken).journal ≡ (view key.old).held }
+        requires queue { (content taken).claimed ≡ (view key.old).found }
+        ensures kept { IsKeyOf self.now key.new }
+        ensures gave { view key.new ≡ released (view key.old) }
+    {
+        self.restore(rt, key, taken.into_shared())
+    }
+
+    /// Takes the engine for a reader, where the journal begins with what the reader has seen. Else the engine is put back
+    /// as it was found.
+    pub fn enter<R: Wait>(
+        &self,
+        rt: &R,
+        key: &mut Key<Q, O>,
+        reader: &BoardReader,
+    ) -> Option<Taken<Q, O>>
+        requires own { IsKeyOf self.now key.old }
+        requires free { ((view key.old).holding ≡ false) × ((view key.old).told ≡ true) }
+        requires book { reader.now.book ≡ (engine_of (view key.old)).book }
+        ensures kept { IsKeyOf self.now key.new }
+        ensures entered { MatchOption result (view key.new ≡ released (view key.old)) (λ t. Took content (view key.old) t (view key.new) × IsPrefix reader.now.seen t.core.journal) }
+    {
+        let taken = self.take(rt, key);
+        if taken.begins_with(reader) {
+            return Some(taken);
+        }
+        self.put_back(rt, key, taken);
+        None
+    }
+
+    /// Gives the engine back, and brings the reader up to its journal.
+    pub fn leave<R: Wait>(
+        &self,
+        rt: &R,
+        key: &mut Key<Q, O>,
+        taken: Taken<Q, O>,
+        reader: &mut BoardReader,
+    )
+        requires own { IsKeyOf self.now key.old }
+        requires held { ((view key.old).holding ≡ true) × ((view key.old).told ≡ true) }
+        requires engine { engine_of (view key.old) ≡ (content taken).engine }
+        requires grows { HasAtMostOneMore (maker (view key.old).number) (view key.old).held (content taken).journal }
+        requires begins { IsPrefix reader.old.seen taken.core.journal }
+        requires book { reader.old.book ≡ taken.book }
+        ensures kept { IsKeyOf self.now key.new }
+        ensures gave { view key.new ≡ given (view key.old) (content taken) }
+        ensures reader { reader.new ≡ caught_up reader.old.who taken.core.journal taken.book }
+    {
+        let mut shared = taken.into_shared();
+        shared.refresh(reader);
+        self.give(rt, key, shared);
+    }
+
+    /// Takes the engine, and ends it.
+    pub fn end<R: Wait>(&self, rt: &R, key: &mut Key<Q, O>)
+        requires own { IsKeyOf self.now key.old }
+        requires free { ((view key.old).holding ≡ false) × ((view key.old).told ≡ true) }
+    {
+        let last = self.take(rt, key);
+        last.into_shared().close(rt);
+    }
+}

@@ -1,0 +1,175 @@
+//! What the lock keeps: the control state, and the board that is published of it.
+ghost use Rattle.std.specs.Prelude.{◌≡◌, ◌≤◌, ◌<◌, ◌∷◌, [], length, true, slice_get, Some, IfOk, IfSome, IfNone};
+ghost use Rattle.std.specs.Bool.{OnTrue};
+ghost use Rattle.std.specs.List.{AllByRecursion};
+ghost use mathlib.Core.List.{IsPrefix};
+ghost use Rattle.mx_journal.specs.History.{has_ticket, is_legal, is_maker, made_by};
+ghost use Rattle.mx_journal.specs.Answers.{handle_of, is_ready};
+ghost use Rattle.mx_journal.specs.Core.{IsSound, claimed, queued};
+ghost use Rattle.mx_journal.specs.Slots.{slot_of};
+ghost use Rattle.mx_board.specs.Board.{caught_up, mark_of};
+
+use mx_board::{BoardReader, BoardWriter, JournalMark, board};
+use mx_journal::{Claim, Control};
+use mx_types::{Ending, Event, OutOfMemory, Who, Work};
+use std::alloc::Global;
+use std::marker::Model;
+use std::sync::Wait;
+
+/// The control state, and the board. The published version is always that of the control state's journal.
+#[derive(Drop)]
+pub struct Shared<Q: Work + Drop, O: Ending + Drop> {
+    pub(crate) control: Control<Q, O>,
+    pub(crate) board: BoardWriter,
+}
+
+impl<Q: Work + Drop, O: Ending + Drop> Model for Shared<Q, O> {
+    ghost use Rattle.std.specs.Prelude.{◌≡◌};
+    ghost use Rattle.mx_lock.specs.Shared.{SharedState};
+
+    ghost Value = { SharedState Q O };
+
+    ghost view = { λ s. record { core = s.control; published = s.board.published; book = s.board.book } };
+
+    ghost invariant = { λ s. (s.board.events ≡ s.control.journal) × (s.board.published ≡ s.control.journal) };
+}
+
+impl<Q: Work + Drop, O: Ending + Drop> Shared<Q, O> {
+    /// With no events, and so many places for readers.
+    pub fn new<R: Wait>(
+        rt: &R,
+        alloc: Global,
+        history: u32,
+        readers: usize,
+    ) -> Result<Shared<Q, O>, OutOfMemory>
+        requires history { (4 ≤ history) × (history ≤ 1048576) }
+        requires readers { (0 < readers) × (readers < 65) }
+        ensures { IfOk result (λ s. (s.core.journal ≡ []) × (s.core.opening ≡ record { history = history })) }
+    {
+        let control = Control::new(alloc, history)?;
+        let board = board(rt, alloc, readers)?;
+        Ok(Shared { control, board })
+    }
+
+    // Publishes what a call has left.
+    pub(crate) fn publish<R: Wait>(
+        rt: &R,
+        control: Control<Q, O>,
+        board: BoardWriter,
+    ) -> Shared<Q, O>
+        requires { board.events ≡ control.journal }
+        ensures is { result ≡ record { core = control; published = control.journal; book = board.book } }
+        ensures legal { is_legal result.core.journal ≡ true }
+    {
+        control.sound();
+        Shared {
+            board: board.publish(rt),
+            control,
+        }
+    }
+
+    /// The control state is sound, and the version that is published is that of its journal.
+    pub fn sound(&self)
+        ensures { IsSound O.code_of O.size_of self.now.core.opening.history self.now.core.journal self.now.core.queue self.now.core.endings × (self.now.published ≡ self.now.core.journal) }
+    {
+        self.control.sound()
+    }
+
+    /// A mark of the whole journal.
+    pub fn mark(&self) -> JournalMark
+        ensures { result ≡ mark_of self.now.core.journal self.now.book }
+    {
+        let _ = &self.control;
+        self.board.mark()
+    }
+
+    /// The event at a place of the journal.
+    fn event(&self, index: u32) -> Option<Event>
+        ensures { result ≡ slice_get self.now.core.journal index }
+    {
+        self.control.event(index)
+    }
+
+    /// How many events the journal has.
+    pub fn len(&self) -> u32
+        ensures length { result ≡ length self.now.core.journal }
+        ensures legal { is_legal self.now.core.journal ≡ true }
+    {
+        self.control.sound();
+        self.control.len()
+    }
+
+    /// Whether an event at or after the mark lets a poll return.
+    pub fn is_ready(&self, since: u32) -> bool
+        ensures { result ≡ is_ready since self.now.core.journal }
+    {
+        self.control.poll_ready(since)
+    }
+
+    /// How many events the maker made.
+    pub fn made(&self, who: Who) -> u32
+        requires { is_maker who ≡ true }
+        ensures { result ≡ made_by who self.now.core.journal }
+    {
+        self.control.made(who)
+    }
+
+    /// Whether the journal begins with what a reader has seen.
+    pub fn begins_with(&self, reader: &BoardReader) -> bool
+        requires { reader.now.book ≡ self.now.book }
+        ensures { OnTrue result (IsPrefix reader.now.seen self.now.core.journal) }
+    {
+        let confirmed = reader.confirmed();
+        if confirmed <= self.len() as u64 {
+            let next = self.event(confirmed as u32);
+            if reader.is_behind(&self.mark(), next) {
+                return true;
+            }
+        }
+        false
+    }
+
+    /// A reader for a maker, which has seen the whole journal. None where every place for a reader is in use.
+    pub fn reader(&mut self, who: Who) -> Option<BoardReader>
+        requires { is_maker who ≡ true }
+        ensures same { self.new ≡ self.old }
+        ensures is { IfSome result (λ r. r ≡ caught_up who self.old.core.journal self.old.book) }
+    {
+        let _ = &self.control;
+        self.board.reader(who)
+    }
+
+    /// Brings a reader up to the journal.
+    pub fn refresh(&mut self, reader: &mut BoardReader)
+        requires begins { IsPrefix reader.old.seen self.old.core.journal }
+        requires book { reader.old.book ≡ self.old.book }
+        ensures same { self.new ≡ self.old }
+        ensures reader { reader.new ≡ caught_up reader.old.who self.old.core.journal self.old.book }
+    {
+        let _ = &self.control;
+        reader.catch_up(&mut self.board)
+    }
+
+    /// Ends the board: it waits for the readers that read, and gives the memory of both copies back. The control state goes
+    /// with its queue and its endings.
+    pub fn close<R: Wait>(self, rt: &R) {
+        let Shared { control, board } = self;
+        let _table = board.close(rt);
+        let _control = control;
+    }
+
+    /// Takes the work of the lowest ticket in the queue.
+    pub fn claim(&mut self) -> Option<(Claim<Q>, Q)>
+        ensures journal { (self.new.core.journal ≡ self.old.core.journal) × (self.new.core.opening ≡ self.old.core.opening) × (self.new.book ≡ self.old.book) }
+        ensures origin { IfSome result (λ r. r.0.origin ≡ Q.origin r.1) }
+        ensures endings { self.new.core.endings ≡ self.old.core.endings }
+        ensures none { IfNone result ((self.old.core.queue ≡ []) × (self.new.core.queue ≡ [])) }
+        ensures some { IfSome result (λ r. self.old.core.queue ≡ (r.0.ticket, r.1) ∷ self.new.core.queue) }
+        ensures least { IfSome result (λ r. AllByRecursion (λ t. r.0.ticket.0 ≤ t.0) (queued self.old.core.queue)) }
+        ensures claimed { IfSome result (λ r. has_ticket r.0.ticket (claimed self.new.core.journal self.new.core.queue) ≡ true) }
+        ensures handle { IfSome result (λ r. handle_of r.0.ticket self.old.core.journal ≡ Some r.0.handle) }
+        ensures slot { IfSome result (λ r. slot_of r.0.ticket self.old.core.journal ≡ Some r.0.slot) }
+    {
+        self.control.claim()
+    }
+}
