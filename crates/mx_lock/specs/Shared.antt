@@ -1,5 +1,5 @@
 -- What the lock keeps, for contracts.
-use Rattle.std.specs.Prelude.{List, ◌≡◌, true}
+use Rattle.std.specs.Prelude.{ℕ, List, ◌≡◌, true}
 use Rattle.logbook.specs.Pages.{Book}
 use Rattle.mx_types.specs.declared.names.Ticket.{Ticket}
 use Rattle.mx_types.specs.declared.event.Event.{Event}
@@ -8,7 +8,8 @@ use Rattle.mx_types.specs.declared.event.Who.{Who}
 use Rattle.mx_types.specs.declared.call.Call.{Call}
 use Rattle.mx_types.specs.declared.reply.Reply.{Reply}
 use Rattle.mx_journal.specs.Answers.{Answers}
-use Rattle.mx_journal.specs.Core.{Core, claimed}
+use Rattle.mx_journal.specs.Core.{Core, IsSound, claimed}
+use Rattle.mx_types.specs.declared.code.Code.{Code}
 
 -- the control state, the journal of the version that is published, and which journal it is
 pub record SharedState (Q O : Type 0) : Type 0 where
@@ -29,6 +30,11 @@ pub record Content : Type 0 where
 
 abbrev pub content : {Q O : Type 0} → SharedState Q O → Content
 content x = record { journal = x.core.journal; engine = record { book = x.book; opening = x.core.opening }; claimed = claimed x.core.journal x.core.queue }
+
+-- what holds of everything that lies in the lock: its control state is sound, and the version that is published is that of its journal
+pub record IsLocked {Q O : Type 0} (code : O → Code) (size : O → ℕ) (x : SharedState Q O) : Type 0 where
+  pub sound : IsSound code size x.core.opening.history x.core.journal x.core.queue x.core.endings
+  pub published : x.published ≡ x.core.journal
 
 -- the second list has no ticket that the first hasn't
 abbrev pub HasNoOther : List Ticket → List Ticket → Type 0

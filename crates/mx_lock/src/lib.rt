@@ -9,9 +9,7 @@ mod rule;
 mod shared;
 mod taken;
 
-pub use crate::deeds::{
-    Addition, Deed, Finishing, Pausing, Reading, Removal, Unpausing, Waking,
-};
+pub use crate::deeds::{Addition, Deed, Finishing, Pausing, Reading, Removal, Unpausing, Waking};
 pub use crate::key_view::{EngineName, KeyView};
 pub use crate::lock::{Key, Lock};
 pub use crate::shared::Shared;

@@ -5,12 +5,14 @@ ghost use Rattle.std.specs.List.{AllByRecursion};
 ghost use mathlib.Core.List.{IsPrefix};
 ghost use Rattle.mx_journal.specs.History.{has_ticket, is_legal, is_maker, made_by};
 ghost use Rattle.mx_journal.specs.Answers.{handle_of, is_ready};
-ghost use Rattle.mx_journal.specs.Core.{IsSound, claimed, queued};
+ghost use Rattle.mx_journal.specs.Core.{claimed, queued};
 ghost use Rattle.mx_journal.specs.Slots.{slot_of};
+ghost use Rattle.mx_journal.specs.Table.{IsTableOf};
 ghost use Rattle.mx_board.specs.Board.{caught_up, mark_of};
+ghost use Rattle.mx_lock.specs.Shared.{IsLocked};
 
 use mx_board::{BoardReader, BoardWriter, JournalMark, board};
-use mx_journal::{Claim, Control};
+use mx_journal::{Claim, Control, Table};
 use mx_types::{Ending, Event, OutOfMemory, Who, Work};
 use std::alloc::Global;
 use std::marker::Model;
@@ -68,11 +70,20 @@ impl<Q: Work + Drop, O: Ending + Drop> Shared<Q, O> {
         }
     }
 
-    /// The control state is sound, and the version that is published is that of its journal.
+    /// What holds of everything that lies in a lock: the control state is sound, and the version that is published is that
+    /// of its journal.
     pub fn sound(&self)
-        ensures { IsSound O.code_of O.size_of self.now.core.opening.history self.now.core.journal self.now.core.queue self.now.core.endings × (self.now.published ≡ self.now.core.journal) }
+        ensures { IsLocked O.code_of O.size_of self.now }
     {
         self.control.sound()
+    }
+
+    /// The published version: the table of the journal.
+    pub fn published(&self) -> &Table
+        ensures { IsTableOf self.now.core.journal result.now }
+    {
+        let _ = &self.control;
+        self.board.table()
     }
 
     /// A mark of the whole journal.

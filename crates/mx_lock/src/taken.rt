@@ -5,11 +5,11 @@ ghost use Rattle.std.specs.List.{AllByRecursion};
 ghost use mathlib.Core.List.{IsPrefix};
 ghost use Rattle.mx_journal.specs.History.{has_ticket, is_legal, is_maker, made_by};
 ghost use Rattle.mx_journal.specs.Answers.{handle_of, is_ready};
-ghost use Rattle.mx_journal.specs.Core.{IsSound, claimed, queued};
+ghost use Rattle.mx_journal.specs.Core.{claimed, queued};
 ghost use Rattle.mx_journal.specs.Receipts.{is_poll};
 ghost use Rattle.mx_journal.specs.Slots.{slot_of};
 ghost use Rattle.mx_board.specs.Board.{caught_up};
-ghost use Rattle.mx_lock.specs.Shared.{Leaves, SharedState};
+ghost use Rattle.mx_lock.specs.Shared.{IsLocked, Leaves, SharedState};
 
 use crate::deeds::Deed;
 use crate::shared::Shared;
@@ -17,6 +17,7 @@ use mx_board::BoardReader;
 use mx_journal::Claim;
 use mx_types::{Ending, Who, Work};
 use std::marker::Model;
+use std::snapshot::Snapshot;
 use std::sync::Wait;
 
 /// The engine, taken out of the lock. It has no `Drop`, and ends by being given back or put back alone.
@@ -65,12 +66,14 @@ impl<Q: Work + Drop, O: Ending + Drop> Taken<Q, O> {
         (Taken { shared }, reply)
     }
 
-    /// What holds of everything that lies in the lock: the control state is sound, and the version that is published is
-    /// that of its journal.
-    pub fn sound(&self)
-        ensures { IsSound O.code_of O.size_of self.now.core.opening.history self.now.core.journal self.now.core.queue self.now.core.endings × (self.now.published ≡ self.now.core.journal) }
+    /// What lies in the lock, for contracts alone: its control state is sound, and the version that is published is that of
+    /// its journal.
+    pub fn know(&self) -> Snapshot<Shared<Q, O>>
+        ensures is { result.value ≡ self.now }
+        ensures locked { IsLocked O.code_of O.size_of self.now }
     {
-        self.shared.sound()
+        self.shared.sound();
+        Snapshot::of(&self.shared)
     }
 
     /// Whether the journal begins with what a reader has seen.
