@@ -8,6 +8,7 @@ use Rattle.mx_types.specs.declared.event.Who.TheVariants as who
 use Rattle.mx_types.specs.declared.event.Event.{Event}
 use Rattle.mx_journal.specs.Receipts.{IsPlaced}
 use Rattle.mx_board.specs.Board.{ReaderState, caught_up}
+use Rattle.mx_board.specs.Progress.{NoteState, ProgressState, new_seat}
 use Rattle.mx_lock.specs.Shared.{Engine}
 use Rattle.mx_lock.specs.Lock.{maker, engine_of, founder_at, child}
 use Rattle.mx_multi.specs.Seats.{MultiView, SeatView, IsSeat, IsReceived, IsNew}
@@ -24,10 +25,10 @@ key_maker true n lt =
     let back : 16 + n - 16 ≡ n = omega arith in
     ap maker e ∙ ap (λ b. cond b (who.Seat (16 + n)) (who.Worker (16 + n - 16))) (le-ltb (16 + n) 16 (omega arith)) ∙ ap who.Worker back
 
-pub new_seat : (e : Engine) (n : ℕ) (v : KeyView) (r : ReaderState) (w : Who) → v ≡ child (founder_at e n) → maker n ≡ w → r ≡ caught_up w [] e.book → IsSeat v r
-new_seat e n v r w key who got =
+pub seat_is_new : (e : Engine) (n : ℕ) (v : KeyView) (r : ReaderState) (w : Who) → v ≡ child (founder_at e n) → maker n ≡ w → r ≡ caught_up w [] e.book → IsSeat v r
+seat_is_new e n v r w key who got =
     subst (λ (k : KeyView). IsSeat k r) (sym key)
-    (subst (λ (z : ReaderState). IsSeat (child (founder_at e n)) z) (sym got) (record { free = refl; told = refl; who = who; book = refl; later = ([], refl); own = refl }))
+    (subst (λ (z : ReaderState). IsSeat (child (founder_at e n)) z) (sym got) (record { free = refl; told = refl; who = who; book = refl; later = ([], refl); own = refl; but_last = (omega arith, omega arith) }))
 
 pub new_received : {Q O : Type 0} (s : SeatView Q O) → s.seen ≡ [] → s.polled ≡ 0 → IsReceived s
 new_received s e p = ([], record { placed = subst (λ l. IsPlaced s.of.engine.opening s.who [] l) (sym e) (record { fit = tt; within = tt; rise = tt; each_once = refl }); polled = sym p })
@@ -48,10 +49,10 @@ reader_is worker n m w j a b r got who none book same =
     got ∙ path
 
 -- a key and a reader make a new seat
-pub is_new : {Q O : Type 0} (m of : MultiView Q O) (v : KeyView) (r : ReaderState) (worker : Bool) (n k : ℕ) → of.table ≡ m.table → of.keys ≡ m.keys → of.engine ≡ engine_of v → v ≡ child (founder_at m.engine k) → r ≡ caught_up (maker_of worker n) [] m.engine.book
-    → IsNew m (maker_of worker n) (seat_of of v r 0)
-is_new {Q} {O} m of v r worker n k table keys engine key got =
-    let same : of ≡ m = λ i. record { table = table i; keys = keys i; engine = (engine ∙ ap engine_of key) i } in
+pub is_new : {Q O : Type 0} (m of : MultiView Q O) (v : KeyView) (r : ReaderState) (worker : Bool) (n k : ℕ) (t : ProgressState) (w : NoteState) → of.table ≡ m.table → of.keys ≡ m.keys → of.engine ≡ engine_of v → of.words ≡ w.of → w ≡ new_seat t → t.id ≡ m.words → v ≡ child (founder_at m.engine k) → r ≡ caught_up (maker_of worker n) [] m.engine.book
+    → IsNew m (maker_of worker n) (seat_of of v r 0 w)
+is_new {Q} {O} m of v r worker n k t w table keys engine words fresh of_words key got =
+    let same : of ≡ m = λ i. record { table = table i; keys = keys i; engine = (engine ∙ ap engine_of key) i; words = (words ∙ ap (λ (z : NoteState). z.of) fresh ∙ of_words) i } in
     record {
       of = same;
       who = ap (λ (z : ReaderState). z.who) got;
@@ -59,6 +60,8 @@ is_new {Q} {O} m of v r worker n k table keys engine key got =
       confirmed = ap (λ (z : ReaderState). z.confirmed) got;
       polled = refl;
       claims = ap (λ (z : KeyView). z.claims) key;
+      noted = ap (λ (z : NoteState). z.noted) fresh;
+      read = ap (λ (z : NoteState). z.read) fresh;
     }
 
 pub length_more : {X : Type 0} (xs ys : List X) (x : X) (n m : ℕ) → ys ≡ xs ++ x ∷ [] → length xs ≡ n → m ≡ n + 1 → length ys ≡ m

@@ -1,12 +1,14 @@
 -- Runs of calls.
 use Rattle.std.proofs.Common.{◌≡◌, ℕ, ◌+◌, ◌<◌, ◌∙◌, sym, refl, ap, subst, List, [], ◌∷◌, ◌++◌, append-nil, append_assoc, length, map, take, get_or}
 use Rattle.std.proofs.lemmas.List.{take_more, map-append}
+use Rattle.mx_types.specs.declared.event.Who.{Who}
 use Rattle.mx_types.specs.declared.call.Call.{Call}
 use Rattle.mx_types.specs.declared.call.Receipt.{Receipt}
 use Rattle.mx_types.specs.declared.reply.Reply.{Reply}
+use Rattle.mx_journal.specs.Receipts.{IsPlaced}
 use Rattle.mx_board.proofs.Prefixes.{prefix_self, prefix_trans}
 use Rattle.mx_multi.specs.declared.laws.Step.{Step}
-use Rattle.mx_multi.specs.Seats.{SeatView, HasReceipts, Stands, Sees, Later, Ran}
+use Rattle.mx_multi.specs.Seats.{MultiView, SeatView, HasReceipts, Stands, Sees, IsNew, Later, Ran}
 use Rattle.mx_multi.specs.Laws.{call_of, RanScript}
 
 pub later_none : {Q O : Type 0} (s : SeatView Q O) → Later s s []
@@ -64,3 +66,15 @@ script_met s t u script r h claims = record {
 -- a step's call was answered
 pub step_by : {Q O : Type 0} (s t : SeatView Q O) (a b : Call) (reply : Reply) → a ≡ b → Stands s t b reply → (r : Reply) × Stands s t a r
 step_by {Q} {O} s t a b reply e h = (reply, subst (λ k. Stands s t k reply) (sym e) h)
+
+-- a new seat has no receipts, so its first call is placed alone
+pub first_is_placed : {Q O : Type 0} (m : MultiView Q O) (w : Who) (s t : SeatView Q O) (call : Call) (reply : Reply) → IsNew m w s → Stands s t call reply
+    → IsPlaced m.engine.opening w (record { cut = length t.seen; call = call; reply = reply } ∷ []) t.seen
+first_is_placed {Q} {O} m w s t call reply new h =
+    let none : HasReceipts s [] = record {
+      placed = subst (λ l. IsPlaced s.of.engine.opening s.who [] l) (sym new.seen) (record { fit = tt; within = tt; rise = tt; each_once = refl });
+      polled = sym new.polled;
+    } in
+    let mine : List Receipt = record { cut = length t.seen; call = call; reply = reply } ∷ [] in
+    subst (λ (z : MultiView Q O). IsPlaced z.engine.opening w mine t.seen) (h.of ∙ new.of)
+    (subst (λ x. IsPlaced t.of.engine.opening x mine t.seen) (h.who ∙ new.who) (h.placed [] none).placed)

@@ -1,10 +1,11 @@
 -- What a call says of its seat.
-use Rattle.std.proofs.Common.{◌≡◌, inl, ℕ, ◌∙◌, sym, refl, ap, subst, List, [], ◌∷◌, ◌++◌, append-nil, length, Bool, true, false, cond}
+use Rattle.std.proofs.Common.{◌≡◌, inl, ℕ, ◌∙◌, sym, refl, ap, subst, List, [], ◌∷◌, ◌+◌, ◌≤◌, ◌++◌, append-nil, length, length-append, Bool, true, false, cond, arith}
 use Rattle.std.specs.Prelude.{not, ◌||◌}
 use Rattle.std.specs.List.{AllByRecursion, filter}
 use mathlib.Core.List.{IsPrefix}
 use Rattle.std.proofs.lemmas.Bool.{false≢true, or_left, or_right}
 use Rattle.std.proofs.lemmas.List.Sums.{fold-append}
+use Rattle.mx_types.specs.declared.code.Code.{Code}
 use Rattle.mx_types.specs.declared.names.Ticket.{Ticket}
 use Rattle.mx_types.specs.declared.event.Who.{Who}
 use Rattle.mx_types.specs.declared.event.Event.{Event}
@@ -21,10 +22,14 @@ use Rattle.mx_journal.specs.Laws.{HasAtMostOneMore}
 use Rattle.mx_history.proofs.Lists.{same-is, same-refl}
 use Rattle.mx_history.proofs.Placing.{call_adds_at_most_one, call_is_placed, placed_stays}
 use Rattle.mx_board.specs.Board.{ReaderState, Reads, caught_up}
+use Rattle.mx_board.specs.Progress.{NoteState}
 use Rattle.mx_board.proofs.Prefixes.{prefix_self, prefix_trans}
-use Rattle.mx_lock.specs.Shared.{SharedState, Engine, content, HasNoOther, Leaves, IsLeft}
+use Rattle.mx_lock.specs.Shared.{SharedState, Engine, content, HasNoOther, IsLocked, Leaves, IsLeft}
 use Rattle.mx_lock.specs.Lock.{maker, engine_of, newly, Took, given, released}
-use Rattle.mx_multi.specs.Seats.{MultiView, SeatView, IsSeat, IsReceived, Finds, Stands, Sees, ClaimsOnly}
+use Rattle.mx_multi.specs.Seats.{MultiView, SeatView, IsSeat, IsReceived, Finds, Confirms, Stands, Sees, SeesVersion, FoundState, ClaimsOnly}
+use Rattle.mx_multi.specs.declared.progress.Progress.{Progress}
+use Rattle.mx_multi.specs.Progress.{IsProgress}
+use Rattle.mx_types.specs.declared.names.HandleId.{HandleId}
 use Rattle.mx_lock.specs.declared.key_view.KeyView.{KeyView}
 use Rattle.mx_lock.proofs.Keys.{longer}
 
@@ -39,8 +44,8 @@ mark_more mine call reply n = fold-append (λ m (r : Receipt). cond (is_poll r.c
 
 module _ {Q O : Type 0} where
   pub stands_at : (s t : SeatView Q O) (j : List Event) (call : Call) (reply : Reply) → t.of ≡ s.of → t.who ≡ s.who → Finds s j → Answers s.of.engine.opening s.who call j reply t.seen → is_legal t.seen ≡ true
-      → t.claims ≡ s.claims → t.polled ≡ polled_after call (length t.seen) s.polled → (is_poll call ≡ true → is_ready s.polled t.seen ≡ true) → Stands s t call reply
-  stands_at s t j call reply same who f a legal claims at ready =
+      → Confirms s t → t.claims ≡ s.claims → t.words ≡ s.words → t.polled ≡ polled_after call (length t.seen) s.polled → (is_poll call ≡ true → is_ready s.polled t.seen ≡ true) → Stands s t call reply
+  stands_at s t j call reply same who f a legal confirmed claims words at ready =
       let new : Receipt = record { cut = length t.seen; call = call; reply = reply } in
       record {
         of = same;
@@ -48,7 +53,9 @@ module _ {Q O : Type 0} where
         later = prefix_trans s.seen j t.seen f.later (longer s.who j t.seen (call_adds_at_most_one s.of.engine.opening s.who call reply j t.seen a));
         legal = legal;
         found = (j, f, a);
+        confirmed = confirmed;
         claims = claims;
+        words = words;
         polled = at;
         ready = ready;
         placed = λ mine h. record {
@@ -59,12 +66,13 @@ module _ {Q O : Type 0} where
         };
       }
 
-  pub sees_at : (s t : SeatView Q O) → t.of ≡ s.of → t.who ≡ s.who → Finds s t.seen → is_legal t.seen ≡ true → t.polled ≡ s.polled → t.confirmed ≡ length t.seen → Sees s t
-  sees_at s t same who f legal polled confirmed = record {
+  pub sees_at : (s t : SeatView Q O) → t.of ≡ s.of → t.who ≡ s.who → Finds s t.seen → is_legal t.seen ≡ true → t.polled ≡ s.polled → t.confirmed ≡ length t.seen → t.words ≡ s.words → Sees s t
+  sees_at s t same who f legal polled confirmed words = record {
     of = same;
     who = who;
     polled = polled;
     confirmed = confirmed;
+    words = words;
     found = f;
     legal = legal;
     placed = λ mine h. record {
@@ -86,21 +94,27 @@ module _ {Q O : Type 0} where
   pub sees_from : (old s t : SeatView Q O) → old ≡ s → Sees old t → Sees s t
   sees_from old s t e h = subst (λ (z : SeatView Q O). Sees z t) e h
 
-  of_is : (a b : MultiView Q O) → a.table ≡ b.table → a.keys ≡ b.keys → a.engine ≡ b.engine → a ≡ b
-  of_is a b p q r i = record { table = p i; keys = q i; engine = r i }
+  of_is : (a b : MultiView Q O) → a.table ≡ b.table → a.keys ≡ b.keys → a.engine ≡ b.engine → a.words ≡ b.words → a ≡ b
+  of_is a b p q r w i = record { table = p i; keys = q i; engine = r i; words = w i }
 
   -- a key that stays at its lock is of the same engine
-  pub same_of : (old new inner multi : MultiView Q O) (s : SeatView Q O) → s.of ≡ multi → inner ≡ multi → old ≡ s.of → new.table ≡ inner.table → new.keys ≡ inner.keys → new.engine ≡ old.engine → new ≡ old
-  same_of old new inner multi s own in_ was t k e =
+  pub same_of : (old new inner multi : MultiView Q O) (s : SeatView Q O) → s.of ≡ multi → inner ≡ multi → old ≡ s.of → new.table ≡ inner.table → new.keys ≡ inner.keys → new.engine ≡ old.engine → new.words ≡ old.words → new ≡ old
+  same_of old new inner multi s own in_ was t k e w =
       let all : inner ≡ old = in_ ∙ sym own ∙ sym was in
-      of_is new old (t ∙ ap (λ (m : MultiView Q O). m.table) all) (k ∙ ap (λ (m : MultiView Q O). m.keys) all) e
+      of_is new old (t ∙ ap (λ (m : MultiView Q O). m.table) all) (k ∙ ap (λ (m : MultiView Q O). m.keys) all) e w
 
 -- 2. A key and its reader.
 
+prefix_length : (xs ys : List Event) → IsPrefix xs ys → length xs ≤ length ys
+prefix_length xs ys h = omega (arith, ap length h.1, length-append xs h.0)
+
+all_confirmed : (j : List Event) → (length j ≤ length j) × (length j ≤ length j + 1)
+all_confirmed j = (omega arith, omega arith)
+
 module _ {Q O : Type 0} where
   -- the seat of a key and a reader
-  abbrev pub seat_of : MultiView Q O → KeyView → ReaderState → ℕ → SeatView Q O
-  seat_of of v r p = record { of = of; who = r.who; seen = r.seen; confirmed = r.confirmed; polled = p; claims = v.claims }
+  abbrev pub seat_of : MultiView Q O → KeyView → ReaderState → ℕ → NoteState → SeatView Q O
+  seat_of of v r p n = record { of = of; who = r.who; seen = r.seen; confirmed = r.confirmed; polled = p; claims = v.claims; words = n }
 
   -- a reader that has seen the whole journal
   abbrev pub at_end : Who → SharedState Q O → ReaderState
@@ -120,8 +134,8 @@ only_new t p (u ∷ after) h = go (p u) refl (only_new t p after (λ x k q. h x 
 -- the engine that a key took, before anything was done
 module _ {Q O : Type 0} (v w : KeyView) (r : ReaderState) (x : SharedState Q O) (seat : IsSeat v r) (took : Took content v x w) where
   -- the journal that was found
-  pub finds : (of : MultiView Q O) (p : ℕ) → IsPrefix r.seen x.core.journal → Finds (seat_of of v r p) x.core.journal
-  finds of p pre =
+  pub finds : (of : MultiView Q O) (p : ℕ) (n : NoteState) → IsPrefix r.seen x.core.journal → Finds (seat_of of v r p n) x.core.journal
+  finds of p n pre =
       let own : made_by r.who x.core.journal ≡ made_by r.who v.seen = subst (λ m. made_by m x.core.journal ≡ made_by m v.seen) seat.who took.own in
       record { later = pre; own = own ∙ sym seat.own }
 
@@ -150,7 +164,7 @@ module _ {Q O : Type 0} (v w : KeyView) (r : ReaderState) (x : SharedState Q O) 
   pub seat_released : (u : KeyView) → u ≡ released w → IsSeat u r
   seat_released u back =
       let is : u ≡ released v = back ∙ ap released took.is in
-      subst (λ (k : KeyView). IsSeat k r) (sym is) (record { free = refl; told = seat.told; who = seat.who; book = seat.book; later = seat.later; own = seat.own })
+      subst (λ (k : KeyView). IsSeat k r) (sym is) (record { free = refl; told = seat.told; who = seat.who; book = seat.book; later = seat.later; own = seat.own; but_last = seat.but_last })
 
   -- after the engine was given back, and the reader brought up to it
   module _ (u : KeyView) (t : ReaderState) (y : SharedState Q O) (gave : u ≡ given w (content y)) (got : t ≡ at_end r.who y) where
@@ -168,6 +182,7 @@ module _ {Q O : Type 0} (v w : KeyView) (r : ReaderState) (x : SharedState Q O) 
           book = book ∙ ap (λ (e : Engine). e.book) (sym took.engine);
           later = prefix_self y.core.journal;
           own = refl;
+          but_last = all_confirmed y.core.journal;
         }))
 
     claims_are : u.claims ≡ v.claims ++ newly (content x).claimed (content y).claimed
@@ -177,8 +192,8 @@ module _ {Q O : Type 0} (v w : KeyView) (r : ReaderState) (x : SharedState Q O) 
     claims_after none =
         claims_are ∙ ap (λ l. v.claims ++ l) (none_new (content x).claimed (λ s. not (has_ticket s (content x).claimed)) (content y).claimed (λ s k. ap not (none s k))) ∙ append-nil v.claims
 
-    pub claims_only : (of of' : MultiView Q O) (p q : ℕ) (ticket : Ticket) → HasNoOther (ticket ∷ (content x).claimed) (content y).claimed → ClaimsOnly (seat_of of v r p) (seat_of of' u t q) ticket
-    claims_only of of' p q ticket none = record {
+    pub claims_only : (of of' : MultiView Q O) (p q : ℕ) (n : NoteState) (ticket : Ticket) → HasNoOther (ticket ∷ (content x).claimed) (content y).claimed → ClaimsOnly (seat_of of v r p n) (seat_of of' u t q n) ticket
+    claims_only of of' p q n ticket none = record {
       more = newly (content x).claimed (content y).claimed;
       claims = claims_are;
       only = only_new ticket (λ s. not (has_ticket s (content x).claimed)) (content y).claimed (λ s k n. first s (same_ticket s ticket) refl n (none s k));
@@ -188,22 +203,36 @@ module _ {Q O : Type 0} (v w : KeyView) (r : ReaderState) (x : SharedState Q O) 
         first s true is n k = same-is s ticket is
         first s false is n k = absurd (false≢true (sym (ap not (sym (ap (λ b. b || has_ticket s (content x).claimed) is) ∙ k)) ∙ n))
 
-    pub lock_stands : (of of' : MultiView Q O) (p q : ℕ) (by : Who) (call : Call) (reply : Reply) → of.engine ≡ engine_of v → of' ≡ of → by ≡ r.who → IsPrefix r.seen x.core.journal → Leaves by call x reply y
-        → q ≡ polled_after call (length y.core.journal) p → (is_poll call ≡ true → is_ready p y.core.journal ≡ true) → Stands (seat_of of v r p) (seat_of of' u t q) call reply
-    lock_stands of of' p q by call reply engine same is pre leaves at ready =
+    -- all is confirmed then
+    confirms : (of of' : MultiView Q O) (p q : ℕ) (n : NoteState) → IsPrefix r.seen y.core.journal → Confirms (seat_of of v r p n) (seat_of of' u t q n)
+    confirms of of' p q n pre =
+        let at : t.confirmed ≡ length t.seen = ap (λ (z : ReaderState). z.confirmed) got ∙ ap length (sym (ap (λ (z : ReaderState). z.seen) got)) in
+        let long = prefix_length r.seen y.core.journal pre in
+        let seen : length t.seen ≡ length y.core.journal = ap (λ (z : ReaderState). length z.seen) got in
+        let was = seat.but_last.0 in
+        record { more = omega (arith, at, long, seen, was); within = omega (arith, at); but_last = omega (arith, at) }
+
+    pub lock_stands : (of of' : MultiView Q O) (p q : ℕ) (n : NoteState) (by : Who) (call : Call) (reply : Reply) → of.engine ≡ engine_of v → of' ≡ of → by ≡ r.who → IsPrefix r.seen x.core.journal → Leaves by call x reply y
+        → q ≡ polled_after call (length y.core.journal) p → (is_poll call ≡ true → is_ready p y.core.journal ≡ true) → Stands (seat_of of v r p n) (seat_of of' u t q n) call reply
+    lock_stands of of' p q n by call reply engine same is pre leaves at ready =
         let opening : x.core.opening ≡ of.engine.opening = ap (λ (e : Engine). e.opening) (sym (engine ∙ took.engine)) in
         let a = subst (λ o. Answers o by call x.core.journal reply y.core.journal) opening leaves.answers in
         let b = subst (λ m. Answers of.engine.opening m call x.core.journal reply y.core.journal) is a in
         let seen : t.seen ≡ y.core.journal = ap (λ (z : ReaderState). z.seen) got in
-        stands_at (seat_of of v r p) (seat_of of' u t q) x.core.journal call reply same (ap (λ (z : ReaderState). z.who) got) (finds of p pre)
-        (subst (λ l. Answers of.engine.opening r.who call x.core.journal reply l) (sym seen) b) (ap is_legal seen ∙ leaves.legal) (claims_after leaves.claims)
+        stands_at (seat_of of v r p n) (seat_of of' u t q n) x.core.journal call reply same (ap (λ (z : ReaderState). z.who) got) (finds of p n pre)
+        (subst (λ l. Answers of.engine.opening r.who call x.core.journal reply l) (sym seen) b) (ap is_legal seen ∙ leaves.legal)
+        (confirms of of' p q n (begins_by y by call reply leaves pre)) (claims_after leaves.claims) refl
         (at ∙ ap (λ l. polled_after call (length l) p) (sym seen)) (λ poll. ap (is_ready p) seen ∙ ready poll)
 
-    pub lock_sees : (of of' : MultiView Q O) (p : ℕ) → of' ≡ of → IsPrefix r.seen x.core.journal → IsLeft x y → Sees (seat_of of v r p) (seat_of of' u t p)
-    lock_sees of of' p same pre left =
+    pub lock_sees : (of of' : MultiView Q O) (p : ℕ) (n : NoteState) → of' ≡ of → IsPrefix r.seen x.core.journal → IsLeft x y → Sees (seat_of of v r p n) (seat_of of' u t p n)
+    lock_sees of of' p n same pre left =
         let seen : t.seen ≡ x.core.journal = ap (λ (z : ReaderState). z.seen) got ∙ left.journal in
-        sees_at (seat_of of v r p) (seat_of of' u t p) same (ap (λ (z : ReaderState). z.who) got) (subst (Finds (seat_of of v r p)) (sym seen) (finds of p pre)) (ap is_legal (ap (λ (z : ReaderState). z.seen) got) ∙ left.legal) refl
-        (ap (λ (z : ReaderState). z.confirmed) got ∙ ap length (sym (ap (λ (z : ReaderState). z.seen) got)))
+        sees_at (seat_of of v r p n) (seat_of of' u t p n) same (ap (λ (z : ReaderState). z.who) got) (subst (Finds (seat_of of v r p n)) (sym seen) (finds of p n pre)) (ap is_legal (ap (λ (z : ReaderState). z.seen) got) ∙ left.legal) refl
+        (ap (λ (z : ReaderState). z.confirmed) got ∙ ap length (sym (ap (λ (z : ReaderState). z.seen) got))) refl
+
+  -- the state that was found, by a seat that has then seen its journal
+  pub found_state : (code : O → Code) (size : O → ℕ) (s : SeatView Q O) (y : SharedState Q O) → y ≡ x → s.seen ≡ x.core.journal → s.of.engine ≡ engine_of v → IsLocked code size x → FoundState code size s y
+  found_state code size s y same seen engine locked = subst (FoundState code size s) (sym same) (record { journal = sym seen; engine = sym took.engine ∙ sym engine; locked = locked })
 
   -- the key's engine stays
   pub engine_kept : (u : KeyView) (c : SharedState Q O) → u ≡ given w (content c) → engine_of u ≡ engine_of v
@@ -226,13 +255,15 @@ seat_read v r t s h = record {
   book = h.book ∙ s.book;
   later = prefix_trans v.seen r.seen t.seen s.later h.later;
   own = subst (λ m. made_by m t.seen ≡ made_by m v.seen) (sym h.who) (h.own ∙ s.own);
+  but_last = h.but_last;
 }
 
 -- a read stands at what it has then seen
-pub stands_read : {Q O : Type 0} (of : MultiView Q O) (v : KeyView) (r t : ReaderState) (p : ℕ) (call : Call) (reply : Reply) → Reads r t → is_poll call ≡ false → Answers of.engine.opening r.who call t.seen reply t.seen
-    → Stands (seat_of of v r p) (seat_of of v t p) call reply
-stands_read of v r t p call reply h quiet a =
-    stands_at (seat_of of v r p) (seat_of of v t p) t.seen call reply refl h.who (record { later = h.later; own = h.own }) a h.legal refl
+pub stands_read : {Q O : Type 0} (of : MultiView Q O) (v : KeyView) (r t : ReaderState) (p : ℕ) (n : NoteState) (call : Call) (reply : Reply) → Reads r t → is_poll call ≡ false → Answers of.engine.opening r.who call t.seen reply t.seen
+    → Stands (seat_of of v r p n) (seat_of of v t p n) call reply
+stands_read of v r t p n call reply h quiet a =
+    stands_at (seat_of of v r p n) (seat_of of v t p n) t.seen call reply refl h.who (record { later = h.later; own = h.own }) a h.legal
+    (record { more = h.confirmed; within = h.but_last.0; but_last = h.but_last.1 }) refl refl
     (ap (λ b. cond b (length t.seen) p) (sym quiet)) (λ is. absurd (false≢true (sym quiet ∙ is)))
 
 -- 4. A seat that meets another.
@@ -247,14 +278,15 @@ seat_sees v r t x s pre own book got =
       book = sym book ∙ s.book;
       later = prefix_trans v.seen r.seen x.core.journal s.later pre;
       own = own ∙ s.own;
+      but_last = all_confirmed x.core.journal;
     })
 
-pub other_sees : {Q O : Type 0} (of : MultiView Q O) (v : KeyView) (r t : ReaderState) (p : ℕ) (x : SharedState Q O) → IsPrefix r.seen x.core.journal → made_by r.who x.core.journal ≡ made_by r.who r.seen → is_legal x.core.journal ≡ true → t ≡ at_end r.who x
-    → Sees (seat_of of v r p) (seat_of of v t p)
-other_sees of v r t p x pre own legal got =
+pub other_sees : {Q O : Type 0} (of : MultiView Q O) (v : KeyView) (r t : ReaderState) (p : ℕ) (n : NoteState) (x : SharedState Q O) → IsPrefix r.seen x.core.journal → made_by r.who x.core.journal ≡ made_by r.who r.seen → is_legal x.core.journal ≡ true → t ≡ at_end r.who x
+    → Sees (seat_of of v r p n) (seat_of of v t p n)
+other_sees of v r t p n x pre own legal got =
     let seen : t.seen ≡ x.core.journal = ap (λ (z : ReaderState). z.seen) got in
-    sees_at (seat_of of v r p) (seat_of of v t p) refl (ap (λ (z : ReaderState). z.who) got)
-    (subst (Finds (seat_of of v r p)) (sym seen) (record { later = pre; own = own })) (ap is_legal seen ∙ legal) refl (ap (λ (z : ReaderState). z.confirmed) got ∙ ap length (sym seen))
+    sees_at (seat_of of v r p n) (seat_of of v t p n) refl (ap (λ (z : ReaderState). z.who) got)
+    (subst (Finds (seat_of of v r p n)) (sym seen) (record { later = pre; own = own })) (ap is_legal seen ∙ legal) refl (ap (λ (z : ReaderState). z.confirmed) got ∙ ap length (sym seen)) refl
 
 -- 5. How the engine is left.
 
@@ -279,9 +311,33 @@ pub quiet_mark : (c : Call) (n p : ℕ) → is_poll c ≡ false → p ≡ polled
 quiet_mark c n p quiet = ap (λ b. cond b n p) (sym quiet)
 
 -- a seat whose key put back what it took
-pub received_released : {Q O : Type 0} (v u : KeyView) (r : ReaderState) (of of' : MultiView Q O) (p : ℕ) → of'.engine ≡ of.engine → IsReceived (seat_of of v r p) → IsReceived (seat_of of' u r p)
-received_released v u r of of' p same h =
+pub received_released : {Q O : Type 0} (v u : KeyView) (r : ReaderState) (of of' : MultiView Q O) (p : ℕ) (n : NoteState) → of'.engine ≡ of.engine → IsReceived (seat_of of v r p n) → IsReceived (seat_of of' u r p n)
+received_released v u r of of' p n same h =
     (h.0, record { placed = subst (λ (e : Engine). IsPlaced e.opening r.who h.0 r.seen) (sym same) h.1.placed; polled = h.1.polled })
 
 pub claims_from : {Q O : Type 0} (old s t : SeatView Q O) (ticket : Ticket) → old ≡ s → ClaimsOnly old t ticket → ClaimsOnly s t ticket
 claims_from {Q} {O} old s t ticket e h = subst (λ (z : SeatView Q O). ClaimsOnly z t ticket) e h
+
+-- 6. A version that was read, with no receipt.
+
+pub sees_version : {Q O : Type 0} (of of' : MultiView Q O) (v : KeyView) (r t : ReaderState) (p : ℕ) (n m : NoteState) → of' ≡ of → Reads r t → SeesVersion (seat_of of v r p n) (seat_of of' v t p m)
+sees_version {Q} {O} of of' v r t p n m same h = record {
+  of = same;
+  who = h.who;
+  polled = refl;
+  claims = refl;
+  confirmed = record { more = h.confirmed; within = h.but_last.0; but_last = h.but_last.1 };
+  found = record { later = h.later; own = h.own };
+  legal = h.legal;
+  placed = λ mine q. record {
+    placed = subst (λ (o : MultiView Q O). IsPlaced o.engine.opening t.who mine t.seen) (sym same)
+        (subst (λ w. IsPlaced of.engine.opening w mine t.seen) (sym h.who) (placed_stays of.engine.opening r.who mine r.seen t.seen q.placed h.later h.own));
+    polled = q.polled;
+  };
+}
+
+pub received_version : {Q O : Type 0} (s t : SeatView Q O) → SeesVersion s t → IsReceived s → IsReceived t
+received_version s t h r = (r.0, h.placed r.0 r.1)
+
+pub progress_from : {Q O : Type 0} (old s t : SeatView Q O) (h : HandleId) (p : Progress) → old ≡ s → SeesVersion old t → IsProgress h t.seen old.words t.words p → SeesVersion s t × IsProgress h t.seen s.words t.words p
+progress_from {Q} {O} old s t h p e sees is = subst (λ (z : SeatView Q O). SeesVersion z t × IsProgress h t.seen z.words t.words p) e (sees, is)

@@ -15,6 +15,8 @@ call_of (step.Pause h) = call.Pause h
 call_of (step.Unpause h) = call.Unpause h
 call_of step.InfoRead = call.InfoRead
 call_of step.Wakeup = call.Wakeup
+call_of step.Poll = call.Poll
+call_of step.Handles = call.Handles
 call_of step.Running = call.Running
 call_of (step.State h) = call.State h
 

@@ -1,3 +1,4 @@
 pub mod Laws
 pub mod Opening
+pub mod Progress
 pub mod Seats

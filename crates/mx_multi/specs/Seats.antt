@@ -1,10 +1,11 @@
 -- What a seat has seen, and what a call says of it.
-use Rattle.std.specs.Prelude.{◌≡◌, ℕ, if◌then◌else◌, true, false, List, [], ◌∷◌, ◌++◌, length}
+use Rattle.std.specs.Prelude.{◌≡◌, ℕ, ◌+◌, ◌≤◌, if◌then◌else◌, true, false, List, [], ◌∷◌, ◌++◌, length}
 use Rattle.std.specs.List.{AllByRecursion}
 use mathlib.Core.List.{IsPrefix}
 use Rattle.atomic_table.specs.Seated.{TableId}
 use Rattle.atomic_table.specs.declared.badge.Badge.{Badge}
 use Rattle.crossbeam_channel.specs.declared.flavors.array.Key.{Key}
+use Rattle.mx_types.specs.declared.code.Code.{Code}
 use Rattle.mx_types.specs.declared.names.Ticket.{Ticket}
 use Rattle.mx_types.specs.declared.event.Who.{Who}
 use Rattle.mx_types.specs.declared.event.Event.{Event}
@@ -14,19 +15,22 @@ use Rattle.mx_types.specs.declared.reply.Reply.{Reply}
 use Rattle.mx_journal.specs.History.{is_legal, made_by}
 use Rattle.mx_journal.specs.Answers.{Answers, is_ready}
 use Rattle.mx_journal.specs.Receipts.{is_poll, mark, IsPlaced}
-use Rattle.mx_board.specs.Board.{ReaderState}
-use Rattle.mx_lock.specs.Shared.{SharedState, Engine}
+use Rattle.mx_journal.specs.Core.{queued}
+use Rattle.mx_board.specs.Board.{ReaderState, ConfirmsAllButLast}
+use Rattle.mx_board.specs.Progress.{NoteState}
+use Rattle.mx_lock.specs.Shared.{SharedState, Engine, IsLocked, content}
 use Rattle.mx_lock.specs.Lock.{maker, engine_of}
 use Rattle.mx_lock.specs.declared.key_view.KeyView.{KeyView}
 
--- which engine it is: its lock, its journal, and what it was opened with
+-- which engine it is: its lock, its journal, what it was opened with, and its progress words
 pub record MultiView (Q O : Type 0) : Type 0 where
   pub table : TableId
   pub keys : Badge (Key (SharedState Q O))
   pub engine : Engine
+  pub words : TableId
 
 -- a seat: of which engine it is, which maker, the events that it has seen, how many of these are confirmed by more than a
--- read, how many they were at its last poll, and the tickets that it has claimed
+-- read, how many they were at its last poll, the tickets that it has claimed, and the progress words that it has noted and read
 pub record SeatView (Q O : Type 0) : Type 0 where
   pub of : MultiView Q O
   pub who : Who
@@ -34,6 +38,7 @@ pub record SeatView (Q O : Type 0) : Type 0 where
   pub confirmed : ℕ
   pub polled : ℕ
   pub claims : List Ticket
+  pub words : NoteState
 
 -- the seat's key is free, and its reader has seen no less than the key, and no event more of its maker
 pub record IsSeat (v : KeyView) (r : ReaderState) : Type 0 where
@@ -43,6 +48,7 @@ pub record IsSeat (v : KeyView) (r : ReaderState) : Type 0 where
   pub book : r.book ≡ (engine_of v).book
   pub later : IsPrefix v.seen r.seen
   pub own : made_by r.who r.seen ≡ made_by r.who v.seen
+  pub but_last : ConfirmsAllButLast r
 
 -- the receipts are those of the seat's calls: they stand in what it has seen, and the last poll among them is its last poll
 pub record HasReceipts {Q O : Type 0} (s : SeatView Q O) (mine : List Receipt) : Type 0 where
@@ -58,6 +64,12 @@ pub record Finds {Q O : Type 0} (s : SeatView Q O) (j : List Event) : Type 0 whe
   pub later : IsPrefix s.seen j
   pub own : made_by s.who j ≡ made_by s.who s.seen
 
+-- what was confirmed stays confirmed; and now all that was seen is confirmed, or all but the last event
+pub record Confirms {Q O : Type 0} (s t : SeatView Q O) : Type 0 where
+  pub more : s.confirmed ≤ t.confirmed
+  pub within : t.confirmed ≤ length t.seen
+  pub but_last : length t.seen ≤ t.confirmed + 1
+
 -- The call was answered: after a journal that begins with what the seat has seen, it left the events that the seat has
 -- then seen, and its receipt stands behind the others.
 pub record Stands {Q O : Type 0} (s t : SeatView Q O) (call : Call) (reply : Reply) : Type 0 where
@@ -66,7 +78,9 @@ pub record Stands {Q O : Type 0} (s t : SeatView Q O) (call : Call) (reply : Rep
   pub later : IsPrefix s.seen t.seen
   pub legal : is_legal t.seen ≡ true
   pub found : (j : List Event) × Finds s j × Answers s.of.engine.opening s.who call j reply t.seen
+  pub confirmed : Confirms s t
   pub claims : t.claims ≡ s.claims
+  pub words : t.words ≡ s.words
   pub polled : t.polled ≡ (if is_poll call then length t.seen else s.polled)
   pub ready : is_poll call ≡ true → is_ready s.polled t.seen ≡ true
   pub placed : (mine : List Receipt) → HasReceipts s mine → HasReceipts t (mine ++ record { cut = length t.seen; call = call; reply = reply } ∷ [])
@@ -77,6 +91,18 @@ pub record Sees {Q O : Type 0} (s t : SeatView Q O) : Type 0 where
   pub who : t.who ≡ s.who
   pub polled : t.polled ≡ s.polled
   pub confirmed : t.confirmed ≡ length t.seen
+  pub words : t.words ≡ s.words
+  pub found : Finds s t.seen
+  pub legal : is_legal t.seen ≡ true
+  pub placed : (mine : List Receipt) → HasReceipts s mine → HasReceipts t mine
+
+-- the seat has read a published version, with no receipt for that: what was placed stays placed
+pub record SeesVersion {Q O : Type 0} (s t : SeatView Q O) : Type 0 where
+  pub of : t.of ≡ s.of
+  pub who : t.who ≡ s.who
+  pub polled : t.polled ≡ s.polled
+  pub claims : t.claims ≡ s.claims
+  pub confirmed : Confirms s t
   pub found : Finds s t.seen
   pub legal : is_legal t.seen ≡ true
   pub placed : (mine : List Receipt) → HasReceipts s mine → HasReceipts t mine
@@ -87,6 +113,26 @@ pub record ClaimsOnly {Q O : Type 0} (s t : SeatView Q O) (ticket : Ticket) : Ty
   pub claims : t.claims ≡ s.claims ++ more
   pub only : AllByRecursion (λ u. u ≡ ticket) more
 
+-- a state of what lies in the lock of the seat's engine, with the journal that the seat has seen
+pub record FoundState {Q O : Type 0} (code : O → Code) (size : O → ℕ) (s : SeatView Q O) (x : SharedState Q O) : Type 0 where
+  pub journal : x.core.journal ≡ s.seen
+  pub engine : (content x).engine ≡ s.of.engine
+  pub locked : IsLocked code size x
+
+-- what was claimed came first in the queue that was found there, under the least ticket
+pub record ClaimsLeast {Q O : Type 0} (code : O → Code) (size : O → ℕ) (s : SeatView Q O) (ticket : Ticket) (work : Q) : Type 0 where
+  pub found : SharedState Q O
+  pub is : FoundState code size s found
+  pub rest : List (Ticket × Q)
+  pub first : found.core.queue ≡ (ticket, work) ∷ rest
+  pub least : AllByRecursion (λ u. ticket.0 ≤ u.0) (queued found.core.queue)
+
+-- the queue that was found there was empty
+pub record ClaimsNothing {Q O : Type 0} (code : O → Code) (size : O → ℕ) (s : SeatView Q O) : Type 0 where
+  pub found : SharedState Q O
+  pub is : FoundState code size s found
+  pub none : found.core.queue ≡ []
+
 -- a seat of the engine that has seen nothing
 pub record IsNew {Q O : Type 0} (m : MultiView Q O) (w : Who) (s : SeatView Q O) : Type 0 where
   pub of : s.of ≡ m
@@ -95,6 +141,8 @@ pub record IsNew {Q O : Type 0} (m : MultiView Q O) (w : Who) (s : SeatView Q O)
   pub confirmed : s.confirmed ≡ 0
   pub polled : s.polled ≡ 0
   pub claims : s.claims ≡ []
+  pub noted : s.words.noted ≡ []
+  pub read : s.words.read ≡ []
 
 -- the same seat, later: further calls of it were answered, with these receipts, which stand behind those that it had
 pub record Later {Q O : Type 0} (s t : SeatView Q O) (more : List Receipt) : Type 0 where

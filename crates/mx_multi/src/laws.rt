@@ -1,7 +1,11 @@
 //! Runs of calls: what is known of a seat after many of them.
-ghost use Rattle.std.specs.Prelude.{◌≡◌, take, MatchBool, MatchOption};
+ghost use Rattle.std.specs.Prelude.{List, ◌≡◌, ◌∷◌, ◌++◌, [], length, take, MatchBool, MatchOption};
+ghost use Rattle.mx_types.specs.declared.call.Call.{Call};
+ghost use Rattle.mx_types.specs.declared.call.Receipt.{Receipt};
+ghost use Rattle.mx_types.specs.declared.event.Who.{Who};
 ghost use Rattle.mx_types.specs.declared.reply.Reply.{Reply};
-ghost use Rattle.mx_multi.specs.Seats.{Stands};
+ghost use Rattle.mx_journal.specs.Receipts.{IsPlaced};
+ghost use Rattle.mx_multi.specs.Seats.{IsNew, Later, SeatView, Sees, Stands};
 ghost use Rattle.mx_multi.specs.Laws.{call_of, RanScript, Met};
 
 use crate::multi::Multi;
@@ -10,7 +14,7 @@ use mx_types::{Ending, HandleId, Work};
 use std::sync::Wait;
 use std::thread::{Threads, join};
 
-/// A step of a script: a call that is handed no work.
+/// A step of a script: a call that is handed no work and no claim.
 #[derive(Clone, Copy, Debug, PartialEq, Eq)]
 pub enum Step {
     Remove(HandleId),
@@ -18,6 +22,8 @@ pub enum Step {
     Unpause(HandleId),
     InfoRead,
     Wakeup,
+    Poll,
+    Handles,
     Running,
     State(HandleId),
 }
@@ -59,6 +65,29 @@ impl<Q: Work + Drop, O: Ending + Drop> Multi<Q, O> {
                 };
                 true
             }
+            Step::Poll => {
+                let Ok(_) = self.poll(rt, seat) else {
+                    return false;
+                };
+                true
+            }
+            _ => self.read_step(seat, step),
+        }
+    }
+
+    // Makes the call of a step that reads a published version. False, and nothing changes, where it was answered None, or
+    // where the step is another.
+    fn read_step(&self, seat: &mut Seat<Q, O>, step: Step) -> bool
+        requires own { seat.old.of ≡ self.now }
+        ensures { MatchBool result ((reply : Reply) × Stands seat.old seat.new (call_of step) reply) (seat.new ≡ seat.old) }
+    {
+        match step {
+            Step::Handles => {
+                let Some(_reply) = self.added(seat) else {
+                    return false;
+                };
+                true
+            }
             Step::Running => {
                 let Some(_reply) = self.running(seat) else {
                     return false;
@@ -71,6 +100,7 @@ impl<Q: Work + Drop, O: Ending + Drop> Multi<Q, O> {
                 };
                 true
             }
+            _ => false,
         }
     }
 
@@ -88,6 +118,25 @@ impl<Q: Work + Drop, O: Ending + Drop> Multi<Q, O> {
             made += 1;
         }
         made
+    }
+}
+
+impl<Q: Work + Drop, O: Ending + Drop> Multi<Q, O> {
+    /// The first answered call of a new seat is placed, alone, in what the seat has then seen.
+    pub fn first_call_is_placed(&self)
+        ensures { (who : Who) (s t : SeatView Q O) (call : Call) (reply : Reply) → IsNew self.now who s → Stands s t call reply → IsPlaced self.now.engine.opening who (record { cut = length t.seen; call = call; reply = reply } ∷ []) t.seen }
+    {
+        let _ = &self.lock;
+    }
+
+    /// Runs go on: behind a run stands one more answered call, whatever it is, with its receipt last; a journal that is seen
+    /// with no receipt leaves the run; and no call is a run.
+    pub fn runs_go_on(&self)
+        ensures more { (s t u : SeatView Q O) (more : List Receipt) (call : Call) (reply : Reply) → Later s t more → Stands t u call reply → Later s u (more ++ record { cut = length u.seen; call = call; reply = reply } ∷ []) }
+        ensures sees { (s t u : SeatView Q O) (more : List Receipt) → Later s t more → Sees t u → Later s u more }
+        ensures none { (s : SeatView Q O) → Later s s [] }
+    {
+        let _ = &self.lock;
     }
 }
 

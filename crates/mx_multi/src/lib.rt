@@ -5,9 +5,11 @@
 mod laws;
 mod multi;
 mod open;
+mod progress;
 mod seat;
 
 pub use crate::laws::{Step, run_two};
 pub use crate::multi::{HandleList, Multi, WrongSeat};
 pub use crate::open::{Limits, OpenError};
+pub use crate::progress::Progress;
 pub use crate::seat::{Seat, WorkerSeat};

@@ -8,16 +8,17 @@ ghost use Rattle.mx_journal.specs.Slots.{slot_of};
 ghost use Rattle.mx_journal.specs.Replies.{handed_back, work_back, IsHandedBack, reply_of_add, reply_of_finish, reply_of_info, reply_of_pause, reply_of_remove, reply_of_wakeup};
 ghost use Rattle.mx_board.specs.Board.{AreOfOneJournal, OneBeginsOther};
 ghost use Rattle.mx_lock.specs.Shared.{SharedState};
-ghost use Rattle.mx_multi.specs.Seats.{Stands, Sees, ClaimsOnly};
+ghost use Rattle.mx_multi.specs.Seats.{Stands, Sees, FoundState, ClaimsLeast, ClaimsNothing, ClaimsOnly};
 
 use crate::seat::{Seat, WorkerSeat};
-use mx_board::{JournalMark, are_of_one_journal};
+use mx_board::{JournalMark, ProgressTable, are_of_one_journal};
 use mx_journal::{AddReply, Claim, FinishReply, InfoReply, PauseReply, RemoveReply, WakeupReply};
 use mx_lock::{
     Addition, Deed, Finishing, Lock, Pausing, Reading, Removal, Shared, Unpausing, Waking,
 };
 use mx_types::{AddedHandles, Ending, HandleId, Look, State, Ticket, Work};
 use std::marker::Model;
+use std::snapshot::Snapshot;
 use std::sync::{Condvar, Mutex, Wait};
 
 /// The seat has seen a journal that isn't the beginning of this one. No contract rules that out for a seat that `open` gave.
@@ -38,6 +39,8 @@ pub struct Multi<Q: Work + Drop, O: Ending + Drop> {
     pub(crate) lock: Lock<Q, O>,
     /// The beginning of the journal, which tells journals apart.
     pub(crate) start: JournalMark,
+    /// How many bytes each transfer has received.
+    pub(crate) words: ProgressTable,
     pub(crate) history: u32,
     pub(crate) max_connects: u8,
     /// How many wake-ups and ends there were, for those that wait.
@@ -50,7 +53,7 @@ impl<Q: Work + Drop, O: Ending + Drop> Model for Multi<Q, O> {
 
     ghost Value = { MultiView Q O };
 
-    ghost view = { λ m. record { table = m.lock.table; keys = m.lock.keys; engine = record { book = m.start.book; opening = record { history = m.history } } } };
+    ghost view = { λ m. record { table = m.lock.table; keys = m.lock.keys; engine = record { book = m.start.book; opening = record { history = m.history } }; words = m.words.id } };
 }
 
 impl<Q: Work + Drop, O: Ending + Drop> Multi<Q, O> {
@@ -264,10 +267,12 @@ impl<Q: Work + Drop, O: Ending + Drop> Multi<Q, O> {
         ensures origin { IfSome result (λ r. r.0.origin ≡ Q.origin r.1) }
         ensures handle { IfSome result (λ r. handle_of r.0.ticket seat.new.seen ≡ Some r.0.handle) }
         ensures slot { IfSome result (λ r. slot_of r.0.ticket seat.new.seen ≡ Some r.0.slot) }
+        ensures queue { MatchOption result ((seat.new ≡ seat.old) ⊎ ClaimsNothing O.code_of O.size_of seat.new) (λ r. ClaimsLeast O.code_of O.size_of seat.new r.0.ticket r.1) }
     {
         let Some(mut taken) = self.lock.enter(rt, &mut seat.key, &seat.reader) else {
             return None;
         };
+        let _known = taken.know();
         let _cut = taken.len();
         let claimed = taken.claim();
         self.lock.leave(rt, &mut seat.key, taken, &mut seat.reader);
@@ -275,6 +280,28 @@ impl<Q: Work + Drop, O: Ending + Drop> Multi<Q, O> {
             return None;
         };
         Some(claimed)
+    }
+
+    /// What lies in the lock, for contracts alone: the control state is sound, its journal is what the seat has then seen,
+    /// and the version that is published is that of this journal. `WrongSeat`, and nothing changes, where the seat isn't one
+    /// of this multi handle's.
+    pub fn locked_state<R: Wait>(
+        &self,
+        rt: &R,
+        seat: &mut Seat<Q, O>,
+    ) -> Result<Snapshot<Shared<Q, O>>, WrongSeat<()>>
+        requires own { seat.old.of ≡ self.now }
+        ensures sees { MatchResult result (λ x. Sees seat.old seat.new) (λ _. seat.new ≡ seat.old) }
+        ensures found { IfOk result (λ x. FoundState O.code_of O.size_of seat.new x.value) }
+        ensures claims { seat.new.claims ≡ seat.old.claims }
+    {
+        let Some(taken) = self.lock.enter(rt, &mut seat.key, &seat.reader) else {
+            return Err(WrongSeat(()));
+        };
+        let known = taken.know();
+        let _cut = taken.len();
+        self.lock.leave(rt, &mut seat.key, taken, &mut seat.reader);
+        Ok(known)
     }
 
     /// Both seats see the journal. It answers how many events that has. `WrongSeat`, and nothing changes, where a seat isn't
@@ -333,6 +360,7 @@ impl<Q: Work + Drop, O: Ending + Drop> Multi<Q, O> {
         ensures origin { IfSome result (λ r. r.0.origin ≡ Q.origin r.1) }
         ensures handle { IfSome result (λ r. handle_of r.0.ticket worker.new.seen ≡ Some r.0.handle) }
         ensures slot { IfSome result (λ r. slot_of r.0.ticket worker.new.seen ≡ Some r.0.slot) }
+        ensures queue { MatchOption result ((worker.new ≡ worker.old) ⊎ ClaimsNothing O.code_of O.size_of worker.new) (λ r. ClaimsLeast O.code_of O.size_of worker.new r.0.ticket r.1) }
     {
         self.claim_at(rt, &mut worker.seat)
     }

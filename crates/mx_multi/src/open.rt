@@ -1,13 +1,15 @@
 //! Opening and closing a multi handle.
 ghost use Rattle.std.specs.Prelude.{◌≡◌, ◌≤◌, ◌+◌, [], Bool, true, false, vec_len, Err, IfOk, IfErr};
+ghost use Rattle.std.specs.List.{All};
 ghost use Rattle.std.specs.VecDeque.{deque_len};
 ghost use Rattle.crossbeam_channel.specs.Claims.{view};
+ghost use Rattle.mx_board.specs.Progress.{new_seat};
 ghost use Rattle.mx_lock.specs.Lock.{engine_of, founder_at, IsKeyOf};
 ghost use Rattle.mx_multi.specs.Opening.{are_within, first_of, maker_of, AreNew, AreReaders, IsOpened};
 
 use crate::multi::Multi;
 use crate::seat::{Seat, WorkerSeat};
-use mx_board::BoardReader;
+use mx_board::{BoardReader, NoteSeat, ProgressTable};
 use mx_lock::{Key, Lock, Shared};
 use mx_types::{Ending, OutOfMemory, Who, Work};
 use std::alloc::Global;
@@ -69,6 +71,7 @@ fn readers<Q: Work + Drop, O: Ending + Drop>(
     requires none { shared.old.core.journal ≡ [] }
     ensures same { shared.new ≡ shared.old }
     ensures readers { IfOk result (λ v. AreReaders worker 0 shared.old.book v.items × (deque_len v ≡ count)) }
+    ensures few { IfOk result (λ v. deque_len v ≤ 16) }
 {
     let mut readers = VecDeque::new(alloc);
     for number in 0..count {
@@ -85,6 +88,8 @@ fn seated<Q: Work + Drop, O: Ending + Drop>(
     alloc: Global,
     lock: &Lock<Q, O>,
     founder: &mut Key<Q, O>,
+    words: &ProgressTable,
+    notes: &mut Vec<NoteSeat>,
     readers: VecDeque<BoardReader>,
     worker: bool,
 ) -> Result<Vec<Seat<Q, O>>, OutOfMemory>
@@ -92,19 +97,27 @@ fn seated<Q: Work + Drop, O: Ending + Drop>(
     requires own { IsKeyOf lock.now founder.old }
     requires founder { view founder.old ≡ founder_at (engine_of (view founder.old)) (first_of worker) }
     requires readers { AreReaders worker 0 (engine_of (view founder.old)).book readers.items }
+    requires notes { All (λ s. s ≡ new_seat words.now) notes.old.items }
+    requires enough { deque_len readers ≤ vec_len notes.old }
     ensures kept { IsKeyOf lock.now founder.new }
     ensures next { IfOk result (λ v. view founder.new ≡ founder_at (engine_of (view founder.old)) (first_of worker + vec_len v)) }
-    ensures new { IfOk result (λ v. AreNew (record { table = lock.now.table; keys = lock.now.keys; engine = engine_of (view founder.old) }) worker 0 v.items) }
+    ensures new { IfOk result (λ v. AreNew (record { table = lock.now.table; keys = lock.now.keys; engine = engine_of (view founder.old); words = words.now.id }) worker 0 v.items) }
+    ensures notes { IfOk result (λ v. All (λ s. s ≡ new_seat words.now) notes.new.items × (vec_len notes.new + vec_len v ≡ vec_len notes.old)) }
     ensures all { IfOk result (λ v. vec_len v ≡ deque_len readers) }
 {
     let mut readers = readers;
     let mut seats = Vec::new(alloc);
+    let _ = words;
     while let Some(reader) = readers.pop_front() {
         let key = lock.another(founder);
+        let Some(own_notes) = notes.pop() else {
+            unreachable!()
+        };
         seats.push(Seat {
             key,
             reader,
             polled: 0,
+            notes: own_notes,
         })?;
     }
     Ok(seats)
@@ -157,14 +170,32 @@ impl<Q: Work + Drop, O: Ending + Drop> Multi<Q, O> {
         let start = shared.mark();
         let for_seats = readers(alloc, &mut shared, limits.seats, false)?;
         let for_workers = readers(alloc, &mut shared, limits.workers, true)?;
+        let (words, mut notes) = ProgressTable::new(alloc, limits.seats + limits.workers)?;
         let (lock, mut founder) = Lock::new(rt, alloc, shared)?;
-        let seats = seated(alloc, &lock, &mut founder, for_seats, false)?;
+        let seats = seated(
+            alloc,
+            &lock,
+            &mut founder,
+            &words,
+            &mut notes,
+            for_seats,
+            false,
+        )?;
         skip(&lock, &mut founder, limits.seats);
-        let at_work = seated(alloc, &lock, &mut founder, for_workers, true)?;
+        let at_work = seated(
+            alloc,
+            &lock,
+            &mut founder,
+            &words,
+            &mut notes,
+            for_workers,
+            true,
+        )?;
         let workers = WorkerSeat::all(alloc, at_work)?;
         let multi = Multi {
             lock,
             start,
+            words,
             history: limits.history,
             max_connects: limits.max_connects,
             changes: Mutex::new(0),

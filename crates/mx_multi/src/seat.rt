@@ -2,21 +2,23 @@
 ghost use Rattle.std.specs.Prelude.{◌≡◌, length, IfOk};
 ghost use Rattle.mx_multi.specs.Seats.{IsReceived};
 
-use mx_board::BoardReader;
+use mx_board::{BoardReader, NoteSeat};
 use mx_lock::Key;
 use mx_types::{Ending, OutOfMemory, Work};
 use std::alloc::Global;
 use std::marker::Model;
 
 /// An application thread's seat: its key to the lock, and what it has seen. Contracts see of which multi handle it is, whose
-/// it is, the events that it has seen and how many of them are confirmed, how many they were at its last poll, and the
-/// tickets that it has claimed.
+/// it is, the events that it has seen and how many of them are confirmed, how many they were at its last poll, the tickets
+/// that it has claimed, and the progress words that it has noted and read.
 #[derive(Drop)]
 pub struct Seat<Q: Work + Drop, O: Ending + Drop> {
     pub(crate) key: Key<Q, O>,
     pub(crate) reader: BoardReader,
     /// How many events it had seen at its last poll.
     pub(crate) polled: u32,
+    /// Its right to the progress words.
+    pub(crate) notes: NoteSeat,
 }
 
 impl<Q: Work + Drop, O: Ending + Drop> Model for Seat<Q, O> {
@@ -26,9 +28,9 @@ impl<Q: Work + Drop, O: Ending + Drop> Model for Seat<Q, O> {
 
     ghost Value = { SeatView Q O };
 
-    ghost view = { λ s. record { of = record { table = s.key.table_id; keys = s.key.me.0.of; engine = engine_of s.key.me.0.client }; who = s.reader.who; seen = s.reader.seen; confirmed = s.reader.confirmed; polled = s.polled; claims = s.key.me.0.client.claims } };
+    ghost view = { λ s. record { of = record { table = s.key.table_id; keys = s.key.me.0.of; engine = engine_of s.key.me.0.client; words = s.notes.of }; who = s.reader.who; seen = s.reader.seen; confirmed = s.reader.confirmed; polled = s.polled; claims = s.key.me.0.client.claims; words = s.notes } };
 
-    ghost invariant = { λ s. IsSeat s.key.me.0.client s.reader × (s.key.me.1 ≡ []) × IsReceived (record { of = record { table = s.key.table_id; keys = s.key.me.0.of; engine = engine_of s.key.me.0.client }; who = s.reader.who; seen = s.reader.seen; confirmed = s.reader.confirmed; polled = s.polled; claims = s.key.me.0.client.claims }) };
+    ghost invariant = { λ s. IsSeat s.key.me.0.client s.reader × (s.key.me.1 ≡ []) × IsReceived (record { of = record { table = s.key.table_id; keys = s.key.me.0.of; engine = engine_of s.key.me.0.client; words = s.notes.of }; who = s.reader.who; seen = s.reader.seen; confirmed = s.reader.confirmed; polled = s.polled; claims = s.key.me.0.client.claims; words = s.notes }) };
 }
 
 impl<Q: Work + Drop, O: Ending + Drop> Seat<Q, O> {

@@ -8,6 +8,12 @@ use Rattle.mx_multi.specs.Opening.{AreNew}
 use Rattle.mx_multi.proofs.Opening.{all_own}
 use Rattle.mx_multi.proofs.multi.Multi.open_within.Goals as goal
 
+pub seated-requires-clause-few : goal.seated-requires-clause-few
+seated-requires-clause-few g c = c.in_ok-for_seats.ensures.few
+
+pub seated-requires-2-clause-few : goal.seated-requires-2-clause-few
+seated-requires-2-clause-few g c = c.in_ok-for_workers.ensures.few
+
 pub returns : goal.returns
 returns g c =
     let at = c.in_ok-lock.lock in
@@ -18,12 +24,12 @@ returns g c =
     let here : (content shared).engine ≡ all = λ i. record { book = book i; opening = opening i } in
     let first : engine_of (view c.in_ok-lock.founder) ≡ all = ap engine_of c.in_ok-lock.ensures.1 ∙ ap (λ (z : SharedState g.row.Q.Denot g.row.O.Denot). (content z).engine) (c.readers-2.ensures.same ∙ c.readers.ensures.same) ∙ here in
     let later : engine_of (view c.skip.new.founder) ≡ all = ap engine_of c.skip.ensures.next ∙ ap engine_of c.in_ok-seats.ensures.next ∙ first in
-    let m : MultiView g.row.Q.Denot g.row.O.Denot = record { table = at.table; keys = at.keys; engine = all } in
+    let m : MultiView g.row.Q.Denot g.row.O.Denot = record { table = at.table; keys = at.keys; engine = all; words = c.in_ok-words.words.id } in
     let seats : AreNew m false 0 c.in_ok-seats.seats.items =
-    subst (λ (e : Engine). AreNew {Q = g.row.Q.Denot} {O = g.row.O.Denot} (record { table = at.table; keys = at.keys; engine = e }) false 0 c.in_ok-seats.seats.items) first c.in_ok-seats.ensures.new in
+    subst (λ (e : Engine). AreNew {Q = g.row.Q.Denot} {O = g.row.O.Denot} (record { table = at.table; keys = at.keys; engine = e; words = c.in_ok-words.words.id }) false 0 c.in_ok-seats.seats.items) first c.in_ok-seats.ensures.new in
     let workers : AreNew m true 0 c.in_ok-workers.workers.items =
     subst (AreNew m true 0) (sym c.in_ok-workers.ensures)
-    (subst (λ (e : Engine). AreNew {Q = g.row.Q.Denot} {O = g.row.O.Denot} (record { table = at.table; keys = at.keys; engine = e }) true 0 c.in_ok-at_work.at_work.items) later c.in_ok-at_work.ensures.new) in
+    (subst (λ (e : Engine). AreNew {Q = g.row.Q.Denot} {O = g.row.O.Denot} (record { table = at.table; keys = at.keys; engine = e; words = c.in_ok-words.words.id }) true 0 c.in_ok-at_work.at_work.items) later c.in_ok-at_work.ensures.new) in
     record {
       history = refl;
       seats_new = seats;

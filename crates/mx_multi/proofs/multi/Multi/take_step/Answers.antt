@@ -18,8 +18,5 @@ returns-in-Ok-info_read g c = step_by _ _ _ _ _ (ap call_of c.in-InfoRead.is) c.
 pub returns-in-Ok-wakeup : goal.returns-in-Ok-wakeup
 returns-in-Ok-wakeup g c = step_by _ _ _ _ _ (ap call_of c.in-Wakeup.is) c.in-Ok-wakeup.ensures.stands
 
-pub returns-in-Some : goal.returns-in-Some
-returns-in-Some g c = step_by _ _ _ _ _ (ap call_of c.in-Running.is) c.in-Some.ensures
-
-pub returns-in-Some-state : goal.returns-in-Some-state
-returns-in-Some-state g c = step_by _ _ _ _ _ (ap call_of c.in-State.is) c.in-Some-state.ensures
+pub returns-in-Ok-poll : goal.returns-in-Ok-poll
+returns-in-Ok-poll g c = step_by _ _ _ _ _ (ap call_of c.in-Poll.is) c.in-Ok-poll.ensures.stands

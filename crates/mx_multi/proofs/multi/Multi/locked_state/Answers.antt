@@ -1,0 +1,41 @@
+use Rattle.std.proofs.Common.{rules, ◌≡◌, ◌∙◌, ap, refl}
+use Rattle.mx_lock.specs.Lock.{IsKeyOf}
+use Rattle.mx_lock.specs.Shared.{SharedState, IsLeft}
+use Rattle.mx_board.specs.Board.{ReaderState}
+use Rattle.mx_multi.specs.Seats.{SeatView, MultiView}
+use Rattle.mx_multi.proofs.Standing.{seat_after, received_same, lock_sees, same_of, engine_kept, sees_from, claims_after, left_same, no_other, found_state}
+use Rattle.mx_multi.proofs.multi.Multi.locked_state.Goals as goal
+
+pub invariant_of-seat-2 : goal.invariant_of-seat-2
+invariant_of-seat-2 g c =
+    let k : IsKeyOf c.self.inside.lock c.leave.new.key = c.leave.ensures.kept in
+    let took = c.in-Some.ensures.entered.0 in
+    let x = c.in-Some.taken in
+    let left : IsLeft x x = left_same x x refl c.len-cut.ensures.legal in (
+      seat_after _ _ c.seat.inside.reader x c.seat.invariant.0 took _ _ x c.leave.ensures.gave c.leave.ensures.reader refl,
+      k.2,
+      received_same _ _
+          (lock_sees _ _ c.seat.inside.reader x c.seat.invariant.0 took _ c.leave.new.reader x c.leave.ensures.gave c.leave.ensures.reader _ _ c.seat.inside.polled c.seat.inside.notes (same_of _ _ _ c.args.self.now c.args.seat.now c.requires.own c.self.view_is (ap (λ (s : SeatView g.row.Q.Denot g.row.O.Denot). s.of) c.seat.view_is) k.0 k.1 (engine_kept _ _ c.seat.inside.reader x c.seat.invariant.0 took _ x c.leave.ensures.gave) refl) c.in-Some.ensures.entered.1 left)
+          c.seat.invariant.2,
+    )
+
+pub returns-clause-sees : goal.returns-clause-sees
+returns-clause-sees g c =
+    let k : IsKeyOf c.self.inside.lock c.leave.new.key = c.leave.ensures.kept in
+    let took = c.in-Some.ensures.entered.0 in
+    let x = c.in-Some.taken in
+    let left : IsLeft x x = left_same x x refl c.len-cut.ensures.legal in
+    sees_from _ _ _ c.seat.view_is
+    (lock_sees _ _ c.seat.inside.reader x c.seat.invariant.0 took _ c.leave.new.reader x c.leave.ensures.gave c.leave.ensures.reader _ _ c.seat.inside.polled c.seat.inside.notes (same_of _ _ _ c.args.self.now c.args.seat.now c.requires.own c.self.view_is (ap (λ (s : SeatView g.row.Q.Denot g.row.O.Denot). s.of) c.seat.view_is) k.0 k.1 (engine_kept _ _ c.seat.inside.reader x c.seat.invariant.0 took _ x c.leave.ensures.gave) refl) c.in-Some.ensures.entered.1 left)
+
+pub returns-clause-found : goal.returns-clause-found
+returns-clause-found g c =
+    let took = c.in-Some.ensures.entered.0 in
+    let x = c.in-Some.taken in
+    found_state _ _ c.seat.inside.reader x c.seat.invariant.0 took g.O.Ending.code_of g.O.Ending.size_of _ _ c.know-known.ensures.is (ap (λ (t : ReaderState). t.seen) c.leave.ensures.reader) (engine_kept _ _ c.seat.inside.reader x c.seat.invariant.0 took _ x c.leave.ensures.gave) c.know-known.ensures.locked
+
+pub returns-clause-claims : goal.returns-clause-claims
+returns-clause-claims g c =
+    let took = c.in-Some.ensures.entered.0 in
+    let x = c.in-Some.taken in
+    claims_after _ _ c.seat.inside.reader x c.seat.invariant.0 took _ _ x c.leave.ensures.gave c.leave.ensures.reader (no_other x x refl) ∙ ap (λ (s : SeatView g.row.Q.Denot g.row.O.Denot). s.claims) c.seat.view_is

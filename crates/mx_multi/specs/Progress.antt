@@ -1,0 +1,40 @@
+-- How far a transfer is, by the progress word of its addition's slot.
+use Rattle.std.specs.Prelude.{◌≡◌, ◌⊎◌, ℕ, ◌<◌, ◌==◌, nat_lt, if◌then◌else◌, [], ◌∷◌, ◌++◌, List, None, Some}
+use Rattle.mx_types.specs.declared.names.HandleId.{HandleId}
+use Rattle.mx_types.specs.declared.names.Ticket.{Ticket}
+use Rattle.mx_types.specs.declared.event.Event.{Event}
+use Rattle.mx_journal.specs.Answers.{ticket_of}
+use Rattle.mx_journal.specs.Slots.{slot_of}
+use Rattle.mx_board.specs.Progress.{NoteState, ReadsWord, note, word_of}
+use Rattle.mx_multi.specs.declared.progress.Progress.{Progress}
+use Rattle.mx_multi.specs.declared.progress.Progress.TheVariants as progress
+use Rattle.mx_multi.specs.Seats.{SeatView}
+
+-- what a word of the ticket u and the count n says of the ticket t: its count; 0, where the word is of an older ticket; or that a newer one has the slot
+abbrev pub progress_of : Ticket → Ticket → ℕ → Progress
+progress_of t u n = if u.0 == t.0 then progress.Bytes t n else if nat_lt u.0 t.0 then progress.Bytes t 0 else progress.Replaced
+
+-- the word of the slot was read, and says this of the ticket
+pub record SaysWord (t : Ticket) (slot : ℕ) (before after : NoteState) (p : Progress) : Type 0 where
+  pub of : Ticket
+  pub count : ℕ
+  pub fits : count < 4294967296
+  pub word : ReadsWord before slot (word_of of count)
+  pub read : after ≡ record before { read = before.read ++ note slot (word_of of count) ∷ [] }
+  pub says : p ≡ progress_of t of count
+
+-- the handle is added, and the word of its addition's slot says this of it
+pub record SaysAdded (h : HandleId) (j : List Event) (before after : NoteState) (p : Progress) : Type 0 where
+  pub ticket : Ticket
+  pub slot : ℕ
+  pub added : ticket_of h j ≡ Some ticket
+  pub at : slot_of ticket j ≡ Some slot
+  pub word : SaysWord ticket slot before after p
+
+-- how far a handle's transfer is by these events: it isn't added, or the word of its slot was read
+abbrev pub IsProgress : HandleId → List Event → NoteState → NoteState → Progress → Type 0
+IsProgress h j before after p = ((ticket_of h j ≡ None) × (p ≡ progress.NotAdded) × (after ≡ before)) ⊎ SaysAdded h j before after p
+
+-- the seat has noted a count for the ticket and the slot, and is else as it was
+abbrev pub noted_by : {Q O : Type 0} → SeatView Q O → ℕ → Ticket → ℕ → SeatView Q O
+noted_by s slot t n = record s { words = record s.words { noted = s.words.noted ++ note slot (word_of t n) ∷ [] } }

@@ -1,0 +1,70 @@
+//! How far transfers are: words that workers note and seats read, without a lock.
+ghost use Rattle.std.specs.Prelude.{◌≡◌, MatchOption};
+ghost use Rattle.mx_multi.specs.Seats.{SeesVersion};
+ghost use Rattle.mx_multi.specs.Progress.{IsProgress, SaysWord, noted_by};
+
+use crate::multi::Multi;
+use crate::seat::{Seat, WorkerSeat};
+use mx_board::{Found, NoteSeat, ProgressTable};
+use mx_journal::Claim;
+use mx_types::{Ending, HandleId, Ticket, Work};
+
+/// How far a handle's transfer is.
+#[derive(Clone, Copy, Debug, PartialEq, Eq)]
+pub enum Progress {
+    /// The ticket of its addition, and how many bytes of its response were received; 0 where none were noted for it.
+    Bytes(Ticket, u32),
+    /// The handle isn't added.
+    NotAdded,
+    /// The slot of its addition is another's by now: the version that was read is older than the word.
+    Replaced,
+}
+
+// What the word of an addition's slot says of it.
+fn read_word(words: &ProgressTable, notes: &mut NoteSeat, found: Found) -> Progress
+    requires { notes.old.of ≡ words.now.id }
+    ensures { SaysWord found.ticket found.slot notes.old notes.new result }
+{
+    let (ticket, count) = words.read(notes, found.slot);
+    if ticket.0 == found.ticket.0 {
+        return Progress::Bytes(found.ticket, count);
+    }
+    if ticket.0 < found.ticket.0 {
+        return Progress::Bytes(found.ticket, 0);
+    }
+    Progress::Replaced
+}
+
+impl<Q: Work + Drop, O: Ending + Drop> Multi<Q, O> {
+    /// How far a handle's transfer is, by the version that was published last and the word of its slot, which is no less
+    /// than any that the seat has read there. It takes no lock and no memory. None, and nothing changes, where there is no
+    /// version to be had.
+    pub fn progress(&self, seat: &mut Seat<Q, O>, handle: HandleId) -> Option<Progress>
+        requires own { seat.old.of ≡ self.now }
+        ensures { MatchOption result (seat.new ≡ seat.old) (λ p. SeesVersion seat.old seat.new × IsProgress handle seat.new.seen seat.old.words seat.new.words p) }
+    {
+        let Some(found) = seat.reader.find(handle) else {
+            return None;
+        };
+        let Some(found) = found else {
+            return Some(Progress::NotAdded);
+        };
+        Some(read_word(&self.words, &mut seat.notes, found))
+    }
+
+    /// Notes that a claimed transfer has received so many bytes of its response. Where a greater word was noted for its slot,
+    /// of a newer ticket or a greater count, that stays. It takes no lock and no memory.
+    pub fn note(&self, worker: &mut WorkerSeat<Q, O>, claim: &Claim<Q>, count: u32)
+        requires own { worker.old.of ≡ self.now }
+        ensures { worker.new ≡ noted_by worker.old claim.now.slot claim.now.ticket count }
+    {
+        self.note_at(&mut worker.seat, claim.slot(), claim.ticket(), count)
+    }
+
+    fn note_at(&self, seat: &mut Seat<Q, O>, slot: u8, ticket: Ticket, count: u32)
+        requires own { seat.old.of ≡ self.now }
+        ensures { seat.new ≡ noted_by seat.old slot ticket count }
+    {
+        self.words.note(&mut seat.notes, slot, ticket, count)
+    }
+}
