@@ -1,0 +1,3 @@
+mod BracketLemmas
+mod ChoiceLemmas
+mod LawProofs

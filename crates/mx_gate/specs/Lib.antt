@@ -1,0 +1,5 @@
+pub mod Faults
+pub mod Addresses
+pub mod Gates
+pub mod Laws
+pub mod Script

@@ -1,0 +1,30 @@
+-- What a scripted gate answers.
+use Rattle.std.specs.Prelude.{◌≡◌, ℕ, max, true, List, [], ◌∷◌, Option, Result, Ok, Err}
+use Rattle.mx_exchange.specs.Endings.{is_link_code}
+use Rattle.mx_link.specs.declared.answers.Answer.{Answer}
+use Rattle.mx_types.specs.declared.code.Code.{Code}
+use Rattle.mx_types.specs.declared.code.Code.TheVariants as code
+
+-- What is planned for opens and for moments, how many turns are to answer that the worker goes on, the latest moment told, and the last
+-- wait asked for.
+pub record ScriptGateState (L : Type 0) : Type 0 where
+  pub openings : List (Result L Code)
+  pub moments : List ℕ
+  pub turns : ℕ
+  pub latest : ℕ
+  pub last_wait : Option ℕ
+
+-- a link that has answered nothing, or the code of one that can't be had
+abbrev pub IsOpening : {L : Type 0} → (L → List Answer) → Result L Code → Type 0
+IsOpening history (Ok link) = history link ≡ []
+IsOpening history (Err code) = is_link_code code ≡ true
+
+-- The answer to an open, and what is planned after it. After the script no connection is had.
+abbrev pub next_opening : {L : Type 0} → List (Result L Code) → Result L Code × List (Result L Code)
+next_opening [] = (Err code.CouldntConnect, [])
+next_opening (opening ∷ rest) = (opening, rest)
+
+-- The moment told after the latest, and what is planned after it. Moments never fall, and after the script they stay.
+abbrev pub next_moment : ℕ → List ℕ → ℕ × List ℕ
+next_moment latest [] = (latest, [])
+next_moment latest (moment ∷ rest) = (max latest moment, rest)

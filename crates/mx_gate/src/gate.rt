@@ -1,0 +1,41 @@
+//! The trait that every gate has.
+ghost use Rattle.std.specs.Prelude.{◌≡◌, ◌≤◌, ℕ, true, [], IfOk, IfErr};
+ghost use Rattle.mx_exchange.specs.Endings.{is_link_code};
+
+use mx_link::Link;
+use mx_request::Endpoint;
+use mx_types::Code;
+
+/// Whether a worker goes on.
+#[derive(Clone, Copy, Debug, PartialEq, Eq)]
+pub enum Turn {
+    Continue,
+    /// The worker is to take no more work.
+    Stop,
+}
+
+/// What a worker needs of the outside: a clock, links, and a place to wait.
+pub trait Gate {
+    type Link: Link;
+
+    // The latest moment that was told, 0 before the first.
+    ghost latest: { Self → ℕ };
+
+    /// The moment, in milliseconds since a start of the gate's own choice. Moments never fall.
+    fn now(&mut self) -> u64
+        ensures told { result ≡ latest self.new }
+        ensures rises { latest self.old ≤ latest self.new };
+
+    /// A link to the endpoint that has answered nothing yet. It may still be connecting.
+    ///
+    /// The errors are `CouldntResolveHost`, `CouldntConnect` and `OutOfMemory`.
+    fn open(&mut self, endpoint: &Endpoint) -> Result<Self::Link, Code>
+        ensures fresh { IfOk result (λ link. Self.Link.history link ≡ []) }
+        ensures code { IfErr result (λ code. is_link_code code ≡ true) }
+        ensures moment { latest self.new ≡ latest self.old };
+
+    /// Waits until a link may have become ready, or something else calls for a look, and at most `wait_ms`
+    /// milliseconds.
+    fn turn(&mut self, wait_ms: u32) -> Turn
+        ensures moment { latest self.new ≡ latest self.old };
+}

@@ -1,0 +1,15 @@
+//! What a worker needs of the outside: a clock, links, and a place to wait.
+#![tactic(auto)]
+
+mod addresses;
+mod faults;
+mod gate;
+pub mod laws;
+mod scripted;
+mod sockets;
+
+pub use crate::addresses::{address_of, choose, unbracketed};
+pub use crate::faults::{connect_code, lookup_code};
+pub use crate::gate::{Gate, Turn};
+pub use crate::scripted::ScriptGate;
+pub use crate::sockets::{Bell, SocketGate};

@@ -1,0 +1,141 @@
+//! A gate that answers from a script.
+ghost use Rattle.std.specs.Prelude.{◌≡◌, ◌≤◌, ◌-◌, ◌==◌, ◌∷◌, ◌++◌, true, false, [], length, Some, None, IfOk, IfErr, OnOk, OnErr};
+ghost use Rattle.mx_exchange.specs.Endings.{is_link_code};
+ghost use Rattle.mx_gate.specs.Gates.{turn_of};
+ghost use Rattle.mx_gate.specs.Script.{IsOpening, next_opening, next_moment};
+
+use crate::gate::{Gate, Turn};
+use mx_link::Link;
+use mx_request::Endpoint;
+use mx_types::Code;
+use std::alloc::{AllocFailed, Global};
+use std::collections::VecDeque;
+use std::marker::Model;
+
+/// A gate that answers from three scripts, in memory. Contracts see what is left of them, the latest moment told, and
+/// the last wait that was asked for.
+///
+/// After its script an `open` answers `CouldntConnect`, the moment stays, and turns answer `Stop`. It never waits.
+#[derive(Drop)]
+pub struct ScriptGate<L: Link> {
+    openings: VecDeque<Result<L, Code>>,
+    moments: VecDeque<u64>,
+    turns: u32,
+    latest: u64,
+    last_wait: Option<u32>,
+}
+
+impl<L: Link> Model for ScriptGate<L> {
+    ghost use Rattle.std.specs.List.{AllByRecursion};
+    ghost use Rattle.mx_gate.specs.Script.{ScriptGateState, IsOpening};
+
+    ghost Value = { ScriptGateState L };
+
+    ghost view = { λ g. record {
+      openings = g.openings.items;
+      moments = g.moments.items;
+      turns = g.turns;
+      latest = g.latest;
+      last_wait = g.last_wait;
+    } };
+
+    ghost invariant = { λ g. AllByRecursion (IsOpening L.history) g.openings.items };
+}
+
+impl<L: Link> ScriptGate<L> {
+    /// A gate with no openings and no moments, whose first `turns` turns answer `Continue`.
+    pub fn new(alloc: Global, turns: u32) -> ScriptGate<L>
+        ensures { result ≡ record { openings = []; moments = []; turns = turns; latest = 0; last_wait = None } }
+    {
+        ScriptGate {
+            openings: VecDeque::new(alloc),
+            moments: VecDeque::new(alloc),
+            turns,
+            latest: 0,
+            last_wait: None,
+        }
+    }
+
+    /// Adds what an `open` is to answer: a link that has answered nothing yet, or the code of one that can't be had.
+    ///
+    /// The one error is that no memory was had; it hands back what was to be added.
+    pub fn plan_opening(
+        &mut self,
+        opening: Result<L, Code>,
+    ) -> Result<(), AllocFailed<Result<L, Code>>>
+        requires { IsOpening L.history opening }
+        ensures planned { OnOk result (self.new ≡ record self.old { openings = self.old.openings ++ opening ∷ [] }) }
+        ensures refused { OnErr result (self.new ≡ self.old) }
+        ensures back { IfErr result (λ failed. failed.value ≡ opening) }
+    {
+        self.openings.push_back(opening)
+    }
+
+    /// Adds a moment, which `now` is to tell unless it told a later one before.
+    ///
+    /// The one error is that no memory was had.
+    pub fn plan_moment(&mut self, moment: u64) -> Result<(), AllocFailed<u64>>
+        ensures planned { OnOk result (self.new ≡ record self.old { moments = self.old.moments ++ moment ∷ [] }) }
+        ensures refused { OnErr result (self.new ≡ self.old) }
+        ensures back { IfErr result (λ failed. failed.value ≡ moment) }
+    {
+        self.moments.push_back(moment)
+    }
+
+    /// How many openings are left.
+    pub fn openings_left(&self) -> usize
+        ensures { result ≡ length self.now.openings }
+    {
+        self.openings.len()
+    }
+
+    /// The wait that the last turn was given, in milliseconds.
+    pub fn last_wait(&self) -> Option<u32>
+        ensures { result ≡ self.now.last_wait }
+    {
+        self.last_wait
+    }
+}
+
+impl<L: Link> Gate for ScriptGate<L> {
+    type Link = L;
+
+    ghost latest = { λ gate. gate.latest };
+
+    fn now(&mut self) -> u64
+        ensures told { result ≡ self.new.latest }
+        ensures rises { self.old.latest ≤ self.new.latest }
+        ensures planned { next_moment self.old.latest self.old.moments ≡ (result, self.new.moments) }
+        ensures others { self.new ≡ record self.old { latest = result; moments = self.new.moments } }
+    {
+        if let Some(moment) = self.moments.pop_front() {
+            self.latest = self.latest.max(moment);
+        }
+        self.latest
+    }
+
+    fn open(&mut self, _endpoint: &Endpoint) -> Result<L, Code>
+        ensures fresh { IfOk result (λ link. L.history link ≡ []) }
+        ensures code { IfErr result (λ code. is_link_code code ≡ true) }
+        ensures moment { self.new.latest ≡ self.old.latest }
+        ensures planned { next_opening self.old.openings ≡ (result, self.new.openings) }
+        ensures others { self.new ≡ record self.old { openings = self.new.openings } }
+    {
+        match self.openings.pop_front() {
+            Some(opening) => opening,
+            None => Err(Code::CouldntConnect),
+        }
+    }
+
+    fn turn(&mut self, wait_ms: u32) -> Turn
+        ensures stop { result ≡ turn_of (self.old.turns == 0) }
+        ensures rest { self.new ≡ record self.old { turns = self.old.turns - 1; last_wait = Some wait_ms } }
+    {
+        self.last_wait = Some(wait_ms);
+        if self.turns == 0 {
+            return Turn::Stop;
+        }
+        self.turns -= 1;
+        Turn::Continue
+    }
+}

@@ -1,0 +1,208 @@
+//! A gate to the network.
+ghost use Rattle.std.specs.Prelude.{◌≡◌, ◌≤◌, ◌/◌, ◌-◌, ◌^◌, true, false, [], min, max, IfOk, IfErr, OnErr};
+ghost use Rattle.std.specs.Duration.{as_nanos};
+ghost use Rattle.mx_exchange.specs.Endings.{is_link_code};
+ghost use Rattle.mx_gate.specs.Gates.{moment_after, next_token, turn_of, is_start_code};
+
+use crate::addresses::address_of;
+use crate::faults::connect_code;
+use crate::gate::{Gate, Turn};
+use mio::net::TcpStream;
+use mio::{Events, Interest, Poll, Token, Waker};
+use mx_link::TcpLink;
+use mx_request::Endpoint;
+use mx_types::Code;
+use std::alloc::{AllocError, AllocGlobal, Global};
+use std::io;
+use std::marker::Model;
+use std::net::{Net, SocketAddr};
+use std::rt::Clock;
+use std::sync::Arc;
+use std::sync::atomic::{AtomicBool, Ordering};
+use std::time::{Duration, Instant};
+
+/// The most events that one wait reports; what else is ready is reported by the next.
+const MOST_EVENTS: usize = 128;
+
+/// The token of a gate's bell. Those of its links begin at 1.
+const BELL: Token = Token(0);
+
+/// Ends a wait of its gate from any thread.
+#[derive(Drop)]
+pub struct Bell {
+    waker: Arc<Waker>,
+}
+
+impl Bell {
+    /// Ends the wait that is under way, else the next one. It doesn't wait. Several rings may end one wait, and a ring
+    /// is lost where the gate is gone.
+    pub fn ring(&self) -> io::Result<()> {
+        self.waker.wake()
+    }
+}
+
+/// A gate that opens TCP connections, and waits until one of them is ready. Contracts see the latest moment told, the
+/// token of its next link, and whether its last turn saw the flag that stops it. What the network answers, and when,
+/// no contract can say.
+#[derive(Drop)]
+pub struct SocketGate<'r, R> {
+    rt: &'r R,
+    poll: Poll,
+    events: Events<Global>,
+    bell: Arc<Waker>,
+    stop: Arc<AtomicBool>,
+    start: Instant,
+    latest: u64,
+    next_token: u64,
+    is_stopped: bool,
+}
+
+impl<'r, R> Model for SocketGate<'r, R> {
+    ghost use Rattle.mx_gate.specs.Gates.{SocketGateState};
+
+    ghost Value = { SocketGateState };
+
+    ghost view = { λ g. record { latest = g.latest; next_token = g.next_token; is_stopped = g.is_stopped } };
+}
+
+// The moment, where so much time passed since the start.
+fn moment_after(latest: u64, passed: Duration) -> u64
+    ensures { result ≡ moment_after latest (as_nanos passed) }
+{
+    let moment = u64::try_from(passed.as_millis()).unwrap_or(u64::MAX);
+    latest.max(moment)
+}
+
+fn turn_of(is_stopped: bool) -> Turn
+    ensures { result ≡ turn_of is_stopped }
+{
+    if is_stopped {
+        Turn::Stop
+    } else {
+        Turn::Continue
+    }
+}
+
+impl<'r, R: Net + Clock + AllocGlobal> SocketGate<'r, R> {
+    /// A gate whose clock starts now, and whose turns answer `Stop` while the flag is set.
+    ///
+    /// `CouldntConnect` comes where the system gives no poll or no clock, `OutOfMemory` where memory is wanting.
+    pub fn new(rt: &'r R, stop: Arc<AtomicBool>) -> Result<SocketGate<'r, R>, Code>
+        ensures opened { IfOk result (λ gate. gate ≡ record { latest = 0; next_token = 1; is_stopped = false }) }
+        ensures code { IfErr result (λ code. is_start_code code ≡ true) }
+    {
+        match Instant::now(rt) {
+            Ok(start) => SocketGate::starting_at(rt, stop, start),
+            Err(error) => Err(connect_code(&error)),
+        }
+    }
+
+    /// The same, with a clock that started at `start`. Gates among which transfers go back and forth have one start,
+    /// since a deadline is a moment of the gate that set it.
+    pub fn starting_at(
+        rt: &'r R,
+        stop: Arc<AtomicBool>,
+        start: Instant,
+    ) -> Result<SocketGate<'r, R>, Code>
+        ensures opened { IfOk result (λ gate. gate ≡ record { latest = 0; next_token = 1; is_stopped = false }) }
+        ensures code { IfErr result (λ code. is_start_code code ≡ true) }
+    {
+        match SocketGate::poll_and_bell(rt) {
+            Ok((poll, events, bell)) => Ok(SocketGate {
+                rt,
+                poll,
+                events,
+                bell,
+                stop,
+                start,
+                latest: 0,
+                next_token: 1,
+                is_stopped: false,
+            }),
+            Err(error) => Err(connect_code(&error)),
+        }
+    }
+
+    fn poll_and_bell(rt: &'r R) -> io::Result<(Poll, Events<Global>, Arc<Waker>)> {
+        let poll = Poll::new(rt)?;
+        let events = Events::with_capacity(rt.alloc(), MOST_EVENTS)?;
+        let bell = Arc::new(rt.alloc(), Waker::new(poll.registry(), BELL)?)?;
+        Ok((poll, events, bell))
+    }
+
+    /// The moment at which the gate's clock started.
+    pub fn start(&self) -> Instant {
+        self.start
+    }
+
+    /// What ends a wait of this gate.
+    ///
+    /// The one error is that there are too many of them.
+    pub fn bell(&self) -> Result<Bell, AllocError> {
+        Ok(Bell {
+            waker: Arc::try_clone(&self.bell)?,
+        })
+    }
+
+    // Begins to connect, and has the poll report when the connection is ready.
+    fn connect(&mut self, address: SocketAddr) -> io::Result<TcpLink>
+        ensures opened { IfOk result (λ link. (link.token ≡ self.old.next_token) × (link.history ≡ [])
+            × (self.new ≡ record self.old { next_token = next_token self.old.next_token })) }
+        ensures refused { OnErr result (self.new ≡ self.old) }
+    {
+        let mut stream = TcpStream::connect(self.rt, address)?;
+        let token = self.next_token;
+        self.poll.registry().register(
+            &mut stream,
+            Token(token as usize),
+            Interest::READABLE | Interest::WRITABLE,
+        )?;
+        self.next_token = token.saturating_add(1);
+        Ok(TcpLink::new(stream, token))
+    }
+}
+
+impl<R: Net + Clock + AllocGlobal> Gate for SocketGate<'_, R> {
+    type Link = TcpLink;
+
+    ghost latest = { λ gate. gate.latest };
+
+    fn now(&mut self) -> u64
+        ensures told { result ≡ self.new.latest }
+        ensures rises { self.old.latest ≤ self.new.latest }
+        ensures others { self.new ≡ record self.old { latest = self.new.latest } }
+    {
+        if let Ok(passed) = self.start.elapsed(self.rt) {
+            self.latest = moment_after(self.latest, passed);
+        }
+        self.latest
+    }
+
+    /// Begins to connect to the address of the endpoint (`address_of`).
+    fn open(&mut self, endpoint: &Endpoint) -> Result<TcpLink, Code>
+        ensures fresh { IfOk result (λ link. link.history ≡ []) }
+        ensures code { IfErr result (λ code. is_link_code code ≡ true) }
+        ensures moment { self.new.latest ≡ self.old.latest }
+        ensures opened { IfOk result (λ link. (link.token ≡ self.old.next_token) × (link.history ≡ [])
+            × (self.new ≡ record self.old { next_token = next_token self.old.next_token })) }
+        ensures refused { OnErr result (self.new ≡ self.old) }
+    {
+        let address = address_of(self.rt, endpoint)?;
+        match self.connect(address) {
+            Ok(link) => Ok(link),
+            Err(error) => Err(connect_code(&error)),
+        }
+    }
+
+    /// Waits until a connection is ready or the bell is rung.
+    fn turn(&mut self, wait_ms: u32) -> Turn
+        ensures stop { result ≡ turn_of self.new.is_stopped }
+        ensures others { self.new ≡ record self.old { is_stopped = self.new.is_stopped } }
+    {
+        let wait = Duration::from_millis(u64::from(wait_ms));
+        // A wait that fails ends at once, as one that a signal ends.
+        let _ = self.poll.poll(&mut self.events, Some(wait));
+        self.is_stopped = self.stop.load(Ordering::SeqCst);
+        turn_of(self.is_stopped)
+    }
+}

@@ -1,0 +1,87 @@
+use crate::outside::{Outside, endpoint};
+use mx_gate::{address_of, choose, connect_code, lookup_code, unbracketed};
+use mx_types::Code;
+use std::io::{Error, ErrorKind};
+use std::net::{Ipv4Addr, Ipv6Addr, SocketAddr};
+use std::test::Fail;
+
+fn v4(last: u8, port: u16) -> SocketAddr {
+    SocketAddr::from((Ipv4Addr::new(192, 0, 2, last), port))
+}
+
+fn v6(last: u16, port: u16) -> SocketAddr {
+    SocketAddr::from((Ipv6Addr::new(0x2001, 0xdb8, 0, 0, 0, 0, 0, last), port))
+}
+
+#[test]
+fn brackets_are_taken_in_pairs(rt: HostRuntime) {
+    let cases = [
+        ("[::1]", "::1"),
+        ("[2001:db8::7]", "2001:db8::7"),
+        ("192.0.2.1", "192.0.2.1"),
+        ("example.com", "example.com"),
+        ("[", "["),
+        ("]", "]"),
+        ("[]", ""),
+        ("[x", "[x"),
+        ("x]", "x]"),
+        ("[[x]]", "[x]"),
+        ("", ""),
+    ];
+    for (host, want) in cases {
+        assert_eq!(rt; unbracketed(host), want, "of {host}");
+    }
+}
+
+#[test]
+fn the_first_ipv4_address_is_chosen(rt: HostRuntime) {
+    assert_eq!(rt; choose(&[]), None);
+    assert_eq!(rt; choose(&[v6(1, 80), v6(2, 80)]), Some(v6(1, 80)));
+    assert_eq!(rt; choose(&[v6(1, 80), v4(2, 80), v4(3, 80)]), Some(v4(2, 80)));
+    assert_eq!(rt; choose(&[v4(1, 80), v6(2, 80)]), Some(v4(1, 80)));
+}
+
+#[test]
+fn a_name_is_looked_up(rt: HostRuntime) -> Result<(), Fail> {
+    let name = endpoint(rt.alloc(), "example.com", 8080)?;
+    let addresses = [v6(1, 0), v4(2, 0), v4(3, 0)];
+    let outside = Outside::new(rt.alloc(), &addresses);
+    assert_eq!(rt; address_of(&outside, &name), Ok(v4(2, 8080)));
+    let outside = Outside::new(rt.alloc(), &addresses[..1]);
+    assert_eq!(rt; address_of(&outside, &name), Ok(v6(1, 8080)));
+    let outside = Outside::new(rt.alloc(), &[]);
+    assert_eq!(rt; address_of(&outside, &name), Err(Code::CouldntResolveHost));
+    Ok(())
+}
+
+#[test]
+fn an_address_is_not_looked_up(rt: HostRuntime) -> Result<(), Fail> {
+    let mut outside = Outside::new(rt.alloc(), &[]);
+    outside.refusal = Some(ErrorKind::NotFound);
+    let plain = endpoint(rt.alloc(), "192.0.2.7", 81)?;
+    assert_eq!(rt; address_of(&outside, &plain), Ok(v4(7, 81)));
+    let bracketed = endpoint(rt.alloc(), "[2001:db8::7]", 81)?;
+    assert_eq!(rt; address_of(&outside, &bracketed), Ok(v6(7, 81)));
+    Ok(())
+}
+
+#[test]
+fn a_failed_lookup_has_its_code(rt: HostRuntime) -> Result<(), Fail> {
+    let name = endpoint(rt.alloc(), "example.com", 80)?;
+    let mut outside = Outside::new(rt.alloc(), &[]);
+    outside.refusal = Some(ErrorKind::NotFound);
+    assert_eq!(rt; address_of(&outside, &name), Err(Code::CouldntResolveHost));
+    outside.refusal = Some(ErrorKind::OutOfMemory);
+    assert_eq!(rt; address_of(&outside, &name), Err(Code::OutOfMemory));
+    Ok(())
+}
+
+#[test]
+fn want_of_memory_has_its_own_code(rt: HostRuntime) {
+    let refused = Error::from(ErrorKind::ConnectionRefused);
+    let memory = Error::from(ErrorKind::OutOfMemory);
+    assert_eq!(rt; lookup_code(&refused), Code::CouldntResolveHost);
+    assert_eq!(rt; connect_code(&refused), Code::CouldntConnect);
+    assert_eq!(rt; lookup_code(&memory), Code::OutOfMemory);
+    assert_eq!(rt; connect_code(&memory), Code::OutOfMemory);
+}

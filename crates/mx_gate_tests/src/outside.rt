@@ -1,0 +1,84 @@
+//! A network and a clock that answer what a test wants.
+use mx_request::Endpoint;
+use std::alloc::{Alloc, Global};
+use std::io;
+use std::net::{Net, SocketAddr, TcpListener, TcpStream};
+use std::rt::Clock;
+use std::sync::atomic::{AtomicBool, AtomicU64, Ordering};
+use std::test::Fail;
+use std::time::Duration;
+
+/// The endpoint of a host and a port.
+pub fn endpoint(alloc: Global, host: &str, port: u16) -> Result<Endpoint, Fail> {
+    let host = String::from_str(alloc, host)?;
+    Ok(Endpoint { host, port })
+}
+
+/// A runtime whose lookups give these addresses, or fail, and whose clock stands where the test puts it.
+#[derive(Drop)]
+pub struct Outside<'a> {
+    pub alloc: Global,
+    pub addresses: &'a [SocketAddr],
+    pub refusal: Option<io::ErrorKind>,
+    pub milliseconds: AtomicU64,
+    pub is_clock_broken: AtomicBool,
+}
+
+impl Outside<'_> {
+    pub fn new(alloc: Global, addresses: &[SocketAddr]) -> Outside<'_> {
+        Outside {
+            alloc,
+            addresses,
+            refusal: None,
+            milliseconds: AtomicU64::new(0),
+            is_clock_broken: AtomicBool::new(false),
+        }
+    }
+}
+
+impl Alloc for Outside<'_> {
+    type A = Global;
+
+    fn alloc(&self) -> Global {
+        self.alloc
+    }
+}
+
+impl Clock for Outside<'_> {
+    fn monotonic(&self) -> io::Result<Duration> {
+        if self.is_clock_broken.load(Ordering::SeqCst) {
+            return Err(io::Error::from(io::ErrorKind::Unsupported));
+        }
+        Ok(Duration::from_millis(self.milliseconds.load(Ordering::SeqCst)))
+    }
+
+    fn since_1970(&self) -> io::Result<Duration> {
+        self.monotonic()
+    }
+}
+
+impl Net for Outside<'_> {
+    type Stream = TcpStream;
+
+    type Listener = TcpListener;
+
+    fn bind(&self, _address: SocketAddr) -> io::Result<TcpListener> {
+        Err(io::Error::from(io::ErrorKind::Unsupported))
+    }
+
+    fn connect(&self, _address: SocketAddr) -> io::Result<TcpStream> {
+        Err(io::Error::from(io::ErrorKind::Unsupported))
+    }
+
+    fn lookup_host(&self, _host: &str, port: u16, found: &mut [SocketAddr]) -> io::Result<usize> {
+        if let Some(kind) = self.refusal {
+            return Err(io::Error::from(kind));
+        }
+        let count = self.addresses.len().min(found.len());
+        for (slot, address) in found.iter_mut().zip(self.addresses) {
+            *slot = *address;
+            slot.set_port(port);
+        }
+        Ok(count)
+    }
+}

@@ -1,0 +1,26 @@
+-- What a handle ended with.
+use Rattle.std.specs.Prelude.{ℕ, List, []}
+use Rattle.mx_types.specs.declared.code.Code.{Code}
+use Rattle.mx_types.specs.declared.code.Code.TheVariants as code
+use Rattle.mx_body.specs.Parts.{joined}
+use Rattle.mx_exchange.specs.Transfers.{OutcomeValue}
+use Rattle.mx_run_get.specs.declared.fetched.Fetched.{Fetched}
+use Rattle.mx_run_get.specs.declared.fetched.Fetched.TheVariants.{Refused, Ended}
+
+abbrev pub code_of : Fetched → Code
+code_of (Refused code) = code
+code_of (Ended outcome) = outcome.code
+
+-- the status of the final head, 0 where there is none
+abbrev pub status_of : Fetched → ℕ
+status_of (Refused code) = 0
+status_of (Ended outcome) = outcome.status
+
+-- the body of a whole response; of no other the bytes that came are printed
+abbrev pub content_of : Code → OutcomeValue → List ℕ
+content_of code.Ok outcome = joined outcome.wire outcome.parts
+content_of _ outcome = []
+
+abbrev pub body_of : Fetched → List ℕ
+body_of (Refused code) = []
+body_of (Ended outcome) = content_of outcome.code outcome

@@ -1,0 +1,3 @@
+pub mod Fetched
+pub mod Texts
+pub mod Laws

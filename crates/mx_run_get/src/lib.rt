@@ -1,0 +1,10 @@
+//! What `mxfetch get` prints: a line and the body of each transfer.
+#![tactic(auto)]
+
+mod fetched;
+pub mod laws;
+mod run;
+mod text;
+
+pub use crate::fetched::Fetched;
+pub use crate::run::print_get;

@@ -1,0 +1,54 @@
+//! The text of a whole run of `get`.
+ghost use Rattle.std.specs.Prelude.{◌≡◌, ◌≢◌, ◌↔◌, ◌<◌, true, false, IsErr, IfOk, OnOk};
+ghost use Rattle.std.specs.Io.KnownBytes.{Appends};
+ghost use Rattle.mx_run_io.specs.Ends.{writer_of, has_failed_write, is_pending};
+ghost use Rattle.mx_run_get.specs.Texts.{texts_from, exit_status};
+
+use crate::fetched::Fetched;
+use crate::text::print_transfer;
+use mx_run_io::{Output, UNWRITTEN, WriteFailed};
+use std::io::Write;
+
+/// The first code that isn't `Ok`, in the order of the handles, as the number that the program ends with.
+pub fn exit_status(fetched: &[Fetched]) -> u8
+    ensures value { result ≡ exit_status fetched.now }
+    ensures small { result < UNWRITTEN }
+{
+    for one in fetched {
+        let number = one.code().number();
+        if number != 0 {
+            return number as u8;
+        }
+    }
+    0
+}
+
+// Prints the texts of all handles.
+fn print_all<W: Write>(output: &mut Output<W>, fetched: &[Fetched]) -> Result<(), WriteFailed>
+    ensures bytes { OnOk result (Appends (W.contents (writer_of output.old)) (W.contents (writer_of output.new))
+        (texts_from 0 fetched.now)) }
+    ensures failed { IsErr result → has_failed_write output.new ≡ true }
+{
+    for (handle, one) in fetched.iter().enumerate() {
+        print_transfer(output, handle, one)?;
+    }
+    Ok(())
+}
+
+/// Prints what each handle ended with, in the order of the handles: a line, the body, and the end of a line. The
+/// answer is the exit status: the number of the first code that isn't `Ok`, 0 where there is none, or 121 where
+/// the output couldn't be written. All that is printed is flushed, unless the answer is 121. Bodies are written from
+/// where they stand.
+pub fn print_get<W: Write>(output: &mut Output<W>, fetched: &[Fetched]) -> u8
+    ensures unwritten { (result ≡ UNWRITTEN) ↔ (has_failed_write output.new ≡ true) }
+    ensures flushed { result ≢ UNWRITTEN → is_pending output.new ≡ false }
+    ensures printed { has_failed_write output.new ≢ true
+        → Appends (W.contents (writer_of output.old)) (W.contents (writer_of output.new)) (texts_from 0 fetched.now) }
+    ensures status { has_failed_write output.new ≢ true → result ≡ exit_status fetched.now }
+{
+    if print_all(output, fetched).is_ok() && output.flush().is_ok() {
+        exit_status(fetched)
+    } else {
+        UNWRITTEN
+    }
+}

@@ -1,0 +1,132 @@
+use crate::transfers::fetch;
+use mx_run_get::{Fetched, print_get};
+use mx_run_io::Output;
+use mx_types::Code;
+use std::alloc::Global;
+use std::io;
+use std::io::{Error, ErrorKind, Write};
+use std::process::Abort;
+use std::test::Fail;
+
+// Takes so many writes, and then fails; a flush may fail before.
+#[derive(Drop)]
+struct Full<'a> {
+    taken: &'a mut Vec<u8>,
+    writes: usize,
+    is_flushed: bool,
+}
+
+impl Write for Full<'_> {
+    fn write(&mut self, bytes: &[u8]) -> io::Result<usize> {
+        if self.writes == 0 {
+            return Err(Error::from(ErrorKind::StorageFull));
+        }
+        self.writes -= 1;
+        self.taken.write(bytes)
+    }
+
+    fn flush(&mut self) -> io::Result<()> {
+        if self.is_flushed {
+            Ok(())
+        } else {
+            Err(Error::from(ErrorKind::StorageFull))
+        }
+    }
+}
+
+// Compares the exit status and all that is written.
+fn prints(rt: &impl Abort, alloc: Global, fetched: &[Fetched], status: u8, output: &[u8]) {
+    let mut written = Vec::new(alloc);
+    let ended = print_get(&mut Output::new(&mut written), fetched);
+    assert_eq!(rt; ended, status);
+    assert!(rt; written.as_slice() == output);
+}
+
+// The exit status over a writer that takes so many writes.
+fn ends(alloc: Global, fetched: &[Fetched], writes: usize, is_flushed: bool) -> u8 {
+    let mut taken = Vec::new(alloc);
+    let full = Full {
+        taken: &mut taken,
+        writes,
+        is_flushed,
+    };
+    print_get(&mut Output::new(full), fetched)
+}
+
+#[test]
+fn nothing_is_printed_of_no_handles(rt: HostRuntime) {
+    prints(&rt, rt.alloc(), &[], 0, b"");
+}
+
+#[test]
+fn bodies_stand_behind_their_lines(rt: HostRuntime) -> Result<(), Fail> {
+    let counted = fetch(&rt, b"HTTP/1.1 200 OK\r\nContent-Length: 5\r\n\r\nhello")?;
+    let chunked = fetch(
+        &rt,
+        b"HTTP/1.1 404 Not Found\r\nTransfer-Encoding: chunked\r\n\r\n2\r\nab\r\n3\r\nc\nd\r\n0\r\n\r\n",
+    )?;
+    let empty = fetch(&rt, b"HTTP/1.1 204 No Content\r\n\r\n")?;
+    prints(
+        &rt,
+        rt.alloc(),
+        &[counted, chunked, empty],
+        0,
+        b"transfer 0 code 0 status 200 length 5\nhello\n\
+          transfer 1 code 0 status 404 length 5\nabc\nd\n\
+          transfer 2 code 0 status 204 length 0\n\n",
+    );
+    Ok(())
+}
+
+#[test]
+fn the_first_fault_is_the_exit_status(rt: HostRuntime) -> Result<(), Fail> {
+    let whole = fetch(&rt, b"HTTP/1.0 200 OK\r\n\r\nabc")?;
+    let cut = fetch(&rt, b"HTTP/1.1 200 OK\r\nContent-Length: 5\r\n\r\nhell")?;
+    prints(
+        &rt,
+        rt.alloc(),
+        &[whole, cut, Fetched::Refused(Code::UrlMalformat)],
+        18,
+        b"transfer 0 code 0 status 200 length 3\nabc\n\
+          transfer 1 code 18 status 200 length 0\n\n\
+          transfer 2 code 3 status 0 length 0\n\n",
+    );
+    Ok(())
+}
+
+#[test]
+fn faults_have_no_body(rt: HostRuntime) -> Result<(), Fail> {
+    let silent = fetch(&rt, b"")?;
+    let torn = fetch(&rt, b"HTTP/1.1 20")?;
+    prints(
+        &rt,
+        rt.alloc(),
+        &[
+            Fetched::Refused(Code::UnsupportedProtocol),
+            silent,
+            torn,
+            Fetched::Refused(Code::OutOfMemory),
+        ],
+        1,
+        b"transfer 0 code 1 status 0 length 0\n\n\
+          transfer 1 code 52 status 0 length 0\n\n\
+          transfer 2 code 8 status 0 length 0\n\n\
+          transfer 3 code 27 status 0 length 0\n\n",
+    );
+    Ok(())
+}
+
+#[test]
+fn a_failed_write_ends_with_121(rt: HostRuntime) -> Result<(), Fail> {
+    let fetched = [
+        fetch(&rt, b"HTTP/1.1 200 OK\r\nContent-Length: 5\r\n\r\nhello")?,
+        Fetched::Refused(Code::UrlMalformat),
+    ];
+    assert_eq!(rt; ends(rt.alloc(), &fetched, 1000, true), 3);
+    assert_eq!(rt; ends(rt.alloc(), &fetched, 1000, false), 121);
+    for writes in 0..5 {
+        assert_eq!(rt; ends(rt.alloc(), &fetched, writes, true), 121);
+    }
+    assert_eq!(rt; ends(rt.alloc(), &[], 0, true), 0);
+    Ok(())
+}
