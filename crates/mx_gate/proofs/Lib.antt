@@ -1,3 +1,4 @@
 mod BracketLemmas
 mod ChoiceLemmas
 mod LawProofs
+mod ReadyLemmas

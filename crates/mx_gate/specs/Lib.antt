@@ -3,3 +3,4 @@ pub mod Addresses
 pub mod Gates
 pub mod Laws
 pub mod Script
+pub mod Ready

@@ -5,11 +5,15 @@ mod addresses;
 mod faults;
 mod gate;
 pub mod laws;
+mod ready;
 mod scripted;
+mod signals;
 mod sockets;
 
 pub use crate::addresses::{address_of, choose, unbracketed};
 pub use crate::faults::{connect_code, lookup_code};
 pub use crate::gate::{Gate, Turn};
+pub use crate::ready::ReadyLink;
 pub use crate::scripted::ScriptGate;
-pub use crate::sockets::{Bell, SocketGate};
+pub use crate::signals::Signals;
+pub use crate::sockets::{Bell, SocketGate, SocketLink};

@@ -7,6 +7,8 @@ ghost use Rattle.mx_gate.specs.Gates.{moment_after, next_token, turn_of, is_star
 use crate::addresses::address_of;
 use crate::faults::connect_code;
 use crate::gate::{Gate, Turn};
+use crate::ready::ReadyLink;
+use crate::signals::Signals;
 use mio::net::TcpStream;
 use mio::{Events, Interest, Poll, Token, Waker};
 use mx_link::TcpLink;
@@ -27,6 +29,9 @@ const MOST_EVENTS: usize = 128;
 /// The token of a gate's bell. Those of its links begin at 1.
 const BELL: Token = Token(0);
 
+/// A link that a `SocketGate` opens.
+pub type SocketLink = ReadyLink<TcpLink>;
+
 /// Ends a wait of its gate from any thread.
 #[derive(Drop)]
 pub struct Bell {
@@ -41,7 +46,8 @@ impl Bell {
     }
 }
 
-/// A gate that opens TCP connections, and waits until one of them is ready. Contracts see the latest moment told, the
+/// A gate that opens TCP connections, and waits until one of them is ready. A link of it that would have waited makes no
+/// system call before the gate was told something new of its connection. Contracts see the latest moment told, the
 /// token of its next link, and whether its last turn saw the flag that stops it. What the network answers, and when,
 /// no contract can say.
 #[derive(Drop)]
@@ -50,6 +56,7 @@ pub struct SocketGate<'r, R> {
     poll: Poll,
     events: Events<Global>,
     bell: Arc<Waker>,
+    signals: Arc<Signals>,
     stop: Arc<AtomicBool>,
     start: Instant,
     latest: u64,
@@ -107,12 +114,13 @@ impl<'r, R: Net + Clock + AllocGlobal> SocketGate<'r, R> {
         ensures opened { IfOk result (λ gate. gate ≡ record { latest = 0; next_token = 1; is_stopped = false }) }
         ensures code { IfErr result (λ code. is_start_code code ≡ true) }
     {
-        match SocketGate::poll_and_bell(rt) {
-            Ok((poll, events, bell)) => Ok(SocketGate {
+        match SocketGate::parts(rt) {
+            Ok((poll, events, bell, signals)) => Ok(SocketGate {
                 rt,
                 poll,
                 events,
                 bell,
+                signals,
                 stop,
                 start,
                 latest: 0,
@@ -123,11 +131,12 @@ impl<'r, R: Net + Clock + AllocGlobal> SocketGate<'r, R> {
         }
     }
 
-    fn poll_and_bell(rt: &'r R) -> io::Result<(Poll, Events<Global>, Arc<Waker>)> {
+    fn parts(rt: &'r R) -> io::Result<(Poll, Events<Global>, Arc<Waker>, Arc<Signals>)> {
         let poll = Poll::new(rt)?;
         let events = Events::with_capacity(rt.alloc(), MOST_EVENTS)?;
         let bell = Arc::new(rt.alloc(), Waker::new(poll.registry(), BELL)?)?;
-        Ok((poll, events, bell))
+        let signals = Arc::new(rt.alloc(), Signals::new(rt.alloc())?)?;
+        Ok((poll, events, bell, signals))
     }
 
     /// The moment at which the gate's clock started.
@@ -145,11 +154,12 @@ impl<'r, R: Net + Clock + AllocGlobal> SocketGate<'r, R> {
     }
 
     // Begins to connect, and has the poll report when the connection is ready.
-    fn connect(&mut self, address: SocketAddr) -> io::Result<TcpLink>
-        ensures opened { IfOk result (λ link. (link.token ≡ self.old.next_token) × (link.history ≡ [])
+    fn connect(&mut self, address: SocketAddr) -> io::Result<SocketLink>
+        ensures opened { IfOk result (λ link. (link.link.token ≡ self.old.next_token) × (link.history ≡ [])
             × (self.new ≡ record self.old { next_token = next_token self.old.next_token })) }
         ensures refused { OnErr result (self.new ≡ self.old) }
     {
+        let signals = Arc::try_clone(&self.signals)?;
         let mut stream = TcpStream::connect(self.rt, address)?;
         let token = self.next_token;
         self.poll.registry().register(
@@ -158,12 +168,25 @@ impl<'r, R: Net + Clock + AllocGlobal> SocketGate<'r, R> {
             Interest::READABLE | Interest::WRITABLE,
         )?;
         self.next_token = token.saturating_add(1);
-        Ok(TcpLink::new(stream, token))
+        Ok(ReadyLink::over(TcpLink::new(stream, token), signals))
+    }
+
+    // Counts what the last wait told of each connection.
+    fn tell(&self) {
+        for event in self.events.iter() {
+            let token = event.token().0 as u64;
+            if event.is_readable() || event.is_read_closed() || event.is_error() {
+                self.signals.tell_read(token);
+            }
+            if event.is_writable() || event.is_write_closed() || event.is_error() {
+                self.signals.tell_write(token);
+            }
+        }
     }
 }
 
 impl<R: Net + Clock + AllocGlobal> Gate for SocketGate<'_, R> {
-    type Link = TcpLink;
+    type Link = SocketLink;
 
     ghost latest = { λ gate. gate.latest };
 
@@ -179,11 +202,11 @@ impl<R: Net + Clock + AllocGlobal> Gate for SocketGate<'_, R> {
     }
 
     /// Begins to connect to the address of the endpoint (`address_of`).
-    fn open(&mut self, endpoint: &Endpoint) -> Result<TcpLink, Code>
+    fn open(&mut self, endpoint: &Endpoint) -> Result<SocketLink, Code>
         ensures fresh { IfOk result (λ link. link.history ≡ []) }
         ensures code { IfErr result (λ code. is_link_code code ≡ true) }
         ensures moment { self.new.latest ≡ self.old.latest }
-        ensures opened { IfOk result (λ link. (link.token ≡ self.old.next_token) × (link.history ≡ [])
+        ensures opened { IfOk result (λ link. (link.link.token ≡ self.old.next_token) × (link.history ≡ [])
             × (self.new ≡ record self.old { next_token = next_token self.old.next_token })) }
         ensures refused { OnErr result (self.new ≡ self.old) }
     {
@@ -194,14 +217,16 @@ impl<R: Net + Clock + AllocGlobal> Gate for SocketGate<'_, R> {
         }
     }
 
-    /// Waits until a connection is ready or the bell is rung.
+    /// Waits until a connection is ready or the bell is rung. What is told of connections lets their links be asked again.
     fn turn(&mut self, wait_ms: u32) -> Turn
         ensures stop { result ≡ turn_of self.new.is_stopped }
         ensures others { self.new ≡ record self.old { is_stopped = self.new.is_stopped } }
     {
         let wait = Duration::from_millis(u64::from(wait_ms));
-        // A wait that fails ends at once, as one that a signal ends.
-        let _ = self.poll.poll(&mut self.events, Some(wait));
+        // A wait that fails ends at once, as one that a signal ends, and tells nothing.
+        if self.poll.poll(&mut self.events, Some(wait)).is_ok() {
+            self.tell();
+        }
         self.is_stopped = self.stop.load(Ordering::SeqCst);
         turn_of(self.is_stopped)
     }

@@ -7,6 +7,8 @@ mod addresses;
 #[cfg(test)]
 mod outside;
 #[cfg(test)]
+mod ready;
+#[cfg(test)]
 mod scripted;
 #[cfg(test)]
 mod sockets;

@@ -86,6 +86,51 @@ fn a_link_writes_and_reads_and_sees_the_end(rt: HostRuntime) -> Result<(), Fail>
     Ok(())
 }
 
+// Sends two bytes once it is told to, and waits until it is told again.
+fn send_late(listener: &TcpListener, go: &AtomicBool, sent: &AtomicBool, rt: HostRuntime) -> bool {
+    let Ok((mut stream, _)) = listener.accept() else {
+        return false;
+    };
+    for _ in 0..TURNS {
+        if go.load(Ordering::SeqCst) {
+            break;
+        }
+        thread::sleep(&rt, Duration::from_millis(1));
+    }
+    let is_sent = stream.write_all(b"ab").is_ok();
+    sent.store(true, Ordering::SeqCst);
+    thread::sleep(&rt, Duration::from_millis(100));
+    is_sent
+}
+
+// Bytes that came are not read before a turn has told of them: the link isn't asked.
+#[test]
+fn a_link_that_waits_is_not_asked_before_a_turn(rt: HostRuntime) -> Result<(), Fail> {
+    let listener = TcpListener::bind(&rt, "127.0.0.1:0")?;
+    let there = endpoint(rt.alloc(), "127.0.0.1", listener.local_addr()?.port())?;
+    let go = flag(&rt)?;
+    let sent = flag(&rt)?;
+    let (go_there, sent_there) = (Arc::try_clone(&go)?, Arc::try_clone(&sent)?);
+    let server = thread::spawn(&rt, move || send_late(&listener, &go_there, &sent_there, rt))?;
+    let mut gate = gate(&rt)?;
+    let mut link = link(&mut gate, &there)?;
+    assert_eq!(rt; connect(&mut gate, &mut link), Connect::Done);
+    gate.turn(0);
+    let mut buffer = [0; 8];
+    assert_eq!(rt; link.try_read(&mut buffer), Read::WouldBlock);
+    go.store(true, Ordering::SeqCst);
+    for _ in 0..TURNS {
+        if sent.load(Ordering::SeqCst) {
+            break;
+        }
+        thread::sleep(&rt, Duration::from_millis(1));
+    }
+    assert_eq!(rt; link.try_read(&mut buffer), Read::WouldBlock);
+    assert_eq!(rt; read(&mut gate, &mut link), (Read::Bytes(2), *b"ab------"));
+    assert!(rt; server.join(&rt));
+    Ok(())
+}
+
 #[test]
 fn tokens_rise_from_1(rt: HostRuntime) -> Result<(), Fail> {
     let listener = TcpListener::bind(&rt, "127.0.0.1:0")?;

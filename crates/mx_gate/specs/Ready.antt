@@ -1,0 +1,44 @@
+-- A link that isn't asked again before something new was told of it.
+use Rattle.std.specs.Prelude.{◌≡◌, ℕ, Bool, true, false, List, [], ◌∷◌, ◌++◌, ◌⊎◌, if◌then◌else◌}
+use Rattle.std.specs.List.{filter}
+use Rattle.mx_link.specs.Answers.{given, taken, faults, is_blocked}
+use Rattle.mx_link.specs.declared.answers.Answer.{Answer}
+use Rattle.mx_link.specs.declared.answers.Answer.TheVariants as answers
+
+-- What contracts see of it: the link, its own answers so far, how many bytes it was asked for at each, and whether the
+-- link would have waited when it was last asked whether it stands, to read, and to write.
+pub record ReadyState (L : Type 0) : Type 0 where
+  pub link : L
+  pub history : List Answer
+  pub asked : List ℕ
+  pub waits_to_connect : Bool
+  pub waits_to_read : Bool
+  pub waits_to_write : Bool
+
+-- the call did not have to wait
+abbrev pub is_told : Answer → Bool
+is_told answer = if is_blocked answer then false else true
+
+-- the answers that tell something: all but those of calls that would have waited
+abbrev pub telling : List Answer → List Answer
+telling history = filter is_told history
+
+-- whether the last answer of this kind was that the call would have waited; so if there is none of this kind
+abbrev pub waits : (Answer → Bool) → Bool → List Answer → Bool
+waits kind so [] = so
+waits kind so (answer ∷ rest) = waits kind (if kind answer then is_blocked answer else so) rest
+
+-- The link answered so; or it wasn't asked, as the last it answered to this was that it would have waited, and so is this answer.
+abbrev pub IsAnswered : (Answer → Bool) → List Answer → List Answer → Answer → Type 0
+IsAnswered kind before after answer =
+    (after ≡ before ++ answer ∷ [])
+    ⊎ ((after ≡ before) × (is_blocked answer ≡ true) × (waits kind false before ≡ true))
+
+-- where the same answers tell something, the same bytes were given and taken, and as many calls failed
+pub record TellAlike (some others : List Answer) : Type 0 where
+  pub given : given some ≡ given others
+  pub taken : taken some ≡ taken others
+  pub faults : faults some ≡ faults others
+
+abbrev pub WaitsTellNothing : Type 0
+WaitsTellNothing = (some others : List Answer) → telling some ≡ telling others → TellAlike some others

@@ -1,0 +1,189 @@
+//! A link that isn't asked again before something new was told of it.
+ghost use Rattle.std.specs.Prelude.{◌≡◌, ◌<◌, ◌≤◌, ◌-◌, ◌^◌, true, false, [], ◌∷◌, ◌++◌, length, min};
+ghost use Rattle.mx_link.specs.Calls.{connect_answer, read_answer, write_answer, IsReadWithin, IsWriteWithin};
+
+use crate::signals::Signals;
+use mx_link::{Answer, Connect, History, Link, Read, Write};
+use std::marker::Model;
+use std::sync::Arc;
+
+/// A link whose readiness a gate is told. Where it answered that a call would have waited, the same call isn't made again
+/// before the gate was told something new: it answers so at once.
+#[derive(Drop)]
+pub struct ReadyLink<L: Link> {
+    link: L,
+    signals: Arc<Signals>,
+    // How much was told when it was last asked.
+    reads_told: u64,
+    writes_told: u64,
+    waits_to_connect: bool,
+    waits_to_read: bool,
+    waits_to_write: bool,
+    history: History<Answer>,
+    asked: History<usize>,
+}
+
+impl<L: Link> Model for ReadyLink<L> {
+    ghost use Rattle.std.specs.Prelude.{◌≡◌, true, false};
+    ghost use Rattle.mx_link.specs.Answers.{faults, is_read, is_write};
+    ghost use Rattle.mx_exchange.specs.Order.{is_connect};
+    ghost use Rattle.mx_gate.specs.Ready.{ReadyState, telling, waits};
+
+    ghost Value = { ReadyState L };
+
+    ghost view = { λ l. record {
+      link = l.link;
+      history = l.history;
+      asked = l.asked;
+      waits_to_connect = l.waits_to_connect;
+      waits_to_read = l.waits_to_read;
+      waits_to_write = l.waits_to_write;
+    } };
+
+    ghost invariant = { λ l. record {
+      same : telling l.history ≡ telling (L.history l.link);
+      faults : faults l.history ≡ faults (L.history l.link);
+      connects : l.waits_to_connect ≡ true → waits is_connect false (L.history l.link) ≡ true;
+      reads : l.waits_to_read ≡ true → waits is_read false (L.history l.link) ≡ true;
+      writes : l.waits_to_write ≡ true → waits is_write false (L.history l.link) ≡ true;
+    } };
+}
+
+impl<L: Link> ReadyLink<L> {
+    /// A link that has answered nothing yet, and whose readiness these signals tell.
+    pub fn over(link: L, signals: Arc<Signals>) -> ReadyLink<L>
+        requires { L.history link ≡ [] }
+        ensures { result ≡ record {
+          link = link;
+          history = [];
+          asked = [];
+          waits_to_connect = false;
+          waits_to_read = false;
+          waits_to_write = false;
+        } }
+    {
+        ReadyLink {
+            link,
+            signals,
+            reads_told: 0,
+            writes_told: 0,
+            waits_to_connect: false,
+            waits_to_read: false,
+            waits_to_write: false,
+            history: History::new(),
+            asked: History::new(),
+        }
+    }
+
+    // Lets it be asked to read again, where something new was told.
+    fn hear_reads(&mut self)
+        ensures link { self.new.link ≡ self.old.link }
+        ensures history { self.new.history ≡ self.old.history }
+        ensures asked { self.new.asked ≡ self.old.asked }
+    {
+        let told = self.signals.reads_told(self.link.token());
+        if told != self.reads_told {
+            self.reads_told = told;
+            self.waits_to_read = false;
+        }
+    }
+
+    // Lets it be asked to write again, and whether it stands, where something new was told.
+    fn hear_writes(&mut self)
+        ensures link { self.new.link ≡ self.old.link }
+        ensures history { self.new.history ≡ self.old.history }
+        ensures asked { self.new.asked ≡ self.old.asked }
+    {
+        let told = self.signals.writes_told(self.link.token());
+        if told != self.writes_told {
+            self.writes_told = told;
+            self.waits_to_connect = false;
+            self.waits_to_write = false;
+        }
+    }
+}
+
+impl<L: Link> Link for ReadyLink<L> {
+    ghost use Rattle.mx_link.specs.Answers.{is_read, is_write};
+    ghost use Rattle.mx_exchange.specs.Order.{is_connect};
+    ghost use Rattle.mx_gate.specs.Ready.{IsAnswered};
+
+    ghost history = { λ link. link.history };
+
+    ghost asked = { λ link. link.asked };
+
+    ghost token_of = { λ link. L.token_of link.link };
+
+    #[tactic(auto, using(crate::proofs::ReadyLemmas::telling_both, crate::proofs::ReadyLemmas::telling_one, crate::proofs::ReadyLemmas::faults_both, crate::proofs::ReadyLemmas::faults_one, crate::proofs::ReadyLemmas::waits_last))]
+    fn try_connect(&mut self) -> Connect
+        ensures answered { IsAnswered is_connect (L.history self.old.link) (L.history self.new.link) (connect_answer result) }
+        ensures told { self.new.history ≡ self.old.history ++ connect_answer result ∷ [] }
+        ensures asked { self.new.asked ≡ self.old.asked ++ 0 ∷ [] }
+        ensures token { L.token_of self.new.link ≡ L.token_of self.old.link }
+    {
+        self.hear_writes();
+        if self.waits_to_connect {
+            self.history.note(Answer::to_connect(Connect::WouldBlock));
+            self.asked.note(0);
+            return Connect::WouldBlock;
+        }
+        let connect = self.link.try_connect();
+        self.waits_to_connect = connect == Connect::WouldBlock;
+        self.history.note(Answer::to_connect(connect));
+        self.asked.note(0);
+        connect
+    }
+
+    #[tactic(auto, using(crate::proofs::ReadyLemmas::telling_both, crate::proofs::ReadyLemmas::telling_one, crate::proofs::ReadyLemmas::faults_both, crate::proofs::ReadyLemmas::faults_one, crate::proofs::ReadyLemmas::waits_last))]
+    fn try_read(&mut self, buffer: &mut [u8]) -> Read
+        requires { 0 < length buffer.old }
+        ensures answered { IsAnswered is_read (L.history self.old.link) (L.history self.new.link) (read_answer result buffer.new) }
+        ensures told { self.new.history ≡ self.old.history ++ read_answer result buffer.new ∷ [] }
+        ensures asked { self.new.asked ≡ self.old.asked ++ length buffer.new ∷ [] }
+        ensures within { IsReadWithin result (length buffer.new) }
+        ensures length { length buffer.new ≡ length buffer.old }
+        ensures token { L.token_of self.new.link ≡ L.token_of self.old.link }
+    {
+        self.hear_reads();
+        if self.waits_to_read {
+            self.history.note(Answer::to_read(Read::WouldBlock, buffer));
+            self.asked.note(buffer.len());
+            return Read::WouldBlock;
+        }
+        let read = self.link.try_read(buffer);
+        self.waits_to_read = read == Read::WouldBlock;
+        self.history.note(Answer::to_read(read, buffer));
+        self.asked.note(buffer.len());
+        read
+    }
+
+    #[tactic(auto, using(crate::proofs::ReadyLemmas::telling_both, crate::proofs::ReadyLemmas::telling_one, crate::proofs::ReadyLemmas::faults_both, crate::proofs::ReadyLemmas::faults_one, crate::proofs::ReadyLemmas::waits_last))]
+    fn try_write(&mut self, bytes: &[u8]) -> Write
+        requires { 0 < length bytes.now }
+        ensures answered { IsAnswered is_write (L.history self.old.link) (L.history self.new.link) (write_answer result bytes.now) }
+        ensures told { self.new.history ≡ self.old.history ++ write_answer result bytes.now ∷ [] }
+        ensures asked { self.new.asked ≡ self.old.asked ++ length bytes.now ∷ [] }
+        ensures within { IsWriteWithin result (length bytes.now) }
+        ensures token { L.token_of self.new.link ≡ L.token_of self.old.link }
+    {
+        self.hear_writes();
+        if self.waits_to_write {
+            self.history.note(Answer::to_write(Write::WouldBlock, bytes));
+            self.asked.note(bytes.len());
+            return Write::WouldBlock;
+        }
+        let write = self.link.try_write(bytes);
+        self.waits_to_write = write == Write::WouldBlock;
+        self.history.note(Answer::to_write(write, bytes));
+        self.asked.note(bytes.len());
+        write
+    }
+
+    fn failures(&self) -> u64 {
+        self.link.failures()
+    }
+
+    fn token(&self) -> u64 {
+        self.link.token()
+    }
+}
