@@ -8,3 +8,4 @@ pub mod OutcomeLemmas
 pub mod Advanced
 pub mod Bodies
 pub mod Wakers
+pub mod Sends
