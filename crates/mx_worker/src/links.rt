@@ -1,0 +1,62 @@
+//! Where a worker has its links from.
+ghost use Rattle.std.specs.Prelude.{◌≡◌, None};
+
+use mx_cache::IdleCache;
+use mx_exchange::{Outcome, Transfer};
+use mx_gate::Gate;
+use mx_link::Link;
+use mx_types::OutOfMemory;
+use std::alloc::Global;
+
+/// A worker's idle links.
+#[derive(Drop)]
+pub(crate) struct Links<L: Link> {
+    alloc: Global,
+    idle: IdleCache<L>,
+}
+
+impl<L: Link> Links<L> {
+    /// No idle link yet, and room for as many as the limit.
+    pub fn new(alloc: Global, limit: u8) -> Result<Links<L>, OutOfMemory> {
+        Ok(Links {
+            alloc,
+            idle: IdleCache::with_limit(alloc, usize::from(limit))?,
+        })
+    }
+
+    /// Hands a link to the transfer where it wants one: an idle one, unless only a fresh one will do, else one that the gate opens.
+    /// Where the gate can't, the transfer is told why.
+    pub fn supply<G: Gate<Link = L>>(&mut self, gate: &mut G, transfer: &mut Transfer<L>)
+        requires running { transfer.old.code ≡ None }
+        ensures running { transfer.new.code ≡ None }
+        ensures request { transfer.new.request ≡ transfer.old.request }
+    {
+        let Some(want) = transfer.wants() else {
+            return;
+        };
+        let idle = if want.fresh {
+            None
+        } else {
+            self.idle.take(want.endpoint)
+        };
+        if let Some(link) = idle {
+            transfer.attach(link, true);
+            return;
+        }
+        match gate.open(want.endpoint) {
+            Ok(link) => transfer.attach(link, false),
+            Err(code) => transfer.fail_link(code),
+        }
+    }
+
+    /// Keeps the link of a transfer that has ended, where it may be kept. It is dropped where its endpoint can't be copied for want of
+    /// memory.
+    pub fn keep(&mut self, transfer: &mut Transfer<L>, outcome: &Outcome) {
+        let Some(link) = transfer.take_link() else {
+            return;
+        };
+        if let Ok(endpoint) = outcome.request().endpoint().copy(self.alloc) {
+            let _oldest = self.idle.put(endpoint, link);
+        }
+    }
+}

@@ -1,0 +1,89 @@
+//! The work of a multi handle with workers, and what a worker has of it.
+ghost use Rattle.std.specs.Prelude.{◌≡◌, None, false};
+
+use mx_exchange::{Outcome, Transfer};
+use mx_journal::Claim;
+use mx_link::Link;
+use mx_request::Request;
+use mx_types::{Ticket, Work};
+use std::alloc::Global;
+use std::marker::Model;
+
+/// A transfer that has not ended, as it waits for a worker. Contracts see the transfer.
+#[derive(Drop)]
+pub struct Queued<L: Link> {
+    transfer: Transfer<L>,
+}
+
+impl<L: Link> Model for Queued<L> {
+    ghost use Rattle.std.specs.Prelude.{◌≡◌, None};
+    ghost use Rattle.mx_exchange.specs.Transfers.{TransferState};
+
+    ghost Value = { TransferState L };
+
+    ghost view = { λ q. q.transfer };
+
+    ghost invariant = { λ q. q.transfer.code ≡ None };
+}
+
+impl<L: Link> Work for Queued<L> {
+    ghost origin = { λ q. q.request.bytes };
+}
+
+impl<L: Link> Queued<L> {
+    /// A transfer of the request, which has not started. It takes no memory; what its polls grow comes from `alloc`.
+    pub fn new(alloc: Global, request: Request) -> Queued<L>
+        ensures request { result.request ≡ request }
+        ensures unstarted { (result.is_started ≡ false) × (result.code ≡ None) × (result.deadline ≡ None) }
+    {
+        Queued {
+            transfer: Transfer::new(alloc, request),
+        }
+    }
+
+    /// The request, by move. A link that serves it is dropped.
+    pub fn into_request(self) -> Request
+        ensures { result ≡ self.request }
+    {
+        self.transfer.into_request()
+    }
+
+    pub(crate) fn of(transfer: Transfer<L>) -> Queued<L>
+        requires { transfer.code ≡ None }
+        ensures { result ≡ transfer }
+    {
+        Queued { transfer }
+    }
+
+    pub(crate) fn into_transfer(self) -> Transfer<L>
+        ensures same { result ≡ self }
+        ensures running { result.code ≡ None }
+    {
+        self.transfer
+    }
+}
+
+/// A claim and its transfer, which are of one request. The transfer has not ended.
+#[derive(Drop)]
+pub(crate) struct Held<L: Link> {
+    pub claim: Claim<Queued<L>>,
+    pub transfer: Transfer<L>,
+    pub ghost running: { transfer.code ≡ None },
+    pub ghost of_one: { transfer.request.bytes ≡ claim.origin },
+}
+
+impl<L: Link> Held<L> {
+    pub fn ticket(&self) -> Ticket
+        ensures { result ≡ self.now.claim.ticket }
+    {
+        self.claim.ticket()
+    }
+}
+
+/// A claim and the outcome that ends it, which are of one request.
+#[derive(Drop)]
+pub(crate) struct Finished<L: Link> {
+    pub claim: Claim<Queued<L>>,
+    pub outcome: Outcome,
+    pub ghost of_one: { outcome.request.bytes ≡ claim.origin },
+}

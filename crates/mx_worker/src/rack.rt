@@ -1,0 +1,113 @@
+//! What a worker has in hand.
+ghost use Rattle.std.specs.Prelude.{◌≡◌, ◌+◌, ◌<◌, ◌≤◌, ◌↔◌, IsTrue, IfOk, MatchOption};
+
+use crate::queued::{Finished, Held};
+use mx_link::Link;
+use mx_types::OutOfMemory;
+use std::alloc::Global;
+use std::collections::VecDeque;
+use std::marker::Model;
+
+/// The most transfers that a worker has in hand.
+const MOST_HELD: usize = 64;
+
+/// The transfers that a worker holds, in order of claim, and the ends that found no memory. They are at most 64 together, and there is
+/// room for as many. Contracts see how many there are of each.
+#[derive(Drop)]
+pub(crate) struct Rack<L: Link> {
+    held: VecDeque<Held<L>>,
+    unrecorded: VecDeque<Finished<L>>,
+}
+
+impl<L: Link> Model for Rack<L> {
+    ghost use Rattle.std.specs.Prelude.{◌+◌, ◌≤◌};
+    ghost use Rattle.std.specs.VecDeque.{deque_len, deque_capacity};
+    ghost use Rattle.mx_worker.specs.Racks.{RackView};
+
+    ghost Value = { RackView };
+
+    ghost view = { λ r. record { held = deque_len r.held; unrecorded = deque_len r.unrecorded } };
+
+    ghost invariant = { λ r. (deque_len r.held + deque_len r.unrecorded ≤ 64) × (64 ≤ deque_capacity r.held) × (64 ≤ deque_capacity r.unrecorded) };
+}
+
+impl<L: Link> Rack<L> {
+    ghost use Rattle.mx_worker.specs.Racks.{in_hand};
+
+    /// Nothing in hand, and room for 64.
+    pub fn new(alloc: Global) -> Result<Rack<L>, OutOfMemory>
+        ensures { IfOk result (λ rack. rack ≡ record { held = 0; unrecorded = 0 }) }
+    {
+        Ok(Rack {
+            held: VecDeque::with_capacity(alloc, MOST_HELD)?,
+            unrecorded: VecDeque::with_capacity(alloc, MOST_HELD)?,
+        })
+    }
+
+    /// Whether there is room for one more.
+    pub fn has_room(&self) -> bool
+        ensures { IsTrue result ↔ (in_hand self.now < 64) }
+    {
+        self.held.len() + self.unrecorded.len() < MOST_HELD
+    }
+
+    pub fn is_empty(&self) -> bool
+        ensures { IsTrue result ↔ (in_hand self.now ≡ 0) }
+    {
+        self.held.len() + self.unrecorded.len() == 0
+    }
+
+    /// How many transfers it holds.
+    pub fn held(&self) -> usize
+        ensures { result ≡ self.now.held }
+    {
+        self.held.len()
+    }
+
+    /// How many ends found no memory.
+    pub fn unrecorded(&self) -> usize
+        ensures { result ≡ self.now.unrecorded }
+    {
+        self.unrecorded.len()
+    }
+
+    /// Puts a transfer behind the others.
+    pub fn hold(&mut self, held: Held<L>)
+        requires room { in_hand self.old < 64 }
+        ensures { self.new ≡ record self.old { held = self.old.held + 1 } }
+    {
+        self.held.push_back_reserved(held);
+    }
+
+    /// Takes the transfer that stands first.
+    pub fn next(&mut self) -> Option<Held<L>>
+        ensures taken { MatchOption result ((self.old.held ≡ 0) × (self.new ≡ self.old)) (λ _. self.new.held + 1 ≡ self.old.held) }
+        ensures rest { self.new.unrecorded ≡ self.old.unrecorded }
+        ensures room { MatchOption result (in_hand self.new ≤ 64) (λ _. in_hand self.new < 64) }
+    {
+        let Some(held) = self.held.pop_front() else {
+            return None;
+        };
+        Some(held)
+    }
+
+    /// Puts an end that found no memory behind the others.
+    pub fn set_aside(&mut self, finished: Finished<L>)
+        requires room { in_hand self.old < 64 }
+        ensures { self.new ≡ record self.old { unrecorded = self.old.unrecorded + 1 } }
+    {
+        self.unrecorded.push_back_reserved(finished);
+    }
+
+    /// Takes the end that stands first.
+    pub fn next_unrecorded(&mut self) -> Option<Finished<L>>
+        ensures taken { MatchOption result ((self.old.unrecorded ≡ 0) × (self.new ≡ self.old)) (λ _. self.new.unrecorded + 1 ≡ self.old.unrecorded) }
+        ensures rest { self.new.held ≡ self.old.held }
+        ensures room { MatchOption result (in_hand self.new ≤ 64) (λ _. in_hand self.new < 64) }
+    {
+        let Some(finished) = self.unrecorded.pop_front() else {
+            return None;
+        };
+        Some(finished)
+    }
+}

@@ -1,0 +1,378 @@
+//! The loop of a worker.
+ghost use Rattle.std.specs.Prelude.{◌≡◌, ◌<◌, None, true, false};
+ghost use Rattle.futures.specs.Poll.{IfReady, OnPending};
+ghost use Rattle.mx_worker.specs.Work.{Worked};
+ghost use Rattle.mx_worker.specs.Racks.{in_hand};
+
+use crate::links::Links;
+use crate::queued::{Finished, Held, Queued};
+use crate::rack::Rack;
+use crate::tally::Tally;
+use arrayvec::ArrayVec;
+use futures::Future;
+use futures::task::{Doorbell, Poll, Solo};
+use mx_clock::{Deadlines, MOST};
+use mx_exchange::{Outcome, Transfer};
+use mx_gate::{Gate, Turn};
+use mx_link::Link;
+use mx_multi::{Multi, WorkerSeat};
+use mx_types::{Look, Ticket};
+use std::alloc::AllocGlobal;
+use std::random::RandomSource;
+use std::sync::Wait;
+
+/// The longest wait of a turn, in milliseconds.
+const LONGEST_WAIT: u64 = 20;
+
+/// What a worker ends with. The counts stay at the greatest number of 32 bits.
+#[derive(Drop)]
+pub struct WorkerEnd<L: Link> {
+    pub seat: WorkerSeat<Queued<L>, Outcome>,
+    /// How many ends were recorded.
+    pub recorded: u32,
+    /// How many ends were not recorded, as the transfer didn't run any more.
+    pub stale: u32,
+    /// How many transfers went back to the queue.
+    pub given_back: u32,
+    /// There was no memory for its start, and it did nothing.
+    pub refused: bool,
+}
+
+// What a worker needs memory for.
+#[derive(Drop)]
+struct Tools<L: Link> {
+    rack: Rack<L>,
+    links: Links<L>,
+    solo: Solo,
+}
+
+#[derive(Drop)]
+struct Worker<L: Link> {
+    tally: Tally<L>,
+    rack: Rack<L>,
+    links: Links<L>,
+    deadlines: Deadlines,
+    solo: Solo,
+    given_back: u32,
+    is_stopping: bool,
+    // A transfer that isn't paused asked to be polled again at once.
+    asks: bool,
+}
+
+fn make_tools<L: Link, R: RandomSource + AllocGlobal>(
+    rt: &R,
+    max_connects: u8,
+) -> Option<Tools<L>> {
+    let Ok(rack) = Rack::new(rt.alloc()) else {
+        return None;
+    };
+    let Ok(links) = Links::new(rt.alloc(), max_connects) else {
+        return None;
+    };
+    let Ok(solo) = Solo::new(rt, Doorbell::spinning()) else {
+        return None;
+    };
+    Some(Tools { rack, links, solo })
+}
+
+// One poll, in the context of the worker's one task. The task goes on whatever the poll answers.
+fn poll_once<L: Link>(solo: &Solo, transfer: &mut Transfer<L>) -> Poll<Outcome>
+    requires running { transfer.old.code ≡ None }
+    ensures request { IfReady result (λ outcome. outcome.request ≡ transfer.old.request) }
+    ensures again { OnPending result (transfer.new.code ≡ None) }
+    ensures kept { OnPending result (transfer.new.request ≡ transfer.old.request) }
+{
+    let mut cx = solo.begin();
+    match transfer.poll(&mut cx) {
+        Poll::Ready(outcome) => {
+            let _again: Poll<()> = cx.yield_now();
+            cx.park();
+            Poll::Ready(outcome)
+        }
+        Poll::Pending => {
+            cx.park();
+            Poll::Pending
+        }
+    }
+}
+
+// Whether the task asked to be polled again.
+fn has_asked(solo: &Solo) -> bool {
+    match solo.sleep() {
+        Some(asleep) => {
+            asleep.end();
+            false
+        }
+        None => true,
+    }
+}
+
+// How long a turn is to wait: until the next deadline, and at most the longest wait.
+fn wait_ms(deadlines: &Deadlines, now: u64) -> u32 {
+    match deadlines.next() {
+        Some(moment) => moment.saturating_sub(now).min(LONGEST_WAIT) as u32,
+        None => LONGEST_WAIT as u32,
+    }
+}
+
+// Sets the deadline of a ticket, where it has one.
+fn set_deadline(deadlines: &mut Deadlines, ticket: Ticket, deadline: Option<u64>) {
+    if let Some(moment) = deadline {
+        if deadlines.has_room_for(ticket) {
+            deadlines.set(ticket, moment);
+        }
+    }
+}
+
+impl<L: Link> Worker<L> {
+    fn new(tools: Tools<L>, seat: WorkerSeat<Queued<L>, Outcome>) -> Worker<L>
+        ensures { result.tally.start ≡ seat }
+    {
+        let Tools { rack, links, solo } = tools;
+        Worker {
+            tally: Tally::new(seat),
+            rack,
+            links,
+            deadlines: Deadlines::new(),
+            solo,
+            given_back: 0,
+            is_stopping: false,
+            asks: false,
+        }
+    }
+
+    fn end(self) -> WorkerEnd<L>
+        ensures ran { Worked self.tally.start result.seat result.recorded result.stale }
+        ensures served { result.refused ≡ false }
+    {
+        let (seat, recorded, stale) = self.tally.into_parts();
+        WorkerEnd {
+            seat,
+            recorded,
+            stale,
+            given_back: self.given_back,
+            refused: false,
+        }
+    }
+
+    // Claims a transfer, if there is one and it has room for it.
+    fn claim<R: Wait>(&mut self, rt: &R, multi: &Multi<Queued<L>, Outcome>)
+        requires own { self.old.tally.start.of ≡ multi.now }
+        ensures start { self.new.tally.start ≡ self.old.tally.start }
+    {
+        if self.is_stopping || !self.rack.has_room() {
+            return;
+        }
+        let Some(held) = self.tally.claim(rt, multi) else {
+            return;
+        };
+        // One that another worker gave back may have its deadline already.
+        set_deadline(&mut self.deadlines, held.ticket(), held.transfer.deadline());
+        self.rack.hold(held);
+    }
+
+    // Records an end. One that found no memory is tried again in the next turn.
+    fn record<R: Wait>(&mut self, rt: &R, multi: &Multi<Queued<L>, Outcome>, finished: Finished<L>)
+        requires own { self.old.tally.start.of ≡ multi.now }
+        requires room { in_hand self.old.rack < 64 }
+        ensures start { self.new.tally.start ≡ self.old.tally.start }
+    {
+        if let Some(finished) = self.tally.finish(rt, multi, finished) {
+            self.rack.set_aside(finished);
+        }
+    }
+
+    // Tries the ends again that found no memory.
+    fn record_again<R: Wait>(&mut self, rt: &R, multi: &Multi<Queued<L>, Outcome>)
+        requires own { self.old.tally.start.of ≡ multi.now }
+        ensures start { self.new.tally.start ≡ self.old.tally.start }
+    {
+        for _ in 0..self.rack.unrecorded() {
+            let Some(finished) = self.rack.next_unrecorded() else {
+                return;
+            };
+            self.record(rt, multi, finished);
+        }
+    }
+
+    // Ends a transfer: its link is kept where it may be, and its end is recorded.
+    fn conclude<R: Wait>(
+        &mut self,
+        rt: &R,
+        multi: &Multi<Queued<L>, Outcome>,
+        mut transfer: Transfer<L>,
+        finished: Finished<L>,
+    )
+        requires own { self.old.tally.start.of ≡ multi.now }
+        requires room { in_hand self.old.rack < 64 }
+        ensures start { self.new.tally.start ≡ self.old.tally.start }
+    {
+        self.deadlines.clear(finished.claim.ticket());
+        self.links.keep(&mut transfer, &finished.outcome);
+        self.record(rt, multi, finished);
+    }
+
+    // Puts a transfer back among those that it holds, after a poll that didn't end it.
+    fn resume(&mut self, held: Held<L>, is_paused: bool, had_deadline: bool)
+        requires room { in_hand self.old.rack < 64 }
+        ensures start { self.new.tally.start ≡ self.old.tally.start }
+    {
+        if !is_paused && has_asked(&self.solo) {
+            self.asks = true;
+        }
+        if !had_deadline {
+            set_deadline(&mut self.deadlines, held.ticket(), held.transfer.deadline());
+        }
+        self.rack.hold(held);
+    }
+
+    // Polls a transfer once, with a link where it wants one and isn't paused.
+    fn advance<R: Wait, G: Gate<Link = L>>(
+        &mut self,
+        rt: &R,
+        multi: &Multi<Queued<L>, Outcome>,
+        gate: &mut G,
+        now: u64,
+        held: Held<L>,
+        is_paused: bool,
+    )
+        requires own { self.old.tally.start.of ≡ multi.now }
+        requires room { in_hand self.old.rack < 64 }
+        ensures start { self.new.tally.start ≡ self.old.tally.start }
+    {
+        let Held {
+            claim,
+            mut transfer,
+        } = held;
+        let had_deadline = transfer.deadline().is_some();
+        transfer.prepare(now, is_paused);
+        if !is_paused {
+            self.links.supply(gate, &mut transfer);
+        }
+        match poll_once(&self.solo, &mut transfer) {
+            Poll::Ready(outcome) => {
+                self.conclude(rt, multi, transfer, Finished { claim, outcome })
+            }
+            Poll::Pending => self.resume(Held { claim, transfer }, is_paused, had_deadline),
+        }
+    }
+
+    // Looks at a transfer, and polls it unless it runs no more: then it is dropped with its link.
+    fn serve<R: Wait, G: Gate<Link = L>>(
+        &mut self,
+        rt: &R,
+        multi: &Multi<Queued<L>, Outcome>,
+        gate: &mut G,
+        now: u64,
+        held: Held<L>,
+    )
+        requires own { self.old.tally.start.of ≡ multi.now }
+        requires room { in_hand self.old.rack < 64 }
+        ensures start { self.new.tally.start ≡ self.old.tally.start }
+    {
+        let ticket = held.ticket();
+        match self.tally.look(multi, ticket) {
+            Some(Look::Gone) => self.deadlines.clear(ticket),
+            Some(Look::Go) => self.advance(rt, multi, gate, now, held, false),
+            Some(Look::Paused) => self.advance(rt, multi, gate, now, held, true),
+            None => self.advance(rt, multi, gate, now, held, true),
+        }
+    }
+
+    // Goes through what it holds, in order of claim: serves those that are due, or the others.
+    fn serve_those<R: Wait, G: Gate<Link = L>>(
+        &mut self,
+        rt: &R,
+        multi: &Multi<Queued<L>, Outcome>,
+        gate: &mut G,
+        now: u64,
+        due: &ArrayVec<Ticket, MOST>,
+        is_due: bool,
+    )
+        requires own { self.old.tally.start.of ≡ multi.now }
+        ensures start { self.new.tally.start ≡ self.old.tally.start }
+    {
+        for _ in 0..self.rack.held() {
+            let Some(held) = self.rack.next() else {
+                return;
+            };
+            if due.as_slice().contains(&held.ticket()) == is_due {
+                self.serve(rt, multi, gate, now, held);
+            } else {
+                self.rack.hold(held);
+            }
+        }
+    }
+
+    // One turn.
+    fn turn<R: Wait, G: Gate<Link = L>>(
+        &mut self,
+        rt: &R,
+        multi: &Multi<Queued<L>, Outcome>,
+        gate: &mut G,
+    )
+        requires own { self.old.tally.start.of ≡ multi.now }
+        ensures start { self.new.tally.start ≡ self.old.tally.start }
+    {
+        let now = gate.now();
+        self.asks = false;
+        self.claim(rt, multi);
+        self.record_again(rt, multi);
+        let due = self.deadlines.due(now);
+        if !due.is_empty() {
+            self.serve_those(rt, multi, gate, now, &due, true);
+        }
+        self.serve_those(rt, multi, gate, now, &due, false);
+        let wait = if self.asks {
+            0
+        } else {
+            wait_ms(&self.deadlines, now)
+        };
+        if matches!(gate.turn(wait), Turn::Stop) {
+            self.is_stopping = true;
+        }
+    }
+
+    fn is_over(&self) -> bool {
+        self.is_stopping && self.rack.is_empty()
+    }
+}
+
+/// Runs a worker at a multi handle, until its gate stops it and what it holds has ended.
+///
+/// In each turn it claims at most one transfer, where it has fewer than 64 in hand, and goes through those that it holds: first those whose
+/// deadline has come, then the others in order of claim. One that runs no more is dropped with its link; one that isn't paused gets a link
+/// where it wants one, an idle one of the worker's or one that the gate opens; each is polled once. The end of one that has ended is recorded,
+/// where it found no memory again in the next turn. Then the gate waits, at most 20 milliseconds, until the next deadline at most, and
+/// not at all where a transfer that isn't paused asked to be polled again.
+///
+/// The seat comes back: its further receipts stand behind those that it had, and so many of them as it tells are of ends that were recorded
+/// and of ends that were stale. Where memory for the start is refused, nothing was claimed and the seat is as it was.
+pub fn run_worker<L: Link, R: Wait + RandomSource + AllocGlobal, G: Gate<Link = L>>(
+    rt: &R,
+    multi: &Multi<Queued<L>, Outcome>,
+    seat: WorkerSeat<Queued<L>, Outcome>,
+    gate: &mut G,
+) -> WorkerEnd<L>
+    requires own { seat.of ≡ multi.now }
+    ensures ran { Worked seat result.seat result.recorded result.stale }
+    ensures refused { result.refused ≡ true → result.seat ≡ seat }
+{
+    let Some(tools) = make_tools(rt, multi.max_connects()) else {
+        return WorkerEnd {
+            seat,
+            recorded: 0,
+            stale: 0,
+            given_back: 0,
+            refused: true,
+        };
+    };
+    let mut worker = Worker::new(tools, seat);
+    for _ in rt.forever() {
+        worker.turn(rt, multi, gate);
+        if worker.is_over() {
+            return worker.end();
+        }
+    }
+    unreachable!()
+}
