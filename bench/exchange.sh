@@ -1,8 +1,8 @@
 #!/usr/bin/env bash
 # What an exchange costs a running program: instructions per byte for a response that a ScriptLink gives in reads of
-# 16 KiB, through a transfer and its decoder, beside the same reads into one vector. Several sizes, so that a cost which
-# grows with the body shows. It needs rt and valgrind, which it looks for first, and builds in a folder of its own, which it
-# removes. Ends with 1 where a number didn't come.
+# 16 KiB, through a transfer and its decoder, beside the same reads into one vector: a counted body, and chunks of 16,384,
+# 100 and 1 bytes. From 1 to 16 MiB each, so that a cost which grows with the body shows. It needs rt and valgrind, which it
+# looks for first, and builds in a folder of its own, which it removes. Ends with 1 where a number didn't come.
 set -eu
 for tool in rt:'the Rattle toolchain' valgrind:"Debian's package valgrind" awk:"Debian's package mawk"; do
     command -v "${tool%%:*}" > /dev/null || { echo "there is no ${tool%%:*} on the path: it is in ${tool#*:}" >&2; exit 2; }
@@ -43,13 +43,13 @@ instructions() {
     [[ $number =~ ^[0-9]+$ ]] && [ "$number" -gt 0 ] || { echo "callgrind counted nothing: $said" >&2; return 1; }
     echo "$number"
 }
-for body in counted chunked; do
-    for pieces in 16 64 256 1024; do
+for body in counted by-16384 by-100 by-1; do
+    for pieces in 64 256 1024; do
         copy=$(instructions copy "$body" "$pieces")
         exchange=$(instructions exchange "$body" "$pieces")
         base=$(instructions none "$body" "$pieces")
         [ "$copy" -gt "$base" ] && [ "$exchange" -gt "$base" ] || { echo "$body: $pieces pieces cost no instruction" >&2; exit 1; }
         awk -v body="$body" -v bytes=$((pieces * 16384)) -v copy=$((copy - base)) -v exchange=$((exchange - base)) \
-            'BEGIN { printf "%s, %4d KiB: copy %.3f instructions a byte, exchange %.3f, %.2f times\n", body, bytes / 1024, copy / bytes, exchange / bytes, exchange / copy }'
+            'BEGIN { printf "%-8s %5d KiB: copy %.3f instructions a byte, exchange %.3f, %.2f times\n", body, bytes / 1024, copy / bytes, exchange / bytes, exchange / copy }'
     done
 done
