@@ -142,15 +142,11 @@ all_of_outcome o h other = all h.ends where
   all (inr s) = s.wire_is
 
 -- the codes
-or_true : (b : Bool) → (b || true) ≡ true
-or_true true = refl
-or_true false = refl
-
 of_verdict : (c : Code) → is_verdict_code c ≡ true → is_outcome_code c ≡ true
 of_verdict c is = ap (λ (b : Bool). b || is_exchange_code c) is
 
 of_exchange : (c : Code) → is_exchange_code c ≡ true → is_outcome_code c ≡ true
-of_exchange c is = ap (λ (b : Bool). is_verdict_code c || b) is ∙ or_true (is_verdict_code c)
+of_exchange c is = ap (λ (b : Bool). is_verdict_code c || b) is ∙ elim (is_verdict_code c) as (λ v. (v || true) ≡ true) [ true ↦ refl | false ↦ refl ]
 
 code_listed : (kind : Method) (wire : List ℕ) (e : Bool) (v : Verdict) (c : Code) → IsVerdict kind wire e v → code_of v ≡ Some c → is_outcome_code c ≡ true
 code_listed kind wire e (verdict.Complete status len parts keep) c h is = (let same : code.Ok ≡ c = (let k : Some code.Ok ≡ Some c = is in cc) in subst (λ (k : Code). is_outcome_code k ≡ true) same refl)

@@ -1,4 +1,4 @@
-use Rattle.std.proofs.Common.{◌∙◌}
+use Rattle.std.proofs.Common.{rules, ◌∙◌}
 use Rattle.mx_exchange.proofs.OutcomeLemmas.{front_of_outcome, all_of_outcome}
 use Rattle.mx_exchange.proofs.outcomes.Outcome.wire.Goals as goal
 
@@ -7,3 +7,6 @@ returns-clause-front c = rw (← c.self.view_is) (front_of_outcome _ c.self.inva
 
 pub returns-clause-all : goal.returns-clause-all
 returns-clause-all c = rw (← c.self.view_is) (λ other. c.as_slice.ensures.value ∙ all_of_outcome _ c.self.invariant.outcome other)
+
+pub returns-clause-wire : goal.returns-clause-wire
+returns-clause-wire c = search rules
