@@ -8,7 +8,7 @@ ghost use Rattle.mx_body.specs.declared.decoder.Stand.TheVariants as stand;
 ghost use Rattle.mx_body.specs.declared.verdict.Verdict.TheVariants as verdict;
 
 use crate::part::Part;
-use crate::progress::{Progress, finish, go_on};
+use crate::progress::{Progress, finish, go_on, pass_data};
 use crate::room::make_room;
 use crate::verdict::Verdict;
 use mx_types::{Code, Method, OutOfMemory};
@@ -119,6 +119,9 @@ impl Decoder {
             self.progress.told_bytes(self.method),
         )?;
         self.wire.extend_from_slice(piece)?;
+        if pass_data(self.method, self.wire.as_slice(), len, &mut self.progress) {
+            return Ok(Stand::More);
+        }
         match go_on(
             self.alloc,
             self.method,
@@ -171,6 +174,13 @@ impl Decoder {
         ensures { result.now ≡ self.now.wire }
     {
         self.wire.as_slice()
+    }
+
+    /// The verdict on the bytes fed.
+    pub fn verdict(&self) -> &Verdict
+        ensures { result.now ≡ self.now.verdict }
+    {
+        &self.verdict
     }
 
     /// The status of the final head in the bytes fed, 0 where there is none. It takes no memory.

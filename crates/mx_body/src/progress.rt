@@ -1,6 +1,6 @@
 //! Reading the bytes of an exchange as they come: each byte of a body once.
 
-ghost use Rattle.std.specs.Prelude.{◌≡◌, ◌≤◌, ◌++◌, ℕ, List, true, false, length, take, drop, slice_range, min, Ok, IfOk, OnErr};
+ghost use Rattle.std.specs.Prelude.{◌≡◌, ◌≤◌, ◌++◌, ℕ, List, true, false, length, take, drop, slice_range, min, Ok, IfOk, OnErr, IsTrue};
 ghost use Rattle.mx_head.specs.declared.types.Framing.TheVariants.{Chunked};
 ghost use Rattle.mx_head.specs.Limits.{most_bytes};
 ghost use Rattle.mx_head.specs.Summary.{framing_by};
@@ -12,6 +12,7 @@ ghost use Rattle.mx_body.specs.Steps.{HasHeadAt};
 ghost use Rattle.mx_body.specs.declared.progress.Phase.TheVariants.{Heads};
 ghost use Rattle.mx_body.specs.declared.verdict.Verdict.TheVariants.{More};
 
+use crate::chunked::place::Place;
 use crate::chunked::reader::ChunkedReader;
 use crate::chunked::scan::ChunkedScan;
 use crate::heads::{FinalStep, Passed, final_head_from};
@@ -150,6 +151,31 @@ fn begin_body(
             Ok(verdict)
         }
     }
+}
+
+/// Whether all bytes behind the first so many are data of the chunk that is being read, and not its last; then they are
+/// passed over, and nothing is decided. Else nothing changes.
+pub(crate) fn pass_data(method: Method, wire: &[u8], before: usize, progress: &mut Progress) -> bool
+    requires within { before ≤ length wire.now }
+    requires progress { IsProgress method (take before wire.now) progress.old }
+    ensures verdict { IsTrue result → IsVerdict method wire.now false More }
+    ensures progress { IsTrue result → IsProgress method wire.now progress.new }
+    ensures status { IsTrue result → HasStatus wire.now (status_read progress.new.phase) }
+    ensures other { result ≡ false → progress.new ≡ progress.old }
+{
+    let Phase::Chunks { head: _, at } = progress.phase else {
+        return false;
+    };
+    let Place::Data(left) = progress.reader.place else {
+        return false;
+    };
+    let more = wire.len() - before;
+    if more >= left as usize || wire.len() > MOST_BYTES {
+        return false;
+    }
+    progress.reader.place = Place::Data(left - more as u32);
+    progress.reader.read = wire.len() - at;
+    true
 }
 
 /// The verdict where more bytes have come, of which the first so many were there before.

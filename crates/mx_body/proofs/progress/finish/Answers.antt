@@ -1,16 +1,12 @@
-use Rattle.std.proofs.Common.{ℕ, List, ◌≡◌, ◌≤◌, ◌-◌, true, length, take, drop, subst, sym, ap, ◌∙◌, inl, arith, length-drop}
+use Rattle.std.proofs.Common.{ℕ, List, ◌≡◌, ◌≤◌, true, length, subst, sym, ◌∙◌, inl, arith}
 use Rattle.std.proofs.lemmas.List.{take_all}
 use Rattle.mx_head.specs.Limits.{most_bytes}
-use Rattle.mx_head.proofs.SummaryLemmas.{framing_agrees}
 use Rattle.mx_body.specs.Decision.{first_bytes}
 use Rattle.mx_body.specs.declared.progress.Phase.{Phase}
-use Rattle.mx_body.specs.ChunkedPlace.{is_settled}
-use Rattle.mx_body.specs.ChunkedScan.{IsUndecidedChunked}
 use Rattle.mx_body.specs.Progress.{IsPhase}
 use Rattle.mx_body.specs.Steps.{IsFinalStepOn}
 use Rattle.mx_body.specs.declared.heads.FinalStep.TheVariants.{More}
-use Rattle.mx_body.proofs.ChunkedLemmas.{open_is_undecided}
-use Rattle.mx_body.proofs.ChunkedBodyLemmas.{short_undecided, seen_is}
+use Rattle.mx_body.proofs.ProgressLemmas.{chunks_undecided}
 use Rattle.mx_body.proofs.FirstBytesLemmas.{first_is, no_final}
 use Rattle.mx_body.proofs.MeetsLemmas.{headless_no_response}
 use Rattle.mx_body.proofs.progress.finish.Goals as goal
@@ -31,15 +27,7 @@ returns-in-Fault-clause-verdict c =
 pub decode_short-requires : goal.decode_short-requires
 decode_short-requires c =
     let p = subst (λ (x : Phase). IsPhase c.args.method c.args.wire.now x c.args.progress.now.reader) c.in-Chunks.is c.requires.progress in
-    let d = p.0 in
-    let wire = c.args.wire.now in
-    let r = c.args.progress.now.reader in
-    let at = c.in-Chunks.at in
-    let seen = seen_is wire d.interim d.head d.rest d.stands at (length wire) d.end_is (omega (arith, c.requires.small)) in
-    let all = take_all (length wire - at) (drop at wire) (omega (arith, length-drop at wire)) in
-    let read = take_all r.read (drop at wire) (omega (arith, p.5)) in
-    let undecided = open_is_undecided most_bytes (take r.read (drop at wire)) (ap is_settled p.2.place ∙ p.3) in (
-      short_undecided c.args.method wire true d.interim d.head d.rest d.stands (sym (framing_agrees _ _ d.head d.describes) ∙ p.1)
-          (subst (IsUndecidedChunked most_bytes) (read ∙ sym all ∙ seen) undecided),
+    let d = p.0 in (
+      chunks_undecided c.args.method c.args.wire.now true _ _ _ c.requires.small d p.1 p.2 p.3 p.5,
       (d.interim, d.head, d.rest, d.stands),
     )
