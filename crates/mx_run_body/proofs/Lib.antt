@@ -1,3 +1,5 @@
 mod PartsWithin
 mod WasRead
 mod Printed
+mod Received
+mod Gathered

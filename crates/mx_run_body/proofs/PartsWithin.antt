@@ -1,7 +1,7 @@
 -- The pieces of a body in its input.
-use Rattle.std.proofs.Common.{◌≡◌, ℕ, ◌+◌, ◌≤◌, List, [], ◌∷◌, length, arith, ap, refl, sym, ◌∙◌, slice_range}
+use Rattle.std.proofs.Common.{◌≡◌, ℕ, ◌+◌, ◌-◌, ◌≤◌, List, [], ◌∷◌, ◌++◌, length, take, drop, arith, ap, refl, sym, ◌∙◌, slice_range}
 use Rattle.std.specs.Prelude.{All, sum_by}
-use Rattle.std.proofs.lemmas.List.{length-append, length-take, length-drop}
+use Rattle.std.proofs.lemmas.List.{length-append, length-take, length-drop, drop-append-le, take-append-le}
 use Rattle.std.proofs.lemmas.List.Sums.{sum_by-cons}
 use Rattle.std.proofs.lemmas.List.Elements.{All-nil, All-cons, All-head, All-tail}
 use Rattle.mx_body.specs.declared.part.Part.{Part}
@@ -53,3 +53,18 @@ length-joined input (p ∷ ps) h =
     ∙ ap (λ n. n + length (joined input ps)) (length-piece input p (All-head (StandsWithin (length input)) p ps h))
     ∙ ap (λ n. part_len p + n) (length-joined input ps (All-tail (StandsWithin (length input)) p ps h))
     ∙ sym (sum_by-cons part_len p ps)
+
+-- what stands at them is the same where more follows
+pub joined_front : (wire behind : List ℕ) (parts : List Part) → All (StandsWithin (length wire)) parts
+    → joined (wire ++ behind) parts ≡ joined wire parts
+joined_front wire behind [] h = refl
+joined_front wire behind (p ∷ ps) h =
+    let here = All-head (StandsWithin (length wire)) p ps h in
+    let ordered = here.0 in
+    let inside = here.1 in
+    let start : p.start ≤ length wire = omega arith in
+    let len : p.end - p.start ≤ length (drop p.start wire) = omega (arith, length-drop p.start wire) in
+    let piece : slice_range (wire ++ behind) p.start p.end ≡ slice_range wire p.start p.end =
+    ap (take (p.end - p.start)) (drop-append-le p.start wire behind start) ∙ take-append-le (p.end - p.start) (drop p.start wire) behind len in
+    ap (λ (t : List ℕ). t ++ joined (wire ++ behind) ps) piece
+    ∙ ap (λ (t : List ℕ). slice_range wire p.start p.end ++ t) (joined_front wire behind ps (All-tail (StandsWithin (length wire)) p ps h))

@@ -1,5 +1,5 @@
 -- What a run has written, and that a verdict on an ended input is printed.
-use Rattle.std.proofs.Common.{◌≡◌, ◌≢◌, ℕ, ◌+◌, ◌<◌, List, [], ◌∷◌, ◌++◌, length, true, inl, inr, subst, ap, ◌∙◌, arith, length-append}
+use Rattle.std.proofs.Common.{◌≡◌, ◌≢◌, ℕ, ◌+◌, ◌<◌, ◌≤◌, Bool, List, [], ◌∷◌, ◌++◌, length, true, false, inl, inr, refl, sym, subst, ap, ◌∙◌, arith, length-append}
 use Rattle.std.specs.Prelude.{Option, Some, Result, Ok, Err, IfOk, OnOk}
 use Rattle.std.specs.Result.{is_ok}
 use Rattle.std.proofs.lemmas.Bool.{false≢true}
@@ -13,35 +13,59 @@ use Rattle.mx_body.specs.declared.verdict.Verdict.{Verdict}
 use Rattle.mx_body.specs.declared.verdict.Verdict.TheVariants.{Complete, More, Fault}
 use Rattle.mx_body.specs.Response.{print_heads}
 use Rattle.mx_body.specs.Decision.{IsVerdict, BeginsWithParts}
-use Rattle.mx_body.specs.Laws.{ContentIs}
-use Rattle.mx_run_body.specs.Run.{FitsIn, WasRead, AnswersRead, text_of, exit_status}
+use Rattle.mx_body.specs.Laws.{ContentIs, CompleteHasContent}
+use Rattle.mx_run_body.specs.Reading.{IsRead}
+use Rattle.mx_run_body.specs.declared.reading.Received.{Received}
+use Rattle.mx_run_body.specs.Run.{FitsIn, AnswersRead, text_of, exit_status}
 
--- the verdict on an ended input is decided, and its pieces stand in the input
-pub decided_fits : (m : Method) (input : List ℕ) (v : Verdict)
-    → IsVerdict m input true v → ContentIs m input true v → FitsIn input v
-decided_fits m input (Complete status len parts keep) decided content = (content.0, content.1)
-decided_fits m input More decided content = let wrong = decided.2 in cc
-decided_fits m input (Fault code) decided content = tt
+-- a verdict that is decided has its pieces in the bytes
+content_fits : (m : Method) (wire : List ℕ) (ended : Bool) (v : Verdict) → v ≢ More → ContentIs m wire ended v → FitsIn wire v
+content_fits m wire ended (Complete status len parts keep) decided content = (content.0, content.1)
+content_fits m wire ended More decided content = absurd (decided refl)
+content_fits m wire ended (Fault code) decided content = tt
+
+-- an input that has ended is decided
+ended_decides : (m : Method) (input : List ℕ) (v : Verdict) → IsVerdict m input true v → v ≢ More
+ended_decides m input (Complete status len parts keep) is = λ e. cc
+ended_decides m input More is = λ e. let both : true ≡ false = is.2 in cc
+ended_decides m input (Fault code) is = λ e. cc
+
+-- what was received has the pieces of its body
+pub received_fits : (m : Method) (known left : Option (List ℕ)) (r : Received) → IsRead m known left r → CompleteHasContent
+    → FitsIn r.decoder.wire r.decoder.verdict
+received_fits m known left r read has =
+    content_fits r.decoder.method r.decoder.wire r.decoder.ended r.decoder.verdict
+    (ended_decides m read.bytes r.decoder.verdict read.received.decided)
+    (has r.decoder.method r.decoder.wire r.decoder.ended r.decoder.verdict read.received.exact)
+
+-- and is no more than was read
+pub received_front : (m : Method) (known left : Option (List ℕ)) (r : Received) → IsRead m known left r
+    → length r.decoder.wire ≤ r.len
+received_front m known left r read =
+    omega (arith, read.received.len, ap length read.received.whole, length-append r.decoder.wire read.received.behind)
 
 -- the verdict's text and status answer what was read
-pub answers_read : {E : Type 0} (m : Method) (known left old new : Option (List ℕ)) (bytes decoded printed : List ℕ)
-    (v : Verdict) (r : Result ℕ E) → decoded ≡ bytes → printed ≡ bytes
-    → WasRead known left bytes → IsVerdict m decoded true v → ContentIs m decoded true v
-    → OnOk r (Appends old new (text_of printed v)) → IfOk r (λ status. status ≡ exit_status v)
-    → IfOk r (AnswersRead m known left old new)
-answers_read m known left old new bytes decoded printed v (Ok status) same shown read decided content written is =
+pub answers_received : {E : Type 0} (m : Method) (known left old new : Option (List ℕ)) (r : Received) (result : Result ℕ E)
+    → IsRead m known left r → CompleteHasContent
+    → OnOk result ((behind : List ℕ) → r.len ≡ length (r.decoder.wire ++ behind)
+    → Appends old new (text_of (r.decoder.wire ++ behind) r.decoder.verdict))
+    → IfOk result (λ status. status ≡ exit_status r.decoder.verdict)
+    → IfOk result (AnswersRead m known left old new)
+answers_received m known left old new r (Ok status) read has written is =
+    let all = read.received.whole in
+    let v = r.decoder.verdict in
     inr (
-      bytes,
-      read,
+      read.bytes,
+      read.read,
       record {
         verdict = v;
-        decided = subst (λ x. IsVerdict m x true v) same decided;
-        content = subst (λ x. ContentIs m x true v) same content;
-        written = subst (λ x. Appends old new (text_of x v)) shown written;
+        decided = read.received.decided;
+        content = has m read.bytes true v read.received.decided;
+        written = subst (λ x. Appends old new (text_of x v)) (sym all) (written read.received.behind (read.received.len ∙ ap length all));
         status = is;
       },
     )
-answers_read m known left old new bytes decoded printed v (Err e) same shown read decided content written is = tt
+answers_received m known left old new r (Err e) read has written is = tt
 
 -- the want of memory is printed in place of an answer to an input with bytes
 pub answers_short : {E : Type 0} (m : Method) (known left old new : Option (List ℕ)) (r : Result ℕ E)

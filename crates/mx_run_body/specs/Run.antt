@@ -1,6 +1,6 @@
 -- What `body` prints: the text of the verdict on what was read.
-use Rattle.std.specs.Prelude.{◌≡◌, ◌≢◌, ℕ, ◌-◌, ◌≤◌, ◌⊎◌, true, List, [], ◌++◌, length, Option, Some, IfSome}
-use Rattle.std.specs.Io.KnownBytes.{Appends, Consumes}
+use Rattle.std.specs.Prelude.{◌≡◌, ◌≢◌, ℕ, ◌-◌, ◌≤◌, ◌⊎◌, true, List, [], ◌++◌, length, Option, Some}
+use Rattle.std.specs.Io.KnownBytes.{Appends}
 use Rattle.mx_types.specs.Code.{code_number}
 use Rattle.mx_types.specs.declared.code.Code.TheVariants as codes
 use Rattle.mx_types.specs.declared.method.Method.{Method}
@@ -9,8 +9,7 @@ use Rattle.mx_body.specs.declared.verdict.Verdict.TheVariants as verdict
 use Rattle.mx_body.specs.Decision.{IsVerdict}
 use Rattle.mx_body.specs.Parts.{AreOrdered, joined}
 use Rattle.mx_body.specs.Laws.{ContentIs}
-use Rattle.mx_head.specs.Limits.{most_bytes}
-use Rattle.mx_run_body.specs.Reading.{bytes_read}
+use Rattle.mx_run_body.specs.Reading.{WasRead}
 use Rattle.mx_run_io.specs.Faults.{fault_line, PrintsFault}
 use Rattle.mx_run_body.specs.Texts.{response_line}
 
@@ -41,12 +40,6 @@ abbrev pub FitsIn : List ℕ → Verdict → Type 0
 FitsIn input (verdict.Complete status len parts keep) = AreOrdered 0 len parts.items × (len ≤ length input)
 FitsIn input verdict.More = ⊥
 FitsIn input (verdict.Fault code) = Unit {0}
-
--- These bytes were read: they stood at the front of what the reader had, and are all of it, or one byte more than a
--- response has.
-pub record WasRead (known left : Option (List ℕ)) (bytes : List ℕ) : Type 0 where
-  pub given : Consumes known left bytes
-  pub enough : IfSome known (λ input. bytes ≡ bytes_read most_bytes input)
 
 -- The verdict on what was read is printed; or the want of memory, which an input without bytes never meets.
 abbrev pub AnswersRead : Method → Option (List ℕ) → Option (List ℕ) → Option (List ℕ) → Option (List ℕ) → ℕ → Type 0

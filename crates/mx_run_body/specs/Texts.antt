@@ -1,6 +1,7 @@
 -- What `body` prints of a whole response.
-use Rattle.std.specs.Prelude.{ℕ, ◌≤◌, ◌-◌, Bool, List, [], ◌∷◌, ◌++◌, length, replicate, codes, if◌then◌else◌}
+use Rattle.std.specs.Prelude.{◌≡◌, ℕ, ◌≤◌, ◌-◌, Bool, List, [], ◌∷◌, ◌++◌, length, replicate, codes, if◌then◌else◌, Option}
 use Rattle.std.specs.Fmt.{decimal}
+use Rattle.std.specs.Io.KnownBytes.{Appends}
 use Rattle.mx_body.specs.declared.part.Part.{Part}
 
 -- a status in three digits
@@ -24,3 +25,9 @@ StandsWithin n part = (part.start ≤ part.end) × (part.end ≤ n)
 -- how many bytes it has
 abbrev pub part_len : Part → ℕ
 part_len part = part.end - part.start
+
+-- Private: from old to new the front of the text is written, and its rest is held.
+pub record Holds (old new : Option (List ℕ)) (text held : List ℕ) : Type 0 where
+  pub front : List ℕ
+  pub written : Appends old new front
+  pub is : text ≡ front ++ held

@@ -1,6 +1,7 @@
 //! The command `body` of `mxfetch`: a whole HTTP/1.1 response from its bytes, over any reader and writer.
 #![tactic(auto)]
 
+mod gather;
 mod reading;
 mod run;
 mod text;

@@ -1,11 +1,14 @@
-//! Reading an input whole.
-ghost use Rattle.std.specs.Prelude.{◌≡◌, ◌≢◌, ◌+◌, ◌<◌, ◌≤◌, ◌^◌, ◌↔◌, [], true, Some, Err, IfOk, IfSome, ◌⊎◌};
-ghost use Rattle.std.specs.Io.KnownBytes.{Consumes};
+//! Reading an input, and decoding it as it comes.
+ghost use Rattle.std.specs.Prelude.{◌≡◌, ◌≢◌, ◌+◌, ◌<◌, ◌≤◌, ◌↔◌, ◌⊎◌, ℕ, List, [], length, true, Some, Err, IfOk, OnErr};
+ghost use Rattle.mx_head.specs.Limits.{most_bytes};
 ghost use Rattle.mx_run_io.specs.Ends.{reader_of, reads_of, most_reads_of, has_failed_read};
-ghost use Rattle.mx_run_body.specs.Reading.{bytes_read, ReadsUpTo};
+ghost use Rattle.mx_run_body.specs.Reading.{ReadsUpTo, WasFed, IsReceived, IsRead};
 ghost use Rattle.mx_run_body.specs.declared.reading.InputError.TheVariants.{Failed, OutOfMemory};
 
+use mx_body::laws::{complete_stays_same, fault_stays_same};
+use mx_body::{Decoder, MOST_BYTES};
 use mx_run_io::Input;
+use mx_types::Method;
 use std::alloc::Global;
 use std::io::Read;
 
@@ -14,45 +17,70 @@ use std::io::Read;
 pub enum InputError {
     /// A read failed.
     Failed,
-    /// There was no memory for what a read gave.
+    /// There was no memory for what was read, or for the pieces of its body.
     OutOfMemory,
+}
+
+/// What was read, decoded.
+#[derive(Drop)]
+pub struct Received {
+    /// It has decided, and has the bytes up to those that decided.
+    pub decoder: Decoder,
+    /// How many bytes were read.
+    pub len: usize,
 }
 
 /// How many bytes one read asks for.
 const READ_SIZE: usize = 65536;
 
-/// Reads to the end of the input, or until there are more than `most` bytes, and then no further than that.
-pub fn read_input<R: Read>(
+/// Decides over what was read, where no more is.
+fn decide(mut decoder: Decoder, len: usize) -> Result<Received, InputError>
+    ensures decided { IfOk result (λ r. (bytes : List ℕ) → WasFed decoder bytes → length bytes ≡ len → IsReceived decoder.method bytes r) }
+    ensures memory { OnErr result ((bytes : List ℕ) → WasFed decoder bytes → bytes ≢ []) }
+    ensures failed { result ≢ Err Failed }
+{
+    fault_stays_same();
+    complete_stays_same();
+    match decoder.end() {
+        Ok(_) => Ok(Received { decoder, len }),
+        Err(_) => Err(InputError::OutOfMemory),
+    }
+}
+
+/// Reads to the end of the input, or until there are more bytes than a response may have, and then no further than
+/// that. What comes is decoded as it comes, up to the bytes that decide; those behind them are counted alone.
+pub fn receive<R: Read>(
     alloc: Global,
+    method: Method,
     input: &mut Input<R>,
-    most: usize,
-) -> Result<Vec<u8>, InputError>
-    requires few { most < 2 ^ 32 }
-    requires room { reads_of input.old + (most + 2) ≤ most_reads_of input.old }
-    ensures bytes { IfOk result (λ v. IfSome (R.remaining (reader_of input.old)) (λ xs. v.items ≡ bytes_read most xs)) }
-    ensures given { IfOk result (λ v. Consumes (R.remaining (reader_of input.old)) (R.remaining (reader_of input.new)) v.items) }
-    ensures left { ReadsUpTo most (has_failed_read input.new)
+) -> Result<Received, InputError>
+    requires room { reads_of input.old + (most_bytes + 2) ≤ most_reads_of input.old }
+    ensures received { IfOk result (IsRead method (R.remaining (reader_of input.old)) (R.remaining (reader_of input.new))) }
+    ensures left { ReadsUpTo most_bytes (has_failed_read input.new)
         (R.remaining (reader_of input.old)) (R.remaining (reader_of input.new)) }
     ensures memory { result ≡ Err OutOfMemory → R.remaining (reader_of input.old) ≢ Some [] }
     ensures failed { (result ≡ Err Failed) ↔ (has_failed_read input.new ≡ true) }
     ensures asked { has_failed_read input.new ≡ true
         → (has_failed_read input.old ≡ true) ⊎ (reads_of input.old < reads_of input.new) }
-    ensures reads { reads_of input.new ≤ reads_of input.old + (most + 2) }
+    ensures reads { reads_of input.new ≤ reads_of input.old + (most_bytes + 2) }
 {
-    let mut bytes = Vec::new(alloc);
+    let mut decoder = Decoder::new(alloc, method);
+    let mut len: usize = 0;
     let mut buffer = [0u8; READ_SIZE];
-    while bytes.len() <= most {
-        let room = READ_SIZE.min(most + 1 - bytes.len());
+    while len <= MOST_BYTES {
+        let room = READ_SIZE.min(MOST_BYTES + 1 - len);
         let count = match input.read(&mut buffer[..room]) {
             Ok(count) => count,
             Err(_) => return Err(InputError::Failed),
         };
         if count == 0 {
-            return Ok(bytes);
+            return decide(decoder, len);
         }
-        if bytes.extend_from_slice(&buffer[..count]).is_err() {
-            return Err(InputError::OutOfMemory);
+        match decoder.feed(&buffer[..count]) {
+            Ok(_) => {}
+            Err(_) => return Err(InputError::OutOfMemory),
         }
+        len += count;
     }
-    Ok(bytes)
+    decide(decoder, len)
 }

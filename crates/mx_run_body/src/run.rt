@@ -1,5 +1,5 @@
 //! The command `body`: a whole response from its bytes.
-ghost use Rattle.std.specs.Prelude.{◌≡◌, ◌≢◌, ◌+◌, ◌<◌, ◌≤◌, ◌^◌, ◌++◌, ◌↔◌, ◌⊎◌, true, false, All, IfOk, OnOk, IsErr, length, sum_by};
+ghost use Rattle.std.specs.Prelude.{◌≡◌, ◌≢◌, ℕ, List, ◌+◌, ◌<◌, ◌≤◌, ◌^◌, ◌++◌, ◌↔◌, ◌⊎◌, true, false, All, IfOk, OnOk, IsErr, length, sum_by};
 ghost use Rattle.std.specs.Io.KnownBytes.{Appends};
 ghost use Rattle.mx_types.specs.Code.{code_number};
 ghost use Rattle.mx_head.specs.Limits.{most_bytes};
@@ -10,17 +10,14 @@ ghost use Rattle.mx_run_io.specs.Faults.{PrintsFault};
 ghost use Rattle.mx_run_body.specs.Reading.{ReadsUpTo};
 ghost use Rattle.mx_run_body.specs.Run.{text_of, exit_status, AnswersRead, FitsIn};
 
-use crate::reading::{InputError, read_input};
+use crate::reading::{InputError, receive};
 use crate::text::{print_parts, print_response};
 use mx_body::laws::parts_are_content;
-use mx_body::{Part, Verdict, decode_whole};
+use mx_body::{Part, Verdict};
 use mx_run_io::{Input, Output, UNWRITTEN, WriteFailed, end_with};
 use mx_types::{Code, Method};
 use std::alloc::Global;
 use std::io::{Read, Write};
-
-/// The most bytes of a whole response.
-const MOST_BYTES: usize = 67_108_864;
 
 /// The most reads that `run_body` makes: each but the last gives a byte.
 pub const MOST_READS: u64 = 67_108_866;
@@ -41,50 +38,46 @@ fn body_len(parts: &[Part]) -> usize
 /// Prints the line of a whole response, and then its body.
 fn print_whole<W: Write>(
     output: &mut Output<W>,
-    input: &[u8],
+    wire: &[u8],
     status: u16,
     parts: &[Part],
     keep: bool,
     left: usize,
 ) -> Result<(), WriteFailed>
-    requires within { All (StandsWithin (length input.now)) parts.now }
+    requires within { All (StandsWithin (length wire.now)) parts.now }
     requires small { sum_by part_len parts.now < 2 ^ 64 }
     ensures written { OnOk result (Appends (W.contents (writer_of output.old))
         (W.contents (writer_of output.new))
-        (response_line status (sum_by part_len parts.now) keep left ++ joined input.now parts.now)) }
+        (response_line status (sum_by part_len parts.now) keep left ++ joined wire.now parts.now)) }
     ensures failed { IsErr result ↔ (has_failed_write output.new ≡ true) }
 {
     print_response(output, status, body_len(parts), keep, left)?;
-    print_parts(output, input, parts)
+    print_parts(output, wire, parts)
 }
 
-/// Prints the text of a verdict on the input, and answers its exit status.
+/// Prints the text of a verdict, and answers its exit status. Of the `len` bytes that it is the verdict on, the front is
+/// there, with all that it speaks of.
 fn print_verdict<W: Write>(
     output: &mut Output<W>,
-    input: &[u8],
+    wire: &[u8],
     verdict: &Verdict,
+    len: usize,
 ) -> Result<u8, WriteFailed>
-    requires { FitsIn input.now verdict.now }
-    ensures written { OnOk result (Appends (W.contents (writer_of output.old))
-        (W.contents (writer_of output.new)) (text_of input.now verdict.now)) }
+    requires fits { FitsIn wire.now verdict.now }
+    requires front { length wire.now ≤ len }
+    ensures written { OnOk result ((behind : List ℕ) → len ≡ length (wire.now ++ behind)
+        → Appends (W.contents (writer_of output.old)) (W.contents (writer_of output.new)) (text_of (wire.now ++ behind) verdict.now)) }
     ensures status { IfOk result (λ status. status ≡ exit_status verdict.now) }
     ensures failed { IsErr result ↔ (has_failed_write output.new ≡ true) }
 {
     match verdict {
         Verdict::Complete {
             status,
-            len,
+            len: end,
             parts,
             keep,
         } => {
-            print_whole(
-                output,
-                input,
-                *status,
-                parts,
-                *keep,
-                input.len() - *len as usize,
-            )?;
+            print_whole(output, wire, *status, parts, *keep, len - *end as usize)?;
             Ok(0)
         }
         Verdict::More => unreachable!(),
@@ -113,17 +106,18 @@ fn print_body<R: Read, W: Write>(
     ensures small { IfOk result (λ status. status < 121) }
     ensures failed { IsErr result ↔ (has_failed_write output.new ≡ true) }
 {
-    let bytes = match read_input(alloc, input, MOST_BYTES) {
-        Ok(bytes) => bytes,
+    let received = match receive(alloc, method, input) {
+        Ok(received) => received,
         Err(InputError::Failed) => return end_with(output, Code::RecvError),
         Err(InputError::OutOfMemory) => return end_with(output, Code::OutOfMemory),
     };
-    let verdict = match decode_whole(alloc, method, &bytes, true) {
-        Ok(verdict) => verdict,
-        Err(_) => return end_with(output, Code::OutOfMemory),
-    };
     parts_are_content();
-    print_verdict(output, &bytes, &verdict)
+    print_verdict(
+        output,
+        received.decoder.wire(),
+        received.decoder.verdict(),
+        received.len,
+    )
 }
 
 /// Reads a response whole, as the answer to a request of that method, and prints it: one line and the body,

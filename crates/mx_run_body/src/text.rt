@@ -5,6 +5,7 @@ ghost use Rattle.mx_run_io.specs.Ends.{writer_of, has_failed_write};
 ghost use Rattle.mx_run_body.specs.Texts.{response_line, yes_or_no, StandsWithin};
 ghost use Rattle.mx_body.specs.Parts.{joined};
 
+use crate::gather::gather;
 use mx_body::Part;
 use mx_run_io::{Output, WriteFailed};
 use std::io::Write;
@@ -31,6 +32,9 @@ pub fn print_response<W: Write>(
     output.print(format_args!("OK status={status:03} body={body} keep={keep} left={left}\n"))
 }
 
+/// How many bytes of the pieces are gathered for a write.
+const GATHERED: usize = 65536;
+
 /// Prints the pieces of the input.
 pub fn print_parts<W: Write>(
     output: &mut Output<W>,
@@ -43,8 +47,11 @@ pub fn print_parts<W: Write>(
     ensures failed { IsErr result → has_failed_write output.new ≡ true }
     ensures kept { OnOk result (has_failed_write output.new ≡ has_failed_write output.old) }
 {
+    let mut buffer = [0u8; GATHERED];
+    let mut held = 0;
     for part in parts {
-        output.write_all(&input[part.start as usize..part.end as usize])?;
+        let piece = &input[part.start as usize..part.end as usize];
+        held = gather(output, &mut buffer, held, piece)?;
     }
-    Ok(())
+    output.write_all(&buffer[..held])
 }

@@ -1,16 +1,15 @@
-use Rattle.mx_run_body.proofs.Printed.{answers_read, answers_short, response_bytes}
-use Rattle.mx_run_body.proofs.WasRead.{none_read}
-use Rattle.std.proofs.Common.{◌∙◌}
+use Rattle.mx_run_body.proofs.Printed.{answers_received, received_fits, received_front}
 use Rattle.mx_run_body.proofs.run.print_body.Goals as goal
+
+pub print_verdict-requires-clause-fits : goal.print_verdict-requires-clause-fits
+print_verdict-requires-clause-fits g c =
+    rw (c.wire.ensures, c.verdict.ensures) (received_fits _ _ _ _ c.in-Ok.ensures.received c.parts_are_content.ensures)
+
+pub print_verdict-requires-clause-front : goal.print_verdict-requires-clause-front
+print_verdict-requires-clause-front g c =
+    rw (c.wire.ensures) (received_front _ _ _ _ c.in-Ok.ensures.received)
 
 pub returns-clause-answered : goal.returns-clause-answered
 returns-clause-answered g c alive =
-    let decided = c.in-Ok-decode_whole.ensures.verdict in
-    answers_read _ _ _ _ _ _ _ _ _ _ c.deref.ensures.value c.deref-2.ensures.value
-    (record { given = c.in-Ok.ensures.given; enough = c.in-Ok.ensures.bytes }) decided
-    (c.parts_are_content.ensures _ _ _ _ decided) c.print_verdict.ensures.written c.print_verdict.ensures.status
-
-pub returns-in-Err-clause-answered : goal.returns-in-Err-clause-answered
-returns-in-Err-clause-answered g c alive =
-    answers_short _ _ _ _ _ _ c.end_with-in-Err.ensures.printed
-    (λ none. response_bytes _ _ (c.deref.ensures.value ∙ none_read _ _ _ c.in-Ok.ensures.bytes none) c.in-Err.ensures.memory)
+    answers_received _ _ _ _ _ _ _ c.in-Ok.ensures.received c.parts_are_content.ensures
+    (rw (← c.wire.ensures, ← c.verdict.ensures) c.print_verdict.ensures.written) (rw (← c.verdict.ensures) c.print_verdict.ensures.status)

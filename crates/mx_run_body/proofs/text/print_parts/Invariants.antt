@@ -1,11 +1,13 @@
-use Rattle.std.proofs.Common.{◌≡◌, take}
-use Rattle.std.specs.Io.KnownBytes.{Appends}
+use Rattle.std.proofs.Common.{◌≡◌, ◌≤◌, length, take}
 use Rattle.mx_body.specs.Parts.{joined}
+use Rattle.mx_run_body.specs.Texts.{Holds}
 use Rattle.mx_run_body.proofs.text.print_parts.Given as goal
 
+-- the pieces so far are written, but for what is held
 abbrev pub invariant-loop-part : goal.invariant-loop-part
 invariant-loop-part g l = record {
-  written : Appends (g.W.Write.contents l.initial.output.writer) (g.W.Write.contents l.output.writer)
-      (joined l.input (take l.part-index l.parts));
+  within : l.held ≤ length l.buffer;
+  holds : Holds (g.W.Write.contents l.initial.output.writer) (g.W.Write.contents l.output.writer)
+      (joined l.input (take l.part-index l.parts)) (take l.held l.buffer);
   kept : l.output.failed ≡ l.initial.output.failed;
 }
