@@ -10,8 +10,10 @@
 set -u
 [ "${1-}" != -h ] && [ "${1-}" != --help ] || { sed -n '2,/^set/s/^# \{0,1\}//p' "$0"; exit 0; }
 
-# The crates whose tests are run, crates/NAME/out/NAME_tests, each with the files in which an assertion may stop them.
+# The crates whose tests are run, crates/NAME/out/NAME_tests, each with the files in which an assertion may stop them, and
+# where not all of its tests are run, a word in the names of those that are.
 tests='
+mx_body_tests       src/pieces\.rt                                     refused_growth
 mx_tests            src/[a-z_]*_tests\.rt
 mx_link             src/tests\.rt
 mx_exchange_tests   src/\(callers\|connecting\|replay\|tests\)\.rt
@@ -131,8 +133,8 @@ try_program 'mxfetch play' "$work/script" play
 
 # the tests of a crate, each up to its 200th growth
 try_tests() {
-  local crate=$1 own=$2 test names which failed_calls stopped tests=$top/crates/$1/out/$1_tests
-  names=$("$tests" --list | sed -n 's/: test$//p')
+  local crate=$1 own=$2 word=$3 test names which failed_calls stopped tests=$top/crates/$1/out/$1_tests
+  names=$("$tests" --list | sed -n 's/: test$//p' | grep "$word")
   [ -n "$names" ] || { status=0; : > "$work/printed"; : > "$work/said"; wrong "$crate: its tests name no test"; }
   for test in $names; do
     which=1 failed_calls=0 stopped=0
@@ -150,8 +152,8 @@ try_tests() {
     echo "$crate, $test: $((which - 1)) growths refused, $failed_calls by a call, $stopped seen by an assertion"
   done
 }
-while read -r crate own; do
-  [ -z "$crate" ] || try_tests "$crate" "$own"
+while read -r crate own word; do
+  [ -z "$crate" ] || try_tests "$crate" "$own" "${word:-.}"
 done <<< "$tests"
 
 exit "$failed"

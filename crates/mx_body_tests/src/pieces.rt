@@ -195,6 +195,58 @@ fn many_chunks_a_byte_at_a_time(rt: HostRuntime) {
     assert!(rt; are_single_bytes(decoder.parts()));
 }
 
+/// The byte at that offset of the head, 100,000 chunks of one byte, and the end. It takes no memory.
+fn byte_of_many_chunks(at: usize) -> u8 {
+    let (bytes, at): (&[u8], usize) = if at < 47 {
+        (CHUNKED, at)
+    } else if at < 600_047 {
+        (b"1\r\nx\r\n", (at - 47) % 6)
+    } else {
+        (b"0\r\n\r\n", at - 600_047)
+    };
+    bytes.get(at).copied().unwrap_or(0)
+}
+
+/// Feeds a byte. Where memory is refused, and the decoder is as it was, the byte is fed again.
+fn feed_again_if_refused(decoder: &mut Decoder, byte: u8) -> Option<Stand> {
+    let before = read(decoder);
+    match feed(decoder, &[byte]) {
+        None if read(decoder) == before => feed(decoder, &[byte]),
+        stand => stand,
+    }
+}
+
+/// Feeds those bytes, until one isn't answered `More`: how many were, and the last answer.
+fn feed_many_chunks(decoder: &mut Decoder) -> (usize, Option<Stand>) {
+    for at in 0..600_052 {
+        let stand = feed_again_if_refused(decoder, byte_of_many_chunks(at));
+        if stand != Some(Stand::More) {
+            return (at, stand);
+        }
+    }
+    (600_052, Some(Stand::More))
+}
+
+/// All memory that is asked for is the decoder's, so that any one growth may be refused.
+#[test]
+fn many_chunks_go_on_behind_a_refused_growth(rt: HostRuntime) {
+    let mut decoder = decoder(rt.alloc(), Method::Get);
+    assert_eq!(rt;
+        feed_many_chunks(&mut decoder),
+        (600_051, Some(Stand::Complete))
+    );
+    let whole = Reading {
+        stand: Stand::Complete,
+        status: 200,
+        len: 600_052,
+        keep: true,
+        fed: 600_052,
+    };
+    assert_eq!(rt; read(&decoder), whole);
+    assert_eq!(rt; decoder.parts().len(), 100_000);
+    assert!(rt; are_single_bytes(decoder.parts()));
+}
+
 #[test]
 fn many_chunks_in_pieces(rt: HostRuntime) {
     let bytes = with_chunks(rt.alloc(), 100_000).expect(&rt, "memory");

@@ -128,6 +128,49 @@ fn chunked_bodies(rt: HostRuntime) -> Result<(), Fail> {
     Ok(())
 }
 
+/// The head of a chunked body.
+const CHUNKED: &[u8] = b"HTTP/1.1 200 OK\r\nTransfer-Encoding: chunked\r\n\r\n";
+
+/// The bytes so many times, behind others.
+fn with_many(alloc: Global, front: &[u8], unit: &[u8], count: usize) -> Result<Vec<u8>, Fail> {
+    let mut bytes = front.to_vec(alloc)?;
+    for _ in 0..count {
+        bytes.extend_from_slice(unit)?;
+    }
+    Ok(bytes)
+}
+
+/// More pieces than one write takes, and between them one that is longer than a write.
+#[test]
+fn pieces_are_gathered(rt: HostRuntime) -> Result<(), Fail> {
+    let alloc = rt.alloc();
+    let mut input = with_many(alloc, CHUNKED, b"1\r\na\r\n", 70_000)?;
+    // 0x11170 is 70,000
+    input.extend_from_slice(b"11170\r\n")?;
+    let mut input = with_many(alloc, &input, b"b", 70_000)?;
+    input.extend_from_slice(b"\r\n2\r\ncd\r\n0\r\n\r\n")?;
+    let line = b"OK status=200 body=140002 keep=yes left=0\n";
+    let output = with_many(alloc, line, b"a", 70_000)?;
+    let output = with_many(alloc, &output, b"b", 70_000)?;
+    let output = joined(alloc, &output, b"cd")?;
+    prints(&rt, alloc, Method::Get, &input, 0, &output);
+    Ok(())
+}
+
+#[test]
+fn bytes_behind_a_response_are_counted(rt: HostRuntime) -> Result<(), Fail> {
+    let alloc = rt.alloc();
+    let whole = b"HTTP/1.1 200 OK\r\nContent-Length: 5\r\n\r\nhello";
+    let input = with_many(alloc, whole, b"v", 200_000)?;
+    let answer = b"OK status=200 body=5 keep=yes left=200000\nhello";
+    prints(&rt, alloc, Method::Get, &input, 0, answer);
+    // and behind a fault they change nothing
+    let broken = joined(alloc, CHUNKED, b"5\nhello")?;
+    let input = with_many(alloc, &broken, b"v", 200_000)?;
+    prints(&rt, alloc, Method::Get, &input, 56, b"FAULT 56\n");
+    Ok(())
+}
+
 #[test]
 fn interim_heads(rt: HostRuntime) -> Result<(), Fail> {
     let alloc = rt.alloc();
