@@ -1,5 +1,5 @@
 -- What a run of a script has printed in the end.
-use Rattle.std.proofs.Common.{◌≡◌, ℕ, ◌+◌, ◌∙◌, sym, refl, ap, subst, List, [], ◌++◌, inl, inr, true}
+use Rattle.std.proofs.Common.{◌≡◌, ℕ, ◌+◌, ◌∙◌, sym, ap, subst, List, [], ◌++◌, inl, inr, true}
 use Rattle.std.specs.Prelude.{Option, Some, None, Result, Ok, Err, IfOk, OnOk}
 use Rattle.std.specs.Result.{is_ok}
 use Rattle.std.proofs.lemmas.Bool.{false≢true}
@@ -10,7 +10,7 @@ use Rattle.mx_run_play.specs.declared.session.Turn.{Turn}
 use Rattle.mx_run_play.specs.declared.session.Turn.TheVariants as turn
 use Rattle.mx_run_io.specs.Faults.{fault_line, PrintsFault}
 use Rattle.mx_run_play.specs.Script.{line_of, lines_of}
-use Rattle.mx_run_play.specs.Run.{Outcome, outcome, fresh, run_of_lines, run_of, IsScript, PrintsRun, PrintsUnread, PrintsNoMemory, AnswersScript, past_lines, WantsEvent}
+use Rattle.mx_run_play.specs.Run.{Outcome, outcome, fresh, run_of_lines, run_of, PrintsRun, PrintsUnread, PrintsNoMemory, AnswersScript, past_lines, WantsEvent}
 use Rattle.mx_run_play.specs.Session.{rest_of, ran, RanWhole, RanShort, RanUnread, PlaysAll}
 
 -- a session that begins

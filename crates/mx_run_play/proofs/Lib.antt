@@ -1,5 +1,5 @@
 mod Words
-mod Claims
+mod Places
 mod Sessions
 mod Reading
 mod Ending

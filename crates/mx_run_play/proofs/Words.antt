@@ -6,7 +6,7 @@ use Rattle.std.specs.Str.{IsUtf8, IsAscii}
 use Rattle.std.specs.Cmp.Lexicographic.{pointwise, bytes_decides}
 use Rattle.std.proofs.lemmas.Str.{IsUtf8-from_ascii}
 use Rattle.std.proofs.lemmas.Str.Ascii.{IsAscii-nil, IsAscii-cons}
-use Rattle.std.proofs.lemmas.Bool.{false≢true, eqb-true, ltb-true}
+use Rattle.std.proofs.lemmas.Bool.{false≢true, eqb-true, ltb-true, false_from_ne_true}
 use Rattle.std.proofs.lemmas.Bool.Decides.{nat_tests}
 use Rattle.mx_types.specs.Code.{code_number}
 use Rattle.mx_types.specs.declared.code.Code.{Code}
@@ -16,10 +16,6 @@ use Rattle.mx_run_play.specs.declared.script.Name.TheVariants as name
 use Rattle.mx_run_play.specs.Script.{pieces, onto_first, IsNameOf, IsCodeOf, named, coded, name_text, names, all_codes, number_of, is_numeral, value_of, is_silent, line_of, call_or_bad, call_of, call_with, words_of}
 use Rattle.mx_types.specs.declared.call.Call.{Call}
 use Rattle.mx_run_play.specs.declared.script.Line.TheVariants as line
-
-not_true : (b : Bool) → (b ≡ true → ⊥) → b ≡ false
-not_true true h = absurd (h refl)
-not_true false h = refl
 
 -- a search that no element passes
 find_none : {X : Type 0} (test : X → Bool) → ((x : X) → test x ≡ false) → (xs : List X) → find test xs ≡ None
@@ -67,7 +63,7 @@ named_text name.State = refl
 nameless : (word : List ℕ) → IsNameOf word None → None ≡ named word
 unfolding named
 nameless word nots =
-    sym (find_none (λ n. pointwise nat_eq (name_text n) word) (λ n. not_true _ (λ e. nots n (sym ((bytes_decides _ _).0 e)))) names)
+    sym (find_none (λ n. pointwise nat_eq (name_text n) word) (λ n. false_from_ne_true _ (λ e. nots n (sym ((bytes_decides _ _).0 e)))) names)
 
 pub named_is : (word : List ℕ) (o : Option Name) → IsNameOf word o → o ≡ named word
 named_is word (Some n) is = named_text n ∙ ap named (sym is)
@@ -98,7 +94,7 @@ coded_number code.TooLarge = refl
 codeless : (number : ℕ) → IsCodeOf number None → None ≡ coded number
 unfolding coded
 codeless number nots =
-    sym (find_none (λ c. code_number c == number) (λ c. not_true _ (λ e. nots c (sym (eqb-true _ _ e)))) all_codes)
+    sym (find_none (λ c. code_number c == number) (λ c. false_from_ne_true _ (λ e. nots c (sym (eqb-true _ _ e)))) all_codes)
 
 pub coded_is : (number : ℕ) (o : Option Code) → IsCodeOf number o → o ≡ coded number
 coded_is number (Some c) is = coded_number c ∙ ap coded (sym is)

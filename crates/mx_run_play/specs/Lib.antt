@@ -4,4 +4,5 @@ pub mod Texts
 pub mod Turns
 pub mod Run
 -- Private: what the functions behind it promise one another.
+pub mod Players
 pub mod Session

@@ -2,6 +2,7 @@
 //! reader and writer.
 #![tactic(auto)]
 
+mod claims;
 mod player;
 mod run;
 mod script;

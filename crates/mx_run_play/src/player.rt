@@ -1,13 +1,11 @@
 //! The one who plays a script: seat 0 of a control core of its own.
 ghost use Rattle.std.specs.Prelude.{◌≡◌, ◌≤◌, [], IfOk, OnOk, OnErr};
-ghost use Rattle.std.specs.List.{position};
-ghost use Rattle.mx_journal.specs.History.{same_ticket};
 ghost use Rattle.mx_types.specs.declared.call.Call.{Call};
-ghost use Rattle.mx_run_play.specs.Turns.{says, player_past, reply_to, past, MakesEvent};
+ghost use Rattle.mx_run_play.specs.Turns.{says, player_past};
+ghost use Rattle.mx_run_play.specs.Players.{Passes, IsAnswered};
 
-use mx_journal::{
-    AddReply, Claim, Control, FinishReply, InfoReply, PauseReply, RemoveReply, VecLog, WakeupReply,
-};
+use crate::claims::Claims;
+use mx_journal::{AddReply, Claim, Control, VecLog};
 use mx_types::{Call, Code, Ending, HandleId, OutOfMemory, Reply, Ticket, Who, Work};
 use std::alloc::Global;
 use std::marker::Model;
@@ -57,6 +55,16 @@ pub enum Said {
     WouldWait,
 }
 
+/// A reply as it is said, but for want of memory.
+fn pass(reply: Reply) -> Result<Said, OutOfMemory>
+    ensures { Passes reply result }
+{
+    match reply {
+        Reply::OutOfMemory => Err(OutOfMemory),
+        reply => Ok(Said::Reply(reply)),
+    }
+}
+
 const SEAT: Who = Who::Seat(0);
 
 /// A control core, the log that it is lent, the claims that are kept, and the mark of the next poll.
@@ -64,27 +72,23 @@ const SEAT: Who = Who::Seat(0);
 pub struct Player {
     control: Control<NoWork, ToldEnd>,
     log: VecLog,
-    claims: Vec<Claim<NoWork>>,
+    claims: Claims,
     mark: u32,
 }
 
 impl Model for Player {
-    ghost use Rattle.std.specs.Prelude.{◌≡◌, [], map};
-    ghost use Rattle.std.specs.List.{AllByRecursion};
+    ghost use Rattle.std.specs.Prelude.{◌≡◌, ◌≤◌, [], length};
     ghost use Rattle.mx_run_play.specs.Turns.{PlayerView};
 
     ghost Value = { PlayerView };
 
-    ghost view = { λ p. record { opening = p.control.opening; journal = p.control.journal; claims = map (λ c. c.ticket) p.claims.items; mark = p.mark } };
+    ghost view = { λ p. record { opening = p.control.opening; journal = p.control.journal; claims = p.claims.tickets; mark = p.mark } };
 
-    ghost invariant = { λ p. (p.control.queue ≡ []) × AllByRecursion (λ c. c.origin ≡ []) p.claims.items };
-}
-
-/// Where the first claim on the ticket stands.
-fn claim_at(claims: &[Claim<NoWork>], ticket: Ticket) -> Option<usize>
-    ensures { result ≡ position (λ claim. same_ticket ticket claim.ticket) claims.now }
-{
-    claims.iter().position(|claim| ticket == claim.ticket())
+    ghost invariant = { λ p. record {
+      queue : p.control.queue ≡ [];
+      made : p.claims.made ≡ length p.control.origins;
+      space : p.control.opening.history ≤ p.claims.space;
+    } };
 }
 
 impl Player {
@@ -95,16 +99,14 @@ impl Player {
         Ok(Player {
             control: Control::new(alloc, history)?,
             log: VecLog::new(alloc),
-            claims: Vec::new(alloc),
+            claims: Claims::new(alloc, history)?,
             mark: 0,
         })
     }
 
     /// Makes a call. There is want of memory only at a call whose answer has an event, and it is for good: the run ends.
     pub fn call(&mut self, call: Call) -> Result<Said, OutOfMemory>
-        ensures said { IfOk result (λ said. said ≡ says self.old call) }
-        ensures past { OnOk result (self.new ≡ player_past self.old call) }
-        ensures refused { OnErr result (MakesEvent self.old call) }
+        ensures { IsAnswered self.old call result self.new }
     {
         match call {
             Call::Add(handle) => self.add(handle),
@@ -122,107 +124,55 @@ impl Player {
         }
     }
 
+    /// Adds a handle, and keeps the claim on its transfer.
     fn add(&mut self, handle: HandleId) -> Result<Said, OutOfMemory>
-        ensures said { IfOk result (λ said. said ≡ says self.old (Call.Add handle)) }
-        ensures past { OnOk result (self.new ≡ player_past self.old (Call.Add handle)) }
-        ensures refused { OnErr result (MakesEvent self.old (Call.Add handle)) }
+        ensures { IsAnswered self.old (Call.Add handle) result self.new }
     {
-        let reply = match self.control.add(&mut self.log, SEAT, handle, NoWork) {
+        self.control.sound();
+        match self.control.add(&mut self.log, SEAT, handle, NoWork) {
             AddReply::Added(ticket) => {
                 let Some((claim, _work)) = self.control.claim() else {
                     unreachable!()
                 };
-                self.claims.push(claim)?;
-                Reply::Added(ticket)
+                self.claims.keep(claim);
+                Ok(Said::Reply(Reply::Added(ticket)))
             }
-            AddReply::AddedAlready(_) => Reply::AddedAlready,
-            AddReply::TableFull(_) => Reply::TableFull,
-            AddReply::HistoryFull(_) => Reply::HistoryFull,
-            AddReply::OutOfMemory(_) => return Err(OutOfMemory),
-        };
-        Ok(Said::Reply(reply))
+            refused => pass(refused.reply()),
+        }
     }
 
     fn remove(&mut self, handle: HandleId) -> Result<Said, OutOfMemory>
-        ensures said { IfOk result (λ said. said ≡ says self.old (Call.Remove handle)) }
-        ensures past { OnOk result (self.new ≡ player_past self.old (Call.Remove handle)) }
-        ensures refused { OnErr result (MakesEvent self.old (Call.Remove handle)) }
+        ensures { IsAnswered self.old (Call.Remove handle) result self.new }
     {
-        match self.control.remove(&mut self.log, SEAT, handle) {
-            RemoveReply::Removed => Ok(Said::Reply(Reply::Removed)),
-            RemoveReply::NotAdded => Ok(Said::Reply(Reply::RemoveNotAdded)),
-            RemoveReply::OutOfMemory => Err(OutOfMemory),
-        }
+        pass(self.control.remove(&mut self.log, SEAT, handle).reply())
     }
 
     fn pause(&mut self, handle: HandleId) -> Result<Said, OutOfMemory>
-        ensures said { IfOk result (λ said. said ≡ says self.old (Call.Pause handle)) }
-        ensures past { OnOk result (self.new ≡ player_past self.old (Call.Pause handle)) }
-        ensures refused { OnErr result (MakesEvent self.old (Call.Pause handle)) }
+        ensures { IsAnswered self.old (Call.Pause handle) result self.new }
     {
-        match self.control.pause(&mut self.log, SEAT, handle) {
-            PauseReply::Changed => Ok(Said::Reply(Reply::Changed)),
-            PauseReply::NotAdded => Ok(Said::Reply(Reply::NotAdded)),
-            PauseReply::NotRunning => Ok(Said::Reply(Reply::NotRunning)),
-            PauseReply::NoChange => Ok(Said::Reply(Reply::NoChange)),
-            PauseReply::HistoryFull => Ok(Said::Reply(Reply::HistoryFull)),
-            PauseReply::OutOfMemory => Err(OutOfMemory),
-        }
+        pass(self.control.pause(&mut self.log, SEAT, handle).reply())
     }
 
     fn unpause(&mut self, handle: HandleId) -> Result<Said, OutOfMemory>
-        ensures said { IfOk result (λ said. said ≡ says self.old (Call.Unpause handle)) }
-        ensures past { OnOk result (self.new ≡ player_past self.old (Call.Unpause handle)) }
-        ensures refused { OnErr result (MakesEvent self.old (Call.Unpause handle)) }
+        ensures { IsAnswered self.old (Call.Unpause handle) result self.new }
     {
-        match self.control.unpause(&mut self.log, SEAT, handle) {
-            PauseReply::Changed => Ok(Said::Reply(Reply::Changed)),
-            PauseReply::NotAdded => Ok(Said::Reply(Reply::NotAdded)),
-            PauseReply::NotRunning => Ok(Said::Reply(Reply::NotRunning)),
-            PauseReply::NoChange => Ok(Said::Reply(Reply::NoChange)),
-            PauseReply::HistoryFull => Ok(Said::Reply(Reply::HistoryFull)),
-            PauseReply::OutOfMemory => Err(OutOfMemory),
-        }
+        pass(self.control.unpause(&mut self.log, SEAT, handle).reply())
     }
 
     fn info_read(&mut self) -> Result<Said, OutOfMemory>
-        ensures said { IfOk result (λ said. said ≡ says self.old Call.InfoRead) }
-        ensures past { OnOk result (self.new ≡ player_past self.old Call.InfoRead) }
-        ensures refused { OnErr result (MakesEvent self.old Call.InfoRead) }
+        ensures { IsAnswered self.old Call.InfoRead result self.new }
     {
-        match self.control.info_read(&mut self.log, SEAT) {
-            InfoReply::Message {
-                handle,
-                ticket,
-                ending,
-                left,
-            } => Ok(Said::Reply(Reply::Message {
-                handle,
-                ticket,
-                code: ending.code,
-                size: ending.size,
-                left,
-            })),
-            InfoReply::Empty => Ok(Said::Reply(Reply::Empty)),
-            InfoReply::OutOfMemory => Err(OutOfMemory),
-        }
+        pass(self.control.info_read(&mut self.log, SEAT).reply())
     }
 
     fn wakeup(&mut self) -> Result<Said, OutOfMemory>
-        ensures said { IfOk result (λ said. said ≡ says self.old Call.Wakeup) }
-        ensures past { OnOk result (self.new ≡ player_past self.old Call.Wakeup) }
-        ensures refused { OnErr result (MakesEvent self.old Call.Wakeup) }
+        ensures { IsAnswered self.old Call.Wakeup result self.new }
     {
-        match self.control.wakeup(&mut self.log, SEAT) {
-            WakeupReply::Ok => Ok(Said::Reply(Reply::Ok)),
-            WakeupReply::Failure => Ok(Said::Reply(Reply::Failure)),
-            WakeupReply::OutOfMemory => Err(OutOfMemory),
-        }
+        pass(self.control.wakeup(&mut self.log, SEAT).reply())
     }
 
     fn poll(&mut self) -> Said
-        ensures said { result ≡ says self.old Call.Poll }
-        ensures past { self.new ≡ player_past self.old Call.Poll }
+        ensures { (result ≡ says self.old Call.Poll) × (self.new ≡ player_past self.old Call.Poll) }
     {
         if !self.control.poll_ready(self.mark) {
             return Said::WouldWait;
@@ -231,29 +181,17 @@ impl Player {
         Said::Reply(Reply::Woken)
     }
 
+    /// Tells the core the end of a transfer whose claim is kept, which is spent.
     fn finish(&mut self, ticket: Ticket, ending: ToldEnd) -> Result<Said, OutOfMemory>
-        ensures said { IfOk result (λ said. said ≡ says self.old (Call.Finish ticket ending.code ending.size)) }
-        ensures past { OnOk result (self.new ≡ player_past self.old (Call.Finish ticket ending.code ending.size)) }
-        ensures refused { OnErr result (MakesEvent self.old (Call.Finish ticket ending.code ending.size)) }
+        ensures { IsAnswered self.old (Call.Finish ticket ending.code ending.size) result self.new }
     {
-        let Some(at) = claim_at(&self.claims, ticket) else {
+        let Some(claim) = self.claims.take(ticket) else {
             return Ok(Said::NoClaim);
         };
-        let claim = self.claims.remove(at);
-        self.tell(claim, ending)
-    }
-
-    /// Tells the core the end of a claimed transfer.
-    fn tell(&mut self, claim: Claim<NoWork>, ending: ToldEnd) -> Result<Said, OutOfMemory>
-        requires { claim.origin ≡ [] }
-        ensures said { IfOk result (λ said. said ≡ Said.Reply (reply_to self.old (Call.Finish claim.ticket ending.code ending.size))) }
-        ensures past { OnOk result (self.new ≡ past self.old (Call.Finish claim.ticket ending.code ending.size)) }
-        ensures refused { OnErr result (MakesEvent self.old (Call.Finish claim.ticket ending.code ending.size)) }
-    {
-        match self.control.finish(&mut self.log, SEAT, claim, ending) {
-            FinishReply::Recorded => Ok(Said::Reply(Reply::Recorded)),
-            FinishReply::Stale(_) => Ok(Said::Reply(Reply::Stale)),
-            FinishReply::OutOfMemory(_, _) => Err(OutOfMemory),
-        }
+        pass(
+            self.control
+                .finish(&mut self.log, SEAT, claim, ending)
+                .reply(),
+        )
     }
 }

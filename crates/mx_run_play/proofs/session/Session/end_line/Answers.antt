@@ -18,8 +18,8 @@ returns-clause-played g c =
           silent_told _ _ _ _ _ _ w.in-Silent.is c.read_line.ensures c.as_slice.ensures.value (ap (λ (z : Session). z.player) w.self-is)
           (ap (λ (z : Session). z.lines + 1) w.self-is) c.clear.ensures (ap (λ o. g.W.Write.contents (writer_of o)) w.output-is)
       | in-Call+in-Ok+in_ok-write_said-in-Ok w ↦
-          call_told _ _ _ _ _ _ _ _ w.in-Call.is c.read_line.ensures c.as_slice.ensures.value w.in-Ok.ensures.said
+          call_told _ _ _ _ _ _ _ _ w.in-Call.is c.read_line.ensures c.as_slice.ensures.value w.in-Ok.ensures.0
           (subst (λ o. Appends (g.W.Write.contents (writer_of c.args.output.now)) (g.W.Write.contents (writer_of o)) (said_text w.in-Ok.said)) (sym w.output-is)
           w.in_ok-write_said-in-Ok.ensures.bytes)
-          (ap (λ (z : Session). z.player) w.self-is ∙ w.in-Ok.ensures.past) (ap (λ (z : Session). z.lines + 1) w.self-is) c.clear.ensures
+          (ap (λ (z : Session). z.player) w.self-is ∙ w.in-Ok.ensures.1) (ap (λ (z : Session). z.lines + 1) w.self-is) c.clear.ensures
     ]
