@@ -93,6 +93,18 @@ fn a_claim_of_a_removed_addition_is_stale(rt: HostRuntime) -> Result<(), Fail> {
 }
 
 #[test]
+fn claims_are_found_by_their_tickets(rt: HostRuntime) -> Result<(), Fail> {
+    plays(
+        &rt,
+        rt.alloc(),
+        1024,
+        "add 1\nadd 2\nadd 3\nremove 2\ndone 2 0 1\ndone 1 0 1\ndone 1 0 1\ndone 0 0 1\ndone 3 0 0\ndone 4294967295 0 0\n",
+        "added 0\nadded 1\nadded 2\nremoved\nrecorded\nstale\nno-claim\nrecorded\nno-claim\nno-claim\n",
+        0,
+    )
+}
+
+#[test]
 fn pauses_and_a_bad_line(rt: HostRuntime) -> Result<(), Fail> {
     plays(
         &rt,
