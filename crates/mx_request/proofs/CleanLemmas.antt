@@ -3,7 +3,7 @@ use Rattle.std.proofs.Common.{◌≡◌, ℕ, ◌^◌, ◌<◌, Bool, true, fals
 use Rattle.std.specs.Prelude.{Option, codes, decimal}
 use Rattle.std.specs.List.{list_all, list_any}
 use Rattle.std.specs.Option.{option_map_or}
-use Rattle.std.proofs.lemmas.Bool.{and_parts, both_ways, cond_both, false≢true, cases_lt, cases_eq}
+use Rattle.std.proofs.lemmas.Bool.{and_parts, both_ways, cond_both, not-true, false≢true, cases_lt, cases_eq}
 use Rattle.std.proofs.lemmas.Bool.Decides.{nat_tests}
 use Rattle.std.proofs.lemmas.List.Folds.{list_all-append, list_all-map}
 use Rattle.std.proofs.lemmas.List.Sums.{list_all-from_AllPass}
@@ -33,15 +33,11 @@ both p xs ys h k = rw (list_all-append p xs ys, h, k)
 
 -- ---- bytes
 
-not_true : (x : Bool) → not x ≡ true → x ≡ false
-not_true false e = refl
-not_true true e = sym e
-
 -- a byte of a token is no control
 pub token_prints : (b : ℕ) → is_token_byte b ≡ true → is_printable b ≡ true
 token_prints b token =
     ⊎_elim
-    (λ low. absurd (both_ways (is_token_byte b) (not_true _ (checked (λ x. not (is_token_byte x)) 32 refl b low)) token))
+    (λ low. absurd (both_ways (is_token_byte b) (not-true _ (checked (λ x. not (is_token_byte x)) 32 refl b low)) token))
     (λ high. ⊎_elim
     (λ delete. absurd (both_ways (is_token_byte 127) refl (subst (λ x. is_token_byte x ≡ true) delete token)))
     (λ other. grind (arith, nat_tests))
