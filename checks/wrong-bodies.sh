@@ -151,13 +151,6 @@ for name in $listed; do
 done
 cp "$top/crates.txt" "$top/HANDLES" "$tree/"
 
-try_crate() {
-  local name=$1
-  cp -a "$tree/crates/$name/more-edits" "$tree/crates/$name/must-fail"
-  (cd "$tree" && rt must-fail "$name") > "$work/$name.log" 2>&1
-  echo $? > "$work/$name.status"
-}
-
 # what came of a crate's edits: its lines, and whether all were refused
 tell_crate() {
   local name=$1 edit line count=0 bad=0
@@ -184,6 +177,16 @@ tell_crate() {
   [ "$bad" -eq 0 ]
 }
 
+# a crate's edits; what came of them is told as soon as all are tried
+try_crate() {
+  local name=$1
+  cp -a "$tree/crates/$name/more-edits" "$tree/crates/$name/must-fail"
+  (cd "$tree" && rt must-fail "$name") > "$work/$name.log" 2>&1
+  echo $? > "$work/$name.status"
+  tell_crate "$name" > "$work/$name.told" && touch "$work/$name.refused"
+  cat "$work/$name.told"
+}
+
 for name in "${names[@]}"; do
   while [ "$(jobs -rp | wc -l)" -ge "$side_by_side" ]; do
     sleep 1
@@ -194,7 +197,7 @@ done
 wait
 failed=0
 for name in "${names[@]}"; do
-  tell_crate "$name" || failed=1
+  [ -e "$work/$name.refused" ] || failed=1
 done
 
 # the table: a new row for each crate that was tried well, none for one that wasn't, and the others' as they were
