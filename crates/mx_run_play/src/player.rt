@@ -1,11 +1,11 @@
 //! The one who plays a script: seat 0 of a control core of its own.
-ghost use Rattle.std.specs.Prelude.{◌≡◌, ◌≤◌, [], IfOk, OnOk, OnErr};
+ghost use Rattle.std.specs.Prelude.{◌≡◌, ◌≤◌, [], IfOk};
 ghost use Rattle.mx_types.specs.declared.call.Call.{Call};
 ghost use Rattle.mx_run_play.specs.Turns.{says, player_past};
 ghost use Rattle.mx_run_play.specs.Players.{Passes, IsAnswered};
 
 use crate::claims::Claims;
-use mx_journal::{AddReply, Claim, Control, VecLog};
+use mx_journal::{AddReply, Control, VecLog};
 use mx_types::{Call, Code, Ending, HandleId, OutOfMemory, Reply, Ticket, Who, Work};
 use std::alloc::Global;
 use std::marker::Model;
