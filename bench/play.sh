@@ -1,20 +1,30 @@
 #!/usr/bin/env bash
-# Time of a line of `mxfetch play`, with a history that has room for all events: it should stay flat as scripts grow.
-# Beside it, where they are calls of libcurl too, the time of curl_multi_add_handle(3) and curl_multi_remove_handle(3)
-# of an idle handle, a call. Each is the least of five runs. Prints only.
+# The time of a line of `mxfetch play`, with a history that has room for all events: it has to stay flat as scripts grow.
+# Beside it, where they are calls of libcurl too, the time of curl_multi_add_handle(3) and curl_multi_remove_handle(3) of an
+# idle handle, a call. Processor time, user and system, the least of nine runs, less that of a run without lines (a start
+# and the space for the history). With `--instructions` it counts instructions in place of nanoseconds, by callgrind, once
+# a row: these don't depend on what else the machine does. Asserts that each row's last line is as it must be, else prints.
 #
 #   cycles    add, done, read and remove of one handle
 #   beside K  add and remove of one handle beside K others
 #   polls     pause, unpause, and a poll that would wait
 #   stale     add and remove, and the end of each addition told at once
 #   kept      add and remove, and then the ends of all additions, from the first on
+#   last      add and remove, and then the ends of all additions, from the last on
 #
-# It needs awk; for libcurl a C compiler, `cc` (Debian: gcc), and the library (Debian: libcurl4).
+# It needs python3; for `--instructions` valgrind (Debian's package valgrind); for libcurl a C compiler, `cc` (Debian: gcc),
+# and the library (Debian: libcurl4).
 set -eu
-top=$(cd "$(dirname "$0")/.." && pwd)
-command -v awk > /dev/null || { echo "bench/play.sh: there is no awk" >&2; exit 1; }
+top=$(cd "$(dirname "$(readlink -f "$0")")/.." && pwd)
+unit=ns
+case ${1-} in
+  '') ;;
+  --instructions) unit=instructions ;;
+  *) sed -n '2,/^set/s/^# \{0,1\}//p' "$0"; exit 2 ;;
+esac
+command -v python3 > /dev/null || { echo "bench/play.sh: there is no python3" >&2; exit 2; }
+[ "$unit" = ns ] || command -v valgrind > /dev/null || { echo "bench/play.sh: there is no valgrind" >&2; exit 2; }
 "$top/run" --version > /dev/null
-program=$top/crates/mxfetch/out/mxfetch
 work=$(mktemp -d)
 trap 'rm -rf "$work"' EXIT
 
@@ -40,63 +50,70 @@ int main(int argc, char **argv) {
   return 0;
 }
 C
-libcurl=no
-if cc -O2 -o "$work/cycles" "$work/cycles.c" -l:libcurl.so.4 2> /dev/null; then libcurl=yes; fi
+libcurl=
+if cc -O2 -o "$work/cycles" "$work/cycles.c" -l:libcurl.so.4 2> "$work/cc.log"; then
+  libcurl=$work/cycles
+else
+  echo "without libcurl, since this doesn't compile with it: $(head -n 1 "$work/cc.log")" >&2
+fi
+PROGRAM=$top/crates/mxfetch/out/mxfetch LIBCURL=$libcurl UNIT=$unit WORK=$work python3 - <<'P'
+import os, re, subprocess, sys
 
-# the nanoseconds of the quickest of five runs of a command
-least() {
-  least=
-  for run in 1 2 3 4 5; do
-    start=$(date +%s%N)
-    "$@"
-    took=$(($(date +%s%N) - start))
-    if [ -z "$least" ] || [ "$took" -lt "$least" ]; then least=$took; fi
-  done
-}
+PROGRAM, LIBCURL, UNIT, WORK = (os.environ[name] for name in ("PROGRAM", "LIBCURL", "UNIT", "WORK"))
+PRINTED = f"{WORK}/printed"
 
-play() { "$program" play --history 1048576 < "$work/script" > "$work/printed"; }
+def run(words, script):
+    """The processor time of a run, in nanoseconds, or its instructions."""
+    if UNIT == "instructions":
+        words = ["valgrind", "--tool=callgrind", f"--callgrind-out-file={WORK}/callgrind", *words]
+    with open(script, "rb") as read, open(PRINTED, "wb") as printed, open(f"{WORK}/said", "wb") as said:
+        child = subprocess.Popen(words, stdin=read, stdout=printed, stderr=said)
+        _, status, used = os.wait4(child.pid, 0)
+        child.returncode = os.waitstatus_to_exitcode(status)
+    said = open(f"{WORK}/said", encoding="utf-8", errors="replace").read()
+    if status != 0:
+        sys.exit(f"{words}: status {child.returncode}: {said}")
+    if UNIT == "instructions":
+        count = re.search(r"Collected : (\d+)", said)
+        return int(count[1]) if count else sys.exit(f"valgrind gives no count: {said}")
+    return (used.ru_utime + used.ru_stime) * 1e9
 
-# a row: its name, how often its calls are made, the last line wanted, and the script as an awk program over n
-row() {
-  awk -v n="$2" "BEGIN { $4 }" > "$work/script"
-  least play
-  lines=$(wc -l < "$work/script")
-  [ "$(wc -l < "$work/printed")" -eq "$lines" ] || { echo "$1: lines are missing" >&2; exit 1; }
-  last=$(tail -n 1 "$work/printed")
-  [ "$last" = "$3" ] || { echo "$1: the last line is $last" >&2; exit 1; }
-  printf '%-12s %8d %8d %12d' "$1" "$2" "$lines" $((least / lines))
-}
+def least(words, script):
+    return min(run(words, script) for _ in range(1 if UNIT == "instructions" else 9))
 
-# the same calls of libcurl: how often, and beside how many handles
-beside() {
-  if [ "$libcurl" = yes ]; then
-    least "$work/cycles" "$1" "$2"
-    printf ' %12d\n' $((least / ($1 * 2)))
-  else
-    printf ' %12s\n' -
-  fi
-}
+PLAY = [PROGRAM, "play", "--history", "1048576"]
+open(f"{WORK}/none", "wb").close()
+START = least(PLAY, f"{WORK}/none")
 
-printf '%-12s %8s %8s %12s %12s\n' row times lines play_ns_line curl_ns_call
-for n in 10000 100000 250000; do
-  row cycles $n removed 'for (i = 0; i < n; i++) printf "add 7\ndone %d 0 5\nread\nremove 7\n", i'
-  beside $n 0
-done
-for k in 1 16 64 255; do
-  for n in 10000 100000; do
-    row "beside $k" $n removed "for (i = 1; i <= $k; i++) print \"add \" i; for (i = 0; i < n; i++) print \"add 0\\nremove 0\""
-    beside $n $k
-  done
-done
-for n in 10000 100000 250000; do
-  row polls $n would-wait 'print "add 7"; for (i = 0; i < n; i++) print "pause 7\nunpause 7\npoll"'
-  printf ' %12s\n' -
-done
-for n in 10000 100000 250000; do
-  row stale $n stale 'for (i = 0; i < n; i++) printf "add 7\nremove 7\ndone %d 0 5\n", i'
-  printf ' %12s\n' -
-done
-for n in 10000 40000; do
-  row kept $n stale 'for (i = 0; i < n; i++) print "add 7\nremove 7"; for (i = 0; i < n; i++) printf "done %d 0 5\n", i'
-  printf ' %12s\n' -
-done
+def row(name, times, lines, last, beside=None):
+    with open(f"{WORK}/script", "w") as script:
+        script.writelines(line + "\n" for line in lines)
+    used = least(PLAY, f"{WORK}/script") - START
+    replies = open(PRINTED).read().splitlines()
+    if len(replies) != len(lines) or replies[-1] != last:
+        sys.exit(f"{name}: {len(replies)} replies to {len(lines)} lines, the last of them {replies[-1:]}")
+    curl = "-"
+    if LIBCURL and beside is not None:
+        start = least([LIBCURL, "0", str(beside)], f"{WORK}/none")
+        curl = f"{(least([LIBCURL, str(times), str(beside)], f'{WORK}/none') - start) / (2 * times):.0f}"
+    print(f"| {name} | {times:,} | {len(lines):,} | {used / len(lines):.0f} | {curl} |", flush=True)
+
+def each(times, *lines):
+    return [line.format(i) for i in range(times) for line in lines]
+
+ROUNDS = (10_000, 100_000, 250_000)
+print(f"| Row | Rounds | Lines | play, {UNIT} a line | libcurl, {UNIT} a call |\n|---|---|---|---|---|")
+for n in ROUNDS:
+    row("cycles", n, each(n, "add 7", "done {} 0 5", "read", "remove 7"), "removed", 0)
+for k in (1, 16, 64, 255):
+    for n in ROUNDS:
+        row(f"beside {k}", n, [f"add {i}" for i in range(1, k + 1)] + each(n, "add 0", "remove 0"), "removed", k)
+for n in ROUNDS:
+    row("polls", n, ["add 7"] + each(n, "pause 7", "unpause 7", "poll"), "would-wait")
+for n in ROUNDS:
+    row("stale", n, each(n, "add 7", "remove 7", "done {} 0 5"), "stale")
+for n in ROUNDS:
+    row("kept", n, each(n, "add 7", "remove 7") + each(n, "done {} 0 5"), "stale")
+for n in ROUNDS:
+    row("last", n, each(n, "add 7", "remove 7") + each(n, "done {} 0 5")[::-1], "stale")
+P
