@@ -4,20 +4,17 @@ ghost use Rattle.mx_exchange.specs.Transfers.{IsDue, IsServed, IsTransfer, Keeps
 ghost use Rattle.mx_exchange.specs.Endings.{IsUndecided, is_stop_code};
 
 use super::Transfer;
-use super::stages::{Ended, Live, Stage, end, may_keep, received};
-use crate::calls::Halt;
-use crate::lines::Line;
 use crate::outcomes::Outcome;
+use crate::service::Served;
 use futures::Future;
 use futures::task::{Context, Poll};
-use mx_link::Link;
+use mx_link::{Answer, History, Link};
 use mx_types::Code;
-use std::mem;
 use std::snapshot::Snapshot;
 
 // What a turn comes to.
 #[derive(Drop)]
-enum How {
+enum Turn {
     Waits,
     // It asks to be polled again.
     Asks,
@@ -27,20 +24,23 @@ enum How {
 impl<L: Link> Transfer<L> {
     ghost use Rattle.mx_exchange.specs.Turned.{how_of, ProbeSo};
     ghost use Rattle.mx_exchange.specs.Turns.{StopsWith, Exchanged, Turns};
-    ghost use Rattle.mx_exchange.specs.Stages.{alive, link_of, IsAlive};
     ghost use Rattle.futures.specs.Task.{Hears, IsArmed, Keeps};
     ghost use Rattle.futures.specs.Slot.{IsLeftIn};
     ghost use Rattle.futures.specs.declared.task.Poll.TheVariants as Poll;
 
     // The first poll sets the deadline.
-    fn start_clock(&mut self, timeout_ms: u32)
-        requires { timeout_ms ≡ self.old.request.timeout_ms }
+    fn start_clock(&mut self)
+        requires { self.old.code ≡ None }
         ensures { self.new ≡ clocked self.old }
     {
         if self.is_polled {
             return;
         }
         self.is_polled = true;
+        let Some(work) = &self.work else {
+            unreachable!()
+        };
+        let timeout_ms = work.request().timeout_ms();
         self.deadline = if timeout_ms == 0 {
             None
         } else {
@@ -57,144 +57,128 @@ impl<L: Link> Transfer<L> {
         }
     }
 
+    // What its link answered, for contracts alone.
+    fn answers(&self) -> Snapshot<History<Answer>>
+        ensures { result.value ≡ self.now.answers }
+    {
+        match &self.line {
+            Some(line) => line.answers(),
+            None => Snapshot::of(&History::new()),
+        }
+    }
+
+    // Whether its link was in use before, for contracts alone.
+    fn reused(&self) -> Snapshot<bool>
+        ensures { result.value ≡ self.now.is_reused }
+    {
+        match &self.line {
+            Some(line) => Snapshot::of(&line.is_reused()),
+            None => Snapshot::of(&false),
+        }
+    }
+
     // Ends without a look at the link.
-    fn stop(&mut self, live: Live<L>, code: Code) -> Outcome
-        requires live { IsAlive L.history L.asked L.token_of self.old.request self.old.needs_fresh self.old.failure live }
+    fn stop(&mut self, code: Code) -> Outcome
+        requires alive { self.old.code ≡ None }
         requires listed { is_stop_code code ≡ true }
         ensures code { result.code ≡ code }
-        ensures stopped { StopsWith (alive self.old live) self.new result }
+        ensures stopped { StopsWith self.old self.new result }
     {
-        let answers = live.answers();
-        let is_reused = live.reused();
-        let count = received(&live.decoder);
-        let Live {
-            request,
-            decoder,
-            line,
-        } = live;
-        self.stage = Stage::Ended(Ended {
-            code,
-            received: count,
-            line,
-            is_kept: false,
-        });
-        end(request, decoder, code, answers, is_reused)
+        let answers = self.answers();
+        let is_reused = self.reused();
+        let Some(work) = self.work.take() else {
+            unreachable!()
+        };
+        self.code = Some(code);
+        self.is_kept = false;
+        self.received = work.received();
+        work.end(code, answers, is_reused)
     }
 
     // Asks a reused link for a byte first, and drops it where it doesn't answer that it would wait. False where
     // it was dropped.
-    fn probe(&mut self, live: &mut Live<L>) -> bool
-        requires away { self.old.link ≡ None }
-        requires live { IsAlive L.history L.asked L.token_of self.old.request self.old.needs_fresh self.old.failure live.old }
-        ensures probe { ProbeSo result L.history (alive self.old live.old) (alive self.new live.new) }
-        ensures live { IsAlive L.history L.asked L.token_of self.new.request self.new.needs_fresh self.new.failure live.new }
-        ensures token { KeepsToken L.token_of (link_of live.old.line) (link_of live.new.line) }
+    fn probe(&mut self) -> bool
+        requires { self.old.code ≡ None }
+        ensures probe { ProbeSo result L.history self.old self.new }
+        ensures token { KeepsToken L.token_of self.old.link self.new.link }
     {
-        let Some(line) = &mut live.line else {
+        let Some(mut line) = self.line.take() else {
             return true;
         };
-        if !line.needs_probe() || line.probe() {
+        if !line.needs_probe() {
+            self.line = Some(line);
             return true;
         }
-        live.line = None;
+        if line.probe() {
+            self.line = Some(line);
+            return true;
+        }
         self.needs_fresh = true;
         false
     }
 
-    // Asks the link, if there is one.
-    fn exchange(&mut self, live: Live<L>) -> How
-        requires live { IsAlive L.history L.asked L.token_of self.old.request self.old.needs_fresh self.old.failure live }
-        requires probed { (alive self.old live).needs_probe ≡ false }
-        ensures turn { Exchanged L.history (alive self.old live) self.new (how_of result) }
-        ensures token { KeepsToken L.token_of (link_of live.line) self.new.link }
+    // One turn over the link, if there is one.
+    fn exchange(&mut self) -> Turn
+        requires alive { self.old.code ≡ None }
+        requires probed { self.old.needs_probe ≡ false }
+        ensures turn { Exchanged L.history self.old self.new (how_of result) }
+        ensures token { KeepsToken L.token_of self.old.link self.new.link }
     {
-        let Live {
-            request,
-            mut decoder,
-            line,
-        } = live;
-        let Some(mut line) = line else {
-            self.stage = Stage::Live(Live {
-                request,
-                decoder,
-                line: None,
-            });
-            return How::Waits;
+        let Some(mut work) = self.work.take() else {
+            unreachable!()
         };
-        match line.serve(&request, &mut decoder) {
-            Halt::Blocked => {
-                self.stage = Stage::Live(Live {
-                    request,
-                    decoder,
-                    line: Some(line),
-                });
-                How::Waits
+        let Some(mut line) = self.line.take() else {
+            self.work = Some(work);
+            return Turn::Waits;
+        };
+        match line.serve(&work.request, &mut work.decoder) {
+            Served::Blocked => {
+                self.line = Some(line);
+                self.work = Some(work);
+                Turn::Waits
             }
-            Halt::Unfinished => {
-                self.stage = Stage::Live(Live {
-                    request,
-                    decoder,
-                    line: Some(line),
-                });
-                How::Asks
+            Served::Unfinished => {
+                self.line = Some(line);
+                self.work = Some(work);
+                Turn::Asks
             }
-            Halt::Lost => {
+            Served::Lost => {
+                self.work = Some(work.again(self.alloc));
                 self.needs_fresh = true;
-                self.stage = Stage::Live(Live::new(self.alloc, request));
-                How::Waits
+                Turn::Waits
             }
-            Halt::Over(code) => {
+            Served::Over(code) => {
                 let answers = line.answers();
                 let is_reused = Snapshot::of(&line.is_reused());
-                let count = received(&decoder);
-                let is_kept = may_keep(&decoder);
-                self.stage = Stage::Ended(Ended {
-                    code,
-                    received: count,
-                    line: Some(line),
-                    is_kept,
-                });
-                How::Ended(end(request, decoder, code, answers, is_reused))
+                self.line = Some(line);
+                self.code = Some(code);
+                self.is_kept = work.may_keep();
+                self.received = work.received();
+                Turn::Ended(work.end(code, answers, is_reused))
             }
         }
     }
 
-    // The deadline, the code given in place of a link, the pause, the probe, and then the link.
-    fn advance(&mut self, live: Live<L>) -> How
-        requires away { self.old.link ≡ None }
-        requires live { IsAlive L.history L.asked L.token_of self.old.request self.old.needs_fresh self.old.failure live }
-        ensures turn { Turns L.history (clocked (alive self.old live)) self.new (how_of result) }
-        ensures token { KeepsToken L.token_of (link_of live.line) self.new.link }
-    {
-        let mut live = live;
-        self.start_clock(live.request.timeout_ms());
-        if self.is_due() {
-            return How::Ended(self.stop(live, Code::OperationTimedout));
-        }
-        if let Some(code) = self.failure {
-            return How::Ended(self.stop(live, code));
-        }
-        if self.is_paused {
-            self.stage = Stage::Live(live);
-            return How::Asks;
-        }
-        if !self.probe(&mut live) {
-            self.stage = Stage::Live(live);
-            return How::Waits;
-        }
-        self.exchange(live)
-    }
-
-    // Takes one turn.
-    fn turn(&mut self) -> How
+    // One turn: the deadline, the code given in place of a link, the pause, the probe, and then the link.
+    fn advance(&mut self) -> Turn
         requires { self.old.code ≡ None }
         ensures turn { Turns L.history (clocked self.old) self.new (how_of result) }
         ensures token { KeepsToken L.token_of self.old.link self.new.link }
     {
-        match mem::replace(&mut self.stage, Stage::gone()) {
-            Stage::Live(live) => self.advance(live),
-            Stage::Ended(_) => unreachable!(),
+        self.start_clock();
+        if self.is_due() {
+            return Turn::Ended(self.stop(Code::OperationTimedout));
         }
+        if let Some(code) = self.failure {
+            return Turn::Ended(self.stop(code));
+        }
+        if self.is_paused {
+            return Turn::Asks;
+        }
+        if !self.probe() {
+            return Turn::Waits;
+        }
+        self.exchange()
     }
 
     // Registers with the deadline, where it has one.
@@ -260,15 +244,15 @@ impl<L: Link> Future for Transfer<L> {
         ensures undecided { OnPending result (IsUndecided self.new.request.method self.new.answers) }
     {
         self.know();
-        let how = self.turn();
+        let turn = self.advance();
         self.know();
-        match how {
-            How::Ended(outcome) => {
+        match turn {
+            Turn::Ended(outcome) => {
                 outcome.know();
                 Poll::Ready(outcome)
             }
-            How::Asks => cx.yield_now(),
-            How::Waits => self.wait(cx),
+            Turn::Asks => cx.yield_now(),
+            Turn::Waits => self.wait(cx),
         }
     }
 }

@@ -1,10 +1,10 @@
-use Rattle.mx_exchange.proofs.transfers.stages.end.Goals as goal
+use Rattle.mx_exchange.proofs.transfers.exchange.Exchange.end.Goals as goal
 
 pub new-requires-clause-outcome : goal.new-requires-clause-outcome
 new-requires-clause-outcome c = record {
   status = rw c.into_parts-wire.ensures.wire c.status-status.ensures;
   order = c.requires.0;
-  verdict = c.args.decoder.verdict;
+  verdict = c.args.self.decoder.verdict;
   ends = rw c.into_parts-wire.ensures.wire c.requires.1;
   parts = c.into_parts-wire.ensures.parts;
 }

@@ -1,7 +1,7 @@
 use Rattle.std.proofs.Common.{sym, ap, ◌∙◌}
 use Rattle.mx_exchange.specs.Lines.{LineState}
 use Rattle.mx_exchange.proofs.Steps.{Turn-unheard, Turn-failed, Turn-whole, Turn-bad, Turn-heard, Turn-lost_bytes, Turn-lost_end, Turn-ended_whole, Turn-ended_bad}
-use Rattle.mx_exchange.proofs.lines.Line.read_step.Goals as goal
+use Rattle.mx_exchange.proofs.line.Line.read_step.Goals as goal
 
 pub returns-in-WouldBlock-clause-turn : goal.returns-in-WouldBlock-clause-turn
 returns-in-WouldBlock-clause-turn g c = Turn-unheard _ _ _ c.requires.going c.in-WouldBlock.ensures.stands c.in-WouldBlock.ensures.grows

@@ -1,5 +1,5 @@
 use Rattle.mx_exchange.proofs.Steps.{Turn-connected, Turn-connecting, Turn-unconnected}
-use Rattle.mx_exchange.proofs.lines.Line.connect_step.Goals as goal
+use Rattle.mx_exchange.proofs.line.Line.connect_step.Goals as goal
 
 pub returns-in-Done-clause-turn : goal.returns-in-Done-clause-turn
 returns-in-Done-clause-turn g c = Turn-connected _ _ _ c.requires.going c.requires.unmade c.in-Done.ensures.grows c.in-Done.ensures.stands

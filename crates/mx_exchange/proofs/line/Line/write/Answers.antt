@@ -2,7 +2,7 @@ use Rattle.std.proofs.Common.{◌≡◌, ap}
 use Rattle.mx_request.specs.Request.{RequestValue}
 use Rattle.mx_exchange.proofs.Ordered.{rest_of}
 use Rattle.mx_exchange.proofs.LineSteps.{Line-write}
-use Rattle.mx_exchange.proofs.lines.Line.write.Goals as goal
+use Rattle.mx_exchange.proofs.line.Line.write.Goals as goal
 
 pub invariant_of-self : goal.invariant_of-self
 invariant_of-self g c =

@@ -2,9 +2,9 @@
 ghost use Rattle.std.specs.Prelude.{◌≡◌, ◌↔◌, IsTrue, true, false, ◌<◌, [], length};
 ghost use Rattle.mx_exchange.specs.Order.{most_read};
 ghost use Rattle.mx_exchange.specs.Endings.{is_repeated};
-ghost use Rattle.mx_exchange.specs.Lines.{IsLine, IsOpen, IsGoing, StepsTo, ServesTo};
+ghost use Rattle.mx_exchange.specs.Lines.{IsLine, IsOpen, IsGoing, StepTurn, ServeTurn};
 
-use crate::lines::Line;
+use crate::line::Line;
 use mx_body::{Decoder, Stand};
 use mx_link::{Connect, Link, Read, Write};
 use mx_request::Request;
@@ -36,7 +36,7 @@ pub(crate) enum Step {
 
 /// What the calls of one turn come to.
 #[derive(Clone, Copy)]
-pub(crate) enum Halt {
+pub(crate) enum Served {
     Blocked,
     // As many calls were made as one turn may make.
     Unfinished,
@@ -66,7 +66,7 @@ impl<L: Link> Line<L> {
         requires going { IsGoing self.old.request.method self.old.answers decoder.now }
         requires unmade { self.old.stands ≡ false }
         ensures line { IsLine L.history L.asked L.token_of self.new }
-        ensures turn { StepsTo self.old self.new result decoder.now }
+        ensures turn { StepTurn self.old self.new result decoder.now }
     {
         match self.connect() {
             Connect::Done => Step::Connected,
@@ -83,7 +83,7 @@ impl<L: Link> Line<L> {
         requires made { self.old.stands ≡ true }
         requires unsent { self.old.written < length request.now.bytes }
         ensures line { IsLine L.history L.asked L.token_of self.new }
-        ensures turn { StepsTo self.old self.new result decoder.now }
+        ensures turn { StepTurn self.old self.new result decoder.now }
     {
         match self.write(request) {
             Write::Bytes(_) => Step::Wrote,
@@ -107,7 +107,7 @@ impl<L: Link> Line<L> {
         requires room { length buffer.old ≡ most_read }
         ensures room { length buffer.new ≡ length buffer.old }
         ensures line { IsLine L.history L.asked L.token_of self.new }
-        ensures turn { StepsTo self.old self.new result decoder.new }
+        ensures turn { StepTurn self.old self.new result decoder.new }
     {
         match self.read(buffer) {
             Read::Bytes(n) => match decoder.feed(&buffer[..n]) {
@@ -145,7 +145,7 @@ impl<L: Link> Line<L> {
         requires room { length buffer.old ≡ most_read }
         ensures room { length buffer.new ≡ length buffer.old }
         ensures line { IsLine L.history L.asked L.token_of self.new }
-        ensures turn { StepsTo self.old self.new result decoder.new }
+        ensures turn { StepTurn self.old self.new result decoder.new }
     {
         if !self.stands() {
             return self.connect_step(decoder);
@@ -157,12 +157,12 @@ impl<L: Link> Line<L> {
     }
 
     /// One turn: it connects, writes the request and reads the response, as far as the link goes.
-    pub(crate) fn serve(&mut self, request: &Request, decoder: &mut Decoder) -> Halt
+    pub(crate) fn serve(&mut self, request: &Request, decoder: &mut Decoder) -> Served
         requires open { IsOpen self.old }
         requires going { IsGoing self.old.request.method self.old.answers decoder.old }
         requires about { self.old.request ≡ request.now }
         ensures line { IsLine L.history L.asked L.token_of self.new }
-        ensures turn { ServesTo self.old self.new result decoder.new }
+        ensures turn { ServeTurn self.old self.new result decoder.new }
     {
         let mut buffer = [0; READ_BYTES];
         let mut reads = 0;
@@ -173,18 +173,18 @@ impl<L: Link> Line<L> {
                 Step::Wrote => {
                     writes += 1;
                     if writes == MOST_WRITES {
-                        return Halt::Unfinished;
+                        return Served::Unfinished;
                     }
                 }
                 Step::Heard => {
                     reads += 1;
                     if reads == MOST_READS {
-                        return Halt::Unfinished;
+                        return Served::Unfinished;
                     }
                 }
-                Step::Blocked => return Halt::Blocked,
-                Step::Lost => return Halt::Lost,
-                Step::Over(code) => return Halt::Over(code),
+                Step::Blocked => return Served::Blocked,
+                Step::Lost => return Served::Lost,
+                Step::Over(code) => return Served::Over(code),
             }
         }
         unreachable!()

@@ -1,5 +1,5 @@
 use Rattle.mx_exchange.proofs.LineSteps.{Line-connect}
-use Rattle.mx_exchange.proofs.lines.Line.connect.Goals as goal
+use Rattle.mx_exchange.proofs.line.Line.connect.Goals as goal
 
 pub invariant_of-self : goal.invariant_of-self
 invariant_of-self g c =

@@ -1,6 +1,6 @@
 use Rattle.std.proofs.Common.{inl, ◌∙◌}
 use Rattle.mx_exchange.proofs.Advanced.{Turns-request, Turns-ended, Turns-waits, Turns-asks, Turns-late, Turns-counted, Waits-left}
-use Rattle.mx_exchange.proofs.transfers.turns.TransferFuture.poll.Goals as goal
+use Rattle.mx_exchange.proofs.transfers.turn.TransferFuture.poll.Goals as goal
 
 pub returns-in-Ended-clause-value : goal.returns-in-Ended-clause-value
 returns-in-Ended-clause-value g c = Turns-request _ _ _ _ c.in-Ended.ensures.turn

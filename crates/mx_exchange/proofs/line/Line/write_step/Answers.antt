@@ -1,7 +1,7 @@
 use Rattle.std.proofs.Common.{ap}
 use Rattle.mx_exchange.specs.Lines.{LineState}
 use Rattle.mx_exchange.proofs.Steps.{Turn-unsent}
-use Rattle.mx_exchange.proofs.lines.Line.write_step.Goals as goal
+use Rattle.mx_exchange.proofs.line.Line.write_step.Goals as goal
 
 pub returns-else-may_retry-clause-turn : goal.returns-else-may_retry-clause-turn
 returns-else-may_retry-clause-turn g c =
