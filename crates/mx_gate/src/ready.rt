@@ -168,7 +168,8 @@ impl<L: Link> Link for ReadyLink<L> {
     {
         self.hear_writes();
         if self.waits_to_write {
-            self.history.note(Answer::to_write(Write::WouldBlock, bytes));
+            self.history
+                .note(Answer::to_write(Write::WouldBlock, bytes));
             self.asked.note(bytes.len());
             return Write::WouldBlock;
         }

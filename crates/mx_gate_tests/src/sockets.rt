@@ -111,7 +111,10 @@ fn a_link_that_waits_is_not_asked_before_a_turn(rt: HostRuntime) -> Result<(), F
     let go = flag(&rt)?;
     let sent = flag(&rt)?;
     let (go_there, sent_there) = (Arc::try_clone(&go)?, Arc::try_clone(&sent)?);
-    let server = thread::spawn(&rt, move || send_late(&listener, &go_there, &sent_there, rt))?;
+    let server = thread::spawn(
+        &rt,
+        move || send_late(&listener, &go_there, &sent_there, rt),
+    )?;
     let mut gate = gate(&rt)?;
     let mut link = link(&mut gate, &there)?;
     assert_eq!(rt; connect(&mut gate, &mut link), Connect::Done);
