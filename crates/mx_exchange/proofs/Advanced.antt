@@ -20,9 +20,9 @@ use Rattle.mx_exchange.specs.Order.{InOrder}
 use Rattle.mx_exchange.specs.Endings.{EndsBy, by_bytes, by_end, by_fault, by_memory, MustRetry, may_keep, code_of, fault_code, is_link_code}
 use Rattle.mx_exchange.specs.Transfers.{OutcomeValue, TransferState, IsDue, clocked, dropped}
 use Rattle.mx_exchange.specs.Turns.{How, waits, asks, ends, ProbeFails, Probed, Answered, GoesOn, EndsWith, StopsWith, Exchanged, unserved, lost, blocked, unfinished, ended, Turns, late, given_up, paused, refused, turned}
-use Rattle.mx_exchange.specs.Lines.{LineState, ServeTurn}
-use Rattle.mx_exchange.specs.declared.service.Served.{Served}
-use Rattle.mx_exchange.specs.declared.service.Served.TheVariants as served
+use Rattle.mx_exchange.specs.Lines.{LineState, ServesTo}
+use Rattle.mx_exchange.specs.declared.calls.Halt.{Halt}
+use Rattle.mx_exchange.specs.declared.calls.Halt.TheVariants as halt
 
 no_fault : (a : Answer) → fault_code a ≡ Some code.OperationTimedout → ⊥
 no_fault said.Connected e = cc
@@ -45,9 +45,9 @@ no_verdict kind wire e (verdict.Fault c) h is =
     let x : is_verdict_code code.OperationTimedout ≡ true = ap is_verdict_code (sym same) ∙ listed in cc
 
 module _ {L : Type 0} (history : L → List Answer) where
-  module _ (old new : TransferState L) (line next : LineState L) (d : Decoded) (how : Served)
+  module _ (old new : TransferState L) (line next : LineState L) (d : Decoded) (how : Halt)
       (had : old.link ≡ Some line.link) (answers : old.answers ≡ line.answers) (again : line.is_reused ≡ old.is_reused) (about : line.request ≡ old.request)
-      (was : history line.link ≡ history line.attached ++ line.answers) (is : history next.link ≡ history next.attached ++ next.answers) (t : ServeTurn line next how d) where
+      (was : history line.link ≡ history line.attached ++ line.answers) (is : history next.link ≡ history next.attached ++ next.answers) (t : ServesTo line next how d) where
     grown : next.answers ≡ old.answers ++ t.more
     grown = ap (λ (l : LineState L). l.answers) t.grows ∙ ap (λ (l : List Answer). l ++ t.more) (sym answers)
 
@@ -89,21 +89,21 @@ module _ {L : Type 0} (history : L → List Answer) where
         ∙ ap (λ (x : Option L). record old { link = x; answers = next.answers; received = length (given next.answers) }) (sym link)
         ∙ ap (λ (l : List Answer). record old { link = new.link; answers = l; received = length (given l) }) (sym all)
 
-    pub Exchange-blocked : how ≡ served.Blocked → new ≡ record old { link = Some next.link; answers = next.answers; received = length d.wire } → Exchanged history old new waits
+    pub Exchange-blocked : how ≡ halt.Blocked → new ≡ record old { link = Some next.link; answers = next.answers; received = length d.wire } → Exchanged history old new waits
     Exchange-blocked e same =
         let so = rw e at t.so in
         let link : new.link ≡ Some next.link = ap (λ (x : TransferState L). x.link) same in
         let all : new.answers ≡ next.answers = ap (λ (x : TransferState L). x.answers) same in
         blocked (answered new link all) so.1 (goes same so.0.wire)
 
-    pub Exchange-unfinished : how ≡ served.Unfinished → new ≡ record old { link = Some next.link; answers = next.answers; received = length d.wire } → Exchanged history old new asks
+    pub Exchange-unfinished : how ≡ halt.Unfinished → new ≡ record old { link = Some next.link; answers = next.answers; received = length d.wire } → Exchanged history old new asks
     Exchange-unfinished e same =
         let so = rw e at t.so in
         let link : new.link ≡ Some next.link = ap (λ (x : TransferState L). x.link) same in
         let all : new.answers ≡ next.answers = ap (λ (x : TransferState L). x.answers) same in
         unfinished (answered new link all) so.1 (goes same so.0.wire)
 
-    pub Exchange-lost : how ≡ served.Lost → InOrder next.is_reused next.request.bytes next.answers → new ≡ dropped old → Exchanged history old new waits
+    pub Exchange-lost : how ≡ halt.Lost → InOrder next.is_reused next.request.bytes next.answers → new ≡ dropped old → Exchanged history old new waits
     Exchange-lost e order same =
         let last : TransferState L = record old { link = Some next.link; answers = next.answers } in
         let so = rw e at t.so in
@@ -112,7 +112,7 @@ module _ {L : Type 0} (history : L → List Answer) where
         (subst (λ (b : Bool). InOrder b old.request.bytes next.answers) same_reused (subst (λ (r : RequestValue). InOrder next.is_reused r.bytes next.answers) bytes order))
         (retried so) same
 
-    pub Exchange-ended : (c : Code) (o : OutcomeValue) → how ≡ served.Over c → o.request ≡ line.request → o.wire ≡ d.wire → o.code ≡ c → HasStatus o.wire o.status → o.parts ≡ parts_of d.verdict
+    pub Exchange-ended : (c : Code) (o : OutcomeValue) → how ≡ halt.Over c → o.request ≡ line.request → o.wire ≡ d.wire → o.code ≡ c → HasStatus o.wire o.status → o.parts ≡ parts_of d.verdict
         → o.answers ≡ next.answers → o.is_reused ≡ next.is_reused → new.is_kept ≡ may_keep d.verdict d.wire
         → new ≡ record old { link = Some next.link; answers = next.answers; code = Some c; is_kept = new.is_kept; received = length d.wire } → Exchanged history old new (ends o)
     Exchange-ended c o e er ew ec st ep ea eu kept same =

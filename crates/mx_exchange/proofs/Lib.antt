@@ -6,6 +6,7 @@ pub mod Steps
 pub mod Serves
 pub mod OutcomeLemmas
 pub mod Advanced
+pub mod StageLemmas
 pub mod Bodies
 pub mod Wakers
 pub mod Sends

@@ -7,10 +7,10 @@ use Rattle.mx_link.specs.Answers.{is_read, is_write}
 use Rattle.mx_link.specs.declared.answers.Answer.{Answer}
 use Rattle.mx_link.specs.declared.answers.Answer.TheVariants as said
 use Rattle.mx_exchange.specs.Order.{is_connect}
-use Rattle.mx_exchange.specs.Lines.{LineState, IsOpen, IsGoing, Calls, Grows, StepTurn, ServeSo, ServeTurn}
-use Rattle.mx_exchange.specs.declared.service.Step.TheVariants as step
-use Rattle.mx_exchange.specs.declared.service.Served.{Served}
-use Rattle.mx_exchange.specs.declared.service.Served.TheVariants as served
+use Rattle.mx_exchange.specs.Lines.{LineState, IsOpen, IsGoing, Calls, Grows, StepsTo, HaltSo, ServesTo}
+use Rattle.mx_exchange.specs.declared.calls.Step.TheVariants as step
+use Rattle.mx_exchange.specs.declared.calls.Halt.{Halt}
+use Rattle.mx_exchange.specs.declared.calls.Halt.TheVariants as halt
 use Rattle.mx_exchange.proofs.Ordered.{count-push}
 
 -- an answer is of one kind
@@ -110,8 +110,8 @@ module _ {L : Type 0} {old mid : LineState L} {turn reads writes : ℕ} {d : Dec
 
 module _ {L : Type 0} {old mid new : LineState L} {turn reads writes : ℕ} {d : Decoded} (s : Serves old mid turn reads writes d) where
   -- the turn ends by this answer
-  ends : (how : Served) (to : Decoded) (a : Answer) → reads < 64 → writes < 64 → Grows mid new (a ∷ []) → (is_connect a ≡ true → mid.stands ≡ false)
-      → ServeSo how old.request.method old.is_reused new.answers to (s.more ++ a ∷ []) → ServeTurn old new how to
+  ends : (how : Halt) (to : Decoded) (a : Answer) → reads < 64 → writes < 64 → Grows mid new (a ∷ []) → (is_connect a ≡ true → mid.stands ≡ false)
+      → HaltSo how old.request.method old.is_reused new.answers to (s.more ++ a ∷ []) → ServesTo old new how to
   ends how to a few fewer grows unmade so =
       let c = longer s a in
       record {
@@ -124,14 +124,14 @@ module _ {L : Type 0} {old mid new : LineState L} {turn reads writes : ℕ} {d :
         so = so;
       }
 
-  pub Serve-blocked : reads < 64 → writes < 64 → (to : Decoded) → StepTurn mid new step.Blocked to → ServeTurn old new served.Blocked to
-  Serve-blocked few fewer to t = ends served.Blocked to t.answer few fewer t.grows t.unmade ((rw (same_request s) at t.so.0), (s.more, t.answer, refl, t.so.1))
+  pub Serve-blocked : reads < 64 → writes < 64 → (to : Decoded) → StepsTo mid new step.Blocked to → ServesTo old new halt.Blocked to
+  Serve-blocked few fewer to t = ends halt.Blocked to t.answer few fewer t.grows t.unmade ((rw (same_request s) at t.so.0), (s.more, t.answer, refl, t.so.1))
 
-  pub Serve-lost : reads < 64 → writes < 64 → (to : Decoded) → StepTurn mid new step.Lost to → ServeTurn old new served.Lost to
-  Serve-lost few fewer to t = ends served.Lost to t.answer few fewer t.grows t.unmade (rw (same_request s, same_reused s) at t.so)
+  pub Serve-lost : reads < 64 → writes < 64 → (to : Decoded) → StepsTo mid new step.Lost to → ServesTo old new halt.Lost to
+  Serve-lost few fewer to t = ends halt.Lost to t.answer few fewer t.grows t.unmade (rw (same_request s, same_reused s) at t.so)
 
-  pub Serve-over : reads < 64 → writes < 64 → (to : Decoded) (c : Code) → StepTurn mid new (step.Over c) to → ServeTurn old new (served.Over c) to
-  Serve-over few fewer to c t = ends (served.Over c) to t.answer few fewer t.grows t.unmade (rw (same_request s, same_reused s) at t.so)
+  pub Serve-over : reads < 64 → writes < 64 → (to : Decoded) (c : Code) → StepsTo mid new (step.Over c) to → ServesTo old new (halt.Over c) to
+  Serve-over few fewer to c t = ends (halt.Over c) to t.answer few fewer t.grows t.unmade (rw (same_request s, same_reused s) at t.so)
 
   -- the turn goes on
   grown : (r w : ℕ) (to : Decoded) (a : Answer) → Grows mid new (a ∷ []) → (is_connect a ≡ true → mid.stands ≡ false) → (mid.stands ≡ true → new.stands ≡ true)
@@ -154,19 +154,19 @@ module _ {L : Type 0} {old mid new : LineState L} {turn reads writes : ℕ} {d :
         unmade = λ e. omega (arith, unconnects a (other e), s.unmade (unstood e));
       }
 
-  pub Serves-connected : (to : Decoded) → StepTurn mid new step.Connected to → Serves old new (turn + 1) reads writes to
+  pub Serves-connected : (to : Decoded) → StepsTo mid new step.Connected to → Serves old new (turn + 1) reads writes to
   Serves-connected to t =
       let one = counted is_connect t.answer t.so.1 in
       let all = kinds t.answer in
       grown reads writes to t.answer t.grows t.unmade t.kept t.so.0 (λ e y. let x : true ≡ false = sym t.so.2 ∙ e in cc) (omega (arith, one, all)) (omega (arith, one, all))
 
-  pub Serves-wrote : (to : Decoded) → StepTurn mid new step.Wrote to → Serves old new (turn + 1) reads (writes + 1) to
+  pub Serves-wrote : (to : Decoded) → StepsTo mid new step.Wrote to → Serves old new (turn + 1) reads (writes + 1) to
   Serves-wrote to t =
       let one = counted is_write t.answer t.so.1 in
       let all = kinds t.answer in
       grown reads (writes + 1) to t.answer t.grows t.unmade t.kept t.so.0 (λ e y. let two = counted is_connect t.answer y in omega (arith, one, two, all)) (omega (arith, one, all)) (omega (arith, one))
 
-  pub Serves-heard : (to : Decoded) → StepTurn mid new step.Heard to → Serves old new (turn + 1) (reads + 1) writes to
+  pub Serves-heard : (to : Decoded) → StepsTo mid new step.Heard to → Serves old new (turn + 1) (reads + 1) writes to
   Serves-heard to t =
       let one = counted is_read t.answer t.so.1 in
       let all = kinds t.answer in
@@ -174,7 +174,7 @@ module _ {L : Type 0} {old mid new : LineState L} {turn reads writes : ℕ} {d :
 
 -- as many calls were made as one turn may make
 pub Serves-full : {L : Type 0} {old new : LineState L} {turn reads writes : ℕ} {d : Decoded} → (s : Serves old new turn reads writes d) → reads ≤ 64 → writes ≤ 64
-    → (reads ≡ 64) ⊎ (writes ≡ 64) → ServeTurn old new served.Unfinished d
+    → (reads ≡ 64) ⊎ (writes ≡ 64) → ServesTo old new halt.Unfinished d
 Serves-full s few fewer full = record {
   more = s.more;
   grows = s.grows;

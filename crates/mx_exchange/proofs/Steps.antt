@@ -14,9 +14,9 @@ use Rattle.mx_link.specs.declared.answers.Answer.{Answer}
 use Rattle.mx_link.specs.declared.answers.Answer.TheVariants as said
 use Rattle.mx_exchange.specs.Order.{is_connect, is_last}
 use Rattle.mx_exchange.specs.Endings.{by_bytes, by_end, by_fault, by_memory, MustRetry, code_of, fault_code, is_loss, is_repeated, is_heard}
-use Rattle.mx_exchange.specs.Lines.{LineState, IsGoing, IsOver, Grows, StepTurn, StepSo}
-use Rattle.mx_exchange.specs.declared.service.Step.{Step}
-use Rattle.mx_exchange.specs.declared.service.Step.TheVariants as step
+use Rattle.mx_exchange.specs.Lines.{LineState, IsGoing, IsOver, Grows, StepsTo, StepSo}
+use Rattle.mx_exchange.specs.declared.calls.Step.{Step}
+use Rattle.mx_exchange.specs.declared.calls.Step.TheVariants as step
 use Rattle.mx_exchange.proofs.Ordered.{given-push, given-same, any-same, same-last}
 
 -- a verdict on equal things
@@ -92,7 +92,7 @@ module _ (kind : Method) (past : List Answer) (d : Decoded) (g : IsGoing kind pa
 
 module _ {L : Type 0} (old new : LineState L) (d : Decoded) (g : IsGoing old.request.method old.answers d) where
   turn : (how : Step) (a : Answer) (to : Decoded) → Grows old new (a ∷ []) → (is_connect a ≡ true → old.stands ≡ false) → (old.stands ≡ true → new.stands ≡ true)
-      → StepSo how old.request.method old.is_reused new.stands (old.answers ++ a ∷ []) to a → StepTurn old new how to
+      → StepSo how old.request.method old.is_reused new.stands (old.answers ++ a ∷ []) to a → StepsTo old new how to
   turn how a to grows unmade kept so = record {
     answer = a;
     grows = grows;
@@ -108,13 +108,13 @@ module _ {L : Type 0} (old new : LineState L) (d : Decoded) (g : IsGoing old.req
     still : old.stands ≡ true → new.stands ≡ true
     still e = let x : true ≡ false = sym e ∙ unmade in cc
 
-    pub Turn-connected : Grows old new (said.Connected ∷ []) → new.stands ≡ true → StepTurn old new step.Connected d
+    pub Turn-connected : Grows old new (said.Connected ∷ []) → new.stands ≡ true → StepsTo old new step.Connected d
     Turn-connected grows made = turn step.Connected said.Connected d grows (λ e. unmade) (λ e. made) (quiet said.Connected refl refl, refl, made)
 
-    pub Turn-connecting : Grows old new (said.ConnectBlocked ∷ []) → StepTurn old new step.Blocked d
+    pub Turn-connecting : Grows old new (said.ConnectBlocked ∷ []) → StepsTo old new step.Blocked d
     Turn-connecting grows = turn step.Blocked said.ConnectBlocked d grows (λ e. unmade) still (quiet said.ConnectBlocked refl refl, refl)
 
-    pub Turn-unconnected : Grows old new (said.ConnectFailed ∷ []) → StepTurn old new (step.Over code.CouldntConnect) d
+    pub Turn-unconnected : Grows old new (said.ConnectFailed ∷ []) → StepsTo old new (step.Over code.CouldntConnect) d
     Turn-unconnected grows = turn (step.Over code.CouldntConnect) said.ConnectFailed d grows (λ e. unmade) still
         (failed old.request.method old.answers d g old.is_reused said.ConnectFailed code.CouldntConnect refl refl (unlost old.request.method old.answers d g old.is_reused said.ConnectFailed refl))
 
@@ -122,49 +122,49 @@ module _ {L : Type 0} (old new : LineState L) (d : Decoded) (g : IsGoing old.req
     kept : old.stands ≡ true → new.stands ≡ true
     kept e = stays ∙ e
 
-    pub Turn-wrote : (piece : List ℕ) → Grows old new (said.Took piece ∷ []) → StepTurn old new step.Wrote d
+    pub Turn-wrote : (piece : List ℕ) → Grows old new (said.Took piece ∷ []) → StepsTo old new step.Wrote d
     Turn-wrote piece grows = turn step.Wrote (said.Took piece) d grows (λ e. cc) kept (quiet (said.Took piece) refl refl, refl)
 
-    pub Turn-unwritten : Grows old new (said.WriteBlocked ∷ []) → StepTurn old new step.Blocked d
+    pub Turn-unwritten : Grows old new (said.WriteBlocked ∷ []) → StepsTo old new step.Blocked d
     Turn-unwritten grows = turn step.Blocked said.WriteBlocked d grows (λ e. cc) kept (quiet said.WriteBlocked refl refl, refl)
 
-    pub Turn-unheard : Grows old new (said.ReadBlocked ∷ []) → StepTurn old new step.Blocked d
+    pub Turn-unheard : Grows old new (said.ReadBlocked ∷ []) → StepsTo old new step.Blocked d
     Turn-unheard grows = turn step.Blocked said.ReadBlocked d grows (λ e. cc) kept (quiet said.ReadBlocked refl refl, refl)
 
     module _ (due : (old.is_reused ≡ true) × (is_repeated old.request.method ≡ true) × (d.wire ≡ [])) where
-      again : (a : Answer) → given_by a ≡ [] → is_loss a ≡ true → is_connect a ≡ false → Grows old new (a ∷ []) → StepTurn old new step.Lost d
+      again : (a : Answer) → given_by a ≡ [] → is_loss a ≡ true → is_connect a ≡ false → Grows old new (a ∷ []) → StepsTo old new step.Lost d
       again a gives lost other grows = turn step.Lost a d grows (λ e. let x : true ≡ false = sym e ∙ other in cc) kept (retry old.request.method old.answers d g old.is_reused a gives lost due)
 
-      pub Turn-unsent_retry : Grows old new (said.WriteFailed ∷ []) → StepTurn old new step.Lost d
+      pub Turn-unsent_retry : Grows old new (said.WriteFailed ∷ []) → StepsTo old new step.Lost d
       Turn-unsent_retry grows = again said.WriteFailed refl refl refl grows
 
-      pub Turn-failed_retry : Grows old new (said.ReadFailed ∷ []) → StepTurn old new step.Lost d
+      pub Turn-failed_retry : Grows old new (said.ReadFailed ∷ []) → StepsTo old new step.Lost d
       Turn-failed_retry grows = again said.ReadFailed refl refl refl grows
 
-      pub Turn-ended_retry : Grows old new (said.ReadEnded ∷ []) → StepTurn old new step.Lost d
+      pub Turn-ended_retry : Grows old new (said.ReadEnded ∷ []) → StepsTo old new step.Lost d
       Turn-ended_retry grows = again said.ReadEnded refl refl refl grows
 
     module _ (never : ¬ ((old.is_reused ≡ true) × (is_repeated old.request.method ≡ true) × (d.wire ≡ []))) where
       unrepeats : (a : Answer) → given_by a ≡ [] → ¬ (MustRetry old.request.method old.is_reused (old.answers ++ a ∷ []))
       unrepeats a gives = unrepeated old.request.method old.answers d g old.is_reused a gives never
 
-      fails : (a : Answer) (c : Code) → given_by a ≡ [] → fault_code a ≡ Some c → is_connect a ≡ false → Grows old new (a ∷ []) → StepTurn old new (step.Over c) d
+      fails : (a : Answer) (c : Code) → given_by a ≡ [] → fault_code a ≡ Some c → is_connect a ≡ false → Grows old new (a ∷ []) → StepsTo old new (step.Over c) d
       fails a c gives is other grows = turn (step.Over c) a d grows (λ e. let x : true ≡ false = sym e ∙ other in cc) kept
           (failed old.request.method old.answers d g old.is_reused a c gives is (unrepeats a gives))
 
-      pub Turn-unsent : Grows old new (said.WriteFailed ∷ []) → StepTurn old new (step.Over code.SendError) d
+      pub Turn-unsent : Grows old new (said.WriteFailed ∷ []) → StepsTo old new (step.Over code.SendError) d
       Turn-unsent grows = fails said.WriteFailed code.SendError refl refl refl grows
 
-      pub Turn-failed : Grows old new (said.ReadFailed ∷ []) → StepTurn old new (step.Over code.RecvError) d
+      pub Turn-failed : Grows old new (said.ReadFailed ∷ []) → StepsTo old new (step.Over code.RecvError) d
       Turn-failed grows = fails said.ReadFailed code.RecvError refl refl refl grows
 
-      pub Turn-lost_end : (to : Decoded) → to ≡ d → Grows old new (said.ReadEnded ∷ []) → StepTurn old new (step.Over code.OutOfMemory) to
+      pub Turn-lost_end : (to : Decoded) → to ≡ d → Grows old new (said.ReadEnded ∷ []) → StepsTo old new (step.Over code.OutOfMemory) to
       Turn-lost_end to same grows = turn (step.Over code.OutOfMemory) said.ReadEnded to grows (λ e. cc) kept
           (unheld old.request.method old.answers d g old.is_reused said.ReadEnded to refl same (unrepeats said.ReadEnded refl))
 
       -- the bytes have ended
       module _ (to : Decoded) (fed : to ≡ record d { ended = true; verdict = to.verdict }) (exact : IsExact to) (grows : Grows old new (said.ReadEnded ∷ [])) where
-        ended_over : (c : Code) → code_of to.verdict ≡ Some c → StepTurn old new (step.Over c) to
+        ended_over : (c : Code) → code_of to.verdict ≡ Some c → StepsTo old new (step.Over c) to
         ended_over c is_c =
             let wire : to.wire ≡ given (old.answers ++ said.ReadEnded ∷ []) = ap (λ (x : Decoded). x.wire) fed ∙ g.wire ∙ sym (given-same old.answers said.ReadEnded refl) in
             turn (step.Over c) said.ReadEnded to grows (λ e. cc) kept
@@ -173,13 +173,13 @@ module _ {L : Type 0} (old new : LineState L) (d : Decoded) (g : IsGoing old.req
               final = unrepeats said.ReadEnded refl;
             })
 
-        pub Turn-ended_whole : stand.Complete ≡ stand_of to.verdict → StepTurn old new (step.Over code.Ok) to
+        pub Turn-ended_whole : stand.Complete ≡ stand_of to.verdict → StepsTo old new (step.Over code.Ok) to
         Turn-ended_whole s = ended_over code.Ok (code-complete to.verdict s)
 
-        pub Turn-ended_bad : (c : Code) → stand.Fault c ≡ stand_of to.verdict → StepTurn old new (step.Over c) to
+        pub Turn-ended_bad : (c : Code) → stand.Fault c ≡ stand_of to.verdict → StepsTo old new (step.Over c) to
         Turn-ended_bad c s = ended_over c (code-fault to.verdict c s)
 
-    pub Turn-lost_bytes : (piece : List ℕ) (to : Decoded) → to ≡ d → Grows old new (said.Gave piece ∷ []) → StepTurn old new (step.Over code.OutOfMemory) to
+    pub Turn-lost_bytes : (piece : List ℕ) (to : Decoded) → to ≡ d → Grows old new (said.Gave piece ∷ []) → StepsTo old new (step.Over code.OutOfMemory) to
     Turn-lost_bytes piece to same grows = turn (step.Over code.OutOfMemory) (said.Gave piece) to grows (λ e. cc) kept
         (unheld old.request.method old.answers d g old.is_reused (said.Gave piece) to refl same (unlost old.request.method old.answers d g old.is_reused (said.Gave piece) refl))
 
@@ -194,20 +194,20 @@ module _ {L : Type 0} (old new : LineState L) (d : Decoded) (g : IsGoing old.req
       unended : to.ended ≡ false
       unended = ap (λ (x : Decoded). x.ended) fed ∙ g.unended
 
-      over : (c : Code) → code_of to.verdict ≡ Some c → StepTurn old new (step.Over c) to
+      over : (c : Code) → code_of to.verdict ≡ Some c → StepsTo old new (step.Over c) to
       over c is_c = turn (step.Over c) (said.Gave piece) to grows (λ e. cc) kept
           (record {
             cause = by_bytes old.answers piece (refl, g.undecided) wire (exact-past to old.request.method to.wire false exact method refl unended) is_c;
             final = unlost old.request.method old.answers d g old.is_reused (said.Gave piece) refl;
           })
 
-      pub Turn-whole : stand.Complete ≡ stand_of to.verdict → StepTurn old new (step.Over code.Ok) to
+      pub Turn-whole : stand.Complete ≡ stand_of to.verdict → StepsTo old new (step.Over code.Ok) to
       Turn-whole s = over code.Ok (code-complete to.verdict s)
 
-      pub Turn-bad : (c : Code) → stand.Fault c ≡ stand_of to.verdict → StepTurn old new (step.Over c) to
+      pub Turn-bad : (c : Code) → stand.Fault c ≡ stand_of to.verdict → StepsTo old new (step.Over c) to
       Turn-bad c s = over c (code-fault to.verdict c s)
 
-      pub Turn-heard : stand.More ≡ stand_of to.verdict → StepTurn old new step.Heard to
+      pub Turn-heard : stand.More ≡ stand_of to.verdict → StepsTo old new step.Heard to
       Turn-heard s =
           let m = more-is to.verdict s in
           let gone : IsGoing old.request.method (old.answers ++ said.Gave piece ∷ []) to = record {

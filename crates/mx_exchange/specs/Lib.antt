@@ -6,4 +6,5 @@ pub mod Outcomes
 pub mod Laws
 -- Private: what the functions behind a turn promise one another.
 pub mod Lines
+pub mod Stages
 pub mod Turned

@@ -15,10 +15,10 @@ use Rattle.mx_link.specs.declared.answers.Write.{Write}
 use Rattle.mx_link.specs.declared.answers.Write.TheVariants as write
 use Rattle.mx_exchange.specs.Order.{InOrder, stands, is_connect, is_last, asks_of}
 use Rattle.mx_exchange.specs.Endings.{IsUndecided, EndsBy, MustRetry}
-use Rattle.mx_exchange.specs.declared.service.Step.{Step}
-use Rattle.mx_exchange.specs.declared.service.Step.TheVariants as step
-use Rattle.mx_exchange.specs.declared.service.Served.{Served}
-use Rattle.mx_exchange.specs.declared.service.Served.TheVariants as served
+use Rattle.mx_exchange.specs.declared.calls.Step.{Step}
+use Rattle.mx_exchange.specs.declared.calls.Step.TheVariants as step
+use Rattle.mx_exchange.specs.declared.calls.Halt.{Halt}
+use Rattle.mx_exchange.specs.declared.calls.Halt.TheVariants as halt
 
 -- A link while it serves a request, as it was attached or probed; its answers since then; whether it was in use before, and is
 -- still to be probed; whether its probe found something; whether its connection stands, and how many bytes it has taken.
@@ -102,7 +102,7 @@ StepSo step.Lost kind reused stood answers d answer = MustRetry kind reused answ
 StepSo (step.Over c) kind reused stood answers d answer = IsOver kind reused answers d c
 
 -- one call on the link
-pub record StepTurn {L : Type 0} (old new : LineState L) (how : Step) (d : Decoded) : Type 0 where
+pub record StepsTo {L : Type 0} (old new : LineState L) (how : Step) (d : Decoded) : Type 0 where
   pub answer : Answer
   pub grows : Grows old new (answer ∷ [])
   pub unmade : is_connect answer ≡ true → old.stands ≡ false
@@ -110,14 +110,14 @@ pub record StepTurn {L : Type 0} (old new : LineState L) (how : Step) (d : Decod
   pub so : StepSo how old.request.method old.is_reused new.stands new.answers d answer
 
 -- how a turn ends
-abbrev pub ServeSo : Served → Method → Bool → List Answer → Decoded → List Answer → Type 0
-ServeSo served.Blocked kind reused answers d more =
+abbrev pub HaltSo : Halt → Method → Bool → List Answer → Decoded → List Answer → Type 0
+HaltSo halt.Blocked kind reused answers d more =
     IsGoing kind answers d
     × ((earlier : List Answer) × (last : Answer) × (more ≡ earlier ++ last ∷ []) × (is_blocked last ≡ true))
-ServeSo served.Unfinished kind reused answers d more =
+HaltSo halt.Unfinished kind reused answers d more =
     IsGoing kind answers d × ((count_by is_read more ≡ 64) ⊎ (count_by is_write more ≡ 64))
-ServeSo served.Lost kind reused answers d more = MustRetry kind reused answers
-ServeSo (served.Over c) kind reused answers d more = IsOver kind reused answers d c
+HaltSo halt.Lost kind reused answers d more = MustRetry kind reused answers
+HaltSo (halt.Over c) kind reused answers d more = IsOver kind reused answers d c
 
 -- so many calls were made
 pub record Calls (more : List Answer) (connects reads writes : ℕ) : Type 0 where
@@ -126,14 +126,14 @@ pub record Calls (more : List Answer) (connects reads writes : ℕ) : Type 0 whe
   pub writes_are : count_by is_write more ≡ writes
 
 -- the calls of one turn on the link
-pub record ServeTurn {L : Type 0} (old new : LineState L) (how : Served) (d : Decoded) : Type 0 where
+pub record ServesTo {L : Type 0} (old new : LineState L) (how : Halt) (d : Decoded) : Type 0 where
   pub more : List Answer
   pub grows : Grows old new more
   pub asked : more ≢ []
   pub connects : count_by is_connect more ≤ 1
   pub reads : count_by is_read more ≤ 64
   pub writes : count_by is_write more ≤ 64
-  pub so : ServeSo how old.request.method old.is_reused new.answers d more
+  pub so : HaltSo how old.request.method old.is_reused new.answers d more
 
 -- how many bytes a write took
 abbrev pub taken_count : Write → ℕ

@@ -1,10 +1,10 @@
 //! A transfer: one request over a link, as a future, and its outcome.
 #![tactic(auto)]
 
+mod calls;
 pub mod laws;
-mod line;
+mod lines;
 mod outcomes;
-mod service;
 mod transfers;
 
 pub use crate::outcomes::Outcome;

@@ -3,11 +3,11 @@ ghost use Rattle.std.specs.Prelude.{◌≡◌, true, false, [], Some, None, IsSo
 ghost use Rattle.mx_exchange.specs.Transfers.{IsTransfer, WantsLink};
 ghost use Rattle.mx_exchange.specs.Endings.{is_link_code};
 
-mod exchange;
-mod turn;
+mod stages;
+mod turns;
 
-use crate::line::Line;
-use crate::transfers::exchange::Exchange;
+use crate::lines::Line;
+use crate::transfers::stages::{Live, Stage, received};
 use futures::task::{Source, Waker};
 use mx_link::Link;
 use mx_request::{Endpoint, Request};
@@ -30,9 +30,7 @@ pub struct Want<'a> {
 pub struct Transfer<L: Link> {
     alloc: Global,
     about: Snapshot<Request>,
-    // None once it has ended.
-    work: Option<Exchange>,
-    line: Option<Line<L>>,
+    stage: Stage<L>,
     needs_fresh: bool,
     is_started: bool,
     failure: Option<Code>,
@@ -40,10 +38,6 @@ pub struct Transfer<L: Link> {
     is_paused: bool,
     is_polled: bool,
     deadline: Option<u64>,
-    code: Option<Code>,
-    is_kept: bool,
-    // Once it has ended.
-    received: usize,
     link_source: Source,
     time_source: Source,
     // Of the task that polls it, for both sources.
@@ -51,20 +45,20 @@ pub struct Transfer<L: Link> {
 }
 
 impl<L: Link> Model for Transfer<L> {
-    ghost use Rattle.std.specs.Prelude.{◌≡◌, ◌≤◌, true, false, Some, None, IsSome, IfSome, [], length, option_map, unwrap_or};
+    ghost use Rattle.std.specs.Prelude.{◌≡◌, true, IfSome};
     ghost use Rattle.mx_exchange.specs.Endings.{is_link_code};
-    ghost use Rattle.mx_exchange.specs.Lines.{IsLine, IsGoing, MayHandOut};
-    ghost use Rattle.mx_exchange.specs.Transfers.{TransferState, most_received};
+    ghost use Rattle.mx_exchange.specs.Transfers.{TransferState};
+    ghost use Rattle.mx_exchange.specs.Stages.{link_of, attached_of, answers_of, reused_of, probe_of, line_of, code_of, kept_of, received_of, IsStage};
 
     ghost Value = { TransferState L };
 
     ghost view = { λ t. record {
       request = t.about.value;
-      link = option_map (λ l. l.link) t.line;
-      attached = option_map (λ l. l.attached) t.line;
-      answers = unwrap_or (option_map (λ l. l.answers) t.line) [];
-      is_reused = unwrap_or (option_map (λ l. l.is_reused) t.line) false;
-      needs_probe = unwrap_or (option_map (λ l. l.needs_probe) t.line) false;
+      link = link_of (line_of t.stage);
+      attached = attached_of (line_of t.stage);
+      answers = answers_of (line_of t.stage);
+      is_reused = reused_of (line_of t.stage);
+      needs_probe = probe_of (line_of t.stage);
       needs_fresh = t.needs_fresh;
       is_started = t.is_started;
       failure = t.failure;
@@ -72,26 +66,17 @@ impl<L: Link> Model for Transfer<L> {
       is_paused = t.is_paused;
       is_polled = t.is_polled;
       deadline = t.deadline;
-      code = t.code;
-      is_kept = t.is_kept;
-      received = unwrap_or (option_map (λ w. length w.decoder.wire) t.work) t.received;
+      code = code_of t.stage;
+      is_kept = kept_of t.stage;
+      received = received_of t.stage;
       link_source = t.link_source.id;
       time_source = t.time_source.id;
       waker = t.waker;
     } };
 
     ghost invariant = { λ t. record {
-      alive : (t.code ≡ None → IsSome t.work) × (IsSome t.work → t.code ≡ None);
-      about : IfSome t.work (λ w. w.request ≡ t.about.value);
-      going : IfSome t.work (λ w. IsGoing t.about.value.method (unwrap_or (option_map (λ l. l.answers) t.line) []) w.decoder);
-      serves : IfSome t.line (λ l. l.request ≡ t.about.value);
-      fresh : IfSome t.line (λ l. l.is_stale ≡ false);
-      line : IfSome t.line (IsLine L.history L.asked L.token_of);
-      unreused : t.needs_fresh ≡ true → unwrap_or (option_map (λ l. l.is_reused) t.line) false ≡ false;
+      stage : IsStage L.history L.asked L.token_of t.about.value t.needs_fresh t.failure t.stage;
       failed : IfSome t.failure (λ c. is_link_code c ≡ true);
-      unlinked : IsSome t.failure → t.line ≡ None;
-      kept : (t.is_kept ≡ true) → (t.work ≡ None) × IfSome t.line MayHandOut;
-      bounded : t.received ≤ most_received;
     } };
 }
 
@@ -128,8 +113,7 @@ impl<L: Link> Transfer<L> {
         Transfer {
             alloc,
             about,
-            work: Some(Exchange::new(alloc, request)),
-            line: None,
+            stage: Stage::Live(Live::new(alloc, request)),
             needs_fresh: false,
             is_started: false,
             failure: None,
@@ -137,9 +121,6 @@ impl<L: Link> Transfer<L> {
             is_paused: false,
             is_polled: false,
             deadline: None,
-            code: None,
-            is_kept: false,
-            received: 0,
             link_source: Source::new(),
             time_source: Source::new(),
             waker: None,
@@ -154,8 +135,7 @@ impl<L: Link> Transfer<L> {
         let Transfer {
             alloc: _,
             about: _,
-            work,
-            line: _,
+            stage,
             needs_fresh: _,
             is_started: _,
             failure: _,
@@ -163,15 +143,14 @@ impl<L: Link> Transfer<L> {
             is_paused: _,
             is_polled: _,
             deadline: _,
-            code: _,
-            is_kept: _,
-            received: _,
             link_source: _,
             time_source: _,
             waker: _,
         } = self;
-        let Some(work) = work else { unreachable!() };
-        work.into_request()
+        match stage {
+            Stage::Live(live) => live.request,
+            Stage::Ended(_) => unreachable!(),
+        }
     }
 
     /// The link that it wants, where it wants one: it has none, has not ended, and no code was given in place of one.
@@ -179,16 +158,13 @@ impl<L: Link> Transfer<L> {
         ensures wants { IsSome result ↔ WantsLink self.now }
         ensures which { IfSome result (λ want. (want.fresh ≡ self.now.needs_fresh) × (want.endpoint.now ≡ self.now.request.endpoint)) }
     {
-        if self.code.is_some() || self.line.is_some() || self.failure.is_some() {
-            return None;
+        match &self.stage {
+            Stage::Live(live) if live.line.is_none() && self.failure.is_none() => Some(Want {
+                endpoint: live.request.endpoint(),
+                fresh: self.needs_fresh,
+            }),
+            _ => None,
         }
-        let Some(work) = &self.work else {
-            unreachable!()
-        };
-        Some(Want {
-            endpoint: work.request().endpoint(),
-            fresh: self.needs_fresh,
-        })
     }
 
     /// Hands over a link that serves nothing else. It was in use before where it is reused, which it must not be
@@ -205,11 +181,10 @@ impl<L: Link> Transfer<L> {
           is_started = true;
         } }
     {
-        let Some(work) = &self.work else {
-            unreachable!()
-        };
-        self.line = Some(Line::new(link, work.request(), is_reused));
-        self.is_started = true;
+        if let Stage::Live(live) = &mut self.stage {
+            live.line = Some(Line::new(link, &live.request, is_reused));
+            self.is_started = true;
+        }
     }
 
     /// Gives the code that it ends with at its next poll, as no link can be had.
@@ -249,18 +224,22 @@ impl<L: Link> Transfer<L> {
     pub fn received(&self) -> u32
         ensures { result ≡ self.now.received }
     {
-        let received = match &self.work {
-            Some(work) => work.received(),
-            None => self.received,
+        let count = match &self.stage {
+            Stage::Live(live) => received(&live.decoder),
+            Stage::Ended(ended) => ended.received,
         };
-        received as u32
+        count as u32
     }
 
     /// The number under which the readiness of its link is told; `None` where it has no link.
     pub fn token(&self) -> Option<u64>
         ensures { result ≡ option_map L.token_of self.now.link }
     {
-        match &self.line {
+        let line = match &self.stage {
+            Stage::Live(live) => &live.line,
+            Stage::Ended(ended) => &ended.line,
+        };
+        match line {
             Some(line) => Some(line.token()),
             None => None,
         }
@@ -280,21 +259,24 @@ impl<L: Link> Transfer<L> {
     pub fn know(&self)
         ensures { IsTransfer L.history L.asked L.token_of self.now }
     {
-        let _work = &self.work;
+        let _stage = &self.stage;
     }
 
     /// Whether it has ended.
     pub fn spent(&self) -> bool
         ensures { result ≡ is_some self.now.code }
     {
-        self.code.is_some()
+        matches!(self.stage, Stage::Ended(_))
     }
 
     /// The code that it ended with.
     pub fn code(&self) -> Option<Code>
         ensures { result ≡ self.now.code }
     {
-        self.code
+        match &self.stage {
+            Stage::Live(_) => None,
+            Stage::Ended(ended) => Some(ended.code),
+        }
     }
 
     /// The link, once it has ended and where the link may be kept; `None` where it was taken before.
@@ -304,13 +286,9 @@ impl<L: Link> Transfer<L> {
             then record self.old { link = None; attached = None; answers = []; is_reused = false; needs_probe = false; is_kept = false }
             else self.old }
     {
-        if !self.is_kept {
-            return None;
-        }
-        self.is_kept = false;
-        match self.line.take() {
-            Some(line) => Some(line.into_link()),
-            None => None,
+        match &mut self.stage {
+            Stage::Ended(ended) if ended.is_kept => ended.take_link(),
+            _ => None,
         }
     }
 }

@@ -1,0 +1,20 @@
+-- What stays known of a stage.
+use Rattle.std.proofs.Common.{◌≡◌, ℕ, Bool, true, List, Option, Some, None}
+use Rattle.mx_types.specs.declared.code.Code.{Code}
+use Rattle.mx_request.specs.Request.{RequestValue}
+use Rattle.mx_link.specs.declared.answers.Answer.{Answer}
+use Rattle.mx_exchange.specs.Lines.{LineState}
+use Rattle.mx_exchange.specs.Stages.{link_of, line_of, IsServing, IsStage}
+use Rattle.mx_exchange.specs.declared.transfers.stages.Stage.{Stage}
+use Rattle.mx_exchange.specs.declared.transfers.stages.Stage.TheVariants as stage
+use Rattle.std.specs.Prelude.{IfSome}
+
+module _ {L : Type 0} (history : L → List Answer) (asked : L → List ℕ) (token_of : L → ℕ) (request : RequestValue) (failure : Option Code) where
+  no_line : (fresh more : Bool) (line : Option (LineState L)) → link_of line ≡ None → IfSome line (IsServing history asked token_of request more failure)
+  no_line fresh more None e = tt
+  no_line fresh more (Some l) e = cc
+
+  -- where there is no link, a fresh one may be wanted
+  pub wants_fresh : (fresh : Bool) (s : Stage L) → link_of (line_of s) ≡ None → IsStage history asked token_of request fresh failure s → IsStage history asked token_of request true failure s
+  wants_fresh fresh (stage.Live o) e h = record { about = h.about; going = h.going; serves = no_line fresh true o.line e }
+  wants_fresh fresh (stage.Ended o) e h = record { serves = no_line fresh true o.line e; kept = h.kept; bounded = h.bounded }

@@ -1,0 +1,31 @@
+use Rattle.std.proofs.Common.{sym, ap, ◌∙◌}
+use Rattle.mx_exchange.specs.Lines.{LineState}
+use Rattle.mx_exchange.proofs.Steps.{Turn-unheard, Turn-failed, Turn-whole, Turn-bad, Turn-heard, Turn-lost_bytes, Turn-lost_end, Turn-ended_whole, Turn-ended_bad}
+use Rattle.mx_exchange.proofs.lines.Line.read_step.Goals as goal
+
+pub returns-in-WouldBlock-clause-turn : goal.returns-in-WouldBlock-clause-turn
+returns-in-WouldBlock-clause-turn g c = Turn-unheard _ _ _ c.requires.going c.in-WouldBlock.ensures.stands c.in-WouldBlock.ensures.grows
+
+pub returns-in-Ok-More-clause-turn : goal.returns-in-Ok-More-clause-turn
+returns-in-Ok-More-clause-turn g c = Turn-heard _ _ _ c.requires.going c.in-Bytes.ensures.stands _ _ (c.in-Ok-More.ensures.fed c.requires.going.more) c.in-Ok-More.ensures.exact c.in-Bytes.ensures.grows (sym c.in-Ok-More.field-0-is ∙ c.in-Ok-More.ensures.stand)
+
+pub returns-in-Ok-Complete-clause-turn : goal.returns-in-Ok-Complete-clause-turn
+returns-in-Ok-Complete-clause-turn g c = Turn-whole _ _ _ c.requires.going c.in-Bytes.ensures.stands _ _ (c.in-Ok-Complete.ensures.fed c.requires.going.more) c.in-Ok-Complete.ensures.exact c.in-Bytes.ensures.grows (sym c.in-Ok-Complete.field-0-is ∙ c.in-Ok-Complete.ensures.stand)
+
+pub returns-in-Ok-Fault-clause-turn : goal.returns-in-Ok-Fault-clause-turn
+returns-in-Ok-Fault-clause-turn g c = Turn-bad _ _ _ c.requires.going c.in-Bytes.ensures.stands _ _ (c.in-Ok-Fault.ensures.fed c.requires.going.more) c.in-Ok-Fault.ensures.exact c.in-Bytes.ensures.grows c.in-Ok-Fault.code (sym c.in-Ok-Fault.field-0-is ∙ c.in-Ok-Fault.ensures.stand)
+
+pub returns-in-Err-clause-turn : goal.returns-in-Err-clause-turn
+returns-in-Err-clause-turn g c = Turn-lost_bytes _ _ _ c.requires.going c.in-Bytes.ensures.stands _ _ c.in-Err.ensures.refused c.in-Bytes.ensures.grows
+
+pub returns-else-may_retry-2-clause-turn : goal.returns-else-may_retry-2-clause-turn
+returns-else-may_retry-2-clause-turn g c = Turn-failed _ _ _ c.requires.going c.in-Fault.ensures.stands (λ h. let x = c.if-may_retry-2.ensures.1 (rw (c.method-in-Fault.ensures, c.is_reused-in-Fault.ensures, ap (λ (l : LineState _). l.is_reused) c.in-Fault.ensures.grows, ← c.requires.about) h) in cc) c.in-Fault.ensures.grows
+
+pub returns-in-Ok-Complete-end-clause-turn : goal.returns-in-Ok-Complete-end-clause-turn
+returns-in-Ok-Complete-end-clause-turn g c = Turn-ended_whole _ _ _ c.requires.going c.in-End.ensures.stands (λ h. let x = c.if-may_retry.ensures.1 (rw (c.method.ensures, c.is_reused.ensures, ap (λ (l : LineState _). l.is_reused) c.in-End.ensures.grows, ← c.requires.about) h) in cc) _ (c.in-Ok-Complete-end.ensures.ended c.requires.going.more) c.in-Ok-Complete-end.ensures.exact c.in-End.ensures.grows (sym c.in-Ok-Complete-end.field-0-is ∙ c.in-Ok-Complete-end.ensures.stand)
+
+pub returns-in-Ok-Fault-end-clause-turn : goal.returns-in-Ok-Fault-end-clause-turn
+returns-in-Ok-Fault-end-clause-turn g c = Turn-ended_bad _ _ _ c.requires.going c.in-End.ensures.stands (λ h. let x = c.if-may_retry.ensures.1 (rw (c.method.ensures, c.is_reused.ensures, ap (λ (l : LineState _). l.is_reused) c.in-End.ensures.grows, ← c.requires.about) h) in cc) _ (c.in-Ok-Fault-end.ensures.ended c.requires.going.more) c.in-Ok-Fault-end.ensures.exact c.in-End.ensures.grows c.in-Ok-Fault-end.code (sym c.in-Ok-Fault-end.field-0-is ∙ c.in-Ok-Fault-end.ensures.stand)
+
+pub returns-in-Err-end-clause-turn : goal.returns-in-Err-end-clause-turn
+returns-in-Err-end-clause-turn g c = Turn-lost_end _ _ _ c.requires.going c.in-End.ensures.stands (λ h. let x = c.if-may_retry.ensures.1 (rw (c.method.ensures, c.is_reused.ensures, ap (λ (l : LineState _). l.is_reused) c.in-End.ensures.grows, ← c.requires.about) h) in cc) _ c.in-Err-end.ensures.refused c.in-End.ensures.grows

@@ -1,0 +1,62 @@
+use Rattle.std.proofs.Common.{◌∙◌, arith, refl, inl, inr}
+use Rattle.mx_exchange.proofs.Serves.{same_request, Serves-none, Serves-going, Serves-open, Serves-connected, Serves-wrote, Serves-heard, Serves-full, Serve-blocked, Serve-lost, Serve-over}
+use Rattle.mx_exchange.proofs.lines.Line.serve.Goals.{in-Connected, in-Wrote+else-writes-eq-MOST_WRITES, in-Heard+else-reads-eq-MOST_READS}
+use Rattle.mx_exchange.proofs.lines.Line.serve.Goals as goal
+
+pub loop-turn-preserved : goal.loop-turn-preserved
+loop-turn-preserved g c =
+    let i = c.loop-turn.invariant in
+    elim c.match-step.branch [
+      | in-Connected w ↦ record {
+        room = c.step.ensures.room ∙ i.room;
+        reads = rw w.reads-is i.reads;
+        writes = rw w.writes-is i.writes;
+        serves = rw (w.reads-is, w.writes-is) (Serves-connected i.serves _ (rw w.in-Connected.is at c.step.ensures.turn));
+      }
+      | in-Wrote+else-writes-eq-MOST_WRITES w ↦ record {
+        room = c.step.ensures.room ∙ i.room;
+        reads = rw w.reads-is i.reads;
+        writes = rw w.writes-is (omega (arith, i.writes, w.if-writes-eq-MOST_WRITES.false));
+        serves = rw (w.reads-is, w.writes-is) (Serves-wrote i.serves _ (rw w.in-Wrote.is at c.step.ensures.turn));
+      }
+      | in-Heard+else-reads-eq-MOST_READS w ↦ record {
+        room = c.step.ensures.room ∙ i.room;
+        reads = rw w.reads-is (omega (arith, i.reads, w.if-reads-eq-MOST_READS.false));
+        writes = rw w.writes-is i.writes;
+        serves = rw (w.reads-is, w.writes-is) (Serves-heard i.serves _ (rw w.in-Heard.is at c.step.ensures.turn));
+      }
+    ]
+
+pub step-requires-clause-open : goal.step-requires-clause-open
+step-requires-clause-open g c = Serves-open c.loop-turn.invariant.serves c.requires.open
+
+pub step-requires-clause-going : goal.step-requires-clause-going
+step-requires-clause-going g c = Serves-going c.loop-turn.invariant.serves
+
+pub step-requires-clause-about : goal.step-requires-clause-about
+step-requires-clause-about g c = same_request c.loop-turn.invariant.serves ∙ c.requires.about
+
+pub loop-turn-init : goal.loop-turn-init
+loop-turn-init g c = record {
+  room = refl;
+  reads = omega arith;
+  writes = omega arith;
+  serves = Serves-none _ _ c.requires.going;
+}
+
+pub returns-then-writes-eq-MOST_WRITES-clause-turn : goal.returns-then-writes-eq-MOST_WRITES-clause-turn
+returns-then-writes-eq-MOST_WRITES-clause-turn g c =
+    let i = c.loop-turn.invariant in Serves-full (Serves-wrote i.serves _ c.in-Wrote.ensures.turn) (omega (arith, i.reads)) (omega (arith, i.writes)) (inr c.if-writes-eq-MOST_WRITES.true)
+
+pub returns-then-reads-eq-MOST_READS-clause-turn : goal.returns-then-reads-eq-MOST_READS-clause-turn
+returns-then-reads-eq-MOST_READS-clause-turn g c =
+    let i = c.loop-turn.invariant in Serves-full (Serves-heard i.serves _ c.in-Heard.ensures.turn) (omega (arith, i.reads)) (omega (arith, i.writes)) (inl c.if-reads-eq-MOST_READS.true)
+
+pub returns-in-Blocked-clause-turn : goal.returns-in-Blocked-clause-turn
+returns-in-Blocked-clause-turn g c = Serve-blocked c.loop-turn.invariant.serves c.loop-turn.invariant.reads c.loop-turn.invariant.writes _ c.in-Blocked.ensures.turn
+
+pub returns-in-Lost-clause-turn : goal.returns-in-Lost-clause-turn
+returns-in-Lost-clause-turn g c = Serve-lost c.loop-turn.invariant.serves c.loop-turn.invariant.reads c.loop-turn.invariant.writes _ c.in-Lost.ensures.turn
+
+pub returns-in-Over-clause-turn : goal.returns-in-Over-clause-turn
+returns-in-Over-clause-turn g c = Serve-over c.loop-turn.invariant.serves c.loop-turn.invariant.reads c.loop-turn.invariant.writes _ c.in-Over.code c.in-Over.ensures.turn

@@ -1,0 +1,12 @@
+use Rattle.std.proofs.Common.{◌≡◌, ◌<◌, length}
+use Rattle.mx_exchange.specs.Order.{most_read}
+use Rattle.mx_exchange.proofs.Serves.{Serves}
+use Rattle.mx_exchange.proofs.lines.Line.serve.Given as goal
+
+abbrev pub invariant-loop-turn : goal.invariant-loop-turn
+invariant-loop-turn g l = record {
+  room : length l.buffer ≡ most_read;
+  reads : l.reads < 64;
+  writes : l.writes < 64;
+  serves : Serves l.initial.self l.self l.turn l.reads l.writes l.decoder;
+}

@@ -1,0 +1,82 @@
+-- A transfer that goes on, or has ended.
+use Rattle.std.specs.Prelude.{◌≡◌, ℕ, ◌≤◌, Bool, true, false, List, [], length, Option, Some, None, IsSome, IfSome, option_map, unwrap_or}
+use Rattle.mx_types.specs.declared.code.Code.{Code}
+use Rattle.mx_request.specs.Request.{RequestValue}
+use Rattle.mx_link.specs.declared.answers.Answer.{Answer}
+use Rattle.mx_exchange.specs.Lines.{LineState, IsLine, IsGoing, MayHandOut}
+use Rattle.mx_exchange.specs.Transfers.{TransferState, most_received}
+use Rattle.mx_exchange.specs.declared.transfers.stages.Live.{Live}
+use Rattle.mx_exchange.specs.declared.transfers.stages.Ended.{Ended}
+use Rattle.mx_exchange.specs.declared.transfers.stages.Stage.{Stage}
+use Rattle.mx_exchange.specs.declared.transfers.stages.Stage.TheVariants as stage
+
+-- what is told of the link that there is, if there is one
+abbrev pub link_of : {L : Type 0} → Option (LineState L) → Option L
+link_of line = option_map (λ l. l.link) line
+
+abbrev pub attached_of : {L : Type 0} → Option (LineState L) → Option L
+attached_of line = option_map (λ l. l.attached) line
+
+abbrev pub answers_of : {L : Type 0} → Option (LineState L) → List Answer
+answers_of line = unwrap_or (option_map (λ l. l.answers) line) []
+
+abbrev pub reused_of : {L : Type 0} → Option (LineState L) → Bool
+reused_of line = unwrap_or (option_map (λ l. l.is_reused) line) false
+
+abbrev pub probe_of : {L : Type 0} → Option (LineState L) → Bool
+probe_of line = unwrap_or (option_map (λ l. l.needs_probe) line) false
+
+-- the link of a stage, its code, whether the link may be taken, and how many bytes came
+abbrev pub line_of : {L : Type 0} → Stage L → Option (LineState L)
+line_of (stage.Live o) = o.line
+line_of (stage.Ended e) = e.line
+
+abbrev pub code_of : {L : Type 0} → Stage L → Option Code
+code_of (stage.Live o) = None
+code_of (stage.Ended e) = Some e.code
+
+abbrev pub kept_of : {L : Type 0} → Stage L → Bool
+kept_of (stage.Live o) = false
+kept_of (stage.Ended e) = e.is_kept
+
+abbrev pub received_of : {L : Type 0} → Stage L → ℕ
+received_of (stage.Live o) = length o.decoder.wire
+received_of (stage.Ended e) = e.received
+
+-- the transfer, as it goes on with this
+abbrev pub alive : {L : Type 0} → TransferState L → Live L → TransferState L
+alive t o = record t {
+  link = link_of o.line;
+  attached = attached_of o.line;
+  answers = answers_of o.line;
+  is_reused = reused_of o.line;
+  needs_probe = probe_of o.line;
+  code = None;
+  is_kept = false;
+  received = length o.decoder.wire;
+}
+
+-- What is known of a link that serves: it is one of this request, it isn't stale, and it was never in use where only a fresh one is
+-- wanted; no code was given in place of it.
+pub record IsServing {L : Type 0} (history : L → List Answer) (asked : L → List ℕ) (token_of : L → ℕ) (request : RequestValue) (fresh : Bool) (failure : Option Code) (l : LineState L) : Type 0 where
+  pub about : l.request ≡ request
+  pub current : l.is_stale ≡ false
+  pub line : IsLine history asked token_of l
+  pub unreused : fresh ≡ true → l.is_reused ≡ false
+  pub wanted : failure ≡ None
+
+-- what is known of a transfer that goes on
+pub record IsAlive {L : Type 0} (history : L → List Answer) (asked : L → List ℕ) (token_of : L → ℕ) (request : RequestValue) (fresh : Bool) (failure : Option Code) (o : Live L) : Type 0 where
+  pub about : o.request ≡ request
+  pub going : IsGoing request.method (answers_of o.line) o.decoder
+  pub serves : IfSome o.line (IsServing history asked token_of request fresh failure)
+
+-- what is known of one that has ended
+pub record IsEnded {L : Type 0} (history : L → List Answer) (asked : L → List ℕ) (token_of : L → ℕ) (request : RequestValue) (fresh : Bool) (failure : Option Code) (e : Ended L) : Type 0 where
+  pub serves : IfSome e.line (IsServing history asked token_of request fresh failure)
+  pub kept : e.is_kept ≡ true → IfSome e.line MayHandOut
+  pub bounded : e.received ≤ most_received
+
+abbrev pub IsStage : {L : Type 0} → (L → List Answer) → (L → List ℕ) → (L → ℕ) → RequestValue → Bool → Option Code → Stage L → Type 0
+IsStage history asked token_of request fresh failure (stage.Live o) = IsAlive history asked token_of request fresh failure o
+IsStage history asked token_of request fresh failure (stage.Ended e) = IsEnded history asked token_of request fresh failure e

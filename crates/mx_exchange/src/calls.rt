@@ -1,0 +1,192 @@
+//! One turn over a link.
+ghost use Rattle.std.specs.Prelude.{◌≡◌, ◌↔◌, IsTrue, true, false, ◌<◌, [], length};
+ghost use Rattle.mx_exchange.specs.Order.{most_read};
+ghost use Rattle.mx_exchange.specs.Endings.{is_repeated};
+ghost use Rattle.mx_exchange.specs.Lines.{IsLine, IsOpen, IsGoing, StepsTo, ServesTo};
+
+use crate::lines::Line;
+use mx_body::{Decoder, Stand};
+use mx_link::{Connect, Link, Read, Write};
+use mx_request::Request;
+use mx_types::{Code, Method};
+
+/// The most reads in one turn.
+const MOST_READS: usize = 64;
+
+/// The most writes in one turn.
+const MOST_WRITES: usize = 64;
+
+/// The most calls in one turn: 63 reads and 63 writes, one to connect, and the one that ends it.
+const MOST_CALLS: usize = 128;
+
+/// The most bytes of one read.
+const READ_BYTES: usize = 16_384;
+
+/// What one call on a link comes to.
+#[derive(Clone, Copy)]
+pub(crate) enum Step {
+    Connected,
+    Wrote,
+    Heard,
+    Blocked,
+    // It is to be tried again over a fresh link.
+    Lost,
+    Over(Code),
+}
+
+/// What the calls of one turn come to.
+#[derive(Clone, Copy)]
+pub(crate) enum Halt {
+    Blocked,
+    // As many calls were made as one turn may make.
+    Unfinished,
+    // It is to be tried again over a fresh link.
+    Lost,
+    Over(Code),
+}
+
+/// Whether a request of that method is sent again where a reused link is lost before it gave a byte.
+fn may_retry(method: Method, is_reused: bool, decoder: &Decoder) -> bool
+    ensures { IsTrue result ↔ ((is_reused ≡ true) × (is_repeated method ≡ true) × (decoder.now.wire ≡ [])) }
+{
+    if !is_reused || !decoder.wire().is_empty() {
+        return false;
+    }
+    match method {
+        Method::Get => true,
+        Method::Head => true,
+        _ => false,
+    }
+}
+
+impl<L: Link> Line<L> {
+    /// Asks whether the connection stands.
+    fn connect_step(&mut self, decoder: &Decoder) -> Step
+        requires open { IsOpen self.old }
+        requires going { IsGoing self.old.request.method self.old.answers decoder.now }
+        requires unmade { self.old.stands ≡ false }
+        ensures line { IsLine L.history L.asked L.token_of self.new }
+        ensures turn { StepsTo self.old self.new result decoder.now }
+    {
+        match self.connect() {
+            Connect::Done => Step::Connected,
+            Connect::WouldBlock => Step::Blocked,
+            Connect::Fault => Step::Over(Code::CouldntConnect),
+        }
+    }
+
+    /// Writes what the link has not taken.
+    fn write_step(&mut self, request: &Request, decoder: &Decoder) -> Step
+        requires open { IsOpen self.old }
+        requires going { IsGoing self.old.request.method self.old.answers decoder.now }
+        requires about { self.old.request ≡ request.now }
+        requires made { self.old.stands ≡ true }
+        requires unsent { self.old.written < length request.now.bytes }
+        ensures line { IsLine L.history L.asked L.token_of self.new }
+        ensures turn { StepsTo self.old self.new result decoder.now }
+    {
+        match self.write(request) {
+            Write::Bytes(_) => Step::Wrote,
+            Write::WouldBlock => Step::Blocked,
+            Write::Fault => {
+                if may_retry(request.method(), self.is_reused(), decoder) {
+                    return Step::Lost;
+                }
+                Step::Over(Code::SendError)
+            }
+        }
+    }
+
+    /// Reads, and decodes what came.
+    fn read_step(&mut self, request: &Request, decoder: &mut Decoder, buffer: &mut [u8]) -> Step
+        requires open { IsOpen self.old }
+        requires going { IsGoing self.old.request.method self.old.answers decoder.old }
+        requires about { self.old.request ≡ request.now }
+        requires made { self.old.stands ≡ true }
+        requires sent { self.old.written ≡ length request.now.bytes }
+        requires room { length buffer.old ≡ most_read }
+        ensures room { length buffer.new ≡ length buffer.old }
+        ensures line { IsLine L.history L.asked L.token_of self.new }
+        ensures turn { StepsTo self.old self.new result decoder.new }
+    {
+        match self.read(buffer) {
+            Read::Bytes(n) => match decoder.feed(&buffer[..n]) {
+                Ok(Stand::More) => Step::Heard,
+                Ok(Stand::Complete) => Step::Over(Code::Ok),
+                Ok(Stand::Fault(code)) => Step::Over(code),
+                Err(_) => Step::Over(Code::OutOfMemory),
+            },
+            Read::WouldBlock => Step::Blocked,
+            Read::End => {
+                if may_retry(request.method(), self.is_reused(), decoder) {
+                    return Step::Lost;
+                }
+                match decoder.end() {
+                    Ok(Stand::More) => unreachable!(),
+                    Ok(Stand::Complete) => Step::Over(Code::Ok),
+                    Ok(Stand::Fault(code)) => Step::Over(code),
+                    Err(_) => Step::Over(Code::OutOfMemory),
+                }
+            }
+            Read::Fault => {
+                if may_retry(request.method(), self.is_reused(), decoder) {
+                    return Step::Lost;
+                }
+                Step::Over(Code::RecvError)
+            }
+        }
+    }
+
+    /// The one call that comes next.
+    fn step(&mut self, request: &Request, decoder: &mut Decoder, buffer: &mut [u8]) -> Step
+        requires open { IsOpen self.old }
+        requires going { IsGoing self.old.request.method self.old.answers decoder.old }
+        requires about { self.old.request ≡ request.now }
+        requires room { length buffer.old ≡ most_read }
+        ensures room { length buffer.new ≡ length buffer.old }
+        ensures line { IsLine L.history L.asked L.token_of self.new }
+        ensures turn { StepsTo self.old self.new result decoder.new }
+    {
+        if !self.stands() {
+            return self.connect_step(decoder);
+        }
+        if !self.is_sent(request) {
+            return self.write_step(request, decoder);
+        }
+        self.read_step(request, decoder, buffer)
+    }
+
+    /// One turn: it connects, writes the request and reads the response, as far as the link goes.
+    pub(crate) fn serve(&mut self, request: &Request, decoder: &mut Decoder) -> Halt
+        requires open { IsOpen self.old }
+        requires going { IsGoing self.old.request.method self.old.answers decoder.old }
+        requires about { self.old.request ≡ request.now }
+        ensures line { IsLine L.history L.asked L.token_of self.new }
+        ensures turn { ServesTo self.old self.new result decoder.new }
+    {
+        let mut buffer = [0; READ_BYTES];
+        let mut reads = 0;
+        let mut writes = 0;
+        for turn in 0..MOST_CALLS {
+            match self.step(request, decoder, &mut buffer) {
+                Step::Connected => {}
+                Step::Wrote => {
+                    writes += 1;
+                    if writes == MOST_WRITES {
+                        return Halt::Unfinished;
+                    }
+                }
+                Step::Heard => {
+                    reads += 1;
+                    if reads == MOST_READS {
+                        return Halt::Unfinished;
+                    }
+                }
+                Step::Blocked => return Halt::Blocked,
+                Step::Lost => return Halt::Lost,
+                Step::Over(code) => return Halt::Over(code),
+            }
+        }
+        unreachable!()
+    }
+}
