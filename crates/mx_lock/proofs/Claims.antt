@@ -1,6 +1,6 @@
 -- No call but a claim takes work from the queue: what is claimed after it was claimed before.
 use Rattle.std.proofs.Common.{◌≡◌, ◌⊎◌, inl, inr, ⊎_elim, ◌∙◌, sym, refl, ap, subst, List, [], ◌∷◌, ◌++◌, append-nil, Bool, true, false, cond, map}
-use Rattle.std.specs.Prelude.{not, ◌||◌, Option, Some, None}
+use Rattle.std.specs.Prelude.{not, nat_lt, ◌||◌, Option, Some, None}
 use Rattle.std.specs.List.{filter}
 use Rattle.std.specs.Option.{option_to_list}
 use Rattle.std.proofs.lemmas.Bool.{cases_Bool, false≢true, not-true, or_left, or_right}
@@ -16,12 +16,14 @@ use Rattle.mx_types.specs.declared.call.Call.{Call}
 use Rattle.mx_types.specs.declared.call.Call.TheVariants as call
 use Rattle.mx_types.specs.declared.reply.Reply.{Reply}
 use Rattle.mx_types.specs.declared.reply.Reply.TheVariants as reply
+use Rattle.mx_journal.specs.declared.replies.GiveBackReply.{GiveBackReply}
+use Rattle.mx_journal.specs.declared.replies.GiveBackReply.TheVariants as giving
 use Rattle.mx_journal.specs.declared.replies.AddReply.{AddReply}
 use Rattle.mx_journal.specs.declared.replies.AddReply.TheVariants as add
 use Rattle.mx_journal.specs.History.{Addition, Message, Opening, same_ticket, has_ticket, occurs, ends, removes, addition_of, waiting, running, paused, has_room}
 use Rattle.mx_journal.specs.Answers.{Answer, only, answer, read_answer, ticket_of, next_ticket, pausing_answer, Answers}
 use Rattle.mx_journal.specs.Core.{queued, claimed, still_running}
-use Rattle.mx_journal.specs.Replies.{queue_added, reply_of_add}
+use Rattle.mx_journal.specs.Replies.{in_place, queue_given, queue_added, reply_of_add}
 use Rattle.mx_journal.specs.Laws.{then}
 use Rattle.mx_history.proofs.Lists.{has-filter, has-stays}
 use Rattle.mx_history.proofs.Snoc.{occurs-snoc}
@@ -207,3 +209,28 @@ claims_first {Q} j k t work before after same is u h =
     let out : has_ticket u (queued before) ≡ false = ap (λ (l : List (Ticket × Q)). has_ticket u (queued l)) is ∙ ap (λ b. b || has_ticket u (queued after)) n ∙ off in
     or_right _ _ (has-stays u (λ v. not (has_ticket v (queued before))) (running j) runs (ap not out)))
     (cases_Bool (same_ticket u t))
+
+-- 6. Work that is given back.
+
+stays_in_place : {Q : Type 0} (t : Ticket) (work : Q) (queue : List (Ticket × Q)) (u : Ticket) → has_ticket u (queued queue) ≡ true → has_ticket u (queued (in_place t work queue)) ≡ true
+stays_in_place t work [] u h = absurd (false≢true h)
+stays_in_place {Q} t work (x ∷ queue) u h =
+    go (nat_lt x.0.0 t.0)
+    (⊎_elim (λ (here : same_ticket u x.0 ≡ true). or_left _ _ here) (λ (there : has_ticket u (queued queue) ≡ true). or_right _ _ (stays_in_place t work queue u there))
+    (or_split (same_ticket u x.0) (has_ticket u (queued queue)) h))
+  where
+    go : (b : Bool) → has_ticket u (queued (x ∷ in_place t work queue)) ≡ true → has_ticket u (queued (cond b (x ∷ in_place t work queue) ((t, work) ∷ x ∷ queue))) ≡ true
+    go true lower = lower
+    go false lower = or_right _ _ h
+
+pub claims_back : {Q : Type 0} (j k : List Event) (r : GiveBackReply Q) (before after : List (Ticket × Q)) (t : Ticket) (work : Q) → k ≡ j → after ≡ queue_given r before t work → HasNoOther (claimed j before) (claimed k after)
+claims_back {Q} j k r before after t work same is =
+    claimed_by j k before after (λ u runs out. ap (λ l. has_ticket u (running l)) (sym same) ∙ runs)
+    (λ u runs in_. ap (λ (l : List (Ticket × Q)). has_ticket u (queued l)) is ∙ kept r u in_)
+  where
+    kept : (r : GiveBackReply Q) (u : Ticket) → has_ticket u (queued before) ≡ true → has_ticket u (queued (queue_given r before t work)) ≡ true
+    kept giving.Back u h = stays_in_place t work before u h
+    kept (giving.Stale _) u h = h
+
+pub claimed_runs : {Q : Type 0} (t : Ticket) (j : List Event) (queue : List (Ticket × Q)) → has_ticket t (claimed j queue) ≡ true → has_ticket t (running j) ≡ true
+claimed_runs t j queue h = (has-filter t (λ u. not (has_ticket u (queued queue))) (running j) h).0

@@ -3,16 +3,17 @@ ghost use Rattle.std.specs.Prelude.{◌≡◌, ◌≤◌, ◌<◌, ◌∷◌, []
 ghost use Rattle.std.specs.Bool.{OnTrue};
 ghost use Rattle.std.specs.List.{AllByRecursion};
 ghost use mathlib.Core.List.{IsPrefix};
-ghost use Rattle.mx_journal.specs.History.{has_ticket, is_legal, is_maker, made_by};
+ghost use Rattle.mx_journal.specs.History.{has_ticket, is_legal, is_maker, made_by, running};
 ghost use Rattle.mx_journal.specs.Answers.{handle_of, is_ready};
 ghost use Rattle.mx_journal.specs.Core.{claimed, queued};
 ghost use Rattle.mx_journal.specs.Slots.{slot_of};
 ghost use Rattle.mx_journal.specs.Table.{IsTableOf};
 ghost use Rattle.mx_board.specs.Board.{caught_up, mark_of};
-ghost use Rattle.mx_lock.specs.Shared.{IsLocked};
+ghost use Rattle.mx_journal.specs.Replies.{IsGivenBack, is_back, queue_given};
+ghost use Rattle.mx_lock.specs.Shared.{HasNoOther, IsLocked, content};
 
 use mx_board::{BoardReader, BoardWriter, JournalMark, board};
-use mx_journal::{Claim, Control, Table};
+use mx_journal::{Claim, Control, GiveBackReply, Table};
 use mx_types::{Ending, Event, OutOfMemory, Who, Work};
 use std::alloc::Global;
 use std::marker::Model;
@@ -182,5 +183,19 @@ impl<Q: Work + Drop, O: Ending + Drop> Shared<Q, O> {
         ensures slot { IfSome result (λ r. slot_of r.0.ticket self.old.core.journal ≡ Some r.0.slot) }
     {
         self.control.claim()
+    }
+
+    /// Puts claimed work back into the queue, to the place of its ticket; `Stale` hands it back, and changes nothing.
+    pub fn give_back(&mut self, claim: Claim<Q>, work: Q) -> GiveBackReply<Q>
+        requires origin { Q.origin work ≡ claim.origin }
+        ensures journal { (self.new.core.journal ≡ self.old.core.journal) × (self.new.core.opening ≡ self.old.core.opening) × (self.new.book ≡ self.old.book) }
+        ensures endings { self.new.core.endings ≡ self.old.core.endings }
+        ensures back { is_back result ≡ has_ticket claim.ticket (claimed self.old.core.journal self.old.core.queue) }
+        ensures runs { is_back result ≡ true → has_ticket claim.ticket (running self.old.core.journal) ≡ true }
+        ensures queue { self.new.core.queue ≡ queue_given result self.old.core.queue claim.ticket work }
+        ensures handed { IsGivenBack work result }
+        ensures claims { HasNoOther (content self.old).claimed (content self.new).claimed }
+    {
+        self.control.give_back(claim, work)
     }
 }

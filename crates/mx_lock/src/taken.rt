@@ -3,18 +3,19 @@ ghost use Rattle.std.specs.Prelude.{◌≡◌, ◌≤◌, ◌∷◌, [], length,
 ghost use Rattle.std.specs.Bool.{OnTrue};
 ghost use Rattle.std.specs.List.{AllByRecursion};
 ghost use mathlib.Core.List.{IsPrefix};
-ghost use Rattle.mx_journal.specs.History.{has_ticket, is_legal, is_maker, made_by};
+ghost use Rattle.mx_journal.specs.History.{has_ticket, is_legal, is_maker, made_by, running};
 ghost use Rattle.mx_journal.specs.Answers.{handle_of, is_ready};
 ghost use Rattle.mx_journal.specs.Core.{claimed, queued};
+ghost use Rattle.mx_journal.specs.Replies.{IsGivenBack, is_back, queue_given};
 ghost use Rattle.mx_journal.specs.Receipts.{is_poll};
 ghost use Rattle.mx_journal.specs.Slots.{slot_of};
 ghost use Rattle.mx_board.specs.Board.{caught_up};
-ghost use Rattle.mx_lock.specs.Shared.{IsLocked, Leaves, SharedState};
+ghost use Rattle.mx_lock.specs.Shared.{HasNoOther, IsLocked, Leaves, SharedState, content};
 
 use crate::deeds::Deed;
 use crate::shared::Shared;
 use mx_board::BoardReader;
-use mx_journal::Claim;
+use mx_journal::{Claim, GiveBackReply};
 use mx_types::{Ending, Who, Work};
 use std::marker::Model;
 use std::snapshot::Snapshot;
@@ -129,5 +130,19 @@ impl<Q: Work + Drop, O: Ending + Drop> Taken<Q, O> {
         ensures slot { IfSome result (λ r. slot_of r.0.ticket self.old.core.journal ≡ Some r.0.slot) }
     {
         self.shared.claim()
+    }
+
+    /// Puts claimed work back into the queue, to the place of its ticket; `Stale` hands it back, and changes nothing.
+    pub fn give_back(&mut self, claim: Claim<Q>, work: Q) -> GiveBackReply<Q>
+        requires origin { Q.origin work ≡ claim.origin }
+        ensures journal { (self.new.core.journal ≡ self.old.core.journal) × (self.new.core.opening ≡ self.old.core.opening) × (self.new.book ≡ self.old.book) }
+        ensures endings { self.new.core.endings ≡ self.old.core.endings }
+        ensures back { is_back result ≡ has_ticket claim.ticket (claimed self.old.core.journal self.old.core.queue) }
+        ensures runs { is_back result ≡ true → has_ticket claim.ticket (running self.old.core.journal) ≡ true }
+        ensures queue { self.new.core.queue ≡ queue_given result self.old.core.queue claim.ticket work }
+        ensures handed { IsGivenBack work result }
+        ensures claims { HasNoOther (content self.old).claimed (content self.new).claimed }
+    {
+        self.shared.give_back(claim, work)
     }
 }

@@ -234,6 +234,11 @@ module _ {Q O : Type 0} (v w : KeyView) (r : ReaderState) (x : SharedState Q O) 
   pub found_state : (code : O → Code) (size : O → ℕ) (s : SeatView Q O) (y : SharedState Q O) → y ≡ x → s.seen ≡ x.core.journal → s.of.engine ≡ engine_of v → IsLocked code size x → FoundState code size s y
   found_state code size s y same seen engine locked = subst (FoundState code size s) (sym same) (record { journal = sym seen; engine = sym took.engine ∙ sym engine; locked = locked })
 
+  -- the state that was left, by a seat that has then seen its journal
+  pub found_left : (code : O → Code) (size : O → ℕ) (s : SeatView Q O) (y : SharedState Q O) → y.book ≡ x.book → y.core.opening ≡ x.core.opening → y.core.journal ≡ s.seen → s.of.engine ≡ engine_of v → IsLocked code size y → FoundState code size s y
+  found_left code size s y book opening seen engine locked =
+      record { journal = seen; engine = sym (engine_found y book opening) ∙ ap engine_of took.is ∙ sym engine; locked = locked }
+
   -- the key's engine stays
   pub engine_kept : (u : KeyView) (c : SharedState Q O) → u ≡ given w (content c) → engine_of u ≡ engine_of v
   engine_kept u c gave = ap engine_of gave ∙ ap engine_of took.is

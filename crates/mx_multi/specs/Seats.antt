@@ -12,10 +12,12 @@ use Rattle.mx_types.specs.declared.event.Event.{Event}
 use Rattle.mx_types.specs.declared.call.Call.{Call}
 use Rattle.mx_types.specs.declared.call.Receipt.{Receipt}
 use Rattle.mx_types.specs.declared.reply.Reply.{Reply}
-use Rattle.mx_journal.specs.History.{is_legal, made_by}
+use Rattle.mx_journal.specs.History.{has_ticket, is_legal, made_by}
 use Rattle.mx_journal.specs.Answers.{Answers, is_ready}
 use Rattle.mx_journal.specs.Receipts.{is_poll, mark, IsPlaced}
-use Rattle.mx_journal.specs.Core.{queued}
+use Rattle.mx_journal.specs.declared.replies.GiveBackReply.{GiveBackReply}
+use Rattle.mx_journal.specs.Replies.{is_back, queue_given}
+use Rattle.mx_journal.specs.Core.{claimed, queued}
 use Rattle.mx_board.specs.Board.{ReaderState, ConfirmsAllButLast}
 use Rattle.mx_board.specs.Progress.{NoteState}
 use Rattle.mx_lock.specs.Shared.{SharedState, Engine, IsLocked, content}
@@ -126,6 +128,17 @@ pub record ClaimsLeast {Q O : Type 0} (code : O → Code) (size : O → ℕ) (s 
   pub rest : List (Ticket × Q)
   pub first : found.core.queue ≡ (ticket, work) ∷ rest
   pub least : AllByRecursion (λ u. ticket.0 ≤ u.0) (queued found.core.queue)
+
+-- Work was given back: where its ticket ran and wasn't queued, it stands at its place by ticket in the queue that was left.
+-- Else the queue was left as it was found
+pub record GivesBack {Q O : Type 0} (code : O → Code) (size : O → ℕ) (s : SeatView Q O) (ticket : Ticket) (work : Q) (reply : GiveBackReply Q) : Type 0 where
+  pub found : SharedState Q O
+  pub is : FoundState code size s found
+  pub back : is_back reply ≡ has_ticket ticket (claimed found.core.journal found.core.queue)
+  pub after : SharedState Q O
+  pub left : FoundState code size s after
+  pub queue : after.core.queue ≡ queue_given reply found.core.queue ticket work
+  pub endings : after.core.endings ≡ found.core.endings
 
 -- the queue that was found there was empty
 pub record ClaimsNothing {Q O : Type 0} (code : O → Code) (size : O → ℕ) (s : SeatView Q O) : Type 0 where

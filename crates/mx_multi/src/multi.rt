@@ -5,14 +5,16 @@ ghost use Rattle.mx_types.specs.declared.reply.Reply.{Reply};
 ghost use Rattle.mx_journal.specs.History.{has_ticket, running};
 ghost use Rattle.mx_journal.specs.Answers.{handle_of};
 ghost use Rattle.mx_journal.specs.Slots.{slot_of};
-ghost use Rattle.mx_journal.specs.Replies.{handed_back, work_back, IsHandedBack, reply_of_add, reply_of_finish, reply_of_info, reply_of_pause, reply_of_remove, reply_of_wakeup};
+ghost use Rattle.mx_journal.specs.Replies.{IsGivenBack, is_back, handed_back, work_back, IsHandedBack, reply_of_add, reply_of_finish, reply_of_info, reply_of_pause, reply_of_remove, reply_of_wakeup};
 ghost use Rattle.mx_board.specs.Board.{AreOfOneJournal, OneBeginsOther};
 ghost use Rattle.mx_lock.specs.Shared.{SharedState};
-ghost use Rattle.mx_multi.specs.Seats.{Stands, Sees, FoundState, ClaimsLeast, ClaimsNothing, ClaimsOnly};
+ghost use Rattle.mx_multi.specs.Seats.{Stands, Sees, FoundState, GivesBack, ClaimsLeast, ClaimsNothing, ClaimsOnly};
 
 use crate::seat::{Seat, WorkerSeat};
 use mx_board::{JournalMark, ProgressTable, are_of_one_journal};
-use mx_journal::{AddReply, Claim, FinishReply, InfoReply, PauseReply, RemoveReply, WakeupReply};
+use mx_journal::{
+    AddReply, Claim, FinishReply, GiveBackReply, InfoReply, PauseReply, RemoveReply, WakeupReply,
+};
 use mx_lock::{
     Addition, Deed, Finishing, Lock, Pausing, Reading, Removal, Shared, Unpausing, Waking,
 };
@@ -451,5 +453,52 @@ impl<Q: Work + Drop, O: Ending + Drop> Multi<Q, O> {
             }
         }
         unreachable!()
+    }
+
+    // Puts claimed work back.
+    pub(crate) fn give_back_at<R: Wait>(
+        &self,
+        rt: &R,
+        seat: &mut Seat<Q, O>,
+        claim: Claim<Q>,
+        work: Q,
+    ) -> Result<GiveBackReply<Q>, WrongSeat<(Claim<Q>, Q)>>
+        requires own { seat.old.of ≡ self.now }
+        requires origin { Q.origin work ≡ claim.origin }
+        ensures sees { MatchResult result (λ r. Sees seat.old seat.new) (λ w. (seat.new ≡ seat.old) × (w.0 ≡ (claim, work))) }
+        ensures back { IfOk result (λ r. IsGivenBack work r) }
+        ensures runs { IfOk result (λ r. is_back r ≡ true → has_ticket claim.ticket (running seat.new.seen) ≡ true) }
+        ensures queue { IfOk result (λ r. GivesBack O.code_of O.size_of seat.new claim.ticket work r) }
+        ensures claims { seat.new.claims ≡ seat.old.claims }
+    {
+        let Some(mut taken) = self.lock.enter(rt, &mut seat.key, &seat.reader) else {
+            return Err(WrongSeat((claim, work)));
+        };
+        let _known = taken.know();
+        let _cut = taken.len();
+        let reply = taken.give_back(claim, work);
+        let _left = taken.know();
+        self.lock.leave(rt, &mut seat.key, taken, &mut seat.reader);
+        Ok(reply)
+    }
+
+    /// Gives claimed work back, by a worker's seat: to its place by ticket in the queue. `Stale` hands the work back, where the
+    /// ticket doesn't run any more, or is queued. `WrongSeat` hands back claim and work, and nothing changes.
+    pub fn give_back<R: Wait>(
+        &self,
+        rt: &R,
+        worker: &mut WorkerSeat<Q, O>,
+        claim: Claim<Q>,
+        work: Q,
+    ) -> Result<GiveBackReply<Q>, WrongSeat<(Claim<Q>, Q)>>
+        requires own { worker.old.of ≡ self.now }
+        requires origin { Q.origin work ≡ claim.origin }
+        ensures sees { MatchResult result (λ r. Sees worker.old worker.new) (λ w. (worker.new ≡ worker.old) × (w.0 ≡ (claim, work))) }
+        ensures back { IfOk result (λ r. IsGivenBack work r) }
+        ensures runs { IfOk result (λ r. is_back r ≡ true → has_ticket claim.ticket (running worker.new.seen) ≡ true) }
+        ensures queue { IfOk result (λ r. GivesBack O.code_of O.size_of worker.new claim.ticket work r) }
+        ensures claims { worker.new.claims ≡ worker.old.claims }
+    {
+        self.give_back_at(rt, &mut worker.seat, claim, work)
     }
 }
