@@ -41,7 +41,7 @@ first_off false b h = refl
 
 -- 1. What runs after an event ran before it, or was added by it.
 
-abbrev MadeBy : Who → Option What → List Event
+abbrev pub MadeBy : Who → Option What → List Event
 MadeBy w o = map (λ e. record { who = w; what = e }) (option_to_list o)
 
 abbrev AddedBy : What → List Ticket
@@ -149,11 +149,11 @@ claims_running {Q} opening w c j r k before after a other is =
 
 -- 4. An addition.
 
-abbrev is_added : Reply → Bool
+abbrev pub is_added : Reply → Bool
 is_added (reply.Added _) = true
 is_added _ = false
 
-abbrev adding : HandleId → Ticket → Option Ticket → Bool → Bool → Answer
+abbrev pub adding : HandleId → Ticket → Option Ticket → Bool → Bool → Answer
 adding h n o full room =
     elim o as (λ _. Answer) [
       | Some _ ↦ only reply.AddedAlready
@@ -166,7 +166,7 @@ no_event h n None true room e = tt
 no_event h n None false true e = absurd (false≢true (sym e))
 no_event h n None false false e = tt
 
-its_event : (h : HandleId) (n : Ticket) (o : Option Ticket) (full room : Bool) (t : Ticket) → reply.Added t ≡ (adding h n o full room).0 → (adding h n o full room).1 ≡ Some (what.Added h t)
+pub its_event : (h : HandleId) (n : Ticket) (o : Option Ticket) (full room : Bool) (t : Ticket) → reply.Added t ≡ (adding h n o full room).0 → (adding h n o full room).1 ≡ Some (what.Added h t)
 its_event h n (Some u) full room t e = absurd (false≢true (sym (ap is_added e)))
 its_event h n None true room t e = absurd (false≢true (sym (ap is_added e)))
 its_event h n None false true t e = let same : n ≡ t = cc in ap (λ x. Some (what.Added h x)) same

@@ -13,6 +13,7 @@ use Rattle.mx_journal.specs.Laws.{HasAtMostOneMore}
 use Rattle.mx_history.proofs.Placing.{call_adds_at_most_one}
 use Rattle.mx_board.specs.Board.{name_of}
 use Rattle.mx_lock.specs.Shared.{SharedState, content, HasNoOther, Leaves}
+use Rattle.mx_lock.specs.Ties.{TieState}
 
 drop_all : (j rest : List Event) → drop (length j) (j ++ rest) ≡ rest
 drop_all [] rest = refl
@@ -31,14 +32,15 @@ log_is opening w call reply j k old new a e l =
 book_is : (a b : Book) → name_of a ≡ name_of b → a ≡ b
 book_is a b e = ap (λ (l : List ℕ). record { number = slice_index l 0; log_name = slice_index l 1; cells_name = slice_index l 2 }) e
 
-pub leaves_by : {Q O : Type 0} (who : Who) (call : Call) (reply : Reply) (x y : SharedState Q O) (a b : Core Q O) (m n : Book) (p q : List Event) → record { core = a; published = p; book = m } ≡ x → y ≡ record { core = b; published = q; book = n }
-    → Answers a.opening who call a.journal reply b.journal → b.opening ≡ a.opening → name_of n ≡ name_of m → is_legal y.core.journal ≡ true → HasNoOther (claimed a.journal a.queue) (claimed b.journal b.queue) → Leaves who call x reply y
-leaves_by {Q} {O} who call reply x y a b m n p q before after ans opening name legal claims =
+pub leaves_by : {Q O : Type 0} (who : Who) (call : Call) (reply : Reply) (x y : SharedState Q O) (a b : Core Q O) (m n : Book) (p q : List Event) (s t : TieState) → record { core = a; published = p; book = m; ties = s } ≡ x → y ≡ record { core = b; published = q; book = n; ties = t }
+    → Answers a.opening who call a.journal reply b.journal → b.opening ≡ a.opening → name_of n ≡ name_of m → t.book ≡ s.book → is_legal y.core.journal ≡ true → HasNoOther (claimed a.journal a.queue) (claimed b.journal b.queue) → Leaves who call x reply y
+leaves_by {Q} {O} who call reply x y a b m n p q s t before after ans opening name list legal claims =
     subst (λ (z : SharedState Q O). Leaves who call z reply y) before
     (record {
       answers = subst (λ (z : SharedState Q O). Answers a.opening who call a.journal reply z.core.journal) (sym after) ans;
       opening = ap (λ (z : SharedState Q O). z.core.opening) after ∙ opening;
       book = ap (λ (z : SharedState Q O). z.book) after ∙ book_is n m name;
+      ties = ap (λ (z : SharedState Q O). z.ties.book) after ∙ list;
       legal = legal;
       claims = subst (λ (z : SharedState Q O). HasNoOther (claimed a.journal a.queue) (content z).claimed) (sym after) claims;
     })

@@ -1,4 +1,7 @@
+pub mod Joining
 pub mod Keys
 pub mod Leaving
 pub mod Claims
+pub mod Made
+pub mod Tying
 pub mod Sends

@@ -1,2 +1,3 @@
 pub mod Lock
 pub mod Shared
+pub mod Ties

@@ -5,6 +5,7 @@ use mathlib.Core.Option.{some}
 use mathlib.Core.List.{IsPrefix}
 use lib.ListN.{get_elem?}
 use Rattle.atomic_table.specs.Seated.{TableId}
+use Rattle.logbook.specs.Pages.{Book}
 use Rattle.atomic_table.specs.declared.badge.Badge.{Badge}
 use Rattle.crossbeam_channel.specs.declared.flavors.array.Key.{Key}
 use Rattle.crossbeam_channel.specs.Claims.{Pass}
@@ -14,6 +15,7 @@ use Rattle.mx_types.specs.declared.names.Ticket.{Ticket}
 use Rattle.mx_journal.specs.History.{has_ticket, made_by}
 use Rattle.mx_lock.specs.Shared.{Engine, Content}
 use Rattle.mx_lock.specs.declared.key_view.KeyView.{KeyView}
+use Rattle.mx_lock.specs.declared.key_view.BookName.{BookName}
 use Rattle.mx_lock.specs.declared.key_view.EngineName.{EngineName}
 
 -- which lock it is: the table of its keys, and what they have in common
@@ -30,17 +32,26 @@ abbrev pub maker : ℕ → Who
 maker zero = who.Seat 16
 maker (suc k) = if nat_lt k 16 then who.Seat k else who.Worker (k - 16)
 
+abbrev pub book_name : Book → BookName
+book_name b = record { number = b.number; log_name = b.log_name; cells_name = b.cells_name }
+
+abbrev pub book_named : BookName → Book
+book_named n = record { number = n.number; log_name = n.log_name; cells_name = n.cells_name }
+
+abbrev pub no_book : BookName
+no_book = record { number = 0; log_name = 0; cells_name = 0 }
+
 abbrev pub name_of : Engine → EngineName
-name_of e = record { number = e.book.number; log_name = e.book.log_name; cells_name = e.book.cells_name; history = e.opening.history }
+name_of e = record { journal = book_name e.book; ties = book_name e.ties; history = e.opening.history }
 
 abbrev pub named : EngineName → Engine
-named n = record { book = record { number = n.number; log_name = n.log_name; cells_name = n.cells_name }; opening = record { history = n.history } }
+named n = record { book = book_named n.journal; opening = record { history = n.history }; ties = book_named n.ties }
 
 abbrev pub engine_of : KeyView → Engine
 engine_of v = named v.engine
 
 abbrev pub no_name : EngineName
-no_name = record { number = 0; log_name = 0; cells_name = 0; history = 0 }
+no_name = record { journal = no_book; ties = no_book; history = 0 }
 
 abbrev pub first_key : KeyView
 first_key = record { number = 0; next = 1; told = false; engine = no_name; holding = true; held = []; found = []; seen = []; claims = [] }

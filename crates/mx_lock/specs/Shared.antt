@@ -10,17 +10,21 @@ use Rattle.mx_types.specs.declared.reply.Reply.{Reply}
 use Rattle.mx_journal.specs.Answers.{Answers}
 use Rattle.mx_journal.specs.Core.{Core, IsSound, claimed}
 use Rattle.mx_types.specs.declared.code.Code.{Code}
+use Rattle.mx_lock.specs.Ties.{TieState}
 
--- the control state, the journal of the version that is published, and which journal it is
+-- the control state, the journal of the version that is published, which journal it is, and of which requests additions, work
+-- given back and ends are
 pub record SharedState (Q O : Type 0) : Type 0 where
   pub core : Core Q O
   pub published : List Event
   pub book : Book
+  pub ties : TieState
 
--- which engine it is: its journal, and what it was opened with
+-- which engine it is: its journal, what it was opened with, and its list of ties
 pub record Engine : Type 0 where
   pub book : Book
   pub opening : Opening
+  pub ties : Book
 
 -- what the rule of the lock sees of it: the journal, which engine it is, and the tickets that run and don't wait for a worker
 pub record Content : Type 0 where
@@ -29,7 +33,7 @@ pub record Content : Type 0 where
   pub claimed : List Ticket
 
 abbrev pub content : {Q O : Type 0} → SharedState Q O → Content
-content x = record { journal = x.core.journal; engine = record { book = x.book; opening = x.core.opening }; claimed = claimed x.core.journal x.core.queue }
+content x = record { journal = x.core.journal; engine = record { book = x.book; opening = x.core.opening; ties = x.ties.book }; claimed = claimed x.core.journal x.core.queue }
 
 -- what holds of everything that lies in the lock: its control state is sound, and the version that is published is that of its journal
 pub record IsLocked {Q O : Type 0} (code : O → Code) (size : O → ℕ) (x : SharedState Q O) : Type 0 where
@@ -46,6 +50,7 @@ pub record Leaves {Q O : Type 0} (who : Who) (call : Call) (x : SharedState Q O)
   pub answers : Answers x.core.opening who call x.core.journal reply y.core.journal
   pub opening : y.core.opening ≡ x.core.opening
   pub book : y.book ≡ x.book
+  pub ties : y.ties.book ≡ x.ties.book
   pub legal : is_legal y.core.journal ≡ true
   pub claims : HasNoOther (content x).claimed (content y).claimed
 
@@ -54,4 +59,5 @@ pub record IsLeft {Q O : Type 0} (x y : SharedState Q O) : Type 0 where
   pub journal : y.core.journal ≡ x.core.journal
   pub opening : y.core.opening ≡ x.core.opening
   pub book : y.book ≡ x.book
+  pub ties : y.ties.book ≡ x.ties.book
   pub legal : is_legal y.core.journal ≡ true

@@ -5,15 +5,19 @@ ghost use Rattle.mx_types.specs.declared.reply.Reply.{Reply};
 ghost use Rattle.mx_journal.specs.History.{is_maker};
 ghost use Rattle.mx_journal.specs.Receipts.{is_poll};
 ghost use Rattle.mx_journal.specs.Replies.{handed_back, work_back, IsHandedBack, reply_of_add, reply_of_finish, reply_of_info, reply_of_pause, reply_of_remove, reply_of_wakeup};
+ghost use Rattle.std.specs.Prelude.{Option};
+ghost use Rattle.mx_lock.specs.declared.ties.Tie.{Tie};
 ghost use Rattle.mx_lock.specs.Shared.{Leaves, SharedState};
+ghost use Rattle.mx_lock.specs.Ties.{Tells, tie_added, tie_finished, tie_read};
 
 use crate::shared::Shared;
 use mx_journal::{AddReply, Claim, FinishReply, InfoReply, PauseReply, RemoveReply, WakeupReply};
 use mx_types::{Ending, HandleId, Who, Work};
+use std::snapshot::Snapshot;
 use std::sync::Wait;
 
 /// A call that is made under the lock, at an engine of type `E`: which call of the history it is, what its answer stands
-/// for, and what comes back.
+/// for, what comes back, and of which request the answer tells that a ticket's addition or end is.
 pub trait Deed<E, Q, O> {
     type Reply;
 
@@ -25,11 +29,14 @@ pub trait Deed<E, Q, O> {
 
     ghost back: { Self → Self.Reply → Type 0 };
 
+    ghost tie: { Self → Self.Reply → Option Tie };
+
     /// Makes the call for a maker.
     fn run<R: Wait>(self, rt: &R, engine: E, who: Who) -> (E, Self::Reply)
         requires { is_maker who ≡ true }
         ensures leaves { Leaves who (call self) (state engine) (reply result.1) (state result.0) }
         ensures back { back self result.1 }
+        ensures tells { Tells (tie self result.1) (state result.0).ties.ties }
         ensures quiet { is_poll (call self) ≡ false };
 
     /// Whether those that poll are to be told.
@@ -47,6 +54,7 @@ impl<Q: Work + Drop, O: Ending + Drop> Deed<Shared<Q, O>, Q, O> for Addition<Q> 
     ghost use Rattle.std.specs.Prelude.{◌≡◌};
     ghost use Rattle.mx_types.specs.declared.call.Call.TheVariants as call_of;
     ghost use Rattle.mx_journal.specs.Replies.{handed_back, reply_of_add, work_back};
+    ghost use Rattle.mx_lock.specs.Ties.{tie_added};
 
     type Reply = AddReply<Q>;
 
@@ -58,18 +66,24 @@ impl<Q: Work + Drop, O: Ending + Drop> Deed<Shared<Q, O>, Q, O> for Addition<Q> 
 
     ghost back = { λ d r. handed_back r ≡ work_back r d.work };
 
+    ghost tie = { λ d r. tie_added r (Q.origin d.work) };
+
     fn run<R: Wait>(self, rt: &R, engine: Shared<Q, O>, who: Who) -> (Shared<Q, O>, AddReply<Q>)
         requires { is_maker who ≡ true }
         ensures leaves { Leaves who (Call.Add self.handle) engine (reply_of_add result.1) result.0 }
         ensures back { handed_back result.1 ≡ work_back result.1 self.work }
+        ensures tells { Tells (tie_added result.1 (Q.origin self.work)) result.0.ties.ties }
         ensures quiet { is_poll (Call.Add self.handle) ≡ false }
     {
         let Shared {
             mut control,
             mut board,
+            mut ties,
         } = engine;
+        let added = Snapshot::of(&self.work);
         let reply = control.add(&mut board, who, self.handle, self.work);
-        (Shared::publish(rt, control, board), reply)
+        ties.tie_addition(rt, &reply, added);
+        (Shared::publish(rt, control, board, ties), reply)
     }
 
     fn wakes(_answer: &AddReply<Q>) -> bool {
@@ -82,6 +96,7 @@ impl<Q: Work + Drop, O: Ending + Drop> Deed<Shared<Q, O>, Q, O> for Addition<Q> 
 pub struct Removal(pub HandleId);
 
 impl<Q: Work + Drop, O: Ending + Drop> Deed<Shared<Q, O>, Q, O> for Removal {
+    ghost use Rattle.std.specs.Prelude.{None};
     ghost use Rattle.mx_types.specs.declared.call.Call.TheVariants as call_of;
     ghost use Rattle.mx_journal.specs.Replies.{reply_of_remove};
 
@@ -95,18 +110,22 @@ impl<Q: Work + Drop, O: Ending + Drop> Deed<Shared<Q, O>, Q, O> for Removal {
 
     ghost back = { λ d r. Unit {0} };
 
+    ghost tie = { λ d r. None };
+
     fn run<R: Wait>(self, rt: &R, engine: Shared<Q, O>, who: Who) -> (Shared<Q, O>, RemoveReply)
         requires { is_maker who ≡ true }
         ensures leaves { Leaves who (Call.Remove self.0) engine (reply_of_remove result.1) result.0 }
         ensures back { Unit {0} }
+        ensures tells { Unit {0} }
         ensures quiet { is_poll (Call.Remove self.0) ≡ false }
     {
         let Shared {
             mut control,
             mut board,
+            ties,
         } = engine;
         let reply = control.remove(&mut board, who, self.0);
-        (Shared::publish(rt, control, board), reply)
+        (Shared::publish(rt, control, board, ties), reply)
     }
 
     fn wakes(_answer: &RemoveReply) -> bool {
@@ -119,6 +138,7 @@ impl<Q: Work + Drop, O: Ending + Drop> Deed<Shared<Q, O>, Q, O> for Removal {
 pub struct Pausing(pub HandleId);
 
 impl<Q: Work + Drop, O: Ending + Drop> Deed<Shared<Q, O>, Q, O> for Pausing {
+    ghost use Rattle.std.specs.Prelude.{None};
     ghost use Rattle.mx_types.specs.declared.call.Call.TheVariants as call_of;
     ghost use Rattle.mx_journal.specs.Replies.{reply_of_pause};
 
@@ -132,18 +152,22 @@ impl<Q: Work + Drop, O: Ending + Drop> Deed<Shared<Q, O>, Q, O> for Pausing {
 
     ghost back = { λ d r. Unit {0} };
 
+    ghost tie = { λ d r. None };
+
     fn run<R: Wait>(self, rt: &R, engine: Shared<Q, O>, who: Who) -> (Shared<Q, O>, PauseReply)
         requires { is_maker who ≡ true }
         ensures leaves { Leaves who (Call.Pause self.0) engine (reply_of_pause result.1) result.0 }
         ensures back { Unit {0} }
+        ensures tells { Unit {0} }
         ensures quiet { is_poll (Call.Pause self.0) ≡ false }
     {
         let Shared {
             mut control,
             mut board,
+            ties,
         } = engine;
         let reply = control.pause(&mut board, who, self.0);
-        (Shared::publish(rt, control, board), reply)
+        (Shared::publish(rt, control, board, ties), reply)
     }
 
     fn wakes(_answer: &PauseReply) -> bool {
@@ -156,6 +180,7 @@ impl<Q: Work + Drop, O: Ending + Drop> Deed<Shared<Q, O>, Q, O> for Pausing {
 pub struct Unpausing(pub HandleId);
 
 impl<Q: Work + Drop, O: Ending + Drop> Deed<Shared<Q, O>, Q, O> for Unpausing {
+    ghost use Rattle.std.specs.Prelude.{None};
     ghost use Rattle.mx_types.specs.declared.call.Call.TheVariants as call_of;
     ghost use Rattle.mx_journal.specs.Replies.{reply_of_pause};
 
@@ -169,18 +194,22 @@ impl<Q: Work + Drop, O: Ending + Drop> Deed<Shared<Q, O>, Q, O> for Unpausing {
 
     ghost back = { λ d r. Unit {0} };
 
+    ghost tie = { λ d r. None };
+
     fn run<R: Wait>(self, rt: &R, engine: Shared<Q, O>, who: Who) -> (Shared<Q, O>, PauseReply)
         requires { is_maker who ≡ true }
         ensures leaves { Leaves who (Call.Unpause self.0) engine (reply_of_pause result.1) result.0 }
         ensures back { Unit {0} }
+        ensures tells { Unit {0} }
         ensures quiet { is_poll (Call.Unpause self.0) ≡ false }
     {
         let Shared {
             mut control,
             mut board,
+            ties,
         } = engine;
         let reply = control.unpause(&mut board, who, self.0);
-        (Shared::publish(rt, control, board), reply)
+        (Shared::publish(rt, control, board, ties), reply)
     }
 
     fn wakes(_answer: &PauseReply) -> bool {
@@ -195,6 +224,7 @@ pub struct Reading;
 impl<Q: Work + Drop, O: Ending + Drop> Deed<Shared<Q, O>, Q, O> for Reading {
     ghost use Rattle.mx_types.specs.declared.call.Call.TheVariants as call_of;
     ghost use Rattle.mx_journal.specs.Replies.{reply_of_info};
+    ghost use Rattle.mx_lock.specs.Ties.{tie_read};
 
     type Reply = InfoReply<O>;
 
@@ -206,18 +236,22 @@ impl<Q: Work + Drop, O: Ending + Drop> Deed<Shared<Q, O>, Q, O> for Reading {
 
     ghost back = { λ d r. Unit {0} };
 
+    ghost tie = { λ d r. tie_read O.origin r };
+
     fn run<R: Wait>(self, rt: &R, engine: Shared<Q, O>, who: Who) -> (Shared<Q, O>, InfoReply<O>)
         requires { is_maker who ≡ true }
         ensures leaves { Leaves who Call.InfoRead engine (reply_of_info O.code_of O.size_of result.1) result.0 }
         ensures back { Unit {0} }
+        ensures tells { Tells (tie_read O.origin result.1) result.0.ties.ties }
         ensures quiet { is_poll Call.InfoRead ≡ false }
     {
         let Shared {
             mut control,
             mut board,
+            ties,
         } = engine;
         let reply = control.info_read(&mut board, who);
-        (Shared::publish(rt, control, board), reply)
+        (Shared::publish(rt, control, board, ties), reply)
     }
 
     fn wakes(_answer: &InfoReply<O>) -> bool {
@@ -230,6 +264,7 @@ impl<Q: Work + Drop, O: Ending + Drop> Deed<Shared<Q, O>, Q, O> for Reading {
 pub struct Waking;
 
 impl<Q: Work + Drop, O: Ending + Drop> Deed<Shared<Q, O>, Q, O> for Waking {
+    ghost use Rattle.std.specs.Prelude.{None};
     ghost use Rattle.mx_types.specs.declared.call.Call.TheVariants as call_of;
     ghost use Rattle.mx_journal.specs.Replies.{reply_of_wakeup};
 
@@ -243,18 +278,22 @@ impl<Q: Work + Drop, O: Ending + Drop> Deed<Shared<Q, O>, Q, O> for Waking {
 
     ghost back = { λ d r. Unit {0} };
 
+    ghost tie = { λ d r. None };
+
     fn run<R: Wait>(self, rt: &R, engine: Shared<Q, O>, who: Who) -> (Shared<Q, O>, WakeupReply)
         requires { is_maker who ≡ true }
         ensures leaves { Leaves who Call.Wakeup engine (reply_of_wakeup result.1) result.0 }
         ensures back { Unit {0} }
+        ensures tells { Unit {0} }
         ensures quiet { is_poll Call.Wakeup ≡ false }
     {
         let Shared {
             mut control,
             mut board,
+            ties,
         } = engine;
         let reply = control.wakeup(&mut board, who);
-        (Shared::publish(rt, control, board), reply)
+        (Shared::publish(rt, control, board, ties), reply)
     }
 
     fn wakes(answer: &WakeupReply) -> bool {
@@ -273,6 +312,7 @@ pub struct Finishing<Q: Work, O: Ending> {
 impl<Q: Work + Drop, O: Ending + Drop> Deed<Shared<Q, O>, Q, O> for Finishing<Q, O> {
     ghost use Rattle.mx_types.specs.declared.call.Call.TheVariants as call_of;
     ghost use Rattle.mx_journal.specs.Replies.{IsHandedBack, reply_of_finish};
+    ghost use Rattle.mx_lock.specs.Ties.{tie_finished};
 
     type Reply = FinishReply<Q, O>;
 
@@ -284,6 +324,8 @@ impl<Q: Work + Drop, O: Ending + Drop> Deed<Shared<Q, O>, Q, O> for Finishing<Q,
 
     ghost back = { λ d r. IsHandedBack d.claim d.ending r };
 
+    ghost tie = { λ d r. tie_finished r d.claim.ticket (O.origin d.ending) };
+
     fn run<R: Wait>(
         self,
         rt: &R,
@@ -293,15 +335,20 @@ impl<Q: Work + Drop, O: Ending + Drop> Deed<Shared<Q, O>, Q, O> for Finishing<Q,
         requires { is_maker who ≡ true }
         ensures leaves { Leaves who (Call.Finish self.claim.ticket (O.code_of self.ending) (O.size_of self.ending)) engine (reply_of_finish result.1) result.0 }
         ensures back { IsHandedBack self.claim self.ending result.1 }
+        ensures tells { Tells (tie_finished result.1 self.claim.ticket (O.origin self.ending)) result.0.ties.ties }
         ensures quiet { is_poll (Call.Finish self.claim.ticket (O.code_of self.ending) (O.size_of self.ending)) ≡ false }
     {
         let Finishing { claim, ending } = self;
         let Shared {
             mut control,
             mut board,
+            mut ties,
         } = engine;
+        let ticket = claim.ticket();
+        let ended = Snapshot::of(&ending);
         let reply = control.finish(&mut board, who, claim, ending);
-        (Shared::publish(rt, control, board), reply)
+        ties.tie_end(rt, &reply, ticket, ended);
+        (Shared::publish(rt, control, board, ties), reply)
     }
 
     fn wakes(answer: &FinishReply<Q, O>) -> bool {

@@ -1,11 +1,17 @@
 use mx_types::{Event, Ticket};
 use std::collections::LinkedList;
 
-/// Which engine. No value of it is made.
-pub struct EngineName {
+/// Which list that only grows. No value of it is made.
+pub struct BookName {
     pub number: u64,
     pub log_name: u64,
     pub cells_name: u64,
+}
+
+/// Which engine: its journal, its list of ties, and what it was opened with. No value of it is made.
+pub struct EngineName {
+    pub journal: BookName,
+    pub ties: BookName,
     pub history: u64,
 }
 

@@ -8,9 +8,11 @@ mod lock;
 mod rule;
 mod shared;
 mod taken;
+mod ties;
 
 pub use crate::deeds::{Addition, Deed, Finishing, Pausing, Reading, Removal, Unpausing, Waking};
-pub use crate::key_view::{EngineName, KeyView};
+pub use crate::key_view::{BookName, EngineName, KeyView};
 pub use crate::lock::{Key, Lock};
 pub use crate::shared::Shared;
 pub use crate::taken::Taken;
+pub use crate::ties::{Tie, TieLog, TieMark, Tied};

@@ -11,6 +11,7 @@ use crate::key_view::KeyView;
 use crate::rule::{Founds, Gives, LockRule, NewKey, PutsBack, Takes};
 use crate::shared::Shared;
 use crate::taken::Taken;
+use crate::ties::TieMark;
 use crossbeam_channel::{Pass, RuledReceiver, RuledSender, bounded_with};
 use mx_board::BoardReader;
 use mx_types::{Ending, OutOfMemory, Work};
@@ -162,13 +163,14 @@ impl<Q: Work + Drop, O: Ending + Drop> Lock<Q, O> {
         None
     }
 
-    /// Gives the engine back, and brings the reader up to its journal.
+    /// Gives the engine back, brings the reader up to its journal, and tells the mark all ties.
     pub fn leave<R: Wait>(
         &self,
         rt: &R,
         key: &mut Key<Q, O>,
         taken: Taken<Q, O>,
         reader: &mut BoardReader,
+        ties: &mut TieMark,
     )
         requires own { IsKeyOf self.now key.old }
         requires held { ((view key.old).holding ≡ true) × ((view key.old).told ≡ true) }
@@ -176,12 +178,15 @@ impl<Q: Work + Drop, O: Ending + Drop> Lock<Q, O> {
         requires grows { HasAtMostOneMore (maker (view key.old).number) (view key.old).held (content taken).journal }
         requires begins { IsPrefix reader.old.seen taken.core.journal }
         requires book { reader.old.book ≡ taken.book }
+        requires ties { taken.ties.book ≡ ties.old.book }
         ensures kept { IsKeyOf self.now key.new }
+        ensures told { (ties.new.book ≡ ties.old.book) × IsPrefix ties.old.ties ties.new.ties × IsPrefix taken.ties.ties ties.new.ties }
         ensures gave { view key.new ≡ given (view key.old) (content taken) }
         ensures reader { reader.new ≡ caught_up reader.old.who taken.core.journal taken.book }
     {
         let mut shared = taken.into_shared();
         shared.refresh(reader);
+        shared.tell(ties);
         self.give(rt, key, shared);
     }
 

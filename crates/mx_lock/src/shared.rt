@@ -11,30 +11,36 @@ ghost use Rattle.mx_journal.specs.Table.{IsTableOf};
 ghost use Rattle.mx_board.specs.Board.{caught_up, mark_of};
 ghost use Rattle.mx_journal.specs.Replies.{IsGivenBack, is_back, queue_given};
 ghost use Rattle.mx_lock.specs.Shared.{HasNoOther, IsLocked, content};
+ghost use Rattle.mx_lock.specs.Ties.{IsClaimOf, IsTied, TellsGiven};
 
+use crate::ties::{TieLog, TieMark};
 use mx_board::{BoardReader, BoardWriter, JournalMark, board};
 use mx_journal::{Claim, Control, GiveBackReply, Table};
 use mx_types::{Ending, Event, OutOfMemory, Who, Work};
 use std::alloc::Global;
 use std::marker::Model;
+use std::snapshot::Snapshot;
 use std::sync::Wait;
 
-/// The control state, and the board. The published version is always that of the control state's journal.
+/// The control state, and the board. The published version is always that of the control state's journal. Beside the journal
+/// stands of which request each addition, each giving back and each end is, for contracts alone.
 #[derive(Drop)]
 pub struct Shared<Q: Work + Drop, O: Ending + Drop> {
     pub(crate) control: Control<Q, O>,
     pub(crate) board: BoardWriter,
+    pub(crate) ties: TieLog,
 }
 
 impl<Q: Work + Drop, O: Ending + Drop> Model for Shared<Q, O> {
     ghost use Rattle.std.specs.Prelude.{◌≡◌};
     ghost use Rattle.mx_lock.specs.Shared.{SharedState};
+    ghost use Rattle.mx_lock.specs.Ties.{IsTied};
 
     ghost Value = { SharedState Q O };
 
-    ghost view = { λ s. record { core = s.control; published = s.board.published; book = s.board.book } };
+    ghost view = { λ s. record { core = s.control; published = s.board.published; book = s.board.book; ties = s.ties } };
 
-    ghost invariant = { λ s. (s.board.events ≡ s.control.journal) × (s.board.published ≡ s.control.journal) };
+    ghost invariant = { λ s. (s.board.events ≡ s.control.journal) × (s.board.published ≡ s.control.journal) × IsTied Q.origin O.origin s.control s.ties.ties };
 }
 
 impl<Q: Work + Drop, O: Ending + Drop> Shared<Q, O> {
@@ -47,11 +53,15 @@ impl<Q: Work + Drop, O: Ending + Drop> Shared<Q, O> {
     ) -> Result<Shared<Q, O>, OutOfMemory>
         requires history { (4 ≤ history) × (history ≤ 1048576) }
         requires readers { (0 < readers) × (readers < 65) }
-        ensures { IfOk result (λ s. (s.core.journal ≡ []) × (s.core.opening ≡ record { history = history })) }
+        ensures { IfOk result (λ s. (s.core.journal ≡ []) × (s.core.opening ≡ record { history = history }) × (s.ties.ties ≡ [])) }
     {
         let control = Control::new(alloc, history)?;
         let board = board(rt, alloc, readers)?;
-        Ok(Shared { control, board })
+        Ok(Shared {
+            control,
+            board,
+            ties: TieLog::new(),
+        })
     }
 
     // Publishes what a call has left.
@@ -59,15 +69,17 @@ impl<Q: Work + Drop, O: Ending + Drop> Shared<Q, O> {
         rt: &R,
         control: Control<Q, O>,
         board: BoardWriter,
+        ties: TieLog,
     ) -> Shared<Q, O>
-        requires { board.events ≡ control.journal }
-        ensures is { result ≡ record { core = control; published = control.journal; book = board.book } }
+        requires { (board.events ≡ control.journal) × IsTied Q.origin O.origin control ties.ties }
+        ensures is { result ≡ record { core = control; published = control.journal; book = board.book; ties = ties } }
         ensures legal { is_legal result.core.journal ≡ true }
     {
         control.sound();
         Shared {
             board: board.publish(rt),
             control,
+            ties,
         }
     }
 
@@ -93,6 +105,25 @@ impl<Q: Work + Drop, O: Ending + Drop> Shared<Q, O> {
     {
         let _ = &self.control;
         self.board.mark()
+    }
+
+    /// A mark of all ties.
+    pub fn tie_mark(&self) -> TieMark
+        ensures { result ≡ self.now.ties }
+    {
+        let _ = &self.control;
+        self.ties.mark()
+    }
+
+    /// Tells a mark all ties.
+    pub fn tell(&self, mark: &mut TieMark)
+        requires { self.now.ties.book ≡ mark.old.book }
+        ensures book { mark.new.book ≡ mark.old.book }
+        ensures grown { IsPrefix mark.old.ties mark.new.ties }
+        ensures all { IsPrefix self.now.ties.ties mark.new.ties }
+    {
+        let _ = &self.control;
+        mark.learn(&self.ties)
     }
 
     /// The event at a place of the journal.
@@ -165,7 +196,11 @@ impl<Q: Work + Drop, O: Ending + Drop> Shared<Q, O> {
     /// Ends the board: it waits for the readers that read, and gives the memory of both copies back. The control state goes
     /// with its queue and its endings.
     pub fn close<R: Wait>(self, rt: &R) {
-        let Shared { control, board } = self;
+        let Shared {
+            control,
+            board,
+            ties: _ties,
+        } = self;
         let _table = board.close(rt);
         let _control = control;
     }
@@ -173,7 +208,9 @@ impl<Q: Work + Drop, O: Ending + Drop> Shared<Q, O> {
     /// Takes the work of the lowest ticket in the queue.
     pub fn claim(&mut self) -> Option<(Claim<Q>, Q)>
         ensures journal { (self.new.core.journal ≡ self.old.core.journal) × (self.new.core.opening ≡ self.old.core.opening) × (self.new.book ≡ self.old.book) }
+        ensures ties { self.new.ties ≡ self.old.ties }
         ensures origin { IfSome result (λ r. r.0.origin ≡ Q.origin r.1) }
+        ensures request { IfSome result (λ r. IsClaimOf self.new.ties.ties r.0.ticket r.0.origin) }
         ensures endings { self.new.core.endings ≡ self.old.core.endings }
         ensures none { IfNone result ((self.old.core.queue ≡ []) × (self.new.core.queue ≡ [])) }
         ensures some { IfSome result (λ r. self.old.core.queue ≡ (r.0.ticket, r.1) ∷ self.new.core.queue) }
@@ -186,9 +223,11 @@ impl<Q: Work + Drop, O: Ending + Drop> Shared<Q, O> {
     }
 
     /// Puts claimed work back into the queue, to the place of its ticket; `Stale` hands it back, and changes nothing.
-    pub fn give_back(&mut self, claim: Claim<Q>, work: Q) -> GiveBackReply<Q>
+    pub fn give_back<R: Wait>(&mut self, rt: &R, claim: Claim<Q>, work: Q) -> GiveBackReply<Q>
         requires origin { Q.origin work ≡ claim.origin }
         ensures journal { (self.new.core.journal ≡ self.old.core.journal) × (self.new.core.opening ≡ self.old.core.opening) × (self.new.book ≡ self.old.book) }
+        ensures ties { self.new.ties.book ≡ self.old.ties.book }
+        ensures tells { TellsGiven result claim.ticket claim.origin self.new.ties.ties }
         ensures endings { self.new.core.endings ≡ self.old.core.endings }
         ensures back { is_back result ≡ has_ticket claim.ticket (claimed self.old.core.journal self.old.core.queue) }
         ensures runs { is_back result ≡ true → has_ticket claim.ticket (running self.old.core.journal) ≡ true }
@@ -196,6 +235,10 @@ impl<Q: Work + Drop, O: Ending + Drop> Shared<Q, O> {
         ensures handed { IsGivenBack work result }
         ensures claims { HasNoOther (content self.old).claimed (content self.new).claimed }
     {
-        self.control.give_back(claim, work)
+        let ticket = claim.ticket();
+        let given = Snapshot::of(&work);
+        let reply = self.control.give_back(claim, work);
+        self.ties.tie_giving(rt, &reply, ticket, given);
+        reply
     }
 }

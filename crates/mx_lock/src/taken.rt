@@ -11,9 +11,11 @@ ghost use Rattle.mx_journal.specs.Receipts.{is_poll};
 ghost use Rattle.mx_journal.specs.Slots.{slot_of};
 ghost use Rattle.mx_board.specs.Board.{caught_up};
 ghost use Rattle.mx_lock.specs.Shared.{HasNoOther, IsLocked, Leaves, SharedState, content};
+ghost use Rattle.mx_lock.specs.Ties.{IsClaimOf, Tells, TellsGiven};
 
 use crate::deeds::Deed;
 use crate::shared::Shared;
+use crate::ties::TieMark;
 use mx_board::BoardReader;
 use mx_journal::{Claim, GiveBackReply};
 use mx_types::{Ending, Who, Work};
@@ -60,6 +62,7 @@ impl<Q: Work + Drop, O: Ending + Drop> Taken<Q, O> {
         requires state { (x : SharedState Q O) → D.state x ≡ x }
         ensures leaves { Leaves who (D.call deed) self (D.reply result.1) result.0 }
         ensures back { D.back deed result.1 }
+        ensures tells { Tells (D.tie deed result.1) result.0.ties.ties }
         ensures quiet { is_poll (D.call deed) ≡ false }
     {
         let Taken { shared } = self;
@@ -118,10 +121,22 @@ impl<Q: Work + Drop, O: Ending + Drop> Taken<Q, O> {
         self.shared.refresh(reader)
     }
 
+    /// Tells a mark all ties.
+    pub fn tell(&self, mark: &mut TieMark)
+        requires { self.now.ties.book ≡ mark.old.book }
+        ensures book { mark.new.book ≡ mark.old.book }
+        ensures grown { IsPrefix mark.old.ties mark.new.ties }
+        ensures all { IsPrefix self.now.ties.ties mark.new.ties }
+    {
+        self.shared.tell(mark)
+    }
+
     /// Takes the work of the lowest ticket in the queue.
     pub fn claim(&mut self) -> Option<(Claim<Q>, Q)>
         ensures journal { (self.new.core.journal ≡ self.old.core.journal) × (self.new.core.opening ≡ self.old.core.opening) × (self.new.book ≡ self.old.book) }
+        ensures ties { self.new.ties ≡ self.old.ties }
         ensures origin { IfSome result (λ r. r.0.origin ≡ Q.origin r.1) }
+        ensures request { IfSome result (λ r. IsClaimOf self.new.ties.ties r.0.ticket r.0.origin) }
         ensures none { IfNone result ((self.old.core.queue ≡ []) × (self.new.core.queue ≡ [])) }
         ensures some { IfSome result (λ r. self.old.core.queue ≡ (r.0.ticket, r.1) ∷ self.new.core.queue) }
         ensures claimed { IfSome result (λ r. has_ticket r.0.ticket (claimed self.new.core.journal self.new.core.queue) ≡ true) }
@@ -133,9 +148,11 @@ impl<Q: Work + Drop, O: Ending + Drop> Taken<Q, O> {
     }
 
     /// Puts claimed work back into the queue, to the place of its ticket; `Stale` hands it back, and changes nothing.
-    pub fn give_back(&mut self, claim: Claim<Q>, work: Q) -> GiveBackReply<Q>
+    pub fn give_back<R: Wait>(&mut self, rt: &R, claim: Claim<Q>, work: Q) -> GiveBackReply<Q>
         requires origin { Q.origin work ≡ claim.origin }
         ensures journal { (self.new.core.journal ≡ self.old.core.journal) × (self.new.core.opening ≡ self.old.core.opening) × (self.new.book ≡ self.old.book) }
+        ensures ties { self.new.ties.book ≡ self.old.ties.book }
+        ensures tells { TellsGiven result claim.ticket claim.origin self.new.ties.ties }
         ensures endings { self.new.core.endings ≡ self.old.core.endings }
         ensures back { is_back result ≡ has_ticket claim.ticket (claimed self.old.core.journal self.old.core.queue) }
         ensures runs { is_back result ≡ true → has_ticket claim.ticket (running self.old.core.journal) ≡ true }
@@ -143,6 +160,6 @@ impl<Q: Work + Drop, O: Ending + Drop> Taken<Q, O> {
         ensures handed { IsGivenBack work result }
         ensures claims { HasNoOther (content self.old).claimed (content self.new).claimed }
     {
-        self.shared.give_back(claim, work)
+        self.shared.give_back(rt, claim, work)
     }
 }

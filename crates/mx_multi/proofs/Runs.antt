@@ -12,7 +12,7 @@ use Rattle.mx_multi.specs.Seats.{MultiView, SeatView, HasReceipts, Stands, Sees,
 use Rattle.mx_multi.specs.Laws.{call_of, RanScript}
 
 pub later_none : {Q O : Type 0} (s : SeatView Q O) → Later s s []
-later_none s = record { of = refl; who = refl; later = prefix_self s.seen; legal = λ l. l; placed = λ mine h. subst (HasReceipts s) (sym (append-nil mine)) h }
+later_none s = record { of = refl; who = refl; later = prefix_self s.seen; ties = prefix_self s.ties; legal = λ l. l; placed = λ mine h. subst (HasReceipts s) (sym (append-nil mine)) h }
 
 -- one call more
 pub later_more : {Q O : Type 0} (s t u : SeatView Q O) (more : List Receipt) (call : Call) (reply : Reply) → Later s t more → Stands t u call reply → Later s u (more ++ record { cut = length u.seen; call = call; reply = reply } ∷ [])
@@ -22,6 +22,7 @@ later_more s t u more call reply r h =
       of = h.of ∙ r.of;
       who = h.who ∙ r.who;
       later = prefix_trans s.seen t.seen u.seen r.later h.later;
+      ties = prefix_trans s.ties t.ties u.ties r.ties h.ties;
       legal = λ _. h.legal;
       placed = λ mine p. subst (HasReceipts u) (append_assoc mine more (new ∷ [])) (h.placed (mine ++ more) (r.placed mine p));
     }
@@ -32,6 +33,7 @@ later_sees s t u more r h = record {
   of = h.of ∙ r.of;
   who = h.who ∙ r.who;
   later = prefix_trans s.seen t.seen u.seen r.later h.found.later;
+  ties = prefix_trans s.ties t.ties u.ties r.ties h.ties;
   legal = λ _. h.legal;
   placed = λ mine p. h.placed (mine ++ more) (r.placed mine p);
 }

@@ -12,6 +12,7 @@ use Rattle.mx_board.proofs.reader.BoardReader.TheSendSync.{the_send as reader_se
 use Rattle.mx_board.proofs.progress.NoteSeat.TheSendSync.{the_send as notes_send}
 use Rattle.mx_board.proofs.progress.ProgressTable.TheSendSync.{the_sync as words_sync}
 use Rattle.mx_lock.proofs.Sends.{shared_send, lock_sync}
+use Rattle.mx_lock.proofs.ties.TieMark.TheSendSync.{the_send as tie_send, the_sync as tie_sync}
 use Rattle.mx_multi.specs.contracts.seat.Seat as Seat
 use Rattle.mx_multi.specs.contracts.seat.Seat.TheInside as SeatInside
 use Rattle.mx_multi.specs.contracts.multi.Multi as Multi
@@ -22,7 +23,7 @@ use Rattle.mx_types.specs.declared.work.Ending as ending
 seat_inside : (Q O : RattleType) (g : work.Ghosts Q.Denot) (h : ending.Ghosts O.Denot) → IsSend Q → IsSend O → IsSend (SeatInside.the_field Q O g h).row
 seat_inside Q O g h q o =
     let s = shared_send Q O g h q o in
-    struct_send (shape (SeatInside.the_type Q O g h)) (search (chair_send, badge_send, key_send, doing_send, sendable, crosses) depth 40 fits 20000, (reader_send, (search (sendable, crosses) depth 40, (notes_send, tt))))
+    struct_send (shape (SeatInside.the_type Q O g h)) (search (chair_send, badge_send, key_send, doing_send, sendable, crosses) depth 40 fits 20000, (reader_send, (search (sendable, crosses) depth 40, (notes_send, (tie_send, tt)))))
 
 pub seat_send : (Q O : RattleType) (g : work.Ghosts Q.Denot) (h : ending.Ghosts O.Denot) → IsSend Q → IsSend O → IsSend (Seat.the_row Q O g h)
 seat_send Q O g h q o =
@@ -32,7 +33,7 @@ seat_send Q O g h q o =
 multi_inside : (Q O : RattleType) (g : work.Ghosts Q.Denot) (h : ending.Ghosts O.Denot) → IsSend Q → IsSend O → IsSync (MultiInside.the_field Q O g h).row
 multi_inside Q O g h q o = struct_sync (shape (MultiInside.the_type Q O g h)) (
   lock_sync Q O g h q o,
-  (mark_sync, (words_sync, (search (sendable, crosses) depth 40, (search (sendable, crosses) depth 40, (search (sendable, crosses) depth 40, (search (sendable, crosses) depth 40, tt)))))),
+  (mark_sync, (tie_sync, (words_sync, (search (sendable, crosses) depth 40, (search (sendable, crosses) depth 40, (search (sendable, crosses) depth 40, (search (sendable, crosses) depth 40, tt))))))),
 )
 
 pub multi_sync : (Q O : RattleType) (g : work.Ghosts Q.Denot) (h : ending.Ghosts O.Denot) → IsSend Q → IsSend O → IsSync (Multi.the_row Q O g h)

@@ -1,8 +1,10 @@
 -- What a call says of its seat.
-use Rattle.std.proofs.Common.{◌≡◌, inl, ℕ, ◌∙◌, sym, refl, ap, subst, List, [], ◌∷◌, ◌+◌, ◌≤◌, ◌++◌, append-nil, length, length-append, Bool, true, false, cond, arith}
-use Rattle.std.specs.Prelude.{not, ◌||◌}
+use Rattle.std.proofs.Common.{◌≡◌, inl, inr, ℕ, ◌∙◌, sym, refl, ap, subst, List, [], ◌∷◌, ◌+◌, ◌≤◌, ◌++◌, append-nil, length, length-append, Bool, true, false, cond, arith}
+use Rattle.std.specs.Prelude.{not, ◌||◌, Option, Some, None}
 use Rattle.std.specs.List.{AllByRecursion, filter}
+use Rattle.std.specs.Option.{unwrap_or}
 use mathlib.Core.List.{IsPrefix}
+use Rattle.logbook.specs.Pages.{Book}
 use Rattle.std.proofs.lemmas.Bool.{false≢true, or_left, or_right}
 use Rattle.std.proofs.lemmas.List.Sums.{fold-append}
 use Rattle.mx_types.specs.declared.code.Code.{Code}
@@ -31,6 +33,14 @@ use Rattle.mx_multi.specs.declared.progress.Progress.{Progress}
 use Rattle.mx_multi.specs.Progress.{IsProgress}
 use Rattle.mx_types.specs.declared.names.HandleId.{HandleId}
 use Rattle.mx_lock.specs.declared.key_view.KeyView.{KeyView}
+use Rattle.mx_lock.specs.declared.ties.Tie.{Tie}
+use Rattle.mx_journal.specs.declared.replies.GiveBackReply.{GiveBackReply}
+use Rattle.mx_journal.specs.declared.replies.GiveBackReply.TheVariants as giving
+use Rattle.mx_lock.specs.declared.ties.Tied.TheVariants as tied
+use Rattle.mx_lock.specs.declared.ties.Tied.{Tied}
+use Rattle.mx_lock.specs.Ties.{AreOfOneList, tie, Has, Tells, TellsGiven, WasGiven, IsClaimOf}
+use Rattle.mx_multi.specs.Laws.{AreToldAlike, IsOfItsAddition}
+use Rattle.mx_lock.proofs.Tying.{has_more, claim_more, given_more}
 use Rattle.mx_lock.proofs.Keys.{longer}
 
 -- 1. Of seats as values.
@@ -44,8 +54,8 @@ mark_more mine call reply n = fold-append (λ m (r : Receipt). cond (is_poll r.c
 
 module _ {Q O : Type 0} where
   pub stands_at : (s t : SeatView Q O) (j : List Event) (call : Call) (reply : Reply) → t.of ≡ s.of → t.who ≡ s.who → Finds s j → Answers s.of.engine.opening s.who call j reply t.seen → is_legal t.seen ≡ true
-      → Confirms s t → t.claims ≡ s.claims → t.words ≡ s.words → t.polled ≡ polled_after call (length t.seen) s.polled → (is_poll call ≡ true → is_ready s.polled t.seen ≡ true) → Stands s t call reply
-  stands_at s t j call reply same who f a legal confirmed claims words at ready =
+      → Confirms s t → t.claims ≡ s.claims → t.words ≡ s.words → IsPrefix s.ties t.ties → t.polled ≡ polled_after call (length t.seen) s.polled → (is_poll call ≡ true → is_ready s.polled t.seen ≡ true) → Stands s t call reply
+  stands_at s t j call reply same who f a legal confirmed claims words ties at ready =
       let new : Receipt = record { cut = length t.seen; call = call; reply = reply } in
       record {
         of = same;
@@ -56,6 +66,7 @@ module _ {Q O : Type 0} where
         confirmed = confirmed;
         claims = claims;
         words = words;
+        ties = ties;
         polled = at;
         ready = ready;
         placed = λ mine h. record {
@@ -66,13 +77,14 @@ module _ {Q O : Type 0} where
         };
       }
 
-  pub sees_at : (s t : SeatView Q O) → t.of ≡ s.of → t.who ≡ s.who → Finds s t.seen → is_legal t.seen ≡ true → t.polled ≡ s.polled → t.confirmed ≡ length t.seen → t.words ≡ s.words → Sees s t
-  sees_at s t same who f legal polled confirmed words = record {
+  pub sees_at : (s t : SeatView Q O) → t.of ≡ s.of → t.who ≡ s.who → Finds s t.seen → is_legal t.seen ≡ true → t.polled ≡ s.polled → t.confirmed ≡ length t.seen → t.words ≡ s.words → IsPrefix s.ties t.ties → Sees s t
+  sees_at s t same who f legal polled confirmed words ties = record {
     of = same;
     who = who;
     polled = polled;
     confirmed = confirmed;
     words = words;
+    ties = ties;
     found = f;
     legal = legal;
     placed = λ mine h. record {
@@ -113,8 +125,8 @@ all_confirmed j = (omega arith, omega arith)
 
 module _ {Q O : Type 0} where
   -- the seat of a key and a reader
-  abbrev pub seat_of : MultiView Q O → KeyView → ReaderState → ℕ → NoteState → SeatView Q O
-  seat_of of v r p n = record { of = of; who = r.who; seen = r.seen; confirmed = r.confirmed; polled = p; claims = v.claims; words = n }
+  abbrev pub seat_of : MultiView Q O → KeyView → ReaderState → ℕ → NoteState → List Tie → SeatView Q O
+  seat_of of v r p n k = record { of = of; who = r.who; seen = r.seen; confirmed = r.confirmed; polled = p; claims = v.claims; words = n; ties = k }
 
   -- a reader that has seen the whole journal
   abbrev pub at_end : Who → SharedState Q O → ReaderState
@@ -134,19 +146,19 @@ only_new t p (u ∷ after) h = go (p u) refl (only_new t p after (λ x k q. h x 
 -- the engine that a key took, before anything was done
 module _ {Q O : Type 0} (v w : KeyView) (r : ReaderState) (x : SharedState Q O) (seat : IsSeat v r) (took : Took content v x w) where
   -- the journal that was found
-  pub finds : (of : MultiView Q O) (p : ℕ) (n : NoteState) → IsPrefix r.seen x.core.journal → Finds (seat_of of v r p n) x.core.journal
-  finds of p n pre =
+  pub finds : (of : MultiView Q O) (p : ℕ) (n : NoteState) (k : List Tie) → IsPrefix r.seen x.core.journal → Finds (seat_of of v r p n k) x.core.journal
+  finds of p n k pre =
       let own : made_by r.who x.core.journal ≡ made_by r.who v.seen = subst (λ m. made_by m x.core.journal ≡ made_by m v.seen) seat.who took.own in
       record { later = pre; own = own ∙ sym seat.own }
 
   pub book_found : r.book ≡ x.book
   book_found = seat.book ∙ ap (λ (e : Engine). e.book) took.engine
 
-  pub engine_found : (y : SharedState Q O) → y.book ≡ x.book → y.core.opening ≡ x.core.opening → engine_of w ≡ (content y).engine
-  engine_found y book opening = ap engine_of took.is ∙ took.engine ∙ sym (engine_is y book opening)
+  pub engine_found : (y : SharedState Q O) → y.book ≡ x.book → y.core.opening ≡ x.core.opening → y.ties.book ≡ x.ties.book → engine_of w ≡ (content y).engine
+  engine_found y book opening ties = ap engine_of took.is ∙ took.engine ∙ sym (engine_is y book opening ties)
     where
-      engine_is : (y : SharedState Q O) → y.book ≡ x.book → y.core.opening ≡ x.core.opening → (content y).engine ≡ (content x).engine
-      engine_is y b o i = record { book = b i; opening = o i }
+      engine_is : (y : SharedState Q O) → y.book ≡ x.book → y.core.opening ≡ x.core.opening → y.ties.book ≡ x.ties.book → (content y).engine ≡ (content x).engine
+      engine_is y b o t i = record { book = b i; opening = o i; ties = t i }
 
   pub grows_by : (y : SharedState Q O) (by : Who) (call : Call) (reply : Reply) → by ≡ r.who → Leaves by call x reply y → HasAtMostOneMore (maker w.number) w.held y.core.journal
   grows_by y by call reply is leaves =
@@ -192,8 +204,8 @@ module _ {Q O : Type 0} (v w : KeyView) (r : ReaderState) (x : SharedState Q O) 
     claims_after none =
         claims_are ∙ ap (λ l. v.claims ++ l) (none_new (content x).claimed (λ s. not (has_ticket s (content x).claimed)) (content y).claimed (λ s k. ap not (none s k))) ∙ append-nil v.claims
 
-    pub claims_only : (of of' : MultiView Q O) (p q : ℕ) (n : NoteState) (ticket : Ticket) → HasNoOther (ticket ∷ (content x).claimed) (content y).claimed → ClaimsOnly (seat_of of v r p n) (seat_of of' u t q n) ticket
-    claims_only of of' p q n ticket none = record {
+    pub claims_only : (of of' : MultiView Q O) (p q : ℕ) (n : NoteState) (k l : List Tie) (ticket : Ticket) → HasNoOther (ticket ∷ (content x).claimed) (content y).claimed → ClaimsOnly (seat_of of v r p n k) (seat_of of' u t q n l) ticket
+    claims_only of of' p q n k l ticket none = record {
       more = newly (content x).claimed (content y).claimed;
       claims = claims_are;
       only = only_new ticket (λ s. not (has_ticket s (content x).claimed)) (content y).claimed (λ s k n. first s (same_ticket s ticket) refl n (none s k));
@@ -204,47 +216,57 @@ module _ {Q O : Type 0} (v w : KeyView) (r : ReaderState) (x : SharedState Q O) 
         first s false is n k = absurd (false≢true (sym (ap not (sym (ap (λ b. b || has_ticket s (content x).claimed) is) ∙ k)) ∙ n))
 
     -- all is confirmed then
-    confirms : (of of' : MultiView Q O) (p q : ℕ) (n : NoteState) → IsPrefix r.seen y.core.journal → Confirms (seat_of of v r p n) (seat_of of' u t q n)
-    confirms of of' p q n pre =
+    confirms : (of of' : MultiView Q O) (p q : ℕ) (n : NoteState) (k l : List Tie) → IsPrefix r.seen y.core.journal → Confirms (seat_of of v r p n k) (seat_of of' u t q n l)
+    confirms of of' p q n k l pre =
         let at : t.confirmed ≡ length t.seen = ap (λ (z : ReaderState). z.confirmed) got ∙ ap length (sym (ap (λ (z : ReaderState). z.seen) got)) in
         let long = prefix_length r.seen y.core.journal pre in
         let seen : length t.seen ≡ length y.core.journal = ap (λ (z : ReaderState). length z.seen) got in
         let was = seat.but_last.0 in
         record { more = omega (arith, at, long, seen, was); within = omega (arith, at); but_last = omega (arith, at) }
 
-    pub lock_stands : (of of' : MultiView Q O) (p q : ℕ) (n : NoteState) (by : Who) (call : Call) (reply : Reply) → of.engine ≡ engine_of v → of' ≡ of → by ≡ r.who → IsPrefix r.seen x.core.journal → Leaves by call x reply y
-        → q ≡ polled_after call (length y.core.journal) p → (is_poll call ≡ true → is_ready p y.core.journal ≡ true) → Stands (seat_of of v r p n) (seat_of of' u t q n) call reply
-    lock_stands of of' p q n by call reply engine same is pre leaves at ready =
+    pub lock_stands : (of of' : MultiView Q O) (p q : ℕ) (n : NoteState) (k l : List Tie) (by : Who) (call : Call) (reply : Reply) → IsPrefix k l → of.engine ≡ engine_of v → of' ≡ of → by ≡ r.who → IsPrefix r.seen x.core.journal → Leaves by call x reply y
+        → q ≡ polled_after call (length y.core.journal) p → (is_poll call ≡ true → is_ready p y.core.journal ≡ true) → Stands (seat_of of v r p n k) (seat_of of' u t q n l) call reply
+    lock_stands of of' p q n k l by call reply ties engine same is pre leaves at ready =
         let opening : x.core.opening ≡ of.engine.opening = ap (λ (e : Engine). e.opening) (sym (engine ∙ took.engine)) in
         let a = subst (λ o. Answers o by call x.core.journal reply y.core.journal) opening leaves.answers in
         let b = subst (λ m. Answers of.engine.opening m call x.core.journal reply y.core.journal) is a in
         let seen : t.seen ≡ y.core.journal = ap (λ (z : ReaderState). z.seen) got in
-        stands_at (seat_of of v r p n) (seat_of of' u t q n) x.core.journal call reply same (ap (λ (z : ReaderState). z.who) got) (finds of p n pre)
-        (subst (λ l. Answers of.engine.opening r.who call x.core.journal reply l) (sym seen) b) (ap is_legal seen ∙ leaves.legal)
-        (confirms of of' p q n (begins_by y by call reply leaves pre)) (claims_after leaves.claims) refl
-        (at ∙ ap (λ l. polled_after call (length l) p) (sym seen)) (λ poll. ap (is_ready p) seen ∙ ready poll)
+        stands_at (seat_of of v r p n k) (seat_of of' u t q n l) x.core.journal call reply same (ap (λ (z : ReaderState). z.who) got) (finds of p n k pre)
+        (subst (λ z. Answers of.engine.opening r.who call x.core.journal reply z) (sym seen) b) (ap is_legal seen ∙ leaves.legal)
+        (confirms of of' p q n k l (begins_by y by call reply leaves pre)) (claims_after leaves.claims) refl ties
+        (at ∙ ap (λ z. polled_after call (length z) p) (sym seen)) (λ poll. ap (is_ready p) seen ∙ ready poll)
 
-    pub lock_sees : (of of' : MultiView Q O) (p : ℕ) (n : NoteState) → of' ≡ of → IsPrefix r.seen x.core.journal → IsLeft x y → Sees (seat_of of v r p n) (seat_of of' u t p n)
-    lock_sees of of' p n same pre left =
+    pub lock_sees : (of of' : MultiView Q O) (p : ℕ) (n : NoteState) (k l : List Tie) → IsPrefix k l → of' ≡ of → IsPrefix r.seen x.core.journal → IsLeft x y → Sees (seat_of of v r p n k) (seat_of of' u t p n l)
+    lock_sees of of' p n k l ties same pre left =
         let seen : t.seen ≡ x.core.journal = ap (λ (z : ReaderState). z.seen) got ∙ left.journal in
-        sees_at (seat_of of v r p n) (seat_of of' u t p n) same (ap (λ (z : ReaderState). z.who) got) (subst (Finds (seat_of of v r p n)) (sym seen) (finds of p n pre)) (ap is_legal (ap (λ (z : ReaderState). z.seen) got) ∙ left.legal) refl
-        (ap (λ (z : ReaderState). z.confirmed) got ∙ ap length (sym (ap (λ (z : ReaderState). z.seen) got))) refl
+        sees_at (seat_of of v r p n k) (seat_of of' u t p n l) same (ap (λ (z : ReaderState). z.who) got) (subst (Finds (seat_of of v r p n k)) (sym seen) (finds of p n k pre)) (ap is_legal (ap (λ (z : ReaderState). z.seen) got) ∙ left.legal) refl
+        (ap (λ (z : ReaderState). z.confirmed) got ∙ ap length (sym (ap (λ (z : ReaderState). z.seen) got))) refl ties
 
   -- the state that was found, by a seat that has then seen its journal
   pub found_state : (code : O → Code) (size : O → ℕ) (s : SeatView Q O) (y : SharedState Q O) → y ≡ x → s.seen ≡ x.core.journal → s.of.engine ≡ engine_of v → IsLocked code size x → FoundState code size s y
   found_state code size s y same seen engine locked = subst (FoundState code size s) (sym same) (record { journal = sym seen; engine = sym took.engine ∙ sym engine; locked = locked })
 
   -- the state that was left, by a seat that has then seen its journal
-  pub found_left : (code : O → Code) (size : O → ℕ) (s : SeatView Q O) (y : SharedState Q O) → y.book ≡ x.book → y.core.opening ≡ x.core.opening → y.core.journal ≡ s.seen → s.of.engine ≡ engine_of v → IsLocked code size y → FoundState code size s y
-  found_left code size s y book opening seen engine locked =
-      record { journal = seen; engine = sym (engine_found y book opening) ∙ ap engine_of took.is ∙ sym engine; locked = locked }
+  pub found_left : (code : O → Code) (size : O → ℕ) (s : SeatView Q O) (y : SharedState Q O) → y.book ≡ x.book → y.core.opening ≡ x.core.opening → y.ties.book ≡ x.ties.book → y.core.journal ≡ s.seen → s.of.engine ≡ engine_of v → IsLocked code size y → FoundState code size s y
+  found_left code size s y book opening ties seen engine locked =
+      record { journal = seen; engine = sym (engine_found y book opening ties) ∙ ap engine_of took.is ∙ sym engine; locked = locked }
 
   -- the key's engine stays
   pub engine_kept : (u : KeyView) (c : SharedState Q O) → u ≡ given w (content c) → engine_of u ≡ engine_of v
   engine_kept u c gave = ap engine_of gave ∙ ap engine_of took.is
 
+  -- its list of ties is that of the seat's mark
+  pub list_found : (y : SharedState Q O) (a : Book) → a ≡ (engine_of v).ties → y.ties.book ≡ x.ties.book → y.ties.book ≡ a
+  list_found y a own same = same ∙ sym (ap (λ (e : Engine). e.ties) took.engine) ∙ sym own
+
+  pub list_kept : (u : KeyView) (c : SharedState Q O) (a b : Book) → u ≡ given w (content c) → b ≡ a → a ≡ (engine_of v).ties → b ≡ (engine_of u).ties
+  list_kept u c a b gave same own = same ∙ own ∙ sym (ap (λ (e : Engine). e.ties) (engine_kept u c gave))
+
   pub engine_released : (u : KeyView) → u ≡ released w → engine_of u ≡ engine_of v
   engine_released u back = ap engine_of back ∙ ap engine_of took.is
+
+  pub list_released : (u : KeyView) (a : Book) → u ≡ released w → a ≡ (engine_of v).ties → a ≡ (engine_of u).ties
+  list_released u a back own = own ∙ sym (ap (λ (e : Engine). e.ties) (engine_released u back))
 
   pub claims_released : (u : KeyView) → u ≡ released w → u.claims ≡ v.claims
   claims_released u back = ap (λ (k : KeyView). k.claims) back ∙ ap (λ (k : KeyView). k.claims) took.is
@@ -264,11 +286,11 @@ seat_read v r t s h = record {
 }
 
 -- a read stands at what it has then seen
-pub stands_read : {Q O : Type 0} (of : MultiView Q O) (v : KeyView) (r t : ReaderState) (p : ℕ) (n : NoteState) (call : Call) (reply : Reply) → Reads r t → is_poll call ≡ false → Answers of.engine.opening r.who call t.seen reply t.seen
-    → Stands (seat_of of v r p n) (seat_of of v t p n) call reply
-stands_read of v r t p n call reply h quiet a =
-    stands_at (seat_of of v r p n) (seat_of of v t p n) t.seen call reply refl h.who (record { later = h.later; own = h.own }) a h.legal
-    (record { more = h.confirmed; within = h.but_last.0; but_last = h.but_last.1 }) refl refl
+pub stands_read : {Q O : Type 0} (of : MultiView Q O) (v : KeyView) (r t : ReaderState) (p : ℕ) (n : NoteState) (k : List Tie) (call : Call) (reply : Reply) → Reads r t → is_poll call ≡ false → Answers of.engine.opening r.who call t.seen reply t.seen
+    → Stands (seat_of of v r p n k) (seat_of of v t p n k) call reply
+stands_read of v r t p n k call reply h quiet a =
+    stands_at (seat_of of v r p n k) (seat_of of v t p n k) t.seen call reply refl h.who (record { later = h.later; own = h.own }) a h.legal
+    (record { more = h.confirmed; within = h.but_last.0; but_last = h.but_last.1 }) refl refl (prefix_self k)
     (ap (λ b. cond b (length t.seen) p) (sym quiet)) (λ is. absurd (false≢true (sym quiet ∙ is)))
 
 -- 4. A seat that meets another.
@@ -286,17 +308,17 @@ seat_sees v r t x s pre own book got =
       but_last = all_confirmed x.core.journal;
     })
 
-pub other_sees : {Q O : Type 0} (of : MultiView Q O) (v : KeyView) (r t : ReaderState) (p : ℕ) (n : NoteState) (x : SharedState Q O) → IsPrefix r.seen x.core.journal → made_by r.who x.core.journal ≡ made_by r.who r.seen → is_legal x.core.journal ≡ true → t ≡ at_end r.who x
-    → Sees (seat_of of v r p n) (seat_of of v t p n)
-other_sees of v r t p n x pre own legal got =
+pub other_sees : {Q O : Type 0} (of : MultiView Q O) (v : KeyView) (r t : ReaderState) (p : ℕ) (n : NoteState) (k l : List Tie) (x : SharedState Q O) → IsPrefix k l → IsPrefix r.seen x.core.journal → made_by r.who x.core.journal ≡ made_by r.who r.seen → is_legal x.core.journal ≡ true → t ≡ at_end r.who x
+    → Sees (seat_of of v r p n k) (seat_of of v t p n l)
+other_sees of v r t p n k l x ties pre own legal got =
     let seen : t.seen ≡ x.core.journal = ap (λ (z : ReaderState). z.seen) got in
-    sees_at (seat_of of v r p n) (seat_of of v t p n) refl (ap (λ (z : ReaderState). z.who) got)
-    (subst (Finds (seat_of of v r p n)) (sym seen) (record { later = pre; own = own })) (ap is_legal seen ∙ legal) refl (ap (λ (z : ReaderState). z.confirmed) got ∙ ap length (sym seen)) refl
+    sees_at (seat_of of v r p n k) (seat_of of v t p n l) refl (ap (λ (z : ReaderState). z.who) got)
+    (subst (Finds (seat_of of v r p n k)) (sym seen) (record { later = pre; own = own })) (ap is_legal seen ∙ legal) refl (ap (λ (z : ReaderState). z.confirmed) got ∙ ap length (sym seen)) refl ties
 
 -- 5. How the engine is left.
 
 pub left_same : {Q O : Type 0} (x y : SharedState Q O) → y ≡ x → is_legal x.core.journal ≡ true → IsLeft x y
-left_same {Q} {O} x y e legal = subst (IsLeft x) (sym e) (record { journal = refl; opening = refl; book = refl; legal = legal })
+left_same {Q} {O} x y e legal = subst (IsLeft x) (sym e) (record { journal = refl; opening = refl; book = refl; ties = refl; legal = legal })
 
 pub no_other : {Q O : Type 0} (x y : SharedState Q O) → y ≡ x → HasNoOther (content x).claimed (content y).claimed
 no_other {Q} {O} x y e = subst (λ (z : SharedState Q O). HasNoOther (content x).claimed (content z).claimed) (sym e) (λ t h. h)
@@ -307,7 +329,7 @@ none_claimed {Q} j k q r e none still = λ t h.
 
 -- a poll that may return
 pub woken : {Q O : Type 0} (who : Who) (x : SharedState Q O) → is_legal x.core.journal ≡ true → Leaves who call.Poll x reply.Woken x
-woken who x legal = record { answers = (refl, sym (append-nil x.core.journal)); opening = refl; book = refl; legal = legal; claims = λ t h. h }
+woken who x legal = record { answers = (refl, sym (append-nil x.core.journal)); opening = refl; book = refl; ties = refl; legal = legal; claims = λ t h. h }
 
 pub caught_confirmed : {Q O : Type 0} (who : Who) (t : ReaderState) (y : SharedState Q O) → t ≡ at_end who y → t.confirmed ≡ length t.seen
 caught_confirmed who t y got = ap (λ (z : ReaderState). z.confirmed) got ∙ ap length (sym (ap (λ (z : ReaderState). z.seen) got))
@@ -316,21 +338,45 @@ pub quiet_mark : (c : Call) (n p : ℕ) → is_poll c ≡ false → p ≡ polled
 quiet_mark c n p quiet = ap (λ b. cond b n p) (sym quiet)
 
 -- a seat whose key put back what it took
-pub received_released : {Q O : Type 0} (v u : KeyView) (r : ReaderState) (of of' : MultiView Q O) (p : ℕ) (n : NoteState) → of'.engine ≡ of.engine → IsReceived (seat_of of v r p n) → IsReceived (seat_of of' u r p n)
-received_released v u r of of' p n same h =
+pub received_released : {Q O : Type 0} (v u : KeyView) (r : ReaderState) (of of' : MultiView Q O) (p : ℕ) (n : NoteState) (k : List Tie) → of'.engine ≡ of.engine → IsReceived (seat_of of v r p n k) → IsReceived (seat_of of' u r p n k)
+received_released v u r of of' p n k same h =
     (h.0, record { placed = subst (λ (e : Engine). IsPlaced e.opening r.who h.0 r.seen) (sym same) h.1.placed; polled = h.1.polled })
 
 pub claims_from : {Q O : Type 0} (old s t : SeatView Q O) (ticket : Ticket) → old ≡ s → ClaimsOnly old t ticket → ClaimsOnly s t ticket
 claims_from {Q} {O} old s t ticket e h = subst (λ (z : SeatView Q O). ClaimsOnly z t ticket) e h
 
+-- what was told of a list is told of each that goes on
+pub tells_on : (xs ys : List Tie) (o : Option Tie) → IsPrefix xs ys → Tells o xs → Tells o ys
+tells_on xs ys None p h = tt
+tells_on xs ys (Some x) p h = subst (λ l. Has l x) p.1 (has_more xs p.0 x h)
+
+pub claim_on : (xs ys : List Tie) (t : Ticket) (origin : List ℕ) → IsPrefix xs ys → IsClaimOf xs t origin → IsClaimOf ys t origin
+claim_on xs ys t origin p h = subst (λ l. IsClaimOf l t origin) p.1 (claim_more xs p.0 t origin h)
+
+pub given_on : {Q : Type 0} (xs ys : List Tie) (r : GiveBackReply Q) (t : Ticket) (origin : List ℕ) → IsPrefix xs ys → TellsGiven r t origin xs → TellsGiven r t origin ys
+given_on xs ys giving.Back t origin p h = subst (λ l. WasGiven l t origin) p.1 (given_more xs p.0 t origin h)
+given_on xs ys (giving.Stale _) t origin p h = tt
+
+same_origin : (xs : List Tie) (what : Tied) (t : Ticket) (a b : List ℕ) → Has xs (tie what t a) → Has xs (tie what t b) → a ≡ b
+same_origin xs what t a b h k = ap (λ (o : Option Tie). (unwrap_or o (tie what t a)).origin) (sym h ∙ k)
+
+pub told_alike : (xs ys : List Tie) → AreOfOneList xs ys → AreToldAlike xs ys
+told_alike xs ys (inl p) what t a b h k = same_origin ys what t a b (tells_on xs ys (Some (tie what t a)) p h) k
+told_alike xs ys (inr p) what t a b h k = same_origin xs what t a b h (tells_on ys xs (Some (tie what t b)) p k)
+
+pub of_its_addition : (xs ys zs : List Tie) → AreToldAlike xs ys → AreToldAlike ys zs → IsOfItsAddition xs ys zs
+of_its_addition xs ys zs p q t added claimed read a (inl c) own e r = sym (q tied.Ended t claimed read e r) ∙ sym (p tied.Added t added claimed a c)
+of_its_addition xs ys zs p q t added claimed read a (inr given) own e r = sym (q tied.Ended t claimed read e r) ∙ own claimed given
+
 -- 6. A version that was read, with no receipt.
 
-pub sees_version : {Q O : Type 0} (of of' : MultiView Q O) (v : KeyView) (r t : ReaderState) (p : ℕ) (n m : NoteState) → of' ≡ of → Reads r t → SeesVersion (seat_of of v r p n) (seat_of of' v t p m)
-sees_version {Q} {O} of of' v r t p n m same h = record {
+pub sees_version : {Q O : Type 0} (of of' : MultiView Q O) (v : KeyView) (r t : ReaderState) (p : ℕ) (n m : NoteState) (k : List Tie) → of' ≡ of → Reads r t → SeesVersion (seat_of of v r p n k) (seat_of of' v t p m k)
+sees_version {Q} {O} of of' v r t p n m k same h = record {
   of = same;
   who = h.who;
   polled = refl;
   claims = refl;
+  ties = refl;
   confirmed = record { more = h.confirmed; within = h.but_last.0; but_last = h.but_last.1 };
   found = record { later = h.later; own = h.own };
   legal = h.legal;

@@ -23,6 +23,7 @@ use Rattle.mx_board.specs.Progress.{NoteState}
 use Rattle.mx_lock.specs.Shared.{SharedState, Engine, IsLocked, content}
 use Rattle.mx_lock.specs.Lock.{maker, engine_of}
 use Rattle.mx_lock.specs.declared.key_view.KeyView.{KeyView}
+use Rattle.mx_lock.specs.declared.ties.Tie.{Tie}
 
 -- which engine it is: its lock, its journal, what it was opened with, and its progress words
 pub record MultiView (Q O : Type 0) : Type 0 where
@@ -32,7 +33,8 @@ pub record MultiView (Q O : Type 0) : Type 0 where
   pub words : TableId
 
 -- a seat: of which engine it is, which maker, the events that it has seen, how many of these are confirmed by more than a
--- read, how many they were at its last poll, the tickets that it has claimed, and the progress words that it has noted and read
+-- read, how many they were at its last poll, the tickets that it has claimed, the progress words that it has noted and read, and of
+-- which requests additions, work given back and ends are, as it was told under the lock
 pub record SeatView (Q O : Type 0) : Type 0 where
   pub of : MultiView Q O
   pub who : Who
@@ -41,6 +43,7 @@ pub record SeatView (Q O : Type 0) : Type 0 where
   pub polled : ℕ
   pub claims : List Ticket
   pub words : NoteState
+  pub ties : List Tie
 
 -- the seat's key is free, and its reader has seen no less than the key, and no event more of its maker
 pub record IsSeat (v : KeyView) (r : ReaderState) : Type 0 where
@@ -83,6 +86,7 @@ pub record Stands {Q O : Type 0} (s t : SeatView Q O) (call : Call) (reply : Rep
   pub confirmed : Confirms s t
   pub claims : t.claims ≡ s.claims
   pub words : t.words ≡ s.words
+  pub ties : IsPrefix s.ties t.ties
   pub polled : t.polled ≡ (if is_poll call then length t.seen else s.polled)
   pub ready : is_poll call ≡ true → is_ready s.polled t.seen ≡ true
   pub placed : (mine : List Receipt) → HasReceipts s mine → HasReceipts t (mine ++ record { cut = length t.seen; call = call; reply = reply } ∷ [])
@@ -94,6 +98,7 @@ pub record Sees {Q O : Type 0} (s t : SeatView Q O) : Type 0 where
   pub polled : t.polled ≡ s.polled
   pub confirmed : t.confirmed ≡ length t.seen
   pub words : t.words ≡ s.words
+  pub ties : IsPrefix s.ties t.ties
   pub found : Finds s t.seen
   pub legal : is_legal t.seen ≡ true
   pub placed : (mine : List Receipt) → HasReceipts s mine → HasReceipts t mine
@@ -104,6 +109,7 @@ pub record SeesVersion {Q O : Type 0} (s t : SeatView Q O) : Type 0 where
   pub who : t.who ≡ s.who
   pub polled : t.polled ≡ s.polled
   pub claims : t.claims ≡ s.claims
+  pub ties : t.ties ≡ s.ties
   pub confirmed : Confirms s t
   pub found : Finds s t.seen
   pub legal : is_legal t.seen ≡ true
@@ -154,6 +160,7 @@ pub record IsNew {Q O : Type 0} (m : MultiView Q O) (w : Who) (s : SeatView Q O)
   pub confirmed : s.confirmed ≡ 0
   pub polled : s.polled ≡ 0
   pub claims : s.claims ≡ []
+  pub ties : s.ties ≡ []
   pub noted : s.words.noted ≡ []
   pub read : s.words.read ≡ []
 
@@ -162,6 +169,7 @@ pub record Later {Q O : Type 0} (s t : SeatView Q O) (more : List Receipt) : Typ
   pub of : t.of ≡ s.of
   pub who : t.who ≡ s.who
   pub later : IsPrefix s.seen t.seen
+  pub ties : IsPrefix s.ties t.ties
   pub legal : is_legal s.seen ≡ true → is_legal t.seen ≡ true
   pub placed : (mine : List Receipt) → HasReceipts s mine → HasReceipts t (mine ++ more)
 

@@ -8,6 +8,7 @@ ghost use Rattle.mx_journal.specs.Slots.{slot_of};
 ghost use Rattle.mx_journal.specs.Replies.{IsGivenBack, is_back, handed_back, work_back, IsHandedBack, reply_of_add, reply_of_finish, reply_of_info, reply_of_pause, reply_of_remove, reply_of_wakeup};
 ghost use Rattle.mx_board.specs.Board.{AreOfOneJournal, OneBeginsOther};
 ghost use Rattle.mx_lock.specs.Shared.{SharedState};
+ghost use Rattle.mx_lock.specs.Ties.{IsClaimOf, Tells, TellsGiven, tie_added, tie_finished, tie_read};
 ghost use Rattle.mx_multi.specs.Seats.{Stands, Sees, FoundState, GivesBack, ClaimsLeast, ClaimsNothing, ClaimsOnly};
 
 use crate::seat::{Seat, WorkerSeat};
@@ -16,7 +17,7 @@ use mx_journal::{
     AddReply, Claim, FinishReply, GiveBackReply, InfoReply, PauseReply, RemoveReply, WakeupReply,
 };
 use mx_lock::{
-    Addition, Deed, Finishing, Lock, Pausing, Reading, Removal, Shared, Unpausing, Waking,
+    Addition, Deed, Finishing, Lock, Pausing, Reading, Removal, Shared, TieMark, Unpausing, Waking,
 };
 use mx_types::{AddedHandles, Ending, HandleId, Look, State, Ticket, Work};
 use std::marker::Model;
@@ -41,6 +42,8 @@ pub struct Multi<Q: Work + Drop, O: Ending + Drop> {
     pub(crate) lock: Lock<Q, O>,
     /// The beginning of the journal, which tells journals apart.
     pub(crate) start: JournalMark,
+    /// The beginning of the list of ties, which tells such lists apart, for contracts alone: it has no size.
+    pub(crate) no_ties: TieMark,
     /// How many bytes each transfer has received.
     pub(crate) words: ProgressTable,
     pub(crate) history: u32,
@@ -55,7 +58,7 @@ impl<Q: Work + Drop, O: Ending + Drop> Model for Multi<Q, O> {
 
     ghost Value = { MultiView Q O };
 
-    ghost view = { λ m. record { table = m.lock.table; keys = m.lock.keys; engine = record { book = m.start.book; opening = record { history = m.history } }; words = m.words.id } };
+    ghost view = { λ m. record { table = m.lock.table; keys = m.lock.keys; engine = record { book = m.start.book; opening = record { history = m.history }; ties = m.no_ties.book }; words = m.words.id } };
 }
 
 impl<Q: Work + Drop, O: Ending + Drop> Multi<Q, O> {
@@ -77,6 +80,7 @@ impl<Q: Work + Drop, O: Ending + Drop> Multi<Q, O> {
         requires state { (x : SharedState Q O) → D.state x ≡ x }
         ensures stands { MatchResult result (λ r. Stands seat.old seat.new (D.call deed) (D.reply r)) (λ w. (seat.new ≡ seat.old) × (w.0 ≡ deed)) }
         ensures back { IfOk result (λ r. D.back deed r) }
+        ensures tells { IfOk result (λ r. Tells (D.tie deed r) seat.new.ties) }
         ensures confirmed { OnOk result (seat.new.confirmed ≡ length seat.new.seen) }
     {
         let Some(taken) = self.lock.enter(rt, &mut seat.key, &seat.reader) else {
@@ -84,14 +88,16 @@ impl<Q: Work + Drop, O: Ending + Drop> Multi<Q, O> {
         };
         let who = seat.reader.who();
         let (taken, reply) = taken.run(rt, deed, who);
-        self.lock.leave(rt, &mut seat.key, taken, &mut seat.reader);
+        self.lock
+            .leave(rt, &mut seat.key, taken, &mut seat.reader, &mut seat.ties);
         if D::wakes(&reply) {
             self.tell(rt);
         }
         Ok(reply)
     }
 
-    /// Adds a handle with its work (curl_multi_add_handle(3)).
+    /// Adds a handle with its work (curl_multi_add_handle(3)). The seat is then told that the ticket's addition is of the work's
+    /// request.
     pub fn add<R: Wait>(
         &self,
         rt: &R,
@@ -102,6 +108,7 @@ impl<Q: Work + Drop, O: Ending + Drop> Multi<Q, O> {
         requires own { seat.old.of ≡ self.now }
         ensures stands { MatchResult result (λ r. Stands seat.old seat.new (Call.Add handle) (reply_of_add r)) (λ w. (seat.new ≡ seat.old) × (w.0 ≡ work)) }
         ensures back { IfOk result (λ r. handed_back r ≡ work_back r work) }
+        ensures tells { IfOk result (λ r. Tells (tie_added r (Q.origin work)) seat.new.ties) }
         ensures confirmed { OnOk result (seat.new.confirmed ≡ length seat.new.seen) }
     {
         match self.act(rt, seat, Addition { handle, work }) {
@@ -161,7 +168,8 @@ impl<Q: Work + Drop, O: Ending + Drop> Multi<Q, O> {
         }
     }
 
-    /// Reads the first message (curl_multi_info_read(3)).
+    /// Reads the first message (curl_multi_info_read(3)). The seat is then told that the ticket's end is of the ending's
+    /// request, which is that of the ending that was recorded.
     pub fn info_read<R: Wait>(
         &self,
         rt: &R,
@@ -169,6 +177,7 @@ impl<Q: Work + Drop, O: Ending + Drop> Multi<Q, O> {
     ) -> Result<InfoReply<O>, WrongSeat<()>>
         requires own { seat.old.of ≡ self.now }
         ensures stands { MatchResult result (λ r. Stands seat.old seat.new Call.InfoRead (reply_of_info O.code_of O.size_of r)) (λ _. seat.new ≡ seat.old) }
+        ensures tells { IfOk result (λ r. Tells (tie_read O.origin r) seat.new.ties) }
         ensures confirmed { OnOk result (seat.new.confirmed ≡ length seat.new.seen) }
     {
         match self.act(rt, seat, Reading) {
@@ -205,6 +214,7 @@ impl<Q: Work + Drop, O: Ending + Drop> Multi<Q, O> {
         requires origin { O.origin ending ≡ claim.origin }
         ensures stands { MatchResult result (λ r. Stands seat.old seat.new (Call.Finish claim.ticket (O.code_of ending) (O.size_of ending)) (reply_of_finish r)) (λ w. (seat.new ≡ seat.old) × (w.0 ≡ (claim, ending))) }
         ensures back { IfOk result (λ r. IsHandedBack claim ending r) }
+        ensures tells { IfOk result (λ r. Tells (tie_finished r claim.ticket (O.origin ending)) seat.new.ties) }
         ensures confirmed { OnOk result (seat.new.confirmed ≡ length seat.new.seen) }
     {
         match self.act(rt, seat, Finishing { claim, ending }) {
@@ -267,6 +277,7 @@ impl<Q: Work + Drop, O: Ending + Drop> Multi<Q, O> {
         ensures claims { MatchOption result (seat.new.claims ≡ seat.old.claims) (λ r. ClaimsOnly seat.old seat.new r.0.ticket) }
         ensures runs { IfSome result (λ r. has_ticket r.0.ticket (running seat.new.seen) ≡ true) }
         ensures origin { IfSome result (λ r. r.0.origin ≡ Q.origin r.1) }
+        ensures request { IfSome result (λ r. IsClaimOf seat.new.ties r.0.ticket r.0.origin) }
         ensures handle { IfSome result (λ r. handle_of r.0.ticket seat.new.seen ≡ Some r.0.handle) }
         ensures slot { IfSome result (λ r. slot_of r.0.ticket seat.new.seen ≡ Some r.0.slot) }
         ensures queue { MatchOption result ((seat.new ≡ seat.old) ⊎ ClaimsNothing O.code_of O.size_of seat.new) (λ r. ClaimsLeast O.code_of O.size_of seat.new r.0.ticket r.1) }
@@ -277,7 +288,8 @@ impl<Q: Work + Drop, O: Ending + Drop> Multi<Q, O> {
         let _known = taken.know();
         let _cut = taken.len();
         let claimed = taken.claim();
-        self.lock.leave(rt, &mut seat.key, taken, &mut seat.reader);
+        self.lock
+            .leave(rt, &mut seat.key, taken, &mut seat.reader, &mut seat.ties);
         let Some(claimed) = claimed else {
             return None;
         };
@@ -302,7 +314,8 @@ impl<Q: Work + Drop, O: Ending + Drop> Multi<Q, O> {
         };
         let known = taken.know();
         let _cut = taken.len();
-        self.lock.leave(rt, &mut seat.key, taken, &mut seat.reader);
+        self.lock
+            .leave(rt, &mut seat.key, taken, &mut seat.reader, &mut seat.ties);
         Ok(known)
     }
 
@@ -326,7 +339,9 @@ impl<Q: Work + Drop, O: Ending + Drop> Multi<Q, O> {
             if taken.made(other) == two.reader.made() {
                 let cut = taken.len();
                 taken.refresh(&mut two.reader);
-                self.lock.leave(rt, &mut one.key, taken, &mut one.reader);
+                taken.tell(&mut two.ties);
+                self.lock
+                    .leave(rt, &mut one.key, taken, &mut one.reader, &mut one.ties);
                 return Ok(cut);
             }
         }
@@ -334,7 +349,8 @@ impl<Q: Work + Drop, O: Ending + Drop> Multi<Q, O> {
         Err(WrongSeat(()))
     }
 
-    /// Records the end of a claimed transfer, by a worker's seat. What isn't recorded comes back.
+    /// Records the end of a claimed transfer, by a worker's seat. What isn't recorded comes back. Where it is recorded, the seat is
+    /// then told that the ticket's end is of the ending's request.
     pub fn finish<R: Wait>(
         &self,
         rt: &R,
@@ -346,13 +362,15 @@ impl<Q: Work + Drop, O: Ending + Drop> Multi<Q, O> {
         requires origin { O.origin ending ≡ claim.origin }
         ensures stands { MatchResult result (λ r. Stands worker.old worker.new (Call.Finish claim.ticket (O.code_of ending) (O.size_of ending)) (reply_of_finish r)) (λ w. (worker.new ≡ worker.old) × (w.0 ≡ (claim, ending))) }
         ensures back { IfOk result (λ r. IsHandedBack claim ending r) }
+        ensures tells { IfOk result (λ r. Tells (tie_finished r claim.ticket (O.origin ending)) worker.new.ties) }
         ensures confirmed { OnOk result (worker.new.confirmed ≡ length worker.new.seen) }
     {
         self.finish_at(rt, &mut worker.seat, claim, ending)
     }
 
     /// Takes the work of the lowest ticket in the queue, which then runs as this worker's seat has seen; its claim has the
-    /// handle and the slot of that addition. None where the queue is empty, which the seat has then seen too, or where the
+    /// handle and the slot of that addition, and is of the request of that addition or of work that was given back under that
+    /// ticket. None where the queue is empty, which the seat has then seen too, or where the
     /// seat isn't one of this multi handle's, and nothing changes.
     pub fn claim<R: Wait>(&self, rt: &R, worker: &mut WorkerSeat<Q, O>) -> Option<(Claim<Q>, Q)>
         requires own { worker.old.of ≡ self.now }
@@ -360,6 +378,7 @@ impl<Q: Work + Drop, O: Ending + Drop> Multi<Q, O> {
         ensures claims { MatchOption result (worker.new.claims ≡ worker.old.claims) (λ r. ClaimsOnly worker.old worker.new r.0.ticket) }
         ensures runs { IfSome result (λ r. has_ticket r.0.ticket (running worker.new.seen) ≡ true) }
         ensures origin { IfSome result (λ r. r.0.origin ≡ Q.origin r.1) }
+        ensures request { IfSome result (λ r. IsClaimOf worker.new.ties r.0.ticket r.0.origin) }
         ensures handle { IfSome result (λ r. handle_of r.0.ticket worker.new.seen ≡ Some r.0.handle) }
         ensures slot { IfSome result (λ r. slot_of r.0.ticket worker.new.seen ≡ Some r.0.slot) }
         ensures queue { MatchOption result ((worker.new ≡ worker.old) ⊎ ClaimsNothing O.code_of O.size_of worker.new) (λ r. ClaimsLeast O.code_of O.size_of worker.new r.0.ticket r.1) }
@@ -427,7 +446,8 @@ impl<Q: Work + Drop, O: Ending + Drop> Multi<Q, O> {
         };
         if taken.is_ready(seat.polled) {
             let cut = taken.len();
-            self.lock.leave(rt, &mut seat.key, taken, &mut seat.reader);
+            self.lock
+                .leave(rt, &mut seat.key, taken, &mut seat.reader, &mut seat.ties);
             seat.polled = cut;
             return Ok(true);
         }
@@ -467,6 +487,7 @@ impl<Q: Work + Drop, O: Ending + Drop> Multi<Q, O> {
         requires origin { Q.origin work ≡ claim.origin }
         ensures sees { MatchResult result (λ r. Sees seat.old seat.new) (λ w. (seat.new ≡ seat.old) × (w.0 ≡ (claim, work))) }
         ensures back { IfOk result (λ r. IsGivenBack work r) }
+        ensures tells { IfOk result (λ r. TellsGiven r claim.ticket claim.origin seat.new.ties) }
         ensures runs { IfOk result (λ r. is_back r ≡ true → has_ticket claim.ticket (running seat.new.seen) ≡ true) }
         ensures queue { IfOk result (λ r. GivesBack O.code_of O.size_of seat.new claim.ticket work r) }
         ensures claims { seat.new.claims ≡ seat.old.claims }
@@ -476,9 +497,10 @@ impl<Q: Work + Drop, O: Ending + Drop> Multi<Q, O> {
         };
         let _known = taken.know();
         let _cut = taken.len();
-        let reply = taken.give_back(claim, work);
+        let reply = taken.give_back(rt, claim, work);
         let _left = taken.know();
-        self.lock.leave(rt, &mut seat.key, taken, &mut seat.reader);
+        self.lock
+            .leave(rt, &mut seat.key, taken, &mut seat.reader, &mut seat.ties);
         Ok(reply)
     }
 
@@ -495,6 +517,7 @@ impl<Q: Work + Drop, O: Ending + Drop> Multi<Q, O> {
         requires origin { Q.origin work ≡ claim.origin }
         ensures sees { MatchResult result (λ r. Sees worker.old worker.new) (λ w. (worker.new ≡ worker.old) × (w.0 ≡ (claim, work))) }
         ensures back { IfOk result (λ r. IsGivenBack work r) }
+        ensures tells { IfOk result (λ r. TellsGiven r claim.ticket claim.origin worker.new.ties) }
         ensures runs { IfOk result (λ r. is_back r ≡ true → has_ticket claim.ticket (running worker.new.seen) ≡ true) }
         ensures queue { IfOk result (λ r. GivesBack O.code_of O.size_of worker.new claim.ticket work r) }
         ensures claims { worker.new.claims ≡ worker.old.claims }

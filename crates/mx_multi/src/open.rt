@@ -10,7 +10,7 @@ ghost use Rattle.mx_multi.specs.Opening.{are_within, first_of, maker_of, AreNew,
 use crate::multi::Multi;
 use crate::seat::{Seat, WorkerSeat};
 use mx_board::{BoardReader, NoteSeat, ProgressTable};
-use mx_lock::{Key, Lock, Shared};
+use mx_lock::{Key, Lock, Shared, TieMark};
 use mx_types::{Ending, OutOfMemory, Who, Work};
 use std::alloc::Global;
 use std::collections::VecDeque;
@@ -90,6 +90,7 @@ fn seated<Q: Work + Drop, O: Ending + Drop>(
     founder: &mut Key<Q, O>,
     words: &ProgressTable,
     notes: &mut Vec<NoteSeat>,
+    ties: &TieMark,
     readers: VecDeque<BoardReader>,
     worker: bool,
 ) -> Result<Vec<Seat<Q, O>>, OutOfMemory>
@@ -99,6 +100,7 @@ fn seated<Q: Work + Drop, O: Ending + Drop>(
     requires readers { AreReaders worker 0 (engine_of (view founder.old)).book readers.items }
     requires notes { All (λ s. s ≡ new_seat words.now) notes.old.items }
     requires enough { deque_len readers ≤ vec_len notes.old }
+    requires ties { (ties.now.ties ≡ []) × (ties.now.book ≡ (engine_of (view founder.old)).ties) }
     ensures kept { IsKeyOf lock.now founder.new }
     ensures next { IfOk result (λ v. view founder.new ≡ founder_at (engine_of (view founder.old)) (first_of worker + vec_len v)) }
     ensures new { IfOk result (λ v. AreNew (record { table = lock.now.table; keys = lock.now.keys; engine = engine_of (view founder.old); words = words.now.id }) worker 0 v.items) }
@@ -118,6 +120,7 @@ fn seated<Q: Work + Drop, O: Ending + Drop>(
             reader,
             polled: 0,
             notes: own_notes,
+            ties: ties.again(),
         })?;
     }
     Ok(seats)
@@ -168,6 +171,7 @@ impl<Q: Work + Drop, O: Ending + Drop> Multi<Q, O> {
         let places = usize::from(limits.seats) + usize::from(limits.workers);
         let mut shared = Shared::new(rt, alloc, limits.history, places)?;
         let start = shared.mark();
+        let no_ties = shared.tie_mark();
         let for_seats = readers(alloc, &mut shared, limits.seats, false)?;
         let for_workers = readers(alloc, &mut shared, limits.workers, true)?;
         let (words, mut notes) = ProgressTable::new(alloc, limits.seats + limits.workers)?;
@@ -178,6 +182,7 @@ impl<Q: Work + Drop, O: Ending + Drop> Multi<Q, O> {
             &mut founder,
             &words,
             &mut notes,
+            &no_ties,
             for_seats,
             false,
         )?;
@@ -188,6 +193,7 @@ impl<Q: Work + Drop, O: Ending + Drop> Multi<Q, O> {
             &mut founder,
             &words,
             &mut notes,
+            &no_ties,
             for_workers,
             true,
         )?;
@@ -195,6 +201,7 @@ impl<Q: Work + Drop, O: Ending + Drop> Multi<Q, O> {
         let multi = Multi {
             lock,
             start,
+            no_ties,
             words,
             history: limits.history,
             max_connects: limits.max_connects,

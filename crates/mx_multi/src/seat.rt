@@ -3,14 +3,15 @@ ghost use Rattle.std.specs.Prelude.{◌≡◌, length, IfOk};
 ghost use Rattle.mx_multi.specs.Seats.{IsReceived};
 
 use mx_board::{BoardReader, NoteSeat};
-use mx_lock::Key;
+use mx_lock::{Key, TieMark};
 use mx_types::{Ending, OutOfMemory, Work};
 use std::alloc::Global;
 use std::marker::Model;
 
 /// An application thread's seat: its key to the lock, and what it has seen. Contracts see of which multi handle it is, whose
 /// it is, the events that it has seen and how many of them are confirmed, how many they were at its last poll, the tickets
-/// that it has claimed, and the progress words that it has noted and read.
+/// that it has claimed, the progress words that it has noted and read, and of which requests additions, work given
+/// back and ends are, as it was told under the lock.
 #[derive(Drop)]
 pub struct Seat<Q: Work + Drop, O: Ending + Drop> {
     pub(crate) key: Key<Q, O>,
@@ -19,6 +20,8 @@ pub struct Seat<Q: Work + Drop, O: Ending + Drop> {
     pub(crate) polled: u32,
     /// Its right to the progress words.
     pub(crate) notes: NoteSeat,
+    /// Of which requests additions, work given back and ends are, for contracts alone: it has no size.
+    pub(crate) ties: TieMark,
 }
 
 impl<Q: Work + Drop, O: Ending + Drop> Model for Seat<Q, O> {
@@ -28,9 +31,9 @@ impl<Q: Work + Drop, O: Ending + Drop> Model for Seat<Q, O> {
 
     ghost Value = { SeatView Q O };
 
-    ghost view = { λ s. record { of = record { table = s.key.table_id; keys = s.key.me.0.of; engine = engine_of s.key.me.0.client; words = s.notes.of }; who = s.reader.who; seen = s.reader.seen; confirmed = s.reader.confirmed; polled = s.polled; claims = s.key.me.0.client.claims; words = s.notes } };
+    ghost view = { λ s. record { of = record { table = s.key.table_id; keys = s.key.me.0.of; engine = engine_of s.key.me.0.client; words = s.notes.of }; who = s.reader.who; seen = s.reader.seen; confirmed = s.reader.confirmed; polled = s.polled; claims = s.key.me.0.client.claims; words = s.notes; ties = s.ties.ties } };
 
-    ghost invariant = { λ s. IsSeat s.key.me.0.client s.reader × (s.key.me.1 ≡ []) × IsReceived (record { of = record { table = s.key.table_id; keys = s.key.me.0.of; engine = engine_of s.key.me.0.client; words = s.notes.of }; who = s.reader.who; seen = s.reader.seen; confirmed = s.reader.confirmed; polled = s.polled; claims = s.key.me.0.client.claims; words = s.notes }) };
+    ghost invariant = { λ s. IsSeat s.key.me.0.client s.reader × (s.key.me.1 ≡ []) × IsReceived (record { of = record { table = s.key.table_id; keys = s.key.me.0.of; engine = engine_of s.key.me.0.client; words = s.notes.of }; who = s.reader.who; seen = s.reader.seen; confirmed = s.reader.confirmed; polled = s.polled; claims = s.key.me.0.client.claims; words = s.notes; ties = s.ties.ties }) × (s.ties.book ≡ (engine_of s.key.me.0.client).ties) };
 }
 
 impl<Q: Work + Drop, O: Ending + Drop> Seat<Q, O> {

@@ -3,6 +3,7 @@ use Rattle.std.specs.Prelude.{vec_len}
 use Rattle.crossbeam_channel.specs.Claims.{view}
 use Rattle.std.proofs.lemmas.List.Elements.{All-pop}
 use Rattle.mx_board.specs.Progress.{NoteState, new_seat}
+use Rattle.mx_lock.specs.Ties.{TieState}
 use Rattle.mx_lock.specs.Lock.{engine_of, founder_at, parent, child}
 use Rattle.mx_multi.specs.Seats.{MultiView}
 use Rattle.mx_multi.specs.Opening.{first_of, AreReaders, AreNew}
@@ -26,11 +27,12 @@ loop-reader-preserved g c =
     let key = c.another-key.result in
     let of : MultiView g.row.Q.Denot g.row.O.Denot = record { table = key.table_id; keys = key.me.0.of; engine = engine_of (view key); words = c.in-Some-pop.own_notes.of } in
     let at : n ≡ 0 + length was = omega (arith, inv.made) in
+    let none = ap (λ (z : TieState). z.ties) c.again.ensures ∙ c.requires.ties.0 in
     record {
       own = c.another-key.ensures.kept.0;
       founder = c.another-key.ensures.kept.1 ∙ ap parent inv.founder ∙ ap (founder_at e) next;
       new = subst (AreNew m c.args.worker 0) (sym items)
-          (new_more m c.args.worker 0 was _ inv.new (new_at m c.args.worker n (0 + length was) _ at (is_new m of (view key) r c.args.worker n (first_of c.args.worker + n) c.args.words.now c.in-Some-pop.own_notes new.0.0 new.0.1 refl refl (search rules) refl (new.1 ∙ ap child inv.founder) h.0)));
+          (new_more m c.args.worker 0 was _ inv.new (new_at m c.args.worker n (0 + length was) _ at (is_new m of (view key) r c.args.worker n (first_of c.args.worker + n) c.args.words.now c.in-Some-pop.own_notes c.again.result.ties new.0.0 new.0.1 refl refl (search rules) refl (new.1 ∙ ap child inv.founder) h.0 none)));
       readers = subst (λ k. AreReaders c.args.worker k e.book c.pop_front.new.self.items) (sym more) h.1;
       notes = rest.0;
       left = omega (arith, more, inv.left, c.in-Some-pop.ensures.len);

@@ -1,21 +1,49 @@
+use Rattle.std.proofs.Common.{◌≡◌, ◌∙◌, ap, List, ◌++◌, subst, sym}
+use Rattle.std.specs.Option.{option_to_list}
 use Rattle.mx_types.specs.declared.call.Call.TheVariants as call
-use Rattle.std.proofs.Common.{List, subst, sym}
 use Rattle.mx_types.specs.declared.names.Ticket.{Ticket}
 use Rattle.mx_journal.specs.Core.{claimed}
-use Rattle.mx_lock.specs.Shared.{HasNoOther}
 use Rattle.mx_journal.specs.Replies.{reply_of_add}
+use Rattle.mx_lock.specs.Shared.{HasNoOther, SharedState}
+use Rattle.mx_lock.specs.declared.ties.Tie.{Tie}
+use Rattle.mx_lock.specs.Ties.{IsTied, Tells, tie_added}
 use Rattle.mx_lock.proofs.Claims.{claims_added}
 use Rattle.mx_lock.proofs.Leaving.{log_is, leaves_by}
+use Rattle.mx_lock.proofs.Tying.{tied_added}
 use Rattle.mx_lock.proofs.deeds.AdditionDeedShared.run.Goals as goal
 
 pub publish-requires : goal.publish-requires
 publish-requires g c =
     let e = c.add-reply.ensures in
-    log_is c.engine.inside.control.opening c.args.who (call.Add c.args.self.handle) (reply_of_add c.add-reply.result) c.engine.inside.control.journal c.add-reply.new.self.journal c.engine.inside.board.events c.add-reply.new.log.events e.answers c.engine.invariant.0 e.logged
+    let x = c.engine.inside.control in
+    let y = c.add-reply.new.self in
+    let answer = reply_of_add c.add-reply.result in
+    let other : HasNoOther (claimed x.journal x.queue) (claimed y.journal y.queue) =
+    subst (λ (q : List (Ticket × g.row.Q.Denot)). HasNoOther (claimed x.journal x.queue) (claimed y.journal q)) (sym e.queue) (claims_added x.opening c.args.who c.args.self.handle x.journal c.add-reply.result y.journal x.queue c.args.self.work e.answers) in
+    let ties : c.tie_addition.new.self.ties ≡ c.engine.inside.ties.ties ++ option_to_list (tie_added c.add-reply.result (g.Q.Work.origin c.args.self.work)) =
+    c.tie_addition.ensures.ties ∙ ap (λ (w : g.row.Q.Denot). c.engine.inside.ties.ties ++ option_to_list (tie_added c.add-reply.result (g.Q.Work.origin w))) c.of-added.ensures in (
+      log_is x.opening c.args.who (call.Add c.args.self.handle) answer x.journal y.journal c.engine.inside.board.events c.add-reply.new.log.events e.answers c.engine.invariant.0 e.logged,
+      subst (λ (l : List Tie). IsTied g.Q.Work.origin g.O.Ending.origin y l) (sym ties)
+          (tied_added g.Q.Work.origin g.O.Ending.origin x.opening c.args.who c.args.self.handle c.add-reply.result x y c.engine.inside.ties.ties c.args.self.work c.engine.invariant.2 e.answers e.queue e.endings).0,
+    )
 
 pub returns-clause-leaves : goal.returns-clause-leaves
 returns-clause-leaves g c =
     let e = c.add-reply.ensures in
     let p = c.publish.ensures in
-    leaves_by c.args.who (call.Add c.args.self.handle) (reply_of_add c.add-reply.result) c.args.engine c.publish.result c.engine.inside.control c.add-reply.new.self c.engine.inside.board.book c.add-reply.new.log.book _ _ c.engine.view_is p.is e.answers e.opening e.same_log p.legal
-    (subst (λ (q : List (Ticket × g.row.Q.Denot)). HasNoOther (claimed c.engine.inside.control.journal c.engine.inside.control.queue) (claimed c.add-reply.new.self.journal q)) (sym e.queue) (claims_added c.engine.inside.control.opening c.args.who c.args.self.handle c.engine.inside.control.journal c.add-reply.result c.add-reply.new.self.journal c.engine.inside.control.queue c.args.self.work e.answers))
+    let x = c.engine.inside.control in
+    let y = c.add-reply.new.self in
+    leaves_by c.args.who (call.Add c.args.self.handle) (reply_of_add c.add-reply.result) c.args.engine c.publish.result x y c.engine.inside.board.book c.add-reply.new.log.book _ _ _ _ c.engine.view_is p.is e.answers e.opening e.same_log c.tie_addition.ensures.book p.legal
+    (subst (λ (q : List (Ticket × g.row.Q.Denot)). HasNoOther (claimed x.journal x.queue) (claimed y.journal q)) (sym e.queue) (claims_added x.opening c.args.who c.args.self.handle x.journal c.add-reply.result y.journal x.queue c.args.self.work e.answers))
+
+pub returns-clause-tells : goal.returns-clause-tells
+returns-clause-tells g c =
+    let e = c.add-reply.ensures in
+    let x = c.engine.inside.control in
+    let y = c.add-reply.new.self in
+    let other : HasNoOther (claimed x.journal x.queue) (claimed y.journal y.queue) =
+    subst (λ (q : List (Ticket × g.row.Q.Denot)). HasNoOther (claimed x.journal x.queue) (claimed y.journal q)) (sym e.queue) (claims_added x.opening c.args.who c.args.self.handle x.journal c.add-reply.result y.journal x.queue c.args.self.work e.answers) in
+    let ties : c.tie_addition.new.self.ties ≡ c.engine.inside.ties.ties ++ option_to_list (tie_added c.add-reply.result (g.Q.Work.origin c.args.self.work)) =
+    c.tie_addition.ensures.ties ∙ ap (λ (w : g.row.Q.Denot). c.engine.inside.ties.ties ++ option_to_list (tie_added c.add-reply.result (g.Q.Work.origin w))) c.of-added.ensures in
+    subst (Tells (tie_added c.add-reply.result (g.Q.Work.origin c.args.self.work))) (sym (ap (λ (z : SharedState g.row.Q.Denot g.row.O.Denot). z.ties.ties) c.publish.ensures.is ∙ ties))
+    (tied_added g.Q.Work.origin g.O.Ending.origin x.opening c.args.who c.args.self.handle c.add-reply.result x y c.engine.inside.ties.ties c.args.self.work c.engine.invariant.2 e.answers e.queue e.endings).1

@@ -1,18 +1,36 @@
+use Rattle.std.proofs.Common.{refl, subst, sym}
 use Rattle.mx_types.specs.declared.call.Call.TheVariants as call
-use Rattle.std.proofs.Common.{refl}
-use Rattle.mx_journal.specs.Replies.{reply_of_info}
+use Rattle.mx_journal.specs.Replies.{reply_of_info, ending_read}
+use Rattle.mx_lock.specs.Shared.{SharedState}
+use Rattle.mx_lock.specs.Ties.{Tells, tie_read}
 use Rattle.mx_lock.proofs.Claims.{claims_same}
 use Rattle.mx_lock.proofs.Leaving.{log_is, leaves_by}
+use Rattle.mx_lock.proofs.Tying.{tied_read, read_tells}
 use Rattle.mx_lock.proofs.deeds.ReadingDeedShared.run.Goals as goal
 
 pub publish-requires : goal.publish-requires
 publish-requires g c =
     let e = c.info_read-reply.ensures in
-    log_is c.engine.inside.control.opening c.args.who call.InfoRead (reply_of_info g.O.Ending.code_of g.O.Ending.size_of c.info_read-reply.result) c.engine.inside.control.journal c.info_read-reply.new.self.journal c.engine.inside.board.events c.info_read-reply.new.log.events e.answers c.engine.invariant.0 e.logged
+    let x = c.engine.inside.control in
+    let y = c.info_read-reply.new.self in
+    let answer = reply_of_info g.O.Ending.code_of g.O.Ending.size_of c.info_read-reply.result in
+    let other = claims_same x.opening c.args.who call.InfoRead x.journal answer y.journal x.queue y.queue e.answers refl e.queue in (
+      log_is x.opening c.args.who call.InfoRead answer x.journal y.journal c.engine.inside.board.events c.info_read-reply.new.log.events e.answers c.engine.invariant.0 e.logged,
+      tied_read g.Q.Work.origin g.O.Ending.origin x.opening c.args.who call.InfoRead answer x y c.engine.inside.ties.ties (ending_read c.info_read-reply.result) c.engine.invariant.2 e.answers e.queue e.endings,
+    )
 
 pub returns-clause-leaves : goal.returns-clause-leaves
 returns-clause-leaves g c =
     let e = c.info_read-reply.ensures in
     let p = c.publish.ensures in
-    leaves_by c.args.who call.InfoRead (reply_of_info g.O.Ending.code_of g.O.Ending.size_of c.info_read-reply.result) c.args.engine c.publish.result c.engine.inside.control c.info_read-reply.new.self c.engine.inside.board.book c.info_read-reply.new.log.book _ _ c.engine.view_is p.is e.answers e.opening e.same_log p.legal
-    (claims_same c.engine.inside.control.opening c.args.who call.InfoRead c.engine.inside.control.journal (reply_of_info g.O.Ending.code_of g.O.Ending.size_of c.info_read-reply.result) c.info_read-reply.new.self.journal c.engine.inside.control.queue c.info_read-reply.new.self.queue e.answers refl e.queue)
+    let x = c.engine.inside.control in
+    let y = c.info_read-reply.new.self in
+    let answer = reply_of_info g.O.Ending.code_of g.O.Ending.size_of c.info_read-reply.result in
+    let other = claims_same x.opening c.args.who call.InfoRead x.journal answer y.journal x.queue y.queue e.answers refl e.queue in
+    leaves_by c.args.who call.InfoRead answer c.args.engine c.publish.result x y c.engine.inside.board.book c.info_read-reply.new.log.book _ _ _ _ c.engine.view_is p.is e.answers e.opening e.same_log refl p.legal other
+
+pub returns-clause-tells : goal.returns-clause-tells
+returns-clause-tells g c =
+    let e = c.info_read-reply.ensures in
+    subst (λ (z : SharedState g.row.Q.Denot g.row.O.Denot). Tells (tie_read g.O.Ending.origin c.info_read-reply.result) z.ties.ties) (sym c.publish.ensures.is)
+    (read_tells g.Q.Work.origin g.O.Ending.origin c.engine.inside.control c.engine.inside.ties.ties c.info_read-reply.result c.info_read-reply.new.self.endings c.engine.invariant.2 e.endings)

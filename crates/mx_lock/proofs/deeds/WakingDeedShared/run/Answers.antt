@@ -1,18 +1,28 @@
-use Rattle.mx_types.specs.declared.call.Call.TheVariants as call
 use Rattle.std.proofs.Common.{refl}
+use Rattle.mx_types.specs.declared.call.Call.TheVariants as call
 use Rattle.mx_journal.specs.Replies.{reply_of_wakeup}
 use Rattle.mx_lock.proofs.Claims.{claims_same}
 use Rattle.mx_lock.proofs.Leaving.{log_is, leaves_by}
+use Rattle.mx_lock.proofs.Tying.{tied_same}
 use Rattle.mx_lock.proofs.deeds.WakingDeedShared.run.Goals as goal
 
 pub publish-requires : goal.publish-requires
 publish-requires g c =
     let e = c.wakeup-reply.ensures in
-    log_is c.engine.inside.control.opening c.args.who call.Wakeup (reply_of_wakeup c.wakeup-reply.result) c.engine.inside.control.journal c.wakeup-reply.new.self.journal c.engine.inside.board.events c.wakeup-reply.new.log.events e.answers c.engine.invariant.0 e.logged
+    let x = c.engine.inside.control in
+    let y = c.wakeup-reply.new.self in
+    let answer = reply_of_wakeup c.wakeup-reply.result in
+    let other = claims_same x.opening c.args.who call.Wakeup x.journal answer y.journal x.queue y.queue e.answers refl e.queue in (
+      log_is x.opening c.args.who call.Wakeup answer x.journal y.journal c.engine.inside.board.events c.wakeup-reply.new.log.events e.answers c.engine.invariant.0 e.logged,
+      tied_same g.Q.Work.origin g.O.Ending.origin x.opening c.args.who call.Wakeup answer x y c.engine.inside.ties.ties c.engine.invariant.2 e.answers e.queue e.endings,
+    )
 
 pub returns-clause-leaves : goal.returns-clause-leaves
 returns-clause-leaves g c =
     let e = c.wakeup-reply.ensures in
     let p = c.publish.ensures in
-    leaves_by c.args.who call.Wakeup (reply_of_wakeup c.wakeup-reply.result) c.args.engine c.publish.result c.engine.inside.control c.wakeup-reply.new.self c.engine.inside.board.book c.wakeup-reply.new.log.book _ _ c.engine.view_is p.is e.answers e.opening e.same_log p.legal
-    (claims_same c.engine.inside.control.opening c.args.who call.Wakeup c.engine.inside.control.journal (reply_of_wakeup c.wakeup-reply.result) c.wakeup-reply.new.self.journal c.engine.inside.control.queue c.wakeup-reply.new.self.queue e.answers refl e.queue)
+    let x = c.engine.inside.control in
+    let y = c.wakeup-reply.new.self in
+    let answer = reply_of_wakeup c.wakeup-reply.result in
+    let other = claims_same x.opening c.args.who call.Wakeup x.journal answer y.journal x.queue y.queue e.answers refl e.queue in
+    leaves_by c.args.who call.Wakeup answer c.args.engine c.publish.result x y c.engine.inside.board.book c.wakeup-reply.new.log.book _ _ _ _ c.engine.view_is p.is e.answers e.opening e.same_log refl p.legal other

@@ -2,7 +2,7 @@ use Rattle.std.proofs.Common.{◌∙◌, ap, sym, refl}
 use Rattle.std.proofs.lemmas.Bool.{false≢true}
 use Rattle.mx_lock.specs.Lock.{IsKeyOf}
 use Rattle.mx_multi.specs.Seats.{SeatView}
-use Rattle.mx_multi.proofs.Standing.{grows_by, begins_by, seat_after, received_more, lock_stands, same_of, engine_kept, stands_from, quiet_mark}
+use Rattle.mx_multi.proofs.Standing.{list_kept, grows_by, begins_by, seat_after, received_more, lock_stands, same_of, engine_kept, stands_from, quiet_mark, tells_on, list_found}
 use Rattle.mx_multi.proofs.multi.Multi.act.Goals as goal
 
 pub leave-requires-clause-grows : goal.leave-requires-clause-grows
@@ -24,9 +24,10 @@ invariant_of-seat-2 g c =
       seat_after _ _ c.seat.inside.reader x c.seat.invariant.0 took _ _ y c.leave.ensures.gave c.leave.ensures.reader leaves.book,
       k.2,
       received_more _ _ _ _
-          (lock_stands _ _ c.seat.inside.reader x c.seat.invariant.0 took _ c.leave.new.reader y c.leave.ensures.gave c.leave.ensures.reader _ _ c.seat.inside.polled c.seat.inside.polled c.seat.inside.notes _ _ _ refl (same_of _ _ _ c.args.self.now c.args.seat.now c.requires.own c.self.view_is (ap (λ (s : SeatView g.row.Q.Denot g.row.O.Denot). s.of) c.seat.view_is) k.0 k.1 (engine_kept _ _ c.seat.inside.reader x c.seat.invariant.0 took _ y c.leave.ensures.gave) refl)
+          (lock_stands _ _ c.seat.inside.reader x c.seat.invariant.0 took _ c.leave.new.reader y c.leave.ensures.gave c.leave.ensures.reader _ _ c.seat.inside.polled c.seat.inside.polled c.seat.inside.notes c.seat.inside.ties.ties c.leave.new.ties.ties _ _ _ c.leave.ensures.told.1 refl (same_of _ _ _ c.args.self.now c.args.seat.now c.requires.own c.self.view_is (ap (λ (s : SeatView g.row.Q.Denot g.row.O.Denot). s.of) c.seat.view_is) k.0 k.1 (engine_kept _ _ c.seat.inside.reader x c.seat.invariant.0 took _ y c.leave.ensures.gave) refl)
           c.who-who.ensures.is c.in-Some.ensures.entered.1 leaves (quiet_mark _ _ _ quiet) (λ is. absurd (false≢true (sym quiet ∙ is))))
           c.seat.invariant.2,
+      list_kept _ _ c.seat.inside.reader x c.seat.invariant.0 took _ y _ _ c.leave.ensures.gave c.leave.ensures.told.0 c.seat.invariant.3,
     )
 
 pub returns-clause-stands : goal.returns-clause-stands
@@ -38,5 +39,12 @@ returns-clause-stands g c =
     let leaves = c.run-taken.ensures.leaves in
     let quiet = c.run-taken.ensures.quiet in
     stands_from _ _ _ _ _ c.seat.view_is
-    (lock_stands _ _ c.seat.inside.reader x c.seat.invariant.0 took _ c.leave.new.reader y c.leave.ensures.gave c.leave.ensures.reader _ _ c.seat.inside.polled c.seat.inside.polled c.seat.inside.notes _ _ _ refl (same_of _ _ _ c.args.self.now c.args.seat.now c.requires.own c.self.view_is (ap (λ (s : SeatView g.row.Q.Denot g.row.O.Denot). s.of) c.seat.view_is) k.0 k.1 (engine_kept _ _ c.seat.inside.reader x c.seat.invariant.0 took _ y c.leave.ensures.gave) refl)
+    (lock_stands _ _ c.seat.inside.reader x c.seat.invariant.0 took _ c.leave.new.reader y c.leave.ensures.gave c.leave.ensures.reader _ _ c.seat.inside.polled c.seat.inside.polled c.seat.inside.notes c.seat.inside.ties.ties c.leave.new.ties.ties _ _ _ c.leave.ensures.told.1 refl (same_of _ _ _ c.args.self.now c.args.seat.now c.requires.own c.self.view_is (ap (λ (s : SeatView g.row.Q.Denot g.row.O.Denot). s.of) c.seat.view_is) k.0 k.1 (engine_kept _ _ c.seat.inside.reader x c.seat.invariant.0 took _ y c.leave.ensures.gave) refl)
     c.who-who.ensures.is c.in-Some.ensures.entered.1 leaves (quiet_mark _ _ _ quiet) (λ is. absurd (false≢true (sym quiet ∙ is))))
+
+pub leave-requires-clause-ties : goal.leave-requires-clause-ties
+leave-requires-clause-ties g c =
+    list_found _ _ c.seat.inside.reader c.in-Some.taken c.seat.invariant.0 c.in-Some.ensures.entered.0 c.run-taken.result.0 _ c.seat.invariant.3 c.run-taken.ensures.leaves.ties
+
+pub returns-clause-tells : goal.returns-clause-tells
+returns-clause-tells g c = tells_on _ _ _ c.leave.ensures.told.2 c.run-taken.ensures.tells

@@ -2,10 +2,11 @@ use Rattle.std.proofs.Common.{rules, ◌≡◌, ◌∙◌, ap, refl, [], inr}
 use Rattle.mx_lock.specs.Lock.{IsKeyOf}
 use Rattle.mx_journal.specs.History.{is_legal}
 use Rattle.mx_lock.specs.Shared.{IsLeft}
+use Rattle.mx_lock.specs.Ties.{TieState}
 use Rattle.mx_multi.specs.Seats.{SeatView}
 use Rattle.mx_board.specs.Board.{ReaderState}
 use Rattle.mx_lock.proofs.Claims.{claims_first}
-use Rattle.mx_multi.proofs.Standing.{seat_after, received_same, lock_sees, same_of, engine_kept, sees_from, claims_after, claims_from, claims_only, none_claimed, found_state}
+use Rattle.mx_multi.proofs.Standing.{list_kept, seat_after, received_same, lock_sees, same_of, engine_kept, sees_from, claims_after, claims_from, claims_only, claim_on, none_claimed, found_state}
 use Rattle.mx_multi.proofs.multi.Multi.claim_at.Goals as goal
 
 pub invariant_of-seat-in_default-claimed : goal.invariant_of-seat-in_default-claimed
@@ -15,12 +16,13 @@ invariant_of-seat-in_default-claimed g c =
     let x = c.in-Some.taken in
     let y = c.claim-claimed.new.self in
     let j = c.claim-claimed.ensures.journal in
-    let left : IsLeft x y = record { journal = j.0; opening = j.1; book = j.2; legal = ap is_legal j.0 ∙ c.len-cut.ensures.legal } in (
+    let left : IsLeft x y = record { journal = j.0; opening = j.1; book = j.2; ties = ap (λ (z : TieState). z.book) c.claim-claimed.ensures.ties; legal = ap is_legal j.0 ∙ c.len-cut.ensures.legal } in (
       seat_after _ _ c.seat.inside.reader x c.seat.invariant.0 took _ _ y c.leave.ensures.gave c.leave.ensures.reader left.book,
       k.2,
       received_same _ _
-          (lock_sees _ _ c.seat.inside.reader x c.seat.invariant.0 took _ c.leave.new.reader y c.leave.ensures.gave c.leave.ensures.reader _ _ c.seat.inside.polled c.seat.inside.notes (same_of _ _ _ c.args.self.now c.args.seat.now c.requires.own c.self.view_is (ap (λ (s : SeatView g.row.Q.Denot g.row.O.Denot). s.of) c.seat.view_is) k.0 k.1 (engine_kept _ _ c.seat.inside.reader x c.seat.invariant.0 took _ y c.leave.ensures.gave) refl) c.in-Some.ensures.entered.1 left)
+          (lock_sees _ _ c.seat.inside.reader x c.seat.invariant.0 took _ c.leave.new.reader y c.leave.ensures.gave c.leave.ensures.reader _ _ c.seat.inside.polled c.seat.inside.notes c.seat.inside.ties.ties c.leave.new.ties.ties c.leave.ensures.told.1 (same_of _ _ _ c.args.self.now c.args.seat.now c.requires.own c.self.view_is (ap (λ (s : SeatView g.row.Q.Denot g.row.O.Denot). s.of) c.seat.view_is) k.0 k.1 (engine_kept _ _ c.seat.inside.reader x c.seat.invariant.0 took _ y c.leave.ensures.gave) refl) c.in-Some.ensures.entered.1 left)
           c.seat.invariant.2,
+      list_kept _ _ c.seat.inside.reader x c.seat.invariant.0 took _ y _ _ c.leave.ensures.gave c.leave.ensures.told.0 c.seat.invariant.3,
     )
 
 pub invariant_of-seat-2 : goal.invariant_of-seat-2
@@ -30,12 +32,13 @@ invariant_of-seat-2 g c =
     let x = c.in-Some.taken in
     let y = c.claim-claimed.new.self in
     let j = c.claim-claimed.ensures.journal in
-    let left : IsLeft x y = record { journal = j.0; opening = j.1; book = j.2; legal = ap is_legal j.0 ∙ c.len-cut.ensures.legal } in (
+    let left : IsLeft x y = record { journal = j.0; opening = j.1; book = j.2; ties = ap (λ (z : TieState). z.book) c.claim-claimed.ensures.ties; legal = ap is_legal j.0 ∙ c.len-cut.ensures.legal } in (
       seat_after _ _ c.seat.inside.reader x c.seat.invariant.0 took _ _ y c.leave.ensures.gave c.leave.ensures.reader left.book,
       k.2,
       received_same _ _
-          (lock_sees _ _ c.seat.inside.reader x c.seat.invariant.0 took _ c.leave.new.reader y c.leave.ensures.gave c.leave.ensures.reader _ _ c.seat.inside.polled c.seat.inside.notes (same_of _ _ _ c.args.self.now c.args.seat.now c.requires.own c.self.view_is (ap (λ (s : SeatView g.row.Q.Denot g.row.O.Denot). s.of) c.seat.view_is) k.0 k.1 (engine_kept _ _ c.seat.inside.reader x c.seat.invariant.0 took _ y c.leave.ensures.gave) refl) c.in-Some.ensures.entered.1 left)
+          (lock_sees _ _ c.seat.inside.reader x c.seat.invariant.0 took _ c.leave.new.reader y c.leave.ensures.gave c.leave.ensures.reader _ _ c.seat.inside.polled c.seat.inside.notes c.seat.inside.ties.ties c.leave.new.ties.ties c.leave.ensures.told.1 (same_of _ _ _ c.args.self.now c.args.seat.now c.requires.own c.self.view_is (ap (λ (s : SeatView g.row.Q.Denot g.row.O.Denot). s.of) c.seat.view_is) k.0 k.1 (engine_kept _ _ c.seat.inside.reader x c.seat.invariant.0 took _ y c.leave.ensures.gave) refl) c.in-Some.ensures.entered.1 left)
           c.seat.invariant.2,
+      list_kept _ _ c.seat.inside.reader x c.seat.invariant.0 took _ y _ _ c.leave.ensures.gave c.leave.ensures.told.0 c.seat.invariant.3,
     )
 
 pub returns-in_default-claimed-clause-sees : goal.returns-in_default-claimed-clause-sees
@@ -45,9 +48,9 @@ returns-in_default-claimed-clause-sees g c =
     let x = c.in-Some.taken in
     let y = c.claim-claimed.new.self in
     let j = c.claim-claimed.ensures.journal in
-    let left : IsLeft x y = record { journal = j.0; opening = j.1; book = j.2; legal = ap is_legal j.0 ∙ c.len-cut.ensures.legal } in
+    let left : IsLeft x y = record { journal = j.0; opening = j.1; book = j.2; ties = ap (λ (z : TieState). z.book) c.claim-claimed.ensures.ties; legal = ap is_legal j.0 ∙ c.len-cut.ensures.legal } in
     inr (sees_from _ _ _ c.seat.view_is
-    (lock_sees _ _ c.seat.inside.reader x c.seat.invariant.0 took _ c.leave.new.reader y c.leave.ensures.gave c.leave.ensures.reader _ _ c.seat.inside.polled c.seat.inside.notes (same_of _ _ _ c.args.self.now c.args.seat.now c.requires.own c.self.view_is (ap (λ (s : SeatView g.row.Q.Denot g.row.O.Denot). s.of) c.seat.view_is) k.0 k.1 (engine_kept _ _ c.seat.inside.reader x c.seat.invariant.0 took _ y c.leave.ensures.gave) refl) c.in-Some.ensures.entered.1 left))
+    (lock_sees _ _ c.seat.inside.reader x c.seat.invariant.0 took _ c.leave.new.reader y c.leave.ensures.gave c.leave.ensures.reader _ _ c.seat.inside.polled c.seat.inside.notes c.seat.inside.ties.ties c.leave.new.ties.ties c.leave.ensures.told.1 (same_of _ _ _ c.args.self.now c.args.seat.now c.requires.own c.self.view_is (ap (λ (s : SeatView g.row.Q.Denot g.row.O.Denot). s.of) c.seat.view_is) k.0 k.1 (engine_kept _ _ c.seat.inside.reader x c.seat.invariant.0 took _ y c.leave.ensures.gave) refl) c.in-Some.ensures.entered.1 left))
 
 pub returns-clause-sees : goal.returns-clause-sees
 returns-clause-sees g c =
@@ -56,9 +59,9 @@ returns-clause-sees g c =
     let x = c.in-Some.taken in
     let y = c.claim-claimed.new.self in
     let j = c.claim-claimed.ensures.journal in
-    let left : IsLeft x y = record { journal = j.0; opening = j.1; book = j.2; legal = ap is_legal j.0 ∙ c.len-cut.ensures.legal } in
+    let left : IsLeft x y = record { journal = j.0; opening = j.1; book = j.2; ties = ap (λ (z : TieState). z.book) c.claim-claimed.ensures.ties; legal = ap is_legal j.0 ∙ c.len-cut.ensures.legal } in
     sees_from _ _ _ c.seat.view_is
-    (lock_sees _ _ c.seat.inside.reader x c.seat.invariant.0 took _ c.leave.new.reader y c.leave.ensures.gave c.leave.ensures.reader _ _ c.seat.inside.polled c.seat.inside.notes (same_of _ _ _ c.args.self.now c.args.seat.now c.requires.own c.self.view_is (ap (λ (s : SeatView g.row.Q.Denot g.row.O.Denot). s.of) c.seat.view_is) k.0 k.1 (engine_kept _ _ c.seat.inside.reader x c.seat.invariant.0 took _ y c.leave.ensures.gave) refl) c.in-Some.ensures.entered.1 left)
+    (lock_sees _ _ c.seat.inside.reader x c.seat.invariant.0 took _ c.leave.new.reader y c.leave.ensures.gave c.leave.ensures.reader _ _ c.seat.inside.polled c.seat.inside.notes c.seat.inside.ties.ties c.leave.new.ties.ties c.leave.ensures.told.1 (same_of _ _ _ c.args.self.now c.args.seat.now c.requires.own c.self.view_is (ap (λ (s : SeatView g.row.Q.Denot g.row.O.Denot). s.of) c.seat.view_is) k.0 k.1 (engine_kept _ _ c.seat.inside.reader x c.seat.invariant.0 took _ y c.leave.ensures.gave) refl) c.in-Some.ensures.entered.1 left)
 
 pub returns-in_default-claimed-clause-claims : goal.returns-in_default-claimed-clause-claims
 returns-in_default-claimed-clause-claims g c =
@@ -76,7 +79,7 @@ returns-clause-claims g c =
     let y = c.claim-claimed.new.self in
     let r = c.in-Some-claimed.claimed in
     claims_from _ _ _ r.0.ticket c.seat.view_is
-    (claims_only _ _ c.seat.inside.reader x c.seat.invariant.0 took _ _ y c.leave.ensures.gave c.leave.ensures.reader _ _ c.seat.inside.polled c.seat.inside.polled c.seat.inside.notes r.0.ticket (claims_first x.core.journal y.core.journal r.0.ticket r.1 x.core.queue y.core.queue c.claim-claimed.ensures.journal.0 c.in-Some-claimed.ensures.some))
+    (claims_only _ _ c.seat.inside.reader x c.seat.invariant.0 took _ _ y c.leave.ensures.gave c.leave.ensures.reader _ _ c.seat.inside.polled c.seat.inside.polled c.seat.inside.notes c.seat.inside.ties.ties c.leave.new.ties.ties r.0.ticket (claims_first x.core.journal y.core.journal r.0.ticket r.1 x.core.queue y.core.queue c.claim-claimed.ensures.journal.0 c.in-Some-claimed.ensures.some))
 
 pub returns-in_default-claimed-clause-queue : goal.returns-in_default-claimed-clause-queue
 returns-in_default-claimed-clause-queue g c =
@@ -103,3 +106,6 @@ returns-clause-queue g c =
       first = c.in-Some-claimed.ensures.some;
       least = c.in-Some-claimed.ensures.least;
     }
+
+pub returns-clause-request : goal.returns-clause-request
+returns-clause-request g c = claim_on _ _ _ _ c.leave.ensures.told.2 c.in-Some-claimed.ensures.request

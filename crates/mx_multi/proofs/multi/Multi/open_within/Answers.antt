@@ -3,6 +3,7 @@ use Rattle.crossbeam_channel.specs.Claims.{view}
 use Rattle.mx_board.specs.Journal.{Mark}
 use Rattle.mx_lock.specs.Shared.{SharedState, Engine, content}
 use Rattle.mx_lock.specs.Lock.{engine_of}
+use Rattle.mx_lock.specs.Ties.{TieState}
 use Rattle.mx_multi.specs.Seats.{MultiView}
 use Rattle.mx_multi.specs.Opening.{AreNew}
 use Rattle.mx_multi.proofs.Opening.{all_own}
@@ -14,14 +15,34 @@ seated-requires-clause-few g c = c.in_ok-for_seats.ensures.few
 pub seated-requires-2-clause-few : goal.seated-requires-2-clause-few
 seated-requires-2-clause-few g c = c.in_ok-for_workers.ensures.few
 
+pub seated-requires-clause-ties : goal.seated-requires-clause-ties
+seated-requires-clause-ties g c =
+    let shared = c.in_ok-shared.shared in
+    let mark = c.tie_mark-no_ties.ensures in
+    let none = ap (λ (m : TieState). m.ties) mark ∙ c.in_ok-shared.ensures.2 in
+    let list : c.tie_mark-no_ties.result.book ≡ (content shared).engine.ties = ap (λ (m : TieState). m.book) mark in
+    let first : engine_of (view c.in_ok-lock.founder) ≡ (content shared).engine = ap engine_of c.in_ok-lock.ensures.1 ∙ ap (λ (z : SharedState g.row.Q.Denot g.row.O.Denot). (content z).engine) (c.readers-2.ensures.same ∙ c.readers.ensures.same) in
+    (none, list ∙ sym (ap (λ (e : Engine). e.ties) first))
+
+pub seated-requires-2-clause-ties : goal.seated-requires-2-clause-ties
+seated-requires-2-clause-ties g c =
+    let shared = c.in_ok-shared.shared in
+    let mark = c.tie_mark-no_ties.ensures in
+    let none = ap (λ (m : TieState). m.ties) mark ∙ c.in_ok-shared.ensures.2 in
+    let list : c.tie_mark-no_ties.result.book ≡ (content shared).engine.ties = ap (λ (m : TieState). m.book) mark in
+    let first : engine_of (view c.in_ok-lock.founder) ≡ (content shared).engine = ap engine_of c.in_ok-lock.ensures.1 ∙ ap (λ (z : SharedState g.row.Q.Denot g.row.O.Denot). (content z).engine) (c.readers-2.ensures.same ∙ c.readers.ensures.same) in
+    let later : engine_of (view c.skip.new.founder) ≡ (content shared).engine = ap engine_of c.skip.ensures.next ∙ ap engine_of c.in_ok-seats.ensures.next ∙ first in
+    (none, list ∙ sym (ap (λ (e : Engine). e.ties) later))
+
 pub returns : goal.returns
 returns g c =
     let at = c.in_ok-lock.lock in
-    let all : Engine = record { book = c.mark-start.result.book; opening = record { history = c.args.limits.history } } in
+    let all : Engine = record { book = c.mark-start.result.book; opening = record { history = c.args.limits.history }; ties = c.tie_mark-no_ties.result.book } in
     let shared = c.in_ok-shared.shared in
     let book : shared.book ≡ c.mark-start.result.book = sym (ap (λ (m : Mark). m.book) c.mark-start.ensures) in
     let opening = c.in_ok-shared.ensures.1 in
-    let here : (content shared).engine ≡ all = λ i. record { book = book i; opening = opening i } in
+    let ties : shared.ties.book ≡ c.tie_mark-no_ties.result.book = sym (ap (λ (m : TieState). m.book) c.tie_mark-no_ties.ensures) in
+    let here : (content shared).engine ≡ all = λ i. record { book = book i; opening = opening i; ties = ties i } in
     let first : engine_of (view c.in_ok-lock.founder) ≡ all = ap engine_of c.in_ok-lock.ensures.1 ∙ ap (λ (z : SharedState g.row.Q.Denot g.row.O.Denot). (content z).engine) (c.readers-2.ensures.same ∙ c.readers.ensures.same) ∙ here in
     let later : engine_of (view c.skip.new.founder) ≡ all = ap engine_of c.skip.ensures.next ∙ ap engine_of c.in_ok-seats.ensures.next ∙ first in
     let m : MultiView g.row.Q.Denot g.row.O.Denot = record { table = at.table; keys = at.keys; engine = all; words = c.in_ok-words.words.id } in
