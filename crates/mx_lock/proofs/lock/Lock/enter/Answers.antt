@@ -1,0 +1,5 @@
+use Rattle.std.proofs.Common.{rules}
+use Rattle.mx_lock.proofs.lock.Lock.enter.Goals as goal
+
+pub put_back-requires-clause-queue : goal.put_back-requires-clause-queue
+put_back-requires-clause-queue g c = search rules
