@@ -1,2 +1,3 @@
+pub mod Racks
 pub mod Sends
 pub mod Tallies

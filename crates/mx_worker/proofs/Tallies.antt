@@ -1,5 +1,5 @@
 -- What a worker's calls make of its seat and of its counts.
-use Rattle.std.proofs.Common.{◌≡◌, ◌⊎◌, inl, inr, ℕ, ◌+◌, ◌-◌, ◌^◌, Bool, true, false, List, [], ◌∷◌, ◌++◌, length, refl, ap, sym, subst, ◌∙◌, append_assoc, append-nil, arith}
+use Rattle.std.proofs.Common.{◌≡◌, ◌⊎◌, inl, inr, ℕ, ◌+◌, ◌-◌, ◌^◌, Bool, List, [], ◌∷◌, ◌++◌, length, refl, sym, subst, arith}
 use Rattle.std.specs.Prelude.{min, count_by}
 use Rattle.std.proofs.lemmas.List.Sums.{sum_by-append}
 use Rattle.mx_types.specs.declared.names.Ticket.{Ticket}
@@ -11,6 +11,7 @@ use Rattle.mx_types.specs.declared.reply.Reply.TheVariants as reply
 use Rattle.mx_types.specs.declared.reply.Look.{Look}
 use Rattle.mx_multi.proofs.Runs.{later_none, later_more, later_sees}
 use Rattle.mx_multi.specs.Seats.{SeatView, Stands, Sees, Later}
+use Rattle.mx_multi.specs.Progress.{noted_by}
 use Rattle.mx_worker.specs.Work.{Worked, tallied, is_recorded, is_stale}
 
 count-append : (p : Receipt → Bool) (xs ys : List Receipt) → count_by p (xs ++ ys) ≡ count_by p xs + count_by p ys
@@ -31,6 +32,20 @@ worked_saw s t u r k w h = record { more = w.more; later = later_sees s t u w.mo
 pub worked_sees : {Q O : Type 0} (s t u : SeatView Q O) (r k : ℕ) → Worked s t r k → (u ≡ t) ⊎ Sees t u → Worked s u r k
 worked_sees s t u r k w (inl e) = worked_same s t u r k w e
 worked_sees s t u r k w (inr h) = worked_saw s t u r k w h
+
+-- a count was noted
+later_notes : {Q O : Type 0} (s t : SeatView Q O) (slot : ℕ) (ticket : Ticket) (count : ℕ) (more : List Receipt) → Later s t more → Later s (noted_by t slot ticket count) more
+later_notes s t slot ticket count more h = record {
+  of = h.of;
+  who = h.who;
+  later = h.later;
+  legal = h.legal;
+  placed = λ mine p. let q = h.placed mine p in record { placed = q.placed; polled = q.polled };
+}
+
+pub worked_notes : {Q O : Type 0} (s t u : SeatView Q O) (r k slot : ℕ) (ticket : Ticket) (count : ℕ) → Worked s t r k → u ≡ noted_by t slot ticket count → Worked s u r k
+worked_notes s t u r k slot ticket count w e =
+    worked_same s (noted_by t slot ticket count) u r k (record { more = w.more; later = later_notes s t slot ticket count w.more w.later; recorded_is = w.recorded_is; stale_is = w.stale_is }) e
 
 worked_more : {Q O : Type 0} (s t u : SeatView Q O) (r k r2 k2 : ℕ) (call : Call) (reply : Reply) → Worked s t r k → Stands t u call reply
     → r2 ≡ min (r + count_by is_recorded (record { cut = length u.seen; call = call; reply = reply } ∷ [])) (2 ^ 32 - 1)

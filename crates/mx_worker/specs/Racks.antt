@@ -1,10 +1,15 @@
 -- What a worker has in hand.
-use Rattle.std.specs.Prelude.{ℕ, ◌+◌}
+use Rattle.std.specs.Prelude.{ℕ, ◌+◌, Bool, List, length}
+use Rattle.std.specs.List.{filter}
 
--- how many transfers it holds, and how many ends found no memory
+-- of each transfer that it holds, in order of claim, whether it has started; and how many ends found no memory
 pub record RackView : Type 0 where
-  pub held : ℕ
+  pub held : List Bool
   pub unrecorded : ℕ
 
 abbrev pub in_hand : RackView → ℕ
-in_hand r = r.held + r.unrecorded
+in_hand r = length r.held + r.unrecorded
+
+-- of whether each has started: those that have
+abbrev pub started : List Bool → List Bool
+started bs = filter (λ b. b) bs

@@ -1,9 +1,12 @@
 -- What a worker did with its seat.
-use Rattle.std.specs.Prelude.{◌≡◌, ℕ, ◌-◌, ◌^◌, min, count_by, Bool, true, false, List, ◌++◌}
+use Rattle.std.specs.Prelude.{◌≡◌, ℕ, ◌-◌, ◌^◌, min, count_by, Bool, true, false, List}
+use Rattle.mx_types.specs.declared.code.Code.{Code}
+use Rattle.mx_types.specs.declared.names.Ticket.{Ticket}
+use Rattle.mx_types.specs.declared.call.Call.TheVariants as call
 use Rattle.mx_types.specs.declared.call.Receipt.{Receipt}
 use Rattle.mx_types.specs.declared.reply.Reply.{Reply}
 use Rattle.mx_types.specs.declared.reply.Reply.TheVariants as reply
-use Rattle.mx_multi.specs.Seats.{SeatView, Later}
+use Rattle.mx_multi.specs.Seats.{SeatView, Later, Stands}
 
 abbrev pub is_recorded_reply : Reply → Bool
 is_recorded_reply reply.Recorded = true
@@ -30,6 +33,12 @@ pub record Worked {Q O : Type 0} (s t : SeatView Q O) (recorded stale : ℕ) : T
   pub later : Later s t more
   pub recorded_is : recorded ≡ tallied is_recorded more
   pub stale_is : stale ≡ tallied is_stale more
+
+-- the end of a ticket found no memory
+pub record Lacks {Q O : Type 0} (s t : SeatView Q O) (ticket : Ticket) : Type 0 where
+  pub code : Code
+  pub size : ℕ
+  pub stands : Stands s t (call.Finish ticket code size) reply.OutOfMemory
 
 -- a worker's seat as it began, as it is, and what was counted since
 pub record TallyView (Q O : Type 0) : Type 0 where

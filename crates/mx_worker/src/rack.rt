@@ -1,5 +1,5 @@
 //! What a worker has in hand.
-ghost use Rattle.std.specs.Prelude.{◌≡◌, ◌+◌, ◌<◌, ◌≤◌, ◌↔◌, IsTrue, IfOk, MatchOption};
+ghost use Rattle.std.specs.Prelude.{◌≡◌, ◌+◌, ◌<◌, ◌≤◌, ◌↔◌, ◌∷◌, ◌++◌, [], length, IsTrue, IfOk, MatchOption};
 
 use crate::queued::{Finished, Held};
 use mx_link::Link;
@@ -12,7 +12,8 @@ use std::marker::Model;
 const MOST_HELD: usize = 64;
 
 /// The transfers that a worker holds, in order of claim, and the ends that found no memory. They are at most 64 together, and there is
-/// room for as many. Contracts see how many there are of each.
+/// room for as many. Contracts see which of the transfers have started, and how
+/// many ends there are.
 #[derive(Drop)]
 pub(crate) struct Rack<L: Link> {
     held: VecDeque<Held<L>>,
@@ -20,13 +21,13 @@ pub(crate) struct Rack<L: Link> {
 }
 
 impl<L: Link> Model for Rack<L> {
-    ghost use Rattle.std.specs.Prelude.{◌+◌, ◌≤◌};
+    ghost use Rattle.std.specs.Prelude.{◌+◌, ◌≤◌, map};
     ghost use Rattle.std.specs.VecDeque.{deque_len, deque_capacity};
     ghost use Rattle.mx_worker.specs.Racks.{RackView};
 
     ghost Value = { RackView };
 
-    ghost view = { λ r. record { held = deque_len r.held; unrecorded = deque_len r.unrecorded } };
+    ghost view = { λ r. record { held = map (λ h. h.transfer.is_started) r.held.items; unrecorded = deque_len r.unrecorded } };
 
     ghost invariant = { λ r. (deque_len r.held + deque_len r.unrecorded ≤ 64) × (64 ≤ deque_capacity r.held) × (64 ≤ deque_capacity r.unrecorded) };
 }
@@ -36,7 +37,7 @@ impl<L: Link> Rack<L> {
 
     /// Nothing in hand, and room for 64.
     pub fn new(alloc: Global) -> Result<Rack<L>, OutOfMemory>
-        ensures { IfOk result (λ rack. rack ≡ record { held = 0; unrecorded = 0 }) }
+        ensures { IfOk result (λ rack. rack ≡ record { held = []; unrecorded = 0 }) }
     {
         Ok(Rack {
             held: VecDeque::with_capacity(alloc, MOST_HELD)?,
@@ -59,7 +60,7 @@ impl<L: Link> Rack<L> {
 
     /// How many transfers it holds.
     pub fn held(&self) -> usize
-        ensures { result ≡ self.now.held }
+        ensures { result ≡ length self.now.held }
     {
         self.held.len()
     }
@@ -74,14 +75,14 @@ impl<L: Link> Rack<L> {
     /// Puts a transfer behind the others.
     pub fn hold(&mut self, held: Held<L>)
         requires room { in_hand self.old < 64 }
-        ensures { self.new ≡ record self.old { held = self.old.held + 1 } }
+        ensures { self.new ≡ record self.old { held = self.old.held ++ held.transfer.is_started ∷ [] } }
     {
         self.held.push_back_reserved(held);
     }
 
     /// Takes the transfer that stands first.
     pub fn next(&mut self) -> Option<Held<L>>
-        ensures taken { MatchOption result ((self.old.held ≡ 0) × (self.new ≡ self.old)) (λ _. self.new.held + 1 ≡ self.old.held) }
+        ensures taken { MatchOption result ((self.old.held ≡ []) × (self.new ≡ self.old)) (λ h. self.old.held ≡ h.transfer.is_started ∷ self.new.held) }
         ensures rest { self.new.unrecorded ≡ self.old.unrecorded }
         ensures room { MatchOption result (in_hand self.new ≤ 64) (λ _. in_hand self.new < 64) }
     {

@@ -1,10 +1,12 @@
 //! A worker's calls on the multi handle, with the count of its recorded and stale ends.
-ghost use Rattle.std.specs.Prelude.{◌≡◌};
-ghost use Rattle.mx_worker.specs.Work.{Worked};
+ghost use Rattle.std.specs.Prelude.{◌≡◌, true, false, IfSome};
+ghost use Rattle.mx_journal.specs.History.{has_ticket, running};
+ghost use Rattle.mx_multi.specs.Progress.{noted_by};
+ghost use Rattle.mx_worker.specs.Work.{Worked, Lacks};
 
 use crate::queued::{Finished, Held, Queued};
 use mx_exchange::Outcome;
-use mx_journal::FinishReply;
+use mx_journal::{Claim, FinishReply, GiveBackReply};
 use mx_link::Link;
 use mx_multi::{Multi, WorkerSeat};
 use mx_types::{Look, Ticket};
@@ -72,6 +74,36 @@ impl<L: Link> Tally<L> {
         Some(look)
     }
 
+    /// Notes how many bytes of its response a claimed transfer has received.
+    #[tactic(auto, using(crate::proofs::Tallies::worked_notes))]
+    pub fn note(&mut self, multi: &Multi<Queued<L>, Outcome>, claim: &Claim<Queued<L>>, count: u32)
+        requires own { self.old.start.of ≡ multi.now }
+        ensures start { self.new.start ≡ self.old.start }
+        ensures noted { self.new.seat ≡ noted_by self.old.seat claim.now.slot claim.now.ticket count }
+    {
+        multi.note(&mut self.seat, claim, count);
+    }
+
+    /// Gives a transfer that has not started back to the queue. False where it didn't go back, as it runs no more: it is then dropped.
+    #[tactic(auto, using(crate::proofs::Tallies::worked_saw, crate::proofs::Tallies::worked_same))]
+    pub fn give_back<R: Wait>(
+        &mut self,
+        rt: &R,
+        multi: &Multi<Queued<L>, Outcome>,
+        held: Held<L>,
+    ) -> bool
+        requires own { self.old.start.of ≡ multi.now }
+        requires unstarted { held.transfer.is_started ≡ false }
+        ensures start { self.new.start ≡ self.old.start }
+        ensures back { result ≡ true → has_ticket held.claim.ticket (running self.new.seat.seen) ≡ true }
+    {
+        let Held { claim, transfer } = held;
+        let Ok(reply) = multi.give_back(rt, &mut self.seat, claim, Queued::of(transfer)) else {
+            return false;
+        };
+        matches!(reply, GiveBackReply::Back)
+    }
+
     /// Records an end. One that found no memory comes back.
     #[tactic(auto, using(crate::proofs::Tallies::worked_same))]
     pub fn finish<R: Wait>(
@@ -82,6 +114,7 @@ impl<L: Link> Tally<L> {
     ) -> Option<Finished<L>>
         requires own { self.old.start.of ≡ multi.now }
         ensures start { self.new.start ≡ self.old.start }
+        ensures lacking { IfSome result (λ f. Lacks self.old.seat self.new.seat f.claim.ticket) }
     {
         let Finished { claim, outcome } = finished;
         let Ok(reply) = multi.finish(rt, &mut self.seat, claim, outcome) else {

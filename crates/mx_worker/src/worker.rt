@@ -1,8 +1,8 @@
 //! The loop of a worker.
-ghost use Rattle.std.specs.Prelude.{◌≡◌, ◌<◌, None, true, false};
+ghost use Rattle.std.specs.Prelude.{◌≡◌, ◌<◌, ◌∷◌, ◌++◌, [], None, true, false};
 ghost use Rattle.futures.specs.Poll.{IfReady, OnPending};
 ghost use Rattle.mx_worker.specs.Work.{Worked};
-ghost use Rattle.mx_worker.specs.Racks.{in_hand};
+ghost use Rattle.mx_worker.specs.Racks.{in_hand, started};
 
 use crate::links::Links;
 use crate::queued::{Finished, Held, Queued};
@@ -249,7 +249,9 @@ impl<L: Link> Worker<L> {
         if !is_paused {
             self.links.supply(gate, &mut transfer);
         }
-        match poll_once(&self.solo, &mut transfer) {
+        let polled = poll_once(&self.solo, &mut transfer);
+        self.tally.note(multi, &claim, transfer.received());
+        match polled {
             Poll::Ready(outcome) => {
                 self.conclude(rt, multi, transfer, Finished { claim, outcome })
             }
@@ -304,6 +306,41 @@ impl<L: Link> Worker<L> {
         }
     }
 
+    // Gives a transfer back that has not started. One that has is held on.
+    fn hand_back<R: Wait>(&mut self, rt: &R, multi: &Multi<Queued<L>, Outcome>, held: Held<L>)
+        requires own { self.old.tally.start.of ≡ multi.now }
+        requires room { in_hand self.old.rack < 64 }
+        ensures start { self.new.tally.start ≡ self.old.tally.start }
+        ensures held { self.new.rack.held ≡ self.old.rack.held ++ started (held.transfer.is_started ∷ []) }
+        ensures stopping { self.new.is_stopping ≡ self.old.is_stopping }
+    {
+        if held.transfer.started() {
+            self.rack.hold(held);
+            return;
+        }
+        self.deadlines.clear(held.ticket());
+        if self.tally.give_back(rt, multi, held) {
+            self.given_back = self.given_back.saturating_add(1);
+        }
+    }
+
+    // Claims nothing from now on, and gives back what has not started, in order of claim.
+    #[tactic(auto, using(crate::proofs::Racks::rotates_on))]
+    fn stop<R: Wait>(&mut self, rt: &R, multi: &Multi<Queued<L>, Outcome>)
+        requires own { self.old.tally.start.of ≡ multi.now }
+        ensures start { self.new.tally.start ≡ self.old.tally.start }
+        ensures held { self.new.rack.held ≡ started self.old.rack.held }
+        ensures stopping { self.new.is_stopping ≡ true }
+    {
+        self.is_stopping = true;
+        for gone in 0..self.rack.held() {
+            let Some(held) = self.rack.next() else {
+                unreachable!()
+            };
+            self.hand_back(rt, multi, held);
+        }
+    }
+
     // One turn.
     fn turn<R: Wait, G: Gate<Link = L>>(
         &mut self,
@@ -328,8 +365,8 @@ impl<L: Link> Worker<L> {
         } else {
             wait_ms(&self.deadlines, now)
         };
-        if matches!(gate.turn(wait), Turn::Stop) {
-            self.is_stopping = true;
+        if matches!(gate.turn(wait), Turn::Stop) && !self.is_stopping {
+            self.stop(rt, multi);
         }
     }
 
@@ -338,16 +375,14 @@ impl<L: Link> Worker<L> {
     }
 }
 
-/// Runs a worker at a multi handle, until its gate stops it and what it holds has ended.
-///
-/// In each turn it claims at most one transfer, where it has fewer than 64 in hand, and goes through those that it holds: first those whose
-/// deadline has come, then the others in order of claim. One that runs no more is dropped with its link; one that isn't paused gets a link
-/// where it wants one, an idle one of the worker's or one that the gate opens; each is polled once. The end of one that has ended is recorded,
-/// where it found no memory again in the next turn. Then the gate waits, at most 20 milliseconds, until the next deadline at most, and
-/// not at all where a transfer that isn't paused asked to be polled again.
+/// Runs a worker at a multi handle: it claims transfers, polls them over links of its gate, notes how many bytes they have received, and
+/// records their ends. Once its gate answers `Stop` it claims nothing more, gives back what has not started, and goes on with the rest.
 ///
 /// The seat comes back: its further receipts stand behind those that it had, and so many of them as it tells are of ends that were recorded
 /// and of ends that were stale. Where memory for the start is refused, nothing was claimed and the seat is as it was.
+///
+/// No clause says in which order it goes through what it holds, how long it has its gate wait, how many it gave back, or that it ends: one
+/// that has started and stays paused keeps it.
 pub fn run_worker<L: Link, R: Wait + RandomSource + AllocGlobal, G: Gate<Link = L>>(
     rt: &R,
     multi: &Multi<Queued<L>, Outcome>,
