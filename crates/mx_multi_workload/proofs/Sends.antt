@@ -1,0 +1,84 @@
+-- The seats of a multi handle may go to another thread beside it, and what threads of this crate are handed may go to them.
+use denote.Ref.{NamedLft}
+use denote.Param.Send.{IsSend, IsSync, struct_send, shr_send, recorded_send, sendable}
+use denote.Struct.Declared.{shape}
+use Rattle.std.proofs.Crossing.{crosses, Vec-send}
+use Rattle.std.proofs.alloc.Global.TheSendSync as heap
+use Rattle.mx_multi.proofs.Sends.{multi_sync, seat_send}
+use Rattle.mx_multi.specs.contracts.multi.Multi as Multi
+use Rattle.mx_multi.specs.contracts.seat.Seat as Seat
+use Rattle.mx_multi.specs.contracts.seat.WorkerSeat as WorkerSeat
+use Rattle.mx_multi.specs.contracts.seat.WorkerSeat.TheInside as WorkerInside
+use Rattle.mx_multi_workload.proofs.entries.Entry.TheSendSync.{the_send as entry_send}
+use Rattle.mx_multi_workload.specs.contracts.sample.JobWork.TheImpl.{ghosts as job}
+use Rattle.mx_multi_workload.specs.contracts.sample.EndEnding.TheImpl.{ghosts as end}
+use Rattle.mx_multi_workload.specs.contracts.sample.Job as Job
+use Rattle.mx_multi_workload.specs.contracts.sample.End as End
+use Rattle.mx_multi_workload.specs.contracts.client.Client as Client
+use Rattle.mx_multi_workload.specs.contracts.client.Worker as Worker
+use Rattle.mx_multi_workload.specs.contracts.client.Held as Held
+use Rattle.mx_multi_workload.specs.contracts.party.Place as Place
+use Rattle.mx_multi_workload.specs.contracts.party.Party as Party
+use Rattle.mx_multi_workload.specs.contracts.threads.Player as Player
+
+job_send : IsSend Job.the_row
+job_send = search (sendable, crosses) depth 40
+
+pub end_send : IsSend End.the_row
+end_send = search (sendable, crosses) depth 40
+
+pub end_field : IsSend End.the_field.row
+end_field = search (sendable, crosses) depth 40
+
+pub held_field : IsSend Held.the_field.row
+held_field = search (sendable, crosses) depth 40
+
+pub held_send : IsSend Held.the_row
+held_send = search (sendable, crosses) depth 40
+
+pub handle_sync : IsSync (Multi.the_row Job.the_row End.the_row job end)
+handle_sync = multi_sync Job.the_row End.the_row job end job_send end_send
+
+pub chair_field : IsSend (Seat.the_field Job.the_row End.the_row job end).row
+chair_field = seat_send Job.the_row End.the_row job end job_send end_send
+
+bench_inside : IsSend (WorkerInside.the_field Job.the_row End.the_row job end).row
+bench_inside = struct_send (shape (WorkerInside.the_type Job.the_row End.the_row job end)) (chair_field, tt)
+
+bench_field : IsSend (WorkerSeat.the_field Job.the_row End.the_row job end).row
+bench_field =
+    let a = bench_inside in
+    search (sendable) depth 40 fits 20000
+
+pub client_field : (x : NamedLft) → IsSend (Client.the_field x).row
+client_field x = struct_send (shape (Client.the_type x)) (shr_send x.mir x.lft (Multi.the_row Job.the_row End.the_row job end) handle_sync, (chair_field, tt))
+
+pub worker_field : (x : NamedLft) → IsSend (Worker.the_field x).row
+worker_field x = struct_send (shape (Worker.the_type x)) (shr_send x.mir x.lft (Multi.the_row Job.the_row End.the_row job end) handle_sync, (bench_field, tt))
+
+pub worker_send : (x : NamedLft) → IsSend (Worker.the_row x)
+worker_send x = recorded_send (Worker.the_field x).row _ _ (Worker.the_type x).to_one (worker_field x)
+
+place_field : (x : NamedLft) → IsSend (Place.the_field x).row
+place_field x = struct_send (shape (Place.the_type x)) (client_field x, (search (sendable, crosses) depth 40, (search (sendable, crosses) depth 40, tt)))
+
+place_send : (x : NamedLft) → IsSend (Place.the_row x)
+place_send x = recorded_send (Place.the_field x).row _ _ (Place.the_type x).to_one (place_field x)
+
+party_field : (x : NamedLft) → IsSend (Party.the_field x).row
+party_field x = struct_send (shape (Party.the_type x)) (
+  heap.the_field_send,
+  (Vec-send _ (place_send x), (worker_field x, (search (sendable, crosses) depth 40, (search (sendable, crosses) depth 40, (search (sendable, crosses) depth 40, (search (sendable, crosses) depth 40, (Vec-send _ entry_send, (search (sendable, crosses) depth 40, tt)))))))),
+)
+
+pub party_send : (x : NamedLft) → IsSend (Party.the_row x)
+party_send x = recorded_send (Party.the_field x).row _ _ (Party.the_type x).to_one (party_field x)
+
+player_field : (x : NamedLft) → IsSend (Player.the_field x).row
+player_field x = struct_send (shape (Player.the_type x)) (
+  client_field x,
+  (search (sendable, crosses) depth 40, (search (sendable, crosses) depth 40, (search (sendable, crosses) depth 40, tt))),
+)
+
+pub player_send : (x : NamedLft) → IsSend (Player.the_row x)
+player_send x = recorded_send (Player.the_field x).row _ _ (Player.the_type x).to_one (player_field x)

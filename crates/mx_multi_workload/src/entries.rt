@@ -1,0 +1,99 @@
+//! What calls were answered, and whether one thread answers the same.
+ghost use Rattle.std.specs.Prelude.{◌≤◌};
+
+use crate::one_thread::{OneThread, place_of};
+use crate::texts::{Asked, Maker, Said};
+use mx_types::{Call, OutOfMemory, Reply, Who};
+use std::alloc::Global;
+use std::fmt;
+
+/// A call that was answered: whose it was, its number among that maker's calls, how many events its maker had then seen,
+/// whether one of them is its own, and the answer's text.
+#[derive(Drop)]
+pub struct Entry {
+    pub who: Who,
+    pub number: u32,
+    pub cut: u32,
+    pub makes_event: bool,
+    pub call: Call,
+    pub said: String,
+}
+
+impl fmt::Display for Entry {
+    fn fmt<W: fmt::Write>(&self, f: &mut fmt::Formatter<W>) -> fmt::Result {
+        let maker = Maker(self.who);
+        let cut = self.cut;
+        let asked = Asked(self.call);
+        let said = self.said.as_str();
+        write!(f, "{maker} {cut} {asked} = {said}")
+    }
+}
+
+/// Whether an answer comes with an event.
+pub fn makes_event(reply: &Reply) -> bool {
+    matches!(
+        reply,
+        Reply::Added(_)
+            | Reply::Removed
+            | Reply::Changed
+            | Reply::Message { .. }
+            | Reply::Ok
+            | Reply::Recorded
+    )
+}
+
+/// The text of an answer.
+pub fn text_of(alloc: Global, reply: &Reply) -> Result<String, OutOfMemory> {
+    let said = Said(reply);
+    Ok(format!(in alloc; "{said}")?)
+}
+
+/// The calls of all makers in the order of their cuts; at one cut, the call that made the event is the first.
+pub fn put_in_order(entries: &mut Vec<Entry>) -> Result<(), OutOfMemory> {
+    entries.sort_by_key(|entry| (entry.cut, !entry.makes_event))?;
+    Ok(())
+}
+
+/// One thread, and how many calls of each maker it has made.
+#[derive(Drop)]
+struct Replay {
+    one: OneThread,
+    calls: [u32; 32],
+}
+
+impl Replay {
+    // Whether the call, as the next one, is answered the same, at the same cut, and is the next one of its maker.
+    fn agrees(&mut self, alloc: Global, entry: &Entry) -> Result<bool, OutOfMemory> {
+        let count = &mut self.calls[place_of(entry.who)];
+        if *count != entry.number {
+            return Ok(false);
+        }
+        *count = count.wrapping_add(1);
+        let Some(reply) = self.one.answer(entry.who, entry.call)? else {
+            return Ok(false);
+        };
+        let said = text_of(alloc, &reply)?;
+        Ok(said == entry.said && self.one.len() == entry.cut)
+    }
+}
+
+/// Plays all calls, which stand in the order of their cuts, on one thread. The place of the first that is answered
+/// otherwise, or whose cut isn't how many events there then are.
+pub fn first_that_differs(
+    alloc: Global,
+    history: u32,
+    entries: &[Entry],
+) -> Result<Option<usize>, OutOfMemory>
+    requires { (4 ≤ history) × (history ≤ 1048576) }
+{
+    let mut replay = Replay {
+        one: OneThread::new(alloc, history)?,
+        calls: [0; 32],
+    };
+    for (place, entry) in entries.iter().enumerate() {
+        if !replay.agrees(alloc, entry)? {
+            return Ok(Some(place));
+        }
+    }
+    Ok(None)
+}

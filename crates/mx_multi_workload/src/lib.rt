@@ -1,0 +1,14 @@
+//! What calls of many threads on one multi handle are made of, and the same calls on one thread: seats beside the multi handle
+//! that gave them, calls by chance, the texts of calls and of their answers. Tests and the programs of `bench` stand on it.
+#![tactic(auto)]
+
+pub mod client;
+pub mod entries;
+pub mod hold;
+pub mod one_thread;
+pub mod opened;
+pub mod party;
+pub mod sample;
+pub mod stress;
+pub mod texts;
+pub mod threads;

@@ -1,0 +1,70 @@
+//! A multi handle with nothing to transfer.
+
+use crate::hold::Hold;
+use mx_multi::{Limits, Multi, Seat, WorkerSeat};
+use mx_types::{Code, Ending, Work};
+use std::sync::Arc;
+
+/// Work that is about nothing.
+#[derive(Drop)]
+pub struct Job;
+
+impl Work for Job {
+    ghost use Rattle.std.specs.Prelude.{[]};
+
+    ghost origin = { λ _. [] };
+}
+
+/// An ending that says its code and its size.
+#[derive(Drop)]
+pub struct End {
+    pub code: Code,
+    pub size: u32,
+    /// What it stays for before it says its code: the call that asks it keeps the lock meanwhile.
+    pub hold: Option<Arc<Hold>>,
+}
+
+impl End {
+    pub fn new(code: Code, size: u32) -> End {
+        End {
+            code,
+            size,
+            hold: None,
+        }
+    }
+}
+
+impl Ending for End {
+    ghost use Rattle.std.specs.Prelude.{[]};
+
+    ghost origin = { λ _. [] };
+
+    ghost code_of = { λ e. e.code };
+
+    ghost size_of = { λ e. e.size };
+
+    fn code(&self) -> Code {
+        if let Some(hold) = &self.hold {
+            hold.stay();
+        }
+        self.code
+    }
+
+    fn size(&self) -> u32 {
+        self.size
+    }
+}
+
+pub type Handle = Multi<Job, End>;
+
+pub type Chair = Seat<Job, End>;
+
+pub type Bench = WorkerSeat<Job, End>;
+
+/// Four seats and a worker's, with a history of 2,048 events.
+pub const FOUR_SEATS: Limits = Limits {
+    seats: 4,
+    workers: 1,
+    history: 2048,
+    max_connects: 4,
+};
