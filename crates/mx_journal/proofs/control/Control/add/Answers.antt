@@ -1,4 +1,5 @@
 use Rattle.std.proofs.Common.{◌≡◌, ◌<◌, ◌∙◌, [], ◌∷◌, map, ap, sym, rules, true, false, arith, length}
+use Rattle.std.proofs.lemmas.Grind.{common_steps}
 use Rattle.std.specs.Prelude.{nat_le}
 use Rattle.std.proofs.lemmas.Bool.Decides.{nat_tests}
 use Rattle.mx_types.specs.declared.event.What.TheVariants as what
@@ -65,3 +66,12 @@ returns-clause-own g c own =
     let f = λ (s : Snapshot g.row.Q.Denot). g.Q.Work.origin s.value in
     rw (c.push_reserved.ensures.items, map-pushed f c.self.inside.origins.items c.of.result (g.Q.Work.origin c.args.work) (ap g.Q.Work.origin c.of.ensures))
     (own_later g.O.Ending.origin (map f c.self.inside.origins.items) (g.Q.Work.origin c.args.work ∷ []) c.self.inside.endings.items (rw (← c.self.view_is) at own))
+
+pub returns-then-is_full-clause-answers : goal.returns-then-is_full-clause-answers
+returns-then-is_full-clause-answers g c = grind (arith, common_steps)
+
+pub returns-then-not-has_room-clause-answers : goal.returns-then-not-has_room-clause-answers
+returns-then-not-has_room-clause-answers g c = grind (arith, common_steps)
+
+pub returns-then-is_err-clause-answers : goal.returns-then-is_err-clause-answers
+returns-then-is_err-clause-answers g c = search rules

@@ -17,3 +17,12 @@ invariant_of-self g c =
           (origins-then g.Q.Work.origin c.self.inside.history c.self.inside.journal.items c.args.event.who c.args.event.what _ c.self.inside.queue.items c.self.inside.queue.items _
           c.self.invariant.origins (pausing_adds_none c.args.event.what c.requires.kind) c.self.invariant.origins.own);
     }
+
+pub returns-then-is_err-clause-room : goal.returns-then-is_err-clause-room
+returns-then-is_err-clause-room g c = search rules
+
+pub enter-requires-clause-room : goal.enter-requires-clause-room
+enter-requires-clause-room g c = search rules
+
+pub returns-clause-room : goal.returns-clause-room
+returns-clause-room g c = search rules

@@ -1,4 +1,5 @@
-use Rattle.std.proofs.Common.{◌≡◌, ◌<◌, ◌∙◌, ap, append-nil, map, refl, sym, true, arith, length}
+use Rattle.std.proofs.Common.{◌≡◌, ◌<◌, ◌∙◌, ap, append-nil, map, refl, sym, true, arith, length, rules}
+use Rattle.std.proofs.lemmas.Grind.{common_steps}
 use Rattle.mx_history.specs.History.{has_ticket, running, same_ticket}
 use Rattle.mx_journal.proofs.Controls.{control-finished, endings_short}
 use Rattle.mx_history.proofs.Tickets.{may_finish}
@@ -67,3 +68,15 @@ returns-clause-own g c own is =
     rw c.push_reserved.ensures.items
     (own_pushed g.O.Ending.origin origins c.self.inside.endings.items c.ticket-ticket.result c.args.ending (rw (← c.self.view_is) at own)
     (ap (λ t. origin_of t origins) c.ticket-ticket.ensures ∙ (rw (← c.self.view_is) at is) ∙ ap Some (sym c.requires.origin)))
+
+pub returns-in_default-clause-answers : goal.returns-in_default-clause-answers
+returns-in_default-clause-answers g c = grind (arith, common_steps)
+
+pub returns-then-is_err-clause-answers : goal.returns-then-is_err-clause-answers
+returns-then-is_err-clause-answers g c = search rules
+
+pub enter-requires-clause-may : goal.enter-requires-clause-may
+enter-requires-clause-may g c = search rules
+
+pub returns-clause-answers : goal.returns-clause-answers
+returns-clause-answers g c = grind (arith, common_steps)

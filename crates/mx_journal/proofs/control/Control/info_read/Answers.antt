@@ -1,4 +1,5 @@
-use Rattle.std.proofs.Common.{◌≡◌, ◌<◌, ◌∙◌, refl, ap, sym, arith, length, false}
+use Rattle.std.proofs.Common.{◌≡◌, ◌<◌, ◌∙◌, refl, ap, sym, arith, length, false, rules}
+use Rattle.std.proofs.lemmas.Grind.{common_steps}
 use Rattle.std.specs.Prelude.{◌==◌}
 use Rattle.std.specs.Option.{option_map}
 use Rattle.std.proofs.lemmas.Bool.Decides.{nat_tests}
@@ -35,3 +36,15 @@ unreachable-requires g c =
     let gone = sym (ap (option_map (λ (r : Row). r.handle)) c.in_default.is) ∙ c.row_of_ticket.ensures.handle c.self.inside.journal.items c.self.invariant.tabled.table in
     message_has_row g.O.Ending.code_of g.O.Ending.size_of c.self.inside.journal.items c.self.inside.endings.items c.index.result.now c.index.result.now.0
     s.kept.legal s.waits some (ap (λ x. x.0) c.index.ensures) gone
+
+pub returns-clause-answers : goal.returns-clause-answers
+returns-clause-answers g c = grind (arith, common_steps)
+
+pub enter-requires-clause-may : goal.enter-requires-clause-may
+enter-requires-clause-may g c = grind (arith, common_steps)
+
+pub returns-clause-endings : goal.returns-clause-endings
+returns-clause-endings g c = search rules
+
+pub returns-clause-own : goal.returns-clause-own
+returns-clause-own g c = search rules

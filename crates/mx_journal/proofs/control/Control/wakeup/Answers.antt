@@ -1,4 +1,5 @@
-use Rattle.std.proofs.Common.{◌≡◌, ◌∙◌, refl, sym, rules, true}
+use Rattle.std.proofs.Common.{◌≡◌, ◌∙◌, refl, sym, rules, true, arith}
+use Rattle.std.proofs.lemmas.Grind.{common_steps}
 use Rattle.mx_types.specs.declared.event.What.TheVariants as what
 use Rattle.mx_journal.proofs.Controls.{control-quiet}
 use Rattle.mx_journal.proofs.Origins.{origins-then}
@@ -16,3 +17,12 @@ invariant_of-self g c =
           (origins-then g.Q.Work.origin c.self.inside.history c.self.inside.journal.items c.args.who what.Wake _ c.self.inside.queue.items c.self.inside.queue.items _
           c.self.invariant.origins refl c.self.invariant.origins.own);
     }
+
+pub returns-then-is_err-clause-answers : goal.returns-then-is_err-clause-answers
+returns-then-is_err-clause-answers g c = search rules
+
+pub returns-then-is_err-clause-logged : goal.returns-then-is_err-clause-logged
+returns-then-is_err-clause-logged g c = grind (arith, common_steps)
+
+pub returns-then-is_err-clause-unchanged : goal.returns-then-is_err-clause-unchanged
+returns-then-is_err-clause-unchanged g c = search rules
