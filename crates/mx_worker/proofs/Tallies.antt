@@ -39,6 +39,7 @@ later_notes s t slot ticket count more h = record {
   of = h.of;
   who = h.who;
   later = h.later;
+  ties = h.ties;
   legal = h.legal;
   placed = λ mine p. let q = h.placed mine p in record { placed = q.placed; polled = q.polled };
 }

@@ -383,6 +383,7 @@ impl<L: Link> Worker<L> {
 ///
 /// No clause says in which order it goes through what it holds, how long it has its gate wait, how many it gave back, or that it ends: one
 /// that has started and stays paused keeps it.
+#[tactic(auto, using(crate::proofs::Tallies::worked_none))]
 pub fn run_worker<L: Link, R: Wait + RandomSource + AllocGlobal, G: Gate<Link = L>>(
     rt: &R,
     multi: &Multi<Queued<L>, Outcome>,
