@@ -18,6 +18,8 @@ publish-requires g c =
     let x = c.engine.inside.control in
     let y = c.add-reply.new.self in
     let answer = reply_of_add c.add-reply.result in
+    let other : HasNoOther (claimed x.journal x.queue) (claimed y.journal y.queue) =
+    subst (λ (q : List (Ticket × g.row.Q.Denot)). HasNoOther (claimed x.journal x.queue) (claimed y.journal q)) (sym e.queue) (claims_added x.opening _ _ x.journal c.add-reply.result y.journal x.queue c.args.self.work e.answers) in
     let ties : c.tie_addition.new.self.ties ≡ c.engine.inside.ties.ties ++ option_to_list (tie_added c.add-reply.result (g.Q.Work.origin c.args.self.work)) =
     c.tie_addition.ensures.ties ∙ ap (λ (w : g.row.Q.Denot). c.engine.inside.ties.ties ++ option_to_list (tie_added c.add-reply.result (g.Q.Work.origin w))) c.of-added.ensures in (
       log_is x.opening _ (call.Add _) answer x.journal y.journal c.engine.inside.board.events c.add-reply.new.log.events e.answers c.engine.invariant.0 e.logged,
@@ -40,8 +42,8 @@ returns-clause-tells g c =
     let x = c.engine.inside.control in
     let y = c.add-reply.new.self in
     let other : HasNoOther (claimed x.journal x.queue) (claimed y.journal y.queue) =
-    subst (λ (q : List (Ticket × g.row.Q.Denot)). HasNoOther (claimed x.journal x.queue) (claimed y.journal q)) (sym e.queue) (claims_added x.opening c.args.who c.args.self.handle x.journal c.add-reply.result y.journal x.queue c.args.self.work e.answers) in
+    subst (λ (q : List (Ticket × g.row.Q.Denot)). HasNoOther (claimed x.journal x.queue) (claimed y.journal q)) (sym e.queue) (claims_added x.opening _ _ x.journal c.add-reply.result y.journal x.queue c.args.self.work e.answers) in
     let ties : c.tie_addition.new.self.ties ≡ c.engine.inside.ties.ties ++ option_to_list (tie_added c.add-reply.result (g.Q.Work.origin c.args.self.work)) =
     c.tie_addition.ensures.ties ∙ ap (λ (w : g.row.Q.Denot). c.engine.inside.ties.ties ++ option_to_list (tie_added c.add-reply.result (g.Q.Work.origin w))) c.of-added.ensures in
     subst (Tells (tie_added c.add-reply.result (g.Q.Work.origin c.args.self.work))) (sym (ap (λ (z : SharedState g.row.Q.Denot g.row.O.Denot). z.ties.ties) c.publish.ensures.is ∙ ties))
-    (tied_added g.Q.Work.origin g.O.Ending.origin x.opening c.args.who c.args.self.handle c.add-reply.result x y c.engine.inside.ties.ties c.args.self.work c.engine.invariant.2 e.answers e.queue e.endings).1
+    (tied_added g.Q.Work.origin g.O.Ending.origin x.opening _ _ c.add-reply.result x y c.engine.inside.ties.ties c.args.self.work c.engine.invariant.2 e.answers e.queue e.endings).1
