@@ -1,0 +1,4 @@
+pub mod Asked
+pub mod Options
+pub mod Places
+pub mod Run

@@ -1,0 +1,251 @@
+//! The one who adds what is to be fetched, and collects what came.
+ghost use Rattle.std.specs.Prelude.{◌≡◌, ◌⊎◌, ◌<◌, ◌++◌, [], ◌∷◌, length, map, slice_get, Some, Ok, Err, IsTrue, MatchResult, IfOk, OnOk};
+ghost use Rattle.mx_request.specs.RequestError.{refusal_code};
+ghost use Rattle.mx_request.specs.declared.error.RequestError.TheVariants as refusal;
+ghost use Rattle.mx_get.specs.Asked.{asked_for, asked_of, AreEndsOf};
+ghost use Rattle.mx_get.specs.Places.{asked_at};
+
+use crate::crew::Crew;
+use crate::options::Options;
+use mx_exchange::Outcome;
+use mx_journal::{AddReply, InfoReply};
+use mx_link::Link;
+use mx_multi::{Multi, Seat};
+use mx_request::{Request, RequestError};
+use mx_run_get::Fetched;
+use mx_types::{HandleId, Method, OutOfMemory, Settings};
+use mx_worker::Queued;
+use std::alloc::{AllocGlobal, Global};
+use std::sync::Wait;
+
+/// What stands at the place of a URL.
+#[derive(Drop)]
+pub enum Place {
+    /// The bytes of the request whose end is awaited.
+    Awaited(Vec<u8>),
+    /// What the URL ended with.
+    Known(Fetched),
+}
+
+// A GET of the URL.
+fn build(alloc: Global, url: &str, timeout_ms: u32) -> Result<Request, RequestError>
+    ensures { MatchResult result (λ r. asked_for timeout_ms url.now ≡ Ok r.bytes)
+        (λ e. (asked_for timeout_ms url.now ≡ Err (refusal_code e)) ⊎ (e ≡ refusal.OutOfMemory)) }
+{
+    let mut settings = Settings::new(alloc);
+    settings.timeout_ms = timeout_ms;
+    Request::build(alloc, Method::Get, url, settings)
+}
+
+fn are_same(some: &[u8], others: &[u8]) -> bool
+    ensures { IsTrue result → some.now ≡ others.now }
+{
+    some == others
+}
+
+// Whether the end of this request is awaited at that place.
+#[tactic(auto, using(crate::proofs::Asking::found))]
+fn awaits(places: &[Place], at: usize, request: &[u8]) -> bool
+    ensures inside { IsTrue result → at < length places.now }
+    ensures asked { IsTrue result → slice_get (map asked_at places.now) at ≡ Some (Ok request.now) }
+{
+    if at >= places.len() {
+        return false;
+    }
+    match &places[at] {
+        Place::Awaited(bytes) => are_same(bytes.as_slice(), request),
+        Place::Known(_) => false,
+    }
+}
+
+// The ends, where each is known.
+fn ends_at(alloc: Global, places: Vec<Place>) -> Result<Vec<Fetched>, OutOfMemory>
+    ensures { IfOk result (λ ends. map asked_of ends.items ≡ map asked_at places.items) }
+{
+    let mut places = places;
+    let mut ends = Vec::with_capacity(alloc, places.len())?;
+    while let Some(place) = places.pop() {
+        let Place::Known(fetched) = place else {
+            return Err(OutOfMemory);
+        };
+        ends.push(fetched)?;
+    }
+    ends.reverse();
+    Ok(ends)
+}
+
+/// The application's seat, and what came so far.
+#[derive(Drop)]
+pub struct Desk<L: Link> {
+    pub seat: Seat<Queued<L>, Outcome>,
+    /// A place for each URL that was added or refused, in their order: the number of its place is its handle.
+    pub places: Vec<Place>,
+    // How many messages are to come.
+    waiting: u32,
+}
+
+impl<L: Link> Desk<L> {
+    /// No URL yet, and room for so many.
+    pub fn new(
+        alloc: Global,
+        seat: Seat<Queued<L>, Outcome>,
+        count: usize,
+    ) -> Result<Desk<L>, OutOfMemory>
+        ensures seat { IfOk result (λ desk. desk.seat ≡ seat) }
+        ensures none { IfOk result (λ desk. desk.places.items ≡ []) }
+    {
+        Ok(Desk {
+            seat,
+            places: Vec::with_capacity(alloc, count)?,
+            waiting: 0,
+        })
+    }
+
+    // Adds the transfer of a request at the next place.
+    fn add_request<R: Wait + AllocGlobal>(
+        &mut self,
+        rt: &R,
+        multi: &Multi<Queued<L>, Outcome>,
+        request: Request,
+    ) -> Result<(), OutOfMemory>
+        requires own { self.old.seat.of ≡ multi.now }
+        ensures own { self.new.seat.of ≡ multi.now }
+        ensures asked { OnOk result (map asked_at self.new.places.items ≡ map asked_at self.old.places.items ++ Ok request.bytes ∷ []) }
+    {
+        let Ok(handle) = u32::try_from(self.places.len()) else {
+            return Err(OutOfMemory);
+        };
+        let bytes = request.bytes().to_vec(rt.alloc())?;
+        let work = Queued::new(rt.alloc(), request);
+        match multi.add(rt, &mut self.seat, HandleId(handle), work) {
+            Ok(AddReply::Added(_)) => {}
+            _ => return Err(OutOfMemory),
+        }
+        self.waiting = self.waiting.saturating_add(1);
+        self.places.push(Place::Awaited(bytes))?;
+        Ok(())
+    }
+
+    // Adds a URL's transfer at the next place, or notes there why the URL is refused.
+    fn add<R: Wait + AllocGlobal>(
+        &mut self,
+        rt: &R,
+        multi: &Multi<Queued<L>, Outcome>,
+        url: &str,
+        timeout_ms: u32,
+    ) -> Result<(), OutOfMemory>
+        requires own { self.old.seat.of ≡ multi.now }
+        ensures own { self.new.seat.of ≡ multi.now }
+        ensures asked { OnOk result (map asked_at self.new.places.items ≡ map asked_at self.old.places.items ++ asked_for timeout_ms url.now ∷ []) }
+    {
+        match build(rt.alloc(), url, timeout_ms) {
+            Ok(request) => self.add_request(rt, multi, request),
+            Err(RequestError::OutOfMemory) => Err(OutOfMemory),
+            Err(error) => {
+                self.places
+                    .push(Place::Known(Fetched::Refused(error.code())))?;
+                Ok(())
+            }
+        }
+    }
+
+    // Notes what the handle's transfer ended with, where it is of the request that is awaited at its place.
+    #[tactic(auto, using(crate::proofs::Asking::kept))]
+    fn note(&mut self, handle: HandleId, outcome: Outcome)
+        ensures seat { self.new.seat ≡ self.old.seat }
+        ensures asked { map asked_at self.new.places.items ≡ map asked_at self.old.places.items }
+    {
+        let at = handle.0 as usize;
+        if awaits(self.places.as_slice(), at, outcome.request().bytes()) {
+            self.places[at] = Place::Known(Fetched::Ended(outcome));
+        }
+    }
+
+    // Waits for the next message and notes it.
+    fn await_one<R: Wait>(
+        &mut self,
+        rt: &R,
+        multi: &Multi<Queued<L>, Outcome>,
+    ) -> Result<(), OutOfMemory>
+        requires own { self.old.seat.of ≡ multi.now }
+        ensures own { self.new.seat.of ≡ multi.now }
+        ensures asked { map asked_at self.new.places.items ≡ map asked_at self.old.places.items }
+    {
+        for _ in rt.forever() {
+            match multi.info_read(rt, &mut self.seat) {
+                Ok(InfoReply::Message { handle, ending, .. }) => {
+                    self.note(handle, ending);
+                    return Ok(());
+                }
+                Ok(InfoReply::Empty) => {
+                    if multi.poll(rt, &mut self.seat).is_err() {
+                        return Err(OutOfMemory);
+                    }
+                }
+                _ => return Err(OutOfMemory),
+            }
+        }
+        unreachable!()
+    }
+
+    // Waits for all messages that are to come.
+    fn await_all<R: Wait>(
+        &mut self,
+        rt: &R,
+        multi: &Multi<Queued<L>, Outcome>,
+    ) -> Result<(), OutOfMemory>
+        requires own { self.old.seat.of ≡ multi.now }
+        ensures own { self.new.seat.of ≡ multi.now }
+        ensures asked { map asked_at self.new.places.items ≡ map asked_at self.old.places.items }
+    {
+        for _ in 0..self.waiting {
+            self.await_one(rt, multi)?;
+        }
+        self.waiting = 0;
+        Ok(())
+    }
+
+    // Adds the URLs, with one worker each after the message of the one before.
+    fn add_all<R: Wait + AllocGlobal>(
+        &mut self,
+        rt: &R,
+        multi: &Multi<Queued<L>, Outcome>,
+        crew: &Crew,
+        urls: &[&str],
+        options: Options,
+    ) -> Result<(), OutOfMemory>
+        requires own { self.old.seat.of ≡ multi.now }
+        ensures own { self.new.seat.of ≡ multi.now }
+        ensures asked { OnOk result (map asked_at self.new.places.items ≡ map asked_at self.old.places.items
+            ++ map (asked_for options.timeout_ms) (map (λ u. u.now) urls.now)) }
+    {
+        for url in urls {
+            self.add(rt, multi, *url, options.timeout_ms)?;
+            if options.workers == 1 {
+                crew.ring();
+                self.await_all(rt, multi)?;
+            }
+        }
+        Ok(())
+    }
+
+    /// Adds the URLs, with one worker each after the message of the one before, and waits for all messages.
+    pub fn collect<R: Wait + AllocGlobal>(
+        self,
+        rt: &R,
+        multi: &Multi<Queued<L>, Outcome>,
+        crew: &Crew,
+        urls: &[&str],
+        options: Options,
+    ) -> Result<Vec<Fetched>, OutOfMemory>
+        requires own { self.seat.of ≡ multi.now }
+        requires none { self.places.items ≡ [] }
+        ensures { IfOk result (λ ends. AreEndsOf options.timeout_ms (map (λ u. u.now) urls.now) ends.items) }
+    {
+        let mut desk = self;
+        desk.add_all(rt, multi, crew, urls, options)?;
+        crew.ring();
+        desk.await_all(rt, multi)?;
+        ends_at(rt.alloc(), desk.places)
+    }
+}

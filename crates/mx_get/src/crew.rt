@@ -1,0 +1,112 @@
+//! The workers' seats and gates, and what wakes and stops them.
+ghost use Rattle.std.specs.Prelude.{◌≡◌, All, IfOk};
+
+use mx_exchange::Outcome;
+use mx_gate::{Bell, Gate, SocketGate, SocketLink, Turn};
+use mx_link::Link;
+use mx_multi::{Multi, WorkerSeat};
+use mx_types::OutOfMemory;
+use mx_worker::{Queued, run_worker};
+use std::alloc::{AllocGlobal, Global};
+use std::net::Net;
+use std::random::RandomSource;
+use std::rt::Clock;
+use std::sync::atomic::{AtomicBool, Ordering};
+use std::sync::{Arc, Wait};
+use std::time::Instant;
+
+/// How long a worker waits that found no memory for its start, in milliseconds.
+const START_AGAIN: u32 = 20;
+
+/// A worker's seat and its gate.
+#[derive(Drop)]
+pub struct Post<L: Link, G> {
+    pub seat: WorkerSeat<Queued<L>, Outcome>,
+    pub gate: G,
+}
+
+/// What wakes workers, and what stops them.
+#[derive(Drop)]
+pub struct Crew {
+    bells: Vec<Bell>,
+    stop: Arc<AtomicBool>,
+}
+
+impl Crew {
+    /// A crew without workers.
+    pub fn new(alloc: Global) -> Result<Crew, OutOfMemory> {
+        Ok(Crew {
+            bells: Vec::new(alloc),
+            stop: Arc::new(alloc, AtomicBool::new(false))?,
+        })
+    }
+
+    /// Wakes all workers.
+    pub fn ring(&self) {
+        for bell in &self.bells {
+            // A bell that can't be rung leaves its worker to the end of its wait.
+            let _ = bell.ring();
+        }
+    }
+
+    /// Stops all workers: each ends once what it holds has ended.
+    pub fn dismiss(&self) {
+        self.stop.store(true, Ordering::SeqCst);
+        self.ring();
+    }
+}
+
+impl Crew {
+    // A gate that this crew wakes and stops.
+    fn gate<'r, R: Net + Clock + AllocGlobal>(
+        &mut self,
+        rt: &'r R,
+        start: Instant,
+    ) -> Result<SocketGate<'r, R>, OutOfMemory> {
+        let stop = Arc::try_clone(&self.stop)?;
+        let Ok(gate) = SocketGate::starting_at(rt, stop, start) else {
+            return Err(OutOfMemory);
+        };
+        self.bells.push(gate.bell()?)?;
+        Ok(gate)
+    }
+
+    /// A post for each seat. The clocks of their gates have one start.
+    pub fn posts<'r, R: Net + Clock + AllocGlobal>(
+        &mut self,
+        rt: &'r R,
+        multi: &Multi<Queued<SocketLink>, Outcome>,
+        start: Instant,
+        seats: Vec<WorkerSeat<Queued<SocketLink>, Outcome>>,
+    ) -> Result<Vec<Post<SocketLink, SocketGate<'r, R>>>, OutOfMemory>
+        requires { All (λ s. s.of ≡ multi.now) seats.items }
+        ensures { IfOk result (λ posts. All (λ p. p.seat.of ≡ multi.now) posts.items) }
+    {
+        let mut seats = seats;
+        let mut posts = Vec::new(rt.alloc());
+        while let Some(seat) = seats.pop() {
+            let gate = self.gate(rt, start)?;
+            posts.push(Post { seat, gate })?;
+        }
+        Ok(posts)
+    }
+}
+
+/// Works with a seat and a gate until the gate stops it. Where there is no memory for its start it tries again after a while.
+pub fn work<L: Link, R: Wait + RandomSource + AllocGlobal, G: Gate<Link = L> + Drop>(
+    rt: &R,
+    multi: &Multi<Queued<L>, Outcome>,
+    seat: WorkerSeat<Queued<L>, Outcome>,
+    gate: G,
+)
+    requires { seat.of ≡ multi.now }
+{
+    let (mut seat, mut gate) = (seat, gate);
+    for _ in rt.forever() {
+        let end = run_worker(rt, multi, seat, &mut gate);
+        if !end.refused || matches!(gate.turn(START_AGAIN), Turn::Stop) {
+            return;
+        }
+        seat = end.seat;
+    }
+}
