@@ -1,5 +1,5 @@
 -- What a command line may ask for, and what is promised of its run.
-use Rattle.std.specs.Prelude.{◌≤◌, ℕ, ◌+◌, Bool, List, Option}
+use Rattle.std.specs.Prelude.{◌≡◌, ◌≤◌, ℕ, ◌+◌, Bool, true, List, Option}
 use Rattle.mx_types.specs.Code.{code_number}
 use Rattle.mx_types.specs.declared.code.Code.TheVariants as codes
 use Rattle.mx_head.specs.Limits.{most_bytes}
@@ -7,31 +7,39 @@ use Rattle.mx_run_io.specs.Faults.{PrintsFault}
 use Rattle.mx_run_body.specs.Reading.{ReadsUpTo}
 use Rattle.mx_run_body.specs.Run.{AnswersRead}
 use Rattle.mx_run_play.specs.Run.{AnswersScript, PrintsUnread}
-use Rattle.mx_run_task.specs.declared.task.Task.{Task}
+use Rattle.mx_get.specs.Options.{are_within}
+use Rattle.mx_run_task.specs.declared.asked.Asked.{Asked}
+use Rattle.mx_run_task.specs.declared.asked.Asked.TheVariants.{Task, Get}
+use Rattle.mx_run_task.specs.declared.task.Task.{Task as Tasks}
 use Rattle.mx_run_task.specs.declared.task.Task.TheVariants.{Body, Play}
 
 -- a history is within its limits
-abbrev pub IsTask : Task → Type 0
+abbrev pub IsTask : Tasks → Type 0
 IsTask (Body method) = Unit {0}
 IsTask (Play history) = (4 ≤ history) × (history ≤ 1048576)
 
+-- a task that is one, or options within their limits
+abbrev pub IsAsked : Asked → Type 0
+IsAsked (Task task) = IsTask task
+IsAsked (Get get) = are_within get.options ≡ true
+
 -- how often a task reads at most
-abbrev pub most_reads : Task → ℕ
+abbrev pub most_reads : Tasks → ℕ
 most_reads (Body method) = most_bytes + 2
 most_reads (Play history) = 4294967295
 
 -- what a run prints and ends with where no read and no write failed
-abbrev pub AnswersTask : Task → ℕ → ℕ → Option (List ℕ) → Option (List ℕ) → Option (List ℕ) → Option (List ℕ) → ℕ → Type 0
+abbrev pub AnswersTask : Tasks → ℕ → ℕ → Option (List ℕ) → Option (List ℕ) → Option (List ℕ) → Option (List ℕ) → ℕ → Type 0
 AnswersTask (Body method) reads_before reads_after known left old new ends_with = AnswersRead method known left old new ends_with
 AnswersTask (Play history) reads_before reads_after known left old new ends_with =
     AnswersScript history reads_before reads_after known old new ends_with
 
 -- what it prints and ends with where a read failed
-abbrev pub PrintsFailedRead : Task → Option (List ℕ) → Option (List ℕ) → Option (List ℕ) → Option (List ℕ) → ℕ → Type 0
+abbrev pub PrintsFailedRead : Tasks → Option (List ℕ) → Option (List ℕ) → Option (List ℕ) → Option (List ℕ) → ℕ → Type 0
 PrintsFailedRead (Body method) known left old new ends_with = PrintsFault (code_number codes.RecvError) old new ends_with
 PrintsFailedRead (Play history) known left old new ends_with = PrintsUnread history known left old new ends_with
 
 -- how far it reads
-abbrev pub StopsReading : Task → Bool → Option (List ℕ) → Option (List ℕ) → Type 0
+abbrev pub StopsReading : Tasks → Bool → Option (List ℕ) → Option (List ℕ) → Type 0
 StopsReading (Body method) failed known left = ReadsUpTo most_bytes failed known left
 StopsReading (Play history) failed known left = Unit {0}

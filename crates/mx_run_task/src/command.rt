@@ -1,11 +1,14 @@
 //! The command line.
-ghost use Rattle.std.specs.Prelude.{IfOk, IfSome};
-ghost use Rattle.mx_run_task.specs.Tasks.{IsTask};
+ghost use Rattle.std.specs.Prelude.{◌≡◌, true, IfOk, IfSome};
+ghost use Rattle.mx_get.specs.Options.{are_within};
+ghost use Rattle.mx_run_task.specs.Tasks.{IsTask, IsAsked};
 
+use crate::asked::{Asked, Get};
 use crate::help;
 use crate::task::Task;
 use clap::error::ErrorKind;
-use clap::{Arg, ArgMatches, Command, Error, value_parser};
+use clap::{Arg, ArgAction, ArgMatches, Command, Error, value_parser};
+use mx_get::Options;
 use mx_types::Method;
 use std::alloc::{AllocError, Global};
 
@@ -37,6 +40,40 @@ fn play_command<'a>(alloc: Global) -> Result<Command<'a>, AllocError> {
         .arg(history)
 }
 
+fn get_command<'a>(alloc: Global) -> Result<Command<'a>, AllocError> {
+    let workers = Arg::new(alloc, "workers")
+        .long("workers")
+        .value_name("N")
+        .value_parser(value_parser!(u8).range(1..=16))
+        .default_value("2")
+        .help("How many workers fetch, each on a thread of its own: 1 to 16");
+    let timeout = Arg::new(alloc, "timeout-ms")
+        .long("timeout-ms")
+        .value_name("N")
+        .value_parser(value_parser!(u32))
+        .default_value("0")
+        .help("The longest that a transfer may take, in milliseconds; 0 for no limit");
+    let max_connects = Arg::new(alloc, "max-connects")
+        .long("max-connects")
+        .value_name("N")
+        .value_parser(value_parser!(u8).range(0..=64))
+        .default_value("4")
+        .help("How many idle connections each worker keeps: 0 to 64");
+    let urls = Arg::new(alloc, "URL")
+        .required(true)
+        .num_args(1..)
+        .action(ArgAction::Append)
+        .help("What is fetched, by GET: 1 to 256 URLs of scheme http");
+    Command::new(alloc, "get")
+        .about(help::GET)
+        .long_about(help::LONG_GET)
+        .after_help(help::MORE_GET)
+        .arg(workers)?
+        .arg(timeout)?
+        .arg(max_connects)?
+        .arg(urls)
+}
+
 fn mxfetch_command<'a>(alloc: Global) -> Result<Command<'a>, AllocError> {
     Command::new(alloc, "mxfetch")
         .version("0.1.0")
@@ -44,6 +81,7 @@ fn mxfetch_command<'a>(alloc: Global) -> Result<Command<'a>, AllocError> {
         .after_help(help::MORE)
         .subcommand_required(true)
         .disable_help_subcommand(true)
+        .subcommand(get_command(alloc)?)?
         .subcommand(body_command(alloc)?)?
         .subcommand(play_command(alloc)?)
 }
@@ -63,18 +101,61 @@ fn task_of(matches: &ArgMatches<'_>) -> Option<Task>
     }
 }
 
+/// What `get` is asked for, if its values are there. Their ranges are tested here too.
+fn get_of<'a>(alloc: Global, get: &ArgMatches<'a>) -> Result<Option<Get<'a>>, AllocError>
+    ensures { IfOk result (λ o. IfSome o (λ g. are_within g.options ≡ true)) }
+{
+    let (Some(workers), Some(timeout_ms), Some(max_connects), Some(given)) = (
+        get.get_one::<u8>("workers"),
+        get.get_one::<u32>("timeout-ms"),
+        get.get_one::<u8>("max-connects"),
+        get.get_strs("URL"),
+    ) else {
+        return Ok(None);
+    };
+    let options = Options {
+        workers,
+        timeout_ms,
+        max_connects,
+    };
+    if !options.are_within() {
+        return Ok(None);
+    }
+    let mut urls = Vec::with_capacity(alloc, given.len())?;
+    for url in given {
+        urls.push(*url)?;
+    }
+    Ok(Some(Get { options, urls }))
+}
+
+/// What the matches ask for, if they name a command.
+fn asked_of<'a>(alloc: Global, matches: &ArgMatches<'a>) -> Result<Option<Asked<'a>>, AllocError>
+    ensures { IfOk result (λ o. IfSome o IsAsked) }
+{
+    if let Some(get) = matches.subcommand_matches("get") {
+        return Ok(match get_of(alloc, get)? {
+            Some(get) => Some(Asked::Get(get)),
+            None => None,
+        });
+    }
+    Ok(match task_of(matches) {
+        Some(task) => Some(Asked::Task(task)),
+        None => None,
+    })
+}
+
 /// Reads a command line, of which the first word is the program's name. An error is help that was asked for,
 /// a refusal in clap's words, or the want of memory.
-pub fn read_command<'a>(alloc: Global, words: &'a [String]) -> Result<Task, Error>
-    ensures { IfOk result IsTask }
+pub fn read_command<'a>(alloc: Global, words: &'a [String]) -> Result<Asked<'a>, Error>
+    ensures { IfOk result IsAsked }
 {
     let mut command = mxfetch_command(alloc)?;
     if words.len() < 2 {
         return Err(command.error(ErrorKind::MissingSubcommand, help::NO_COMMAND)?);
     }
     let matches = command.try_get_matches_from_mut(words)?;
-    match task_of(&matches) {
-        Some(task) => Ok(task),
+    match asked_of(alloc, &matches)? {
+        Some(asked) => Ok(asked),
         None => Err(command.error(ErrorKind::MissingSubcommand, help::NO_COMMAND)?),
     }
 }

@@ -2,19 +2,59 @@
 
 /// What `mxfetch` is.
 pub const MXFETCH: &str =
-    "Decodes HTTP/1.1 responses, and plays scripts of calls on the control core of a multi handle";
+    "Fetches URLs over HTTP/1.1, decodes responses, and plays scripts of calls on the control core of a multi handle";
 
 /// Where to go on from the help of `mxfetch`.
 pub const MORE: &str = "Examples:
+    mxfetch get http://example.com/ http://example.org/
     printf 'HTTP/1.1 200 OK\\r\\nContent-Length: 5\\r\\n\\r\\nhello' | mxfetch body GET
     printf 'add 7\\ndone 0 0 5\\nread\\n' | mxfetch play
 
-`mxfetch body --help` and `mxfetch play --help` have what is printed, and the exit statuses.";
+`mxfetch get --help`, `mxfetch body --help` and `mxfetch play --help` have what is printed, and the
+exit statuses.";
 
 /// What is said where no command was given.
-pub const NO_COMMAND: &str = "no command was given: it is `body` or `play`
+pub const NO_COMMAND: &str = "no command was given: it is `get`, `body` or `play`
 
-  example: printf 'HTTP/1.1 200 OK\\r\\nContent-Length: 5\\r\\n\\r\\nhello' | mxfetch body GET";
+  example: mxfetch get http://example.com/";
+
+/// What `get` does, in a line.
+pub const GET: &str = "Fetch URLs, and print what each ended with";
+
+/// What `get` does.
+pub const LONG_GET: &str =
+    "Fetch 1 to 256 URLs of scheme http by GET, with workers on threads that keep their connections. When
+all have ended, each prints a line, its body and the end of a line, in the order of the URLs:
+
+    transfer H code C status S length B
+
+H counts the URLs from 0; C is the number of a CURLcode (libcurl-errors(3)), 0 where all went well;
+S is the status of the response, 0 where there was none; B is the length of the body, 0 where C isn't
+0. Redirects are not followed: their responses are printed as they are. With one worker the URLs are
+fetched one after the other, with more at the same time.";
+
+/// The exit statuses of `get`, and an example.
+pub const MORE_GET: &str = "Exit status: the first C that isn't 0, in the order of the URLs:
+    0  each response came whole, whatever its status; or this help was printed
+    1  the scheme of a URL isn't http
+    3  a URL doesn't parse, or has a user name or a password
+    6  a host wasn't found
+    7  a connection was refused, or could not be made
+    8  what came is no response head, or one that is cut short or refused
+   18  a connection ended within a body
+   27  there was not enough memory (`FAULT 27`: to begin at all)
+   28  a transfer took longer than --timeout-ms
+   52  a connection ended before a byte came
+   55  a request could not be sent
+   56  a read failed, or the framing of a chunked body is bad
+   61  a transfer coding other than one `chunked`
+   63  a response can't fit in 67108864 bytes
+  100  a head has more than 65536 bytes or 128 field lines
+  120  the command line is refused, or has more than 256 URLs
+  121  the output couldn't be written
+
+Example:
+    $ mxfetch get --workers 4 --timeout-ms 5000 http://example.com/ http://example.org/";
 
 /// What `body` does, in a line.
 pub const BODY: &str = "Decode a whole response on standard input and print its body";

@@ -1,8 +1,9 @@
 //! Command lines, and the runs that they ask for.
 ghost use Rattle.mx_run_task.specs.Tasks.{IsTask};
 
+use mx_get::Options;
 use mx_run_io::{Input, Output};
-use mx_run_task::{Task, read_command, run_task};
+use mx_run_task::{Asked, Task, read_command, run_task};
 use mx_types::Method;
 use std::alloc::Global;
 use std::process::Abort;
@@ -22,7 +23,8 @@ fn words(alloc: Global, rest: &[&str]) -> Result<Vec<String>, Fail> {
 fn asks(alloc: Global, rest: &[&str]) -> Result<Option<Task>, Fail> {
     let words = words(alloc, rest)?;
     Ok(match read_command(alloc, words.as_slice()) {
-        Ok(task) => Some(task),
+        Ok(Asked::Task(task)) => Some(task),
+        Ok(Asked::Get(_)) => None,
         Err(_) => None,
     })
 }
@@ -55,9 +57,75 @@ fn histories(rt: HostRuntime) -> Result<(), Fail> {
     Ok(())
 }
 
+/// Compares what a command line of `get` asks for.
+fn gets(
+    rt: &impl Abort,
+    alloc: Global,
+    rest: &[&str],
+    options: Options,
+    urls: &[&str],
+) -> Result<(), Fail> {
+    let words = words(alloc, rest)?;
+    match read_command(alloc, words.as_slice()) {
+        Ok(Asked::Get(get)) => {
+            assert!(rt; get.options == options);
+            assert!(rt; get.urls.as_slice() == urls);
+        }
+        _ => assert!(rt; false),
+    }
+    Ok(())
+}
+
+#[test]
+fn options_of_get(rt: HostRuntime) -> Result<(), Fail> {
+    let usual = Options {
+        workers: 2,
+        timeout_ms: 0,
+        max_connects: 4,
+    };
+    gets(
+        &rt,
+        rt.alloc(),
+        &["get", "http://a/"],
+        usual,
+        &["http://a/"],
+    )?;
+    let all = [
+        "get",
+        "--workers",
+        "16",
+        "http://a/",
+        "--timeout-ms",
+        "4294967295",
+        "--max-connects",
+        "64",
+        "no URL",
+        "http://a/",
+    ];
+    let most = Options {
+        workers: 16,
+        timeout_ms: 4_294_967_295,
+        max_connects: 64,
+    };
+    gets(
+        &rt,
+        rt.alloc(),
+        &all,
+        most,
+        &["http://a/", "no URL", "http://a/"],
+    )?;
+    let least = Options {
+        workers: 1,
+        timeout_ms: 0,
+        max_connects: 0,
+    };
+    let few = ["get", "--workers=1", "--max-connects=0", "x"];
+    gets(&rt, rt.alloc(), &few, least, &["x"])
+}
+
 #[test]
 fn refused_command_lines(rt: HostRuntime) -> Result<(), Fail> {
-    let refused: [&[&str]; 10] = [
+    let refused: [&[&str]; 16] = [
         &[],
         &["body"],
         &["body", "get"],
@@ -67,6 +135,12 @@ fn refused_command_lines(rt: HostRuntime) -> Result<(), Fail> {
         &["play", "--history", "1048577"],
         &["play", "GET"],
         &["get"],
+        &["get", "--workers", "0", "http://a/"],
+        &["get", "--workers", "17", "http://a/"],
+        &["get", "--max-connects", "65", "http://a/"],
+        &["get", "--timeout-ms", "4294967296", "http://a/"],
+        &["get", "--timeout-ms", "-1", "http://a/"],
+        &["get", "--history", "9", "http://a/"],
         &["GET"],
     ];
     for rest in refused {
@@ -81,11 +155,12 @@ fn refused_command_lines(rt: HostRuntime) -> Result<(), Fail> {
 
 #[test]
 fn help_that_is_asked_for(rt: HostRuntime) -> Result<(), Fail> {
-    let asked: [&[&str]; 4] = [
+    let asked: [&[&str]; 5] = [
         &["--help"],
         &["--version"],
         &["body", "--help"],
         &["play", "--help"],
+        &["get", "--help"],
     ];
     for rest in asked {
         let words = words(rt.alloc(), rest)?;

@@ -1,16 +1,23 @@
-//! `mxfetch`: HTTP/1.1 responses, from bytes to bodies.
+//! `mxfetch`: URLs fetched over HTTP/1.1, and responses from bytes to bodies.
 #![tactic(auto)]
 
-ghost use Rattle.std.specs.Prelude.{◌≡◌, ◌⊎◌, IfErr};
+ghost use Rattle.std.specs.Prelude.{◌≡◌, ◌⊎◌, true, IfErr};
+ghost use Rattle.mx_get.specs.Options.{are_within};
 ghost use Rattle.mx_run_task.specs.Tasks.{IsTask};
 
 use clap::Error;
 use clap::error::ErrorKind;
+use mx_get::{MOST_URLS, run_get};
 use mx_run_io::{Input, Output, UNWRITTEN, end_with};
-use mx_run_task::{Task, read_command, run_task};
+use mx_run_task::{Asked, Get, Task, read_command, run_task};
 use mx_types::Code;
 use std::io::BufWriter;
+use std::net::{Net, TcpListener, TcpStream};
 use std::process::ExitCode;
+use std::random::RandomSource;
+use std::rt::Clock;
+use std::sync::Wait;
+use std::thread::Threads;
 use std::{env, io};
 
 /// The exit status of a command line that is refused.
@@ -54,6 +61,35 @@ fn run<R: io::Input + Print + AllocGlobal>(rt: &R, task: Task) -> u8
     }
 }
 
+/// Fetches what `get` is asked for.
+fn fetch<
+    R: Threads
+        + Wait
+        + Net<Listener = TcpListener, Stream = TcpStream>
+        + Clock
+        + RandomSource
+        + AllocGlobal
+        + Print
+        + Eprint
+        + Sync,
+>(rt: &R, get: Get<'_>) -> u8
+    requires { are_within get.options ≡ true }
+{
+    if get.urls.len() > MOST_URLS {
+        let _ = eprintln!(rt; "too many URLs");
+        return REFUSED;
+    }
+    match BufWriter::with_capacity(rt.alloc(), 65_536, io::writer(rt)) {
+        Ok(writer) => run_get(
+            rt,
+            get.urls.as_slice(),
+            get.options,
+            &mut Output::new(writer),
+        ),
+        Err(_) => out_of_memory(rt),
+    }
+}
+
 /// The words of the command line, or the exit status where they can't be had: for want of memory, or since a
 /// word isn't UTF-8.
 fn words(rt: &HostRuntime) -> Result<Vec<String>, u8>
@@ -75,7 +111,8 @@ fn main(rt: HostRuntime) -> ExitCode {
         Err(status) => return ExitCode::from(status),
     };
     ExitCode::from(match read_command(rt.alloc(), words.as_slice()) {
-        Ok(task) => run(&rt, task),
+        Ok(Asked::Task(task)) => run(&rt, task),
+        Ok(Asked::Get(get)) => fetch(&rt, get),
         Err(error) => explain(&rt, &error),
     })
 }

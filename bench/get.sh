@@ -1,0 +1,121 @@
+#!/usr/bin/env bash
+# `mxfetch get` beside `curl --parallel` with --parallel-max 64 and 16, from nginx over loopback: 1,000 small files in runs of 256,
+# and 4 files of 16 MiB, counted and chunked. Wall time and processor time, the least of five runs that take turns, and the system
+# calls a transfer of one run more under strace. Prints only.
+#
+# It needs nginx, curl, strace and python3, and installs nothing.
+set -eu
+top=$(cd "$(dirname "$0")/.." && pwd)
+PATH=$PATH:/usr/sbin
+for tool in nginx curl strace python3; do
+    command -v "$tool" > /dev/null || { echo "bench/get.sh: there is no $tool" >&2; exit 1; }
+done
+if [ -z "${PROGRAM:-}" ]; then
+    "$top/run" --version > /dev/null
+    PROGRAM=$top/crates/mxfetch/out/mxfetch
+fi
+work=$(mktemp -d)
+chmod 755 "$work" # nginx's workers run as another user
+trap 'rm -rf "$work"' EXIT
+PROGRAM=$PROGRAM WORK=$work python3 - <<'P'
+import os, re, signal, socket, subprocess, time
+
+PROGRAM, WORK = os.environ["PROGRAM"], os.environ["WORK"]
+MIB = 1 << 20
+ROUNDS = 5
+
+def serve():
+    root = f"{WORK}/files"
+    os.makedirs(root)
+    for number in range(1000):
+        with open(f"{root}/small{number}", "wb") as file:
+            file.write(os.urandom((number * 4001) % 20001))
+    for number in range(4):
+        with open(f"{root}/large{number}", "wb") as file:
+            for _ in range(16):
+                file.write(os.urandom(MIB))
+    with socket.socket() as probe:
+        probe.bind(("127.0.0.1", 0))
+        port = probe.getsockname()[1]
+    with open(f"{WORK}/nginx.conf", "w") as file:
+        # ssi over a file makes nginx send it chunked
+        file.write(f"""
+daemon off; worker_processes 2; pid {WORK}/nginx.pid; error_log {WORK}/error.log;
+events {{ worker_connections 1024; }}
+http {{
+  access_log off; keepalive_requests 100000; sendfile on;
+  client_body_temp_path {WORK}/t1; proxy_temp_path {WORK}/t2; fastcgi_temp_path {WORK}/t3;
+  uwsgi_temp_path {WORK}/t4; scgi_temp_path {WORK}/t5;
+  server {{
+    listen 127.0.0.1:{port} backlog=511; root {root};
+    location /chunked/ {{ alias {root}/; ssi on; ssi_types *; }}
+  }}
+}}
+""")
+    child = subprocess.Popen(["nginx", "-e", f"{WORK}/error.log", "-c", f"{WORK}/nginx.conf"], stderr=subprocess.DEVNULL)
+    for _ in range(200):
+        try:
+            socket.create_connection(("127.0.0.1", port)).close()
+            return child, f"http://127.0.0.1:{port}"
+        except OSError:
+            time.sleep(0.02)
+    raise SystemExit("nginx doesn't answer")
+
+def get(workers):
+    return lambda urls: [[PROGRAM, "get", "--workers", str(workers)] + urls[at:at + 256] for at in range(0, len(urls), 256)]
+
+def curl(most):
+    def words(urls):
+        return [["curl", "-s", "--parallel", "--parallel-max", str(most), "--parallel-immediate"]
+                + [word for number, url in enumerate(urls[at:at + 256]) for word in ("-o", f"{WORK}/out{number}", url)]
+                for at in range(0, len(urls), 256)]
+    return words
+
+def run(commands):
+    begun, processor = time.monotonic(), 0.0
+    for words in commands:
+        with open(f"{WORK}/stdout", "wb") as out:
+            child = subprocess.Popen(words, stdout=out)
+            _, status, usage = os.wait4(child.pid, 0)
+        if status != 0:
+            raise SystemExit(f"{words[:4]}: status {status}")
+        processor += usage.ru_utime + usage.ru_stime
+    return time.monotonic() - begun, processor
+
+def calls(commands):
+    total = {}
+    for words in commands:
+        subprocess.run(["strace", "-f", "-c", "-o", f"{WORK}/strace"] + words, stdout=subprocess.DEVNULL, check=True)
+        with open(f"{WORK}/strace") as file:
+            for line in file:
+                found = re.match(r"\s*[\d.]+\s+[\d.]+\s+\d+\s+(\d+)\s+(?:\d+\s+)?(\w+)$", line)
+                if found and found.group(2) != "total":
+                    total[found.group(2)] = total.get(found.group(2), 0) + int(found.group(1))
+    return total
+
+def show(name, programs, urls):
+    print(f"{name}: {len(urls)} transfers")
+    least = {}
+    for _ in range(ROUNDS):
+        for program, words in programs.items():
+            wall, processor = run(words(urls))
+            before = least.get(program, (wall, processor))
+            least[program] = (min(before[0], wall), min(before[1], processor))
+    for program, words in programs.items():
+        wall, processor = least[program]
+        total = calls(words(urls))
+        most = sorted(total.items(), key=lambda call: -call[1])[:6]
+        print(f"  {program:16} wall {wall:6.3f} s  processor {processor:6.3f} s  calls a transfer {sum(total.values()) / len(urls):7.2f}  "
+              + ", ".join(f"{name} {count}" for name, count in most), flush=True)
+
+server, base = serve()
+try:
+    programs = {"curl 64": curl(64), "curl 16": curl(16)}
+    programs.update({f"get, {workers}": get(workers) for workers in (1, 2, 4, 16)})
+    show("small files", programs, [f"{base}/small{number}" for number in range(1000)])
+    show("16 MiB counted", programs, [f"{base}/large{number}" for number in range(4)])
+    show("16 MiB chunked", programs, [f"{base}/chunked/large{number}" for number in range(4)])
+finally:
+    server.send_signal(signal.SIGTERM)
+    server.wait()
+P
