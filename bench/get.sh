@@ -1,7 +1,8 @@
 #!/usr/bin/env bash
 # `mxfetch get` beside `curl --parallel` with --parallel-max 64 and 16, from nginx over loopback: 1,000 small files in runs of 256,
 # and 4 files of 16 MiB, counted and chunked. Wall time and processor time, the least of five runs that take turns, and the system
-# calls a transfer of one run more under strace. Prints only.
+# calls a transfer of one run more under strace. curl writes a file for each body, or none ("to null"); mxfetch writes one for all.
+# Prints only.
 #
 # It needs nginx, curl, strace and python3, and installs nothing.
 set -eu
@@ -64,10 +65,11 @@ http {{
 def get(workers):
     return lambda urls: [[PROGRAM, "get", "--workers", str(workers)] + urls[at:at + 256] for at in range(0, len(urls), 256)]
 
-def curl(most):
+def curl(most, keeps=True):
     def words(urls):
         return [["curl", "-s", "--parallel", "--parallel-max", str(most), "--parallel-immediate"]
-                + [word for number, url in enumerate(urls[at:at + 256]) for word in ("-o", f"{WORK}/out{number}", url)]
+                + [word for number, url in enumerate(urls[at:at + 256])
+                   for word in ("-o", f"{WORK}/out{number}" if keeps else "/dev/null", url)]
                 for at in range(0, len(urls), 256)]
     return words
 
@@ -75,7 +77,7 @@ def run(commands):
     begun, processor = time.monotonic(), 0.0
     for words in commands:
         with open(f"{WORK}/stdout", "wb") as out:
-            child = subprocess.Popen(words, stdout=out)
+            child = subprocess.Popen(words, stdout=out, stderr=subprocess.DEVNULL)
             _, status, usage = os.wait4(child.pid, 0)
         if status != 0:
             raise SystemExit(f"{words[:4]}: status {status}")
@@ -85,7 +87,7 @@ def run(commands):
 def calls(commands):
     total = {}
     for words in commands:
-        subprocess.run(["strace", "-f", "-c", "-o", f"{WORK}/strace"] + words, stdout=subprocess.DEVNULL, check=True)
+        subprocess.run(["strace", "-f", "-c", "-o", f"{WORK}/strace"] + words, stdout=subprocess.DEVNULL, stderr=subprocess.DEVNULL, check=True)
         with open(f"{WORK}/strace") as file:
             for line in file:
                 found = re.match(r"\s*[\d.]+\s+[\d.]+\s+\d+\s+(\d+)\s+(?:\d+\s+)?(\w+)$", line)
@@ -110,7 +112,7 @@ def show(name, programs, urls):
 
 server, base = serve()
 try:
-    programs = {"curl 64": curl(64), "curl 16": curl(16)}
+    programs = {"curl 64": curl(64), "curl 16": curl(16), "curl 16, to null": curl(16, False)}
     programs.update({f"get, {workers}": get(workers) for workers in (1, 2, 4, 16)})
     show("small files", programs, [f"{base}/small{number}" for number in range(1000)])
     show("16 MiB counted", programs, [f"{base}/large{number}" for number in range(4)])

@@ -314,10 +314,10 @@ def case_idle_costs_nothing():
 
 
 def case_refused_connection():
-    with Server(keeping) as server:
-        gone = Server(keeping)
-        gone.listener.close()
-        run = Run([gone.url("/x"), server.url("/a")])
+    # a port that is bound and doesn't listen: a listener that closes while a thread accepts at it takes one connection more
+    with Server(keeping) as server, socket.socket() as deaf:
+        deaf.bind(("127.0.0.1", 0))
+        run = Run([f"http://127.0.0.1:{deaf.getsockname()[1]}/x", server.url("/a")])
         want_ends(run, [(7, 0, b""), (0, 200, body_of("/a"))])
 
 
