@@ -3,7 +3,7 @@ ghost use Rattle.mx_run_task.specs.Tasks.{IsTask};
 
 use mx_get::Options;
 use mx_run_io::{Input, Output};
-use mx_run_task::{Asked, Task, read_command, run_task};
+use mx_run_task::{Asked, Get, Task, read_command, run_task};
 use mx_types::Method;
 use std::alloc::Global;
 use std::process::Abort;
@@ -57,6 +57,18 @@ fn histories(rt: HostRuntime) -> Result<(), Fail> {
     Ok(())
 }
 
+fn get_asked<'a>(alloc: Global, words: &'a [String]) -> Option<Get<'a>> {
+    match read_command(alloc, words) {
+        Ok(Asked::Get(get)) => Some(get),
+        Ok(Asked::Task(_task)) => None,
+        Err(_error) => None,
+    }
+}
+
+fn are_same(some: &str, others: &str) -> bool {
+    some == others
+}
+
 /// Compares what a command line of `get` asks for.
 fn gets(
     rt: &impl Abort,
@@ -66,12 +78,17 @@ fn gets(
     urls: &[&str],
 ) -> Result<(), Fail> {
     let words = words(alloc, rest)?;
-    match read_command(alloc, words.as_slice()) {
-        Ok(Asked::Get(get)) => {
-            assert!(rt; get.options == options);
-            assert!(rt; get.urls.as_slice() == urls);
+    let Some(get) = get_asked(alloc, words.as_slice()) else {
+        assert!(rt; false);
+        return Ok(());
+    };
+    assert!(rt; get.options == options);
+    assert!(rt; get.urls.len() == urls.len());
+    for (at, wanted) in urls.iter().enumerate() {
+        match get.urls.get(at) {
+            Some(found) => assert!(rt; are_same(*found, *wanted)),
+            None => assert!(rt; false),
         }
-        _ => assert!(rt; false),
     }
     Ok(())
 }
