@@ -32,10 +32,11 @@ def want(is_so, what):
 class Run:
     """What a run of `mxfetch get` printed: its ends are (code, status, body), in the order of the handles."""
 
-    def __init__(self, words, seconds=60):
+    def __init__(self, words, seconds=60, asked=None):
         begun = time.monotonic()
         with tempfile.TemporaryFile(dir=WORK) as out, tempfile.TemporaryFile(dir=WORK) as err:
-            child = subprocess.Popen([PROGRAM, "get"] + words, stdin=subprocess.DEVNULL, stdout=out, stderr=err)
+            child = subprocess.Popen([PROGRAM, "get"] + words, stdin=subprocess.DEVNULL, stdout=out, stderr=err,
+                                     env={**os.environ, **(asked or {})})
             watch = threading.Timer(seconds, child.kill)
             watch.start()
             _, status, usage = os.wait4(child.pid, 0)
@@ -49,7 +50,7 @@ class Run:
         self.peak = usage.ru_maxrss * 1024
         self.processor = usage.ru_utime + usage.ru_stime
         want(self.status >= 0, f"ended by signal {-self.status} after {self.seconds:.1f} s")
-        self.ends = parse(self.out) if self.status not in (120, 121) else []
+        self.ends = parse(self.out) if self.status not in (120, 121) and not self.out.startswith(b"FAULT") else []
 
     def codes(self):
         return [code for code, _, _ in self.ends]
@@ -95,7 +96,8 @@ class Server:
         self.port = self.listener.getsockname()[1]
         self.count = 0
         self.serve = serve
-        threading.Thread(target=self.accept, daemon=True).start()
+        self.thread = threading.Thread(target=self.accept, daemon=True)
+        self.thread.start()
 
     def accept(self):
         while True:
@@ -118,6 +120,9 @@ class Server:
         return self
 
     def __exit__(self, *_):
+        # a thread that still accepts could take a connection of a later server, whose listener has the same descriptor
+        self.listener.shutdown(socket.SHUT_RDWR)
+        self.thread.join()
         self.listener.close()
 
     def url(self, path="/"):
@@ -408,6 +413,32 @@ def case_full_output():
     with Server(keeping) as server, open("/dev/full", "wb") as full:
         child = subprocess.run([PROGRAM, "get", server.url("/f")], stdout=full, stderr=subprocess.DEVNULL, timeout=20)
         want(child.returncode == 121, f"exit status {child.returncode}")
+
+
+def case_refused_growths():
+    note = os.path.join(WORK, "note")
+    paths = [f"/n{number}" for number in range(6)]
+    with Server(keeping) as server:
+        for workers in ("1", "2"):
+            counts = [0, 0, 0]
+            for which in range(1, 5000):
+                if os.path.exists(note):
+                    os.remove(note)
+                asked = {"REFUSE_GROWTH": str(which), "REFUSE_NOTE": note, "LD_PRELOAD": os.path.join(WORK, "refuse.so")}
+                run = Run(["--timeout-ms", "5000", "--workers", workers] + [server.url(path) for path in paths], 20, asked)
+                if not os.path.exists(note):
+                    break
+                if run.out == b"FAULT 27\n":
+                    want(run.status == 27, f"growth {which}: exit status {run.status}")
+                    counts[0] += 1
+                    continue
+                want(len(run.ends) == len(paths), f"growth {which}: {len(run.ends)} ends")
+                want(run.status == first_fault(run.codes()), f"growth {which}: exit status {run.status}")
+                for path, (code, status, body) in zip(paths, run.ends):
+                    want(code == 27 or (code, status, body) == (0, 200, body_of(path)), f"growth {which}: {path} has code {code}")
+                counts[2 if run.status == 0 else 1] += 1
+            want_ends(run, [(0, 200, body_of(path)) for path in paths])
+            print(f"    {workers} workers, growths refused: {counts[0]} ended at once, {counts[1]} ended a transfer, {counts[2]} were done without")
 
 
 # hostile servers

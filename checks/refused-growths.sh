@@ -1,10 +1,10 @@
 #!/usr/bin/env bash
 # Runs what `rt ci` built with each growth of memory refused in turn, the first, the second, and so on until a run asks for no
-# more, by a C library of its own. A program has to print what memory allows and end with 27, or to do without that growth and
-# print all. A test has to pass, to fail as a call was refused, or to be stopped by an assertion of its own, as where a
-# transfer ended with 27; nothing below it may stop it, and it has to end. Of a test that asks for more than 200 growths the
-# first 200 are refused. Prints one line for each program and test, and ends with 0 where all did as they have to, with 1 where
-# one didn't, and with 2 where something that it needs isn't there: a program, a test, a C compiler.
+# more, by a library of its own (checks/refuse.c). A program has to print what memory allows and end with 27, or to do without
+# that growth and print all. A test has to pass, to fail as a call was refused, or to be stopped by an assertion of its own, as
+# where a transfer ended with 27; nothing below it may stop it, and it has to end. Of a test that asks for more than 200 growths
+# the first 200 are refused. Prints one line for each program and test, and ends with 0 where all did as they have to, with 1
+# where one didn't, and with 2 where something that it needs isn't there: a program, a test, a C compiler.
 #
 # Use: checks/refused-growths.sh        after `rt ci`, on Linux; a C compiler is in Debian's package gcc
 set -u
@@ -38,41 +38,7 @@ for tool in cc:gcc timeout:coreutils cmp:diffutils; do
   command -v "${tool%:*}" > /dev/null || missing "there is no ${tool%:*} on the path: it is in Debian's package ${tool#*:}"
 done
 
-cat > "$work/refuse.c" <<'C'
-#include <errno.h>
-#include <fcntl.h>
-#include <malloc.h>
-#include <stdlib.h>
-#include <unistd.h>
-
-void *__libc_malloc(size_t size);
-void *__libc_realloc(void *old, size_t size);
-
-static long left;
-
-/* it starts to count once the program is loaded */
-__attribute__((constructor)) static void begin(void) {
-  const char *which = getenv("REFUSE_GROWTH");
-  left = which ? atol(which) : 0;
-}
-
-/* whether this growth is the one that is refused, which it notes */
-static int is_refused(void) {
-  if (left <= 0 || --left > 0) return 0;
-  int file = open(getenv("REFUSE_NOTE"), O_WRONLY | O_CREAT, 0600);
-  if (file >= 0) close(file);
-  errno = ENOMEM;
-  return 1;
-}
-
-void *malloc(size_t size) { return is_refused() ? NULL : __libc_malloc(size); }
-
-void *realloc(void *old, size_t size) {
-  if (size > malloc_usable_size(old) && is_refused()) return NULL;
-  return __libc_realloc(old, size);
-}
-C
-cc -O2 -shared -fPIC -o "$work/refuse.so" "$work/refuse.c" || missing "the library that refuses growths doesn't compile"
+cc -O2 -shared -fPIC -o "$work/refuse.so" "$top/checks/refuse.c" || missing "the library that refuses growths doesn't compile"
 
 # one run with this growth refused; $status is its exit status, and it fails where the run asked for fewer growths
 refused() {

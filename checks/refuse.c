@@ -1,0 +1,34 @@
+/* A library that refuses the growth of memory whose number is REFUSE_GROWTH, counted from 1 since the program was loaded, and then
+   makes the file REFUSE_NOTE. Loaded by LD_PRELOAD; checks/refused-growths.sh and checks/get.sh compile it. */
+#include <errno.h>
+#include <fcntl.h>
+#include <malloc.h>
+#include <stdlib.h>
+#include <unistd.h>
+
+void *__libc_malloc(size_t size);
+void *__libc_realloc(void *old, size_t size);
+
+static long left;
+
+/* it starts to count once the program is loaded */
+__attribute__((constructor)) static void begin(void) {
+  const char *which = getenv("REFUSE_GROWTH");
+  left = which ? atol(which) : 0;
+}
+
+/* whether this growth is the one that is refused, which it notes */
+static int is_refused(void) {
+  if (left <= 0 || --left > 0) return 0;
+  int file = open(getenv("REFUSE_NOTE"), O_WRONLY | O_CREAT, 0600);
+  if (file >= 0) close(file);
+  errno = ENOMEM;
+  return 1;
+}
+
+void *malloc(size_t size) { return is_refused() ? NULL : __libc_malloc(size); }
+
+void *realloc(void *old, size_t size) {
+  if (size > malloc_usable_size(old) && is_refused()) return NULL;
+  return __libc_realloc(old, size);
+}
