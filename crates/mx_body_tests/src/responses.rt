@@ -327,53 +327,61 @@ fn chunked_bodies_at_the_limit(rt: HostRuntime) {
 fn with_interim(alloc: Global, count: usize, last: &[u8]) -> Result<Vec<u8>, OutOfMemory> {
     let mut bytes = Vec::new(alloc);
     for _ in 0..count {
-        bytes.extend_from_slice(b"HTTP/1.1 103 Early Hints\r\n\r\n")?;
+        bytes.extend_from_slice(HINTS)?;
     }
     bytes.extend_from_slice(last)?;
     Ok(bytes)
 }
 
+/// The most interim heads of a response.
+const MOST_INTERIM: usize = 16;
+
+/// The length of so many, and of the final head.
+const MOST_LEN: u32 = 475;
+
+/// 28 bytes.
+const HINTS: &[u8] = b"HTTP/1.1 103 Early Hints\r\n\r\n";
+
+/// 27 bytes.
+const NO_CONTENT: &[u8] = b"HTTP/1.1 204 No Content\r\n\r\n";
+
 #[test]
 fn interim_heads(rt: HostRuntime) {
     let alloc = rt.alloc();
-    let last = b"HTTP/1.1 204 No Content\r\n\r\n";
-    let one = with_interim(alloc, 1, last).expect(&rt, "memory");
-    assert!(rt;
-        completes(
-            decode_whole(alloc, Method::Get, &one, true),
-            204,
-            55,
-            &[],
-            true
-        )
+    for (count, len) in [(0, 27), (1, 55), (MOST_INTERIM, MOST_LEN)] {
+        let whole = with_interim(alloc, count, NO_CONTENT).expect(&rt, "memory");
+        assert!(rt;
+            completes(
+                decode_whole(alloc, Method::Get, &whole, true),
+                204,
+                len,
+                &[],
+                true
+            )
+        );
+    }
+    // the fault comes with the last byte of the first that is one too many
+    for last in [
+        HINTS,
+        b"HTTP/1.1 103 Early Hints\r\n\r\nHTTP/1.1 204 No Content\r\n\r\n",
+    ] {
+        let over = with_interim(alloc, MOST_INTERIM, last).expect(&rt, "memory");
+        assert!(rt;
+            faults(
+                decode_whole(alloc, Method::Get, &over, false),
+                Code::WeirdServerReply
+            )
+        );
+    }
+    let short = with_interim(alloc, MOST_INTERIM, b"HTTP/1.1 103 Early Hints\r\n\r").expect(
+        &rt, "memory",
     );
-    let most = with_interim(alloc, 16, last).expect(&rt, "memory");
-    assert!(rt;
-        completes(
-            decode_whole(alloc, Method::Get, &most, true),
-            204,
-            475,
-            &[],
-            true
-        )
-    );
-    let over = with_interim(alloc, 17, last).expect(&rt, "memory");
-    assert!(rt;
-        faults(
-            decode_whole(alloc, Method::Get, &over, false),
-            Code::WeirdServerReply
-        )
-    );
-    // the fault comes with the last byte of the 17th
-    let there = with_interim(alloc, 17, b"").expect(&rt, "memory");
-    assert!(rt;
-        faults(
-            decode_whole(alloc, Method::Get, &there, false),
-            Code::WeirdServerReply
-        )
-    );
-    let short = with_interim(alloc, 16, b"HTTP/1.1 103 Early Hints\r\n\r").expect(&rt, "memory");
     assert!(rt; waits(decode_whole(alloc, Method::Get, &short, false)));
+}
+
+#[test]
+fn interim_heads_with_no_final_one(rt: HostRuntime) {
+    let alloc = rt.alloc();
     let switching = b"HTTP/1.1 101 Switching Protocols\r\n\r\n";
     let later = with_interim(alloc, 1, switching).expect(&rt, "memory");
     assert!(rt;

@@ -9,8 +9,6 @@ mod links;
 mod scripted;
 mod sockets;
 mod streams;
-#[cfg(test)]
-mod tests;
 
 pub use crate::answers::{Answer, Connect, Read, Write};
 pub use crate::history::{History, bytes_of};

@@ -190,18 +190,18 @@ fn interim_heads(rt: HostRuntime) -> Result<(), Fail> {
         many.extend_from_slice(b"HTTP/1.1 103 Early Hints\r\n\r\n")?;
     }
     let whole = b"HTTP/1.1 200 OK\r\nContent-Length: 5\r\n\r\nhello";
-    let sixteen = joined(alloc, &many, whole)?;
+    let most = joined(alloc, &many, whole)?;
     prints(
         &rt,
         alloc,
         Method::Get,
-        &sixteen,
+        &most,
         0,
         b"OK status=200 body=5 keep=yes left=0\nhello",
     );
     many.extend_from_slice(b"HTTP/1.1 103 Early Hints\r\n\r\n")?;
-    let seventeen = joined(alloc, &many, whole)?;
-    prints(&rt, alloc, Method::Get, &seventeen, 8, b"FAULT 8\n");
+    let over = joined(alloc, &many, whole)?;
+    prints(&rt, alloc, Method::Get, &over, 8, b"FAULT 8\n");
     Ok(())
 }
 
