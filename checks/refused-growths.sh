@@ -15,7 +15,7 @@ set -u
 tests='
 mx_body_tests       src/pieces\.rt                                     refused_growth
 mx_tests            src/[a-z_]*_tests\.rt
-mx_link             src/tests\.rt
+mx_link_tests       src/\(asking\|scripted\|sockets\)\.rt
 mx_exchange_tests   src/\(callers\|connecting\|replay\|tests\)\.rt
 '
 
