@@ -1,4 +1,4 @@
-use Rattle.std.proofs.Common.{ℕ, List, ◌≡◌, ◌≤◌, true, length, subst, sym, ◌∙◌, inl, arith}
+use Rattle.std.proofs.Common.{ℕ, List, ◌≡◌, ◌≤◌, true, length, subst, sym, ◌∙◌, inl, arith, rules}
 use Rattle.std.proofs.lemmas.List.{take_all}
 use Rattle.mx_head.specs.Limits.{most_bytes}
 use Rattle.mx_body.specs.Decision.{first_bytes}
@@ -31,3 +31,6 @@ decode_short-requires c =
       chunks_undecided c.args.method c.args.wire.now true _ _ _ c.requires.small d p.1 p.2 p.3 p.5,
       (d.interim, d.head, d.rest, d.stands),
     )
+
+pub returns-in-Chunks-clause-verdict : goal.returns-in-Chunks-clause-verdict
+returns-in-Chunks-clause-verdict c = search rules

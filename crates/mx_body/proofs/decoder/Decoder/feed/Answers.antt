@@ -1,4 +1,5 @@
 use Rattle.std.proofs.Common.{◌≡◌, ℕ, ◌++◌, List, Bool, take, subst, sym, ap, ◌∙◌, Ok, arith, rules}
+use Rattle.std.proofs.lemmas.Grind.{common_steps}
 use Rattle.std.proofs.lemmas.List.{take-append-le, take_all}
 use Rattle.mx_body.specs.Decision.{IsVerdict, HasStatus}
 use Rattle.mx_body.specs.Progress.{status_read}
@@ -48,3 +49,23 @@ invariant_of-self-in-Err c =
           (subst (λ (p : Phase). HasStatus c.self.inside.wire.items (status_read p)) (sym phase) c.self.invariant.1),
       λ e. search rules,
     )
+
+pub returns-in_err-make_room-clause-memory : goal.returns-in_err-make_room-clause-memory
+returns-in_err-make_room-clause-memory c = search rules
+
+pub returns-in_err-extend_from_slice-clause-memory : goal.returns-in_err-extend_from_slice-clause-memory
+returns-in_err-extend_from_slice-clause-memory c = search rules
+
+pub returns-in-Err-clause-memory : goal.returns-in-Err-clause-memory
+returns-in-Err-clause-memory c = search rules
+
+pub returns-in-Err-clause-refused : goal.returns-in-Err-clause-refused
+returns-in-Err-clause-refused c = grind (arith, common_steps)
+
+pub returns-in-Err-clause-exact : goal.returns-in-Err-clause-exact
+returns-in-Err-clause-exact c =
+    let same : c.truncate.new.self.items ≡ c.self.inside.wire.items =
+    c.truncate.ensures.items ∙ ap (take c.len-len.result) c.in_ok-extend_from_slice.ensures.items
+    ∙ ap (λ (t : List ℕ). take c.len-len.result (t ++ c.args.piece.now)) c.make_room.ensures.items
+    ∙ take-append-le c.len-len.result c.self.inside.wire.items c.args.piece.now (omega arith) ∙ take_all c.len-len.result c.self.inside.wire.items (omega arith) in
+    subst (λ (t : List ℕ). IsVerdict c.self.inside.method t c.self.inside.ended c.self.inside.verdict) (sym same) c.self.invariant.0

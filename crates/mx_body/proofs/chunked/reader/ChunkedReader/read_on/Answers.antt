@@ -1,5 +1,5 @@
-use Rattle.std.proofs.Common.{◌≡◌, ◌+◌, ◌++◌, false, take, length, sym, ap, ◌∙◌, arith, length-append}
-use Rattle.std.proofs.lemmas.List.{take-append-le}
+use Rattle.std.proofs.Common.{◌≡◌, ◌+◌, ◌++◌, false, take, length, sym, ap, ◌∙◌, arith, length-append, refl, rules}
+use Rattle.std.proofs.lemmas.List.{take-append-le, take_all}
 use Rattle.std.specs.Prelude.{option_to_list}
 use Rattle.mx_head.specs.Limits.{most_bytes}
 use Rattle.mx_body.specs.declared.chunked.place.Place.TheVariants.{Start, Data}
@@ -88,3 +88,19 @@ loop-read-preserved c =
       place_stays = c.loop-read.invariant.place_stays;
       read_stays = c.loop-read.invariant.read_stays;
     }
+
+pub loop-read-init : goal.loop-read-init
+loop-read-init c = record {
+  within = c.requires.read.within;
+  place = c.requires.read.place;
+  parts = c.requires.read.parts;
+  goes_on = c.requires.goes_on;
+  counted = omega (arith, c.len-count.ensures);
+  front = take_all c.len-count.result c.args.self.now.parts.items (omega (arith, c.len-count.ensures));
+  at_stays = refl;
+  place_stays = refl;
+  read_stays = refl;
+}
+
+pub returns-in-Err-clause-refused_parts : goal.returns-in-Err-clause-refused_parts
+returns-in-Err-clause-refused_parts c = search rules
