@@ -1,4 +1,4 @@
-use Rattle.std.proofs.Common.{◌∙◌, arith, refl, inl, inr}
+use Rattle.std.proofs.Common.{◌∙◌, arith, refl, inl, inr, rules}
 use Rattle.mx_exchange.proofs.Serves.{same_request, Serves-none, Serves-going, Serves-open, Serves-connected, Serves-wrote, Serves-heard, Serves-full, Serve-blocked, Serve-lost, Serve-over}
 use Rattle.mx_exchange.proofs.lines.Line.serve.Goals.{in-Connected, in-Wrote+else-writes-eq-MOST_WRITES, in-Heard+else-reads-eq-MOST_READS}
 use Rattle.mx_exchange.proofs.lines.Line.serve.Goals as goal
@@ -60,3 +60,6 @@ returns-in-Lost-clause-turn g c = Serve-lost c.loop-turn.invariant.serves c.loop
 
 pub returns-in-Over-clause-turn : goal.returns-in-Over-clause-turn
 returns-in-Over-clause-turn g c = Serve-over c.loop-turn.invariant.serves c.loop-turn.invariant.reads c.loop-turn.invariant.writes _ c.in-Over.code c.in-Over.ensures.turn
+
+pub step-requires-clause-room : goal.step-requires-clause-room
+step-requires-clause-room g c = search rules

@@ -1,4 +1,5 @@
-use Rattle.std.proofs.Common.{◌≡◌, ap}
+use Rattle.std.proofs.Common.{◌≡◌, ap, arith}
+use Rattle.std.proofs.lemmas.Grind.{common_steps}
 use Rattle.mx_request.specs.Request.{RequestValue}
 use Rattle.mx_exchange.proofs.Ordered.{rest_of}
 use Rattle.mx_exchange.proofs.LineSteps.{Line-write}
@@ -14,3 +15,6 @@ invariant_of-self g c =
 
 pub returns-clause-line : goal.returns-clause-line
 returns-clause-line g c = invariant_of-self g c
+
+pub returns-clause-grows : goal.returns-clause-grows
+returns-clause-grows g c = grind (arith, common_steps)

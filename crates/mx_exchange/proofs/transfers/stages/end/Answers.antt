@@ -1,3 +1,4 @@
+use Rattle.std.proofs.Common.{rules}
 use Rattle.mx_exchange.proofs.transfers.stages.end.Goals as goal
 
 pub new-requires-clause-outcome : goal.new-requires-clause-outcome
@@ -11,3 +12,6 @@ new-requires-clause-outcome c = record {
 
 pub returns-clause-status : goal.returns-clause-status
 returns-clause-status c = rw (c.new.ensures, c.into_parts-wire.ensures.wire) c.status-status.ensures
+
+pub returns-clause-code : goal.returns-clause-code
+returns-clause-code c = search rules
