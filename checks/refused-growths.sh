@@ -17,6 +17,7 @@ mx_body_tests       src/pieces\.rt                                     refused_g
 mx_tests            src/[a-z_]*_tests\.rt
 mx_link_tests       src/\(asking\|scripted\|sockets\)\.rt
 mx_exchange_tests   src/\(callers\|connecting\|replay\|tests\)\.rt
+mx_multi_tests      src/seats\.rt                                      scripts\|meetings\|seats
 '
 
 top=$(cd "$(dirname "$(readlink -f "$0")")/.." && pwd)

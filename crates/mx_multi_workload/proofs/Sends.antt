@@ -19,7 +19,6 @@ use Rattle.mx_multi_workload.specs.contracts.client.Worker as Worker
 use Rattle.mx_multi_workload.specs.contracts.client.Held as Held
 use Rattle.mx_multi_workload.specs.contracts.party.Place as Place
 use Rattle.mx_multi_workload.specs.contracts.party.Party as Party
-use Rattle.mx_multi_workload.specs.contracts.threads.Player as Player
 
 job_send : IsSend Job.the_row
 job_send = search (sendable, crosses) depth 40
@@ -53,6 +52,9 @@ bench_field =
 pub client_field : (x : NamedLft) → IsSend (Client.the_field x).row
 client_field x = struct_send (shape (Client.the_type x)) (shr_send x.mir x.lft (Multi.the_row Job.the_row End.the_row job end) handle_sync, (chair_field, tt))
 
+pub client_send : (x : NamedLft) → IsSend (Client.the_row x)
+client_send x = recorded_send (Client.the_field x).row _ _ (Client.the_type x).to_one (client_field x)
+
 pub worker_field : (x : NamedLft) → IsSend (Worker.the_field x).row
 worker_field x = struct_send (shape (Worker.the_type x)) (shr_send x.mir x.lft (Multi.the_row Job.the_row End.the_row job end) handle_sync, (bench_field, tt))
 
@@ -73,12 +75,3 @@ party_field x = struct_send (shape (Party.the_type x)) (
 
 pub party_send : (x : NamedLft) → IsSend (Party.the_row x)
 party_send x = recorded_send (Party.the_field x).row _ _ (Party.the_type x).to_one (party_field x)
-
-player_field : (x : NamedLft) → IsSend (Player.the_field x).row
-player_field x = struct_send (shape (Player.the_type x)) (
-  client_field x,
-  (search (sendable, crosses) depth 40, (search (sendable, crosses) depth 40, (search (sendable, crosses) depth 40, tt))),
-)
-
-pub player_send : (x : NamedLft) → IsSend (Player.the_row x)
-player_send x = recorded_send (Player.the_field x).row _ _ (Player.the_type x).to_one (player_field x)

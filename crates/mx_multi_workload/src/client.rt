@@ -2,7 +2,7 @@
 ghost use Rattle.std.specs.Prelude.{◌≡◌, []};
 
 use crate::sample::{Bench, Chair, End, Handle, Job};
-use mx_journal::Claim;
+use mx_journal::{Claim, GiveBackReply};
 use mx_multi::{HandleList, Progress};
 use mx_types::{Call, HandleId, Look, Reply, Ticket};
 use std::sync::Wait;
@@ -259,6 +259,16 @@ impl<'a> Worker<'a> {
         let Held { claim } = held;
         match self.multi.finish(rt, &mut self.seat, claim, end) {
             Ok(reply) => Some(reply.reply()),
+            Err(_) => None,
+        }
+    }
+
+    /// Gives claimed work back; whether its ticket ran and was claimed; None where it was answered `WrongSeat`.
+    pub fn give_back<R: Wait>(&mut self, rt: &R, held: Held) -> Option<bool> {
+        let Held { claim } = held;
+        match self.multi.give_back(rt, &mut self.seat, claim, Job) {
+            Ok(GiveBackReply::Back) => Some(true),
+            Ok(GiveBackReply::Stale(_)) => Some(false),
             Err(_) => None,
         }
     }

@@ -3,6 +3,7 @@
 #![tactic(auto)]
 
 pub mod client;
+pub mod desk;
 pub mod entries;
 pub mod hold;
 pub mod one_thread;

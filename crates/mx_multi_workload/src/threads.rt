@@ -4,9 +4,10 @@ ghost use Rattle.std.specs.Prelude.{◌≡◌};
 use crate::client::{Client, Held, Pair, Worker};
 use crate::hold::Hold;
 use crate::sample::{Chair, End, Handle, Job};
+use mx_journal::AddReply;
 use mx_types::{Call, HandleId, Reply, State};
 use std::sync::Wait;
-use std::thread::{Threads, for_each_mut, join};
+use std::thread::{Threads, join, join_mut};
 
 /// A list of handles: how many events the seat had then seen, how many handles there were, and the first.
 #[derive(Clone, Copy, Debug, PartialEq, Eq)]
@@ -32,44 +33,50 @@ fn glance_at(multi: &Handle, seat: &mut Chair) -> Option<Glance>
     })
 }
 
-// Adds a handle, and lists all at once.
+// Adds a handle, once more where memory was refused, and lists all at once.
 fn add_and_list<R: Wait>(
     rt: &R,
     multi: &Handle,
-    mut seat: Chair,
+    seat: &mut Chair,
     handle: HandleId,
-) -> (Chair, Option<Glance>)
-    requires { seat.of ≡ multi.now }
-    ensures { result.0.of ≡ multi.now }
+) -> (bool, Option<Glance>)
+    requires { seat.old.of ≡ multi.now }
+    ensures { seat.new.of ≡ multi.now }
 {
-    let _added = multi.add(rt, &mut seat, handle, Job);
-    let listed = glance_at(multi, &mut seat);
-    (seat, listed)
-}
-
-// Lists all handles.
-fn list(multi: &Handle, mut seat: Chair) -> (Chair, Option<Glance>)
-    requires { seat.of ≡ multi.now }
-    ensures { result.0.of ≡ multi.now }
-{
-    let listed = glance_at(multi, &mut seat);
-    (seat, listed)
-}
-
-/// The first seat adds a handle and lists all at once; the second lists all meanwhile, in a thread of its own. It answers what
-/// each listed.
-pub fn list_beside<'a, R: Threads + Wait + Sync>(
-    rt: &R,
-    pair: Pair<'a>,
-    handle: HandleId,
-) -> (Pair<'a>, Option<Glance>, Option<Glance>) {
-    let Pair { multi, one, two } = pair;
-    let ((one, first), (two, second)) = join(
-        rt,
-        move || add_and_list(rt, multi, one, handle),
-        move || list(multi, two),
+    let refused = matches!(
+        multi.add(rt, seat, handle, Job),
+        Ok(AddReply::OutOfMemory(_))
     );
-    (Pair { multi, one, two }, first, second)
+    if refused {
+        let _added = multi.add(rt, seat, handle, Job);
+    }
+    (refused, glance_at(multi, seat))
+}
+
+/// What two seats listed, and whether memory was refused for the addition beside them.
+#[derive(Clone, Copy, Debug, PartialEq, Eq)]
+pub struct Listed {
+    pub refused: bool,
+    pub first: Option<Glance>,
+    pub second: Option<Glance>,
+}
+
+/// The first seat adds a handle, once more where memory was refused, and lists all at once; the second lists all meanwhile, in a
+/// thread of its own.
+pub fn list_beside<R: Threads + Wait + Sync>(rt: &R, pair: &mut Pair, handle: HandleId) -> Listed {
+    let multi = pair.multi;
+    let one = &mut pair.one;
+    let two = &mut pair.two;
+    let ((refused, first), second) = join_mut(
+        rt,
+        &mut || add_and_list(rt, multi, one, handle),
+        &mut || glance_at(multi, two),
+    );
+    Listed {
+        refused,
+        first,
+        second,
+    }
 }
 
 /// What a client was told of a handle.
@@ -81,7 +88,7 @@ pub struct Told {
 }
 
 // Reads once the lock is kept, and then lets it go; None where it isn't kept.
-fn read_all(mut client: Client, hold: &Hold, handle: HandleId) -> Option<Told> {
+fn read_all(client: &mut Client, hold: &Hold, handle: HandleId) -> Option<Told> {
     if !hold.has_begun() {
         return None;
     }
@@ -98,10 +105,10 @@ fn read_all(mut client: Client, hold: &Hold, handle: HandleId) -> Option<Told> {
 /// worker was told, and what the client was told.
 pub fn read_meanwhile<R: Threads + Wait + Sync>(
     rt: &R,
-    mut worker: Worker,
+    worker: &mut Worker,
     held: Held,
     end: End,
-    client: Client,
+    client: &mut Client,
     hold: &Hold,
     handle: HandleId,
 ) -> (Option<Reply>, Option<Told>) {
@@ -112,54 +119,65 @@ pub fn read_meanwhile<R: Threads + Wait + Sync>(
     )
 }
 
-/// A seat that takes turns at a handle: it resumes it where it is paused, or pauses it where it isn't, and wakes the others.
-#[derive(Drop)]
-pub struct Player<'a> {
-    pub client: Client<'a>,
-    pub handle: HandleId,
-    pub resumes: bool,
-    /// How many turns it has taken.
-    pub turns: u32,
-}
-
-impl<'a> Player<'a> {
-    // Whether it is this player's turn; None where the handle can't be read.
-    fn is_next<R: Wait>(&mut self, rt: &R) -> Option<bool> {
-        match self.client.make(rt, Call::State(self.handle))? {
-            Reply::State(State::Paused(_)) => Some(self.resumes),
-            Reply::State(State::Running(_)) => Some(!self.resumes),
-            _ => None,
-        }
-    }
-
-    fn turn<R: Wait>(&mut self, rt: &R) {
-        let call = if self.resumes {
-            Call::Unpause(self.handle)
-        } else {
-            Call::Pause(self.handle)
-        };
-        let _changed = self.client.make(rt, call);
-        let _woke = self.client.make(rt, Call::Wakeup);
-        self.turns = self.turns.wrapping_add(1);
-    }
-
-    fn run<R: Wait>(&mut self, rt: &R, turns: u32) {
-        for _ in rt.forever() {
-            if self.turns >= turns {
-                return;
-            }
-            match self.is_next(rt) {
-                Some(true) => self.turn(rt),
-                Some(false) => {
-                    let _woken = self.client.make(rt, Call::Poll);
-                }
-                None => return,
-            }
-        }
+// Whether it is a client's turn at a handle, which it resumes or pauses; None where the handle can't be read.
+fn is_next<R: Wait>(rt: &R, client: &mut Client, handle: HandleId, resumes: bool) -> Option<bool> {
+    match client.make(rt, Call::State(handle))? {
+        Reply::State(State::Paused(_)) => Some(resumes),
+        Reply::State(State::Running(_)) => Some(!resumes),
+        _ => None,
     }
 }
 
-/// Each takes so many turns, in a thread of its own, and polls until it is its turn.
-pub fn play<R: Threads + Wait + Sync>(rt: &R, players: &mut [Player], turns: u32) {
-    for_each_mut(rt, players, 2, &|_, player| player.run(rt, turns));
+// Resumes or pauses a handle, and wakes the others.
+fn take_turn<R: Wait>(rt: &R, client: &mut Client, handle: HandleId, resumes: bool) {
+    let call = if resumes {
+        Call::Unpause(handle)
+    } else {
+        Call::Pause(handle)
+    };
+    let _changed = client.make(rt, call);
+    let _woke = client.make(rt, Call::Wakeup);
+}
+
+// Takes so many turns, and polls until it is the next; how many it took.
+fn take_all<R: Wait>(
+    rt: &R,
+    client: &mut Client,
+    handle: HandleId,
+    resumes: bool,
+    count: u32,
+) -> u32 {
+    let mut taken = 0u32;
+    for _ in rt.forever() {
+        if taken >= count {
+            return taken;
+        }
+        match is_next(rt, client, handle, resumes) {
+            Some(true) => {
+                take_turn(rt, client, handle, resumes);
+                taken = taken.wrapping_add(1);
+            }
+            Some(false) => {
+                let _woken = client.make(rt, Call::Poll);
+            }
+            None => return taken,
+        }
+    }
+    taken
+}
+
+/// Two clients take so many turns each, in a thread of their own: the first pauses the handle, the second resumes it, each then
+/// wakes the other, and polls until it is its turn. It answers how many turns each took.
+pub fn take_turns<R: Threads + Wait + Sync>(
+    rt: &R,
+    first: &mut Client,
+    second: &mut Client,
+    handle: HandleId,
+    count: u32,
+) -> (u32, u32) {
+    join(
+        rt,
+        move || take_all(rt, first, handle, false, count),
+        move || take_all(rt, second, handle, true, count),
+    )
 }

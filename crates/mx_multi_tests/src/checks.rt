@@ -1,0 +1,51 @@
+//! What was answered beside what is expected.
+
+use mx_multi_workload::entries::text_of;
+use mx_multi_workload::texts::Asked;
+use mx_types::{Call, OutOfMemory, Reply};
+use std::alloc::Global;
+use std::test::Fail;
+
+/// Fails with the words where it isn't so.
+pub fn check(holds: bool, words: &'static str) -> Result<(), Fail> {
+    if holds {
+        return Ok(());
+    }
+    Err(words.into())
+}
+
+/// What was answered; fails with the want of memory where that is the answer.
+pub fn answered(reply: Option<Reply>) -> Result<Reply, Fail> {
+    match reply {
+        Some(Reply::OutOfMemory) => Err(OutOfMemory.into()),
+        Some(reply) => Ok(reply),
+        None => Err("no answer".into()),
+    }
+}
+
+// The text of an answer, tried once more where memory was refused.
+fn said(alloc: Global, reply: &Reply) -> Result<String, OutOfMemory> {
+    match text_of(alloc, reply) {
+        Ok(text) => Ok(text),
+        Err(_) => text_of(alloc, reply),
+    }
+}
+
+/// Fails where a call was answered otherwise, or left its seat with another number of events.
+pub fn compare(
+    alloc: Global,
+    call: Call,
+    reply: Option<Reply>,
+    cut: u32,
+    expected: (&str, u32),
+) -> Result<(), Fail> {
+    let Some(reply) = reply else {
+        return Err("no answer".into());
+    };
+    let said = said(alloc, &reply)?;
+    if said.as_str() == expected.0 && cut == expected.1 {
+        return Ok(());
+    }
+    let asked = Asked(call);
+    Err(format!(in alloc; "{asked} = {said}, {cut}")?.into())
+}

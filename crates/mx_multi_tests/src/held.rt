@@ -1,0 +1,97 @@
+//! Reads while another call keeps the lock.
+
+use crate::checks::{answered, check, compare};
+use crate::script::{By, Step, at_four_seats, take_steps};
+use mx_multi_workload::client::Held;
+use mx_multi_workload::desk::{Desk, Scene};
+use mx_multi_workload::hold::Hold;
+use mx_multi_workload::sample::End;
+use mx_multi_workload::threads::{Told, read_meanwhile};
+use mx_types::{Call, Code, HandleId, Reply};
+use std::alloc::Global;
+use std::sync::{Arc, Wait};
+use std::test::Fail;
+use std::thread::Threads;
+
+const ONE: HandleId = HandleId(1);
+
+// Adds handle 1, and claims it.
+fn add_and_claim<R: Wait>(rt: &R, alloc: Global, desk: &mut Desk) -> Result<Held, Fail> {
+    const ADDITION: &[Step] = &[Step::Make(By::Third, Call::Add(ONE), "added 0", 1)];
+    take_steps(rt, alloc, desk, ADDITION)?;
+    match desk.worker.claim(rt) {
+        Some(held) => Ok(held),
+        None => Err("nothing to claim".into()),
+    }
+}
+
+// What the reads are to answer, and then the end that kept the lock.
+fn compare_all(
+    alloc: Global,
+    hold: &Hold,
+    told: Option<Told>,
+    ended: Option<Reply>,
+) -> Result<(), Fail> {
+    let Some(told) = told else {
+        return Err("the lock was not kept".into());
+    };
+    let Told {
+        handles,
+        running,
+        state,
+    } = told;
+    check(hold.was_in_time(), "the reads waited for the lock")?;
+    compare(alloc, Call::Handles, handles, 1, ("handles 1", 1))?;
+    compare(alloc, Call::Running, running, 1, ("running 1", 1))?;
+    compare(alloc, Call::State(ONE), state, 1, ("running 0", 1))?;
+    check(matches!(answered(ended)?, Reply::Recorded), "not recorded")
+}
+
+// Reads in one thread while the end of a transfer, in another, asks for its code under the lock.
+fn read_beside<R: Threads + Wait + Sync>(
+    rt: &R,
+    alloc: Global,
+    desk: &mut Desk,
+    held: Held,
+) -> Result<(), Fail> {
+    let hold = Arc::new(alloc, Hold::new())?;
+    let end = End {
+        code: Code::Ok,
+        size: 5,
+        hold: Some(hold.clone()?),
+    };
+    let (ended, told) = read_meanwhile(
+        rt,
+        &mut desk.worker,
+        held,
+        end,
+        &mut desk.fourth,
+        &hold,
+        ONE,
+    );
+    compare_all(alloc, &hold, told, ended)
+}
+
+/// An end keeps the lock, and reads are made meanwhile.
+#[derive(Clone, Copy)]
+struct HeldLock;
+
+impl Scene for HeldLock {
+    type Told = Result<(), Fail>;
+
+    fn play<R: Threads + Wait + Sync>(
+        &self,
+        rt: &R,
+        alloc: Global,
+        desk: &mut Desk,
+    ) -> Result<(), Fail> {
+        let held = add_and_claim(rt, alloc, desk)?;
+        read_beside(rt, alloc, desk, held)
+    }
+}
+
+/// Reads are answered while another call keeps the lock, by what was published before that call.
+#[test]
+fn reads_take_no_lock(rt: HostRuntime) -> Result<(), Fail> {
+    at_four_seats(&rt, rt.alloc(), &HeldLock)
+}

@@ -1,0 +1,20 @@
+//! A multi handle that threads share, by its public calls alone: what each of a script's calls answers, many threads' calls
+//! played again on one thread, and wake-ups that mustn't be lost. There is nothing in this crate but tests.
+#![tactic(auto)]
+
+#[cfg(test)]
+mod checks;
+#[cfg(test)]
+mod held;
+#[cfg(test)]
+mod meetings;
+#[cfg(test)]
+mod script;
+#[cfg(test)]
+mod scripts;
+#[cfg(test)]
+mod seats;
+#[cfg(test)]
+mod storms;
+#[cfg(test)]
+mod turns;

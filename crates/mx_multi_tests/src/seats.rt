@@ -1,0 +1,97 @@
+//! One thread, and the seats of one multi handle.
+
+use crate::checks::{answered, check};
+use crate::script::at_four_seats;
+use mx_multi::{Limits, OpenError};
+use mx_multi_workload::client::Client;
+use mx_multi_workload::desk::{Desk, Scene};
+use mx_multi_workload::opened::open;
+use mx_multi_workload::sample::FOUR_SEATS;
+use mx_types::{Call, HandleId, Reply};
+use std::alloc::Global;
+use std::sync::Wait;
+use std::test::Fail;
+use std::thread::Threads;
+
+fn is_refused<R: Wait>(rt: &R, alloc: Global, limits: Limits) -> bool {
+    match open(rt, alloc, limits) {
+        Ok(_) => false,
+        Err(error) => error == OpenError::BadLimits,
+    }
+}
+
+/// Numbers outside their limits are refused.
+#[test]
+fn bad_limits_are_refused(rt: HostRuntime) -> Result<(), Fail> {
+    let bad = [
+        Limits {
+            seats: 0,
+            ..FOUR_SEATS
+        },
+        Limits {
+            seats: 17,
+            ..FOUR_SEATS
+        },
+        Limits {
+            workers: 0,
+            ..FOUR_SEATS
+        },
+        Limits {
+            workers: 17,
+            ..FOUR_SEATS
+        },
+        Limits {
+            history: 3,
+            ..FOUR_SEATS
+        },
+        Limits {
+            history: 1048577,
+            ..FOUR_SEATS
+        },
+        Limits {
+            max_connects: 65,
+            ..FOUR_SEATS
+        },
+    ];
+    for limits in bad {
+        assert!(rt; is_refused(&rt, rt.alloc(), limits));
+    }
+    Ok(())
+}
+
+// Adds 256 handles, and then one more.
+fn fill<R: Wait>(rt: &R, client: &mut Client) -> Result<(), Fail> {
+    for number in 0..256u32 {
+        let reply = answered(client.make(rt, Call::Add(HandleId(number))))?;
+        let Reply::Added(ticket) = reply else {
+            return Err("not added".into());
+        };
+        check(ticket.0 == number, "another ticket")?;
+    }
+    let reply = answered(client.make(rt, Call::Add(HandleId(256))))?;
+    check(matches!(reply, Reply::TableFull), "not full")?;
+    check(client.cut() == 256, "other events")
+}
+
+/// All places of the table are filled.
+#[derive(Clone, Copy)]
+struct FullTable;
+
+impl Scene for FullTable {
+    type Told = Result<(), Fail>;
+
+    fn play<R: Threads + Wait + Sync>(
+        &self,
+        rt: &R,
+        _alloc: Global,
+        desk: &mut Desk,
+    ) -> Result<(), Fail> {
+        fill(rt, &mut desk.third)
+    }
+}
+
+/// 256 additions have the tickets 0 to 255, and the next finds no room.
+#[test]
+fn the_table_has_256_places(rt: HostRuntime) -> Result<(), Fail> {
+    at_four_seats(&rt, rt.alloc(), &FullTable)
+}

@@ -1,0 +1,39 @@
+//! Calls of many threads, played again on one.
+
+use crate::checks::check;
+use mx_multi_workload::entries::Entry;
+use mx_multi_workload::stress::{differs, storm};
+use std::alloc::Global;
+use std::sync::Wait;
+use std::test::Fail;
+use std::thread::Threads;
+
+const SEED: u64 = 20261123;
+
+const TURNS: u32 = 400;
+
+// Fails with the first call that one thread answers otherwise.
+fn replay(alloc: Global, entries: &mut Vec<Entry>) -> Result<(), Fail> {
+    let Some(place) = differs(alloc, entries)? else {
+        return Ok(());
+    };
+    match entries.get(place) {
+        Some(entry) => Err(format!(in alloc; "{entry}")?.into()),
+        None => Err("no such call".into()),
+    }
+}
+
+fn run_and_replay<R: Threads + Wait + Sync>(rt: &R, alloc: Global) -> Result<(), Fail> {
+    let Some(mut entries) = storm(rt, alloc, SEED, TURNS)? else {
+        return Err("a call was not answered".into());
+    };
+    replay(alloc, &mut entries)?;
+    check(entries.len() > 16 * TURNS as usize, "few calls")
+}
+
+/// 16 seats on 8 threads over 40 handles: one thread, which makes all calls in the order of their cuts, answers the same.
+#[test]
+fn one_thread_answers_the_same(rt: HostRuntime) -> Result<(), Fail> {
+    println!(rt; "seed {SEED}, {TURNS} turns a thread")?;
+    run_and_replay(&rt, rt.alloc())
+}

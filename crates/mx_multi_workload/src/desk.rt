@@ -1,0 +1,85 @@
+//! Seats of a multi handle that is opened for what is done at them.
+ghost use denote.Param.Send.{IsSync};
+
+use crate::client::{Client, Pair, Worker};
+use crate::opened::{Benches, Opened, Seats, open_within};
+use mx_multi::Limits;
+use mx_types::OutOfMemory;
+use std::alloc::Global;
+use std::sync::Wait;
+use std::thread::Threads;
+
+/// Four application threads' seats, of which two may meet, and a worker's, all of one multi handle.
+#[derive(Drop)]
+pub struct Desk<'a> {
+    pub pair: Pair<'a>,
+    pub third: Client<'a>,
+    pub fourth: Client<'a>,
+    pub worker: Worker<'a>,
+}
+
+/// What is done at a desk.
+pub trait Scene {
+    /// What comes of it.
+    type Told;
+
+    fn play<R: Threads + Wait + Sync>(&self, rt: &R, alloc: Global, desk: &mut Desk) -> Self::Told
+        requires { IsSync R.row };
+}
+
+// Two seats that don't meet.
+fn take_clients<'a>(seats: &mut Seats<'a>) -> Option<(Client<'a>, Client<'a>)> {
+    let third = seats.take()?;
+    let fourth = seats.take()?;
+    Some((third, fourth))
+}
+
+fn take_desk<'a>(seats: &mut Seats<'a>, benches: &mut Benches<'a>) -> Option<Desk<'a>> {
+    let pair = seats.take_two()?;
+    let (third, fourth) = take_clients(seats)?;
+    let worker = benches.take()?;
+    Some(Desk {
+        pair,
+        third,
+        fourth,
+        worker,
+    })
+}
+
+// Plays at the seats that are left.
+fn play_at<'a, R: Threads + Wait + Sync, S: Scene>(
+    rt: &R,
+    alloc: Global,
+    mut seats: Seats<'a>,
+    mut benches: Benches<'a>,
+    scene: &S,
+) -> Option<S::Told> {
+    let mut desk = take_desk(&mut seats, &mut benches)?;
+    Some(scene.play(rt, alloc, &mut desk))
+}
+
+/// Opens a multi handle, and plays at it once. `OutOfMemory` stands for any refusal, and for fewer seats than a desk has.
+pub fn at_desk<R: Threads + Wait + Sync, S: Scene>(
+    rt: &R,
+    alloc: Global,
+    limits: Limits,
+    scene: &S,
+) -> Result<S::Told, OutOfMemory> {
+    let Opened {
+        multi,
+        seats,
+        workers,
+    } = open_within(rt, alloc, limits)?;
+    let seats = Seats {
+        multi: &multi,
+        left: seats,
+    };
+    let benches = Benches {
+        multi: &multi,
+        left: workers,
+    };
+    match play_at(rt, alloc, seats, benches, scene) {
+        Some(told) => Ok(told),
+        None => Err(OutOfMemory),
+    }
+}
