@@ -10,7 +10,7 @@ use std::thread::Threads;
 
 const SEED: u64 = 20261123;
 
-const TURNS: u32 = 400;
+const TURNS: u32 = 4000;
 
 // Fails with the first call that one thread answers otherwise.
 fn replay(alloc: Global, entries: &mut Vec<Entry>) -> Result<(), Fail> {
