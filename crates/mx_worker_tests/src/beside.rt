@@ -1,0 +1,193 @@
+//! Workers on threads of their own, and one more thread that reads the messages.
+ghost use Rattle.std.specs.Prelude.{◌≡◌, All, IfOk};
+
+use crate::desk::{Desk, Parts};
+use crate::messages::{Answer, Message, is_answer};
+use crate::reader::Reader;
+use mx_exchange::Outcome;
+use mx_gate::Gate;
+use mx_link::Link;
+use mx_multi::{Multi, Seat, WorkerSeat};
+use mx_types::OutOfMemory;
+use mx_worker::{Queued, run_crew};
+use std::alloc::{AllocError, AllocGlobal, Global};
+use std::random::RandomSource;
+use std::rt::Clock;
+use std::sync::atomic::{AtomicBool, Ordering};
+use std::sync::{Arc, Wait};
+use std::test::Fail;
+use std::thread::{Threads, join};
+
+/// What the threads tell each other: that a message was read, and that both were.
+#[derive(Drop)]
+pub struct Flags {
+    pub is_read: AtomicBool,
+    pub stop: Arc<AtomicBool>,
+}
+
+impl Flags {
+    pub fn new(alloc: Global) -> Result<Flags, AllocError> {
+        Ok(Flags {
+            is_read: AtomicBool::new(false),
+            stop: Arc::new(alloc, AtomicBool::new(false))?,
+        })
+    }
+}
+
+/// What is to come: two answers, and the URL, if there is one, that is added between them.
+#[derive(Drop)]
+pub struct Plan<'a> {
+    pub first: Answer<'a>,
+    pub second: Answer<'a>,
+    pub later: Option<&'a str>,
+}
+
+/// What came of a run.
+#[derive(Drop)]
+pub struct Came {
+    /// How many ends the workers recorded together, and how many the one that recorded most; None where no memory was had for their
+    /// threads.
+    pub recorded: Option<(u32, u32)>,
+    /// Whether the first answer came, and the second.
+    pub answers: (bool, bool),
+}
+
+// Whether the message is there, and this answer.
+fn is_there(message: Option<Message>, answer: &Answer<'_>) -> bool {
+    match message {
+        Some(message) => is_answer(&message, answer),
+        None => false,
+    }
+}
+
+// Whether the two answers come. The workers are told of each; where a URL is to come later it is added between them.
+fn read_both<L: Link, R: Wait + Clock + AllocGlobal>(
+    rt: &R,
+    multi: &Multi<Queued<L>, Outcome>,
+    seat: Seat<Queued<L>, Outcome>,
+    flags: &Flags,
+    plan: &Plan<'_>,
+) -> (bool, bool)
+    requires own { seat.of ≡ multi.now }
+{
+    let mut reader = Reader::of(multi, seat);
+    let first = is_there(reader.await_message(rt), &plan.first);
+    flags.is_read.store(true, Ordering::SeqCst);
+    if let Some(url) = plan.later {
+        reader.add(rt, 2, url);
+    }
+    let second = is_there(reader.await_message(rt), &plan.second);
+    flags.stop.store(true, Ordering::SeqCst);
+    (first, second)
+}
+
+// Runs a crew. It answers how many ends its workers recorded together, and how many the one that recorded most.
+fn work_all<
+    L: Link + Send,
+    R: Threads + Wait + RandomSource + AllocGlobal + Sync,
+    G: Gate<Link = L> + Send + Drop,
+>(
+    rt: &R,
+    multi: &Multi<Queued<L>, Outcome>,
+    crew: Vec<(WorkerSeat<Queued<L>, Outcome>, G)>,
+) -> Option<(u32, u32)>
+    requires own { All (λ m. m.0.of ≡ multi.now) crew.items }
+{
+    let Ok(ends) = run_crew(rt, multi, crew) else {
+        return None;
+    };
+    let (mut all, mut most) = (0u32, 0u32);
+    for end in ends {
+        all = all.saturating_add(end.recorded);
+        most = most.max(end.recorded);
+    }
+    Some((all, most))
+}
+
+// Runs a crew, and reads beside it.
+fn run_beside<
+    L: Link + Send,
+    R: Threads + Wait + RandomSource + AllocGlobal + Clock + Sync,
+    G: Gate<Link = L> + Send + Drop,
+>(
+    rt: &R,
+    multi: &Multi<Queued<L>, Outcome>,
+    seat: Seat<Queued<L>, Outcome>,
+    crew: Vec<(WorkerSeat<Queued<L>, Outcome>, G)>,
+    flags: &Flags,
+    plan: &Plan<'_>,
+) -> Came
+    requires seat { seat.of ≡ multi.now }
+    requires crew { All (λ m. m.0.of ≡ multi.now) crew.items }
+{
+    let (recorded, answers) = join(
+        rt,
+        move ||
+            requires { All (λ m. m.0.of ≡ multi.now) crew.items }
+        { work_all(rt, multi, crew) },
+        move || read_both(rt, multi, seat, flags, plan),
+    );
+    Came { recorded, answers }
+}
+
+// A worker's seat with each gate, as far as there are seats.
+fn crew_of<L: Link, G: Gate<Link = L> + Drop>(
+    alloc: Global,
+    multi: &Multi<Queued<L>, Outcome>,
+    workers: Vec<WorkerSeat<Queued<L>, Outcome>>,
+    gates: Vec<G>,
+) -> Result<Vec<(WorkerSeat<Queued<L>, Outcome>, G)>, AllocError>
+    requires { All (λ s. s.of ≡ multi.now) workers.items }
+    ensures { IfOk result (λ crew. All (λ m. m.0.of ≡ multi.now) crew.items) }
+{
+    let _ = multi;
+    let (mut workers, mut gates) = (workers, gates);
+    let mut crew = Vec::new(alloc);
+    while let Some(seat) = workers.pop() {
+        let Some(gate) = gates.pop() else {
+            return Ok(crew);
+        };
+        crew.push((seat, gate))?;
+    }
+    Ok(crew)
+}
+
+// Runs a worker for each gate, of at most two, each in a thread of its own, and reads two messages beside them.
+fn run_desk<
+    L: Link + Send,
+    R: Threads + Wait + RandomSource + AllocGlobal + Clock + Sync,
+    G: Gate<Link = L> + Send + Drop,
+>(
+    rt: &R,
+    desk: Desk<L>,
+    gates: Vec<G>,
+    flags: &Flags,
+    plan: &Plan<'_>,
+) -> Result<Came, OutOfMemory> {
+    let Parts {
+        multi,
+        seat,
+        workers,
+    } = desk.into_parts();
+    let crew = crew_of(rt.alloc(), &multi, workers, gates)?;
+    Ok(run_beside(rt, &multi, seat, crew, flags, plan))
+}
+
+/// Adds the URLs at a new multi handle, whose workers keep so many idle links; runs a worker for each gate, of at most two, each in a
+/// thread of its own, and reads two messages beside them.
+pub fn run_plan<
+    L: Link + Send,
+    R: Threads + Wait + RandomSource + AllocGlobal + Clock + Sync,
+    G: Gate<Link = L> + Send + Drop,
+>(
+    rt: &R,
+    max_connects: u8,
+    urls: &[&str],
+    gates: Vec<G>,
+    flags: &Flags,
+    plan: &Plan<'_>,
+) -> Result<Came, Fail> {
+    let mut desk = Desk::open(rt, rt.alloc(), max_connects)?;
+    desk.add_all(rt, rt.alloc(), urls)?;
+    Ok(run_desk(rt, desk, gates, flags, plan)?)
+}

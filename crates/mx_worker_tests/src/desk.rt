@@ -1,0 +1,235 @@
+//! A multi handle with one seat and two workers' seats, and what tests ask of them.
+ghost use Rattle.std.specs.Prelude.{◌≡◌, All, IfOk};
+
+use crate::calls::Ran;
+use crate::messages::{Answer, Message};
+use crate::{calls, messages};
+use mx_exchange::Outcome;
+use mx_gate::Gate;
+use mx_link::{Link, ScriptLink};
+use mx_multi::{Limits, Multi, Progress, Seat, WorkerSeat};
+use mx_types::{Code, HandleId, OutOfMemory, Reply};
+use mx_worker::Queued;
+use std::alloc::{AllocGlobal, Global};
+use std::marker::Model;
+use std::random::RandomSource;
+use std::sync::Wait;
+use std::test::Fail;
+
+/// A multi handle with one seat, and the workers' seats that were not at work. Contracts see how many these are.
+#[derive(Drop)]
+pub struct Desk<L: Link> {
+    multi: Multi<Queued<L>, Outcome>,
+    seat: Seat<Queued<L>, Outcome>,
+    workers: Vec<WorkerSeat<Queued<L>, Outcome>>,
+}
+
+impl<L: Link> Model for Desk<L> {
+    ghost use Rattle.std.specs.Prelude.{◌≡◌, ℕ, All, vec_len};
+
+    ghost Value = { ℕ };
+
+    ghost view = { λ d. vec_len d.workers };
+
+    ghost invariant = { λ d. (d.seat.of ≡ d.multi) × All (λ w. w.of ≡ d.multi) d.workers.items };
+}
+
+/// A desk over scripted links.
+pub type ScriptDesk = Desk<ScriptLink>;
+
+/// A multi handle's parts.
+#[derive(Drop)]
+pub struct Parts<L: Link> {
+    pub multi: Multi<Queued<L>, Outcome>,
+    pub seat: Seat<Queued<L>, Outcome>,
+    pub workers: Vec<WorkerSeat<Queued<L>, Outcome>>,
+}
+
+// Opens a multi handle with one seat.
+fn open<L: Link, R: Wait>(rt: &R, alloc: Global, limits: Limits) -> Result<Parts<L>, OutOfMemory>
+    ensures seat { IfOk result (λ o. o.seat.of ≡ o.multi) }
+    ensures workers { IfOk result (λ o. All (λ s. s.of ≡ o.multi) o.workers.items) }
+{
+    let Ok((multi, mut seats, workers)) = Multi::open(rt, alloc, limits) else {
+        return Err(OutOfMemory);
+    };
+    match seats.pop() {
+        Some(seat) => Ok(Parts {
+            multi,
+            seat,
+            workers,
+        }),
+        None => Err(OutOfMemory),
+    }
+}
+
+// Fails unless the call was answered so.
+fn check(reply: Option<Reply>, is_expected: bool) -> Result<(), Fail> {
+    if is_expected {
+        return Ok(());
+    }
+    match reply {
+        Some(Reply::OutOfMemory) => Err(OutOfMemory.into()),
+        Some(_) => Err("another answer".into()),
+        None => Err("wrong seat".into()),
+    }
+}
+
+impl<L: Link> Desk<L> {
+    /// A desk at a new multi handle, whose workers keep so many idle links.
+    pub fn open<R: Wait>(rt: &R, alloc: Global, max_connects: u8) -> Result<Desk<L>, OutOfMemory> {
+        let limits = Limits {
+            seats: 1,
+            workers: 2,
+            history: 2048,
+            max_connects,
+        };
+        let Parts {
+            multi,
+            seat,
+            workers,
+        } = open(rt, alloc, limits)?;
+        Ok(Desk {
+            multi,
+            seat,
+            workers,
+        })
+    }
+
+    /// Lets the multi handle and its seats go. Tests call it themselves, so that no test has to be proved to let go all that a desk has.
+    pub fn close(self) {}
+
+    /// The multi handle, the seat and the workers' seats.
+    pub fn into_parts(self) -> Parts<L>
+        ensures seat { result.seat.of ≡ result.multi }
+        ensures workers { All (λ s. s.of ≡ result.multi) result.workers.items }
+    {
+        let Desk {
+            multi,
+            seat,
+            workers,
+        } = self;
+        Parts {
+            multi,
+            seat,
+            workers,
+        }
+    }
+
+    /// Adds a GET of the URL.
+    pub fn add<R: Wait>(
+        &mut self,
+        rt: &R,
+        alloc: Global,
+        handle: u32,
+        url: &str,
+        timeout_ms: u32,
+    ) -> Result<(), Fail> {
+        let request = calls::request_of(alloc, url, timeout_ms)?;
+        let work = Queued::new(alloc, request);
+        let reply = calls::add(rt, &self.multi, &mut self.seat, HandleId(handle), work);
+        let is_expected = matches!(reply, Some(Reply::Added(_)));
+        check(reply, is_expected)
+    }
+
+    /// Adds a GET of each URL, which has five seconds, by the handles from 1 on.
+    pub fn add_all<R: Wait>(&mut self, rt: &R, alloc: Global, urls: &[&str]) -> Result<(), Fail> {
+        let mut handle: u32 = 0;
+        for url in urls {
+            handle = handle.saturating_add(1);
+            self.add(rt, alloc, handle, *url, 5000)?;
+        }
+        Ok(())
+    }
+
+    pub fn pause<R: Wait>(&mut self, rt: &R, handle: u32) -> Result<(), Fail> {
+        let reply = calls::pause(rt, &self.multi, &mut self.seat, HandleId(handle));
+        let is_expected = matches!(reply, Some(Reply::Changed));
+        check(reply, is_expected)
+    }
+
+    pub fn unpause<R: Wait>(&mut self, rt: &R, handle: u32) -> Result<(), Fail> {
+        let reply = calls::unpause(rt, &self.multi, &mut self.seat, HandleId(handle));
+        let is_expected = matches!(reply, Some(Reply::Changed));
+        check(reply, is_expected)
+    }
+
+    pub fn remove<R: Wait>(&mut self, rt: &R, handle: u32) -> Result<(), Fail> {
+        let reply = calls::remove(rt, &self.multi, &mut self.seat, HandleId(handle));
+        let is_expected = matches!(reply, Some(Reply::Removed));
+        check(reply, is_expected)
+    }
+
+    // The first message, which there is to be.
+    fn read<R: Wait>(&mut self, rt: &R) -> Result<Message, Fail> {
+        let read = calls::read(rt, &self.multi, &mut self.seat)?;
+        Ok(read.ok_or("no message")?)
+    }
+
+    /// Reads the first message, which is to be of this handle, with this code and body.
+    pub fn expect<R: Wait>(
+        &mut self,
+        rt: &R,
+        handle: u32,
+        code: Code,
+        body: &[u8],
+    ) -> Result<(), Fail> {
+        let message = self.read(rt)?;
+        messages::check(&message, handle, code, body)
+    }
+
+    /// Reads the first message, which is to have code 0 and this body, and says of which handle it is.
+    pub fn expect_whole<R: Wait>(&mut self, rt: &R, body: &[u8]) -> Result<u32, Fail> {
+        let message = self.read(rt)?;
+        let handle = message.handle.0;
+        messages::check(&message, handle, Code::Ok, body)?;
+        Ok(handle)
+    }
+
+    /// Reads the first message, which is to be this answer.
+    pub fn expect_answer<R: Wait>(&mut self, rt: &R, answer: &Answer<'_>) -> Result<(), Fail> {
+        let message = self.read(rt)?;
+        messages::check_answer(&message, answer)
+    }
+
+    /// Looks for a message, which there is not to be.
+    pub fn expect_none<R: Wait>(&mut self, rt: &R) -> Result<(), Fail> {
+        match calls::read(rt, &self.multi, &mut self.seat)? {
+            Some(_) => Err("a message".into()),
+            None => Ok(()),
+        }
+    }
+
+    /// How far the handle's transfer is.
+    pub fn progress(&mut self, handle: u32) -> Option<Progress> {
+        calls::progress(&self.multi, &mut self.seat, HandleId(handle))
+    }
+
+    /// Runs a worker over the gate, on a seat that no worker had before. `OutOfMemory` comes where its start found no memory, and where
+    /// two workers were at work before.
+    pub fn work<R: Wait + RandomSource + AllocGlobal, G: Gate<Link = L>>(
+        &mut self,
+        rt: &R,
+        gate: &mut G,
+    ) -> Result<Ran, OutOfMemory> {
+        let Some(seat) = self.workers.pop() else {
+            return Err(OutOfMemory);
+        };
+        calls::work(rt, &self.multi, seat, gate).ok_or(OutOfMemory)
+    }
+
+    /// Runs a worker over the gate, which is to record so many ends and to give back so many transfers.
+    pub fn run<R: Wait + RandomSource + AllocGlobal, G: Gate<Link = L>>(
+        &mut self,
+        rt: &R,
+        gate: &mut G,
+        recorded: u32,
+        given_back: u32,
+    ) -> Result<(), Fail> {
+        let ran = self.work(rt, gate)?;
+        if ran.recorded == recorded && ran.given_back == given_back && ran.stale == 0 {
+            return Ok(());
+        }
+        Err("a worker ended otherwise".into())
+    }
+}

@@ -1,0 +1,168 @@
+//! What becomes of transfers that one worker holds.
+
+use crate::desk::ScriptDesk;
+use crate::gates::{COUNTED, OTHER, gate_of, plan_link, plan_moments, plan_refusal};
+use crate::messages::Answer;
+use mx_link::ScriptRead;
+use mx_multi::Progress;
+use mx_types::{Code, Ticket};
+use std::alloc::AllocGlobal;
+use std::random::RandomSource;
+use std::sync::Wait;
+use std::test::Fail;
+
+/// What the transfer of `http://a.example/` is to end with (RFC 9112, section 3).
+const FROM_A: Answer<'static> = Answer {
+    ticket: 0,
+    request: b"GET / HTTP/1.1\r\nHost: a.example\r\nAccept: */*\r\n\r\n",
+    body: b"hello",
+};
+
+/// What that of `http://b.example/` is to end with.
+const FROM_B: Answer<'static> = Answer {
+    ticket: 1,
+    request: b"GET / HTTP/1.1\r\nHost: b.example\r\nAccept: */*\r\n\r\n",
+    body: b"bye",
+};
+
+fn serve_two<R: Wait + RandomSource + AllocGlobal>(
+    rt: &R,
+    desk: &mut ScriptDesk,
+) -> Result<(), Fail> {
+    desk.add(rt, rt.alloc(), 1, "http://a.example/", 0)?;
+    desk.add(rt, rt.alloc(), 2, "http://b.example/", 0)?;
+    let mut gate = gate_of(rt.alloc(), 3);
+    plan_link(&mut gate, rt.alloc(), &[ScriptRead::Bytes(COUNTED)])?;
+    plan_link(&mut gate, rt.alloc(), &[ScriptRead::Bytes(OTHER)])?;
+    desk.run(rt, &mut gate, 2, 0)?;
+    desk.expect_answer(rt, &FROM_A)?;
+    desk.expect_answer(rt, &FROM_B)?;
+    desk.expect_none(rt)
+}
+
+/// Two handles and one worker: both messages have code 0, each the outcome of its own request.
+#[test]
+fn one_worker_serves_two(rt: HostRuntime) -> Result<(), Fail> {
+    let mut desk = ScriptDesk::open(&rt, rt.alloc(), 4)?;
+    let result = serve_two(&rt, &mut desk);
+    desk.close();
+    result
+}
+
+// A transfer whose link can't be had for this code ends with it.
+fn end_with<R: Wait + RandomSource + AllocGlobal>(
+    rt: &R,
+    desk: &mut ScriptDesk,
+    code: Code,
+) -> Result<(), Fail> {
+    desk.add(rt, rt.alloc(), 1, "http://a.example/", 0)?;
+    let mut gate = gate_of(rt.alloc(), 2);
+    plan_refusal(&mut gate, code)?;
+    desk.run(rt, &mut gate, 1, 0)?;
+    desk.expect(rt, 1, code, b"")
+}
+
+/// A gate that can't open gives the code of the message.
+#[test]
+fn a_link_that_cannot_be_had_gives_its_code(rt: HostRuntime) -> Result<(), Fail> {
+    for code in [
+        Code::CouldntResolveHost,
+        Code::CouldntConnect,
+        Code::OutOfMemory,
+    ] {
+        let mut desk = ScriptDesk::open(&rt, rt.alloc(), 4)?;
+        let result = end_with(&rt, &mut desk, code);
+        desk.close();
+        result?;
+    }
+    Ok(())
+}
+
+// A transfer whose link gives nothing. It answers the last wait of the gate.
+fn end_in_time<R: Wait + RandomSource + AllocGlobal>(
+    rt: &R,
+    desk: &mut ScriptDesk,
+) -> Result<Option<u32>, Fail> {
+    desk.add(rt, rt.alloc(), 1, "http://a.example/", 10)?;
+    let mut gate = gate_of(rt.alloc(), 1);
+    let silent = [ScriptRead::WouldBlock, ScriptRead::WouldBlock];
+    plan_link(&mut gate, rt.alloc(), &silent)?;
+    plan_moments(&mut gate, &[100, 107, 110])?;
+    desk.run(rt, &mut gate, 1, 0)?;
+    desk.expect(rt, 1, Code::OperationTimedout, b"")?;
+    Ok(gate.last_wait())
+}
+
+/// A transfer whose link gives nothing ends with 28 at its deadline, and the wait before is no longer than that: in the last turn nothing
+/// was held any more.
+#[test]
+fn a_deadline_ends_a_transfer(rt: HostRuntime) -> Result<(), Fail> {
+    let mut desk = ScriptDesk::open(&rt, rt.alloc(), 4)?;
+    let last_wait = end_in_time(&rt, &mut desk);
+    desk.close();
+    assert_eq!(rt; last_wait?, Some(20));
+    Ok(())
+}
+
+fn serve_the_other<R: Wait + RandomSource + AllocGlobal>(
+    rt: &R,
+    desk: &mut ScriptDesk,
+) -> Result<(), Fail> {
+    desk.add(rt, rt.alloc(), 1, "http://a.example/", 0)?;
+    desk.add(rt, rt.alloc(), 2, "http://b.example/", 0)?;
+    desk.remove(rt, 1)?;
+    let mut gate = gate_of(rt.alloc(), 3);
+    plan_link(&mut gate, rt.alloc(), &[ScriptRead::Bytes(COUNTED)])?;
+    desk.run(rt, &mut gate, 1, 0)?;
+    desk.expect(rt, 2, Code::Ok, b"hello")?;
+    desk.expect_none(rt)
+}
+
+/// A worker never begins a transfer that was removed, and its handle gets no message.
+#[test]
+fn a_removed_handle_gets_no_message(rt: HostRuntime) -> Result<(), Fail> {
+    let mut desk = ScriptDesk::open(&rt, rt.alloc(), 4)?;
+    let result = serve_the_other(&rt, &mut desk);
+    desk.close();
+    result
+}
+
+// Two transfers, of which the first ends within its response. It answers how far the second was before, and then the first and the second.
+fn note_two<R: Wait + RandomSource + AllocGlobal>(
+    rt: &R,
+    desk: &mut ScriptDesk,
+) -> Result<[Option<Progress>; 3], Fail> {
+    desk.add(rt, rt.alloc(), 1, "http://a.example/", 10)?;
+    desk.add(rt, rt.alloc(), 2, "http://b.example/", 0)?;
+    let before = desk.progress(2);
+    let mut gate = gate_of(rt.alloc(), 2);
+    let cut_short = [ScriptRead::Bytes(&COUNTED[..40]), ScriptRead::WouldBlock];
+    plan_link(&mut gate, rt.alloc(), &cut_short)?;
+    plan_link(&mut gate, rt.alloc(), &[ScriptRead::Bytes(COUNTED)])?;
+    plan_moments(&mut gate, &[100, 105, 110])?;
+    desk.run(rt, &mut gate, 2, 0)?;
+    Ok([before, desk.progress(1), desk.progress(2)])
+}
+
+/// A seat reads how many bytes came for a transfer, whether it ended whole or within its response.
+#[test]
+fn a_worker_notes_how_far_a_transfer_is(rt: HostRuntime) -> Result<(), Fail> {
+    let mut desk = ScriptDesk::open(&rt, rt.alloc(), 4)?;
+    let noted = note_two(&rt, &mut desk);
+    desk.close();
+    let noted = noted?;
+    assert_eq!(rt; noted[0], Some(Progress::Bytes(Ticket(1), 0)));
+    assert_eq!(rt; noted[1], Some(Progress::Bytes(Ticket(0), 40)));
+    assert_eq!(rt; noted[2], Some(Progress::Bytes(Ticket(1), 43)));
+    Ok(())
+}
+
+/// A handle that isn't added has no progress.
+#[test]
+fn a_handle_that_is_not_added_has_no_progress(rt: HostRuntime) -> Result<(), Fail> {
+    let mut desk = ScriptDesk::open(&rt, rt.alloc(), 4)?;
+    let told = desk.progress(3);
+    desk.close();
+    assert_eq!(rt; told, Some(Progress::NotAdded));
+    Ok(())
+}

@@ -1,0 +1,27 @@
+//! Workers over scripted links, on one thread and on three, and over loopback connections. There is nothing in this crate but tests.
+#![tactic(auto)]
+
+#[cfg(test)]
+mod beside;
+#[cfg(test)]
+mod calls;
+#[cfg(test)]
+mod desk;
+#[cfg(test)]
+mod ends;
+#[cfg(test)]
+mod gates;
+#[cfg(test)]
+mod links;
+#[cfg(test)]
+mod messages;
+#[cfg(test)]
+mod reader;
+#[cfg(test)]
+mod sockets;
+#[cfg(test)]
+mod takeover;
+#[cfg(test)]
+mod threads;
+#[cfg(test)]
+mod waits;

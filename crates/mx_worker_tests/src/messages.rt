@@ -1,0 +1,81 @@
+//! Done messages, and what they are to say.
+
+use mx_exchange::Outcome;
+use mx_journal::InfoReply;
+use mx_types::{Code, HandleId, OutOfMemory, Ticket};
+use std::test::Fail;
+
+/// What a done message says.
+#[derive(Drop)]
+pub struct Message {
+    pub handle: HandleId,
+    pub ticket: Ticket,
+    pub outcome: Outcome,
+}
+
+/// The message that was read; None where there was none.
+pub fn message_of(reply: InfoReply<Outcome>) -> Result<Option<Message>, OutOfMemory> {
+    match reply {
+        InfoReply::Message {
+            handle,
+            ticket,
+            ending,
+            left: _,
+        } => Ok(Some(Message {
+            handle,
+            ticket,
+            outcome: ending,
+        })),
+        InfoReply::Empty => Ok(None),
+        InfoReply::OutOfMemory => Err(OutOfMemory),
+    }
+}
+
+/// Whether an outcome has this code, and this body: in one part, or in none where it is empty.
+pub fn ends_with(outcome: &Outcome, code: Code, body: &[u8]) -> bool {
+    if outcome.code() != code {
+        return false;
+    }
+    if body.is_empty() {
+        return outcome.part_count() == 0;
+    }
+    outcome.part_count() == 1 && outcome.part(0) == Some(body)
+}
+
+// Fails unless it is so: with the want of memory where that is the message's code.
+fn judge(message: &Message, is_expected: bool) -> Result<(), Fail> {
+    if is_expected {
+        return Ok(());
+    }
+    if message.outcome.code() == Code::OutOfMemory {
+        return Err(OutOfMemory.into());
+    }
+    Err("another message".into())
+}
+
+/// Fails unless the message is of this handle, with this code and body.
+pub fn check(message: &Message, handle: u32, code: Code, body: &[u8]) -> Result<(), Fail> {
+    let is_own = message.handle == HandleId(handle);
+    judge(message, is_own && ends_with(&message.outcome, code, body))
+}
+
+/// What a message is to be: of this ticket, with code 0, this request and this body.
+#[derive(Drop)]
+pub struct Answer<'a> {
+    pub ticket: u32,
+    pub request: &'a [u8],
+    pub body: &'a [u8],
+}
+
+/// Whether a message is this answer.
+pub fn is_answer(message: &Message, answer: &Answer<'_>) -> bool {
+    let outcome = &message.outcome;
+    message.ticket == Ticket(answer.ticket)
+        && outcome.request().bytes() == answer.request
+        && ends_with(outcome, Code::Ok, answer.body)
+}
+
+/// Fails unless the message is this answer.
+pub fn check_answer(message: &Message, answer: &Answer<'_>) -> Result<(), Fail> {
+    judge(message, is_answer(message, answer))
+}

@@ -1,0 +1,59 @@
+//! A seat beside its multi handle, for a thread of its own.
+ghost use Rattle.std.specs.Prelude.{◌≡◌};
+
+use crate::calls;
+use crate::messages::Message;
+use mx_exchange::Outcome;
+use mx_link::Link;
+use mx_multi::{Multi, Seat};
+use mx_types::HandleId;
+use mx_worker::Queued;
+use std::alloc::AllocGlobal;
+use std::rt::Clock;
+use std::sync::Wait;
+use std::thread;
+use std::time::Duration;
+
+/// The most looks at a flag or at the messages, one a millisecond.
+pub const LOOKS: u32 = 60_000;
+
+/// A seat that reads messages.
+#[derive(Drop)]
+pub struct Reader<'m, L: Link> {
+    multi: &'m Multi<Queued<L>, Outcome>,
+    seat: Seat<Queued<L>, Outcome>,
+    ghost own: { seat.of ≡ multi.now },
+}
+
+impl<'m, L: Link> Reader<'m, L> {
+    pub fn of(multi: &'m Multi<Queued<L>, Outcome>, seat: Seat<Queued<L>, Outcome>) -> Reader<'m, L>
+        requires { seat.of ≡ multi.now }
+    {
+        Reader { multi, seat }
+    }
+
+    /// Adds a GET of the URL, which has five seconds, where there is memory for its request.
+    pub fn add<R: Wait + AllocGlobal>(&mut self, rt: &R, handle: u32, url: &str) {
+        let Ok(request) = calls::request_of(rt.alloc(), url, 5000) else {
+            return;
+        };
+        let work = Queued::new(rt.alloc(), request);
+        let _reply = calls::add(rt, self.multi, &mut self.seat, HandleId(handle), work);
+    }
+
+    // The first message, if there is one.
+    fn read<R: Wait>(&mut self, rt: &R) -> Option<Message> {
+        calls::read(rt, self.multi, &mut self.seat).unwrap_or(None)
+    }
+
+    /// The first message, once it is there; None where it doesn't come.
+    pub fn await_message<R: Wait + Clock>(&mut self, rt: &R) -> Option<Message> {
+        for _ in 0..LOOKS {
+            if let Some(message) = self.read(rt) {
+                return Some(message);
+            }
+            thread::sleep(rt, Duration::from_millis(1));
+        }
+        None
+    }
+}

@@ -1,0 +1,214 @@
+//! A worker that is stopped, and another that takes over.
+
+use crate::desk::ScriptDesk;
+use crate::gates::{gate_of, plan_counted, plan_link, plan_moments};
+use mx_gate::ScriptGate;
+use mx_link::{ScriptLink, ScriptRead};
+use mx_types::{Code, OutOfMemory};
+use std::alloc::{AllocGlobal, Global};
+use std::random::RandomSource;
+use std::sync::Wait;
+use std::test::Fail;
+
+/// As many transfers as a run has.
+const TRANSFERS: u32 = 8;
+
+/// A response that comes in three pieces, with waits between them.
+const SLOW: &[ScriptRead<'static>] = &[
+    ScriptRead::WouldBlock,
+    ScriptRead::Bytes(b"HTTP/1.1 200 OK\r\nContent-"),
+    ScriptRead::WouldBlock,
+    ScriptRead::Bytes(b"Length: 5\r\n\r\nhe"),
+    ScriptRead::WouldBlock,
+    ScriptRead::Bytes(b"llo"),
+];
+
+// A gate that can open a slow link for each transfer.
+fn slow_gate(alloc: Global, turns: u32) -> Result<ScriptGate<ScriptLink>, OutOfMemory> {
+    let mut gate = gate_of(alloc, turns);
+    for _ in 0..TRANSFERS {
+        plan_link(&mut gate, alloc, SLOW)?;
+    }
+    Ok(gate)
+}
+
+// Adds handles from 0 on, as many as a run has transfers.
+fn add_all<R: Wait>(rt: &R, alloc: Global, desk: &mut ScriptDesk) -> Result<(), Fail> {
+    for handle in 0..TRANSFERS {
+        desk.add(rt, alloc, handle, "http://a.example/", 0)?;
+    }
+    Ok(())
+}
+
+// Reads as many messages as a run has transfers, whole and one of each handle, and no more.
+fn expect_all<R: Wait>(rt: &R, desk: &mut ScriptDesk) -> Result<(), Fail> {
+    let mut seen = [false; TRANSFERS as usize];
+    for _ in 0..TRANSFERS {
+        let handle = desk.expect_whole(rt, b"hello")? as usize;
+        if handle >= seen.len() || seen[handle] {
+            return Err("a handle's second message".into());
+        }
+        seen[handle] = true;
+    }
+    desk.expect_none(rt)
+}
+
+// Stops a worker after so many turns of a run, and has another take over.
+fn take_over<R: Wait + RandomSource + AllocGlobal>(
+    rt: &R,
+    desk: &mut ScriptDesk,
+    turns: u32,
+) -> Result<(), Fail> {
+    add_all(rt, rt.alloc(), desk)?;
+    let one = desk.work(rt, &mut slow_gate(rt.alloc(), turns)?)?;
+    let two = desk.work(rt, &mut slow_gate(rt.alloc(), 16)?)?;
+    if one.recorded.saturating_add(two.recorded) != TRANSFERS || one.stale != 0 || two.stale != 0 {
+        return Err("the workers ended otherwise".into());
+    }
+    expect_all(rt, desk)
+}
+
+/// Stopped at any turn of a run of eight transfers, a worker leaves what another can end: every handle gets one message, and every
+/// body is whole.
+#[test]
+fn another_worker_takes_over_at_any_turn(rt: HostRuntime) -> Result<(), Fail> {
+    for turns in 0..16 {
+        let mut desk = ScriptDesk::open(&rt, rt.alloc(), 4)?;
+        let result = take_over(&rt, &mut desk, turns);
+        desk.close();
+        result?;
+    }
+    Ok(())
+}
+
+fn give_back_one<R: Wait + RandomSource + AllocGlobal>(
+    rt: &R,
+    desk: &mut ScriptDesk,
+) -> Result<(), Fail> {
+    desk.add(rt, rt.alloc(), 1, "http://a.example/", 0)?;
+    desk.pause(rt, 1)?;
+    desk.run(rt, &mut gate_of(rt.alloc(), 0), 0, 1)?;
+    desk.unpause(rt, 1)?;
+    let mut gate = gate_of(rt.alloc(), 0);
+    plan_counted(&mut gate, rt.alloc(), 1)?;
+    desk.run(rt, &mut gate, 1, 0)?;
+    desk.expect(rt, 1, Code::Ok, b"hello")
+}
+
+/// A worker that is stopped gives back a transfer that has no link yet, and another ends it.
+#[test]
+fn what_has_not_started_is_given_back(rt: HostRuntime) -> Result<(), Fail> {
+    let mut desk = ScriptDesk::open(&rt, rt.alloc(), 4)?;
+    let result = give_back_one(&rt, &mut desk);
+    desk.close();
+    result
+}
+
+// Adds handles 0 to 4, of which 0, 2 and 3 are paused.
+fn add_five<R: Wait>(rt: &R, alloc: Global, desk: &mut ScriptDesk) -> Result<(), Fail> {
+    for handle in 0..5 {
+        desk.add(rt, alloc, handle, "http://a.example/", 0)?;
+    }
+    for handle in [0, 2, 3] {
+        desk.pause(rt, handle)?;
+    }
+    Ok(())
+}
+
+// Resumes the paused handles, the last one first.
+fn unpause_three<R: Wait>(rt: &R, desk: &mut ScriptDesk) -> Result<(), Fail> {
+    for handle in [3, 2, 0] {
+        desk.unpause(rt, handle)?;
+    }
+    Ok(())
+}
+
+// Reads whole messages of these handles, in this order.
+fn expect_in_order<R: Wait>(rt: &R, desk: &mut ScriptDesk, handles: &[u32]) -> Result<(), Fail> {
+    for handle in handles {
+        desk.expect(rt, *handle, Code::Ok, b"hello")?;
+    }
+    Ok(())
+}
+
+fn end_one_of_five<R: Wait + RandomSource + AllocGlobal>(
+    rt: &R,
+    desk: &mut ScriptDesk,
+) -> Result<(), Fail> {
+    add_five(rt, rt.alloc(), desk)?;
+    let mut first = gate_of(rt.alloc(), 3);
+    plan_link(&mut first, rt.alloc(), SLOW)?;
+    desk.run(rt, &mut first, 1, 3)?;
+    unpause_three(rt, desk)?;
+    let mut second = gate_of(rt.alloc(), 3);
+    plan_counted(&mut second, rt.alloc(), 4)?;
+    desk.run(rt, &mut second, 4, 0)?;
+    expect_in_order(rt, desk, &[1, 0, 2, 3, 4])
+}
+
+/// A worker that is stopped ends what has started, and gives back the others, before what no worker had claimed: the next worker claims
+/// them in the order of their tickets.
+#[test]
+fn what_has_started_is_ended(rt: HostRuntime) -> Result<(), Fail> {
+    let mut desk = ScriptDesk::open(&rt, rt.alloc(), 0)?;
+    let result = end_one_of_five(&rt, &mut desk);
+    desk.close();
+    result
+}
+
+// Adds handles from 0 on, each paused.
+fn add_paused<R: Wait>(
+    rt: &R,
+    alloc: Global,
+    desk: &mut ScriptDesk,
+    count: u32,
+) -> Result<(), Fail> {
+    for handle in 0..count {
+        desk.add(rt, alloc, handle, "http://a.example/", 0)?;
+        desk.pause(rt, handle)?;
+    }
+    Ok(())
+}
+
+fn hold_64<R: Wait + RandomSource + AllocGlobal>(
+    rt: &R,
+    desk: &mut ScriptDesk,
+) -> Result<(), Fail> {
+    add_paused(rt, rt.alloc(), desk, 70)?;
+    desk.run(rt, &mut gate_of(rt.alloc(), 80), 0, 64)
+}
+
+/// A worker that could claim 70 transfers has claimed 64.
+#[test]
+fn a_worker_holds_64_at_most(rt: HostRuntime) -> Result<(), Fail> {
+    let mut desk = ScriptDesk::open(&rt, rt.alloc(), 4)?;
+    let result = hold_64(&rt, &mut desk);
+    desk.close();
+    result
+}
+
+fn end_late<R: Wait + RandomSource + AllocGlobal>(
+    rt: &R,
+    desk: &mut ScriptDesk,
+) -> Result<(), Fail> {
+    desk.add(rt, rt.alloc(), 1, "http://a.example/", 10)?;
+    desk.pause(rt, 1)?;
+    let mut first = gate_of(rt.alloc(), 0);
+    plan_moments(&mut first, &[100])?;
+    desk.run(rt, &mut first, 0, 1)?;
+    desk.unpause(rt, 1)?;
+    let mut second = gate_of(rt.alloc(), 0);
+    plan_moments(&mut second, &[110])?;
+    plan_counted(&mut second, rt.alloc(), 1)?;
+    desk.run(rt, &mut second, 1, 0)?;
+    desk.expect(rt, 1, Code::OperationTimedout, b"")
+}
+
+/// A transfer that was given back keeps its deadline: the next worker ends it there.
+#[test]
+fn what_is_given_back_keeps_its_deadline(rt: HostRuntime) -> Result<(), Fail> {
+    let mut desk = ScriptDesk::open(&rt, rt.alloc(), 4)?;
+    let result = end_late(&rt, &mut desk);
+    desk.close();
+    result
+}

@@ -1,0 +1,114 @@
+//! Two workers, and a third thread that reads the messages.
+ghost use Rattle.std.specs.Prelude.{◌≡◌, ◌≤◌, true, [], IfOk, IfErr};
+ghost use Rattle.mx_exchange.specs.Endings.{is_link_code};
+
+use crate::beside::{Flags, Plan, run_plan};
+use crate::gates::COUNTED;
+use crate::messages::Answer;
+use crate::reader::LOOKS;
+use mx_gate::{Gate, Turn};
+use mx_link::{ScriptLink, ScriptRead};
+use mx_request::Endpoint;
+use mx_types::Code;
+use std::alloc::AllocGlobal;
+use std::rt::Clock;
+use std::sync::atomic::Ordering;
+use std::test::Fail;
+use std::thread;
+use std::time::Duration;
+
+/// A gate to scripted links. It holds an open to `held.example` until a message was read.
+#[derive(Drop)]
+pub struct HoldingGate<'a, R> {
+    rt: &'a R,
+    flags: &'a Flags,
+    moment: u64,
+}
+
+impl<'a, R: Clock + AllocGlobal> HoldingGate<'a, R> {
+    fn of(rt: &'a R, flags: &'a Flags) -> HoldingGate<'a, R> {
+        HoldingGate {
+            rt,
+            flags,
+            moment: 0,
+        }
+    }
+
+    // Whether a message was read in time.
+    fn hold(&self) -> bool {
+        for _ in 0..LOOKS {
+            if self.flags.is_read.load(Ordering::SeqCst) {
+                return true;
+            }
+            thread::sleep(self.rt, Duration::from_millis(1));
+        }
+        false
+    }
+}
+
+impl<'a, R: Clock + AllocGlobal> Gate for HoldingGate<'a, R> {
+    type Link = ScriptLink;
+
+    ghost latest = { λ gate. gate.moment };
+
+    fn now(&mut self) -> u64
+        ensures told { result ≡ self.new.moment }
+        ensures rises { self.old.moment ≤ self.new.moment }
+    {
+        self.moment
+    }
+
+    fn open(&mut self, endpoint: &Endpoint) -> Result<ScriptLink, Code>
+        ensures fresh { IfOk result (λ link. link.history ≡ []) }
+        ensures code { IfErr result (λ code. is_link_code code ≡ true) }
+        ensures moment { self.new.moment ≡ self.old.moment }
+    {
+        if endpoint.host.as_str() == "held.example" && !self.hold() {
+            return Err(Code::CouldntConnect);
+        }
+        match ScriptLink::new(self.rt.alloc(), &[ScriptRead::Bytes(COUNTED)], &[]) {
+            Ok(link) => Ok(link),
+            Err(_) => Err(Code::OutOfMemory),
+        }
+    }
+
+    fn turn(&mut self, wait_ms: u32) -> Turn
+        ensures moment { self.new.moment ≡ self.old.moment }
+    {
+        thread::sleep(self.rt, Duration::from_millis(u64::from(wait_ms.min(1))));
+        if self.flags.stop.load(Ordering::SeqCst) {
+            Turn::Stop
+        } else {
+            Turn::Continue
+        }
+    }
+}
+
+const PLAN: Plan<'static> = Plan {
+    first: Answer {
+        ticket: 1,
+        request: b"GET / HTTP/1.1\r\nHost: free.example\r\nAccept: */*\r\n\r\n",
+        body: b"hello",
+    },
+    second: Answer {
+        ticket: 0,
+        request: b"GET / HTTP/1.1\r\nHost: held.example\r\nAccept: */*\r\n\r\n",
+        body: b"hello",
+    },
+    later: None,
+};
+
+/// One worker is held in an open until the other's message was read. So they run at the same time: both messages have code 0, and that of
+/// ticket 1 comes first.
+#[test]
+fn two_workers_run_at_the_same_time(rt: HostRuntime) -> Result<(), Fail> {
+    let flags = Flags::new(rt.alloc())?;
+    let mut gates = Vec::new(rt.alloc());
+    gates.push(HoldingGate::of(&rt, &flags))?;
+    gates.push(HoldingGate::of(&rt, &flags))?;
+    let urls = ["http://held.example/", "http://free.example/"];
+    let came = run_plan(&rt, 4, &urls, gates, &flags, &PLAN)?;
+    assert_eq!(rt; came.answers, (true, true));
+    assert_eq!(rt; came.recorded, Some((2, 1)));
+    Ok(())
+}

@@ -1,0 +1,114 @@
+//! How long a worker has its gate wait.
+ghost use Rattle.std.specs.Prelude.{◌≡◌, ◌≤◌, true, [], IfOk, IfErr};
+ghost use Rattle.mx_exchange.specs.Endings.{is_link_code};
+
+use crate::desk::ScriptDesk;
+use crate::gates::{COUNTED, gate_of, plan_link, plan_moments};
+use mx_gate::{Gate, ScriptGate, Turn};
+use mx_link::{ScriptLink, ScriptRead};
+use mx_request::Endpoint;
+use mx_types::Code;
+use std::alloc::AllocGlobal;
+use std::random::RandomSource;
+use std::sync::Wait;
+use std::test::Fail;
+
+/// A scripted gate that keeps the first wait that it was given.
+#[derive(Drop)]
+pub struct FirstWait {
+    gate: ScriptGate<ScriptLink>,
+    wait: Option<u32>,
+}
+
+impl Gate for FirstWait {
+    type Link = ScriptLink;
+
+    ghost latest = { λ first. first.gate.latest };
+
+    fn now(&mut self) -> u64
+        ensures told { result ≡ self.new.gate.latest }
+        ensures rises { self.old.gate.latest ≤ self.new.gate.latest }
+    {
+        self.gate.now()
+    }
+
+    fn open(&mut self, endpoint: &Endpoint) -> Result<ScriptLink, Code>
+        ensures fresh { IfOk result (λ link. link.history ≡ []) }
+        ensures code { IfErr result (λ code. is_link_code code ≡ true) }
+        ensures moment { self.new.gate.latest ≡ self.old.gate.latest }
+    {
+        self.gate.open(endpoint)
+    }
+
+    fn turn(&mut self, wait_ms: u32) -> Turn
+        ensures moment { self.new.gate.latest ≡ self.old.gate.latest }
+    {
+        if self.wait.is_none() {
+            self.wait = Some(wait_ms);
+        }
+        self.gate.turn(wait_ms)
+    }
+}
+
+// The first wait of a worker that serves one transfer, which begins at the moment 100, over a link that gives these pieces.
+fn wait_at<R: Wait + RandomSource + AllocGlobal>(
+    rt: &R,
+    desk: &mut ScriptDesk,
+    timeout_ms: u32,
+    reads: &[ScriptRead<'_>],
+) -> Result<Option<u32>, Fail> {
+    desk.add(rt, rt.alloc(), 1, "http://a.example/", timeout_ms)?;
+    let mut gate = gate_of(rt.alloc(), 2);
+    plan_link(&mut gate, rt.alloc(), reads)?;
+    plan_moments(&mut gate, &[100])?;
+    let mut first = FirstWait { gate, wait: None };
+    desk.run(rt, &mut first, 1, 0)?;
+    desk.expect(rt, 1, Code::Ok, b"hello")?;
+    Ok(first.wait)
+}
+
+fn first_wait<R: Wait + RandomSource + AllocGlobal>(
+    rt: &R,
+    timeout_ms: u32,
+    reads: &[ScriptRead<'_>],
+) -> Result<Option<u32>, Fail> {
+    let mut desk = ScriptDesk::open(rt, rt.alloc(), 4)?;
+    let wait = wait_at(rt, &mut desk, timeout_ms, reads);
+    desk.close();
+    wait
+}
+
+/// Its deadline is 7 milliseconds away, or farther than the longest wait, or there is none.
+#[test]
+fn a_turn_waits_until_the_next_deadline(rt: HostRuntime) -> Result<(), Fail> {
+    let late = [ScriptRead::WouldBlock, ScriptRead::Bytes(COUNTED)];
+    assert_eq!(rt; first_wait(&rt, 7, &late)?, Some(7));
+    assert_eq!(rt; first_wait(&rt, 21, &late)?, Some(20));
+    assert_eq!(rt; first_wait(&rt, 0, &late)?, Some(20));
+    Ok(())
+}
+
+/// One that asked to be polled again, after the most reads of a poll, isn't kept waiting.
+#[test]
+fn a_transfer_that_asks_is_polled_at_once(rt: HostRuntime) -> Result<(), Fail> {
+    let head: [&[u8]; 9] = [
+        b"HTTP/1.1 200 OK\r\n",
+        b"A: 1\r\n",
+        b"B: 2\r\n",
+        b"C: 3\r\n",
+        b"D: 4\r\n",
+        b"E: 5\r\n",
+        b"Content-Length: 5\r\n",
+        b"\r\n",
+        b"hello",
+    ];
+    let mut reads = Vec::new(rt.alloc());
+    for line in head {
+        for i in 0..line.len() {
+            reads.push(ScriptRead::Bytes(&line[i..i + 1]))?;
+        }
+    }
+    assert!(rt; 64 < reads.len());
+    assert_eq!(rt; first_wait(&rt, 0, reads.as_slice())?, Some(0));
+    Ok(())
+}
