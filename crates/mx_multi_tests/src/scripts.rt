@@ -74,7 +74,8 @@ fn every_call_that_may_find_no_memory(rt: HostRuntime) -> Result<(), Fail> {
     play(&rt, rt.alloc(), STEPS)
 }
 
-/// Two seats add a handle each, meet, and list both; where nothing is removed, the journal stays as it is.
+/// Two seats add a handle each, meet, and list both; where nothing is removed, the journal stays as it is. A meeting shows each
+/// seat what the other has added.
 #[test]
 fn two_seats_add_a_handle_each(rt: HostRuntime) -> Result<(), Fail> {
     const STEPS: &[Step] = &[
@@ -83,6 +84,8 @@ fn two_seats_add_a_handle_each(rt: HostRuntime) -> Result<(), Fail> {
         Step::Meet(2),
         Step::Make(By::First, Call::Handles, "handles 1 2", 2),
         Step::Make(By::First, Call::Remove(HandleId(9)), "not-added", 2),
+        Step::Make(By::First, Call::Add(THREE), "added 2", 3),
+        Step::Meet(3),
     ];
     play(&rt, rt.alloc(), STEPS)
 }
