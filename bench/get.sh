@@ -1,8 +1,8 @@
 #!/usr/bin/env bash
 # `mxfetch get` beside `curl --parallel` with --parallel-max 64 and 16, from nginx over loopback: 1,000 small files in runs of 256,
 # and 4 files of 16 MiB, counted and chunked. Wall time and processor time, the least of five runs that take turns, and the system
-# calls a transfer of one run more under strace. curl writes a file for each body, or none ("to null"); mxfetch writes one for all.
-# Prints only.
+# calls a transfer of one run more under strace. curl writes a file for each body, or none ("to null"); mxfetch writes one for all,
+# and has the huge pages that ./run asks the C library for, or in the row "small pages" hasn't. Prints only.
 #
 # It needs nginx, curl, strace and python3, and installs nothing.
 set -eu
@@ -24,6 +24,7 @@ import os, re, signal, socket, subprocess, time
 PROGRAM, WORK = os.environ["PROGRAM"], os.environ["WORK"]
 MIB = 1 << 20
 ROUNDS = 5
+HUGE_PAGES = "glibc.malloc.hugetlb=1"
 
 def serve():
     root = f"{WORK}/files"
@@ -73,21 +74,26 @@ def curl(most, keeps=True):
                 for at in range(0, len(urls), 256)]
     return words
 
-def run(commands):
+def environment(program):
+    tunables = {"GLIBC_TUNABLES": HUGE_PAGES} if program.startswith("get") and "small pages" not in program else {}
+    return {**os.environ, **tunables}
+
+def run(program, commands):
     begun, processor = time.monotonic(), 0.0
     for words in commands:
         with open(f"{WORK}/stdout", "wb") as out:
-            child = subprocess.Popen(words, stdout=out, stderr=subprocess.DEVNULL)
+            child = subprocess.Popen(words, stdout=out, stderr=subprocess.DEVNULL, env=environment(program))
             _, status, usage = os.wait4(child.pid, 0)
         if status != 0:
             raise SystemExit(f"{words[:4]}: status {status}")
         processor += usage.ru_utime + usage.ru_stime
     return time.monotonic() - begun, processor
 
-def calls(commands):
+def calls(program, commands):
     total = {}
     for words in commands:
-        subprocess.run(["strace", "-f", "-c", "-o", f"{WORK}/strace"] + words, stdout=subprocess.DEVNULL, stderr=subprocess.DEVNULL, check=True)
+        subprocess.run(["strace", "-f", "-c", "-o", f"{WORK}/strace"] + words, stdout=subprocess.DEVNULL, stderr=subprocess.DEVNULL, check=True,
+                       env=environment(program))
         with open(f"{WORK}/strace") as file:
             for line in file:
                 found = re.match(r"\s*[\d.]+\s+[\d.]+\s+\d+\s+(\d+)\s+(?:\d+\s+)?(\w+)$", line)
@@ -100,20 +106,21 @@ def show(name, programs, urls):
     least = {}
     for _ in range(ROUNDS):
         for program, words in programs.items():
-            wall, processor = run(words(urls))
+            wall, processor = run(program, words(urls))
             before = least.get(program, (wall, processor))
             least[program] = (min(before[0], wall), min(before[1], processor))
     for program, words in programs.items():
         wall, processor = least[program]
-        total = calls(words(urls))
+        total = calls(program, words(urls))
         most = sorted(total.items(), key=lambda call: -call[1])[:6]
-        print(f"  {program:16} wall {wall:6.3f} s  processor {processor:6.3f} s  calls a transfer {sum(total.values()) / len(urls):7.2f}  "
+        print(f"  {program:19} wall {wall:6.3f} s  processor {processor:6.3f} s  calls a transfer {sum(total.values()) / len(urls):7.2f}  "
               + ", ".join(f"{name} {count}" for name, count in most), flush=True)
 
 server, base = serve()
 try:
     programs = {"curl 64": curl(64), "curl 16": curl(16), "curl 16, to null": curl(16, False)}
     programs.update({f"get, {workers}": get(workers) for workers in (1, 2, 4, 16)})
+    programs["get, 1, small pages"] = get(1)
     show("small files", programs, [f"{base}/small{number}" for number in range(1000)])
     show("16 MiB counted", programs, [f"{base}/large{number}" for number in range(4)])
     show("16 MiB chunked", programs, [f"{base}/chunked/large{number}" for number in range(4)])
