@@ -115,14 +115,6 @@ fn add_five<R: Wait>(rt: &R, alloc: Global, desk: &mut ScriptDesk) -> Result<(),
     Ok(())
 }
 
-// Resumes the paused handles, the last one first.
-fn unpause_three<R: Wait>(rt: &R, desk: &mut ScriptDesk) -> Result<(), Fail> {
-    for handle in [3, 2, 0] {
-        desk.unpause(rt, handle)?;
-    }
-    Ok(())
-}
-
 // Reads whole messages of these handles, in this order.
 fn expect_in_order<R: Wait>(rt: &R, desk: &mut ScriptDesk, handles: &[u32]) -> Result<(), Fail> {
     for handle in handles {
@@ -139,7 +131,9 @@ fn end_one_of_five<R: Wait + RandomSource + AllocGlobal>(
     let mut first = gate_of(rt.alloc(), 3);
     plan_link(&mut first, rt.alloc(), SLOW)?;
     desk.run(rt, &mut first, 1, 3)?;
-    unpause_three(rt, desk)?;
+    for handle in [3, 2, 0] {
+        desk.unpause(rt, handle)?;
+    }
     let mut second = gate_of(rt.alloc(), 3);
     plan_counted(&mut second, rt.alloc(), 4)?;
     desk.run(rt, &mut second, 4, 0)?;
@@ -156,25 +150,14 @@ fn what_has_started_is_ended(rt: HostRuntime) -> Result<(), Fail> {
     result
 }
 
-// Adds handles from 0 on, each paused.
-fn add_paused<R: Wait>(
-    rt: &R,
-    alloc: Global,
-    desk: &mut ScriptDesk,
-    count: u32,
-) -> Result<(), Fail> {
-    for handle in 0..count {
-        desk.add(rt, alloc, handle, "http://a.example/", 0)?;
-        desk.pause(rt, handle)?;
-    }
-    Ok(())
-}
-
 fn hold_64<R: Wait + RandomSource + AllocGlobal>(
     rt: &R,
     desk: &mut ScriptDesk,
 ) -> Result<(), Fail> {
-    add_paused(rt, rt.alloc(), desk, 70)?;
+    for handle in 0..70 {
+        desk.add(rt, rt.alloc(), handle, "http://a.example/", 0)?;
+        desk.pause(rt, handle)?;
+    }
     desk.run(rt, &mut gate_of(rt.alloc(), 80), 0, 64)
 }
 
