@@ -18,7 +18,7 @@ mx_tests            src/[a-z_]*_tests\.rt
 mx_link_tests       src/\(asking\|scripted\|sockets\)\.rt
 mx_exchange_tests   src/\(callers\|connecting\|replay\|tests\)\.rt
 mx_multi_tests      src/seats\.rt                                      scripts\|meetings\|seats
-mx_worker_tests     src/\(ends\|links\|waits\)\.rt                       ^ends\|^links\|^takeover\|^waits
+mx_worker_tests     src/\(ends\|links\|waits\)\.rt                       ^ends\|^links\|^paused\|^takeover\|^waits
 '
 
 top=$(cd "$(dirname "$(readlink -f "$0")")/.." && pwd)

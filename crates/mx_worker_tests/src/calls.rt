@@ -7,7 +7,7 @@ use mx_gate::Gate;
 use mx_link::Link;
 use mx_multi::{Multi, Progress, Seat, WorkerSeat};
 use mx_request::{Request, RequestError};
-use mx_types::{HandleId, Method, OutOfMemory, Reply, Settings};
+use mx_types::{Call, HandleId, Method, OutOfMemory, Reply, Settings};
 use mx_worker::{Queued, run_worker};
 use std::alloc::{AllocGlobal, Global};
 use std::random::RandomSource;
@@ -37,8 +37,8 @@ pub fn add<L: Link, R: Wait>(
     }
 }
 
-/// Removes a handle; None where the answer is `WrongSeat`.
-pub fn remove<L: Link, R: Wait>(
+// Removes a handle; None where the answer is `WrongSeat`.
+fn remove<L: Link, R: Wait>(
     rt: &R,
     multi: &Multi<Queued<L>, Outcome>,
     seat: &mut Seat<Queued<L>, Outcome>,
@@ -53,8 +53,8 @@ pub fn remove<L: Link, R: Wait>(
     }
 }
 
-/// Pauses a handle; None where the answer is `WrongSeat`.
-pub fn pause<L: Link, R: Wait>(
+// Pauses a handle; None where the answer is `WrongSeat`.
+fn pause<L: Link, R: Wait>(
     rt: &R,
     multi: &Multi<Queued<L>, Outcome>,
     seat: &mut Seat<Queued<L>, Outcome>,
@@ -69,8 +69,8 @@ pub fn pause<L: Link, R: Wait>(
     }
 }
 
-/// Resumes a handle; None where the answer is `WrongSeat`.
-pub fn unpause<L: Link, R: Wait>(
+// Resumes a handle; None where the answer is `WrongSeat`.
+fn unpause<L: Link, R: Wait>(
     rt: &R,
     multi: &Multi<Queued<L>, Outcome>,
     seat: &mut Seat<Queued<L>, Outcome>,
@@ -82,6 +82,70 @@ pub fn unpause<L: Link, R: Wait>(
     match multi.unpause(rt, seat, handle) {
         Ok(reply) => Some(reply.reply()),
         Err(_) => None,
+    }
+}
+
+// How many transfers run; None where no version can be read.
+fn running<L: Link>(
+    multi: &Multi<Queued<L>, Outcome>,
+    seat: &mut Seat<Queued<L>, Outcome>,
+) -> Option<Reply>
+    requires { seat.old.of ≡ multi.now }
+    ensures { seat.new.of ≡ multi.now }
+{
+    let Some(count) = multi.running(seat) else {
+        return None;
+    };
+    Some(Reply::Running(count))
+}
+
+// What a handle's newest addition is doing; None where no version can be read.
+fn state<L: Link>(
+    multi: &Multi<Queued<L>, Outcome>,
+    seat: &mut Seat<Queued<L>, Outcome>,
+    handle: HandleId,
+) -> Option<Reply>
+    requires { seat.old.of ≡ multi.now }
+    ensures { seat.new.of ≡ multi.now }
+{
+    let Some(state) = multi.state(seat, handle) else {
+        return None;
+    };
+    Some(Reply::State(state))
+}
+
+// The handles that are added; None where no version can be read.
+fn handles<L: Link>(
+    multi: &Multi<Queued<L>, Outcome>,
+    seat: &mut Seat<Queued<L>, Outcome>,
+) -> Option<Reply>
+    requires { seat.old.of ≡ multi.now }
+    ensures { seat.new.of ≡ multi.now }
+{
+    let Some(handles) = multi.handles(seat) else {
+        return None;
+    };
+    Some(Reply::Handles(handles.list))
+}
+
+/// Makes a call that needs no request and hands none out; None where it was answered `WrongSeat` or None, and where it is another.
+pub fn make<L: Link, R: Wait>(
+    rt: &R,
+    multi: &Multi<Queued<L>, Outcome>,
+    seat: &mut Seat<Queued<L>, Outcome>,
+    call: Call,
+) -> Option<Reply>
+    requires { seat.old.of ≡ multi.now }
+    ensures { seat.new.of ≡ multi.now }
+{
+    match call {
+        Call::Remove(handle) => remove(rt, multi, seat, handle),
+        Call::Pause(handle) => pause(rt, multi, seat, handle),
+        Call::Unpause(handle) => unpause(rt, multi, seat, handle),
+        Call::Running => running(multi, seat),
+        Call::State(handle) => state(multi, seat, handle),
+        Call::Handles => handles(multi, seat),
+        _ => None,
     }
 }
 

@@ -8,7 +8,8 @@ use mx_exchange::Outcome;
 use mx_gate::Gate;
 use mx_link::{Link, ScriptLink};
 use mx_multi::{Limits, Multi, Progress, Seat, WorkerSeat};
-use mx_types::{Code, HandleId, OutOfMemory, Reply};
+use mx_multi_workload::entries::text_of;
+use mx_types::{Call, Code, HandleId, OutOfMemory, Reply};
 use mx_worker::Queued;
 use std::alloc::{AllocGlobal, Global};
 use std::marker::Model;
@@ -63,16 +64,19 @@ fn open<L: Link, R: Wait>(rt: &R, alloc: Global, limits: Limits) -> Result<Parts
     }
 }
 
-// Fails unless the call was answered so.
-fn check(reply: Option<Reply>, is_expected: bool) -> Result<(), Fail> {
-    if is_expected {
+// Fails unless there is an answer of this text.
+fn check(alloc: Global, reply: Option<Reply>, answer: &str) -> Result<(), Fail> {
+    let Some(reply) = reply else {
+        return Err("wrong seat".into());
+    };
+    if matches!(reply, Reply::OutOfMemory) {
+        return Err(OutOfMemory.into());
+    }
+    let said = text_of(alloc, &reply)?;
+    if said.as_str() == answer {
         return Ok(());
     }
-    match reply {
-        Some(Reply::OutOfMemory) => Err(OutOfMemory.into()),
-        Some(_) => Err("another answer".into()),
-        None => Err("wrong seat".into()),
-    }
+    Err(format!(in alloc; "{said} in place of {answer}")?.into())
 }
 
 impl<L: Link> Desk<L> {
@@ -127,9 +131,11 @@ impl<L: Link> Desk<L> {
     ) -> Result<(), Fail> {
         let request = calls::request_of(alloc, url, timeout_ms)?;
         let work = Queued::new(alloc, request);
-        let reply = calls::add(rt, &self.multi, &mut self.seat, HandleId(handle), work);
-        let is_expected = matches!(reply, Some(Reply::Added(_)));
-        check(reply, is_expected)
+        match calls::add(rt, &self.multi, &mut self.seat, HandleId(handle), work) {
+            Some(Reply::Added(_)) => Ok(()),
+            Some(Reply::OutOfMemory) => Err(OutOfMemory.into()),
+            _ => Err("it isn't added".into()),
+        }
     }
 
     /// Adds a GET of each URL, which has five seconds, by the handles from 1 on.
@@ -142,22 +148,19 @@ impl<L: Link> Desk<L> {
         Ok(())
     }
 
-    pub fn pause<R: Wait>(&mut self, rt: &R, handle: u32) -> Result<(), Fail> {
-        let reply = calls::pause(rt, &self.multi, &mut self.seat, HandleId(handle));
-        let is_expected = matches!(reply, Some(Reply::Changed));
-        check(reply, is_expected)
-    }
-
-    pub fn unpause<R: Wait>(&mut self, rt: &R, handle: u32) -> Result<(), Fail> {
-        let reply = calls::unpause(rt, &self.multi, &mut self.seat, HandleId(handle));
-        let is_expected = matches!(reply, Some(Reply::Changed));
-        check(reply, is_expected)
-    }
-
-    pub fn remove<R: Wait>(&mut self, rt: &R, handle: u32) -> Result<(), Fail> {
-        let reply = calls::remove(rt, &self.multi, &mut self.seat, HandleId(handle));
-        let is_expected = matches!(reply, Some(Reply::Removed));
-        check(reply, is_expected)
+    /// Makes calls, each of which is to have the answer of this text.
+    pub fn make_all<R: Wait>(
+        &mut self,
+        rt: &R,
+        alloc: Global,
+        calls: &[(Call, &str)],
+    ) -> Result<(), Fail> {
+        for step in calls {
+            let (call, answer) = *step;
+            let reply = calls::make(rt, &self.multi, &mut self.seat, call);
+            check(alloc, reply, answer)?;
+        }
+        Ok(())
     }
 
     // The first message, which there is to be.
@@ -189,7 +192,7 @@ impl<L: Link> Desk<L> {
     /// Reads the first message, which is to be this answer.
     pub fn expect_answer<R: Wait>(&mut self, rt: &R, answer: &Answer<'_>) -> Result<(), Fail> {
         let message = self.read(rt)?;
-        messages::check_answer(&message, answer)
+        messages::judge(&message, messages::is_answer(&message, answer))
     }
 
     /// Looks for a message, which there is not to be.

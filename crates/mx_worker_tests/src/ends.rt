@@ -5,7 +5,7 @@ use crate::gates::{COUNTED, OTHER, gate_of, plan_link, plan_moments, plan_refusa
 use crate::messages::Answer;
 use mx_link::ScriptRead;
 use mx_multi::Progress;
-use mx_types::{Code, Ticket};
+use mx_types::{Call, Code, HandleId, Ticket};
 use std::alloc::AllocGlobal;
 use std::random::RandomSource;
 use std::sync::Wait;
@@ -110,7 +110,7 @@ fn serve_the_other<R: Wait + RandomSource + AllocGlobal>(
 ) -> Result<(), Fail> {
     desk.add(rt, rt.alloc(), 1, "http://a.example/", 0)?;
     desk.add(rt, rt.alloc(), 2, "http://b.example/", 0)?;
-    desk.remove(rt, 1)?;
+    desk.make_all(rt, rt.alloc(), &[(Call::Remove(HandleId(1)), "removed")])?;
     let mut gate = gate_of(rt.alloc(), 3);
     plan_link(&mut gate, rt.alloc(), &[ScriptRead::Bytes(COUNTED)])?;
     desk.run(rt, &mut gate, 1, 0)?;
@@ -154,15 +154,5 @@ fn a_worker_notes_how_far_a_transfer_is(rt: HostRuntime) -> Result<(), Fail> {
     assert_eq!(rt; noted[0], Some(Progress::Bytes(Ticket(1), 0)));
     assert_eq!(rt; noted[1], Some(Progress::Bytes(Ticket(0), 40)));
     assert_eq!(rt; noted[2], Some(Progress::Bytes(Ticket(1), 43)));
-    Ok(())
-}
-
-/// A handle that isn't added has no progress.
-#[test]
-fn a_handle_that_is_not_added_has_no_progress(rt: HostRuntime) -> Result<(), Fail> {
-    let mut desk = ScriptDesk::open(&rt, rt.alloc(), 4)?;
-    let told = desk.progress(3);
-    desk.close();
-    assert_eq!(rt; told, Some(Progress::NotAdded));
     Ok(())
 }

@@ -16,6 +16,8 @@ mod links;
 #[cfg(test)]
 mod messages;
 #[cfg(test)]
+mod paused;
+#[cfg(test)]
 mod reader;
 #[cfg(test)]
 mod sockets;

@@ -42,8 +42,8 @@ pub fn ends_with(outcome: &Outcome, code: Code, body: &[u8]) -> bool {
     outcome.part_count() == 1 && outcome.part(0) == Some(body)
 }
 
-// Fails unless it is so: with the want of memory where that is the message's code.
-fn judge(message: &Message, is_expected: bool) -> Result<(), Fail> {
+/// Fails unless it is so: with the want of memory where that is the message's code.
+pub fn judge(message: &Message, is_expected: bool) -> Result<(), Fail> {
     if is_expected {
         return Ok(());
     }
@@ -73,9 +73,4 @@ pub fn is_answer(message: &Message, answer: &Answer<'_>) -> bool {
     message.ticket == Ticket(answer.ticket)
         && outcome.request().bytes() == answer.request
         && ends_with(outcome, Code::Ok, answer.body)
-}
-
-/// Fails unless the message is this answer.
-pub fn check_answer(message: &Message, answer: &Answer<'_>) -> Result<(), Fail> {
-    judge(message, is_answer(message, answer))
 }

@@ -4,7 +4,7 @@ use crate::desk::ScriptDesk;
 use crate::gates::{gate_of, plan_counted, plan_link, plan_moments};
 use mx_gate::ScriptGate;
 use mx_link::{ScriptLink, ScriptRead};
-use mx_types::{Code, OutOfMemory};
+use mx_types::{Call, Code, HandleId, OutOfMemory};
 use std::alloc::{AllocGlobal, Global};
 use std::random::RandomSource;
 use std::sync::Wait;
@@ -12,6 +12,26 @@ use std::test::Fail;
 
 /// As many transfers as a run has.
 const TRANSFERS: u32 = 8;
+
+/// Pauses handle 1.
+const PAUSE_ONE: &[(Call, &str)] = &[(Call::Pause(HandleId(1)), "changed")];
+
+/// Resumes handle 1.
+const RESUME_ONE: &[(Call, &str)] = &[(Call::Unpause(HandleId(1)), "changed")];
+
+/// Pauses handles 0, 2 and 3.
+const PAUSE_THREE: &[(Call, &str)] = &[
+    (Call::Pause(HandleId(0)), "changed"),
+    (Call::Pause(HandleId(2)), "changed"),
+    (Call::Pause(HandleId(3)), "changed"),
+];
+
+/// Resumes them, the last one first.
+const RESUME_THREE: &[(Call, &str)] = &[
+    (Call::Unpause(HandleId(3)), "changed"),
+    (Call::Unpause(HandleId(2)), "changed"),
+    (Call::Unpause(HandleId(0)), "changed"),
+];
 
 /// A response that comes in three pieces, with waits between them.
 const SLOW: &[ScriptRead<'static>] = &[
@@ -86,9 +106,9 @@ fn give_back_one<R: Wait + RandomSource + AllocGlobal>(
     desk: &mut ScriptDesk,
 ) -> Result<(), Fail> {
     desk.add(rt, rt.alloc(), 1, "http://a.example/", 0)?;
-    desk.pause(rt, 1)?;
+    desk.make_all(rt, rt.alloc(), PAUSE_ONE)?;
     desk.run(rt, &mut gate_of(rt.alloc(), 0), 0, 1)?;
-    desk.unpause(rt, 1)?;
+    desk.make_all(rt, rt.alloc(), RESUME_ONE)?;
     let mut gate = gate_of(rt.alloc(), 0);
     plan_counted(&mut gate, rt.alloc(), 1)?;
     desk.run(rt, &mut gate, 1, 0)?;
@@ -109,18 +129,7 @@ fn add_five<R: Wait>(rt: &R, alloc: Global, desk: &mut ScriptDesk) -> Result<(),
     for handle in 0..5 {
         desk.add(rt, alloc, handle, "http://a.example/", 0)?;
     }
-    for handle in [0, 2, 3] {
-        desk.pause(rt, handle)?;
-    }
-    Ok(())
-}
-
-// Reads whole messages of these handles, in this order.
-fn expect_in_order<R: Wait>(rt: &R, desk: &mut ScriptDesk, handles: &[u32]) -> Result<(), Fail> {
-    for handle in handles {
-        desk.expect(rt, *handle, Code::Ok, b"hello")?;
-    }
-    Ok(())
+    desk.make_all(rt, alloc, PAUSE_THREE)
 }
 
 fn end_one_of_five<R: Wait + RandomSource + AllocGlobal>(
@@ -131,13 +140,14 @@ fn end_one_of_five<R: Wait + RandomSource + AllocGlobal>(
     let mut first = gate_of(rt.alloc(), 3);
     plan_link(&mut first, rt.alloc(), SLOW)?;
     desk.run(rt, &mut first, 1, 3)?;
-    for handle in [3, 2, 0] {
-        desk.unpause(rt, handle)?;
-    }
+    desk.make_all(rt, rt.alloc(), RESUME_THREE)?;
     let mut second = gate_of(rt.alloc(), 3);
     plan_counted(&mut second, rt.alloc(), 4)?;
     desk.run(rt, &mut second, 4, 0)?;
-    expect_in_order(rt, desk, &[1, 0, 2, 3, 4])
+    for handle in [1, 0, 2, 3, 4] {
+        desk.expect(rt, handle, Code::Ok, b"hello")?;
+    }
+    Ok(())
 }
 
 /// A worker that is stopped ends what has started, and gives back the others, before what no worker had claimed: the next worker claims
@@ -156,7 +166,11 @@ fn hold_64<R: Wait + RandomSource + AllocGlobal>(
 ) -> Result<(), Fail> {
     for handle in 0..70 {
         desk.add(rt, rt.alloc(), handle, "http://a.example/", 0)?;
-        desk.pause(rt, handle)?;
+        desk.make_all(
+            rt,
+            rt.alloc(),
+            &[(Call::Pause(HandleId(handle)), "changed")],
+        )?;
     }
     desk.run(rt, &mut gate_of(rt.alloc(), 80), 0, 64)
 }
@@ -175,11 +189,11 @@ fn end_late<R: Wait + RandomSource + AllocGlobal>(
     desk: &mut ScriptDesk,
 ) -> Result<(), Fail> {
     desk.add(rt, rt.alloc(), 1, "http://a.example/", 10)?;
-    desk.pause(rt, 1)?;
+    desk.make_all(rt, rt.alloc(), PAUSE_ONE)?;
     let mut first = gate_of(rt.alloc(), 0);
     plan_moments(&mut first, &[100])?;
     desk.run(rt, &mut first, 0, 1)?;
-    desk.unpause(rt, 1)?;
+    desk.make_all(rt, rt.alloc(), RESUME_ONE)?;
     let mut second = gate_of(rt.alloc(), 0);
     plan_moments(&mut second, &[110])?;
     plan_counted(&mut second, rt.alloc(), 1)?;
