@@ -10,7 +10,7 @@ use crate::options::Options;
 use mx_exchange::Outcome;
 use mx_journal::{AddReply, InfoReply};
 use mx_link::Link;
-use mx_multi::{Multi, Seat};
+use mx_multi::{Multi, Seat, WrongSeat};
 use mx_request::{Request, RequestError};
 use mx_run_get::Fetched;
 use mx_types::{HandleId, Method, OutOfMemory, Settings};
@@ -74,6 +74,11 @@ fn ends_at(alloc: Global, places: Vec<Place>) -> Result<Vec<Fetched>, OutOfMemor
     Ok(ends)
 }
 
+// Whether an addition was made. It is of any work, so that what is handed back is let go as one value, whatever that is.
+fn is_added<Q: Drop>(answer: Result<AddReply<Q>, WrongSeat<Q>>) -> bool {
+    matches!(answer, Ok(AddReply::Added(_)))
+}
+
 /// The application's seat, and what came so far.
 #[derive(Drop)]
 pub struct Desk<L: Link> {
@@ -117,9 +122,9 @@ impl<L: Link> Desk<L> {
         };
         let bytes = request.bytes().to_vec(rt.alloc())?;
         let work = Queued::new(rt.alloc(), request);
-        match multi.add(rt, &mut self.seat, HandleId(handle), work) {
-            Ok(AddReply::Added(_)) => {}
-            _ => return Err(OutOfMemory),
+        let answer = multi.add(rt, &mut self.seat, HandleId(handle), work);
+        if !is_added(answer) {
+            return Err(OutOfMemory);
         }
         self.waiting = self.waiting.saturating_add(1);
         self.places.push(Place::Awaited(bytes))?;

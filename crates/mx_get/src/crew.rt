@@ -2,7 +2,7 @@
 ghost use Rattle.std.specs.Prelude.{◌≡◌, All, IfOk};
 
 use mx_exchange::Outcome;
-use mx_gate::{Bell, Gate, SocketGate, SocketLink, Turn};
+use mx_gate::{Bell, Gate, SocketGate, Turn};
 use mx_link::Link;
 use mx_multi::{Multi, WorkerSeat};
 use mx_types::OutOfMemory;
@@ -71,25 +71,41 @@ impl Crew {
         Ok(gate)
     }
 
-    /// A post for each seat. The clocks of their gates have one start.
-    pub fn posts<'r, R: Net + Clock + AllocGlobal>(
+    /// So many gates, which this crew wakes and stops. Their clocks have one start.
+    pub fn gates<'r, R: Net + Clock + AllocGlobal>(
         &mut self,
         rt: &'r R,
-        multi: &Multi<Queued<SocketLink>, Outcome>,
         start: Instant,
-        seats: Vec<WorkerSeat<Queued<SocketLink>, Outcome>>,
-    ) -> Result<Vec<Post<SocketLink, SocketGate<'r, R>>>, OutOfMemory>
-        requires { All (λ s. s.of ≡ multi.now) seats.items }
-        ensures { IfOk result (λ posts. All (λ p. p.seat.of ≡ multi.now) posts.items) }
-    {
-        let mut seats = seats;
-        let mut posts = Vec::new(rt.alloc());
-        while let Some(seat) = seats.pop() {
-            let gate = self.gate(rt, start)?;
-            posts.push(Post { seat, gate })?;
+        count: u8,
+    ) -> Result<Vec<SocketGate<'r, R>>, OutOfMemory> {
+        let mut gates = Vec::with_capacity(rt.alloc(), usize::from(count))?;
+        for _ in 0..count {
+            gates.push(self.gate(rt, start)?)?;
         }
-        Ok(posts)
+        Ok(gates)
     }
+}
+
+/// A post for each seat, as far as there are gates.
+pub fn posts<L: Link, G: Gate<Link = L> + Drop>(
+    alloc: Global,
+    multi: &Multi<Queued<L>, Outcome>,
+    seats: Vec<WorkerSeat<Queued<L>, Outcome>>,
+    gates: Vec<G>,
+) -> Result<Vec<Post<L, G>>, OutOfMemory>
+    requires { All (λ s. s.of ≡ multi.now) seats.items }
+    ensures { IfOk result (λ posts. All (λ p. p.seat.of ≡ multi.now) posts.items) }
+{
+    let _ = multi;
+    let (mut seats, mut gates) = (seats, gates);
+    let mut posts = Vec::with_capacity(alloc, seats.len())?;
+    while let Some(seat) = seats.pop() {
+        let Some(gate) = gates.pop() else {
+            return Ok(posts);
+        };
+        posts.push(Post { seat, gate })?;
+    }
+    Ok(posts)
 }
 
 /// Works with a seat and a gate until the gate stops it. Where there is no memory for its start it tries again after a while.

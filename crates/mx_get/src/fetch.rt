@@ -5,10 +5,10 @@ ghost use Rattle.mx_get.specs.Asked.{AreEndsOf};
 ghost use Rattle.mx_get.specs.Options.{are_within};
 
 use crate::collect::Desk;
-use crate::crew::{Crew, Post, work};
+use crate::crew::{Crew, Post, posts, work};
 use crate::options::Options;
 use mx_exchange::Outcome;
-use mx_gate::{Gate, SocketLink};
+use mx_gate::Gate;
 use mx_link::Link;
 use mx_multi::{Limits, Multi, Seat, WorkerSeat};
 use mx_run_get::Fetched;
@@ -88,13 +88,13 @@ fn run_all<
 
 // A multi handle with a seat and the workers' seats.
 #[derive(Drop)]
-struct Opened {
-    multi: Multi<Queued<SocketLink>, Outcome>,
-    seat: Seat<Queued<SocketLink>, Outcome>,
-    workers: Vec<WorkerSeat<Queued<SocketLink>, Outcome>>,
+struct Opened<L: Link> {
+    multi: Multi<Queued<L>, Outcome>,
+    seat: Seat<Queued<L>, Outcome>,
+    workers: Vec<WorkerSeat<Queued<L>, Outcome>>,
 }
 
-fn open<R: Wait + AllocGlobal>(rt: &R, options: Options) -> Result<Opened, OutOfMemory>
+fn open<L: Link, R: Wait + AllocGlobal>(rt: &R, options: Options) -> Result<Opened<L>, OutOfMemory>
     ensures seat { IfOk result (λ o. o.seat.of ≡ o.multi) }
     ensures workers { IfOk result (λ o. All (λ s. s.of ≡ o.multi) o.workers.items) }
 {
@@ -117,6 +117,30 @@ fn open<R: Wait + AllocGlobal>(rt: &R, options: Options) -> Result<Opened, OutOf
     }
 }
 
+// Fetches with a worker at each gate. It knows nothing of sockets: what it lets go, in each of its ends, is of any link.
+fn fetch_at<
+    L: Link + Send,
+    R: Threads + Wait + RandomSource + AllocGlobal + Sync,
+    G: Gate<Link = L> + Send + Drop,
+>(
+    rt: &R,
+    crew: &Crew,
+    gates: Vec<G>,
+    urls: &[&str],
+    options: Options,
+) -> Result<Vec<Fetched>, OutOfMemory>
+    ensures { IfOk result (λ ends. AreEndsOf options.timeout_ms (map (λ u. u.now) urls.now) ends.items) }
+{
+    let Opened {
+        multi,
+        seat,
+        workers,
+    } = open(rt, options)?;
+    let posts = posts(rt.alloc(), &multi, workers, gates)?;
+    let desk = Desk::new(rt.alloc(), seat, urls.len())?;
+    run_all(rt, &multi, crew, posts, desk, urls, options)
+}
+
 /// What each URL ended with, in their order: the code of its refusal, or what a transfer of its request ended with.
 ///
 /// The one error is that memory, a thread, a poll of the system's or its clock can't be had, or that no message came of a
@@ -136,13 +160,7 @@ pub fn fetch_all<
     let Ok(start) = Instant::now(rt) else {
         return Err(OutOfMemory);
     };
-    let Opened {
-        multi,
-        seat,
-        workers,
-    } = open(rt, options)?;
     let mut crew = Crew::new(rt.alloc())?;
-    let posts = crew.posts(rt, &multi, start, workers)?;
-    let desk = Desk::new(rt.alloc(), seat, urls.len())?;
-    run_all(rt, &multi, &crew, posts, desk, urls, options)
+    let gates = crew.gates(rt, start, options.workers)?;
+    fetch_at(rt, &crew, gates, urls, options)
 }

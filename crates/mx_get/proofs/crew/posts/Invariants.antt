@@ -1,6 +1,6 @@
 use Rattle.std.proofs.Common.{◌≡◌}
 use Rattle.std.specs.Prelude.{All, vec_len}
-use Rattle.mx_get.proofs.crew.Crew.posts.Given as goal
+use Rattle.mx_get.proofs.crew.posts.Given as goal
 
 abbrev pub invariant-loop-seat : goal.invariant-loop-seat
 invariant-loop-seat g l = All (λ s. s.of ≡ l.multi) l.seats.items × All (λ p. p.seat.of ≡ l.multi) l.posts.items

@@ -3,7 +3,7 @@ use Rattle.std.specs.Prelude.{All, Some}
 use Rattle.std.proofs.lemmas.List.Elements.{All-pop, All-push}
 use Rattle.mx_multi.specs.Seats.{SeatView}
 use Rattle.mx_get.specs.declared.crew.Post.{Post}
-use Rattle.mx_get.proofs.crew.Crew.posts.Goals as goal
+use Rattle.mx_get.proofs.crew.posts.Goals as goal
 
 pub loop-seat-preserved : goal.loop-seat-preserved
 loop-seat-preserved g c =
