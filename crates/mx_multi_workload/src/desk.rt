@@ -27,17 +27,11 @@ pub trait Scene {
         requires { IsSync R.row };
 }
 
-// Two seats that don't meet.
-fn take_clients<'a>(seats: &mut Seats<'a>) -> Option<(Client<'a>, Client<'a>)> {
-    let third = seats.take()?;
-    let fourth = seats.take()?;
-    Some((third, fourth))
-}
-
+// Each part of a desk is had or not, and so are all together: what was had of one that lacks a part is let go as one value.
 fn take_desk<'a>(seats: &mut Seats<'a>, benches: &mut Benches<'a>) -> Option<Desk<'a>> {
-    let pair = seats.take_two()?;
-    let (third, fourth) = take_clients(seats)?;
-    let worker = benches.take()?;
+    let apart = seats.take_two();
+    let clients = seats.take().zip(seats.take());
+    let ((pair, (third, fourth)), worker) = apart.zip(clients).zip(benches.take())?;
     Some(Desk {
         pair,
         third,
