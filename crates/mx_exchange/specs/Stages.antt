@@ -56,6 +56,19 @@ alive t o = record t {
   received = length o.decoder.wire;
 }
 
+-- the transfer, as it has ended with this
+abbrev pub over : {L : Type 0} → TransferState L → Ended L → TransferState L
+over t e = record t {
+  link = link_of e.line;
+  attached = attached_of e.line;
+  answers = answers_of e.line;
+  is_reused = reused_of e.line;
+  needs_probe = probe_of e.line;
+  code = Some e.code;
+  is_kept = e.is_kept;
+  received = e.received;
+}
+
 -- What is known of a link that serves: it is one of this request, it isn't stale, and it was never in use where only a fresh one is
 -- wanted; no code was given in place of it.
 pub record IsServing {L : Type 0} (history : L → List Answer) (asked : L → List ℕ) (token_of : L → ℕ) (request : RequestValue) (fresh : Bool) (failure : Option Code) (l : LineState L) : Type 0 where

@@ -11,6 +11,7 @@ use crate::outcomes::Outcome;
 use futures::Future;
 use futures::task::{Context, Poll};
 use mx_link::Link;
+use mx_request::Request;
 use mx_types::Code;
 use std::mem;
 use std::snapshot::Snapshot;
@@ -27,7 +28,7 @@ enum How {
 impl<L: Link> Transfer<L> {
     ghost use Rattle.mx_exchange.specs.Turned.{how_of, ProbeSo};
     ghost use Rattle.mx_exchange.specs.Turns.{StopsWith, Exchanged, Turns};
-    ghost use Rattle.mx_exchange.specs.Stages.{alive, link_of, IsAlive};
+    ghost use Rattle.mx_exchange.specs.Stages.{alive, over, link_of, IsAlive, IsEnded};
     ghost use Rattle.futures.specs.Task.{Hears, IsArmed, Keeps};
     ghost use Rattle.futures.specs.Slot.{IsLeftIn};
     ghost use Rattle.futures.specs.declared.task.Poll.TheVariants as Poll;
@@ -57,6 +58,31 @@ impl<L: Link> Transfer<L> {
         }
     }
 
+    // Goes on with this.
+    fn go_on(&mut self, live: Live<L>)
+        requires { IsAlive L.history L.asked L.token_of self.old.request self.old.needs_fresh self.old.failure live }
+        ensures { self.new ≡ alive self.old live }
+    {
+        self.stage = Stage::Live(live);
+    }
+
+    // Begins anew: only a link that was never in use will do.
+    fn begin_again(&mut self, request: Request)
+        requires { request ≡ self.old.request }
+        ensures { self.new ≡ record (dropped self.old) { code = None; is_kept = false } }
+    {
+        self.needs_fresh = true;
+        self.stage = Stage::Live(Live::new(self.alloc, request));
+    }
+
+    // Has ended, with this left of it.
+    fn settle(&mut self, ended: Ended<L>)
+        requires { IsEnded L.history L.asked L.token_of self.old.request self.old.needs_fresh self.old.failure ended }
+        ensures { self.new ≡ over self.old ended }
+    {
+        self.stage = Stage::Ended(ended);
+    }
+
     // Ends without a look at the link.
     fn stop(&mut self, live: Live<L>, code: Code) -> Outcome
         requires live { IsAlive L.history L.asked L.token_of self.old.request self.old.needs_fresh self.old.failure live }
@@ -72,7 +98,7 @@ impl<L: Link> Transfer<L> {
             decoder,
             line,
         } = live;
-        self.stage = Stage::Ended(Ended {
+        self.settle(Ended {
             code,
             received: count,
             line,
@@ -114,7 +140,7 @@ impl<L: Link> Transfer<L> {
             line,
         } = live;
         let Some(mut line) = line else {
-            self.stage = Stage::Live(Live {
+            self.go_on(Live {
                 request,
                 decoder,
                 line: None,
@@ -123,7 +149,7 @@ impl<L: Link> Transfer<L> {
         };
         match line.serve(&request, &mut decoder) {
             Halt::Blocked => {
-                self.stage = Stage::Live(Live {
+                self.go_on(Live {
                     request,
                     decoder,
                     line: Some(line),
@@ -131,7 +157,7 @@ impl<L: Link> Transfer<L> {
                 How::Waits
             }
             Halt::Unfinished => {
-                self.stage = Stage::Live(Live {
+                self.go_on(Live {
                     request,
                     decoder,
                     line: Some(line),
@@ -139,8 +165,7 @@ impl<L: Link> Transfer<L> {
                 How::Asks
             }
             Halt::Lost => {
-                self.needs_fresh = true;
-                self.stage = Stage::Live(Live::new(self.alloc, request));
+                self.begin_again(request);
                 How::Waits
             }
             Halt::Over(code) => {
@@ -148,7 +173,7 @@ impl<L: Link> Transfer<L> {
                 let is_reused = Snapshot::of(&line.is_reused());
                 let count = received(&decoder);
                 let is_kept = may_keep(&decoder);
-                self.stage = Stage::Ended(Ended {
+                self.settle(Ended {
                     code,
                     received: count,
                     line: Some(line),
@@ -175,11 +200,11 @@ impl<L: Link> Transfer<L> {
             return How::Ended(self.stop(live, code));
         }
         if self.is_paused {
-            self.stage = Stage::Live(live);
+            self.go_on(live);
             return How::Asks;
         }
         if !self.probe(&mut live) {
-            self.stage = Stage::Live(live);
+            self.go_on(live);
             return How::Waits;
         }
         self.exchange(live)

@@ -17,13 +17,13 @@ returns-in-Some-clause-turn g c =
 pub returns-then-self-clause-turn : goal.returns-then-self-clause-turn
 returns-then-self-clause-turn g c =
     let clock = ap (λ (t : TransferState _). alive t c.args.live) c.start_clock.ensures in
-    Advance-paused _ (alive c.args.self.now c.args.live) _ _ clock (λ d. let x = c.if-is_due.ensures.1 d in cc) (rw (← c.self.view_is) c.in_default.is) (rw (← c.self.view_is) c.if-self.true) (rw (← c.self.view_is) refl)
+    Advance-paused _ (alive c.args.self.now c.args.live) _ _ clock (λ d. let x = c.if-is_due.ensures.1 d in cc) (rw (← c.self.view_is) c.in_default.is) (rw (← c.self.view_is) c.if-self.true) c.go_on.ensures
 
 pub returns-then-not-probe-clause-turn : goal.returns-then-not-probe-clause-turn
 returns-then-not-probe-clause-turn g c =
     let clock = ap (λ (t : TransferState _). alive t c.args.live) c.start_clock.ensures in
     let turn = Advance-refused _ (alive c.args.self.now c.args.live) _ _ clock (λ d. let x = c.if-is_due.ensures.1 d in cc) (rw (← c.self.view_is) c.in_default.is) (rw (← c.self.view_is) c.if-self.false) c.if-not-probe.ensures.probe in
-    rw (← c.self-2.view_is) at turn
+    rw c.go_on-then-not-probe.ensures turn
 
 pub returns-clause-turn : goal.returns-clause-turn
 returns-clause-turn g c =
