@@ -1,5 +1,5 @@
 //! Opening and closing a multi handle.
-ghost use Rattle.std.specs.Prelude.{◌≡◌, ◌≤◌, ◌+◌, [], Bool, true, false, vec_len, Err, IfOk, IfErr};
+ghost use Rattle.std.specs.Prelude.{◌≡◌, ◌≤◌, ◌+◌, [], Bool, true, false, length, vec_len, Err, IfOk, IfErr};
 ghost use Rattle.std.specs.List.{All};
 ghost use Rattle.std.specs.VecDeque.{deque_len};
 ghost use Rattle.crossbeam_channel.specs.Claims.{view};
@@ -140,6 +140,73 @@ fn skip<Q: Work + Drop, O: Ending + Drop>(lock: &Lock<Q, O>, founder: &mut Key<Q
     }
 }
 
+// Readers for the seats, and for the workers.
+fn readers_of_all<Q: Work + Drop, O: Ending + Drop>(
+    alloc: Global,
+    shared: &mut Shared<Q, O>,
+    limits: Limits,
+) -> Result<(VecDeque<BoardReader>, VecDeque<BoardReader>), OutOfMemory>
+    requires within { are_within limits ≡ true }
+    requires none { shared.old.core.journal ≡ [] }
+    ensures same { shared.new ≡ shared.old }
+    ensures seats { IfOk result (λ v. AreReaders false 0 shared.old.book v.0.items × (deque_len v.0 ≡ limits.seats)) }
+    ensures workers { IfOk result (λ v. AreReaders true 0 shared.old.book v.1.items × (deque_len v.1 ≡ limits.workers)) }
+    ensures few { IfOk result (λ v. (deque_len v.0 ≤ 16) × (deque_len v.1 ≤ 16)) }
+{
+    let for_seats = readers(alloc, shared, limits.seats, false)?;
+    let for_workers = readers(alloc, shared, limits.workers, true)?;
+    Ok((for_seats, for_workers))
+}
+
+// The seats, which are so many, and the workers' seats.
+fn seats_of_all<Q: Work + Drop, O: Ending + Drop>(
+    alloc: Global,
+    lock: &Lock<Q, O>,
+    founder: Key<Q, O>,
+    words: &ProgressTable,
+    notes: Vec<NoteSeat>,
+    ties: &TieMark,
+    all_readers: (VecDeque<BoardReader>, VecDeque<BoardReader>),
+    seats: u8,
+) -> Result<(Vec<Seat<Q, O>>, Vec<WorkerSeat<Q, O>>), OutOfMemory>
+    requires few { (deque_len all_readers.0 ≤ 16) × (deque_len all_readers.1 ≤ 16) }
+    requires own { IsKeyOf lock.now founder }
+    requires founder { view founder ≡ founder_at (engine_of (view founder)) 1 }
+    requires seats { AreReaders false 0 (engine_of (view founder)).book all_readers.0.items × (deque_len all_readers.0 ≡ seats) }
+    requires workers { AreReaders true 0 (engine_of (view founder)).book all_readers.1.items }
+    requires notes { All (λ s. s ≡ new_seat words.now) notes.items × (vec_len notes ≡ deque_len all_readers.0 + deque_len all_readers.1) }
+    requires ties { (ties.now.ties ≡ []) × (ties.now.book ≡ (engine_of (view founder)).ties) }
+    ensures seats { IfOk result (λ r. AreNew (record { table = lock.now.table; keys = lock.now.keys; engine = engine_of (view founder); words = words.now.id }) false 0 r.0.items × (length r.0.items ≡ deque_len all_readers.0)) }
+    ensures workers { IfOk result (λ r. AreNew (record { table = lock.now.table; keys = lock.now.keys; engine = engine_of (view founder); words = words.now.id }) true 0 r.1.items × (length r.1.items ≡ deque_len all_readers.1)) }
+{
+    let (for_seats, for_workers) = all_readers;
+    let mut founder = founder;
+    let mut notes = notes;
+    let for_callers = seated(
+        alloc,
+        lock,
+        &mut founder,
+        words,
+        &mut notes,
+        ties,
+        for_seats,
+        false,
+    )?;
+    skip(lock, &mut founder, seats);
+    let at_work = seated(
+        alloc,
+        lock,
+        &mut founder,
+        words,
+        &mut notes,
+        ties,
+        for_workers,
+        true,
+    )?;
+    let workers = WorkerSeat::all(alloc, at_work)?;
+    Ok((for_callers, workers))
+}
+
 impl<Q: Work + Drop, O: Ending + Drop> Multi<Q, O> {
     /// Opens a multi handle, with its seats and its workers' seats. It waits until the empty version is published.
     pub fn open<R: Wait>(
@@ -168,36 +235,23 @@ impl<Q: Work + Drop, O: Ending + Drop> Multi<Q, O> {
         requires { are_within limits ≡ true }
         ensures { IfOk result (λ r. IsOpened limits r.0 r.1.items r.2.items) }
     {
+        let (words, notes) = ProgressTable::new(alloc, limits.seats + limits.workers)?;
         let places = usize::from(limits.seats) + usize::from(limits.workers);
         let mut shared = Shared::new(rt, alloc, limits.history, places)?;
         let start = shared.mark();
         let no_ties = shared.tie_mark();
-        let for_seats = readers(alloc, &mut shared, limits.seats, false)?;
-        let for_workers = readers(alloc, &mut shared, limits.workers, true)?;
-        let (words, mut notes) = ProgressTable::new(alloc, limits.seats + limits.workers)?;
-        let (lock, mut founder) = Lock::new(rt, alloc, shared)?;
-        let seats = seated(
+        let all_readers = readers_of_all(alloc, &mut shared, limits)?;
+        let (lock, founder) = Lock::new(rt, alloc, shared)?;
+        let (seats, workers) = seats_of_all(
             alloc,
             &lock,
-            &mut founder,
+            founder,
             &words,
-            &mut notes,
+            notes,
             &no_ties,
-            for_seats,
-            false,
+            all_readers,
+            limits.seats,
         )?;
-        skip(&lock, &mut founder, limits.seats);
-        let at_work = seated(
-            alloc,
-            &lock,
-            &mut founder,
-            &words,
-            &mut notes,
-            &no_ties,
-            for_workers,
-            true,
-        )?;
-        let workers = WorkerSeat::all(alloc, at_work)?;
         let multi = Multi {
             lock,
             start,

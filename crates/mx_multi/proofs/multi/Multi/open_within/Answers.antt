@@ -9,30 +9,14 @@ use Rattle.mx_multi.specs.Opening.{AreNew}
 use Rattle.mx_multi.proofs.Opening.{all_own}
 use Rattle.mx_multi.proofs.multi.Multi.open_within.Goals as goal
 
-pub seated-requires-clause-few : goal.seated-requires-clause-few
-seated-requires-clause-few g c = c.in_ok-for_seats.ensures.few
-
-pub seated-requires-2-clause-few : goal.seated-requires-2-clause-few
-seated-requires-2-clause-few g c = c.in_ok-for_workers.ensures.few
-
-pub seated-requires-clause-ties : goal.seated-requires-clause-ties
-seated-requires-clause-ties g c =
+pub seats_of_all-requires-clause-ties : goal.seats_of_all-requires-clause-ties
+seats_of_all-requires-clause-ties g c =
     let shared = c.in_ok-shared.shared in
     let mark = c.tie_mark-no_ties.ensures in
     let none = ap (λ (m : TieState). m.ties) mark ∙ c.in_ok-shared.ensures.2 in
     let list : c.tie_mark-no_ties.result.book ≡ (content shared).engine.ties = ap (λ (m : TieState). m.book) mark in
-    let first : engine_of (view c.in_ok-lock.founder) ≡ (content shared).engine = ap engine_of c.in_ok-lock.ensures.1 ∙ ap (λ (z : SharedState g.row.Q.Denot g.row.O.Denot). (content z).engine) (c.readers-2.ensures.same ∙ c.readers.ensures.same) in
+    let first : engine_of (view c.in_ok-lock.founder) ≡ (content shared).engine = ap engine_of c.in_ok-lock.ensures.1 ∙ ap (λ (z : SharedState g.row.Q.Denot g.row.O.Denot). (content z).engine) c.in_ok-all_readers.ensures.same in
     (none, list ∙ sym (ap (λ (e : Engine). e.ties) first))
-
-pub seated-requires-2-clause-ties : goal.seated-requires-2-clause-ties
-seated-requires-2-clause-ties g c =
-    let shared = c.in_ok-shared.shared in
-    let mark = c.tie_mark-no_ties.ensures in
-    let none = ap (λ (m : TieState). m.ties) mark ∙ c.in_ok-shared.ensures.2 in
-    let list : c.tie_mark-no_ties.result.book ≡ (content shared).engine.ties = ap (λ (m : TieState). m.book) mark in
-    let first : engine_of (view c.in_ok-lock.founder) ≡ (content shared).engine = ap engine_of c.in_ok-lock.ensures.1 ∙ ap (λ (z : SharedState g.row.Q.Denot g.row.O.Denot). (content z).engine) (c.readers-2.ensures.same ∙ c.readers.ensures.same) in
-    let later : engine_of (view c.skip.new.founder) ≡ (content shared).engine = ap engine_of c.skip.ensures.next ∙ ap engine_of c.in_ok-seats.ensures.next ∙ first in
-    (none, list ∙ sym (ap (λ (e : Engine). e.ties) later))
 
 pub returns : goal.returns
 returns g c =
@@ -43,20 +27,18 @@ returns g c =
     let opening = c.in_ok-shared.ensures.1 in
     let ties : shared.ties.book ≡ c.tie_mark-no_ties.result.book = sym (ap (λ (m : TieState). m.book) c.tie_mark-no_ties.ensures) in
     let here : (content shared).engine ≡ all = λ i. record { book = book i; opening = opening i; ties = ties i } in
-    let first : engine_of (view c.in_ok-lock.founder) ≡ all = ap engine_of c.in_ok-lock.ensures.1 ∙ ap (λ (z : SharedState g.row.Q.Denot g.row.O.Denot). (content z).engine) (c.readers-2.ensures.same ∙ c.readers.ensures.same) ∙ here in
-    let later : engine_of (view c.skip.new.founder) ≡ all = ap engine_of c.skip.ensures.next ∙ ap engine_of c.in_ok-seats.ensures.next ∙ first in
+    let first : engine_of (view c.in_ok-lock.founder) ≡ all = ap engine_of c.in_ok-lock.ensures.1 ∙ ap (λ (z : SharedState g.row.Q.Denot g.row.O.Denot). (content z).engine) c.in_ok-all_readers.ensures.same ∙ here in
     let m : MultiView g.row.Q.Denot g.row.O.Denot = record { table = at.table; keys = at.keys; engine = all; words = c.in_ok-words.words.id } in
     let seats : AreNew m false 0 c.in_ok-seats.seats.items =
-    subst (λ (e : Engine). AreNew {Q = g.row.Q.Denot} {O = g.row.O.Denot} (record { table = at.table; keys = at.keys; engine = e; words = c.in_ok-words.words.id }) false 0 c.in_ok-seats.seats.items) first c.in_ok-seats.ensures.new in
-    let workers : AreNew m true 0 c.in_ok-workers.workers.items =
-    subst (AreNew m true 0) (sym c.in_ok-workers.ensures)
-    (subst (λ (e : Engine). AreNew {Q = g.row.Q.Denot} {O = g.row.O.Denot} (record { table = at.table; keys = at.keys; engine = e; words = c.in_ok-words.words.id }) true 0 c.in_ok-at_work.at_work.items) later c.in_ok-at_work.ensures.new) in
+    subst (λ (e : Engine). AreNew {Q = g.row.Q.Denot} {O = g.row.O.Denot} (record { table = at.table; keys = at.keys; engine = e; words = c.in_ok-words.words.id }) false 0 c.in_ok-seats.seats.items) first c.in_ok-seats.ensures.seats.0 in
+    let workers : AreNew m true 0 c.in_ok-seats.workers.items =
+    subst (λ (e : Engine). AreNew {Q = g.row.Q.Denot} {O = g.row.O.Denot} (record { table = at.table; keys = at.keys; engine = e; words = c.in_ok-words.words.id }) true 0 c.in_ok-seats.workers.items) first c.in_ok-seats.ensures.workers.0 in
     record {
       history = refl;
       seats_new = seats;
-      seats_all = omega (arith, c.in_ok-seats.seats.ok.0, c.in_ok-seats.ensures.all, c.in_ok-for_seats.ensures.readers.1);
+      seats_all = c.in_ok-seats.ensures.seats.1 ∙ c.in_ok-all_readers.ensures.seats.1;
       workers_new = workers;
-      workers_all = ap length c.in_ok-workers.ensures ∙ omega (arith, c.in_ok-at_work.at_work.ok.0, c.in_ok-at_work.ensures.all, c.in_ok-for_workers.ensures.readers.1);
+      workers_all = c.in_ok-seats.ensures.workers.1 ∙ c.in_ok-all_readers.ensures.workers.1;
       seats_own = all_own m false 0 c.in_ok-seats.seats.items seats;
-      workers_own = all_own m true 0 c.in_ok-workers.workers.items workers;
+      workers_own = all_own m true 0 c.in_ok-seats.workers.items workers;
     }
