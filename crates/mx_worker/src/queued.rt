@@ -1,5 +1,5 @@
 //! The work of a multi handle with workers, and what a worker has of it.
-ghost use Rattle.std.specs.Prelude.{◌≡◌, None, false};
+ghost use Rattle.std.specs.Prelude.{◌≡◌, None, Bool, false};
 
 use mx_exchange::{Outcome, Transfer};
 use mx_journal::Claim;
@@ -8,6 +8,12 @@ use mx_request::Request;
 use mx_types::{Ticket, Work};
 use std::alloc::Global;
 use std::marker::Model;
+
+/// What a worker has in hand: it has started, or it hasn't.
+pub(crate) trait Start {
+    /// Whether it has started, for contracts alone.
+    ghost is_started: { Self → Bool };
+}
 
 /// A transfer that has not ended, as it waits for a worker. Contracts see the transfer.
 #[derive(Drop)]
@@ -28,6 +34,10 @@ impl<L: Link> Model for Queued<L> {
 
 impl<L: Link> Work for Queued<L> {
     ghost origin = { λ q. q.request.bytes };
+}
+
+impl<L: Link> Start for Queued<L> {
+    ghost is_started = { λ q. q.is_started };
 }
 
 impl<L: Link> Queued<L> {
@@ -70,6 +80,10 @@ pub(crate) struct Held<L: Link> {
     pub transfer: Transfer<L>,
     pub ghost running: { transfer.code ≡ None },
     pub ghost of_one: { transfer.request.bytes ≡ claim.origin },
+}
+
+impl<L: Link> Start for Held<L> {
+    ghost is_started = { λ h. h.transfer.is_started };
 }
 
 impl<L: Link> Held<L> {

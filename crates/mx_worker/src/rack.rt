@@ -1,8 +1,7 @@
 //! What a worker has in hand.
 ghost use Rattle.std.specs.Prelude.{◌≡◌, ◌+◌, ◌<◌, ◌≤◌, ◌↔◌, ◌∷◌, ◌++◌, [], length, IsTrue, IfOk, MatchOption};
 
-use crate::queued::{Finished, Held};
-use mx_link::Link;
+use crate::queued::Start;
 use mx_types::OutOfMemory;
 use std::alloc::Global;
 use std::collections::VecDeque;
@@ -12,31 +11,31 @@ use std::marker::Model;
 const MOST_HELD: usize = 64;
 
 /// The transfers that a worker holds, in order of claim, and the ends that found no memory. They are at most 64 together, and there is
-/// room for as many. Contracts see which of the transfers have started, and how
-/// many ends there are.
+/// room for as many. Contracts see which of the transfers have started, and how many ends there are. It knows of neither what it is, so
+/// that no goal of its calls has to look into a transfer.
 #[derive(Drop)]
-pub(crate) struct Rack<L: Link> {
-    held: VecDeque<Held<L>>,
-    unrecorded: VecDeque<Finished<L>>,
+pub(crate) struct Rack<H: Start + Drop, F: Drop> {
+    held: VecDeque<H>,
+    unrecorded: VecDeque<F>,
 }
 
-impl<L: Link> Model for Rack<L> {
+impl<H: Start + Drop, F: Drop> Model for Rack<H, F> {
     ghost use Rattle.std.specs.Prelude.{◌+◌, ◌≤◌, map};
     ghost use Rattle.std.specs.VecDeque.{deque_len, deque_capacity};
     ghost use Rattle.mx_worker.specs.Racks.{RackView};
 
     ghost Value = { RackView };
 
-    ghost view = { λ r. record { held = map (λ h. h.transfer.is_started) r.held.items; unrecorded = deque_len r.unrecorded } };
+    ghost view = { λ r. record { held = map H.is_started r.held.items; unrecorded = deque_len r.unrecorded } };
 
     ghost invariant = { λ r. (deque_len r.held + deque_len r.unrecorded ≤ 64) × (64 ≤ deque_capacity r.held) × (64 ≤ deque_capacity r.unrecorded) };
 }
 
-impl<L: Link> Rack<L> {
+impl<H: Start + Drop, F: Drop> Rack<H, F> {
     ghost use Rattle.mx_worker.specs.Racks.{in_hand};
 
     /// Nothing in hand, and room for 64.
-    pub fn new(alloc: Global) -> Result<Rack<L>, OutOfMemory>
+    pub fn new(alloc: Global) -> Result<Rack<H, F>, OutOfMemory>
         ensures { IfOk result (λ rack. rack ≡ record { held = []; unrecorded = 0 }) }
     {
         Ok(Rack {
@@ -73,16 +72,16 @@ impl<L: Link> Rack<L> {
     }
 
     /// Puts a transfer behind the others.
-    pub fn hold(&mut self, held: Held<L>)
+    pub fn hold(&mut self, held: H)
         requires room { in_hand self.old < 64 }
-        ensures { self.new ≡ record self.old { held = self.old.held ++ held.transfer.is_started ∷ [] } }
+        ensures { self.new ≡ record self.old { held = self.old.held ++ H.is_started held ∷ [] } }
     {
         self.held.push_back_reserved(held);
     }
 
     /// Takes the transfer that stands first.
-    pub fn next(&mut self) -> Option<Held<L>>
-        ensures taken { MatchOption result ((self.old.held ≡ []) × (self.new ≡ self.old)) (λ h. self.old.held ≡ h.transfer.is_started ∷ self.new.held) }
+    pub fn next(&mut self) -> Option<H>
+        ensures taken { MatchOption result ((self.old.held ≡ []) × (self.new ≡ self.old)) (λ h. self.old.held ≡ H.is_started h ∷ self.new.held) }
         ensures rest { self.new.unrecorded ≡ self.old.unrecorded }
         ensures room { MatchOption result (in_hand self.new ≤ 64) (λ _. in_hand self.new < 64) }
     {
@@ -93,7 +92,7 @@ impl<L: Link> Rack<L> {
     }
 
     /// Puts an end that found no memory behind the others.
-    pub fn set_aside(&mut self, finished: Finished<L>)
+    pub fn set_aside(&mut self, finished: F)
         requires room { in_hand self.old < 64 }
         ensures { self.new ≡ record self.old { unrecorded = self.old.unrecorded + 1 } }
     {
@@ -101,7 +100,7 @@ impl<L: Link> Rack<L> {
     }
 
     /// Takes the end that stands first.
-    pub fn next_unrecorded(&mut self) -> Option<Finished<L>>
+    pub fn next_unrecorded(&mut self) -> Option<F>
         ensures taken { MatchOption result ((self.old.unrecorded ≡ 0) × (self.new ≡ self.old)) (λ _. self.new.unrecorded + 1 ≡ self.old.unrecorded) }
         ensures rest { self.new.held ≡ self.old.held }
         ensures room { MatchOption result (in_hand self.new ≤ 64) (λ _. in_hand self.new < 64) }

@@ -4,39 +4,37 @@ ghost use Rattle.mx_journal.specs.History.{has_ticket, running};
 ghost use Rattle.mx_multi.specs.Progress.{noted_by};
 ghost use Rattle.mx_worker.specs.Work.{Worked, Lacks};
 
-use crate::queued::{Finished, Held, Queued};
-use mx_exchange::Outcome;
+use crate::queued::Start;
 use mx_journal::{Claim, FinishReply, GiveBackReply};
-use mx_link::Link;
 use mx_multi::{Multi, WorkerSeat};
-use mx_types::{Look, Ticket};
+use mx_types::{Ending, Look, Ticket, Work};
 use std::marker::Model;
 use std::snapshot::Snapshot;
 use std::sync::Wait;
 
-/// The seat of a running worker, beside the seat as the worker began. Only the calls here touch it.
+/// The seat of a running worker, beside the seat as the worker began. Only the calls here touch it. It knows of transfers and of outcomes
+/// no more than a multi handle does, so that no goal of its calls has to look into one.
 #[derive(Drop)]
-pub(crate) struct Tally<L: Link> {
-    start: Snapshot<WorkerSeat<Queued<L>, Outcome>>,
-    seat: WorkerSeat<Queued<L>, Outcome>,
+pub(crate) struct Tally<Q: Work + Start + Drop, O: Ending + Drop> {
+    start: Snapshot<WorkerSeat<Q, O>>,
+    seat: WorkerSeat<Q, O>,
     recorded: u32,
     stale: u32,
 }
 
-impl<L: Link> Model for Tally<L> {
-    ghost use Rattle.mx_exchange.specs.Transfers.{TransferState, OutcomeValue};
+impl<Q: Work + Start + Drop, O: Ending + Drop> Model for Tally<Q, O> {
     ghost use Rattle.mx_worker.specs.Work.{TallyView, Worked};
 
-    ghost Value = { TallyView (TransferState L) OutcomeValue };
+    ghost Value = { TallyView Q O };
 
     ghost view = { λ t. record { start = t.start.value; seat = t.seat; recorded = t.recorded; stale = t.stale } };
 
     ghost invariant = { λ t. Worked t.start.value t.seat t.recorded t.stale };
 }
 
-impl<L: Link> Tally<L> {
+impl<Q: Work + Start + Drop, O: Ending + Drop> Tally<Q, O> {
     #[tactic(auto, using(crate::proofs::Tallies::worked_none))]
-    pub fn new(seat: WorkerSeat<Queued<L>, Outcome>) -> Tally<L>
+    pub fn new(seat: WorkerSeat<Q, O>) -> Tally<Q, O>
         ensures { result.start ≡ seat }
     {
         Tally {
@@ -47,24 +45,22 @@ impl<L: Link> Tally<L> {
         }
     }
 
-    /// Takes a transfer out of the queue, if there is one.
+    /// Takes work out of the queue, if there is some.
     #[tactic(auto, using(crate::proofs::Tallies::worked_sees))]
-    pub fn claim<R: Wait>(&mut self, rt: &R, multi: &Multi<Queued<L>, Outcome>) -> Option<Held<L>>
+    pub fn claim<R: Wait>(&mut self, rt: &R, multi: &Multi<Q, O>) -> Option<(Claim<Q>, Q)>
         requires own { self.old.start.of ≡ multi.now }
         ensures start { self.new.start ≡ self.old.start }
+        ensures origin { IfSome result (λ r. Q.origin r.1 ≡ r.0.origin) }
     {
-        let Some((claim, queued)) = multi.claim(rt, &mut self.seat) else {
+        let Some((claim, work)) = multi.claim(rt, &mut self.seat) else {
             return None;
         };
-        Some(Held {
-            claim,
-            transfer: queued.into_transfer(),
-        })
+        Some((claim, work))
     }
 
     /// What is told of a transfer. None where no version can be read.
     #[tactic(auto, using(crate::proofs::Tallies::worked_same))]
-    pub fn look(&mut self, multi: &Multi<Queued<L>, Outcome>, ticket: Ticket) -> Option<Look>
+    pub fn look(&mut self, multi: &Multi<Q, O>, ticket: Ticket) -> Option<Look>
         requires own { self.old.start.of ≡ multi.now }
         ensures start { self.new.start ≡ self.old.start }
     {
@@ -76,7 +72,7 @@ impl<L: Link> Tally<L> {
 
     /// Notes how many bytes of its response a claimed transfer has received.
     #[tactic(auto, using(crate::proofs::Tallies::worked_notes))]
-    pub fn note(&mut self, multi: &Multi<Queued<L>, Outcome>, claim: &Claim<Queued<L>>, count: u32)
+    pub fn note(&mut self, multi: &Multi<Q, O>, claim: &Claim<Q>, count: u32)
         requires own { self.old.start.of ≡ multi.now }
         ensures start { self.new.start ≡ self.old.start }
         ensures noted { self.new.seat ≡ noted_by self.old.seat claim.now.slot claim.now.ticket count }
@@ -84,21 +80,22 @@ impl<L: Link> Tally<L> {
         multi.note(&mut self.seat, claim, count);
     }
 
-    /// Gives a transfer that has not started back to the queue. False where it didn't go back, as it runs no more: it is then dropped.
+    /// Gives claimed work that has not started back to the queue. False where it didn't go back, as it runs no more: it is then dropped.
     #[tactic(auto, using(crate::proofs::Tallies::worked_saw, crate::proofs::Tallies::worked_same))]
     pub fn give_back<R: Wait>(
         &mut self,
         rt: &R,
-        multi: &Multi<Queued<L>, Outcome>,
-        held: Held<L>,
+        multi: &Multi<Q, O>,
+        claim: Claim<Q>,
+        work: Q,
     ) -> bool
         requires own { self.old.start.of ≡ multi.now }
-        requires unstarted { held.transfer.is_started ≡ false }
+        requires origin { Q.origin work ≡ claim.origin }
+        requires unstarted { Q.is_started work ≡ false }
         ensures start { self.new.start ≡ self.old.start }
-        ensures back { result ≡ true → has_ticket held.claim.ticket (running self.new.seat.seen) ≡ true }
+        ensures back { result ≡ true → has_ticket claim.ticket (running self.new.seat.seen) ≡ true }
     {
-        let Held { claim, transfer } = held;
-        let Ok(reply) = multi.give_back(rt, &mut self.seat, claim, Queued::of(transfer)) else {
+        let Ok(reply) = multi.give_back(rt, &mut self.seat, claim, work) else {
             return false;
         };
         matches!(reply, GiveBackReply::Back)
@@ -109,15 +106,17 @@ impl<L: Link> Tally<L> {
     pub fn finish<R: Wait>(
         &mut self,
         rt: &R,
-        multi: &Multi<Queued<L>, Outcome>,
-        finished: Finished<L>,
-    ) -> Option<Finished<L>>
+        multi: &Multi<Q, O>,
+        claim: Claim<Q>,
+        ending: O,
+    ) -> Option<(Claim<Q>, O)>
         requires own { self.old.start.of ≡ multi.now }
+        requires origin { O.origin ending ≡ claim.origin }
         ensures start { self.new.start ≡ self.old.start }
-        ensures lacking { IfSome result (λ f. Lacks self.old.seat self.new.seat f.claim.ticket) }
+        ensures lacking { IfSome result (λ r. Lacks self.old.seat self.new.seat r.0.ticket) }
+        ensures back { IfSome result (λ r. (r.0 ≡ claim) × (r.1 ≡ ending)) }
     {
-        let Finished { claim, outcome } = finished;
-        let Ok(reply) = multi.finish(rt, &mut self.seat, claim, outcome) else {
+        let Ok(reply) = multi.finish(rt, &mut self.seat, claim, ending) else {
             return None;
         };
         match reply {
@@ -129,12 +128,12 @@ impl<L: Link> Tally<L> {
                 self.stale = self.stale.saturating_add(1);
                 None
             }
-            FinishReply::OutOfMemory(claim, outcome) => Some(Finished { claim, outcome }),
+            FinishReply::OutOfMemory(claim, ending) => Some((claim, ending)),
         }
     }
 
     /// The seat, and how many ends were recorded and how many were stale.
-    pub fn into_parts(self) -> (WorkerSeat<Queued<L>, Outcome>, u32, u32)
+    pub fn into_parts(self) -> (WorkerSeat<Q, O>, u32, u32)
         ensures { Worked self.start result.0 result.1 result.2 }
     {
         (self.seat, self.recorded, self.stale)

@@ -41,15 +41,15 @@ pub struct WorkerEnd<L: Link> {
 // What a worker needs memory for.
 #[derive(Drop)]
 struct Tools<L: Link> {
-    rack: Rack<L>,
+    rack: Rack<Held<L>, Finished<L>>,
     links: Links<L>,
     solo: Solo,
 }
 
 #[derive(Drop)]
 struct Worker<L: Link> {
-    tally: Tally<L>,
-    rack: Rack<L>,
+    tally: Tally<Queued<L>, Outcome>,
+    rack: Rack<Held<L>, Finished<L>>,
     links: Links<L>,
     deadlines: Deadlines,
     solo: Solo,
@@ -163,8 +163,12 @@ impl<L: Link> Worker<L> {
         if self.is_stopping || !self.rack.has_room() {
             return;
         }
-        let Some(held) = self.tally.claim(rt, multi) else {
+        let Some((claim, queued)) = self.tally.claim(rt, multi) else {
             return;
+        };
+        let held = Held {
+            claim,
+            transfer: queued.into_transfer(),
         };
         // One that another worker gave back may have its deadline already.
         set_deadline(&mut self.deadlines, held.ticket(), held.transfer.deadline());
@@ -177,8 +181,9 @@ impl<L: Link> Worker<L> {
         requires room { in_hand self.old.rack < 64 }
         ensures start { self.new.tally.start ≡ self.old.tally.start }
     {
-        if let Some(finished) = self.tally.finish(rt, multi, finished) {
-            self.rack.set_aside(finished);
+        let Finished { claim, outcome } = finished;
+        if let Some((claim, outcome)) = self.tally.finish(rt, multi, claim, outcome) {
+            self.rack.set_aside(Finished { claim, outcome });
         }
     }
 
@@ -319,7 +324,8 @@ impl<L: Link> Worker<L> {
             return;
         }
         self.deadlines.clear(held.ticket());
-        if self.tally.give_back(rt, multi, held) {
+        let Held { claim, transfer } = held;
+        if self.tally.give_back(rt, multi, claim, Queued::of(transfer)) {
             self.given_back = self.given_back.saturating_add(1);
         }
     }
