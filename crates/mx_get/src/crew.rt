@@ -1,5 +1,5 @@
 //! The workers' seats and gates, and what wakes and stops them.
-ghost use Rattle.std.specs.Prelude.{◌≡◌, All, IfOk};
+ghost use Rattle.std.specs.Prelude.{◌≡◌, All, IfOk, min, vec_len};
 
 use mx_exchange::Outcome;
 use mx_gate::{Bell, Gate, SocketGate, Turn};
@@ -77,9 +77,12 @@ impl Crew {
         rt: &'r R,
         start: Instant,
         count: u8,
-    ) -> Result<Vec<SocketGate<'r, R>>, OutOfMemory> {
+    ) -> Result<Vec<SocketGate<'r, R>>, OutOfMemory>
+        ensures { IfOk result (λ gates. vec_len gates ≡ count) }
+    {
         let mut gates = Vec::with_capacity(rt.alloc(), usize::from(count))?;
-        for _ in 0..count {
+        for made in 0..count {
+            let _ = made;
             gates.push(self.gate(rt, start)?)?;
         }
         Ok(gates)
@@ -94,7 +97,8 @@ pub fn posts<L: Link, G: Gate<Link = L> + Drop>(
     gates: Vec<G>,
 ) -> Result<Vec<Post<L, G>>, OutOfMemory>
     requires { All (λ s. s.of ≡ multi.now) seats.items }
-    ensures { IfOk result (λ posts. All (λ p. p.seat.of ≡ multi.now) posts.items) }
+    ensures own { IfOk result (λ posts. All (λ p. p.seat.of ≡ multi.now) posts.items) }
+    ensures count { IfOk result (λ posts. vec_len posts ≡ min (vec_len seats) (vec_len gates)) }
 {
     let _ = multi;
     let (mut seats, mut gates) = (seats, gates);

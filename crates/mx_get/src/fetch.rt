@@ -40,7 +40,8 @@ fn next_post<L: Link, G>(
     posts.pop()
 }
 
-// Runs a worker at each post on a thread of its own, while the desk collects. All workers have ended when it returns.
+// Runs a worker at each post on a thread of its own, which are as many as the options ask for, while the desk collects. All workers have
+// ended when it returns.
 fn run_all<
     L: Link + Send,
     R: Threads + Wait + RandomSource + AllocGlobal + Sync,
@@ -57,6 +58,7 @@ fn run_all<
     requires seat { desk.seat.of ≡ multi.now }
     requires none { desk.places.items ≡ [] }
     requires posts { All (λ p. p.seat.of ≡ multi.now) posts.items }
+    requires workers { vec_len posts ≡ options.workers }
     ensures { IfOk result (λ ends. AreEndsOf options.timeout_ms (map (λ u. u.now) urls.now) ends.items) }
 {
     thread::scope(
@@ -97,6 +99,7 @@ struct Opened<L: Link> {
 fn open<L: Link, R: Wait + AllocGlobal>(rt: &R, options: Options) -> Result<Opened<L>, OutOfMemory>
     ensures seat { IfOk result (λ o. o.seat.of ≡ o.multi) }
     ensures workers { IfOk result (λ o. All (λ s. s.of ≡ o.multi) o.workers.items) }
+    ensures count { IfOk result (λ o. vec_len o.workers ≡ options.workers) }
 {
     let limits = Limits {
         seats: 1,
@@ -117,7 +120,8 @@ fn open<L: Link, R: Wait + AllocGlobal>(rt: &R, options: Options) -> Result<Open
     }
 }
 
-// Fetches with a worker at each gate. It knows nothing of sockets: what it lets go, in each of its ends, is of any link.
+// Fetches with a worker at each gate, which are as many as the options ask for. It knows nothing of sockets: what it lets go, in each of
+// its ends, is of any link.
 fn fetch_at<
     L: Link + Send,
     R: Threads + Wait + RandomSource + AllocGlobal + Sync,
@@ -129,6 +133,7 @@ fn fetch_at<
     urls: &[&str],
     options: Options,
 ) -> Result<Vec<Fetched>, OutOfMemory>
+    requires gates { vec_len gates ≡ options.workers }
     ensures { IfOk result (λ ends. AreEndsOf options.timeout_ms (map (λ u. u.now) urls.now) ends.items) }
 {
     let Opened {

@@ -1,9 +1,14 @@
-use Rattle.std.proofs.Common.{◌≡◌}
+use Rattle.std.proofs.Common.{◌≡◌, ◌+◌}
 use Rattle.std.specs.Prelude.{All, vec_len}
 use Rattle.mx_get.proofs.crew.posts.Given as goal
 
 abbrev pub invariant-loop-seat : goal.invariant-loop-seat
-invariant-loop-seat g l = All (λ s. s.of ≡ l.multi) l.seats.items × All (λ p. p.seat.of ≡ l.multi) l.posts.items
+invariant-loop-seat g l = record {
+  seats : All (λ s. s.of ≡ l.multi) l.seats.items;
+  posts : All (λ p. p.seat.of ≡ l.multi) l.posts.items;
+  seats_left : vec_len l.posts + vec_len l.seats ≡ vec_len l.fn.seats;
+  gates_left : vec_len l.posts + vec_len l.gates ≡ vec_len l.fn.gates;
+}
 
 abbrev pub decreases-loop-seat : goal.decreases-loop-seat
 decreases-loop-seat g l = vec_len l.seats
