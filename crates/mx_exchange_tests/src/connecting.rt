@@ -3,11 +3,12 @@
 use futures::task::Poll;
 use futures::test::MockTask;
 use mx_exchange::Transfer;
-use mx_link::{Called, History, Stream, StreamLink};
+use mx_link::{Called, History, Link, Stream, StreamLink};
 use mx_request::Request;
 use mx_types::{Code, Method, Settings};
 use std::alloc::Global;
 use std::io::ErrorKind;
+use std::process::Abort;
 use std::test::Fail;
 
 /// 43 bytes, of which the last five are the body.
@@ -76,7 +77,7 @@ fn link(waits: u32, is_refused: bool) -> SlowLink {
 }
 
 /// Hands over the link; false where none is wanted.
-fn attach(transfer: &mut Transfer<SlowLink>, link: SlowLink) -> bool {
+fn attach<L: Link>(transfer: &mut Transfer<L>, link: L) -> bool {
     let fits = transfer.wants().is_some();
     if fits {
         transfer.attach(link, false);
@@ -85,7 +86,7 @@ fn attach(transfer: &mut Transfer<SlowLink>, link: SlowLink) -> bool {
 }
 
 /// The code, or nothing where it is pending or has ended before.
-fn poll(task: &MockTask, transfer: &mut Transfer<SlowLink>) -> Option<Code> {
+fn poll<L: Link>(task: &MockTask, transfer: &mut Transfer<L>) -> Option<Code> {
     if transfer.spent() {
         return None;
     }
@@ -109,19 +110,41 @@ fn transfer(alloc: Global, waits: u32, is_refused: bool) -> Result<Transfer<Slow
     Ok(transfer)
 }
 
+// What the polls of a transfer answer whose connection takes two of them.
+fn take_polls<L: Link, R: Abort>(
+    rt: &R,
+    task: &MockTask,
+    transfer: &mut Transfer<L>,
+) -> Result<(), Fail> {
+    let token = transfer.token();
+    let first = poll(task, transfer);
+    let asleep = !task.is_woken();
+    // who hears of the link wakes the task
+    transfer.wake();
+    let woken = task.is_woken();
+    let polls = [first, poll(task, transfer), poll(task, transfer)];
+    assert_eq!(rt; polls, [None, None, Some(Code::Ok)]);
+    assert!(rt; asleep && woken);
+    assert_eq!(rt; (token, transfer.received()), (Some(9), 43));
+    Ok(())
+}
+
 #[test]
 fn a_connection_takes_its_polls(rt: HostRuntime) -> Result<(), Fail> {
     let task = MockTask::new(&rt)?;
     let mut transfer = transfer(rt.alloc(), 2, false)?;
-    assert_eq!(rt; transfer.token(), Some(9));
-    assert_eq!(rt; poll(&task, &mut transfer), None);
-    assert!(rt; !task.is_woken());
-    // who hears of the link wakes the task
-    transfer.wake();
-    assert!(rt; task.is_woken());
-    assert_eq!(rt; poll(&task, &mut transfer), None);
-    assert_eq!(rt; poll(&task, &mut transfer), Some(Code::Ok));
-    assert_eq!(rt; transfer.received(), 43);
+    take_polls(&rt, &task, &mut transfer)
+}
+
+// What the polls of a transfer answer whose connection fails in the second.
+fn fail_to_connect<L: Link, R: Abort>(
+    rt: &R,
+    task: &MockTask,
+    transfer: &mut Transfer<L>,
+) -> Result<(), Fail> {
+    let polls = [poll(task, transfer), poll(task, transfer)];
+    assert_eq!(rt; polls, [None, Some(Code::CouldntConnect)]);
+    assert_eq!(rt; transfer.code(), Some(Code::CouldntConnect));
     Ok(())
 }
 
@@ -129,8 +152,5 @@ fn a_connection_takes_its_polls(rt: HostRuntime) -> Result<(), Fail> {
 fn a_connection_that_fails_is_code_7(rt: HostRuntime) -> Result<(), Fail> {
     let task = MockTask::new(&rt)?;
     let mut transfer = transfer(rt.alloc(), 1, true)?;
-    assert_eq!(rt; poll(&task, &mut transfer), None);
-    assert_eq!(rt; poll(&task, &mut transfer), Some(Code::CouldntConnect));
-    assert_eq!(rt; transfer.code(), Some(Code::CouldntConnect));
-    Ok(())
+    fail_to_connect(&rt, &task, &mut transfer)
 }
