@@ -1,6 +1,7 @@
 //! Seats beside the multi handle that gave them, so that each call is one that the seat may make.
 ghost use Rattle.std.specs.Prelude.{◌≡◌, []};
 
+use crate::calls;
 use crate::sample::{Bench, Chair, End, Handle, Job};
 use mx_journal::{Claim, GiveBackReply};
 use mx_multi::{HandleList, Progress};
@@ -39,136 +40,14 @@ pub struct Held {
     pub ghost origin: { claim.origin ≡ [] },
 }
 
-fn add<R: Wait>(rt: &R, multi: &Handle, seat: &mut Chair, handle: HandleId) -> Option<Reply>
-    requires { seat.old.of ≡ multi.now }
-    ensures { seat.new.of ≡ multi.now }
-{
-    match multi.add(rt, seat, handle, Job) {
-        Ok(reply) => Some(reply.reply()),
-        Err(_) => None,
-    }
-}
-
-fn remove<R: Wait>(rt: &R, multi: &Handle, seat: &mut Chair, handle: HandleId) -> Option<Reply>
-    requires { seat.old.of ≡ multi.now }
-    ensures { seat.new.of ≡ multi.now }
-{
-    match multi.remove(rt, seat, handle) {
-        Ok(reply) => Some(reply.reply()),
-        Err(_) => None,
-    }
-}
-
-fn pause<R: Wait>(rt: &R, multi: &Handle, seat: &mut Chair, handle: HandleId) -> Option<Reply>
-    requires { seat.old.of ≡ multi.now }
-    ensures { seat.new.of ≡ multi.now }
-{
-    match multi.pause(rt, seat, handle) {
-        Ok(reply) => Some(reply.reply()),
-        Err(_) => None,
-    }
-}
-
-fn unpause<R: Wait>(rt: &R, multi: &Handle, seat: &mut Chair, handle: HandleId) -> Option<Reply>
-    requires { seat.old.of ≡ multi.now }
-    ensures { seat.new.of ≡ multi.now }
-{
-    match multi.unpause(rt, seat, handle) {
-        Ok(reply) => Some(reply.reply()),
-        Err(_) => None,
-    }
-}
-
-fn info_read<R: Wait>(rt: &R, multi: &Handle, seat: &mut Chair) -> Option<Reply>
-    requires { seat.old.of ≡ multi.now }
-    ensures { seat.new.of ≡ multi.now }
-{
-    match multi.info_read(rt, seat) {
-        Ok(reply) => Some(reply.reply()),
-        Err(_) => None,
-    }
-}
-
-fn wakeup<R: Wait>(rt: &R, multi: &Handle, seat: &mut Chair) -> Option<Reply>
-    requires { seat.old.of ≡ multi.now }
-    ensures { seat.new.of ≡ multi.now }
-{
-    match multi.wakeup(rt, seat) {
-        Ok(reply) => Some(reply.reply()),
-        Err(_) => None,
-    }
-}
-
-fn poll<R: Wait>(rt: &R, multi: &Handle, seat: &mut Chair) -> Option<Reply>
-    requires { seat.old.of ≡ multi.now }
-    ensures { seat.new.of ≡ multi.now }
-{
-    match multi.poll(rt, seat) {
-        Ok(()) => Some(Reply::Woken),
-        Err(_) => None,
-    }
-}
-
-fn handles(multi: &Handle, seat: &mut Chair) -> Option<HandleList>
-    requires { seat.old.of ≡ multi.now }
-    ensures { seat.new.of ≡ multi.now }
-{
-    let Some(list) = multi.handles(seat) else {
-        return None;
-    };
-    Some(list)
-}
-
-fn running(multi: &Handle, seat: &mut Chair) -> Option<Reply>
-    requires { seat.old.of ≡ multi.now }
-    ensures { seat.new.of ≡ multi.now }
-{
-    let Some(count) = multi.running(seat) else {
-        return None;
-    };
-    Some(Reply::Running(count))
-}
-
-fn state(multi: &Handle, seat: &mut Chair, handle: HandleId) -> Option<Reply>
-    requires { seat.old.of ≡ multi.now }
-    ensures { seat.new.of ≡ multi.now }
-{
-    let Some(state) = multi.state(seat, handle) else {
-        return None;
-    };
-    Some(Reply::State(state))
-}
-
-// Makes a call that reads a published version.
-fn read(multi: &Handle, seat: &mut Chair, call: Call) -> Option<Reply>
-    requires { seat.old.of ≡ multi.now }
-    ensures { seat.new.of ≡ multi.now }
-{
-    match call {
-        Call::Handles => match handles(multi, seat) {
-            Some(list) => Some(Reply::Handles(list.list)),
-            None => None,
-        },
-        Call::Running => running(multi, seat),
-        Call::State(handle) => state(multi, seat, handle),
-        _ => None,
-    }
-}
-
 // Makes a call.
 fn make<R: Wait>(rt: &R, multi: &Handle, seat: &mut Chair, call: Call) -> Option<Reply>
     requires { seat.old.of ≡ multi.now }
     ensures { seat.new.of ≡ multi.now }
 {
     match call {
-        Call::Add(handle) => add(rt, multi, seat, handle),
-        Call::Remove(handle) => remove(rt, multi, seat, handle),
-        Call::Pause(handle) => pause(rt, multi, seat, handle),
-        Call::Unpause(handle) => unpause(rt, multi, seat, handle),
-        Call::InfoRead => info_read(rt, multi, seat),
-        Call::Wakeup => wakeup(rt, multi, seat),
-        Call::Poll => poll(rt, multi, seat),
-        _ => read(multi, seat, call),
+        Call::Add(handle) => calls::add(rt, multi, seat, handle, Job),
+        _ => calls::make(rt, multi, seat, call),
     }
 }
 
@@ -185,20 +64,17 @@ impl<'a> Client<'a> {
 
     /// Makes a call that reads what is published, and waits for nothing; None where it was answered None, or where it is another.
     pub fn read(&mut self, call: Call) -> Option<Reply> {
-        read(self.multi, &mut self.seat, call)
+        calls::read(self.multi, &mut self.seat, call)
     }
 
     /// The handles with their cut.
     pub fn list(&mut self) -> Option<HandleList> {
-        handles(self.multi, &mut self.seat)
+        calls::handles(self.multi, &mut self.seat)
     }
 
     /// How far a handle's transfer is.
     pub fn progress(&mut self, handle: HandleId) -> Option<Progress> {
-        let Some(progress) = self.multi.progress(&mut self.seat, handle) else {
-            return None;
-        };
-        Some(progress)
+        calls::progress(self.multi, &mut self.seat, handle)
     }
 }
 

@@ -44,11 +44,11 @@ fn take_desk<'a>(seats: &mut Seats<'a>, benches: &mut Benches<'a>) -> Option<Des
 fn play_at<'a, R: Threads + Wait + Sync, S: Scene>(
     rt: &R,
     alloc: Global,
-    mut seats: Seats<'a>,
-    mut benches: Benches<'a>,
+    seats: &mut Seats<'a>,
+    benches: &mut Benches<'a>,
     scene: &S,
 ) -> Option<S::Told> {
-    let mut desk = take_desk(&mut seats, &mut benches)?;
+    let mut desk = take_desk(seats, benches)?;
     Some(scene.play(rt, alloc, &mut desk))
 }
 
@@ -64,16 +64,13 @@ pub fn at_desk<R: Threads + Wait + Sync, S: Scene>(
         seats,
         workers,
     } = open_within(rt, alloc, limits)?;
-    let seats = Seats {
+    let mut seats = Seats {
         multi: &multi,
         left: seats,
     };
-    let benches = Benches {
+    let mut benches = Benches {
         multi: &multi,
         left: workers,
     };
-    match play_at(rt, alloc, seats, benches, scene) {
-        Some(told) => Ok(told),
-        None => Err(OutOfMemory),
-    }
+    play_at(rt, alloc, &mut seats, &mut benches, scene).ok_or(OutOfMemory)
 }

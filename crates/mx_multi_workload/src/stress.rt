@@ -49,8 +49,8 @@ fn next_places<'a>(alloc: Global, seats: &mut Seats<'a>) -> Result<Vec<Place<'a>
 fn parties<'a>(
     alloc: Global,
     seed: u64,
-    mut seats: Seats<'a>,
-    mut benches: Benches<'a>,
+    seats: &mut Seats<'a>,
+    benches: &mut Benches<'a>,
 ) -> Result<Vec<Party<'a>>, OutOfMemory> {
     let mut parties = Vec::new(alloc);
     for _ in 0..benches.left.len() {
@@ -60,7 +60,7 @@ fn parties<'a>(
         let number = (benches.left.len() % 16) as u8;
         parties.push(Party {
             alloc,
-            places: next_places(alloc, &mut seats)?,
+            places: next_places(alloc, seats)?,
             worker,
             who: Who::Worker(number),
             calls: 0,
@@ -73,17 +73,26 @@ fn parties<'a>(
     Ok(parties)
 }
 
+// Why the first party that stopped did, if one did.
+fn first_stop(parties: &[Party]) -> Option<Stop> {
+    for party in parties {
+        if party.stop.is_some() {
+            return party.stop;
+        }
+    }
+    None
+}
+
 // All that was answered; None where a call wasn't.
-fn all_entries(alloc: Global, parties: Vec<Party>) -> Result<Option<Vec<Entry>>, OutOfMemory> {
+fn all_entries(alloc: Global, parties: &mut [Party]) -> Result<Option<Vec<Entry>>, OutOfMemory> {
+    match first_stop(parties) {
+        Some(Stop::Memory) => return Err(OutOfMemory),
+        Some(Stop::NoAnswer) => return Ok(None),
+        None => {}
+    }
     let mut all = Vec::new(alloc);
     for party in parties {
-        match party.stop {
-            Some(Stop::Memory) => return Err(OutOfMemory),
-            Some(Stop::NoAnswer) => return Ok(None),
-            None => {}
-        }
-        let mut entries = party.entries;
-        all.append(&mut entries)?;
+        all.append(&mut party.entries)?;
     }
     Ok(Some(all))
 }
@@ -101,17 +110,17 @@ pub fn storm<R: Threads + Wait + Sync>(
         seats,
         workers,
     } = open_within(rt, alloc, LIMITS)?;
-    let seats = Seats {
+    let mut seats = Seats {
         multi: &multi,
         left: seats,
     };
-    let benches = Benches {
+    let mut benches = Benches {
         multi: &multi,
         left: workers,
     };
-    let mut parties = parties(alloc, seed, seats, benches)?;
+    let mut parties = parties(alloc, seed, &mut seats, &mut benches)?;
     run_parties(rt, parties.as_mut_slice(), turns);
-    all_entries(alloc, parties)
+    all_entries(alloc, parties.as_mut_slice())
 }
 
 // Each party makes its turns, in a thread of its own.

@@ -57,6 +57,31 @@ impl fmt::Display for Standing {
     }
 }
 
+// The word of an answer that says nothing more; of any other, no text.
+fn word_of(reply: &Reply) -> &'static str {
+    match reply {
+        Reply::AddedAlready => "added-already",
+        Reply::TableFull => "table-full",
+        Reply::HistoryFull => "history-full",
+        Reply::Removed => "removed",
+        Reply::RemoveNotAdded | Reply::NotAdded => "not-added",
+        Reply::Changed => "changed",
+        Reply::NotRunning => "not-running",
+        Reply::NoChange => "no-change",
+        Reply::Empty => "empty",
+        Reply::Ok => "ok",
+        Reply::Failure => "failure",
+        Reply::Woken => "woken",
+        Reply::Recorded => "recorded",
+        Reply::Stale => "stale",
+        Reply::Look(Look::Go) => "go",
+        Reply::Look(Look::Paused) => "paused",
+        Reply::Look(Look::Gone) => "gone",
+        Reply::OutOfMemory => "out-of-memory",
+        _ => "",
+    }
+}
+
 /// What a call answers.
 #[derive(Drop)]
 pub struct Said<'a>(pub &'a Reply);
@@ -65,14 +90,6 @@ impl fmt::Display for Said<'_> {
     fn fmt<W: fmt::Write>(&self, f: &mut fmt::Formatter<W>) -> fmt::Result {
         match self.0 {
             Reply::Added(ticket) => write!(f, "added {}", ticket.0),
-            Reply::AddedAlready => write!(f, "added-already"),
-            Reply::TableFull => write!(f, "table-full"),
-            Reply::HistoryFull => write!(f, "history-full"),
-            Reply::Removed => write!(f, "removed"),
-            Reply::RemoveNotAdded | Reply::NotAdded => write!(f, "not-added"),
-            Reply::Changed => write!(f, "changed"),
-            Reply::NotRunning => write!(f, "not-running"),
-            Reply::NoChange => write!(f, "no-change"),
             Reply::Message {
                 handle,
                 ticket,
@@ -88,12 +105,8 @@ impl fmt::Display for Said<'_> {
                 size,
                 left
             ),
-            Reply::Empty => write!(f, "empty"),
-            Reply::Ok => write!(f, "ok"),
-            Reply::Failure => write!(f, "failure"),
-            Reply::Woken => write!(f, "woken"),
             Reply::Handles(handles) => {
-                write!(f, "handles")?;
+                f.write_str("handles")?;
                 for handle in handles.as_slice() {
                     write!(f, " {}", handle.0)?;
                 }
@@ -101,12 +114,7 @@ impl fmt::Display for Said<'_> {
             }
             Reply::Running(count) => write!(f, "running {}", count),
             Reply::State(state) => write!(f, "{}", Standing(*state)),
-            Reply::Recorded => write!(f, "recorded"),
-            Reply::Stale => write!(f, "stale"),
-            Reply::Look(Look::Go) => write!(f, "go"),
-            Reply::Look(Look::Paused) => write!(f, "paused"),
-            Reply::Look(Look::Gone) => write!(f, "gone"),
-            Reply::OutOfMemory => write!(f, "out-of-memory"),
+            other => f.write_str(word_of(other)),
         }
     }
 }
