@@ -8,7 +8,7 @@ use mx_exchange::Outcome;
 use mx_gate::Gate;
 use mx_link::Link;
 use mx_multi::{Multi, Seat, WorkerSeat};
-use mx_types::OutOfMemory;
+use mx_types::{Ending, OutOfMemory, Work};
 use mx_worker::{Queued, run_crew};
 use std::alloc::{AllocError, AllocGlobal, Global};
 use std::random::RandomSource;
@@ -131,12 +131,12 @@ fn run_beside<
 }
 
 // A worker's seat with each gate, as far as there are seats.
-fn crew_of<L: Link, G: Gate<Link = L> + Drop>(
+fn crew_of<Q: Work + Drop, O: Ending + Drop, G: Drop>(
     alloc: Global,
-    multi: &Multi<Queued<L>, Outcome>,
-    workers: Vec<WorkerSeat<Queued<L>, Outcome>>,
+    multi: &Multi<Q, O>,
+    workers: Vec<WorkerSeat<Q, O>>,
     gates: Vec<G>,
-) -> Result<Vec<(WorkerSeat<Queued<L>, Outcome>, G)>, AllocError>
+) -> Result<Vec<(WorkerSeat<Q, O>, G)>, AllocError>
     requires { All (λ s. s.of ≡ multi.now) workers.items }
     ensures { IfOk result (λ crew. All (λ m. m.0.of ≡ multi.now) crew.items) }
 {

@@ -1,15 +1,16 @@
 //! A multi handle with one seat and two workers' seats, and what tests ask of them.
 ghost use Rattle.std.specs.Prelude.{◌≡◌, All, IfOk};
 
-use crate::calls::Ran;
 use crate::messages::{Answer, Message};
-use crate::{calls, messages};
+use crate::runs::Ran;
+use crate::{messages, runs};
 use mx_exchange::Outcome;
 use mx_gate::Gate;
 use mx_link::{Link, ScriptLink};
 use mx_multi::{Limits, Multi, Progress, Seat, WorkerSeat};
+use mx_multi_workload::calls;
 use mx_multi_workload::entries::text_of;
-use mx_types::{Call, Code, HandleId, OutOfMemory, Reply};
+use mx_types::{Call, Code, Ending, HandleId, OutOfMemory, Reply, Work};
 use mx_worker::Queued;
 use std::alloc::{AllocGlobal, Global};
 use std::marker::Model;
@@ -38,16 +39,20 @@ impl<L: Link> Model for Desk<L> {
 /// A desk over scripted links.
 pub type ScriptDesk = Desk<ScriptLink>;
 
-/// A multi handle's parts.
+/// A multi handle's parts, of any work.
 #[derive(Drop)]
-pub struct Parts<L: Link> {
-    pub multi: Multi<Queued<L>, Outcome>,
-    pub seat: Seat<Queued<L>, Outcome>,
-    pub workers: Vec<WorkerSeat<Queued<L>, Outcome>>,
+pub struct Parts<Q: Work + Drop, O: Ending + Drop> {
+    pub multi: Multi<Q, O>,
+    pub seat: Seat<Q, O>,
+    pub workers: Vec<WorkerSeat<Q, O>>,
 }
 
 // Opens a multi handle with one seat.
-fn open<L: Link, R: Wait>(rt: &R, alloc: Global, limits: Limits) -> Result<Parts<L>, OutOfMemory>
+fn open<Q: Work + Drop, O: Ending + Drop, R: Wait>(
+    rt: &R,
+    alloc: Global,
+    limits: Limits,
+) -> Result<Parts<Q, O>, OutOfMemory>
     ensures seat { IfOk result (λ o. o.seat.of ≡ o.multi) }
     ensures workers { IfOk result (λ o. All (λ s. s.of ≡ o.multi) o.workers.items) }
 {
@@ -104,7 +109,7 @@ impl<L: Link> Desk<L> {
     pub fn close(self) {}
 
     /// The multi handle, the seat and the workers' seats.
-    pub fn into_parts(self) -> Parts<L>
+    pub fn into_parts(self) -> Parts<Queued<L>, Outcome>
         ensures seat { result.seat.of ≡ result.multi }
         ensures workers { All (λ s. s.of ≡ result.multi) result.workers.items }
     {
@@ -129,7 +134,7 @@ impl<L: Link> Desk<L> {
         url: &str,
         timeout_ms: u32,
     ) -> Result<(), Fail> {
-        let request = calls::request_of(alloc, url, timeout_ms)?;
+        let request = runs::request_of(alloc, url, timeout_ms)?;
         let work = Queued::new(alloc, request);
         match calls::add(rt, &self.multi, &mut self.seat, HandleId(handle), work) {
             Some(Reply::Added(_)) => Ok(()),
@@ -165,7 +170,7 @@ impl<L: Link> Desk<L> {
 
     // The first message, which there is to be.
     fn read<R: Wait>(&mut self, rt: &R) -> Result<Message, Fail> {
-        let read = calls::read(rt, &self.multi, &mut self.seat)?;
+        let read = messages::read(rt, &self.multi, &mut self.seat)?;
         Ok(read.ok_or("no message")?)
     }
 
@@ -197,7 +202,7 @@ impl<L: Link> Desk<L> {
 
     /// Looks for a message, which there is not to be.
     pub fn expect_none<R: Wait>(&mut self, rt: &R) -> Result<(), Fail> {
-        match calls::read(rt, &self.multi, &mut self.seat)? {
+        match messages::read(rt, &self.multi, &mut self.seat)? {
             Some(_) => Err("a message".into()),
             None => Ok(()),
         }
@@ -218,7 +223,7 @@ impl<L: Link> Desk<L> {
         let Some(seat) = self.workers.pop() else {
             return Err(OutOfMemory);
         };
-        calls::work(rt, &self.multi, seat, gate).ok_or(OutOfMemory)
+        runs::work(rt, &self.multi, seat, gate).ok_or(OutOfMemory)
     }
 
     /// Runs a worker over the gate, which is to record so many ends and to give back so many transfers.

@@ -4,8 +4,6 @@
 #[cfg(test)]
 mod beside;
 #[cfg(test)]
-mod calls;
-#[cfg(test)]
 mod desk;
 #[cfg(test)]
 mod ends;
@@ -19,6 +17,8 @@ mod messages;
 mod paused;
 #[cfg(test)]
 mod reader;
+#[cfg(test)]
+mod runs;
 #[cfg(test)]
 mod sockets;
 #[cfg(test)]

@@ -1,8 +1,13 @@
 //! Done messages, and what they are to say.
+ghost use Rattle.std.specs.Prelude.{◌≡◌};
 
 use mx_exchange::Outcome;
 use mx_journal::InfoReply;
+use mx_link::Link;
+use mx_multi::{Multi, Seat};
 use mx_types::{Code, HandleId, OutOfMemory, Ticket};
+use mx_worker::Queued;
+use std::sync::Wait;
 use std::test::Fail;
 
 /// What a done message says.
@@ -13,8 +18,8 @@ pub struct Message {
     pub outcome: Outcome,
 }
 
-/// The message that was read; None where there was none.
-pub fn message_of(reply: InfoReply<Outcome>) -> Result<Option<Message>, OutOfMemory> {
+// The message that was read; None where there was none.
+fn message_of(reply: InfoReply<Outcome>) -> Result<Option<Message>, OutOfMemory> {
     match reply {
         InfoReply::Message {
             handle,
@@ -28,6 +33,21 @@ pub fn message_of(reply: InfoReply<Outcome>) -> Result<Option<Message>, OutOfMem
         })),
         InfoReply::Empty => Ok(None),
         InfoReply::OutOfMemory => Err(OutOfMemory),
+    }
+}
+
+/// Reads the first message; None where there is none, and where the answer is `WrongSeat`.
+pub fn read<L: Link, R: Wait>(
+    rt: &R,
+    multi: &Multi<Queued<L>, Outcome>,
+    seat: &mut Seat<Queued<L>, Outcome>,
+) -> Result<Option<Message>, OutOfMemory>
+    requires { seat.old.of ≡ multi.now }
+    ensures { seat.new.of ≡ multi.now }
+{
+    match multi.info_read(rt, seat) {
+        Ok(reply) => message_of(reply),
+        Err(_) => Ok(None),
     }
 }
 

@@ -1,11 +1,12 @@
 //! A seat beside its multi handle, for a thread of its own.
 ghost use Rattle.std.specs.Prelude.{◌≡◌};
 
-use crate::calls;
 use crate::messages::Message;
+use crate::{messages, runs};
 use mx_exchange::Outcome;
 use mx_link::Link;
 use mx_multi::{Multi, Seat};
+use mx_multi_workload::calls;
 use mx_types::HandleId;
 use mx_worker::Queued;
 use std::alloc::AllocGlobal;
@@ -34,7 +35,7 @@ impl<'m, L: Link> Reader<'m, L> {
 
     /// Adds a GET of the URL, which has five seconds, where there is memory for its request.
     pub fn add<R: Wait + AllocGlobal>(&mut self, rt: &R, handle: u32, url: &str) {
-        let Ok(request) = calls::request_of(rt.alloc(), url, 5000) else {
+        let Ok(request) = runs::request_of(rt.alloc(), url, 5000) else {
             return;
         };
         let work = Queued::new(rt.alloc(), request);
@@ -43,7 +44,7 @@ impl<'m, L: Link> Reader<'m, L> {
 
     // The first message, if there is one.
     fn read<R: Wait>(&mut self, rt: &R) -> Option<Message> {
-        calls::read(rt, self.multi, &mut self.seat).unwrap_or(None)
+        messages::read(rt, self.multi, &mut self.seat).unwrap_or(None)
     }
 
     /// The first message, once it is there; None where it doesn't come.

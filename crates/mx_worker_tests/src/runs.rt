@@ -1,0 +1,52 @@
+//! Requests, and a worker's run.
+ghost use Rattle.std.specs.Prelude.{◌≡◌};
+
+use mx_exchange::Outcome;
+use mx_gate::Gate;
+use mx_link::Link;
+use mx_multi::{Multi, WorkerSeat};
+use mx_request::{Request, RequestError};
+use mx_types::{Method, Settings};
+use mx_worker::{Queued, run_worker};
+use std::alloc::{AllocGlobal, Global};
+use std::random::RandomSource;
+use std::sync::Wait;
+
+/// A GET of the URL.
+pub fn request_of(alloc: Global, url: &str, timeout_ms: u32) -> Result<Request, RequestError> {
+    let mut settings = Settings::new(alloc);
+    settings.timeout_ms = timeout_ms;
+    Request::build(alloc, Method::Get, url, settings)
+}
+
+/// What a worker ended with.
+#[derive(Drop)]
+pub struct Ran {
+    pub recorded: u32,
+    pub stale: u32,
+    pub given_back: u32,
+}
+
+/// Runs a worker, once more where memory for its start was refused; None where it was refused again.
+pub fn work<L: Link, R: Wait + RandomSource + AllocGlobal, G: Gate<Link = L>>(
+    rt: &R,
+    multi: &Multi<Queued<L>, Outcome>,
+    seat: WorkerSeat<Queued<L>, Outcome>,
+    gate: &mut G,
+) -> Option<Ran>
+    requires { seat.of ≡ multi.now }
+{
+    let mut seat = seat;
+    for _ in 0..2 {
+        let end = run_worker(rt, multi, seat, gate);
+        if !end.refused {
+            return Some(Ran {
+                recorded: end.recorded,
+                stale: end.stale,
+                given_back: end.given_back,
+            });
+        }
+        seat = end.seat;
+    }
+    None
+}
