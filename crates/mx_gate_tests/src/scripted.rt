@@ -1,8 +1,36 @@
 use crate::outside::endpoint;
 use mx_gate::{Gate, ScriptGate, Turn};
 use mx_link::{Link, ScriptLink};
+use mx_request::Endpoint;
 use mx_types::Code;
+use std::process::Abort;
 use std::test::Fail;
+
+// Opens a link and is refused twice, as the script says, and once more behind its end.
+fn open_all<R: Abort, L: Link>(
+    rt: &R,
+    gate: &mut ScriptGate<L>,
+    any: &Endpoint,
+) -> Result<(), Fail> {
+    let planned = gate.openings_left();
+    let opened = gate.open(any).map(|link| link.token());
+    let refused = [
+        gate.open(any).err(),
+        gate.open(any).err(),
+        gate.open(any).err(),
+    ];
+    assert_eq!(rt; opened, Ok(0));
+    assert_eq!(rt;
+        refused,
+        [
+            Some(Code::CouldntResolveHost),
+            Some(Code::OutOfMemory),
+            Some(Code::CouldntConnect)
+        ]
+    );
+    assert_eq!(rt; (planned, gate.openings_left()), (3, 0));
+    Ok(())
+}
 
 #[test]
 fn a_script_is_answered_in_order(rt: HostRuntime) -> Result<(), Fail> {
@@ -11,12 +39,13 @@ fn a_script_is_answered_in_order(rt: HostRuntime) -> Result<(), Fail> {
     gate.plan_opening(Ok(ScriptLink::new(rt.alloc(), &[], &[])?))?;
     gate.plan_opening(Err(Code::CouldntResolveHost))?;
     gate.plan_opening(Err(Code::OutOfMemory))?;
-    assert_eq!(rt; gate.openings_left(), 3);
-    assert_eq!(rt; gate.open(&any).map(|link| link.token()), Ok(0));
-    assert_eq!(rt; gate.open(&any).err(), Some(Code::CouldntResolveHost));
-    assert_eq!(rt; gate.open(&any).err(), Some(Code::OutOfMemory));
-    assert_eq!(rt; gate.open(&any).err(), Some(Code::CouldntConnect));
-    assert_eq!(rt; gate.openings_left(), 0);
+    open_all(&rt, &mut gate, &any)
+}
+
+// Tells 5, 5 where the script falls to 3, 9, and 9 again behind its end.
+fn tell_moments<R: Abort, G: Gate>(rt: &R, gate: &mut G) -> Result<(), Fail> {
+    let moments = [gate.now(), gate.now(), gate.now(), gate.now()];
+    assert_eq!(rt; moments, [5, 5, 9, 9]);
     Ok(())
 }
 
@@ -26,20 +55,24 @@ fn moments_never_fall(rt: HostRuntime) -> Result<(), Fail> {
     gate.plan_moment(5)?;
     gate.plan_moment(3)?;
     gate.plan_moment(9)?;
-    assert_eq!(rt; gate.now(), 5);
-    assert_eq!(rt; gate.now(), 5);
-    assert_eq!(rt; gate.now(), 9);
-    assert_eq!(rt; gate.now(), 9);
-    Ok(())
+    tell_moments(&rt, &mut gate)
+}
+
+// Takes the two turns of the script, and two behind its end.
+fn take_turns<R: Abort, L: Link>(rt: &R, gate: &mut ScriptGate<L>) {
+    let before = gate.last_wait();
+    let planned = [gate.turn(20), gate.turn(7)];
+    let waited = gate.last_wait();
+    let behind = [gate.turn(0), gate.turn(0)];
+    assert_eq!(rt; (before, waited), (None, Some(7)));
+    assert_eq!(rt;
+        (planned, behind),
+        ([Turn::Continue, Turn::Continue], [Turn::Stop, Turn::Stop])
+    );
 }
 
 #[test]
 fn turns_stop_after_the_script(rt: HostRuntime) {
     let mut gate: ScriptGate<ScriptLink> = ScriptGate::new(rt.alloc(), 2);
-    assert_eq!(rt; gate.last_wait(), None);
-    assert_eq!(rt; gate.turn(20), Turn::Continue);
-    assert_eq!(rt; gate.turn(7), Turn::Continue);
-    assert_eq!(rt; gate.last_wait(), Some(7));
-    assert_eq!(rt; gate.turn(0), Turn::Stop);
-    assert_eq!(rt; gate.turn(0), Turn::Stop);
+    take_turns(&rt, &mut gate);
 }

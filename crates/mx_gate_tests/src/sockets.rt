@@ -5,8 +5,10 @@ use mx_request::Endpoint;
 use mx_types::{Code, OutOfMemory};
 use std::io::{Read as _, Write as _};
 use std::net::TcpListener;
-use std::sync::Arc;
+use std::process::Abort;
+use std::rt::Clock;
 use std::sync::atomic::{AtomicBool, Ordering};
+use std::sync::{Arc, Wait};
 use std::test::Fail;
 use std::thread;
 use std::time::{Duration, Instant};
@@ -68,6 +70,19 @@ fn link<G: Gate>(gate: &mut G, there: &Endpoint) -> Result<G::Link, Fail> {
     }
 }
 
+// Writes four bytes to a peer that sends them back, reads them and sees the end. It owns neither gate nor link, so that an assertion that
+// fails lets neither go.
+fn send_and_read<R: Abort, G: Gate>(rt: &R, gate: &mut G, link: &mut G::Link) -> Result<(), Fail> {
+    let connected = connect(gate, link);
+    let written = link.try_write(b"ping");
+    let came = read(gate, link);
+    let (last, _) = read(gate, link);
+    assert_eq!(rt; (connected, written), (Connect::Done, Write::Bytes(4)));
+    assert_eq!(rt; (came, last), ((Read::Bytes(4), *b"ping----"), Read::End));
+    assert_eq!(rt; (link.token(), link.failures()), (1, 0));
+    Ok(())
+}
+
 #[test]
 fn a_link_writes_and_reads_and_sees_the_end(rt: HostRuntime) -> Result<(), Fail> {
     let listener = TcpListener::bind(&rt, "127.0.0.1:0")?;
@@ -76,12 +91,7 @@ fn a_link_writes_and_reads_and_sees_the_end(rt: HostRuntime) -> Result<(), Fail>
     let mut gate = gate(&rt)?;
     let there = endpoint(rt.alloc(), "127.0.0.1", port)?;
     let mut link = link(&mut gate, &there)?;
-    assert_eq!(rt; link.token(), 1);
-    assert_eq!(rt; connect(&mut gate, &mut link), Connect::Done);
-    assert_eq!(rt; link.try_write(b"ping"), Write::Bytes(4));
-    assert_eq!(rt; read(&mut gate, &mut link), (Read::Bytes(4), *b"ping----"));
-    assert_eq!(rt; read(&mut gate, &mut link).0, Read::End);
-    assert_eq!(rt; link.failures(), 0);
+    send_and_read(&rt, &mut gate, &mut link)?;
     assert!(rt; server.join(&rt));
     Ok(())
 }
@@ -103,6 +113,40 @@ fn send_late(listener: &TcpListener, go: &AtomicBool, sent: &AtomicBool, rt: Hos
     is_sent
 }
 
+// Tells the peer to send, and waits until it says that it has.
+fn have_sent<R: Clock + Wait>(rt: &R, go: &AtomicBool, sent: &AtomicBool) {
+    go.store(true, Ordering::SeqCst);
+    for _ in 0..TURNS {
+        if sent.load(Ordering::SeqCst) {
+            return;
+        }
+        thread::sleep(rt, Duration::from_millis(1));
+    }
+}
+
+// Finds nothing to read, then no more before a turn though bytes came, and then those.
+fn read_after_a_turn<R: Abort + Clock + Wait, G: Gate>(
+    rt: &R,
+    gate: &mut G,
+    link: &mut G::Link,
+    go: &AtomicBool,
+    sent: &AtomicBool,
+) -> Result<(), Fail> {
+    let connected = connect(gate, link);
+    gate.turn(0);
+    let mut buffer = [0; 8];
+    let early = link.try_read(&mut buffer);
+    have_sent(rt, go, sent);
+    let untold = link.try_read(&mut buffer);
+    let told = read(gate, link);
+    assert_eq!(rt;
+        (connected, early, untold),
+        (Connect::Done, Read::WouldBlock, Read::WouldBlock)
+    );
+    assert_eq!(rt; told, (Read::Bytes(2), *b"ab------"));
+    Ok(())
+}
+
 // Bytes that came are not read before a turn has told of them: the link isn't asked.
 #[test]
 fn a_link_that_waits_is_not_asked_before_a_turn(rt: HostRuntime) -> Result<(), Fail> {
@@ -117,19 +161,7 @@ fn a_link_that_waits_is_not_asked_before_a_turn(rt: HostRuntime) -> Result<(), F
     )?;
     let mut gate = gate(&rt)?;
     let mut link = link(&mut gate, &there)?;
-    assert_eq!(rt; connect(&mut gate, &mut link), Connect::Done);
-    gate.turn(0);
-    let mut buffer = [0; 8];
-    assert_eq!(rt; link.try_read(&mut buffer), Read::WouldBlock);
-    go.store(true, Ordering::SeqCst);
-    for _ in 0..TURNS {
-        if sent.load(Ordering::SeqCst) {
-            break;
-        }
-        thread::sleep(&rt, Duration::from_millis(1));
-    }
-    assert_eq!(rt; link.try_read(&mut buffer), Read::WouldBlock);
-    assert_eq!(rt; read(&mut gate, &mut link), (Read::Bytes(2), *b"ab------"));
+    read_after_a_turn(&rt, &mut gate, &mut link, &go, &sent)?;
     assert!(rt; server.join(&rt));
     Ok(())
 }
@@ -222,18 +254,43 @@ fn a_wait_takes_its_time(rt: HostRuntime) -> Result<(), Fail> {
     Ok(())
 }
 
+// Takes turns while the flag is clear, set, and clear again.
+fn turn_by_the_flag<R: Abort, G: Gate>(
+    rt: &R,
+    gate: &mut G,
+    stop: &AtomicBool,
+) -> Result<(), Fail> {
+    let clear = gate.turn(0);
+    stop.store(true, Ordering::SeqCst);
+    let set = [gate.turn(0), gate.turn(0)];
+    stop.store(false, Ordering::SeqCst);
+    let again = gate.turn(0);
+    assert_eq!(rt;
+        (clear, set, again),
+        (Turn::Continue, [Turn::Stop, Turn::Stop], Turn::Continue)
+    );
+    Ok(())
+}
+
 #[test]
 fn the_flag_stops_turns_while_it_is_set(rt: HostRuntime) -> Result<(), Fail> {
     let stop = flag(&rt)?;
     let Ok(mut gate) = SocketGate::new(&rt, Arc::try_clone(&stop)?) else {
         return Err(Fail::from(OutOfMemory));
     };
-    assert_eq!(rt; gate.turn(0), Turn::Continue);
-    stop.store(true, Ordering::SeqCst);
-    assert_eq!(rt; gate.turn(0), Turn::Stop);
-    assert_eq!(rt; gate.turn(0), Turn::Stop);
-    stop.store(false, Ordering::SeqCst);
-    assert_eq!(rt; gate.turn(0), Turn::Continue);
+    turn_by_the_flag(&rt, &mut gate, &stop)
+}
+
+// Tells the same moments as another gate.
+fn tell_alike<R: Abort, G: Gate>(
+    rt: &R,
+    outside: &Outside,
+    one: &mut G,
+    two: &mut G,
+) -> Result<(), Fail> {
+    assert_eq!(rt; (one.now(), two.now()), (400, 400));
+    outside.milliseconds.store(2500, Ordering::SeqCst);
+    assert_eq!(rt; (one.now(), two.now()), (1500, 1500));
     Ok(())
 }
 
@@ -248,9 +305,25 @@ fn gates_with_one_start_tell_the_same_moments(rt: HostRuntime) -> Result<(), Fai
     let Ok(mut two) = SocketGate::starting_at(&outside, flag(&rt)?, one.start()) else {
         return Err(Fail::from(OutOfMemory));
     };
-    assert_eq!(rt; (one.now(), two.now()), (400, 400));
-    outside.milliseconds.store(2500, Ordering::SeqCst);
-    assert_eq!(rt; (one.now(), two.now()), (1500, 1500));
+    tell_alike(&rt, &outside, &mut one, &mut two)
+}
+
+// Tells moments of a clock that goes on, falls, fails and goes on.
+fn tell_moments<R: Abort, G: Gate>(rt: &R, outside: &Outside, gate: &mut G) -> Result<(), Fail> {
+    let begun = gate.now();
+    outside.milliseconds.store(1500, Ordering::SeqCst);
+    let later = gate.now();
+    outside.milliseconds.store(1200, Ordering::SeqCst);
+    let fallen = gate.now();
+    outside.milliseconds.store(2000, Ordering::SeqCst);
+    outside.is_clock_broken.store(true, Ordering::SeqCst);
+    let broken = gate.now();
+    outside.is_clock_broken.store(false, Ordering::SeqCst);
+    let mended = gate.now();
+    assert_eq!(rt;
+        [begun, later, fallen, broken, mended],
+        [0, 500, 500, 500, 1000]
+    );
     Ok(())
 }
 
@@ -261,17 +334,7 @@ fn moments_stay_where_the_clock_fails_or_falls(rt: HostRuntime) -> Result<(), Fa
     let Ok(mut gate) = SocketGate::new(&outside, flag(&rt)?) else {
         return Err(Fail::from(OutOfMemory));
     };
-    assert_eq!(rt; gate.now(), 0);
-    outside.milliseconds.store(1500, Ordering::SeqCst);
-    assert_eq!(rt; gate.now(), 500);
-    outside.milliseconds.store(1200, Ordering::SeqCst);
-    assert_eq!(rt; gate.now(), 500);
-    outside.milliseconds.store(2000, Ordering::SeqCst);
-    outside.is_clock_broken.store(true, Ordering::SeqCst);
-    assert_eq!(rt; gate.now(), 500);
-    outside.is_clock_broken.store(false, Ordering::SeqCst);
-    assert_eq!(rt; gate.now(), 1000);
-    Ok(())
+    tell_moments(&rt, &outside, &mut gate)
 }
 
 #[test]
