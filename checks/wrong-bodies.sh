@@ -5,9 +5,10 @@ set -u
 
 usage() {
   cat <<'HELP'
-Use: checks/wrong-bodies.sh [-j N] [NAME..]   tries the edits of these crates, or of all crates that have some
-     checks/wrong-bodies.sh --stale           names the crates that have changed since they were tried; tries nothing
-     checks/wrong-bodies.sh --applies         names the edits, of the gate too, whose old text isn't there once; tries nothing
+Use: checks/wrong-bodies.sh [-j N] [NAME..]        tries the edits of these crates, or of all crates that have some
+     checks/wrong-bodies.sh [-j N] NAME/EDIT..     tries these edits alone, of crates that have nothing else new
+     checks/wrong-bodies.sh --stale                names the crates that have changed since they were tried; tries nothing
+     checks/wrong-bodies.sh --applies              names the edits, of the gate too, whose old text isn't there once
 
 Each crates/NAME/more-edits/*.edit turns the meaning of one line. It is tried as `rt must-fail` tries the edits of the
 gate, in a copy of the tree, N crates side by side (1 where no -j is given). An edit is
@@ -17,9 +18,10 @@ gate, in a copy of the tree, N crates side by side (1 where no -j is given). An 
   NO LONGER APPLIES   its old text isn't there once, or the edited text isn't read as code
 
 Either of the last two fails, with the edit named. Of a crate whose edits are all refused, the sum of src, specs, proofs
-and more-edits goes into the table of docs/GATE.md; --stale compares with it. Where a library below has changed, it is
-built first, in the tree itself, over the work kept in its out/. Then the crate is proved once, and each edit over that:
-reckon with one to five minutes a crate and some 25 seconds an edit.
+and more-edits goes into the table of docs/GATE.md; --stale compares with it. NAME/EDIT is for an edit that came since, as
+from the gate: without those named, the crate's sum has to be the one in the table. Where a library below has changed, it
+is built first, in the tree itself, over the work kept in its out/. Then the crate is proved once, and each edit over
+that: reckon with one to five minutes a crate and some 25 seconds an edit.
 
 Exit status: 0 every edit was refused (--stale: no crate has changed; --applies: all do); 1 some were not (some have; some
 don't); 2 it couldn't begin.
@@ -49,12 +51,18 @@ edits_of() {
   find "$1/crates/$2/more-edits" -type f ! -name '*.md' 2>/dev/null | LC_ALL=C sort
 }
 
-# the sum of a crate, in the tree or in a copy of it
+# the sum of a crate, in the tree or in a copy of it; of its edits, those named after it are left out
 sum_of() {
   (
     cd "$1/crates/$2" || exit
-    find src specs proofs more-edits -type f -print0 2>/dev/null | LC_ALL=C sort -z | xargs -0 sha256sum | sha256sum | cut -d ' ' -f 1
+    find src specs proofs more-edits -type f -print0 2>/dev/null | grep -zvxF -f <(printf 'more-edits/%s.edit\n' "${@:3}") |
+      LC_ALL=C sort -z | xargs -0 sha256sum | sha256sum | cut -d ' ' -f 1
   )
+}
+
+# the sum in the table
+told_of() {
+  rows | awk -v name="$1" '$2 == name { print $8 }'
 }
 
 rows() {
@@ -64,7 +72,7 @@ rows() {
 stale() {
   local name told is status=0
   for name in $listed; do
-    told=$(rows | awk -v name="$name" '$2 == name { print $8 }')
+    told=$(told_of "$name")
     is=
     [ -z "$(edits_of "$top" "$name")" ] || is=$(sum_of "$top" "$name")
     [ "$told" = "$is" ] || { echo "$name"; status=1; }
@@ -107,6 +115,7 @@ PYTHON
 }
 
 side_by_side=1 names=()
+declare -A alone=() # of a crate, the edits that are tried alone
 while [ $# -gt 0 ]; do
   case $1 in
     -h | --help) usage; exit 0 ;;
@@ -114,6 +123,7 @@ while [ $# -gt 0 ]; do
     --applies) [ $# -eq 1 ] || stop "--applies stands alone"; applies; exit ;;
     -j) side_by_side=${2-}; shift; [[ $side_by_side =~ ^[1-9][0-9]*$ ]] || stop "-j wants a number" ;;
     -*) usage >&2; exit 2 ;;
+    */*) alone[${1%%/*}]+=" ${1#*/}" ;;
     *) names+=("$1") ;;
   esac
   shift
@@ -122,6 +132,14 @@ grep -qF "$heading" "$page" || stop "docs/GATE.md has no table with the heading:
 for name in ${names[@]+"${names[@]}"}; do
   case " $(echo $listed) " in *" $name "*) ;; *) stop "crates.txt names no crate $name" ;; esac
   [ -n "$(edits_of "$top" "$name")" ] || stop "crates/$name/more-edits has no edit"
+  [ -z "${alone[$name]-}" ] || stop "$name is named as a whole, and by its edits"
+done
+for name in "${!alone[@]}"; do
+  for edit in ${alone[$name]}; do
+    [ -f "$top/crates/$name/more-edits/$edit.edit" ] || stop "crates/$name/more-edits has no $edit.edit"
+  done
+  [ "$(sum_of "$top" "$name" ${alone[$name]})" = "$(told_of "$name")" ] || stop "$name has changed otherwise, too: give its name alone"
+  names+=("$name")
 done
 if [ ${#names[@]} -eq 0 ]; then
   for name in $listed; do
@@ -166,21 +184,28 @@ tell_crate() {
       'BAD EDIT: '*) echo "$name/$edit: NO LONGER APPLIES: ${line#BAD EDIT: }"; bad=$((bad + 1)) ;;
       *) echo "$name/$edit: NOT TRIED: rt says nothing of it; the end of what it says:"; tail -n 5 "$log"; bad=$((bad + 1)) ;;
     esac
-  done < <(edits_of "$tree" "$name")
+  done < <(find "$tree/crates/$name/must-fail" -type f -name '*.edit' | LC_ALL=C sort)
   if [ "$bad" -eq 0 ] && [ "$(cat "$work/$name.status")" != 0 ]; then
     echo "$name: FAILED all the same; the end of what rt says:"
     tail -n 5 "$log"
     bad=1
   fi
   echo "$name: $count edits, $bad of them not refused"
-  [ "$bad" -eq 0 ] && echo "| $name | $count | $(date +%F) | $(sum_of "$tree" "$name") |" > "$work/$name.row"
+  [ "$bad" -eq 0 ] && echo "| $name | $(edits_of "$tree" "$name" | wc -l) | $(date +%F) | $(sum_of "$tree" "$name") |" > "$work/$name.row"
   [ "$bad" -eq 0 ]
 }
 
 # a crate's edits; what came of them is told as soon as all are tried
 try_crate() {
-  local name=$1
-  cp -a "$tree/crates/$name/more-edits" "$tree/crates/$name/must-fail"
+  local name=$1 edit
+  if [ -n "${alone[$name]-}" ]; then
+    mkdir "$tree/crates/$name/must-fail"
+    for edit in ${alone[$name]}; do
+      cp -a "$tree/crates/$name/more-edits/$edit.edit" "$tree/crates/$name/must-fail/"
+    done
+  else
+    cp -a "$tree/crates/$name/more-edits" "$tree/crates/$name/must-fail"
+  fi
   (cd "$tree" && rt must-fail "$name") > "$work/$name.log" 2>&1
   echo $? > "$work/$name.status"
   tell_crate "$name" > "$work/$name.told" && touch "$work/$name.refused"
@@ -191,7 +216,11 @@ for name in "${names[@]}"; do
   while [ "$(jobs -rp | wc -l)" -ge "$side_by_side" ]; do
     sleep 1
   done
-  echo "$name: trying $(edits_of "$tree" "$name" | wc -l) edits"
+  if [ -n "${alone[$name]-}" ]; then
+    echo "$name: trying$(printf ' %s' ${alone[$name]})"
+  else
+    echo "$name: trying $(edits_of "$tree" "$name" | wc -l) edits"
+  fi
   try_crate "$name" &
 done
 wait
