@@ -234,6 +234,24 @@ impl<L: Link> Desk<L> {
         Ok(())
     }
 
+    // Adds the URLs, and waits for all messages.
+    fn fill<R: Wait + AllocGlobal>(
+        &mut self,
+        rt: &R,
+        multi: &Multi<Queued<L>, Outcome>,
+        crew: &Crew,
+        urls: &[&str],
+        options: Options,
+    ) -> Result<(), OutOfMemory>
+        requires own { self.old.seat.of ≡ multi.now }
+        ensures asked { OnOk result (map asked_at self.new.places.items ≡ map asked_at self.old.places.items
+            ++ map (asked_for options.timeout_ms) (map (λ u. u.now) urls.now)) }
+    {
+        self.add_all(rt, multi, crew, urls, options)?;
+        crew.ring();
+        self.await_all(rt, multi)
+    }
+
     /// Adds the URLs, with one worker each after the message of the one before, and waits for all messages.
     pub fn collect<R: Wait + AllocGlobal>(
         self,
@@ -248,9 +266,7 @@ impl<L: Link> Desk<L> {
         ensures { IfOk result (λ ends. AreEndsOf options.timeout_ms (map (λ u. u.now) urls.now) ends.items) }
     {
         let mut desk = self;
-        desk.add_all(rt, multi, crew, urls, options)?;
-        crew.ring();
-        desk.await_all(rt, multi)?;
+        desk.fill(rt, multi, crew, urls, options)?;
         ends_at(rt.alloc(), desk.places)
     }
 }

@@ -1,5 +1,5 @@
 //! The workers' seats and gates, and what wakes and stops them.
-ghost use Rattle.std.specs.Prelude.{◌≡◌, All, IfOk, min, vec_len};
+ghost use Rattle.std.specs.Prelude.{◌≡◌, All, IfOk, IfSome, min, vec_len};
 
 use mx_exchange::Outcome;
 use mx_gate::{Bell, Gate, SocketGate, Turn};
@@ -112,6 +112,23 @@ pub fn posts<L: Link, G: Gate<Link = L> + Drop>(
     Ok(posts)
 }
 
+// Works until the gate stops it. The seat comes back where there was no memory for the start, and the gate doesn't stop it.
+fn work_once<L: Link, R: Wait + RandomSource + AllocGlobal, G: Gate<Link = L>>(
+    rt: &R,
+    multi: &Multi<Queued<L>, Outcome>,
+    seat: WorkerSeat<Queued<L>, Outcome>,
+    gate: &mut G,
+) -> Option<WorkerSeat<Queued<L>, Outcome>>
+    requires { seat.of ≡ multi.now }
+    ensures { IfSome result (λ s. s.of ≡ multi.now) }
+{
+    let end = run_worker(rt, multi, seat, gate);
+    if !end.refused || matches!(gate.turn(START_AGAIN), Turn::Stop) {
+        return None;
+    }
+    Some(end.seat)
+}
+
 /// Works with a seat and a gate until the gate stops it. Where there is no memory for its start it tries again after a while.
 pub fn work<L: Link, R: Wait + RandomSource + AllocGlobal, G: Gate<Link = L> + Drop>(
     rt: &R,
@@ -123,10 +140,9 @@ pub fn work<L: Link, R: Wait + RandomSource + AllocGlobal, G: Gate<Link = L> + D
 {
     let (mut seat, mut gate) = (seat, gate);
     for _ in rt.forever() {
-        let end = run_worker(rt, multi, seat, &mut gate);
-        if !end.refused || matches!(gate.turn(START_AGAIN), Turn::Stop) {
+        let Some(again) = work_once(rt, multi, seat, &mut gate) else {
             return;
-        }
-        seat = end.seat;
+        };
+        seat = again;
     }
 }

@@ -120,6 +120,34 @@ fn open<L: Link, R: Wait + AllocGlobal>(rt: &R, options: Options) -> Result<Open
     }
 }
 
+// Fetches at a multi handle that is open. What is let go where memory is wanting is here, and not where the handle is owned.
+fn fetch_with<
+    L: Link + Send,
+    R: Threads + Wait + RandomSource + AllocGlobal + Sync,
+    G: Gate<Link = L> + Send + Drop,
+>(
+    rt: &R,
+    multi: &Multi<Queued<L>, Outcome>,
+    seats: (
+        Seat<Queued<L>, Outcome>,
+        Vec<WorkerSeat<Queued<L>, Outcome>>,
+    ),
+    crew: &Crew,
+    gates: Vec<G>,
+    urls: &[&str],
+    options: Options,
+) -> Result<Vec<Fetched>, OutOfMemory>
+    requires seat { seats.0.of ≡ multi.now }
+    requires workers { All (λ s. s.of ≡ multi.now) seats.1.items }
+    requires counts { (vec_len seats.1 ≡ options.workers) × (vec_len gates ≡ options.workers) }
+    ensures { IfOk result (λ ends. AreEndsOf options.timeout_ms (map (λ u. u.now) urls.now) ends.items) }
+{
+    let (seat, workers) = seats;
+    let posts = posts(rt.alloc(), multi, workers, gates)?;
+    let desk = Desk::new(rt.alloc(), seat, urls.len())?;
+    run_all(rt, multi, crew, posts, desk, urls, options)
+}
+
 // Fetches with a worker at each gate, which are as many as the options ask for. It knows nothing of sockets: what it lets go, in each of
 // its ends, is of any link.
 fn fetch_at<
@@ -141,9 +169,7 @@ fn fetch_at<
         seat,
         workers,
     } = open(rt, options)?;
-    let posts = posts(rt.alloc(), &multi, workers, gates)?;
-    let desk = Desk::new(rt.alloc(), seat, urls.len())?;
-    run_all(rt, &multi, crew, posts, desk, urls, options)
+    fetch_with(rt, &multi, (seat, workers), crew, gates, urls, options)
 }
 
 /// What each URL ended with, in their order: the code of its refusal, or what a transfer of its request ended with.
