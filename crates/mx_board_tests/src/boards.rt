@@ -1,70 +1,129 @@
 //! What readers are told, by worked examples, on one thread and on three.
-ghost use Rattle.std.specs.Prelude.{◌≡◌, IfOk};
+ghost use Rattle.std.specs.Prelude.{◌≡◌, IfOk, IfSome};
 
 use crate::desk::Desk;
 use mx_board::{BoardReader, Found};
 use mx_types::{HandleId, Look, OutOfMemory, State, Ticket, What, Who};
 use std::alloc::Global;
+use std::process::Abort;
 use std::sync::Wait;
 use std::sync::atomic::{AtomicBool, Ordering};
 use std::test::Fail;
 use std::thread::join;
 
-#[test]
-fn two_seats_add_a_handle_each(rt: HostRuntime) -> Result<(), Fail> {
-    let mut desk = Desk::new(&rt, rt.alloc())?;
-    let mut a = desk.reader(Who::Seat(0)).ok_or("a place for a")?;
-    let mut b = desk.reader(Who::Seat(1)).ok_or("a place for b")?;
-    assert!(rt; desk.reader(Who::Seat(2)).is_none());
-    let mut desk = desk.tell(
-        &rt,
-        rt.alloc(),
-        Who::Seat(0),
-        What::Added(HandleId(1), Ticket(0)),
-    )?;
-    assert!(rt; desk.inform(&mut a));
-    let mut desk = desk.tell(
-        &rt,
-        rt.alloc(),
-        Who::Seat(1),
-        What::Added(HandleId(2), Ticket(1)),
-    )?;
-    assert!(rt; desk.inform(&mut b));
+// Readers for two seats, which are all that a board has places for.
+fn two_readers(desk: &mut Desk) -> Option<(BoardReader, BoardReader)>
+    ensures same { desk.new ≡ desk.old }
+    ensures book { IfSome result (λ r. (r.0.book ≡ desk.old.book) × (r.1.book ≡ desk.old.book)) }
+{
+    let one = desk.reader(Who::Seat(0))?;
+    let two = desk.reader(Who::Seat(1))?;
+    Some((one, two))
+}
+
+// Two seats add a handle each, and are informed of it. It answers whether they were.
+fn add_two<R: Wait>(
+    rt: &R,
+    alloc: Global,
+    desk: Desk,
+    a: &mut BoardReader,
+    b: &mut BoardReader,
+) -> Result<(Desk, [bool; 2]), OutOfMemory>
+    requires a { a.old.book ≡ desk.book }
+    requires b { b.old.book ≡ desk.book }
+{
+    let first = What::Added(HandleId(1), Ticket(0));
+    let mut desk = desk.tell(rt, alloc, Who::Seat(0), first)?;
+    let is_a_informed = desk.inform(a);
+    let second = What::Added(HandleId(2), Ticket(1));
+    let mut desk = desk.tell(rt, alloc, Who::Seat(1), second)?;
+    let is_b_informed = desk.inform(b);
+    Ok((desk, [is_a_informed, is_b_informed]))
+}
+
+// Both handles are told of, in the order of their additions.
+fn ask_for_handles<R: Abort>(rt: &R, a: &mut BoardReader) -> Result<(), Fail> {
     let handles = a.handles().ok_or("a version")?;
     assert_eq!(rt; handles.as_slice(), [HandleId(1), HandleId(2)].as_slice());
-    assert_eq!(rt; (a.cut(), a.confirmed(), a.made()), (2, 1, 1));
-    assert_eq!(rt; a.running(), Some(2));
-    assert_eq!(rt; a.state(HandleId(2)), Some(State::Running(Ticket(1))));
-    assert_eq!(rt; a.state(HandleId(9)), Some(State::NotAdded));
-    assert_eq!(rt; a.look(Ticket(1)), Some(Look::Go));
-    assert_eq!(rt; a.look(Ticket(2)), Some(Look::Gone));
+    Ok(())
+}
+
+// What the first seat's reader tells of both handles, and of one that isn't added.
+fn ask_of_each<R: Abort>(rt: &R, a: &mut BoardReader) {
+    let seen = (a.cut(), a.confirmed(), a.made());
+    let running = a.running();
+    let states = [a.state(HandleId(2)), a.state(HandleId(9))];
+    let looks = [a.look(Ticket(1)), a.look(Ticket(2))];
+    let found = [a.find(HandleId(2)), a.find(HandleId(9))];
+    assert_eq!(rt; (seen, running), ((2, 1, 1), Some(2)));
+    assert_eq!(rt;
+        (states, looks),
+        (
+            [Some(State::Running(Ticket(1))), Some(State::NotAdded)],
+            [Some(Look::Go), Some(Look::Gone)]
+        )
+    );
     let second = Found {
         ticket: Ticket(1),
         slot: 1,
     };
-    assert_eq!(rt; a.find(HandleId(2)), Some(Some(second)));
-    assert_eq!(rt; a.find(HandleId(9)), Some(None));
+    assert_eq!(rt; found, [Some(Some(second)), Some(None)]);
+}
+
+// Two seats add a handle each, there being no place for a third, and ask.
+fn add_and_ask<R: Wait + Abort>(
+    rt: &R,
+    alloc: Global,
+    mut desk: Desk,
+    a: &mut BoardReader,
+    b: &mut BoardReader,
+) -> Result<(), Fail>
+    requires a { a.old.book ≡ desk.book }
+    requires b { b.old.book ≡ desk.book }
+{
+    let is_full = desk.reader(Who::Seat(2)).is_none();
+    let (desk, informed) = add_two(rt, alloc, desk, a, b)?;
+    ask_for_handles(rt, a)?;
+    ask_of_each(rt, a);
     // A read that finds nothing new leaves all confirmed.
-    assert_eq!(rt; (b.running(), b.cut(), b.confirmed()), (Some(2), 2, 2));
-    assert_eq!(rt; desk.close(&rt).len(), 2);
-    assert_eq!(rt; b.running(), None);
+    let told = (b.running(), b.cut(), b.confirmed());
+    let closed = desk.close(rt).len();
+    assert_eq!(rt; (is_full, informed), (true, [true, true]));
+    assert_eq!(rt; (told, closed, b.running()), ((Some(2), 2, 2), 2, None));
     Ok(())
+}
+
+#[test]
+fn two_seats_add_a_handle_each(rt: HostRuntime) -> Result<(), Fail> {
+    let mut desk = Desk::new(&rt, rt.alloc())?;
+    let (mut a, mut b) = two_readers(&mut desk).ok_or("a place for each")?;
+    add_and_ask(&rt, rt.alloc(), desk, &mut a, &mut b)
+}
+
+// A seat adds a handle. It answers what the reader tells before it is informed of that and after, and whether it was.
+fn add_one<R: Wait>(
+    rt: &R,
+    alloc: Global,
+    desk: Desk,
+    a: &mut BoardReader,
+) -> Result<([(Option<u32>, u32); 2], bool), OutOfMemory>
+    requires { a.old.book ≡ desk.book }
+{
+    let what = What::Added(HandleId(1), Ticket(0));
+    let mut desk = desk.tell(rt, alloc, Who::Seat(0), what)?;
+    let before = (a.running(), a.cut());
+    let is_informed = desk.inform(a);
+    let after = (a.running(), a.cut());
+    desk.close(rt);
+    Ok(([before, after], is_informed))
 }
 
 #[test]
 fn a_reader_waits_for_its_own_event(rt: HostRuntime) -> Result<(), Fail> {
     let mut desk = Desk::new(&rt, rt.alloc())?;
     let mut a = desk.reader(Who::Seat(0)).ok_or("a place")?;
-    let mut desk = desk.tell(
-        &rt,
-        rt.alloc(),
-        Who::Seat(0),
-        What::Added(HandleId(1), Ticket(0)),
-    )?;
-    assert_eq!(rt; (a.running(), a.cut()), (None, 0));
-    assert!(rt; desk.inform(&mut a));
-    assert_eq!(rt; (a.running(), a.cut()), (Some(1), 1));
-    desk.close(&rt);
+    let told = add_one(&rt, rt.alloc(), desk, &mut a)?;
+    assert_eq!(rt; told, ([(None, 0), (Some(1), 1)], true));
     Ok(())
 }
 
@@ -118,8 +177,7 @@ fn read_all(mut reader: BoardReader, handles: u32, ended: &AtomicBool) -> bool {
 #[test]
 fn two_threads_read_what_a_third_adds(rt: HostRuntime) -> Result<(), Fail> {
     let mut desk = Desk::new(&rt, rt.alloc())?;
-    let one = desk.reader(Who::Seat(0)).ok_or("a place")?;
-    let two = desk.reader(Who::Seat(1)).ok_or("a place")?;
+    let (one, two) = two_readers(&mut desk).ok_or("a place for each")?;
     let alloc = rt.alloc();
     let ended = AtomicBool::new(false);
     let (desk, agree) = join(
@@ -131,8 +189,7 @@ fn two_threads_read_what_a_third_adds(rt: HostRuntime) -> Result<(), Fail> {
             || read_all(two, 60, &ended),
         ),
     );
-    let desk = desk?;
-    assert_eq!(rt; agree, (true, true));
-    assert_eq!(rt; desk.close(&rt).len(), 60);
+    let added = desk?.close(&rt).len();
+    assert_eq!(rt; (agree, added), ((true, true), 60));
     Ok(())
 }

@@ -19,18 +19,39 @@ fn two(table: &ProgressTable, mut seats: Vec<NoteSeat>) -> Option<(NoteSeat, Not
     Some((first, last))
 }
 
+// Notes with each of two seats, and reads in between. It answers what was read of slot 0, and of slot 255.
+fn note_and_read(
+    table: &ProgressTable,
+    one: &mut NoteSeat,
+    other: &mut NoteSeat,
+) -> ([(Ticket, u32); 4], (Ticket, u32))
+    requires one { one.old ≡ new_seat table.now }
+    requires other { other.old ≡ new_seat table.now }
+{
+    let begun = table.read(one, 0);
+    table.note(one, 0, Ticket(3), 5);
+    let noted = table.read(one, 0);
+    table.note(other, 0, Ticket(2), 900);
+    let older = table.read(other, 0);
+    table.note(other, 255, Ticket(4294967295), 4294967295);
+    let last = table.read(one, 255);
+    let first = table.read(one, 0);
+    ([begun, noted, older, first], last)
+}
+
 #[test]
 fn a_word_is_the_greatest_that_was_noted(rt: HostRuntime) -> Result<(), Fail> {
     let (table, seats) = ProgressTable::new(rt.alloc(), 2)?;
     let (mut one, mut other) = two(&table, seats).ok_or("two seats")?;
-    assert_eq!(rt; table.read(&mut one, 0), (Ticket(0), 0));
-    table.note(&mut one, 0, Ticket(3), 5);
-    assert_eq!(rt; table.read(&mut one, 0), (Ticket(3), 5));
-    table.note(&mut other, 0, Ticket(2), 900);
-    assert_eq!(rt; table.read(&mut other, 0), (Ticket(3), 5));
-    table.note(&mut other, 255, Ticket(4294967295), 4294967295);
-    assert_eq!(rt; table.read(&mut one, 255), (Ticket(4294967295), 4294967295));
-    assert_eq!(rt; table.read(&mut one, 0), (Ticket(3), 5));
+    let (first, last) = note_and_read(&table, &mut one, &mut other);
+    let greatest = (Ticket(3), 5);
+    assert_eq!(rt;
+        (first, last),
+        (
+            [(Ticket(0), 0), greatest, greatest, greatest],
+            (Ticket(4294967295), 4294967295)
+        )
+    );
     Ok(())
 }
 
