@@ -8,7 +8,7 @@ use mx_exchange::Outcome;
 use mx_gate::Gate;
 use mx_link::Link;
 use mx_multi::{Multi, Seat, WorkerSeat};
-use mx_types::{Ending, OutOfMemory, Work};
+use mx_types::{Ending, Work};
 use mx_worker::{Queued, run_crew};
 use std::alloc::{AllocError, AllocGlobal, Global};
 use std::random::RandomSource;
@@ -153,24 +153,54 @@ fn crew_of<Q: Work + Drop, O: Ending + Drop, G: Drop>(
 }
 
 // Runs a worker for each gate, of at most two, each in a thread of its own, and reads two messages beside them.
-fn run_desk<
+fn run_gates<
     L: Link + Send,
     R: Threads + Wait + RandomSource + AllocGlobal + Clock + Sync,
     G: Gate<Link = L> + Send + Drop,
 >(
     rt: &R,
-    desk: Desk<L>,
+    multi: &Multi<Queued<L>, Outcome>,
+    seat: Seat<Queued<L>, Outcome>,
+    workers: Vec<WorkerSeat<Queued<L>, Outcome>>,
     gates: Vec<G>,
     flags: &Flags,
     plan: &Plan<'_>,
-) -> Result<Came, OutOfMemory> {
+) -> Result<Came, Fail>
+    requires seat { seat.of ≡ multi.now }
+    requires workers { All (λ s. s.of ≡ multi.now) workers.items }
+{
+    let crew = crew_of(rt.alloc(), multi, workers, gates)?;
+    Ok(run_beside(rt, multi, seat, crew, flags, plan))
+}
+
+// The same, at the multi handle of a desk.
+fn run_desk<
+    L: Link + Send,
+    R: Threads + Wait + RandomSource + AllocGlobal + Clock + Sync,
+    G: Gate<Link = L> + Send + Drop,
+>(rt: &R, desk: Desk<L>, gates: Vec<G>, flags: &Flags, plan: &Plan<'_>) -> Result<Came, Fail> {
     let Parts {
         multi,
         seat,
         workers,
     } = desk.into_parts();
-    let crew = crew_of(rt.alloc(), &multi, workers, gates)?;
-    Ok(run_beside(rt, &multi, seat, crew, flags, plan))
+    run_gates(rt, &multi, seat, workers, gates, flags, plan)
+}
+
+// A desk whose workers keep so many idle links, at which the URLs are added.
+fn desk_with<L: Link, R: Wait + AllocGlobal>(
+    rt: &R,
+    max_connects: u8,
+    urls: &[&str],
+) -> Result<Desk<L>, Fail> {
+    let mut desk = Desk::open(rt, rt.alloc(), max_connects)?;
+    match desk.add_all(rt, rt.alloc(), urls) {
+        Ok(()) => Ok(desk),
+        Err(fail) => {
+            desk.close();
+            Err(fail)
+        }
+    }
 }
 
 /// Adds the URLs at a new multi handle, whose workers keep so many idle links; runs a worker for each gate, of at most two, each in a
@@ -187,7 +217,6 @@ pub fn run_plan<
     flags: &Flags,
     plan: &Plan<'_>,
 ) -> Result<Came, Fail> {
-    let mut desk = Desk::open(rt, rt.alloc(), max_connects)?;
-    desk.add_all(rt, rt.alloc(), urls)?;
-    Ok(run_desk(rt, desk, gates, flags, plan)?)
+    let desk = desk_with(rt, max_connects, urls)?;
+    run_desk(rt, desk, gates, flags, plan)
 }

@@ -1,7 +1,7 @@
 //! What becomes of transfers that one worker holds.
 
 use crate::desk::ScriptDesk;
-use crate::gates::{COUNTED, OTHER, gate_of, plan_link, plan_moments, plan_refusal};
+use crate::gates::{AT_ONCE, COUNTED, OTHER_AT_ONCE, SILENT, gate_with, refusing_gate};
 use crate::messages::Answer;
 use mx_link::ScriptRead;
 use mx_multi::Progress;
@@ -31,10 +31,8 @@ fn serve_two<R: Wait + RandomSource + AllocGlobal>(
 ) -> Result<(), Fail> {
     desk.add(rt, rt.alloc(), 1, "http://a.example/", 0)?;
     desk.add(rt, rt.alloc(), 2, "http://b.example/", 0)?;
-    let mut gate = gate_of(rt.alloc(), 3);
-    plan_link(&mut gate, rt.alloc(), &[ScriptRead::Bytes(COUNTED)])?;
-    plan_link(&mut gate, rt.alloc(), &[ScriptRead::Bytes(OTHER)])?;
-    desk.run(rt, &mut gate, 2, 0)?;
+    let links = [AT_ONCE, OTHER_AT_ONCE];
+    desk.run(rt, &mut gate_with(rt.alloc(), 3, &links, &[])?, 2, 0)?;
     desk.expect_answer(rt, &FROM_A)?;
     desk.expect_answer(rt, &FROM_B)?;
     desk.expect_none(rt)
@@ -56,9 +54,7 @@ fn end_with<R: Wait + RandomSource + AllocGlobal>(
     code: Code,
 ) -> Result<(), Fail> {
     desk.add(rt, rt.alloc(), 1, "http://a.example/", 0)?;
-    let mut gate = gate_of(rt.alloc(), 2);
-    plan_refusal(&mut gate, code)?;
-    desk.run(rt, &mut gate, 1, 0)?;
+    desk.run(rt, &mut refusing_gate(rt.alloc(), code)?, 1, 0)?;
     desk.expect(rt, 1, code, b"")
 }
 
@@ -84,13 +80,12 @@ fn end_in_time<R: Wait + RandomSource + AllocGlobal>(
     desk: &mut ScriptDesk,
 ) -> Result<Option<u32>, Fail> {
     desk.add(rt, rt.alloc(), 1, "http://a.example/", 10)?;
-    let mut gate = gate_of(rt.alloc(), 1);
-    let silent = [ScriptRead::WouldBlock, ScriptRead::WouldBlock];
-    plan_link(&mut gate, rt.alloc(), &silent)?;
-    plan_moments(&mut gate, &[100, 107, 110])?;
+    let mut gate = gate_with(rt.alloc(), 1, &[SILENT], &[100, 107, 110])?;
     desk.run(rt, &mut gate, 1, 0)?;
+    let last_wait = gate.last_wait();
+    drop(gate);
     desk.expect(rt, 1, Code::OperationTimedout, b"")?;
-    Ok(gate.last_wait())
+    Ok(last_wait)
 }
 
 /// A transfer whose link gives nothing ends with 28 at its deadline, and the wait before is no longer than that: in the last turn nothing
@@ -111,9 +106,7 @@ fn serve_the_other<R: Wait + RandomSource + AllocGlobal>(
     desk.add(rt, rt.alloc(), 1, "http://a.example/", 0)?;
     desk.add(rt, rt.alloc(), 2, "http://b.example/", 0)?;
     desk.make_all(rt, rt.alloc(), &[(Call::Remove(HandleId(1)), "removed")])?;
-    let mut gate = gate_of(rt.alloc(), 3);
-    plan_link(&mut gate, rt.alloc(), &[ScriptRead::Bytes(COUNTED)])?;
-    desk.run(rt, &mut gate, 1, 0)?;
+    desk.run(rt, &mut gate_with(rt.alloc(), 3, &[AT_ONCE], &[])?, 1, 0)?;
     desk.expect(rt, 2, Code::Ok, b"hello")?;
     desk.expect_none(rt)
 }
@@ -135,11 +128,8 @@ fn note_two<R: Wait + RandomSource + AllocGlobal>(
     desk.add(rt, rt.alloc(), 1, "http://a.example/", 10)?;
     desk.add(rt, rt.alloc(), 2, "http://b.example/", 0)?;
     let before = desk.progress(2);
-    let mut gate = gate_of(rt.alloc(), 2);
     let cut_short = [ScriptRead::Bytes(&COUNTED[..40]), ScriptRead::WouldBlock];
-    plan_link(&mut gate, rt.alloc(), &cut_short)?;
-    plan_link(&mut gate, rt.alloc(), &[ScriptRead::Bytes(COUNTED)])?;
-    plan_moments(&mut gate, &[100, 105, 110])?;
+    let mut gate = gate_with(rt.alloc(), 2, &[&cut_short, AT_ONCE], &[100, 105, 110])?;
     desk.run(rt, &mut gate, 2, 0)?;
     Ok([before, desk.progress(1), desk.progress(2)])
 }
@@ -150,9 +140,13 @@ fn a_worker_notes_how_far_a_transfer_is(rt: HostRuntime) -> Result<(), Fail> {
     let mut desk = ScriptDesk::open(&rt, rt.alloc(), 4)?;
     let noted = note_two(&rt, &mut desk);
     desk.close();
-    let noted = noted?;
-    assert_eq!(rt; noted[0], Some(Progress::Bytes(Ticket(1), 0)));
-    assert_eq!(rt; noted[1], Some(Progress::Bytes(Ticket(0), 40)));
-    assert_eq!(rt; noted[2], Some(Progress::Bytes(Ticket(1), 43)));
+    assert_eq!(rt;
+        noted?,
+        [
+            Some(Progress::Bytes(Ticket(1), 0)),
+            Some(Progress::Bytes(Ticket(0), 40)),
+            Some(Progress::Bytes(Ticket(1), 43))
+        ]
+    );
     Ok(())
 }

@@ -16,6 +16,15 @@ pub fn gate_of(alloc: Global, turns: u32) -> ScriptGate<ScriptLink> {
     ScriptGate::new(alloc, turns)
 }
 
+/// A link that gives one response at once.
+pub const AT_ONCE: &[ScriptRead<'static>] = &[ScriptRead::Bytes(COUNTED)];
+
+/// A link that gives the other response at once.
+pub const OTHER_AT_ONCE: &[ScriptRead<'static>] = &[ScriptRead::Bytes(OTHER)];
+
+/// A link that gives nothing.
+pub const SILENT: &[ScriptRead<'static>] = &[ScriptRead::WouldBlock, ScriptRead::WouldBlock];
+
 /// Has the gate open a link that gives these pieces.
 pub fn plan_link(
     gate: &mut ScriptGate<ScriptLink>,
@@ -29,37 +38,51 @@ pub fn plan_link(
     }
 }
 
-/// Has the gate refuse to open a link, with this code of the three that it may have.
-pub fn plan_refusal(gate: &mut ScriptGate<ScriptLink>, code: Code) -> Result<(), OutOfMemory> {
+/// A gate whose first two turns answer `Continue`, and which refuses to open a link, with this code of the three that it may have.
+pub fn refusing_gate(alloc: Global, code: Code) -> Result<ScriptGate<ScriptLink>, OutOfMemory> {
+    let mut gate = gate_of(alloc, 2);
     let code = match code {
         Code::CouldntResolveHost => Code::CouldntResolveHost,
         Code::OutOfMemory => Code::OutOfMemory,
         _ => Code::CouldntConnect,
     };
     match gate.plan_opening(Err(code)) {
-        Ok(()) => Ok(()),
+        Ok(()) => Ok(gate),
         Err(_) => Err(OutOfMemory),
     }
 }
 
-/// Has the gate open so many links that give one response at once.
-pub fn plan_counted(
+// Has the gate open these links, each of which gives its pieces.
+fn plan_links(
     gate: &mut ScriptGate<ScriptLink>,
     alloc: Global,
-    count: u32,
+    links: &[&[ScriptRead<'_>]],
 ) -> Result<(), OutOfMemory> {
-    for _ in 0..count {
-        plan_link(gate, alloc, &[ScriptRead::Bytes(COUNTED)])?;
+    for reads in links {
+        plan_link(gate, alloc, *reads)?;
     }
     Ok(())
 }
 
-/// Has the gate tell these moments.
-pub fn plan_moments(gate: &mut ScriptGate<ScriptLink>, moments: &[u64]) -> Result<(), OutOfMemory> {
+// Has the gate tell these moments.
+fn plan_moments(gate: &mut ScriptGate<ScriptLink>, moments: &[u64]) -> Result<(), OutOfMemory> {
     for moment in moments {
         if gate.plan_moment(*moment).is_err() {
             return Err(OutOfMemory);
         }
     }
     Ok(())
+}
+
+/// A gate whose first `turns` turns answer `Continue`, which opens these links, each of which gives its pieces, and tells these moments.
+pub fn gate_with(
+    alloc: Global,
+    turns: u32,
+    links: &[&[ScriptRead<'_>]],
+    moments: &[u64],
+) -> Result<ScriptGate<ScriptLink>, OutOfMemory> {
+    let mut gate = gate_of(alloc, turns);
+    plan_links(&mut gate, alloc, links)?;
+    plan_moments(&mut gate, moments)?;
+    Ok(gate)
 }

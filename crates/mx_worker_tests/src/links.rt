@@ -1,7 +1,7 @@
 //! Which links a worker takes.
 
 use crate::desk::ScriptDesk;
-use crate::gates::{COUNTED, OTHER, gate_of, plan_link};
+use crate::gates::{COUNTED, OTHER, OTHER_AT_ONCE, gate_with};
 use mx_link::ScriptRead;
 use mx_types::Code;
 use std::alloc::AllocGlobal;
@@ -24,13 +24,13 @@ fn links_left<R: Wait + RandomSource + AllocGlobal>(
 ) -> Result<usize, Fail> {
     desk.add(rt, rt.alloc(), 1, "http://a.example/one", 0)?;
     desk.add(rt, rt.alloc(), 2, "http://a.example/two", 0)?;
-    let mut gate = gate_of(rt.alloc(), 3);
-    plan_link(&mut gate, rt.alloc(), TWICE)?;
-    plan_link(&mut gate, rt.alloc(), &[ScriptRead::Bytes(OTHER)])?;
+    let mut gate = gate_with(rt.alloc(), 3, &[TWICE, OTHER_AT_ONCE], &[])?;
     desk.run(rt, &mut gate, 2, 0)?;
+    let left = gate.openings_left();
+    drop(gate);
     desk.expect(rt, 1, Code::Ok, b"hello")?;
     desk.expect(rt, 2, Code::Ok, b"bye")?;
-    Ok(gate.openings_left())
+    Ok(left)
 }
 
 /// Two URLs of one endpoint, one after the other: the worker keeps its link, and the gate opens one.

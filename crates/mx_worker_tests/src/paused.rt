@@ -1,8 +1,7 @@
 //! What a seat is told of a transfer that is paused, resumed, and ended at its deadline.
 
 use crate::desk::ScriptDesk;
-use crate::gates::{gate_of, plan_link, plan_moments};
-use mx_link::ScriptRead;
+use crate::gates::{SILENT, gate_with};
 use mx_types::{Call, HandleId};
 use std::alloc::AllocGlobal;
 use std::random::RandomSource;
@@ -37,11 +36,7 @@ fn end_at_once<R: Wait + RandomSource + AllocGlobal>(
 ) -> Result<(), Fail> {
     desk.add(rt, rt.alloc(), 3, "http://a.example/", 1)?;
     desk.make_all(rt, rt.alloc(), BEFORE)?;
-    let mut gate = gate_of(rt.alloc(), 1);
-    let silent = [ScriptRead::WouldBlock, ScriptRead::WouldBlock];
-    plan_link(&mut gate, rt.alloc(), &silent)?;
-    plan_moments(&mut gate, &[0, 1])?;
-    desk.run(rt, &mut gate, 1, 0)?;
+    desk.run(rt, &mut gate_with(rt.alloc(), 1, &[SILENT], &[0, 1])?, 1, 0)?;
     desk.make_all(rt, rt.alloc(), AFTER)
 }
 

@@ -3,16 +3,16 @@
 use crate::beside::{Came, Flags, Plan, run_plan};
 use crate::messages::Answer;
 use mx_gate::SocketGate;
-use std::alloc::AllocGlobal;
+use std::alloc::{AllocGlobal, Global};
 use std::io::{Read as _, Write as _};
-use std::net::{Net, TcpListener, TcpStream};
+use std::net::{Net, SocketAddr, TcpListener, TcpStream};
 use std::random::RandomSource;
 use std::rt::Clock;
 use std::sync::atomic::{AtomicBool, Ordering};
 use std::sync::{Arc, Wait};
 use std::test::Fail;
 use std::thread;
-use std::thread::Threads;
+use std::thread::{JoinHandle, Threads};
 
 /// The most connections that the server takes, and the most bytes of a request that it reads.
 const MOST: u32 = 1000;
@@ -72,19 +72,35 @@ fn serve(listener: &TcpListener, is_over: &AtomicBool) -> u32 {
     served
 }
 
-// Two bodies are to come, of a URL that is added before and of one that is added later, for which this is sent.
-fn plan_of<'a>(later: &'a str, for_one: &'a str, for_two: &'a str) -> Plan<'a> {
+// A URL of the server, and the request that is sent for it.
+#[derive(Drop)]
+struct Asked {
+    url: String,
+    request: String,
+}
+
+impl Asked {
+    fn of(alloc: Global, port: u16, path: &str) -> Result<Asked, Fail> {
+        let url = format!(in alloc; "http://127.0.0.1:{port}/{path}")?;
+        let rest = "HTTP/1.1\r\nHost: 127.0.0.1";
+        let request = format!(in alloc; "GET /{path} {rest}:{port}\r\nAccept: */*\r\n\r\n")?;
+        Ok(Asked { url, request })
+    }
+}
+
+// Two bodies are to come, of a URL that is added before and of one that is added later.
+fn plan_of<'a>(one: &'a Asked, two: &'a Asked) -> Plan<'a> {
     let first = Answer {
         ticket: 0,
-        request: for_one.as_bytes(),
+        request: one.request.as_str().as_bytes(),
         body: b"one",
     };
     let second = Answer {
         ticket: 1,
-        request: for_two.as_bytes(),
+        request: two.request.as_str().as_bytes(),
         body: b"two",
     };
-    let later = Some(later);
+    let later = Some(two.url.as_str());
     Plan {
         first,
         second,
@@ -92,8 +108,34 @@ fn plan_of<'a>(later: &'a str, for_one: &'a str, for_two: &'a str) -> Plan<'a> {
     }
 }
 
-// What a worker that keeps so many idle links makes of two URLs of the server at this port, of which the second is added after the
-// message of the first.
+// The gate of one worker, which the flag stops.
+fn one_gate<R: Net + Clock + AllocGlobal>(
+    rt: &R,
+    stop: Arc<AtomicBool>,
+) -> Result<Vec<SocketGate<'_, R>>, Fail> {
+    let gate = SocketGate::new(rt, stop).map_err(|code| code.number())?;
+    let mut gates = Vec::new(rt.alloc());
+    gates.push(gate)?;
+    Ok(gates)
+}
+
+// What a worker that keeps so many idle links makes of two URLs, of which the second is added after the message of the first.
+fn fetch<
+    R: Threads
+        + Wait
+        + Net<Listener = TcpListener, Stream = TcpStream>
+        + Clock
+        + RandomSource
+        + AllocGlobal
+        + Sync,
+>(rt: &R, one: &Asked, two: &Asked, max_connects: u8) -> Result<Came, Fail> {
+    let flags = Flags::new(rt.alloc())?;
+    let gates = one_gate(rt, Arc::try_clone(&flags.stop)?)?;
+    let plan = plan_of(one, two);
+    run_plan(rt, max_connects, &[one.url.as_str()], gates, &flags, &plan)
+}
+
+// The same, of the server at this port.
 fn fetch_both<
     R: Threads
         + Wait
@@ -103,17 +145,46 @@ fn fetch_both<
         + AllocGlobal
         + Sync,
 >(rt: &R, port: u16, max_connects: u8) -> Result<Came, Fail> {
-    let one = format!(in rt.alloc(); "http://127.0.0.1:{port}/one")?;
-    let two = format!(in rt.alloc(); "http://127.0.0.1:{port}/two")?;
-    let rest = "HTTP/1.1\r\nHost: 127.0.0.1";
-    let for_one = format!(in rt.alloc(); "GET /one {rest}:{port}\r\nAccept: */*\r\n\r\n")?;
-    let for_two = format!(in rt.alloc(); "GET /two {rest}:{port}\r\nAccept: */*\r\n\r\n")?;
-    let plan = plan_of(two.as_str(), for_one.as_str(), for_two.as_str());
-    let flags = Flags::new(rt.alloc())?;
-    let gate = SocketGate::new(rt, Arc::try_clone(&flags.stop)?).map_err(|code| code.number())?;
-    let mut gates = Vec::new(rt.alloc());
-    gates.push(gate)?;
-    run_plan(rt, max_connects, &[one.as_str()], gates, &flags, &plan)
+    let one = Asked::of(rt.alloc(), port, "one")?;
+    let two = Asked::of(rt.alloc(), port, "two")?;
+    fetch(rt, &one, &two, max_connects)
+}
+
+// A server in a thread of its own.
+#[derive(Drop)]
+struct Server {
+    address: SocketAddr,
+    is_over: Arc<AtomicBool>,
+    thread: JoinHandle<u32>,
+}
+
+impl Server {
+    fn start<R: Threads + Net<Listener = TcpListener, Stream = TcpStream> + AllocGlobal>(
+        rt: &R,
+    ) -> Result<Server, Fail> {
+        let is_over = Arc::new(rt.alloc(), AtomicBool::new(false))?;
+        let is_over_there = Arc::try_clone(&is_over)?;
+        let listener = TcpListener::bind(rt, "127.0.0.1:0")?;
+        let address = listener.local_addr()?;
+        let thread = thread::spawn(rt, move || serve(&listener, &is_over_there))?;
+        Ok(Server {
+            address,
+            is_over,
+            thread,
+        })
+    }
+
+    // Ends it by one more connection, and answers on how many a request came.
+    fn end<R: Threads + Net<Stream = TcpStream>>(self, rt: &R) -> Result<u32, Fail> {
+        let Server {
+            address,
+            is_over,
+            thread,
+        } = self;
+        is_over.store(true, Ordering::SeqCst);
+        let _last = TcpStream::connect(rt, address)?;
+        Ok(thread.join(rt))
+    }
 }
 
 // What a worker that keeps so many idle links makes of the two URLs, and on how many connections.
@@ -126,24 +197,19 @@ fn fetch_from_server<
         + AllocGlobal
         + Sync,
 >(rt: &R, max_connects: u8) -> Result<(Came, u32), Fail> {
-    let listener = TcpListener::bind(rt, "127.0.0.1:0")?;
-    let address = listener.local_addr()?;
-    let is_over = Arc::new(rt.alloc(), AtomicBool::new(false))?;
-    let is_over_there = Arc::try_clone(&is_over)?;
-    let server = thread::spawn(rt, move || serve(&listener, &is_over_there))?;
-    let came = fetch_both(rt, address.port(), max_connects)?;
-    is_over.store(true, Ordering::SeqCst);
-    let _last = TcpStream::connect(rt, address)?;
-    Ok((came, server.join(rt)))
+    let server = Server::start(rt)?;
+    let came = fetch_both(rt, server.address.port(), max_connects)?;
+    Ok((came, server.end(rt)?))
 }
 
 /// Two URLs of one server, one after the other's message: both bodies come over one connection.
 #[test]
 fn one_connection_serves_both(rt: HostRuntime) -> Result<(), Fail> {
     let (came, connections) = fetch_from_server(&rt, 4)?;
-    assert_eq!(rt; came.answers, (true, true));
-    assert_eq!(rt; came.recorded, Some((2, 2)));
-    assert_eq!(rt; connections, 1);
+    assert_eq!(rt;
+        (came.answers, came.recorded, connections),
+        ((true, true), Some((2, 2)), 1)
+    );
     Ok(())
 }
 
@@ -151,7 +217,6 @@ fn one_connection_serves_both(rt: HostRuntime) -> Result<(), Fail> {
 #[test]
 fn without_idle_links_there_are_two_connections(rt: HostRuntime) -> Result<(), Fail> {
     let (came, connections) = fetch_from_server(&rt, 0)?;
-    assert_eq!(rt; came.answers, (true, true));
-    assert_eq!(rt; connections, 2);
+    assert_eq!(rt; (came.answers, connections), ((true, true), 2));
     Ok(())
 }

@@ -1,7 +1,7 @@
 //! A worker that is stopped, and another that takes over.
 
 use crate::desk::ScriptDesk;
-use crate::gates::{gate_of, plan_counted, plan_link, plan_moments};
+use crate::gates::{AT_ONCE, gate_of, gate_with};
 use mx_gate::ScriptGate;
 use mx_link::{ScriptLink, ScriptRead};
 use mx_types::{Call, Code, HandleId, OutOfMemory};
@@ -45,11 +45,7 @@ const SLOW: &[ScriptRead<'static>] = &[
 
 // A gate that can open a slow link for each transfer.
 fn slow_gate(alloc: Global, turns: u32) -> Result<ScriptGate<ScriptLink>, OutOfMemory> {
-    let mut gate = gate_of(alloc, turns);
-    for _ in 0..TRANSFERS {
-        plan_link(&mut gate, alloc, SLOW)?;
-    }
-    Ok(gate)
+    gate_with(alloc, turns, &[SLOW; TRANSFERS as usize], &[])
 }
 
 // Adds handles from 0 on, as many as a run has transfers.
@@ -109,9 +105,7 @@ fn give_back_one<R: Wait + RandomSource + AllocGlobal>(
     desk.make_all(rt, rt.alloc(), PAUSE_ONE)?;
     desk.run(rt, &mut gate_of(rt.alloc(), 0), 0, 1)?;
     desk.make_all(rt, rt.alloc(), RESUME_ONE)?;
-    let mut gate = gate_of(rt.alloc(), 0);
-    plan_counted(&mut gate, rt.alloc(), 1)?;
-    desk.run(rt, &mut gate, 1, 0)?;
+    desk.run(rt, &mut gate_with(rt.alloc(), 0, &[AT_ONCE], &[])?, 1, 0)?;
     desk.expect(rt, 1, Code::Ok, b"hello")
 }
 
@@ -137,13 +131,9 @@ fn end_one_of_five<R: Wait + RandomSource + AllocGlobal>(
     desk: &mut ScriptDesk,
 ) -> Result<(), Fail> {
     add_five(rt, rt.alloc(), desk)?;
-    let mut first = gate_of(rt.alloc(), 3);
-    plan_link(&mut first, rt.alloc(), SLOW)?;
-    desk.run(rt, &mut first, 1, 3)?;
+    desk.run(rt, &mut gate_with(rt.alloc(), 3, &[SLOW], &[])?, 1, 3)?;
     desk.make_all(rt, rt.alloc(), RESUME_THREE)?;
-    let mut second = gate_of(rt.alloc(), 3);
-    plan_counted(&mut second, rt.alloc(), 4)?;
-    desk.run(rt, &mut second, 4, 0)?;
+    desk.run(rt, &mut gate_with(rt.alloc(), 3, &[AT_ONCE; 4], &[])?, 4, 0)?;
     for handle in [1, 0, 2, 3, 4] {
         desk.expect(rt, handle, Code::Ok, b"hello")?;
     }
@@ -190,14 +180,9 @@ fn end_late<R: Wait + RandomSource + AllocGlobal>(
 ) -> Result<(), Fail> {
     desk.add(rt, rt.alloc(), 1, "http://a.example/", 10)?;
     desk.make_all(rt, rt.alloc(), PAUSE_ONE)?;
-    let mut first = gate_of(rt.alloc(), 0);
-    plan_moments(&mut first, &[100])?;
-    desk.run(rt, &mut first, 0, 1)?;
+    desk.run(rt, &mut gate_with(rt.alloc(), 0, &[], &[100])?, 0, 1)?;
     desk.make_all(rt, rt.alloc(), RESUME_ONE)?;
-    let mut second = gate_of(rt.alloc(), 0);
-    plan_moments(&mut second, &[110])?;
-    plan_counted(&mut second, rt.alloc(), 1)?;
-    desk.run(rt, &mut second, 1, 0)?;
+    desk.run(rt, &mut gate_with(rt.alloc(), 0, &[AT_ONCE], &[110])?, 1, 0)?;
     desk.expect(rt, 1, Code::OperationTimedout, b"")
 }
 

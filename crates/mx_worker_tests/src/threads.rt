@@ -98,17 +98,26 @@ const PLAN: Plan<'static> = Plan {
     later: None,
 };
 
+// A gate for each of two workers.
+fn two_gates<'a, R: Clock + AllocGlobal>(
+    rt: &'a R,
+    flags: &'a Flags,
+) -> Result<Vec<HoldingGate<'a, R>>, Fail> {
+    let mut gates = Vec::new(rt.alloc());
+    for _ in 0..2 {
+        gates.push(HoldingGate::of(rt, flags))?;
+    }
+    Ok(gates)
+}
+
 /// One worker is held in an open until the other's message was read. So they run at the same time: both messages have code 0, and that of
 /// ticket 1 comes first.
 #[test]
 fn two_workers_run_at_the_same_time(rt: HostRuntime) -> Result<(), Fail> {
     let flags = Flags::new(rt.alloc())?;
-    let mut gates = Vec::new(rt.alloc());
-    gates.push(HoldingGate::of(&rt, &flags))?;
-    gates.push(HoldingGate::of(&rt, &flags))?;
+    let gates = two_gates(&rt, &flags)?;
     let urls = ["http://held.example/", "http://free.example/"];
     let came = run_plan(&rt, 4, &urls, gates, &flags, &PLAN)?;
-    assert_eq!(rt; came.answers, (true, true));
-    assert_eq!(rt; came.recorded, Some((2, 1)));
+    assert_eq!(rt; (came.answers, came.recorded), ((true, true), Some((2, 1))));
     Ok(())
 }

@@ -3,7 +3,7 @@ ghost use Rattle.std.specs.Prelude.{◌≡◌, ◌≤◌, true, [], IfOk, IfErr}
 ghost use Rattle.mx_exchange.specs.Endings.{is_link_code};
 
 use crate::desk::ScriptDesk;
-use crate::gates::{COUNTED, gate_of, plan_link, plan_moments};
+use crate::gates::{COUNTED, gate_with, plan_link};
 use mx_gate::{Gate, ScriptGate, Turn};
 use mx_link::{ScriptLink, ScriptRead};
 use mx_request::Endpoint;
@@ -58,13 +58,14 @@ fn wait_at<R: Wait + RandomSource + AllocGlobal>(
     reads: &[ScriptRead<'_>],
 ) -> Result<Option<u32>, Fail> {
     desk.add(rt, rt.alloc(), 1, "http://a.example/", timeout_ms)?;
-    let mut gate = gate_of(rt.alloc(), 2);
+    let mut gate = gate_with(rt.alloc(), 2, &[], &[100])?;
     plan_link(&mut gate, rt.alloc(), reads)?;
-    plan_moments(&mut gate, &[100])?;
     let mut first = FirstWait { gate, wait: None };
     desk.run(rt, &mut first, 1, 0)?;
+    let wait = first.wait;
+    drop(first);
     desk.expect(rt, 1, Code::Ok, b"hello")?;
-    Ok(first.wait)
+    Ok(wait)
 }
 
 fn first_wait<R: Wait + RandomSource + AllocGlobal>(
@@ -82,9 +83,13 @@ fn first_wait<R: Wait + RandomSource + AllocGlobal>(
 #[test]
 fn a_turn_waits_until_the_next_deadline(rt: HostRuntime) -> Result<(), Fail> {
     let late = [ScriptRead::WouldBlock, ScriptRead::Bytes(COUNTED)];
-    assert_eq!(rt; first_wait(&rt, 7, &late)?, Some(7));
-    assert_eq!(rt; first_wait(&rt, 21, &late)?, Some(20));
-    assert_eq!(rt; first_wait(&rt, 0, &late)?, Some(20));
+    for (timeout_ms, wait) in [(7, 7), (21, 20), (0, 20)] {
+        assert_eq!(rt;
+            first_wait(&rt, timeout_ms, &late)?,
+            Some(wait),
+            "of {timeout_ms}"
+        );
+    }
     Ok(())
 }
 
