@@ -1,6 +1,7 @@
 use crate::outside::{Outside, endpoint};
 use mx_gate::{address_of, choose, connect_code, lookup_code, unbracketed};
 use mx_types::Code;
+use std::alloc::Global;
 use std::io::{Error, ErrorKind};
 use std::net::{Ipv4Addr, Ipv6Addr, SocketAddr};
 use std::test::Fail;
@@ -41,38 +42,54 @@ fn the_first_ipv4_address_is_chosen(rt: HostRuntime) {
     assert_eq!(rt; choose(&[v4(1, 80), v6(2, 80)]), Some(v4(1, 80)));
 }
 
+// The address of a host's port, where lookups give these addresses, or are refused so.
+fn address_at(
+    alloc: Global,
+    host: &str,
+    port: u16,
+    addresses: &[SocketAddr],
+    refusal: Option<ErrorKind>,
+) -> Result<Result<SocketAddr, Code>, Fail> {
+    let there = endpoint(alloc, host, port)?;
+    let mut outside = Outside::new(alloc, addresses);
+    outside.refusal = refusal;
+    Ok(address_of(&outside, &there))
+}
+
 #[test]
 fn a_name_is_looked_up(rt: HostRuntime) -> Result<(), Fail> {
-    let name = endpoint(rt.alloc(), "example.com", 8080)?;
-    let addresses = [v6(1, 0), v4(2, 0), v4(3, 0)];
-    let outside = Outside::new(rt.alloc(), &addresses);
-    assert_eq!(rt; address_of(&outside, &name), Ok(v4(2, 8080)));
-    let outside = Outside::new(rt.alloc(), &addresses[..1]);
-    assert_eq!(rt; address_of(&outside, &name), Ok(v6(1, 8080)));
-    let outside = Outside::new(rt.alloc(), &[]);
-    assert_eq!(rt; address_of(&outside, &name), Err(Code::CouldntResolveHost));
+    let cases: [(&[SocketAddr], Result<SocketAddr, Code>); 3] = [
+        (&[v6(1, 0), v4(2, 0), v4(3, 0)], Ok(v4(2, 8080))),
+        (&[v6(1, 0)], Ok(v6(1, 8080))),
+        (&[], Err(Code::CouldntResolveHost)),
+    ];
+    for (addresses, want) in cases {
+        let address = address_at(rt.alloc(), "example.com", 8080, addresses, None)?;
+        assert_eq!(rt; address, want);
+    }
     Ok(())
 }
 
 #[test]
 fn an_address_is_not_looked_up(rt: HostRuntime) -> Result<(), Fail> {
-    let mut outside = Outside::new(rt.alloc(), &[]);
-    outside.refusal = Some(ErrorKind::NotFound);
-    let plain = endpoint(rt.alloc(), "192.0.2.7", 81)?;
-    assert_eq!(rt; address_of(&outside, &plain), Ok(v4(7, 81)));
-    let bracketed = endpoint(rt.alloc(), "[2001:db8::7]", 81)?;
-    assert_eq!(rt; address_of(&outside, &bracketed), Ok(v6(7, 81)));
+    let refusal = Some(ErrorKind::NotFound);
+    for (host, want) in [("192.0.2.7", v4(7, 81)), ("[2001:db8::7]", v6(7, 81))] {
+        let address = address_at(rt.alloc(), host, 81, &[], refusal)?;
+        assert_eq!(rt; address, Ok(want));
+    }
     Ok(())
 }
 
 #[test]
 fn a_failed_lookup_has_its_code(rt: HostRuntime) -> Result<(), Fail> {
-    let name = endpoint(rt.alloc(), "example.com", 80)?;
-    let mut outside = Outside::new(rt.alloc(), &[]);
-    outside.refusal = Some(ErrorKind::NotFound);
-    assert_eq!(rt; address_of(&outside, &name), Err(Code::CouldntResolveHost));
-    outside.refusal = Some(ErrorKind::OutOfMemory);
-    assert_eq!(rt; address_of(&outside, &name), Err(Code::OutOfMemory));
+    let cases = [
+        (ErrorKind::NotFound, Code::CouldntResolveHost),
+        (ErrorKind::OutOfMemory, Code::OutOfMemory),
+    ];
+    for (kind, want) in cases {
+        let address = address_at(rt.alloc(), "example.com", 80, &[], Some(kind))?;
+        assert_eq!(rt; address, Err(want));
+    }
     Ok(())
 }
 

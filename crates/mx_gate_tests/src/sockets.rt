@@ -1,17 +1,19 @@
 use crate::outside::{Outside, endpoint};
-use mx_gate::{Bell, Gate, SocketGate, Turn};
+use mx_gate::{Bell, Gate, SocketGate, SocketLink, Turn};
 use mx_link::{Connect, Link, Read, Write};
 use mx_request::Endpoint;
-use mx_types::{Code, OutOfMemory};
+use mx_types::Code;
+use std::alloc::{AllocError, AllocGlobal, Global};
 use std::io::{Read as _, Write as _};
-use std::net::TcpListener;
+use std::net::{Net, TcpListener, TcpStream};
 use std::process::Abort;
 use std::rt::Clock;
 use std::sync::atomic::{AtomicBool, Ordering};
 use std::sync::{Arc, Wait};
 use std::test::Fail;
-use std::thread;
+use std::thread::{JoinHandle, Threads};
 use std::time::{Duration, Instant};
+use std::{io, thread};
 
 // How often a test waits for a link, ten milliseconds each time, before it gives up.
 const TURNS: u32 = 1000;
@@ -52,27 +54,52 @@ fn serve_one(listener: &TcpListener) -> bool {
     stream.read_exact(&mut four).is_ok() && stream.write_all(&four).is_ok()
 }
 
-fn flag(rt: &HostRuntime) -> Result<Arc<AtomicBool>, Fail> {
-    Ok(Arc::new(rt.alloc(), AtomicBool::new(false))?)
+fn flag(alloc: Global) -> Result<Arc<AtomicBool>, AllocError> {
+    Ok(Arc::new(alloc, AtomicBool::new(false))?)
 }
 
-fn gate(rt: &HostRuntime) -> Result<SocketGate<'_, HostRuntime>, Fail> {
-    match SocketGate::new(rt, flag(rt)?) {
+// A gate that this flag stops.
+fn gate_with<R: Net + Clock + AllocGlobal>(
+    rt: &R,
+    stop: Arc<AtomicBool>,
+) -> Result<SocketGate<'_, R>, Fail> {
+    match SocketGate::new(rt, stop) {
         Ok(gate) => Ok(gate),
         Err(code) => Err(Fail::from(code.number())),
     }
 }
 
-fn link<G: Gate>(gate: &mut G, there: &Endpoint) -> Result<G::Link, Fail> {
-    match gate.open(there) {
-        Ok(link) => Ok(link),
+fn gate<R: Net + Clock + AllocGlobal>(rt: &R) -> Result<SocketGate<'_, R>, Fail> {
+    gate_with(rt, flag(rt.alloc())?)
+}
+
+// A gate whose clock started then.
+fn gate_since<R: Net + Clock + AllocGlobal>(
+    rt: &R,
+    start: Instant,
+) -> Result<SocketGate<'_, R>, Fail> {
+    match SocketGate::starting_at(rt, flag(rt.alloc())?, start) {
+        Ok(gate) => Ok(gate),
+        Err(code) => Err(Fail::from(code.number())),
+    }
+}
+
+// A gate, and a link that it opens to this port.
+fn gate_and_link<R: Net + Clock + AllocGlobal>(
+    rt: &R,
+    port: u16,
+) -> Result<(SocketGate<'_, R>, SocketLink), Fail> {
+    let there = endpoint(rt.alloc(), "127.0.0.1", port)?;
+    let mut gate = gate(rt)?;
+    match gate.open(&there) {
+        Ok(link) => Ok((gate, link)),
         Err(code) => Err(Fail::from(code.number())),
     }
 }
 
 // Writes four bytes to a peer that sends them back, reads them and sees the end. It owns neither gate nor link, so that an assertion that
 // fails lets neither go.
-fn send_and_read<R: Abort, G: Gate>(rt: &R, gate: &mut G, link: &mut G::Link) -> Result<(), Fail> {
+fn send_and_read<R: Abort, G: Gate>(rt: &R, gate: &mut G, link: &mut G::Link) {
     let connected = connect(gate, link);
     let written = link.try_write(b"ping");
     let came = read(gate, link);
@@ -80,44 +107,62 @@ fn send_and_read<R: Abort, G: Gate>(rt: &R, gate: &mut G, link: &mut G::Link) ->
     assert_eq!(rt; (connected, written), (Connect::Done, Write::Bytes(4)));
     assert_eq!(rt; (came, last), ((Read::Bytes(4), *b"ping----"), Read::End));
     assert_eq!(rt; (link.token(), link.failures()), (1, 0));
+}
+
+// The same, over a link of its own to the peer at this port.
+fn send_to<R: Net + Clock + AllocGlobal + Abort>(rt: &R, port: u16) -> Result<(), Fail> {
+    let (mut gate, mut link) = gate_and_link(rt, port)?;
+    send_and_read(rt, &mut gate, &mut link);
     Ok(())
+}
+
+// A thread that serves one connection, and its port.
+fn one_server<R: Net<Listener = TcpListener, Stream = TcpStream> + Threads>(
+    rt: &R,
+) -> Result<(u16, JoinHandle<bool>), Fail> {
+    let listener = TcpListener::bind(rt, "127.0.0.1:0")?;
+    let port = listener.local_addr()?.port();
+    let server = thread::spawn(rt, move || serve_one(&listener))?;
+    Ok((port, server))
 }
 
 #[test]
 fn a_link_writes_and_reads_and_sees_the_end(rt: HostRuntime) -> Result<(), Fail> {
-    let listener = TcpListener::bind(&rt, "127.0.0.1:0")?;
-    let port = listener.local_addr()?.port();
-    let server = thread::spawn(&rt, move || serve_one(&listener))?;
-    let mut gate = gate(&rt)?;
-    let there = endpoint(rt.alloc(), "127.0.0.1", port)?;
-    let mut link = link(&mut gate, &there)?;
-    send_and_read(&rt, &mut gate, &mut link)?;
+    let (port, server) = one_server(&rt)?;
+    send_to(&rt, port)?;
     assert!(rt; server.join(&rt));
     Ok(())
 }
 
+// What a test and its peer tell each other: that the peer is to send, and that it has.
+#[derive(Drop)]
+struct Told {
+    go: AtomicBool,
+    sent: AtomicBool,
+}
+
 // Sends two bytes once it is told to, and waits until it is told again.
-fn send_late(listener: &TcpListener, go: &AtomicBool, sent: &AtomicBool, rt: HostRuntime) -> bool {
+fn send_late<R: Clock + Wait>(rt: &R, listener: &TcpListener, told: &Told) -> bool {
     let Ok((mut stream, _)) = listener.accept() else {
         return false;
     };
     for _ in 0..TURNS {
-        if go.load(Ordering::SeqCst) {
+        if told.go.load(Ordering::SeqCst) {
             break;
         }
-        thread::sleep(&rt, Duration::from_millis(1));
+        thread::sleep(rt, Duration::from_millis(1));
     }
     let is_sent = stream.write_all(b"ab").is_ok();
-    sent.store(true, Ordering::SeqCst);
-    thread::sleep(&rt, Duration::from_millis(100));
+    told.sent.store(true, Ordering::SeqCst);
+    thread::sleep(rt, Duration::from_millis(100));
     is_sent
 }
 
 // Tells the peer to send, and waits until it says that it has.
-fn have_sent<R: Clock + Wait>(rt: &R, go: &AtomicBool, sent: &AtomicBool) {
-    go.store(true, Ordering::SeqCst);
+fn have_sent<R: Clock + Wait>(rt: &R, told: &Told) {
+    told.go.store(true, Ordering::SeqCst);
     for _ in 0..TURNS {
-        if sent.load(Ordering::SeqCst) {
+        if told.sent.load(Ordering::SeqCst) {
             return;
         }
         thread::sleep(rt, Duration::from_millis(1));
@@ -129,41 +174,66 @@ fn read_after_a_turn<R: Abort + Clock + Wait, G: Gate>(
     rt: &R,
     gate: &mut G,
     link: &mut G::Link,
-    go: &AtomicBool,
-    sent: &AtomicBool,
-) -> Result<(), Fail> {
+    told: &Told,
+) {
     let connected = connect(gate, link);
     gate.turn(0);
     let mut buffer = [0; 8];
     let early = link.try_read(&mut buffer);
-    have_sent(rt, go, sent);
-    let untold = link.try_read(&mut buffer);
-    let told = read(gate, link);
+    have_sent(rt, told);
+    let before = link.try_read(&mut buffer);
+    let after = read(gate, link);
     assert_eq!(rt;
-        (connected, early, untold),
+        (connected, early, before),
         (Connect::Done, Read::WouldBlock, Read::WouldBlock)
     );
-    assert_eq!(rt; told, (Read::Bytes(2), *b"ab------"));
+    assert_eq!(rt; after, (Read::Bytes(2), *b"ab------"));
+}
+
+// The same, over a link of its own to the peer at this port.
+fn read_from<R: Net + Clock + AllocGlobal + Wait + Abort>(
+    rt: &R,
+    port: u16,
+    told: &Told,
+) -> Result<(), Fail> {
+    let (mut gate, mut link) = gate_and_link(rt, port)?;
+    read_after_a_turn(rt, &mut gate, &mut link, told);
     Ok(())
+}
+
+// A thread that sends late, and its port.
+fn late_sender<
+    R: Net<Listener = TcpListener, Stream = TcpStream>
+        + Clock
+        + Wait
+        + Threads
+        + Copy
+        + Send
+        + Drop
+        + 'static,
+>(rt: &R, told: Arc<Told>) -> Result<(u16, JoinHandle<bool>), Fail> {
+    let listener = TcpListener::bind(rt, "127.0.0.1:0")?;
+    let port = listener.local_addr()?.port();
+    let rt_there = *rt;
+    let sender = thread::spawn(rt, move || send_late(&rt_there, &listener, &told))?;
+    Ok((port, sender))
 }
 
 // Bytes that came are not read before a turn has told of them: the link isn't asked.
 #[test]
 fn a_link_that_waits_is_not_asked_before_a_turn(rt: HostRuntime) -> Result<(), Fail> {
-    let listener = TcpListener::bind(&rt, "127.0.0.1:0")?;
-    let there = endpoint(rt.alloc(), "127.0.0.1", listener.local_addr()?.port())?;
-    let go = flag(&rt)?;
-    let sent = flag(&rt)?;
-    let (go_there, sent_there) = (Arc::try_clone(&go)?, Arc::try_clone(&sent)?);
-    let server = thread::spawn(
-        &rt,
-        move || send_late(&listener, &go_there, &sent_there, rt),
-    )?;
-    let mut gate = gate(&rt)?;
-    let mut link = link(&mut gate, &there)?;
-    read_after_a_turn(&rt, &mut gate, &mut link, &go, &sent)?;
-    assert!(rt; server.join(&rt));
+    let go = AtomicBool::new(false);
+    let sent = AtomicBool::new(false);
+    let told = Arc::new(rt.alloc(), Told { go, sent })?;
+    let (port, sender) = late_sender(&rt, Arc::try_clone(&told)?)?;
+    read_from(&rt, port, &told)?;
+    assert!(rt; sender.join(&rt));
     Ok(())
+}
+
+// The token of a link that is opened and let go.
+fn token<G: Gate>(gate: &mut G, there: &Endpoint) -> Result<u64, Code> {
+    Ok(gate.open(there)?.token())
 }
 
 #[test]
@@ -171,20 +241,39 @@ fn tokens_rise_from_1(rt: HostRuntime) -> Result<(), Fail> {
     let listener = TcpListener::bind(&rt, "127.0.0.1:0")?;
     let there = endpoint(rt.alloc(), "127.0.0.1", listener.local_addr()?.port())?;
     let mut gate = gate(&rt)?;
-    for token in 1..4u64 {
-        assert_eq!(rt; link(&mut gate, &there)?.token(), token);
-    }
+    let tokens = [
+        token(&mut gate, &there),
+        token(&mut gate, &there),
+        token(&mut gate, &there),
+    ];
+    drop(gate);
+    assert_eq!(rt; tokens, [Ok(1), Ok(2), Ok(3)]);
     Ok(())
+}
+
+// What becomes of a connection, or the code of an open that is refused.
+fn try_connect<G: Gate>(gate: &mut G, there: &Endpoint) -> Result<Connect, Code> {
+    let mut link = gate.open(there)?;
+    Ok(connect(gate, &mut link))
+}
+
+// The same, of a new gate.
+fn connection_to<R: Net + Clock + AllocGlobal>(
+    rt: &R,
+    host: &str,
+    port: u16,
+) -> Result<Result<Connect, Code>, Fail> {
+    let there = endpoint(rt.alloc(), host, port)?;
+    let mut gate = gate(rt)?;
+    Ok(try_connect(&mut gate, &there))
 }
 
 // The system may refuse at once, or once it was asked whether the connection stands.
 #[test]
 fn a_refused_connection_is_told(rt: HostRuntime) -> Result<(), Fail> {
     let port = TcpListener::bind(&rt, "127.0.0.1:0")?.local_addr()?.port();
-    let there = endpoint(rt.alloc(), "127.0.0.1", port)?;
-    let mut gate = gate(&rt)?;
-    match gate.open(&there) {
-        Ok(mut link) => assert_eq!(rt; connect(&mut gate, &mut link), Connect::Fault),
+    match connection_to(&rt, "127.0.0.1", port)? {
+        Ok(connect) => assert_eq!(rt; connect, Connect::Fault),
         Err(code) => assert_eq!(rt; code, Code::CouldntConnect),
     }
     Ok(())
@@ -192,74 +281,99 @@ fn a_refused_connection_is_told(rt: HostRuntime) -> Result<(), Fail> {
 
 #[test]
 fn an_address_that_no_connection_goes_to_is_7(rt: HostRuntime) -> Result<(), Fail> {
-    let broadcast = endpoint(rt.alloc(), "255.255.255.255", 80)?;
-    let mut gate = gate(&rt)?;
-    assert_eq!(rt; gate.open(&broadcast).err(), Some(Code::CouldntConnect));
+    let connection = connection_to(&rt, "255.255.255.255", 80)?;
+    assert_eq!(rt; connection, Err(Code::CouldntConnect));
     Ok(())
 }
 
 // RFC 2606, section 2: no name ends in .invalid.
 #[test]
 fn a_host_that_does_not_resolve_is_6(rt: HostRuntime) -> Result<(), Fail> {
-    let nowhere = endpoint(rt.alloc(), "nowhere.invalid", 80)?;
-    let mut gate = gate(&rt)?;
-    assert_eq!(rt; gate.open(&nowhere).err(), Some(Code::CouldntResolveHost));
+    let connection = connection_to(&rt, "nowhere.invalid", 80)?;
+    assert_eq!(rt; connection, Err(Code::CouldntResolveHost));
     Ok(())
 }
 
 // Rings after a while.
-fn ring_late(rt: HostRuntime, bell: &Bell) -> bool {
-    thread::sleep(&rt, Duration::from_millis(50));
+fn ring_late<R: Clock + Wait>(rt: &R, bell: &Bell) -> bool {
+    thread::sleep(rt, Duration::from_millis(50));
     bell.ring().is_ok()
+}
+
+// How long a long turn takes in which a thread rings, what it answers, and whether the thread rang.
+fn turn_until_rung<R: Clock + Wait + Threads + Copy + Send + Drop + 'static, G: Gate>(
+    rt: &R,
+    gate: &mut G,
+    bell: Bell,
+) -> Result<(Duration, Turn, bool), Fail> {
+    let start = Instant::now(rt)?;
+    let rt_there = *rt;
+    let ringer = thread::spawn(rt, move || ring_late(&rt_there, &bell))?;
+    let turn = gate.turn(20_000);
+    let passed = start.elapsed(rt)?;
+    Ok((passed, turn, ringer.join(rt)))
 }
 
 #[test]
 fn the_bell_ends_a_wait(rt: HostRuntime) -> Result<(), Fail> {
     let mut gate = gate(&rt)?;
     let bell = gate.bell()?;
-    let start = Instant::now(&rt)?;
-    let ringer = thread::spawn(&rt, move || ring_late(rt, &bell))?;
-    assert_eq!(rt; gate.turn(20_000), Turn::Continue);
-    let passed = start.elapsed(&rt)?;
+    let told = turn_until_rung(&rt, &mut gate, bell);
+    drop(gate);
+    let (passed, turn, is_rung) = told?;
+    assert_eq!(rt; (turn, is_rung), (Turn::Continue, true));
     assert!(rt; passed >= Duration::from_millis(40) && passed < Duration::from_secs(10));
-    assert!(rt; ringer.join(&rt));
     Ok(())
+}
+
+// Rings two bells. It answers how long a long turn of their gate then takes.
+fn time_after_rings<R: Clock, G: Gate>(
+    rt: &R,
+    gate: &mut G,
+    bells: (Bell, Bell),
+) -> io::Result<Duration> {
+    let (bell, other) = bells;
+    let start = Instant::now(rt)?;
+    bell.ring()?;
+    other.ring()?;
+    gate.turn(20_000);
+    start.elapsed(rt)
 }
 
 #[test]
 fn a_ring_ends_the_next_wait(rt: HostRuntime) -> Result<(), Fail> {
     let mut gate = gate(&rt)?;
-    let bell = gate.bell()?;
-    let other = gate.bell()?;
-    let start = Instant::now(&rt)?;
-    bell.ring()?;
-    other.ring()?;
-    gate.turn(20_000);
-    assert!(rt; start.elapsed(&rt)? < Duration::from_secs(10));
+    let bells = (gate.bell()?, gate.bell()?);
+    let passed = time_after_rings(&rt, &mut gate, bells);
+    drop(gate);
+    assert!(rt; passed? < Duration::from_secs(10));
     Ok(())
+}
+
+// How long a hundred turns take that don't wait, and how long together with one that waits 300 milliseconds.
+fn time_of_turns<R: Clock, G: Gate>(rt: &R, gate: &mut G) -> io::Result<(Duration, Duration)> {
+    let start = Instant::now(rt)?;
+    for _ in 0..100 {
+        gate.turn(0);
+    }
+    let at_once = start.elapsed(rt)?;
+    gate.turn(300);
+    Ok((at_once, start.elapsed(rt)?))
 }
 
 #[test]
 fn a_wait_takes_its_time(rt: HostRuntime) -> Result<(), Fail> {
     let mut gate = gate(&rt)?;
-    let start = Instant::now(&rt)?;
-    for _ in 0..100 {
-        gate.turn(0);
-    }
-    let at_once = start.elapsed(&rt)?;
-    gate.turn(300);
-    let waited = start.elapsed(&rt)?;
+    let times = time_of_turns(&rt, &mut gate);
+    drop(gate);
+    let (at_once, waited) = times?;
     assert!(rt; at_once < Duration::from_millis(290));
     assert!(rt; waited >= Duration::from_millis(290) && waited < Duration::from_secs(10));
     Ok(())
 }
 
 // Takes turns while the flag is clear, set, and clear again.
-fn turn_by_the_flag<R: Abort, G: Gate>(
-    rt: &R,
-    gate: &mut G,
-    stop: &AtomicBool,
-) -> Result<(), Fail> {
+fn turn_by_the_flag<R: Abort, G: Gate>(rt: &R, gate: &mut G, stop: &AtomicBool) {
     let clear = gate.turn(0);
     stop.store(true, Ordering::SeqCst);
     let set = [gate.turn(0), gate.turn(0)];
@@ -269,47 +383,37 @@ fn turn_by_the_flag<R: Abort, G: Gate>(
         (clear, set, again),
         (Turn::Continue, [Turn::Stop, Turn::Stop], Turn::Continue)
     );
-    Ok(())
 }
 
 #[test]
 fn the_flag_stops_turns_while_it_is_set(rt: HostRuntime) -> Result<(), Fail> {
-    let stop = flag(&rt)?;
-    let Ok(mut gate) = SocketGate::new(&rt, Arc::try_clone(&stop)?) else {
-        return Err(Fail::from(OutOfMemory));
-    };
-    turn_by_the_flag(&rt, &mut gate, &stop)
+    let stop = flag(rt.alloc())?;
+    let mut gate = gate_with(&rt, Arc::try_clone(&stop)?)?;
+    turn_by_the_flag(&rt, &mut gate, &stop);
+    Ok(())
 }
 
 // Tells the same moments as another gate.
-fn tell_alike<R: Abort, G: Gate>(
-    rt: &R,
-    outside: &Outside,
-    one: &mut G,
-    two: &mut G,
-) -> Result<(), Fail> {
-    assert_eq!(rt; (one.now(), two.now()), (400, 400));
+fn tell_alike<R: Abort, G: Gate>(rt: &R, outside: &Outside, one: &mut G, two: &mut G) {
+    let early = (one.now(), two.now());
     outside.milliseconds.store(2500, Ordering::SeqCst);
-    assert_eq!(rt; (one.now(), two.now()), (1500, 1500));
-    Ok(())
+    let late = (one.now(), two.now());
+    assert_eq!(rt; [early, late], [(400, 400), (1500, 1500)]);
 }
 
 #[test]
 fn gates_with_one_start_tell_the_same_moments(rt: HostRuntime) -> Result<(), Fail> {
     let outside = Outside::new(rt.alloc(), &[]);
     outside.milliseconds.store(1000, Ordering::SeqCst);
-    let Ok(mut one) = SocketGate::new(&outside, flag(&rt)?) else {
-        return Err(Fail::from(OutOfMemory));
-    };
+    let mut one = gate(&outside)?;
     outside.milliseconds.store(1400, Ordering::SeqCst);
-    let Ok(mut two) = SocketGate::starting_at(&outside, flag(&rt)?, one.start()) else {
-        return Err(Fail::from(OutOfMemory));
-    };
-    tell_alike(&rt, &outside, &mut one, &mut two)
+    let mut two = gate_since(&outside, one.start())?;
+    tell_alike(&rt, &outside, &mut one, &mut two);
+    Ok(())
 }
 
 // Tells moments of a clock that goes on, falls, fails and goes on.
-fn tell_moments<R: Abort, G: Gate>(rt: &R, outside: &Outside, gate: &mut G) -> Result<(), Fail> {
+fn tell_moments<R: Abort, G: Gate>(rt: &R, outside: &Outside, gate: &mut G) {
     let begun = gate.now();
     outside.milliseconds.store(1500, Ordering::SeqCst);
     let later = gate.now();
@@ -324,26 +428,22 @@ fn tell_moments<R: Abort, G: Gate>(rt: &R, outside: &Outside, gate: &mut G) -> R
         [begun, later, fallen, broken, mended],
         [0, 500, 500, 500, 1000]
     );
-    Ok(())
 }
 
 #[test]
 fn moments_stay_where_the_clock_fails_or_falls(rt: HostRuntime) -> Result<(), Fail> {
     let outside = Outside::new(rt.alloc(), &[]);
     outside.milliseconds.store(1000, Ordering::SeqCst);
-    let Ok(mut gate) = SocketGate::new(&outside, flag(&rt)?) else {
-        return Err(Fail::from(OutOfMemory));
-    };
-    tell_moments(&rt, &outside, &mut gate)
+    let mut gate = gate(&outside)?;
+    tell_moments(&rt, &outside, &mut gate);
+    Ok(())
 }
 
 #[test]
 fn a_gate_without_a_clock_is_refused(rt: HostRuntime) -> Result<(), Fail> {
     let outside = Outside::new(rt.alloc(), &[]);
     outside.is_clock_broken.store(true, Ordering::SeqCst);
-    assert_eq!(rt;
-        SocketGate::new(&outside, flag(&rt)?).err(),
-        Some(Code::CouldntConnect)
-    );
+    let code = SocketGate::new(&outside, flag(rt.alloc())?).err();
+    assert_eq!(rt; code, Some(Code::CouldntConnect));
     Ok(())
 }
