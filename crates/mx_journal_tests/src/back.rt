@@ -105,50 +105,78 @@ fn two_added(alloc: Global, log: &mut VecLog) -> Result<Control<Job, End>, Fail>
     Ok(control)
 }
 
+/// The ticket and the number of the work that is claimed next.
+fn next(control: &mut Control<Job, End>) -> Option<(u32, u32)> {
+    let held = claim(control)?;
+    Some((held.ticket(), held.job.number))
+}
+
+/// As `next`, and whether the end of it is recorded.
+fn finish_next(control: &mut Control<Job, End>, log: &mut VecLog) -> Option<(u32, u32, bool)> {
+    let held = claim(control)?;
+    let (ticket, number) = (held.ticket(), held.job.number);
+    Some((ticket, number, held.finish(control, log)))
+}
+
+/// Claims two, and gives them back in the other order: whether there is a third, and the numbers of stale work.
+fn give_two_back(control: &mut Control<Job, End>) -> Option<(bool, [Option<u32>; 2])> {
+    let first = claim(control)?;
+    let second = claim(control)?;
+    let has_third = next(control).is_some();
+    let stale = [second.give_back(control), first.give_back(control)];
+    Some((has_third, stale))
+}
+
 /// Two are claimed, and given back in the other order: the next claims go by ticket.
-fn by_ticket(rt: &impl Abort, alloc: Global) -> Result<(), Fail> {
-    let mut log = VecLog::new(alloc);
-    let mut control = two_added(alloc, &mut log)?;
-    let first = claim(&mut control).ok_or("work")?;
-    let second = claim(&mut control).ok_or("work")?;
-    assert!(rt; claim(&mut control).is_none());
-    assert_eq!(rt; second.give_back(&mut control), None);
-    assert_eq!(rt; first.give_back(&mut control), None);
-    assert_eq!(rt; control.len(), 2);
-    let next = claim(&mut control).ok_or("work")?;
-    assert_eq!(rt; (next.ticket(), next.job.number), (0, 70));
-    let last = claim(&mut control).ok_or("work")?;
-    assert_eq!(rt; (last.ticket(), last.job.number), (1, 80));
-    assert!(rt; last.finish(&mut control, &mut log));
-    Ok(())
+fn by_ticket(rt: &impl Abort, control: &mut Control<Job, End>, log: &mut VecLog) {
+    let back = give_two_back(control);
+    let count = control.len();
+    let first = next(control);
+    let second = finish_next(control, log);
+    assert_eq!(rt; (back, count), (Some((false, [None, None])), 2));
+    assert_eq!(rt; (first, second), (Some((0, 70)), Some((1, 80, true))));
+}
+
+/// Claims handle 7, removes it, and gives the work back: what the removal answers, and the number of stale work.
+fn give_back_removed(
+    control: &mut Control<Job, End>,
+    log: &mut VecLog,
+) -> Option<(RemoveReply, Option<u32>)> {
+    let held = claim(control)?;
+    let reply = control.remove(log, SEAT, HandleId(7));
+    Some((reply, held.give_back(control)))
 }
 
 /// After the handle's removal the work is stale, and so it is after an end; nothing changes then.
-fn stale_after_a_removal(rt: &impl Abort, alloc: Global) -> Result<(), Fail> {
-    let mut log = VecLog::new(alloc);
-    let mut control = two_added(alloc, &mut log)?;
-    let first = claim(&mut control).ok_or("work")?;
-    let reply = control.remove(&mut log, SEAT, HandleId(7));
-    assert!(rt; matches!(reply, RemoveReply::Removed));
-    assert_eq!(rt; first.give_back(&mut control), Some(70));
-    assert_eq!(rt; (control.len(), log.events().len()), (3, 3));
-    let next = claim(&mut control).ok_or("work")?;
-    assert_eq!(rt; next.ticket(), 1);
-    assert!(rt; claim(&mut control).is_none());
-    Ok(())
+fn stale_after_a_removal(rt: &impl Abort, control: &mut Control<Job, End>, log: &mut VecLog) {
+    let back = give_back_removed(control, log);
+    let counts = (control.len(), log.events().len());
+    let claims = [next(control), next(control)];
+    assert_eq!(rt;
+        (back, counts),
+        (Some((RemoveReply::Removed, Some(70))), (3, 3))
+    );
+    assert_eq!(rt; claims, [Some((1, 80)), None]);
+}
+
+/// Claims handle 7, pauses it, and gives the work back: what the pause answers, and the number of stale work.
+fn give_back_paused(
+    control: &mut Control<Job, End>,
+    log: &mut VecLog,
+) -> Option<(PauseReply, Option<u32>)> {
+    let held = claim(control)?;
+    let reply = control.pause(log, SEAT, HandleId(7));
+    Some((reply, held.give_back(control)))
 }
 
 /// A paused transfer's work goes back to its place, too, and is claimed from there while it is paused.
-fn back_while_paused(rt: &impl Abort, alloc: Global) -> Result<(), Fail> {
-    let mut log = VecLog::new(alloc);
-    let mut control = two_added(alloc, &mut log)?;
-    let first = claim(&mut control).ok_or("work")?;
-    let reply = control.pause(&mut log, SEAT, HandleId(7));
-    assert!(rt; matches!(reply, PauseReply::Changed));
-    assert_eq!(rt; first.give_back(&mut control), None);
-    let next = claim(&mut control).ok_or("work")?;
-    assert_eq!(rt; next.ticket(), 0);
-    Ok(())
+fn back_while_paused(rt: &impl Abort, control: &mut Control<Job, End>, log: &mut VecLog) {
+    let back = give_back_paused(control, log);
+    let first = next(control);
+    assert_eq!(rt;
+        (back, first),
+        (Some((PauseReply::Changed, None)), Some((0, 70)))
+    );
 }
 
 /// Work that is given back right after its claim leaves the control state as it was, by the contracts of the two calls alone.
@@ -164,25 +192,38 @@ fn claim_and_give_back(control: &mut Control<Job, End>)
 
 #[test]
 fn given_back_work_is_claimed_by_ticket(rt: HostRuntime) -> Result<(), Fail> {
-    by_ticket(&rt, rt.alloc())
+    let mut log = VecLog::new(rt.alloc());
+    let mut control = two_added(rt.alloc(), &mut log)?;
+    by_ticket(&rt, &mut control, &mut log);
+    Ok(())
 }
 
 #[test]
 fn given_back_work_of_a_removed_handle_is_stale(rt: HostRuntime) -> Result<(), Fail> {
-    stale_after_a_removal(&rt, rt.alloc())
+    let mut log = VecLog::new(rt.alloc());
+    let mut control = two_added(rt.alloc(), &mut log)?;
+    stale_after_a_removal(&rt, &mut control, &mut log);
+    Ok(())
 }
 
 #[test]
 fn given_back_work_may_be_paused(rt: HostRuntime) -> Result<(), Fail> {
-    back_while_paused(&rt, rt.alloc())
+    let mut log = VecLog::new(rt.alloc());
+    let mut control = two_added(rt.alloc(), &mut log)?;
+    back_while_paused(&rt, &mut control, &mut log);
+    Ok(())
+}
+
+/// The next claim is the first, as if there had been none before it.
+fn without_trace(rt: &impl Abort, control: &mut Control<Job, End>) {
+    claim_and_give_back(control);
+    assert_eq!(rt; next(control), Some((0, 70)));
 }
 
 #[test]
 fn a_claim_that_is_given_back_left_no_trace(rt: HostRuntime) -> Result<(), Fail> {
     let mut log = VecLog::new(rt.alloc());
     let mut control = two_added(rt.alloc(), &mut log)?;
-    claim_and_give_back(&mut control);
-    let first = claim(&mut control).ok_or("work")?;
-    assert_eq!(rt; (first.ticket(), first.job.number), (0, 70));
+    without_trace(&rt, &mut control);
     Ok(())
 }
