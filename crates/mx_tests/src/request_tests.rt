@@ -82,6 +82,15 @@ fn plain_urls(rt: HostRuntime) -> Result<(), Fail> {
     )
 }
 
+/// Compares the bytes, the method and the time of a request.
+fn has_all(rt: &impl Abort, request: &Request, sent: &str, method: Method, timeout_ms: u32) {
+    assert_eq!(rt; request.bytes(), sent.as_bytes());
+    assert_eq!(rt;
+        (request.method(), request.timeout_ms()),
+        (method, timeout_ms)
+    );
+}
+
 #[test]
 fn all_that_settings_add(rt: HostRuntime) -> Result<(), Fail> {
     let alloc = rt.alloc();
@@ -93,9 +102,7 @@ fn all_that_settings_add(rt: HostRuntime) -> Result<(), Fail> {
     let sent =
         "POST /p HTTP/1.1\r\nHost: example.com\r\nUser-Agent: mx/1\r\nAccept: */*\r\nX-A: 1\r\n\
         Content-Length: 2\r\n\r\nhi";
-    assert_eq!(rt; request.bytes(), sent.as_bytes());
-    assert_eq!(rt; request.method(), Method::Post);
-    assert_eq!(rt; request.timeout_ms(), 250);
+    has_all(&rt, &request, sent, Method::Post, 250);
     Ok(())
 }
 
@@ -104,8 +111,7 @@ fn a_callers_own_accept(rt: HostRuntime) -> Result<(), Fail> {
     let settings = with_field(rt.alloc(), "accept", "text/plain")?;
     let request = Request::build(rt.alloc(), Method::Get, "http://example.com/", settings)?;
     let sent = "GET / HTTP/1.1\r\nHost: example.com\r\naccept: text/plain\r\n\r\n";
-    assert_eq!(rt; request.bytes(), sent.as_bytes());
-    assert_eq!(rt; request.timeout_ms(), 0);
+    has_all(&rt, &request, sent, Method::Get, 0);
     Ok(())
 }
 
@@ -118,18 +124,32 @@ fn an_empty_body_has_its_length(rt: HostRuntime) -> Result<(), Fail> {
     Ok(())
 }
 
+/// Compares a copy of an endpoint with the host and the port, with the endpoint itself, and with another one.
+fn is_copy(
+    rt: &impl Abort,
+    copy: &Endpoint,
+    endpoint: &Endpoint,
+    other: &Endpoint,
+    host: &str,
+    port: u16,
+) {
+    assert_eq!(rt; (copy.host.as_str(), copy.port), (host, port));
+    assert_eq!(rt;
+        (*copy == *endpoint, *copy != *other),
+        (true, true),
+        "for {host}"
+    );
+}
+
 /// Tests the endpoint of a URL, that its copy equals it, and that another port doesn't.
 fn goes_to(rt: &impl Abort, alloc: Global, url: &str, host: &str, port: u16) -> Result<(), Fail> {
     let request = Request::build(alloc, Method::Get, url, Settings::new(alloc))?;
     let copy = request.endpoint().copy(alloc)?;
-    assert!(rt; copy == *request.endpoint(), "for {url}");
-    assert_eq!(rt; copy.host.as_str(), host);
-    assert_eq!(rt; copy.port, port);
     let other = Endpoint {
         host: String::from_str(alloc, host)?,
         port: 9,
     };
-    assert!(rt; copy != other, "for {url}");
+    is_copy(rt, &copy, request.endpoint(), &other, host, port);
     Ok(())
 }
 
@@ -157,55 +177,68 @@ fn refuses_url(
 
 #[test]
 fn refused_urls(rt: HostRuntime) -> Result<(), Fail> {
-    let alloc = rt.alloc();
-    refuses_url(&rt, alloc, "https://u@example.com/", RequestError::Scheme)?;
-    refuses_url(&rt, alloc, "mailto:a@example.com", RequestError::Scheme)?;
-    refuses_url(&rt, alloc, "example.com", RequestError::Malformed)?;
-    refuses_url(&rt, alloc, "http:///", RequestError::Malformed)?;
-    refuses_url(&rt, alloc, "http://h:65536/", RequestError::Malformed)?;
-    refuses_url(&rt, alloc, "http://u@example.com/", RequestError::UserInfo)?;
-    refuses_url(&rt, alloc, "http://:p@example.com/", RequestError::UserInfo)?;
-    // no line end gets into a host
-    refuses_url(
-        &rt,
-        alloc,
-        "http://exam%0aple.com/",
-        RequestError::Malformed,
-    )?;
-    refuses_url(&rt, alloc, "http://a%0d%0ab/", RequestError::Malformed)?;
-    refuses_url(&rt, alloc, "http://a b/", RequestError::Malformed)
+    for (url, refusal) in [
+        ("https://u@example.com/", RequestError::Scheme),
+        ("mailto:a@example.com", RequestError::Scheme),
+        ("example.com", RequestError::Malformed),
+        ("http:///", RequestError::Malformed),
+        ("http://h:65536/", RequestError::Malformed),
+        ("http://u@example.com/", RequestError::UserInfo),
+        ("http://:p@example.com/", RequestError::UserInfo),
+        // no line end gets into a host
+        ("http://exam%0aple.com/", RequestError::Malformed),
+        ("http://a%0d%0ab/", RequestError::Malformed),
+        ("http://a b/", RequestError::Malformed),
+    ] {
+        refuses_url(&rt, rt.alloc(), url, refusal)?;
+    }
+    Ok(())
+}
+
+/// What a request is refused for.
+fn refusal(alloc: Global, method: Method, url: &str, settings: Settings) -> Option<RequestError> {
+    Request::build(alloc, method, url, settings).err()
+}
+
+/// Settings with just this field and a body that is too large.
+fn with_field_and_body(alloc: Global, name: &str, value: &str) -> Result<Settings, AllocError> {
+    let mut settings = with_field(alloc, name, value)?;
+    settings.body = Some(vec![in alloc; b'b'; 1_048_577]?);
+    Ok(settings)
 }
 
 /// Tests that a field is refused, also with a body that is too large.
 fn refuses_field(rt: &impl Abort, alloc: Global, name: &str, value: &str) -> Result<(), Fail> {
-    let settings = with_field(alloc, name, value)?;
-    let refused = Request::build(alloc, Method::Get, "http://example.com/", settings).err();
-    assert_eq!(rt; refused, Some(RequestError::BadField), "for {name}");
-    let mut settings = with_field(alloc, name, value)?;
-    settings.body = Some(vec![in alloc; b'b'; 1_048_577]?);
-    let refused = Request::build(alloc, Method::Get, "http://example.com/", settings).err();
+    let url = "http://example.com/";
+    let alone = refusal(alloc, Method::Get, url, with_field(alloc, name, value)?);
+    let settings = with_field_and_body(alloc, name, value)?;
+    let with_body = refusal(alloc, Method::Get, url, settings);
     assert_eq!(rt;
-        refused,
-        Some(RequestError::BadField),
-        "for {name} and a body"
+        (alone, with_body),
+        (Some(RequestError::BadField), Some(RequestError::BadField)),
+        "for {name}"
     );
     Ok(())
 }
 
 #[test]
 fn refused_fields(rt: HostRuntime) -> Result<(), Fail> {
-    let alloc = rt.alloc();
-    refuses_field(&rt, alloc, "Host", "x")?;
-    refuses_field(&rt, alloc, "USER-AGENT", "x")?;
-    refuses_field(&rt, alloc, "content-length", "2")?;
-    refuses_field(&rt, alloc, "Transfer-encoding", "chunked")?;
-    refuses_field(&rt, alloc, "Connection", "close")?;
-    refuses_field(&rt, alloc, "Expect", "100-continue")?;
-    refuses_field(&rt, alloc, "upgrade", "h2c")?;
-    refuses_field(&rt, alloc, "te", "trailers")?;
-    refuses_field(&rt, alloc, "Trailer", "X")?;
-    refuses_field(&rt, alloc, "", "1")?;
-    refuses_field(&rt, alloc, "X-A", "1\r2")
+    for (name, value) in [
+        ("Host", "x"),
+        ("USER-AGENT", "x"),
+        ("content-length", "2"),
+        ("Transfer-encoding", "chunked"),
+        ("Connection", "close"),
+        ("Expect", "100-continue"),
+        ("upgrade", "h2c"),
+        ("te", "trailers"),
+        ("Trailer", "X"),
+        ("", "1"),
+        ("X-A", "1\r2"),
+    ] {
+        refuses_field(&rt, rt.alloc(), name, value)?;
+    }
+    Ok(())
 }
 
 /// Settings with so many fields.
@@ -225,56 +258,68 @@ fn with_agent(alloc: Global, len: usize) -> Result<Settings, AllocError> {
     Ok(settings)
 }
 
-/// What a request is refused for.
-fn refusal(alloc: Global, url: &str, settings: Settings) -> Option<RequestError> {
-    Request::build(alloc, Method::Post, url, settings).err()
+/// What a `POST` to a short URL is refused for.
+fn post_refusal(alloc: Global, settings: Settings) -> Option<RequestError> {
+    refusal(alloc, Method::Post, "http://h/", settings)
 }
 
 #[test]
 fn limits_of_bodies_and_fields(rt: HostRuntime) -> Result<(), Fail> {
     let alloc = rt.alloc();
-    assert_eq!(rt;
-        refusal(alloc, "http://h/", with_body(alloc, 1_048_576)?),
-        None
-    );
-    let refused = refusal(alloc, "http://h/", with_body(alloc, 1_048_577)?);
-    assert_eq!(rt; refused, Some(RequestError::BodyTooLarge));
-    assert_eq!(rt; refusal(alloc, "http://h/", with_count(alloc, 64)?), None);
-    let refused = refusal(alloc, "http://h/", with_count(alloc, 65)?);
-    assert_eq!(rt; refused, Some(RequestError::BadField));
+    let bodies = [
+        post_refusal(alloc, with_body(alloc, 1_048_576)?),
+        post_refusal(alloc, with_body(alloc, 1_048_577)?),
+    ];
+    let counts = [
+        post_refusal(alloc, with_count(alloc, 64)?),
+        post_refusal(alloc, with_count(alloc, 65)?),
+    ];
+    assert_eq!(rt; bodies, [None, Some(RequestError::BodyTooLarge)]);
+    assert_eq!(rt; counts, [None, Some(RequestError::BadField)]);
     Ok(())
+}
+
+/// Settings with a field of a value of so many bytes.
+fn with_long_value(alloc: Global, len: usize) -> Result<Settings, AllocError> {
+    let long = longer(alloc, "", 'v', len)?;
+    with_field(alloc, "X", long.as_str())
 }
 
 #[test]
 fn limits_of_values(rt: HostRuntime) -> Result<(), Fail> {
     let alloc = rt.alloc();
-    assert_eq!(rt;
-        refusal(alloc, "http://h/", with_agent(alloc, 8_192)?),
-        None
-    );
-    let refused = refusal(alloc, "http://h/", with_agent(alloc, 8_193)?);
-    assert_eq!(rt; refused, Some(RequestError::BadField));
-    let long = longer(alloc, "", 'v', 8_192)?;
-    assert_eq!(rt;
-        refusal(alloc, "http://h/", with_field(alloc, "X", long.as_str())?),
-        None
-    );
-    let long = longer(alloc, "", 'v', 8_193)?;
-    let refused = refusal(alloc, "http://h/", with_field(alloc, "X", long.as_str())?);
-    assert_eq!(rt; refused, Some(RequestError::BadField));
+    let agents = [
+        post_refusal(alloc, with_agent(alloc, 8_192)?),
+        post_refusal(alloc, with_agent(alloc, 8_193)?),
+    ];
+    let values = [
+        post_refusal(alloc, with_long_value(alloc, 8_192)?),
+        post_refusal(alloc, with_long_value(alloc, 8_193)?),
+    ];
+    assert_eq!(rt; agents, [None, Some(RequestError::BadField)]);
+    assert_eq!(rt; values, [None, Some(RequestError::BadField)]);
     Ok(())
+}
+
+/// The length of a URL with so many bytes behind its host, and what a `POST` to it is refused for.
+fn text_refusal(alloc: Global, more: usize) -> Result<(usize, Option<RequestError>), AllocError> {
+    let text = longer(alloc, "http://example.com/", 'a', more)?;
+    let settings = Settings::new(alloc);
+    Ok((
+        text.len(),
+        refusal(alloc, Method::Post, text.as_str(), settings),
+    ))
 }
 
 #[test]
 fn limit_of_texts(rt: HostRuntime) -> Result<(), Fail> {
-    let alloc = rt.alloc();
-    let text = longer(alloc, "http://example.com/", 'a', 65_517)?;
-    assert_eq!(rt; text.len(), 65_536);
-    assert_eq!(rt; refusal(alloc, text.as_str(), Settings::new(alloc)), None);
-    for more in [65_518, 69_981] {
-        let text = longer(alloc, "http://example.com/", 'a', more)?;
-        let refused = refusal(alloc, text.as_str(), Settings::new(alloc));
-        assert_eq!(rt; refused, Some(RequestError::Malformed), "{more} more bytes");
+    let malformed = Some(RequestError::Malformed);
+    for (more, len, refused) in [
+        (65_517, 65_536, None),
+        (65_518, 65_537, malformed),
+        (69_981, 70_000, malformed),
+    ] {
+        assert_eq!(rt; text_refusal(rt.alloc(), more)?, (len, refused));
     }
     Ok(())
 }
@@ -347,6 +392,24 @@ fn count_of(bytes: &[u8], byte: u8) -> usize {
     bytes.iter().filter(|b| **b == byte).count()
 }
 
+/// How many LF and CR a request with the field has, or what it is refused for.
+fn line_ends(
+    alloc: Global,
+    name: &str,
+    value: &str,
+) -> Result<Result<(usize, usize), RequestError>, AllocError> {
+    let settings = with_field(alloc, name, value)?;
+    Ok(
+        match Request::build(alloc, Method::Get, "http://example.com/", settings) {
+            Ok(request) => Ok((
+                count_of(request.bytes(), b'\n'),
+                count_of(request.bytes(), b'\r'),
+            )),
+            Err(refused) => Err(refused),
+        },
+    )
+}
+
 /// Tests that a field is refused exactly where it isn't allowed, and that a request that is built has no line
 /// beside its own.
 fn tries_field(
@@ -356,18 +419,13 @@ fn tries_field(
     value: &str,
     is_allowed: bool,
 ) -> Result<(), Fail> {
-    let settings = with_field(alloc, name, value)?;
-    match Request::build(alloc, Method::Get, "http://example.com/", settings) {
-        Ok(request) => {
-            assert!(rt; is_allowed, "{name:?}: {value:?} was let through");
-            assert_eq!(rt; count_of(request.bytes(), b'\n'), 5);
-            assert_eq!(rt; count_of(request.bytes(), b'\r'), 5);
-        }
-        Err(refused) => {
-            assert!(rt; !is_allowed, "{name:?}: {value:?} was refused");
-            assert_eq!(rt; refused, RequestError::BadField);
-        }
-    }
+    let expected = if is_allowed {
+        Ok((5, 5))
+    } else {
+        Err(RequestError::BadField)
+    };
+    let found = line_ends(alloc, name, value)?;
+    assert_eq!(rt; found, expected, "{name:?}: {value:?}");
     Ok(())
 }
 
@@ -413,67 +471,58 @@ fn tells(
     code: Code,
     message: &str,
 ) -> Result<(), Fail> {
-    assert_eq!(rt; refusal.number(), number);
-    assert_eq!(rt; refusal.code(), code);
-    assert_eq!(rt; refusal.to_string(alloc)?.as_str(), message);
+    let text = refusal.to_string(alloc)?;
+    assert_eq!(rt;
+        (refusal.number(), refusal.code(), text.as_str()),
+        (number, code, message)
+    );
     Ok(())
 }
 
-#[test]
-fn refusals_have_numbers_codes_and_messages(rt: HostRuntime) -> Result<(), Fail> {
-    let alloc = rt.alloc();
-    let text = "the scheme of the URL isn't http";
-    tells(
-        &rt,
-        alloc,
+/// Each refusal with its number, its code and its message.
+const REFUSALS: [(RequestError, u32, Code, &str); 6] = [
+    (
         RequestError::Scheme,
         1,
         Code::UnsupportedProtocol,
-        text,
-    )?;
-    let text = "the URL doesn't parse, or is over 65,536 bytes";
-    tells(
-        &rt,
-        alloc,
+        "the scheme of the URL isn't http",
+    ),
+    (
         RequestError::Malformed,
         2,
         Code::UrlMalformat,
-        text,
-    )?;
-    let text = "the URL has a user name or a password";
-    tells(
-        &rt,
-        alloc,
+        "the URL doesn't parse, or is over 65,536 bytes",
+    ),
+    (
         RequestError::UserInfo,
         3,
         Code::UrlMalformat,
-        text,
-    )?;
-    let text =
-        "a header field can't be sent: its name, its value or the number of fields isn't allowed";
-    tells(
-        &rt,
-        alloc,
+        "the URL has a user name or a password",
+    ),
+    (
         RequestError::BadField,
         4,
         Code::UrlMalformat,
-        text,
-    )?;
-    let text = "the body is over 1,048,576 bytes";
-    tells(
-        &rt,
-        alloc,
+        "a header field can't be sent: its name, its value or the number of fields isn't allowed",
+    ),
+    (
         RequestError::BodyTooLarge,
         5,
         Code::FilesizeExceeded,
-        text,
-    )?;
-    tells(
-        &rt,
-        alloc,
+        "the body is over 1,048,576 bytes",
+    ),
+    (
         RequestError::OutOfMemory,
         6,
         Code::OutOfMemory,
         "out of memory",
-    )
+    ),
+];
+
+#[test]
+fn refusals_have_numbers_codes_and_messages(rt: HostRuntime) -> Result<(), Fail> {
+    for (refusal, number, code, message) in REFUSALS {
+        tells(&rt, rt.alloc(), refusal, number, code, message)?;
+    }
+    Ok(())
 }
