@@ -7,6 +7,7 @@ use mx_body::chunked::laws;
 use mx_body::chunked::parts::chunked_parts;
 use mx_body::chunked::scan::{ChunkedScan, scan_chunked};
 use std::alloc::Global;
+use std::process::Abort;
 use std::test::Fail;
 
 const LIMIT: u32 = 67_108_864;
@@ -77,8 +78,8 @@ fn refuses_the_first_bad_byte(rt: HostRuntime) {
     ];
     for input in bad {
         let front = &input[..input.len().saturating_sub(1)];
-        assert_eq!(rt; scan_chunked(front, LIMIT), ChunkedScan::Short, "{front:?}");
-        assert_eq!(rt; scan_chunked(input, LIMIT), ChunkedScan::Bad, "{input:?}");
+        let scans = (scan_chunked(front, LIMIT), scan_chunked(input, LIMIT));
+        assert_eq!(rt; scans, (ChunkedScan::Short, ChunkedScan::Bad), "{input:?}");
     }
     assert_eq!(rt;
         scan_chunked(b"5\nhello\r\n0\r\n\r\n", LIMIT),
@@ -88,28 +89,46 @@ fn refuses_the_first_bad_byte(rt: HostRuntime) {
 
 #[test]
 fn refuses_sizes_over_the_limit(rt: HostRuntime) -> Result<(), Fail> {
-    let sizes: [(&[u8], ChunkedScan); 10] = [
-        (b"4000000", ChunkedScan::Short),
-        (b"4000000\r\n", ChunkedScan::Short),
-        (b"000000000000000000004000000\r\n", ChunkedScan::Short),
-        (b"4000001", ChunkedScan::TooLarge),
-        (b"00000000000000000000004000001", ChunkedScan::TooLarge),
-        (b"400000x", ChunkedScan::Bad),
-        (b"4000001x", ChunkedScan::TooLarge),
-        // 2^32 + 5 and 2^64 + 5
-        (b"100000005\r\nhello\r\n0\r\n\r\n", ChunkedScan::TooLarge),
+    let sizes: [(&[u8], u32, ChunkedScan); 12] = [
+        (b"4000000", LIMIT, ChunkedScan::Short),
+        (b"4000000\r\n", LIMIT, ChunkedScan::Short),
         (
-            b"10000000000000005\r\nhello\r\n0\r\n\r\n",
+            b"000000000000000000004000000\r\n",
+            LIMIT,
+            ChunkedScan::Short,
+        ),
+        (b"4000001", LIMIT, ChunkedScan::TooLarge),
+        (
+            b"00000000000000000000004000001",
+            LIMIT,
             ChunkedScan::TooLarge,
         ),
-        (b"1\r\na\r\n4000001\r\n", ChunkedScan::TooLarge),
+        (b"400000x", LIMIT, ChunkedScan::Bad),
+        (b"4000001x", LIMIT, ChunkedScan::TooLarge),
+        // 2^32 + 5 and 2^64 + 5
+        (
+            b"100000005\r\nhello\r\n0\r\n\r\n",
+            LIMIT,
+            ChunkedScan::TooLarge,
+        ),
+        (
+            b"10000000000000005\r\nhello\r\n0\r\n\r\n",
+            LIMIT,
+            ChunkedScan::TooLarge,
+        ),
+        (b"1\r\na\r\n4000001\r\n", LIMIT, ChunkedScan::TooLarge),
+        (b"5", 5, ChunkedScan::Short),
+        (b"6", 5, ChunkedScan::TooLarge),
     ];
-    for (input, expected) in sizes {
-        assert_eq!(rt; scan_chunked(input, LIMIT), expected, "{input:?}");
+    for (input, limit, expected) in sizes {
+        assert_eq!(rt; scan_chunked(input, limit), expected, "{input:?}");
     }
-    assert_eq!(rt; scan_chunked(b"5", 5), ChunkedScan::Short);
-    assert_eq!(rt; scan_chunked(b"6", 5), ChunkedScan::TooLarge);
-    let mut digits = Vec::new(rt.alloc());
+    counts_digits(&rt, rt.alloc())
+}
+
+/// Tests sizes of 1 to 40 digits, each the greatest.
+fn counts_digits(rt: &impl Abort, alloc: Global) -> Result<(), Fail> {
+    let mut digits = Vec::new(alloc);
     for count in 1..=40 {
         digits.push(b'F')?;
         let expected = if count <= 6 {
@@ -122,27 +141,32 @@ fn refuses_sizes_over_the_limit(rt: HostRuntime) -> Result<(), Fail> {
     Ok(())
 }
 
+/// Scans 65,536 times the byte between two texts.
+fn scan_long(alloc: Global, front: &[u8], byte: u8, end: &[u8]) -> Result<ChunkedScan, Fail> {
+    let mut bytes = front.to_vec(alloc)?;
+    for _ in 0..65_536 {
+        bytes.push(byte)?;
+    }
+    bytes.extend_from_slice(end)?;
+    Ok(scan_chunked(&bytes, LIMIT))
+}
+
 #[test]
 fn takes_long_lines(rt: HostRuntime) -> Result<(), Fail> {
+    let alloc = rt.alloc();
     // so many zeros before a size, and a trailer line of so many bytes
-    let mut zeros = Vec::new(rt.alloc());
-    let mut trailer = Vec::new(rt.alloc());
-    trailer.extend_from_slice(b"0\r\n")?;
-    for _ in 0..65_536 {
-        zeros.push(b'0')?;
-        trailer.push(b'a')?;
-    }
-    zeros.extend_from_slice(b"5\r\nhello\r\n0\r\n\r\n")?;
-    trailer.extend_from_slice(b"\r\n\r")?;
+    let scans = [
+        scan_long(alloc, b"", b'0', b"5\r\nhello\r\n0\r\n\r\n")?,
+        scan_long(alloc, b"0\r\n", b'a', b"\r\n\r")?,
+        scan_long(alloc, b"0\r\n", b'a', b"\r\n\r\n")?,
+    ];
     assert_eq!(rt;
-        scan_chunked(&zeros, LIMIT),
-        ChunkedScan::Whole { len: 65_551 }
-    );
-    assert_eq!(rt; scan_chunked(&trailer, LIMIT), ChunkedScan::Short);
-    trailer.push(b'\n')?;
-    assert_eq!(rt;
-        scan_chunked(&trailer, LIMIT),
-        ChunkedScan::Whole { len: 65_543 }
+        scans,
+        [
+            ChunkedScan::Whole { len: 65_551 },
+            ChunkedScan::Short,
+            ChunkedScan::Whole { len: 65_543 }
+        ]
     );
     Ok(())
 }

@@ -3,6 +3,7 @@
 use mx_head::{Framing, HeadStep, framing, keeps, read_head};
 use mx_types::{Code, Method};
 use std::alloc::{AllocError, Global};
+use std::process::Abort;
 
 const OK: &[u8] = b"HTTP/1.1 200 OK\r\n";
 
@@ -62,9 +63,8 @@ fn a_head_is_read(rt: HostRuntime) {
     ] {
         match read_head(input) {
             HeadStep::Head(head) => {
-                assert_eq!(rt; head.len(), len);
-                assert_eq!(rt; head.status(), status);
-                assert_eq!(rt; head.minor(), minor);
+                let found = (head.len(), head.status(), head.minor());
+                assert_eq!(rt; found, (len, status, minor));
             }
             step => assert!(rt; false, "{step:?}"),
         }
@@ -111,15 +111,18 @@ fn a_head_ends_at_its_limit(rt: HostRuntime) {
         (70000, 70000, HeadStep::Fault(Code::TooLarge)),
     ] {
         let head = with_long_field(alloc, 0, len).expect(&rt, "memory");
-        assert_eq!(rt; head.len(), len);
-        assert_eq!(rt; read_head(front(&head, cut)), step);
+        assert_eq!(rt; (head.len(), read_head(front(&head, cut))), (len, step));
     }
+    fills_the_limit(&rt, alloc);
+}
+
+/// Tests heads that are as long as a head may be.
+fn fills_the_limit(rt: &impl Abort, alloc: Global) {
     for count in [0, 127] {
-        let head = with_long_field(alloc, count, 65536).expect(&rt, "memory");
-        assert_eq!(rt; head.len(), 65536);
+        let head = with_long_field(alloc, count, 65536).expect(rt, "memory");
         assert_eq!(rt;
-            decided(Method::Get, &head),
-            Some((Ok(Framing::Close), true))
+            (head.len(), decided(Method::Get, &head)),
+            (65536, Some((Ok(Framing::Close), true)))
         );
     }
 }

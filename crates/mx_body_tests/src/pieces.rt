@@ -5,6 +5,7 @@
 use mx_body::{Decoder, Part, Stand, Verdict, decode_whole};
 use mx_types::{Code, Method};
 use std::alloc::{AllocError, Global};
+use std::process::Abort;
 
 /// 72 bytes, with the body at 54.
 const CHUNKED: &[u8] =
@@ -74,13 +75,18 @@ fn wire_of(decoder: Decoder) -> Vec<u8> {
     decoder.into_wire()
 }
 
-#[test]
-fn a_byte_at_a_time(rt: HostRuntime) {
-    let mut decoder = decoder(rt.alloc(), Method::Get);
-    assert_eq!(rt;
-        feed_each(&mut decoder, CHUNKED),
-        (71, Some(Stand::Complete))
-    );
+/// Takes the decoder apart, and compares its bytes and its one part.
+fn comes_to(rt: &impl Abort, decoder: Decoder, bytes: &[u8], part: Part) {
+    let (wire, found) = taken_apart(decoder);
+    assert_eq!(rt; (wire.as_slice(), found), (bytes, Some(part)));
+}
+
+/// Feeds a response one byte at a time, then bytes behind it, and the end.
+fn takes_each_byte(rt: &impl Abort, decoder: &mut Decoder) {
+    let each = feed_each(decoder, CHUNKED);
+    let first = read(decoder);
+    // what comes after the response is left alone
+    let behind = [feed(decoder, b"HTTP"), end(decoder)];
     let whole = Reading {
         stand: Stand::Complete,
         status: 200,
@@ -88,21 +94,23 @@ fn a_byte_at_a_time(rt: HostRuntime) {
         keep: true,
         fed: 72,
     };
-    assert_eq!(rt; read(&decoder), whole);
-    // what comes after the response is left alone
-    assert_eq!(rt; feed(&mut decoder, b"HTTP"), Some(Stand::Complete));
-    assert_eq!(rt; end(&mut decoder), Some(Stand::Complete));
-    assert_eq!(rt; read(&decoder), whole);
-    let (wire, part) = taken_apart(decoder);
-    assert_eq!(rt; wire.as_slice(), CHUNKED);
-    assert_eq!(rt; part, Some(Part { start: 54, end: 59 }));
+    let complete = Some(Stand::Complete);
+    assert_eq!(rt; (each, behind), ((71, complete), [complete, complete]));
+    assert_eq!(rt; (first, read(decoder)), (whole, whole));
 }
 
 #[test]
-fn the_end_decides(rt: HostRuntime) {
+fn a_byte_at_a_time(rt: HostRuntime) {
     let mut decoder = decoder(rt.alloc(), Method::Get);
-    assert_eq!(rt; feed(&mut decoder, CLOSE), Some(Stand::More));
-    assert_eq!(rt; end(&mut decoder), Some(Stand::Complete));
+    takes_each_byte(&rt, &mut decoder);
+    comes_to(&rt, decoder, CHUNKED, Part { start: 54, end: 59 });
+}
+
+/// Feeds a response that the end completes, then bytes behind it.
+fn completes_at_the_end(rt: &impl Abort, decoder: &mut Decoder) {
+    let stands = [feed(decoder, CLOSE), end(decoder)];
+    let first = read(decoder);
+    let behind = feed(decoder, b"def");
     let whole = Reading {
         stand: Stand::Complete,
         status: 200,
@@ -110,21 +118,26 @@ fn the_end_decides(rt: HostRuntime) {
         keep: false,
         fed: 22,
     };
-    assert_eq!(rt; read(&decoder), whole);
-    assert_eq!(rt; feed(&mut decoder, b"def"), Some(Stand::Complete));
-    assert_eq!(rt; read(&decoder), whole);
-    let (wire, part) = taken_apart(decoder);
-    assert_eq!(rt; wire.as_slice(), CLOSE);
-    assert_eq!(rt; part, Some(Part { start: 19, end: 22 }));
+    let complete = Some(Stand::Complete);
+    assert_eq!(rt; (stands, behind), ([Some(Stand::More), complete], complete));
+    assert_eq!(rt; (first, read(decoder)), (whole, whole));
 }
 
 #[test]
-fn a_fault_stays(rt: HostRuntime) {
+fn the_end_decides(rt: HostRuntime) {
     let mut decoder = decoder(rt.alloc(), Method::Get);
+    completes_at_the_end(&rt, &mut decoder);
+    comes_to(&rt, decoder, CLOSE, Part { start: 19, end: 22 });
+}
+
+/// Feeds a response whose 49th byte is wrong, then what would mend it, and the end.
+fn stays_broken(rt: &impl Abort, decoder: &mut Decoder) {
     // the bare LF stands behind 48 good bytes
     let bytes = b"HTTP/1.1 200 OK\r\nTransfer-Encoding: chunked\r\n\r\n5\nhello";
+    let each = feed_each(decoder, bytes);
+    let first = read(decoder);
+    let behind = [feed(decoder, b"\r\nhello"), end(decoder)];
     let fault = Stand::Fault(Code::RecvError);
-    assert_eq!(rt; feed_each(&mut decoder, bytes), (48, Some(fault)));
     let broken = Reading {
         stand: fault,
         status: 200,
@@ -132,21 +145,31 @@ fn a_fault_stays(rt: HostRuntime) {
         keep: false,
         fed: 49,
     };
-    assert_eq!(rt; read(&decoder), broken);
-    assert_eq!(rt; feed(&mut decoder, b"\r\nhello"), Some(fault));
-    assert_eq!(rt; end(&mut decoder), Some(fault));
-    assert_eq!(rt; read(&decoder), broken);
+    assert_eq!(rt;
+        (each, behind),
+        ((48, Some(fault)), [Some(fault), Some(fault)])
+    );
+    assert_eq!(rt; (first, read(decoder)), (broken, broken));
+}
+
+#[test]
+fn a_fault_stays(rt: HostRuntime) {
+    let mut decoder = decoder(rt.alloc(), Method::Get);
+    stays_broken(&rt, &mut decoder);
     assert_eq!(rt; taken_apart(decoder).1, None);
+}
+
+/// Ends at once, and feeds a response behind the end.
+fn stays_without_response(rt: &impl Abort, decoder: &mut Decoder) {
+    let stands = [end(decoder), feed(decoder, CLOSE)];
+    let nothing = Some(Stand::Fault(Code::GotNothing));
+    assert_eq!(rt; stands, [nothing, nothing]);
 }
 
 #[test]
 fn no_bytes_are_no_response(rt: HostRuntime) {
     let mut decoder = decoder(rt.alloc(), Method::Get);
-    assert_eq!(rt; end(&mut decoder), Some(Stand::Fault(Code::GotNothing)));
-    assert_eq!(rt;
-        feed(&mut decoder, CLOSE),
-        Some(Stand::Fault(Code::GotNothing))
-    );
+    stays_without_response(&rt, &mut decoder);
     assert_eq!(rt; wire_of(decoder).len(), 0);
 }
 
@@ -181,18 +204,32 @@ fn are_single_bytes(parts: &[Part]) -> bool {
     true
 }
 
+/// Compares what a decoder reads behind 100,000 chunks of one byte.
+fn has_many_chunks(rt: &impl Abort, decoder: &Decoder) {
+    let whole = Reading {
+        stand: Stand::Complete,
+        status: 200,
+        len: 600_052,
+        keep: true,
+        fed: 600_052,
+    };
+    assert_eq!(rt; read(decoder), whole);
+    are_many_parts(rt, decoder.parts());
+}
+
+/// Compares the parts of 100,000 chunks of one byte.
+fn are_many_parts(rt: &impl Abort, parts: &[Part]) {
+    assert_eq!(rt; (parts.len(), are_single_bytes(parts)), (100_000, true));
+}
+
 #[test]
 fn many_chunks_a_byte_at_a_time(rt: HostRuntime) {
     let bytes = with_chunks(rt.alloc(), 100_000).expect(&rt, "memory");
     let mut decoder = decoder(rt.alloc(), Method::Get);
+    let each = feed_each(&mut decoder, &bytes);
     // the last byte decides: 600,051 were answered `More`
-    assert_eq!(rt;
-        feed_each(&mut decoder, &bytes),
-        (600_051, Some(Stand::Complete))
-    );
-    assert_eq!(rt; decoder.len(), 600_052);
-    assert_eq!(rt; decoder.parts().len(), 100_000);
-    assert!(rt; are_single_bytes(decoder.parts()));
+    assert_eq!(rt; each, (600_051, Some(Stand::Complete)));
+    has_many_chunks(&rt, &decoder);
 }
 
 /// The byte at that offset of the head, 100,000 chunks of one byte, and the end. It takes no memory.
@@ -231,43 +268,32 @@ fn feed_many_chunks(decoder: &mut Decoder) -> (usize, Option<Stand>) {
 #[test]
 fn many_chunks_go_on_behind_a_refused_growth(rt: HostRuntime) {
     let mut decoder = decoder(rt.alloc(), Method::Get);
-    assert_eq!(rt;
-        feed_many_chunks(&mut decoder),
-        (600_051, Some(Stand::Complete))
-    );
-    let whole = Reading {
-        stand: Stand::Complete,
-        status: 200,
-        len: 600_052,
-        keep: true,
-        fed: 600_052,
-    };
-    assert_eq!(rt; read(&decoder), whole);
-    assert_eq!(rt; decoder.parts().len(), 100_000);
-    assert!(rt; are_single_bytes(decoder.parts()));
+    let each = feed_many_chunks(&mut decoder);
+    assert_eq!(rt; each, (600_051, Some(Stand::Complete)));
+    has_many_chunks(&rt, &decoder);
+}
+
+/// Feeds the bytes of 100,000 chunks in pieces of that length.
+fn completes_in_pieces(rt: &impl Abort, decoder: &mut Decoder, bytes: &[u8], len: usize) {
+    let last = feed_pieces(decoder, bytes, len);
+    assert_eq!(rt; last, Some(Stand::Complete));
+    has_many_chunks(rt, decoder);
+}
+
+/// Feeds them so, and takes the decoder apart.
+fn takes_pieces(rt: &impl Abort, alloc: Global, bytes: &[u8], len: usize) {
+    let mut decoder = decoder(alloc, Method::Get);
+    completes_in_pieces(rt, &mut decoder, bytes, len);
+    let (wire, parts) = decoder.into_parts();
+    assert!(rt; wire.as_slice() == bytes);
+    are_many_parts(rt, &parts);
 }
 
 #[test]
 fn many_chunks_in_pieces(rt: HostRuntime) {
     let bytes = with_chunks(rt.alloc(), 100_000).expect(&rt, "memory");
     for len in [1, 7, 16_384, 600_052] {
-        let mut decoder = decoder(rt.alloc(), Method::Get);
-        assert_eq!(rt;
-            feed_pieces(&mut decoder, &bytes, len),
-            Some(Stand::Complete)
-        );
-        let whole = Reading {
-            stand: Stand::Complete,
-            status: 200,
-            len: 600_052,
-            keep: true,
-            fed: 600_052,
-        };
-        assert_eq!(rt; read(&decoder), whole);
-        let (wire, parts) = decoder.into_parts();
-        assert!(rt; wire.as_slice() == bytes.as_slice());
-        assert_eq!(rt; parts.len(), 100_000);
-        assert!(rt; are_single_bytes(&parts));
+        takes_pieces(&rt, rt.alloc(), &bytes, len);
     }
 }
 
@@ -355,18 +381,22 @@ fn with_longest_head(alloc: Global) -> Result<Vec<u8>, AllocError> {
     Ok(bytes)
 }
 
+/// Feeds those bytes in pieces of that length.
+fn takes_longest_head(rt: &impl Abort, alloc: Global, bytes: &[u8], len: usize) {
+    let mut decoder = decoder(alloc, Method::Get);
+    let last = feed_pieces(&mut decoder, bytes, len);
+    assert_eq!(rt;
+        (last, decoder.status(), decoder.len()),
+        (Some(Stand::Complete), 204, 65_564)
+    );
+}
+
 #[test]
 fn the_longest_head_behind_an_interim_head(rt: HostRuntime) {
     let bytes = with_longest_head(rt.alloc()).expect(&rt, "memory");
     assert_eq!(rt; bytes.len(), 28 + 65_536);
     for len in [100, 16_384, 65_564] {
-        let mut decoder = decoder(rt.alloc(), Method::Get);
-        assert_eq!(rt;
-            feed_pieces(&mut decoder, &bytes, len),
-            Some(Stand::Complete)
-        );
-        assert_eq!(rt; decoder.status(), 204);
-        assert_eq!(rt; decoder.len(), 65_564);
+        takes_longest_head(&rt, rt.alloc(), &bytes, len);
     }
 }
 
@@ -392,10 +422,16 @@ fn a_head_that_is_too_long_behind_an_interim_head(rt: HostRuntime) {
 #[test]
 fn an_empty_piece_changes_nothing(rt: HostRuntime) {
     let mut decoder = decoder(rt.alloc(), Method::Get);
-    assert_eq!(rt; feed(&mut decoder, b""), Some(Stand::More));
-    assert_eq!(rt; feed(&mut decoder, CHUNKED), Some(Stand::Complete));
-    assert_eq!(rt; feed(&mut decoder, b""), Some(Stand::Complete));
-    assert_eq!(rt; decoder.len(), 72);
+    let stands = [
+        feed(&mut decoder, b""),
+        feed(&mut decoder, CHUNKED),
+        feed(&mut decoder, b""),
+    ];
+    let complete = Some(Stand::Complete);
+    assert_eq!(rt;
+        (stands, decoder.len()),
+        ([Some(Stand::More), complete, complete], 72)
+    );
 }
 
 /// Feeds the same piece so many times: the last answer.
@@ -407,39 +443,44 @@ fn feed_again(decoder: &mut Decoder, piece: &[u8], count: u32) -> Option<Stand> 
     stand
 }
 
+/// Compares a decoder's last three answers, and the length of its bytes, which have room for no more.
+fn has_room_for(
+    rt: &impl Abort,
+    decoder: Decoder,
+    stands: [Option<Stand>; 3],
+    last: Stand,
+    len: usize,
+) {
+    let wire = wire_of(decoder);
+    let more = Some(Stand::More);
+    assert_eq!(rt;
+        (stands, wire.len(), wire.capacity()),
+        ([more, more, Some(last)], len, len)
+    );
+}
+
 #[test]
 fn room_for_a_told_length_is_taken_at_once(rt: HostRuntime) {
     let mut decoder = decoder(rt.alloc(), Method::Get);
     // a head of 43 bytes
     let head = b"HTTP/1.1 200 OK\r\nContent-Length: 100000\r\n\r\n";
-    assert_eq!(rt; feed(&mut decoder, head), Some(Stand::More));
-    assert_eq!(rt;
+    let stands = [
+        feed(&mut decoder, head),
         feed_again(&mut decoder, &[b'x'; 100], 1),
-        Some(Stand::More)
-    );
-    assert_eq!(rt;
         feed_again(&mut decoder, &[b'x'; 100], 999),
-        Some(Stand::Complete)
-    );
-    let wire = wire_of(decoder);
-    assert_eq!(rt; wire.len(), 100_043);
-    assert_eq!(rt; wire.capacity(), 100_043);
+    ];
+    has_room_for(&rt, decoder, stands, Stand::Complete, 100_043);
 }
 
 #[test]
 fn room_grows_no_further_than_the_limit(rt: HostRuntime) {
     let mut decoder = decoder(rt.alloc(), Method::Get);
     let open = b"HTTP/1.0 200 OK\r\n\r\n";
-    assert_eq!(rt; feed(&mut decoder, open), Some(Stand::More));
-    assert_eq!(rt;
+    let stands = [
+        feed(&mut decoder, open),
         feed_again(&mut decoder, &[b'x'; 65_536], 1023),
-        Some(Stand::More)
-    );
-    assert_eq!(rt;
         feed_again(&mut decoder, &[b'x'; 65_536], 1),
-        Some(Stand::Fault(Code::FilesizeExceeded))
-    );
-    let wire = wire_of(decoder);
-    assert_eq!(rt; wire.len(), 67_108_883);
-    assert_eq!(rt; wire.capacity(), 67_108_883);
+    ];
+    let fault = Stand::Fault(Code::FilesizeExceeded);
+    has_room_for(&rt, decoder, stands, fault, 67_108_883);
 }
