@@ -95,48 +95,83 @@ fn bodies_that_the_end_ends(rt: HostRuntime) -> Result<(), Fail> {
     Ok(())
 }
 
+/// The head of a chunked body.
+const CHUNKED: &[u8] = b"HTTP/1.1 200 OK\r\nTransfer-Encoding: chunked\r\n\r\n";
+
+/// Runs `body` on that head and the bytes behind it, and compares as `prints` does.
+fn prints_chunked(
+    rt: &impl Abort,
+    alloc: Global,
+    rest: &[u8],
+    status: u8,
+    output: &[u8],
+) -> Result<(), Fail> {
+    let input = joined(alloc, CHUNKED, rest)?;
+    prints(rt, alloc, Method::Get, &input, status, output);
+    Ok(())
+}
+
 #[test]
 fn chunked_bodies(rt: HostRuntime) -> Result<(), Fail> {
     let alloc = rt.alloc();
-    let answer = b"OK status=200 body=5 keep=yes left=0\nhello";
-    let head = b"HTTP/1.1 200 OK\r\nTransfer-Encoding: chunked\r\n\r\n".as_slice();
-    let whole = joined(alloc, head, b"5;x=y\r\nhello\r\n0\r\nA: b\r\n\r\n")?;
-    prints(&rt, alloc, Method::Get, &whole, 0, answer);
+    let rows: [(&[u8], u8, &[u8]); 7] = [
+        (
+            b"5;x=y\r\nhello\r\n0\r\nA: b\r\n\r\n",
+            0,
+            b"OK status=200 body=5 keep=yes left=0\nhello",
+        ),
+        (b"FFFFFFFFFFFFFFFFF\r\n", 63, b"FAULT 63\n"),
+        (b"5\r\nhelloX", 56, b"FAULT 56\n"),
+        (b"5\nhello", 56, b"FAULT 56\n"),
+        (b"4000000\r\n", 18, b"FAULT 18\n"),
+        (b"4000001\r\n", 63, b"FAULT 63\n"),
+        (
+            b"2\r\nhe\r\n3\r\nllo\r\n0\r\n\r\nHTTP",
+            0,
+            b"OK status=200 body=5 keep=yes left=4\nhello",
+        ),
+    ];
+    for (rest, status, output) in rows {
+        prints_chunked(&rt, alloc, rest, status, output)?;
+    }
     let sized = b"HTTP/1.1 200 OK\r\nTransfer-Encoding: chunked\r\nContent-Length: 3\r\n\r\n\
         5\r\nhello\r\n0\r\n\r\n";
     let not_kept = b"OK status=200 body=5 keep=no left=0\nhello";
     prints(&rt, alloc, Method::Get, sized, 0, not_kept);
-    let large = joined(alloc, head, b"FFFFFFFFFFFFFFFFF\r\n")?;
-    prints(&rt, alloc, Method::Get, &large, 63, b"FAULT 63\n");
-    let unended = joined(alloc, head, b"5\r\nhelloX")?;
-    prints(&rt, alloc, Method::Get, &unended, 56, b"FAULT 56\n");
-    let bare = joined(alloc, head, b"5\nhello")?;
-    prints(&rt, alloc, Method::Get, &bare, 56, b"FAULT 56\n");
-    let fits = joined(alloc, head, b"4000000\r\n")?;
-    prints(&rt, alloc, Method::Get, &fits, 18, b"FAULT 18\n");
-    let over = joined(alloc, head, b"4000001\r\n")?;
-    prints(&rt, alloc, Method::Get, &over, 63, b"FAULT 63\n");
-    let two = joined(alloc, head, b"2\r\nhe\r\n3\r\nllo\r\n0\r\n\r\nHTTP")?;
-    prints(
-        &rt,
-        alloc,
-        Method::Get,
-        &two,
-        0,
-        b"OK status=200 body=5 keep=yes left=4\nhello",
-    );
     Ok(())
 }
 
-/// The head of a chunked body.
-const CHUNKED: &[u8] = b"HTTP/1.1 200 OK\r\nTransfer-Encoding: chunked\r\n\r\n";
+/// Adds the bytes so many times.
+fn add_many(bytes: &mut Vec<u8>, unit: &[u8], count: usize) -> Result<(), Fail> {
+    for _ in 0..count {
+        bytes.extend_from_slice(unit)?;
+    }
+    Ok(())
+}
 
 /// The bytes so many times, behind others.
 fn with_many(alloc: Global, front: &[u8], unit: &[u8], count: usize) -> Result<Vec<u8>, Fail> {
     let mut bytes = front.to_vec(alloc)?;
-    for _ in 0..count {
-        bytes.extend_from_slice(unit)?;
-    }
+    add_many(&mut bytes, unit, count)?;
+    Ok(bytes)
+}
+
+/// A chunked body of 70,000 pieces of one byte, one of 70,000 bytes, and one of two.
+fn many_pieces(alloc: Global) -> Result<Vec<u8>, Fail> {
+    let mut bytes = with_many(alloc, CHUNKED, b"1\r\na\r\n", 70_000)?;
+    // 0x11170 is 70,000
+    bytes.extend_from_slice(b"11170\r\n")?;
+    add_many(&mut bytes, b"b", 70_000)?;
+    bytes.extend_from_slice(b"\r\n2\r\ncd\r\n0\r\n\r\n")?;
+    Ok(bytes)
+}
+
+/// What is printed of it.
+fn gathered_pieces(alloc: Global) -> Result<Vec<u8>, Fail> {
+    let line = b"OK status=200 body=140002 keep=yes left=0\n";
+    let mut bytes = with_many(alloc, line, b"a", 70_000)?;
+    add_many(&mut bytes, b"b", 70_000)?;
+    bytes.extend_from_slice(b"cd")?;
     Ok(bytes)
 }
 
@@ -144,15 +179,8 @@ fn with_many(alloc: Global, front: &[u8], unit: &[u8], count: usize) -> Result<V
 #[test]
 fn pieces_are_gathered(rt: HostRuntime) -> Result<(), Fail> {
     let alloc = rt.alloc();
-    let mut input = with_many(alloc, CHUNKED, b"1\r\na\r\n", 70_000)?;
-    // 0x11170 is 70,000
-    input.extend_from_slice(b"11170\r\n")?;
-    let mut input = with_many(alloc, &input, b"b", 70_000)?;
-    input.extend_from_slice(b"\r\n2\r\ncd\r\n0\r\n\r\n")?;
-    let line = b"OK status=200 body=140002 keep=yes left=0\n";
-    let output = with_many(alloc, line, b"a", 70_000)?;
-    let output = with_many(alloc, &output, b"b", 70_000)?;
-    let output = joined(alloc, &output, b"cd")?;
+    let input = many_pieces(alloc)?;
+    let output = gathered_pieces(alloc)?;
     prints(&rt, alloc, Method::Get, &input, 0, &output);
     Ok(())
 }
@@ -165,42 +193,31 @@ fn bytes_behind_a_response_are_counted(rt: HostRuntime) -> Result<(), Fail> {
     let answer = b"OK status=200 body=5 keep=yes left=200000\nhello";
     prints(&rt, alloc, Method::Get, &input, 0, answer);
     // and behind a fault they change nothing
-    let broken = joined(alloc, CHUNKED, b"5\nhello")?;
-    let input = with_many(alloc, &broken, b"v", 200_000)?;
+    let broken = b"HTTP/1.1 200 OK\r\nTransfer-Encoding: chunked\r\n\r\n5\nhello";
+    let input = with_many(alloc, broken, b"v", 200_000)?;
     prints(&rt, alloc, Method::Get, &input, 56, b"FAULT 56\n");
     Ok(())
+}
+
+/// So many interim heads, and then a response.
+fn with_interim(alloc: Global, count: usize) -> Result<Vec<u8>, Fail> {
+    let mut bytes = with_many(alloc, b"", b"HTTP/1.1 103 Early Hints\r\n\r\n", count)?;
+    bytes.extend_from_slice(b"HTTP/1.1 200 OK\r\nContent-Length: 5\r\n\r\nhello")?;
+    Ok(bytes)
 }
 
 #[test]
 fn interim_heads(rt: HostRuntime) -> Result<(), Fail> {
     let alloc = rt.alloc();
     let hints = b"HTTP/1.1 103 Early Hints\r\n\r\nHTTP/1.1 204 No Content\r\n\r\n";
-    prints(
-        &rt,
-        alloc,
-        Method::Get,
-        hints,
-        0,
-        b"OK status=204 body=0 keep=yes left=0\n",
-    );
+    let empty = b"OK status=204 body=0 keep=yes left=0\n";
+    prints(&rt, alloc, Method::Get, hints, 0, empty);
     let switching = b"HTTP/1.1 101 Switching Protocols\r\n\r\n";
     prints(&rt, alloc, Method::Get, switching, 8, b"FAULT 8\n");
-    let mut many = Vec::new(alloc);
-    for _ in 0..16 {
-        many.extend_from_slice(b"HTTP/1.1 103 Early Hints\r\n\r\n")?;
-    }
-    let whole = b"HTTP/1.1 200 OK\r\nContent-Length: 5\r\n\r\nhello";
-    let most = joined(alloc, &many, whole)?;
-    prints(
-        &rt,
-        alloc,
-        Method::Get,
-        &most,
-        0,
-        b"OK status=200 body=5 keep=yes left=0\nhello",
-    );
-    many.extend_from_slice(b"HTTP/1.1 103 Early Hints\r\n\r\n")?;
-    let over = joined(alloc, &many, whole)?;
+    let most = with_interim(alloc, 16)?;
+    let answer = b"OK status=200 body=5 keep=yes left=0\nhello";
+    prints(&rt, alloc, Method::Get, &most, 0, answer);
+    let over = with_interim(alloc, 17)?;
     prints(&rt, alloc, Method::Get, &over, 8, b"FAULT 8\n");
     Ok(())
 }
@@ -322,10 +339,7 @@ fn hostile_bytes(rt: HostRuntime) -> Result<(), Fail> {
     for input in refused {
         prints(&rt, alloc, Method::Get, input, 8, b"FAULT 8\n");
     }
-    let mut long = b"HTTP/1.1 200 OK\r\nA: ".to_vec(alloc)?;
-    for _ in 0..70_000 {
-        long.push(b'v')?;
-    }
+    let long = with_many(alloc, b"HTTP/1.1 200 OK\r\nA: ", b"v", 70_000)?;
     prints(&rt, alloc, Method::Get, &long, 100, b"FAULT 100\n");
     Ok(())
 }

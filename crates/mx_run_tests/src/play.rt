@@ -217,6 +217,16 @@ const REPLIES: [&str; 6] = [
     "running 1\n",
 ];
 
+/// Plays the front of a script, behind which a read fails, and which prints this before the fault.
+fn fails_behind(rt: &impl Abort, alloc: Global, front: &[u8], printed: &str) -> Result<(), Fail> {
+    let fault = format!(in alloc; "{}FAULT 56\n", printed)?;
+    let reader = Trickle {
+        bytes: front,
+        fails: true,
+    };
+    trickles(rt, alloc, reader, MOST_READS, fault.as_str(), 56)
+}
+
 #[test]
 fn reads_that_fail(rt: HostRuntime) -> Result<(), Fail> {
     let alloc = rt.alloc();
@@ -228,12 +238,7 @@ fn reads_that_fail(rt: HostRuntime) -> Result<(), Fail> {
             printed.push_str(REPLIES[lines])?;
             lines += 1;
         }
-        let fault = format!(in alloc; "{}FAULT 56\n", printed.as_str())?;
-        let reader = Trickle {
-            bytes: &script[..cut],
-            fails: true,
-        };
-        trickles(&rt, alloc, reader, MOST_READS, fault.as_str(), 56)?;
+        fails_behind(&rt, alloc, &script[..cut], printed.as_str())?;
     }
     Ok(())
 }
@@ -294,16 +299,30 @@ fn writes_that_fail(rt: HostRuntime) {
     assert_eq!(&rt; last, 0);
 }
 
-#[test]
-fn the_table_is_full(rt: HostRuntime) -> Result<(), Fail> {
-    let mut script = String::new(rt.alloc());
-    let mut printed = String::new(rt.alloc());
+/// A script that adds 256 handles, and then one that has no room and one that is there.
+fn full_script(alloc: Global) -> Result<String, Fail> {
+    let mut script = String::new(alloc);
     for handle in 0..256 {
-        script.push_str(format!(in rt.alloc(); "add {}\n", handle)?.as_str())?;
-        printed.push_str(format!(in rt.alloc(); "added {}\n", handle)?.as_str())?;
+        script.push_str(format!(in alloc; "add {}\n", handle)?.as_str())?;
     }
     script.push_str("add 256\nadd 0\n")?;
+    Ok(script)
+}
+
+/// What is printed of it.
+fn full_replies(alloc: Global) -> Result<String, Fail> {
+    let mut printed = String::new(alloc);
+    for ticket in 0..256 {
+        printed.push_str(format!(in alloc; "added {}\n", ticket)?.as_str())?;
+    }
     printed.push_str("table-full\nadded-already\n")?;
+    Ok(printed)
+}
+
+#[test]
+fn the_table_is_full(rt: HostRuntime) -> Result<(), Fail> {
+    let script = full_script(rt.alloc())?;
+    let printed = full_replies(rt.alloc())?;
     plays(&rt, rt.alloc(), 2048, script.as_str(), printed.as_str(), 0)
 }
 
