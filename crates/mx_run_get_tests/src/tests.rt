@@ -1,4 +1,4 @@
-use crate::transfers::fetch;
+use crate::transfers::{Planned, fetch_all};
 use mx_run_get::{Fetched, print_get};
 use mx_run_io::Output;
 use mx_types::Code;
@@ -38,8 +38,8 @@ impl Write for Full<'_> {
 fn prints(rt: &impl Abort, alloc: Global, fetched: &[Fetched], status: u8, output: &[u8]) {
     let mut written = Vec::new(alloc);
     let ended = print_get(&mut Output::new(&mut written), fetched);
-    assert_eq!(rt; ended, status);
-    assert!(rt; written.as_slice() == output);
+    let is_written = written.as_slice() == output;
+    assert_eq!(rt; (ended, is_written), (status, true));
 }
 
 // The exit status over a writer that takes so many writes.
@@ -60,16 +60,20 @@ fn nothing_is_printed_of_no_handles(rt: HostRuntime) {
 
 #[test]
 fn bodies_stand_behind_their_lines(rt: HostRuntime) -> Result<(), Fail> {
-    let counted = fetch(&rt, b"HTTP/1.1 200 OK\r\nContent-Length: 5\r\n\r\nhello")?;
-    let chunked = fetch(
+    let fetched = fetch_all(
         &rt,
-        b"HTTP/1.1 404 Not Found\r\nTransfer-Encoding: chunked\r\n\r\n2\r\nab\r\n3\r\nc\nd\r\n0\r\n\r\n",
+        &[
+            Planned::Response(b"HTTP/1.1 200 OK\r\nContent-Length: 5\r\n\r\nhello"),
+            Planned::Response(
+                b"HTTP/1.1 404 Not Found\r\nTransfer-Encoding: chunked\r\n\r\n2\r\nab\r\n3\r\nc\nd\r\n0\r\n\r\n",
+            ),
+            Planned::Response(b"HTTP/1.1 204 No Content\r\n\r\n"),
+        ],
     )?;
-    let empty = fetch(&rt, b"HTTP/1.1 204 No Content\r\n\r\n")?;
     prints(
         &rt,
         rt.alloc(),
-        &[counted, chunked, empty],
+        fetched.as_slice(),
         0,
         b"transfer 0 code 0 status 200 length 5\nhello\n\
           transfer 1 code 0 status 404 length 5\nabc\nd\n\
@@ -80,12 +84,18 @@ fn bodies_stand_behind_their_lines(rt: HostRuntime) -> Result<(), Fail> {
 
 #[test]
 fn the_first_fault_is_the_exit_status(rt: HostRuntime) -> Result<(), Fail> {
-    let whole = fetch(&rt, b"HTTP/1.0 200 OK\r\n\r\nabc")?;
-    let cut = fetch(&rt, b"HTTP/1.1 200 OK\r\nContent-Length: 5\r\n\r\nhell")?;
+    let fetched = fetch_all(
+        &rt,
+        &[
+            Planned::Response(b"HTTP/1.0 200 OK\r\n\r\nabc"),
+            Planned::Response(b"HTTP/1.1 200 OK\r\nContent-Length: 5\r\n\r\nhell"),
+            Planned::Refused(Code::UrlMalformat),
+        ],
+    )?;
     prints(
         &rt,
         rt.alloc(),
-        &[whole, cut, Fetched::Refused(Code::UrlMalformat)],
+        fetched.as_slice(),
         18,
         b"transfer 0 code 0 status 200 length 3\nabc\n\
           transfer 1 code 18 status 200 length 0\n\n\
@@ -96,17 +106,19 @@ fn the_first_fault_is_the_exit_status(rt: HostRuntime) -> Result<(), Fail> {
 
 #[test]
 fn faults_have_no_body(rt: HostRuntime) -> Result<(), Fail> {
-    let silent = fetch(&rt, b"")?;
-    let torn = fetch(&rt, b"HTTP/1.1 20")?;
+    let fetched = fetch_all(
+        &rt,
+        &[
+            Planned::Refused(Code::UnsupportedProtocol),
+            Planned::Response(b""),
+            Planned::Response(b"HTTP/1.1 20"),
+            Planned::Refused(Code::OutOfMemory),
+        ],
+    )?;
     prints(
         &rt,
         rt.alloc(),
-        &[
-            Fetched::Refused(Code::UnsupportedProtocol),
-            silent,
-            torn,
-            Fetched::Refused(Code::OutOfMemory),
-        ],
+        fetched.as_slice(),
         1,
         b"transfer 0 code 1 status 0 length 0\n\n\
           transfer 1 code 52 status 0 length 0\n\n\
@@ -116,17 +128,28 @@ fn faults_have_no_body(rt: HostRuntime) -> Result<(), Fail> {
     Ok(())
 }
 
+// Prints over writers that take few writes, or all of them.
+fn print_to_full<R: Abort>(rt: &R, alloc: Global, fetched: &[Fetched]) {
+    let taken = [
+        ends(alloc, fetched, 1000, true),
+        ends(alloc, fetched, 1000, false),
+    ];
+    assert_eq!(rt; taken, [3, 121]);
+    for writes in 0..5 {
+        assert_eq!(rt; ends(alloc, fetched, writes, true), 121, "of {writes}");
+    }
+}
+
 #[test]
 fn a_failed_write_ends_with_121(rt: HostRuntime) -> Result<(), Fail> {
-    let fetched = [
-        fetch(&rt, b"HTTP/1.1 200 OK\r\nContent-Length: 5\r\n\r\nhello")?,
-        Fetched::Refused(Code::UrlMalformat),
-    ];
-    assert_eq!(rt; ends(rt.alloc(), &fetched, 1000, true), 3);
-    assert_eq!(rt; ends(rt.alloc(), &fetched, 1000, false), 121);
-    for writes in 0..5 {
-        assert_eq!(rt; ends(rt.alloc(), &fetched, writes, true), 121);
-    }
     assert_eq!(rt; ends(rt.alloc(), &[], 0, true), 0);
+    let fetched = fetch_all(
+        &rt,
+        &[
+            Planned::Response(b"HTTP/1.1 200 OK\r\nContent-Length: 5\r\n\r\nhello"),
+            Planned::Refused(Code::UrlMalformat),
+        ],
+    )?;
+    print_to_full(&rt, rt.alloc(), fetched.as_slice());
     Ok(())
 }

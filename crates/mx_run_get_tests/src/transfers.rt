@@ -1,11 +1,11 @@
 //! Transfers that ended, from scripted links.
 use futures::task::Poll;
 use futures::test::MockTask;
-use mx_exchange::{Outcome, Transfer};
+use mx_exchange::Transfer;
 use mx_link::{ScriptLink, ScriptRead};
 use mx_request::Request;
 use mx_run_get::Fetched;
-use mx_types::{Method, Settings};
+use mx_types::{Code, Method, Settings};
 use std::alloc::{AllocGlobal, Global};
 use std::random::RandomSource;
 use std::test::Fail;
@@ -17,18 +17,29 @@ fn attach(transfer: &mut Transfer<ScriptLink>, link: ScriptLink) {
     }
 }
 
-// The outcome of one poll.
-fn poll(task: &MockTask, transfer: &mut Transfer<ScriptLink>) -> Option<Outcome> {
+// The end that one poll gives.
+fn poll(task: &MockTask, transfer: &mut Transfer<ScriptLink>) -> Result<Fetched, Fail> {
     if transfer.spent() {
-        return None;
+        return Err(Fail::from("a transfer that has ended"));
     }
     match task.poll(transfer) {
-        Poll::Ready(outcome) => Some(outcome),
-        Poll::Pending => None,
+        Poll::Ready(outcome) => Ok(Fetched::Ended(outcome)),
+        Poll::Pending => Err(Fail::from("a transfer that waits")),
     }
 }
 
+// The same, in a task of its own.
+fn end_in_task<R: RandomSource + AllocGlobal>(
+    rt: &R,
+    transfer: &mut Transfer<ScriptLink>,
+) -> Result<Fetched, Fail> {
+    let task = MockTask::new(rt)?;
+    poll(&task, transfer)
+}
+
+// A GET whose link gives the response and then ends.
 fn start(alloc: Global, response: &[u8]) -> Result<Transfer<ScriptLink>, Fail> {
+    let link = ScriptLink::new(alloc, &[ScriptRead::Bytes(response)], &[])?;
     let request = Request::build(
         alloc,
         Method::Get,
@@ -36,19 +47,39 @@ fn start(alloc: Global, response: &[u8]) -> Result<Transfer<ScriptLink>, Fail> {
         Settings::new(alloc),
     )?;
     let mut transfer = Transfer::new(alloc, request);
-    attach(
-        &mut transfer,
-        ScriptLink::new(alloc, &[ScriptRead::Bytes(response)], &[])?,
-    );
+    attach(&mut transfer, link);
     Ok(transfer)
 }
 
-/// The end of a GET whose link gives the response and then ends.
-pub fn fetch<R: RandomSource + AllocGlobal>(rt: &R, response: &[u8]) -> Result<Fetched, Fail> {
-    let task = MockTask::new(rt)?;
+// The end of such a GET.
+fn fetch<R: RandomSource + AllocGlobal>(rt: &R, response: &[u8]) -> Result<Fetched, Fail> {
     let mut transfer = start(rt.alloc(), response)?;
-    match poll(&task, &mut transfer) {
-        Some(outcome) => Ok(Fetched::Ended(outcome)),
-        None => Err(Fail::from("a transfer that waits")),
+    end_in_task(rt, &mut transfer)
+}
+
+/// What is to become of a GET: a link gives this response and then ends, or the GET is refused with this code.
+#[derive(Clone, Copy)]
+pub enum Planned {
+    Response(&'static [u8]),
+    Refused(Code),
+}
+
+// What becomes of a GET.
+fn end_of<R: RandomSource + AllocGlobal>(rt: &R, planned: Planned) -> Result<Fetched, Fail> {
+    match planned {
+        Planned::Response(response) => fetch(rt, response),
+        Planned::Refused(code) => Ok(Fetched::Refused(code)),
     }
+}
+
+/// What becomes of each GET.
+pub fn fetch_all<R: RandomSource + AllocGlobal>(
+    rt: &R,
+    all: &[Planned],
+) -> Result<Vec<Fetched>, Fail> {
+    let mut ends = Vec::new(rt.alloc());
+    for planned in all {
+        ends.push(end_of(rt, *planned)?)?;
+    }
+    Ok(ends)
 }
