@@ -250,9 +250,6 @@ waits_short j t l r =
     let f = few j l in
     omega (arith, k, length-map (added j) (λ a. a.ticket))
 
-pub may_finish : (j : List Event) (t : Ticket) (r : Row) → r.ticket ≡ t → has_ticket r.ticket (running j) ≡ is_open r.phase → is_open r.phase ≡ true → has_ticket t (running j) ≡ true
-may_finish j t r e runs open' = ap (λ u. has_ticket u (running j)) (sym e) ∙ runs ∙ open'
-
 -- 6. A reading.
 
 off_kept : (t : Ticket) (ms : List Message) → has_ticket t (map (λ m. m.ticket) ms) ≡ false → filter (λ m. not (same_ticket m.ticket t || false)) ms ≡ ms

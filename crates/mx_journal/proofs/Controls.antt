@@ -1,9 +1,9 @@
 -- What an event keeps of a control state.
 use Rattle.std.proofs.Common.{◌≡◌, ℕ, ◌<◌, ◌≤◌, ◌∙◌, sym, refl, ap, subst, List, [], ◌∷◌, ◌++◌, append-nil, length, Bool, true, false, cond, map, arith}
-use Rattle.std.specs.Prelude.{not, ◌||◌, ◌==◌, None, slice_index_or}
+use Rattle.std.specs.Prelude.{not, ◌||◌, ◌==◌, Option, None, Some, IfNone, IfSome, slice_get, slice_index_or}
 use Rattle.std.specs.List.{filter, AllByRecursion, remove}
 use Rattle.mx_journal.specs.Replies.{is_pausing}
-use Rattle.std.specs.Option.{option_to_list}
+use Rattle.std.specs.Option.{is_some, option_map, option_to_list}
 use Rattle.std.proofs.lemmas.Bool.{ne_eqb, or_left, or_right, false≢true, not-true, eqb-true, and_parts}
 use Rattle.std.proofs.lemmas.List.{map-append, length-map}
 use Rattle.mx_types.specs.declared.code.Code.{Code}
@@ -13,6 +13,7 @@ use Rattle.mx_types.specs.declared.event.Who.{Who}
 use Rattle.mx_types.specs.declared.event.What.{What}
 use Rattle.mx_types.specs.declared.event.What.TheVariants as what
 use Rattle.mx_types.specs.declared.event.Event.{Event}
+use Rattle.mx_history.specs.declared.row.Row.{Row}
 use Rattle.mx_history.specs.History.{Message, same_ticket, message_of, removes, ends, reads, added, waiting, running, additions, has_ticket, may_follow, is_legal, has_room, needs, HasRoomForDue, IsInOrder}
 use Rattle.mx_history.specs.Answers.{handle_of}
 use Rattle.mx_journal.specs.Core.{queued, claimed, message, IsControl, IsTabled}
@@ -185,13 +186,21 @@ control-pausing code size history j w (what.Paused t) queue endings cq ce c m k 
 control-pausing code size history j w (what.Resumed t) queue endings cq ce c m k r = control-quiet code size history j w (what.Resumed t) queue endings cq ce c m r (λ _. refl) (λ _. refl) (λ _. refl) refl
 control-pausing code size history j w _ queue endings cq ce c m k r = absurd (false≢true k)
 
-pub control-read_at : {Q O : Type 0} (code : O → Code) (size : O → ℕ) (history : ℕ) (j : List Event) (w : Who) (t : Ticket) (endings : List (Ticket × O)) (queue : List (Ticket × Q)) (cq ce : ℕ) (d : Ticket × O)
-    → IsControl code size history j queue endings cq ce → 0 < length endings → t ≡ (slice_index_or endings 0 d).0
-    → IsControl code size history (then j w (what.Read t)) queue (remove endings 0) cq ce
-control-read_at code size history j w t [] queue cq ce d c h e = absurd (omega arith)
-control-read_at {Q} {O} code size history j w t (x ∷ xs) queue cq ce d c h e =
+abbrev ticket_or : Ticket → Option Ticket → Ticket
+ticket_or t None = t
+ticket_or _ (Some t) = t
+
+pub may_read_first : {O : Type 0} (code : O → Code) (size : O → ℕ) (j : List Event) (t : Ticket) (endings : List (Ticket × O))
+    → map (message code size) endings ≡ waiting j → slice_get (queued endings) 0 ≡ Some t → may_follow j (what.Read t) ≡ true
+may_read_first code size j t [] w first = absurd (false≢true (ap is_some first))
+may_read_first code size j t (x ∷ xs) w first = rw (← w, ← ap (ticket_or t) first) (same-refl x.0)
+
+pub control-read_first : {Q O : Type 0} (code : O → Code) (size : O → ℕ) (history : ℕ) (j : List Event) (w : Who) (t : Ticket) (endings : List (Ticket × O)) (queue : List (Ticket × Q)) (cq ce : ℕ)
+    → IsControl code size history j queue endings cq ce → slice_get (queued endings) 0 ≡ Some t → IsControl code size history (then j w (what.Read t)) queue (remove endings 0) cq ce
+control-read_first code size history j w t [] queue cq ce c first = absurd (false≢true (ap is_some first))
+control-read_first {Q} {O} code size history j w t (x ∷ xs) queue cq ce c first =
     let P : Ticket → Type 0 = λ u. IsControl {Q = Q} {O = O} code size history (then j w (what.Read u)) queue xs cq ce in
-    subst P (sym e) (control-read code size history j w x xs queue cq ce c)
+    subst P (ap (ticket_or t) first) (control-read code size history j w x xs queue cq ce c)
 
 pub endings_few : {O : Type 0} (code : O → Code) (size : O → ℕ) (j : List Event) (endings : List (Ticket × O)) → is_legal j ≡ true → map (message code size) endings ≡ waiting j → length endings ≤ 256
 endings_few code size j endings l w =
@@ -213,13 +222,24 @@ pub claimed_first : {Q : Type 0} (j : List Event) (t : Ticket) (queue : List (Ti
     → has_ticket t (claimed j queue) ≡ true
 claimed_first j t queue a r = has-kept t (λ u. not (has_ticket u (queued queue))) (running j) r ∙ ap not (above_off t (queued queue) a)
 
--- the first message's handle is added
-pub message_has_row : {O : Type 0} (code : O → Code) (size : O → ℕ) (j : List Event) (endings : List (Ticket × O)) (d : Ticket × O) (t : Ticket)
-    → is_legal j ≡ true → map (message code size) endings ≡ waiting j → 0 < length endings → t ≡ (slice_index_or endings 0 d).0 → None ≡ handle_of t j → ⊥
-message_has_row code size j [] d t l w h e n = absurd (omega arith)
-message_has_row code size j (x ∷ xs) d t l w h e n =
+-- the message that has waited longest has the first ending's ticket, and a row
+abbrev first_or : {O : Type 0} → Ticket × O → Option (Ticket × O) → Ticket
+first_or x None = x.0
+first_or _ (Some x) = x.0
+
+pub oldest_has_row : {O : Type 0} (code : O → Code) (size : O → ℕ) (j : List Event) (endings : List (Ticket × O)) (first : Ticket × O) (r : Option Row)
+    → is_legal j ≡ true → map (message code size) endings ≡ waiting j → Some first ≡ slice_get endings 0 → option_map (λ (x : Row). x.handle) r ≡ handle_of first.0 j → IfNone r (endings ≡ [])
+oldest_has_row code size j endings first (Some r) l w is h = tt
+oldest_has_row code size j [] first None l w is h = refl
+oldest_has_row code size j (x ∷ xs) first None l w is h =
     let u = rw (← w) at (laws j l).waits in
-    false≢true (sym (none_added j l x.0 (n ∙ ap (λ z. handle_of z j) e)) ∙ u.0.1)
+    absurd (false≢true (sym (none_added j l x.0 (h ∙ ap (λ z. handle_of z j) (ap (first_or first) is))) ∙ u.0.1))
+
+pub oldest_is_first : {O : Type 0} (endings : List (Ticket × O)) (first : Ticket × O) (r : Option Row)
+    → Some first ≡ slice_get endings 0 → IfSome r (λ (x : Row). x.ticket ≡ first.0) → IfSome r (λ (x : Row). slice_get (queued endings) 0 ≡ Some x.ticket)
+oldest_is_first endings first None is same = tt
+oldest_is_first [] first (Some r) is same = absurd (false≢true (sym (ap is_some is)))
+oldest_is_first (x ∷ xs) first (Some r) is same = ap Some (sym (same ∙ ap (first_or first) is))
 
 pub split_first : {X : Type 0} (xs ys : List X) (x : X) → 0 < length xs → x ≡ slice_index_or xs 0 x → ys ≡ remove xs 0 → xs ≡ x ∷ ys
 split_first [] ys x h v r = absurd (omega arith)

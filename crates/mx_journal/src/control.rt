@@ -14,7 +14,7 @@ use crate::pairs::{drop_ticket, has_ticket, insert_ticket};
 use crate::replies::{
     AddReply, FinishReply, GiveBackReply, InfoReply, PauseReply, RemoveReply, WakeupReply,
 };
-use mx_history::Log;
+use mx_history::{Log, Row};
 use mx_table::Table;
 use mx_types::{
     AddedHandles, Ending, Event, HandleId, Look, OutOfMemory, State, Ticket, What, Who, Work,
@@ -307,29 +307,35 @@ impl<Q: Work + Drop, O: Ending + Drop> Control<Q, O> {
         ensures endings { self.old.endings ≡ ending_read result ++ self.new.endings }
         ensures own { AreOwn O.origin self.old.origins self.old.endings → AreOwn O.origin self.new.origins self.new.endings × AreOwn O.origin self.old.origins (ending_read result) }
     {
-        if self.endings.is_empty() {
+        let Some(row) = self.oldest() else {
             return InfoReply::Empty;
-        }
-        let ticket = self.endings[0].0;
+        };
         let event = Event {
             who,
-            what: What::Read(ticket),
+            what: What::Read(row.ticket),
         };
         if log.append(event).is_err() {
             return InfoReply::OutOfMemory;
         }
-        let Some(row) = self.table.row_of_ticket(ticket) else {
-            unreachable!()
-        };
         enter(self.history, &mut self.journal, &mut self.table, event);
         let (_, ending) = self.endings.remove(0);
         let left = self.endings.len() as u32;
         InfoReply::Message {
             handle: row.handle,
-            ticket,
+            ticket: row.ticket,
             ending,
             left,
         }
+    }
+
+    // The addition whose message has waited longest. None where no message waits.
+    fn oldest(&self) -> Option<Row>
+        ensures none { IfNone result (self.now.endings ≡ []) }
+        ensures ticket { IfSome result (λ row. slice_get (queued self.now.endings) 0 ≡ Some row.ticket) }
+        ensures handle { IfSome result (λ row. handle_of row.ticket self.now.journal ≡ Some row.handle) }
+    {
+        let first = self.endings.first()?;
+        self.table.row_of_ticket(first.0)
     }
 
     /// Lets polls that wait return (curl_multi_wakeup(3)).
@@ -397,9 +403,8 @@ impl<Q: Work + Drop, O: Ending + Drop> Control<Q, O> {
         ensures own { AreOwn O.origin self.old.origins self.old.endings → origin_of claim.ticket self.old.origins ≡ Some claim.origin → AreOwn O.origin self.new.origins self.new.endings }
     {
         let ticket = claim.ticket();
-        match self.table.row_of_ticket(ticket) {
-            Some(row) if row.phase.is_open() => {}
-            _ => return FinishReply::Stale(ending),
+        if !self.runs(&claim) {
+            return FinishReply::Stale(ending);
         }
         let event = Event {
             who,
@@ -462,7 +467,7 @@ impl<Q: Work + Drop, O: Ending + Drop> Control<Q, O> {
         ensures own { AreOwn O.origin self.old.origins self.old.endings → AreOwn O.origin self.new.origins self.new.endings }
     {
         let ticket = claim.ticket();
-        if !self.is_claimed(ticket) {
+        if !self.is_claimed(&claim) {
             return GiveBackReply::Stale(work);
         }
         self.origins[ticket.0 as usize] = Snapshot::of(&work);
@@ -470,17 +475,18 @@ impl<Q: Work + Drop, O: Ending + Drop> Control<Q, O> {
         GiveBackReply::Back
     }
 
-    // Whether the ticket runs and its work isn't queued.
-    fn is_claimed(&self, ticket: Ticket) -> bool
-        ensures { result ≡ has_ticket ticket (claimed self.now.journal self.now.queue) }
+    // Whether the claimed addition runs and its work isn't queued.
+    fn is_claimed(&self, claim: &Claim<Q>) -> bool
+        ensures { result ≡ has_ticket claim.now.ticket (claimed self.now.journal self.now.queue) }
     {
-        self.runs(ticket) && !has_ticket(&self.queue, ticket)
+        self.runs(claim) && !has_ticket(&self.queue, claim.ticket())
     }
 
-    fn runs(&self, ticket: Ticket) -> bool
-        ensures { result ≡ has_ticket ticket (running self.now.journal) }
+    // Whether the claimed addition runs: its handle may have been removed, and added anew.
+    fn runs(&self, claim: &Claim<Q>) -> bool
+        ensures { result ≡ has_ticket claim.now.ticket (running self.now.journal) }
     {
-        let Some(row) = self.table.row_of_ticket(ticket) else {
+        let Some(row) = self.table.row_of_ticket(claim.ticket()) else {
             return false;
         };
         row.phase.is_open()

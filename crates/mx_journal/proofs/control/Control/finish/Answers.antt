@@ -2,7 +2,6 @@ use Rattle.std.proofs.Common.{◌≡◌, ◌<◌, ◌∙◌, ap, append-nil, map
 use Rattle.std.proofs.lemmas.Grind.{common_steps}
 use Rattle.mx_history.specs.History.{has_ticket, running, same_ticket}
 use Rattle.mx_journal.proofs.Controls.{control-finished, endings_short}
-use Rattle.mx_history.proofs.Tickets.{may_finish}
 use Rattle.mx_journal.proofs.Remains.{queue_stays, queue_ended, endings_stay, endings_ended}
 use Rattle.std.specs.Prelude.{not, Some}
 use Rattle.mx_types.specs.declared.event.What.TheVariants as what
@@ -15,8 +14,9 @@ pub push_reserved-requires : goal.push_reserved-requires
 push_reserved-requires g c =
     let s = c.self.invariant.kept.sound in
     let j = c.self.inside.journal.items in
+    let yes : c.runs.result ≡ true = search rules in
     let may : has_ticket c.ticket-ticket.result (running j) ≡ true =
-    may_finish j c.ticket-ticket.result c.in-Some.row c.in-Some.ensures.same (c.in-Some.ensures.row c.self.inside.journal.items c.self.invariant.tabled.table).runs (sym c.is_open.ensures ∙ c.if-is_open.true) in
+    sym (rw (← c.self.view_is, ← c.ticket-ticket.ensures) at c.runs.ensures) ∙ yes in
     let short : length c.self.inside.endings.items < 256 =
     endings_short g.O.Ending.code_of g.O.Ending.size_of j c.self.inside.endings.items c.ticket-ticket.result s.kept.legal s.waits may in
     omega (arith, short, c.self.inside.endings.ok.0, c.self.invariant.kept.endings_fit)
@@ -24,8 +24,9 @@ push_reserved-requires g c =
 pub invariant_of-self : goal.invariant_of-self
 invariant_of-self g c =
     let j = c.self.inside.journal.items in
+    let yes : c.runs.result ≡ true = search rules in
     let may : has_ticket c.ticket-ticket.result (running j) ≡ true =
-    may_finish j c.ticket-ticket.result c.in-Some.row c.in-Some.ensures.same (c.in-Some.ensures.row c.self.inside.journal.items c.self.invariant.tabled.table).runs (sym c.is_open.ensures ∙ c.if-is_open.true) in
+    sym (rw (← c.self.view_is, ← c.ticket-ticket.ensures) at c.runs.ensures) ∙ yes in
     record {
       tabled = c.enter.ensures.tabled;
       kept = rw (c.enter.ensures.items, c.drop_ticket.ensures.items, c.drop_ticket.ensures.capacity, c.push_reserved.ensures.items, c.push_reserved.ensures.capacity, c.code.ensures, c.size.ensures)
@@ -36,11 +37,11 @@ invariant_of-self g c =
           c.self.invariant.origins refl (own_filter g.Q.Work.origin _ (λ x. not (same_ticket x.0 c.ticket-ticket.result)) c.self.inside.queue.items c.self.invariant.origins.own));
     }
 
-pub returns-in_default-clause-queue : goal.returns-in_default-clause-queue
-returns-in_default-clause-queue g c = rw (← c.self.view_is) (sym (queue_stays c.self.inside.journal.items c.self.inside.queue.items c.self.invariant.kept.sound.runs))
+pub returns-then-not-runs-clause-queue : goal.returns-then-not-runs-clause-queue
+returns-then-not-runs-clause-queue g c = rw (← c.self.view_is) (sym (queue_stays c.self.inside.journal.items c.self.inside.queue.items c.self.invariant.kept.sound.runs))
 
-pub returns-in_default-clause-endings : goal.returns-in_default-clause-endings
-returns-in_default-clause-endings g c =
+pub returns-then-not-runs-clause-endings : goal.returns-then-not-runs-clause-endings
+returns-then-not-runs-clause-endings g c =
     rw (← c.self.view_is) (sym (append-nil _ ∙ endings_stay g.O.Ending.code_of g.O.Ending.size_of c.self.inside.journal.items c.self.inside.endings.items c.self.invariant.kept.sound.waits))
 
 pub returns-then-is_err-clause-queue : goal.returns-then-is_err-clause-queue
@@ -69,8 +70,8 @@ returns-clause-own g c own is =
     (own_pushed g.O.Ending.origin origins c.self.inside.endings.items c.ticket-ticket.result c.args.ending (rw (← c.self.view_is) at own)
     (ap (λ t. origin_of t origins) c.ticket-ticket.ensures ∙ (rw (← c.self.view_is) at is) ∙ ap Some (sym c.requires.origin)))
 
-pub returns-in_default-clause-answers : goal.returns-in_default-clause-answers
-returns-in_default-clause-answers g c = grind (arith, common_steps)
+pub returns-then-not-runs-clause-answers : goal.returns-then-not-runs-clause-answers
+returns-then-not-runs-clause-answers g c = grind (arith, common_steps)
 
 pub returns-then-is_err-clause-answers : goal.returns-then-is_err-clause-answers
 returns-then-is_err-clause-answers g c = search rules

@@ -14,7 +14,7 @@ index_mut-requires g c =
     let queue = c.self.inside.queue.items in
     let t = c.ticket-ticket.result in
     let yes : c.is_claimed.result ≡ true = search rules in
-    let h : has_ticket t (claimed j queue) ≡ true = sym (rw (← c.self.view_is) at c.is_claimed.ensures) ∙ yes in
+    let h : has_ticket t (claimed j queue) ≡ true = sym (rw (← c.self.view_is, ← c.ticket-ticket.ensures) at c.is_claimed.ensures) ∙ yes in
     let f = λ (s : Snapshot g.row.Q.Denot). g.Q.Work.origin s.value in
     let lt = within g.Q.Work.origin c.self.inside.history j t (map f c.self.inside.origins.items) queue _ c.self.invariant.origins c.self.invariant.kept.sound.kept.legal h in
     omega (arith, lt, length-map c.self.inside.origins.items f, c.self.inside.origins.ok.0)
@@ -25,7 +25,7 @@ insert_ticket-requires g c =
     let queue = c.self.inside.queue.items in
     let t = c.ticket-ticket.result in
     let yes : c.is_claimed.result ≡ true = search rules in
-    let h : has_ticket t (claimed j queue) ≡ true = sym (rw (← c.self.view_is) at c.is_claimed.ensures) ∙ yes in
+    let h : has_ticket t (claimed j queue) ≡ true = sym (rw (← c.self.view_is, ← c.ticket-ticket.ensures) at c.is_claimed.ensures) ∙ yes in
     let short : length queue < 256 =
     queue_short g.O.Ending.code_of g.O.Ending.size_of c.self.inside.history j t c.args.work queue c.self.inside.endings.items _ _ c.self.invariant.kept h in
     omega (arith, short, c.self.inside.queue.ok.0, c.self.invariant.kept.queue_fits)
@@ -36,7 +36,7 @@ invariant_of-self g c =
     let queue = c.self.inside.queue.items in
     let t = c.ticket-ticket.result in
     let yes : c.is_claimed.result ≡ true = search rules in
-    let h : has_ticket t (claimed j queue) ≡ true = sym (rw (← c.self.view_is) at c.is_claimed.ensures) ∙ yes in
+    let h : has_ticket t (claimed j queue) ≡ true = sym (rw (← c.self.view_is, ← c.ticket-ticket.ensures) at c.is_claimed.ensures) ∙ yes in
     let f = λ (s : Snapshot g.row.Q.Denot). g.Q.Work.origin s.value in
     let origins = map f c.self.inside.origins.items in
     let set : map f (slice_set c.self.inside.origins.items c.ticket-ticket.result.0 c.of.result) ≡ slice_set origins c.ticket-ticket.result.0 (g.Q.Work.origin c.args.work) =
@@ -79,7 +79,7 @@ returns-clause-own g c own =
     let queue = c.self.inside.queue.items in
     let t = c.ticket-ticket.result in
     let yes : c.is_claimed.result ≡ true = search rules in
-    let h : has_ticket t (claimed j queue) ≡ true = sym (rw (← c.self.view_is) at c.is_claimed.ensures) ∙ yes in
+    let h : has_ticket t (claimed j queue) ≡ true = sym (rw (← c.self.view_is, ← c.ticket-ticket.ensures) at c.is_claimed.ensures) ∙ yes in
     let f = λ (s : Snapshot g.row.Q.Denot). g.Q.Work.origin s.value in
     let origins = map f c.self.inside.origins.items in
     let set : map f (slice_set c.self.inside.origins.items c.ticket-ticket.result.0 c.of.result) ≡ slice_set origins c.ticket-ticket.result.0 (g.Q.Work.origin c.args.work) =

@@ -3,3 +3,6 @@ use Rattle.mx_journal.proofs.control.Control.runs.Goals as goal
 
 pub returns-in_default : goal.returns-in_default
 returns-in_default g c = search rules
+
+pub returns : goal.returns
+returns g c = search rules

@@ -26,3 +26,9 @@ returns-then-is_err-clause-logged g c = grind (arith, common_steps)
 
 pub returns-then-is_err-clause-unchanged : goal.returns-then-is_err-clause-unchanged
 returns-then-is_err-clause-unchanged g c = search rules
+
+pub returns-then-not-has_room-clause-answers : goal.returns-then-not-has_room-clause-answers
+returns-then-not-has_room-clause-answers g c = search rules
+
+pub returns-then-not-has_room-clause-memory : goal.returns-then-not-has_room-clause-memory
+returns-then-not-has_room-clause-memory g c = search rules
