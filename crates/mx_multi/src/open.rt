@@ -1,5 +1,5 @@
 //! Opening and closing a multi handle.
-ghost use Rattle.std.specs.Prelude.{◌≡◌, ◌≤◌, ◌+◌, [], Bool, true, false, length, vec_len, Err, IfOk, IfErr};
+ghost use Rattle.std.specs.Prelude.{◌≡◌, ◌≤◌, ◌+◌, ◌&&◌, nat_le, [], Bool, true, false, length, vec_len, Err, IfOk, IfErr};
 ghost use Rattle.std.specs.List.{All};
 ghost use Rattle.std.specs.VecDeque.{deque_len};
 ghost use Rattle.crossbeam_channel.specs.Claims.{view};
@@ -34,14 +34,25 @@ impl Limits {
     pub fn are_within(&self) -> bool
         ensures { result ≡ are_within self.now }
     {
-        1 <= self.seats
-            && self.seats <= 16
-            && 1 <= self.workers
-            && self.workers <= 16
-            && 4 <= self.history
-            && self.history <= 1048576
+        is_seat_count(self.seats)
+            && is_seat_count(self.workers)
+            && is_history(self.history)
             && self.max_connects <= 64
     }
+}
+
+// Whether there can be so many seats of a kind.
+fn is_seat_count(count: u8) -> bool
+    ensures { result ≡ (nat_le 1 count && nat_le count 16) }
+{
+    (1..=16).contains(&count)
+}
+
+// Whether a history can have so many events.
+fn is_history(events: u32) -> bool
+    ensures { result ≡ (nat_le 4 events && nat_le events 1048576) }
+{
+    (4..=1048576).contains(&events)
 }
 
 /// Why a multi handle was not opened: a number isn't within its limits, which is tried first; or memory was refused.

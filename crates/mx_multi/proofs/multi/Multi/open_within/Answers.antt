@@ -1,4 +1,4 @@
-use Rattle.std.proofs.Common.{◌≡◌, ◌∙◌, ap, sym, subst, refl, length, true, false, arith}
+use Rattle.std.proofs.Common.{◌≡◌, ◌∙◌, ap, sym, subst, refl, true, false}
 use Rattle.crossbeam_channel.specs.Claims.{view}
 use Rattle.mx_board.specs.Journal.{Mark}
 use Rattle.mx_lock.specs.Shared.{SharedState, Engine, content}
