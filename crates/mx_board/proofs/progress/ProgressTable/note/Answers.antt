@@ -19,3 +19,6 @@ fetch_max-requires c =
         refl,
       ),
     )
+
+pub returns : goal.returns
+returns c = search rules

@@ -40,3 +40,6 @@ returns g c =
       subst (λ (s : ReaderState). Reads s (reader_at me.who it.mark.events it.last it.mark.book)) c.self.view_is reads,
       subst (λ (m : Mark). g.Q.Query.is_answer c.args.query.now m.events it.answer) f.1 f.3,
     )
+
+pub invariant_of-self-2 : goal.invariant_of-self-2
+invariant_of-self-2 g c = search rules

@@ -1,4 +1,4 @@
-use Rattle.std.proofs.Common.{◌≡◌, ap, List}
+use Rattle.std.proofs.Common.{rules, ◌≡◌, ap, List}
 use Rattle.std.specs.Mem.{manually_drop_value}
 use Rattle.mx_types.specs.declared.event.Event.{Event}
 use Rattle.mx_board.specs.Board.{BoardState}
@@ -15,3 +15,6 @@ returns g c =
     rw (c.hold.ensures, c.publish_all-writer.ensures.shown, c.into_inner.ensures) all.whole in
     let state : List Event → BoardState = λ l. record { events = journal; published = l; book = c.self.inside.mark.book } in
     rw (← c.self.view_is) (ap state published)
+
+pub returns-then-self : goal.returns-then-self
+returns-then-self g c = search rules
