@@ -15,7 +15,7 @@ pub struct Input<R> {
 }
 
 impl<R: Read> Input<R> {
-    ghost use Rattle.std.specs.Prelude.{◌≡◌, ◌+◌, ◌<◌, ◌≤◌, true, false, IsErr, IsOk, OnOk, OnErr, ◌↔◌, ◌⊎◌};
+    ghost use Rattle.std.specs.Prelude.{◌≡◌, ◌+◌, ◌<◌, ◌≤◌, true, false, Ok, IsErr, IfOk, IsOk, OnOk, OnErr, ◌↔◌, ◌⊎◌};
     ghost use Rattle.std.specs.Io.{ReadsAtMost};
     ghost use Rattle.std.specs.Io.KnownBytes.{ReadConsumes};
     ghost use Rattle.mx_run_io.specs.Ends.{reader_of, reads_of, most_reads_of, has_failed_read};
@@ -55,7 +55,16 @@ impl<R: Read> Input<R> {
             return Err(ReadFailed);
         }
         self.reads += 1;
-        match self.reader.read(buffer) {
+        let count = self.reader.read(buffer);
+        self.note(count)
+    }
+
+    // an error of the reader fails the input for good
+    fn note<E: Drop>(&mut self, count: Result<usize, E>) -> Result<usize, ReadFailed>
+        ensures count { IfOk count (λ n. (result ≡ Ok n) × (self.new ≡ self.old)) }
+        ensures error { OnErr count (IsErr result × (self.new ≡ record self.old { failed = true })) }
+    {
+        match count {
             Ok(n) => Ok(n),
             Err(_) => {
                 self.failed = true;

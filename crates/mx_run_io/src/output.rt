@@ -16,7 +16,7 @@ pub struct Output<W> {
 }
 
 impl<W: Write> Output<W> {
-    ghost use Rattle.std.specs.Prelude.{◌≡◌, true, false, IsErr, OnOk, IfSome, ◌↔◌};
+    ghost use Rattle.std.specs.Prelude.{◌≡◌, true, false, IsOk, IsErr, OnOk, OnErr, IfSome, ◌↔◌};
     ghost use Rattle.std.specs.Io.KnownBytes.{Appends, Keeps};
     ghost use Rattle.mx_run_io.specs.Ends.{writer_of, has_failed_write, is_pending};
 
@@ -44,13 +44,8 @@ impl<W: Write> Output<W> {
             return Err(WriteFailed);
         }
         self.pending = true;
-        match self.writer.write_all(bytes) {
-            Ok(()) => Ok(()),
-            Err(_) => {
-                self.failed = true;
-                Err(WriteFailed)
-            }
-        }
+        let written = self.writer.write_all(bytes);
+        self.note(written)
     }
 
     /// Writes a text.
@@ -65,13 +60,8 @@ impl<W: Write> Output<W> {
             return Err(WriteFailed);
         }
         self.pending = true;
-        match self.writer.write_fmt(text) {
-            Ok(()) => Ok(()),
-            Err(_) => {
-                self.failed = true;
-                Err(WriteFailed)
-            }
-        }
+        let written = self.writer.write_fmt(text);
+        self.note(written)
     }
 
     /// Hands on what the writer still keeps.
@@ -84,11 +74,18 @@ impl<W: Write> Output<W> {
         if self.failed {
             return Err(WriteFailed);
         }
-        match self.writer.flush() {
-            Ok(()) => {
-                self.pending = false;
-                Ok(())
-            }
+        let flushed = self.writer.flush();
+        self.pending = self.pending && flushed.is_err();
+        self.note(flushed)
+    }
+
+    // an error of the writer fails the output for good
+    fn note<E: Drop>(&mut self, done: Result<(), E>) -> Result<(), WriteFailed>
+        ensures done { OnOk done (IsOk result × (self.new ≡ self.old)) }
+        ensures error { OnErr done (IsErr result × (self.new ≡ record self.old { failed = true })) }
+    {
+        match done {
+            Ok(()) => Ok(()),
             Err(_) => {
                 self.failed = true;
                 Err(WriteFailed)

@@ -3,6 +3,3 @@ use Rattle.mx_run_io.proofs.input.Input.read.Goals as goal
 
 pub returns-then-self-clause-asked : goal.returns-then-self-clause-asked
 returns-then-self-clause-asked g c = search rules
-
-pub returns-in-Err-clause-failed : goal.returns-in-Err-clause-failed
-returns-in-Err-clause-failed g c = search rules

@@ -1,5 +1,5 @@
 use Rattle.std.proofs.Common.{rules}
 use Rattle.mx_run_io.proofs.output.Output.write_all.Goals as goal
 
-pub returns-in-Ok-clause-bytes : goal.returns-in-Ok-clause-bytes
-returns-in-Ok-clause-bytes g c = search rules
+pub returns-clause-bytes : goal.returns-clause-bytes
+returns-clause-bytes g c = search rules
