@@ -7,13 +7,14 @@ use Rattle.httparse.specs.Grammar.{ResponseHead, status_code}
 use Rattle.mx_types.specs.declared.code.Code.TheVariants.{WeirdServerReply, BadContentEncoding}
 use Rattle.mx_types.specs.declared.method.Method.{Method}
 use Rattle.mx_head.specs.declared.types.Framing.TheVariants.{Empty, Counted}
+use Rattle.mx_head.specs.declared.types.Coding.{Coding}
 use Rattle.mx_head.specs.declared.types.Coding.TheVariants as coding
 use Rattle.mx_head.specs.declared.types.Length.{Length}
 use Rattle.mx_head.specs.declared.types.Length.TheVariants as sized
 use Rattle.mx_head.specs.Fields.{elements, lines_of}
 use Rattle.mx_head.specs.Framing.{has_no_body, by_length, chunked_framing, by_fields, framing_of, keeps_of, is_there, is_blank, is_chunked_alone, is_number, is_number_of}
 use Rattle.mx_head.specs.Laws.{SummaryDecides}
-use Rattle.mx_head.specs.Summary.{Summary, Describes, coding_of, length_of, by_length_kept, by_kept, is_coded, is_sized, framing_by, keeps_by}
+use Rattle.mx_head.specs.Summary.{Summary, Describes, coding_of, length_of, by_length_kept, by_coded, by_kept, is_coded, is_sized, framing_by, keeps_by}
 
 by_length_test : (t : Bool) (n : ℕ)
     → by_length_kept (cond t (sized.Counted n) sized.Invalid) ≡ cond t (Ok (Counted n)) (Err WeirdServerReply)
@@ -23,6 +24,17 @@ by_length_test false n = refl
 by_length_agrees : (ls : List (List ℕ)) → by_length_kept (length_of ls) ≡ by_length ls
 by_length_agrees [] = refl
 by_length_agrees (e ∷ es) = by_length_test (is_number e && list_all (is_number_of (digits_value 10 e)) es) _
+
+-- with a Transfer-Encoding, Content-Length counts for nothing
+pub by_kept_coded : (minor : ℕ) (c : Coding) (l : Length) → is_coded c ≡ true → by_coded minor c ≡ by_kept minor c l
+by_kept_coded minor coding.Absent l is = cc
+by_kept_coded minor coding.Chunked l is = refl
+by_kept_coded minor coding.Other l is = refl
+
+pub by_kept_uncoded : (minor : ℕ) (c : Coding) (l : Length) → is_coded c ≡ false → by_length_kept l ≡ by_kept minor c l
+by_kept_uncoded minor coding.Absent l is = refl
+by_kept_uncoded minor coding.Chunked l is = cc
+by_kept_uncoded minor coding.Other l is = cc
 
 by_kept_test : (minor : ℕ) (l : Length) (t : Bool)
     → by_kept minor (cond t coding.Chunked coding.Other) l

@@ -22,9 +22,13 @@ asks_head_alone method.Put = false
 asks_head_alone method.Delete = false
 asks_head_alone method.Options = false
 
+-- the status of an answer that has no body to any request
+abbrev pub is_bodiless : ℕ → Bool
+is_bodiless status = (status == 204) || (status == 304)
+
 -- no body follows, whatever the fields say: an answer to HEAD, 204 and 304
 abbrev pub has_no_body : Method → ℕ → Bool
-has_no_body m status = asks_head_alone m || ((status == 204) || (status == 304))
+has_no_body m status = asks_head_alone m || is_bodiless status
 
 -- an element with nothing in it, which doesn't count in Transfer-Encoding (RFC 9110, section 5.6.1.2)
 abbrev pub is_blank : List ℕ → Bool

@@ -45,11 +45,21 @@ by_length_kept sized.Absent = Ok Close
 by_length_kept (sized.Counted n) = Ok (Counted n)
 by_length_kept sized.Invalid = Err WeirdServerReply
 
+-- the framing by what was kept of Transfer-Encoding
+abbrev pub by_coding : Coding → Result Framing Code
+by_coding coding.Absent = Err BadContentEncoding
+by_coding coding.Chunked = chunked_framing
+by_coding coding.Other = Err BadContentEncoding
+
+-- the same, where HTTP/1.0 has no transfer codings
+abbrev pub by_coded : ℕ → Coding → Result Framing Code
+by_coded minor coding = if minor == 0 then Err WeirdServerReply else by_coding coding
+
 -- the framing by what was kept of both fields
 abbrev pub by_kept : ℕ → Coding → Length → Result Framing Code
 by_kept minor coding.Absent length = by_length_kept length
-by_kept minor coding.Chunked length = if minor == 0 then Err WeirdServerReply else chunked_framing
-by_kept minor coding.Other length = if minor == 0 then Err WeirdServerReply else Err BadContentEncoding
+by_kept minor coding.Chunked length = by_coded minor coding.Chunked
+by_kept minor coding.Other length = by_coded minor coding.Other
 
 -- Transfer-Encoding has a line
 abbrev pub is_coded : Coding → Bool

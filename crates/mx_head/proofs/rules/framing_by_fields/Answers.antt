@@ -1,14 +1,11 @@
-use Rattle.std.proofs.Common.{rules}
+use Rattle.std.proofs.Common.{sym, ◌∙◌}
+use Rattle.mx_head.proofs.SummaryLemmas.{by_kept_coded, by_kept_uncoded}
 use Rattle.mx_head.proofs.rules.framing_by_fields.Goals as goal
 
-pub returns-in-Absent : goal.returns-in-Absent
-returns-in-Absent c = search rules
+pub returns-then-is_there : goal.returns-then-is_there
+returns-then-is_there c =
+    c.framing_by_coding.ensures ∙ by_kept_coded c.args.minor c.args.coding c.args.length (sym c.is_there.ensures ∙ c.if-is_there.true)
 
-pub returns-in_default : goal.returns-in_default
-returns-in_default c = search rules
-
-pub returns-in-Chunked : goal.returns-in-Chunked
-returns-in-Chunked c = search rules
-
-pub returns-in-Other : goal.returns-in-Other
-returns-in-Other c = search rules
+pub returns : goal.returns
+returns c =
+    c.framing_by_length.ensures ∙ by_kept_uncoded c.args.minor c.args.coding c.args.length (sym c.is_there.ensures ∙ c.if-is_there.false)
