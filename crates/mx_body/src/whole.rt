@@ -1,6 +1,7 @@
 //! Decoding all of the bytes at once.
 
-ghost use Rattle.std.specs.Prelude.{◌≡◌, ℕ, ◌+◌, ◌<◌, ◌^◌, IfOk, OnErr, Ok};
+ghost use Rattle.std.specs.Prelude.{◌≡◌, ℕ, ◌+◌, ◌<◌, ◌≤◌, ◌^◌, true, false, IfOk, OnErr, Ok};
+ghost use Rattle.mx_head.specs.Limits.{most_bytes};
 ghost use Rattle.mx_head.specs.declared.types.Framing.TheVariants.{Chunked};
 ghost use Rattle.mx_head.specs.Summary.{framing_by};
 ghost use Rattle.mx_body.specs.Response.{one_part};
@@ -101,6 +102,23 @@ fn decode_chunked(
     }
 }
 
+/// Whether so many bytes of a body that begins at `at` are too many.
+fn is_too_large(n: u64, at: usize) -> bool
+    requires { at ≤ most_bytes }
+    ensures too_many { result ≡ true → most_bytes < at + n }
+    ensures few { result ≡ false → at + n ≤ most_bytes }
+{
+    n > (MOST_BYTES - at) as u64
+}
+
+/// Whether so many bytes of a body are among those left behind its head.
+fn is_there(n: u64, left: usize) -> bool
+    ensures there { result ≡ true → n ≤ left }
+    ensures lacking { result ≡ false → left < n }
+{
+    n <= left as u64
+}
+
 /// The verdict where the final head ends at `at`.
 pub(crate) fn decode_body(
     alloc: Global,
@@ -119,10 +137,10 @@ pub(crate) fn decode_body(
         Err(code) => Ok(Verdict::Fault(code)),
         Ok(Framing::Empty) => complete(alloc, head.status(), at as u32, 0, keeps(head)),
         Ok(Framing::Counted(n)) => {
-            if n > (MOST_BYTES - at) as u64 {
+            if is_too_large(n, at) {
                 return Ok(Verdict::Fault(Code::FilesizeExceeded));
             }
-            if n <= left as u64 {
+            if is_there(n, left) {
                 return complete(alloc, head.status(), at as u32, n as u32, keeps(head));
             }
             if ended {

@@ -1,6 +1,6 @@
 //! A reader of a chunked body that takes a byte at a time, or a run of data at once. It keeps no bytes.
 
-ghost use Rattle.std.specs.Prelude.{◌≡◌, ℕ, ◌+◌, ◌<◌, ◌≤◌, length, take, true};
+ghost use Rattle.std.specs.Prelude.{◌≡◌, ℕ, ◌+◌, ◌*◌, ◌<◌, ◌≤◌, length, take, true};
 ghost use Rattle.mx_body.specs.ChunkedPlace.{sized, after_digits, in_line, expect, after_line, next_place, place_after, is_settled, begun, parts_begun};
 
 use httparse::parse_hex_digit;
@@ -46,6 +46,13 @@ fn sized(limit: u32, size: u64) -> Place
     } else {
         Place::TooLarge
     }
+}
+
+fn size_with(size: u32, digit: u64) -> u64
+    requires { digit < 16 }
+    ensures { result ≡ size * 16 + digit }
+{
+    u64::from(size) * 16 + digit
 }
 
 fn after_digits(size: u32, b: u8) -> Place
@@ -95,7 +102,7 @@ impl Place {
                 None => Place::Bad,
             },
             Place::Size(size) => match parse_hex_digit(b) {
-                Some(digit) => sized(limit, u64::from(size) * 16 + digit),
+                Some(digit) => sized(limit, size_with(size, digit)),
                 None => after_digits(size, b),
             },
             Place::Extension(size) => in_line(b, Place::Extension(size), Place::SizeLf(size)),

@@ -55,6 +55,13 @@ impl ChunkedReader {
         }
     }
 
+    fn go_to(&mut self, place: Place, read: usize)
+        ensures { self.new ≡ record self.old { place = place; read = read } }
+    {
+        self.place = place;
+        self.read = read;
+    }
+
     /// Reads on in a body that has grown. A refusal of memory leaves the reader as it was.
     pub(crate) fn read_on(&mut self, body: &[u8]) -> Result<ChunkedScan, OutOfMemory>
         requires read { HasRead most_bytes body.now self.old }
@@ -89,25 +96,21 @@ impl ChunkedReader {
             place = stretch.next;
             match place {
                 Place::Done => {
-                    self.place = place;
-                    self.read = read;
+                    self.go_to(place, read);
                     return Ok(ChunkedScan::Whole { len: read });
                 }
                 Place::Bad => {
-                    self.place = place;
-                    self.read = read;
+                    self.go_to(place, read);
                     return Ok(ChunkedScan::Bad);
                 }
                 Place::TooLarge => {
-                    self.place = place;
-                    self.read = read;
+                    self.go_to(place, read);
                     return Ok(ChunkedScan::TooLarge);
                 }
                 _ => {}
             }
         }
-        self.place = place;
-        self.read = read;
+        self.go_to(place, read);
         Ok(ChunkedScan::Short)
     }
 }

@@ -18,31 +18,31 @@ returns-in-Ok-Empty-clause-verdict c =
     plain_verdict _ _ _ d.interim d.head 0 (empty_body _ _ c.args.ended d.interim d.head d.rest d.stands f) _ v refl
     (whole_at v (c.status.ensures ∙ d.describes.status) d.end_is refl (c.keeps.ensures ∙ keeps_agrees _ d.head d.describes ∙ grind arith) w))
 
-pub returns-then-n-at-clause-verdict : goal.returns-then-n-at-clause-verdict
-returns-then-n-at-clause-verdict c =
+pub returns-then-is_too_large-clause-verdict : goal.returns-then-is_too_large-clause-verdict
+returns-then-is_too_large-clause-verdict c =
     let d = c.requires in
     let f = sym (c.framing.ensures ∙ framing_agrees _ _ d.head d.describes) ∙ c.in-Ok-Counted.is ∙ ap Ok c.in-Ok-Counted.field-0-is in
-    counted_too_big _ _ _ d.interim d.head d.rest c.in-Ok-Counted.n d.stands f (omega (arith, c.if-n-at.true, d.end_is))
+    counted_too_big _ _ _ d.interim d.head d.rest c.in-Ok-Counted.n d.stands f (omega (arith, c.is_too_large.ensures.too_many c.if-is_too_large.true, d.end_is))
 
-pub returns-then-n-left-clause-verdict : goal.returns-then-n-left-clause-verdict
-returns-then-n-left-clause-verdict c =
+pub returns-then-is_there-clause-verdict : goal.returns-then-is_there-clause-verdict
+returns-then-is_there-clause-verdict c =
     let d = c.requires in
     let f = sym (c.framing.ensures ∙ framing_agrees _ _ d.head d.describes) ∙ c.in-Ok-Counted.is ∙ ap Ok c.in-Ok-Counted.field-0-is in
     let small = body_start_small c.args.input.now d.interim d.head d.rest d.stands in
     let p = counted_body c.args.method c.args.input.now c.args.ended d.interim d.head d.rest c.in-Ok-Counted.n d.stands f
-    (omega (arith, c.if-n-at.false, d.end_is, small)) (omega (arith, c.if-n-left.true, d.end_is, input_length c.args.input.now d.interim d.head d.rest d.stands)) in
-    ok_map _ c.complete-then-n-left.ensures.whole (λ v w.
+    (omega (arith, c.is_too_large.ensures.few c.if-is_too_large.false, d.end_is, small)) (omega (arith, c.is_there.ensures.there c.if-is_there.true, d.end_is, input_length c.args.input.now d.interim d.head d.rest d.stands)) in
+    ok_map _ c.complete-then-is_there.ensures.whole (λ v w.
     plain_verdict _ _ _ d.interim d.head c.in-Ok-Counted.n p _ v refl
-    (whole_at v (c.status-then-n-left.ensures ∙ d.describes.status) d.end_is refl (c.keeps-then-n-left.ensures ∙ keeps_agrees _ d.head d.describes ∙ grind arith) w))
+    (whole_at v (c.status-then-is_there.ensures ∙ d.describes.status) d.end_is refl (c.keeps-then-is_there.ensures ∙ keeps_agrees _ d.head d.describes ∙ grind arith) w))
 
-pub returns-then-n-left-clause-memory : goal.returns-then-n-left-clause-memory
-returns-then-n-left-clause-memory c =
+pub returns-then-is_there-clause-memory : goal.returns-then-is_there-clause-memory
+returns-then-is_there-clause-memory c =
     let d = c.requires in
     let f = sym (c.framing.ensures ∙ framing_agrees _ _ d.head d.describes) ∙ c.in-Ok-Counted.is ∙ ap Ok c.in-Ok-Counted.field-0-is in
     let small = body_start_small c.args.input.now d.interim d.head d.rest d.stands in
     let p = counted_body c.args.method c.args.input.now c.args.ended d.interim d.head d.rest c.in-Ok-Counted.n d.stands f
-    (omega (arith, c.if-n-at.false, d.end_is, small)) (omega (arith, c.if-n-left.true, d.end_is, input_length c.args.input.now d.interim d.head d.rest d.stands)) in
-    err_map _ c.complete-then-n-left.ensures.memory (λ some. plain_parts _ _ _ d.interim d.head c.in-Ok-Counted.n p some)
+    (omega (arith, c.is_too_large.ensures.few c.if-is_too_large.false, d.end_is, small)) (omega (arith, c.is_there.ensures.there c.if-is_there.true, d.end_is, input_length c.args.input.now d.interim d.head d.rest d.stands)) in
+    err_map _ c.complete-then-is_there.ensures.memory (λ some. plain_parts _ _ _ d.interim d.head c.in-Ok-Counted.n p some)
 
 pub returns-then-input-gt-MOST_BYTES-clause-verdict : goal.returns-then-input-gt-MOST_BYTES-clause-verdict
 returns-then-input-gt-MOST_BYTES-clause-verdict c =
@@ -59,8 +59,8 @@ returns-then-ended-clause-verdict c =
     let small = body_start_small c.args.input.now d.interim d.head d.rest d.stands in
     let long = input_length c.args.input.now d.interim d.head d.rest d.stands in
     let u = counted_short c.args.method c.args.input.now c.args.ended d.interim d.head d.rest c.in-Ok-Counted.n d.stands f
-    (omega (arith, c.if-n-at.false, d.end_is, small)) (omega (arith, c.if-n-left.false, d.end_is, long)) in
-    (u.unfinished, inr (inr (u, omega (arith, c.if-n-at.false, c.if-n-left.false, d.end_is, long, small), c.if-ended.true, inr (inr ((d.interim, d.head, d.rest, d.stands), refl)))))
+    (omega (arith, c.is_too_large.ensures.few c.if-is_too_large.false, d.end_is, small)) (omega (arith, c.is_there.ensures.lacking c.if-is_there.false, d.end_is, long)) in
+    (u.unfinished, inr (inr (u, omega (arith, c.is_too_large.ensures.few c.if-is_too_large.false, c.is_there.ensures.lacking c.if-is_there.false, d.end_is, long, small), c.if-ended.true, inr (inr ((d.interim, d.head, d.rest, d.stands), refl)))))
 
 pub returns-else-ended-clause-verdict : goal.returns-else-ended-clause-verdict
 returns-else-ended-clause-verdict c =
@@ -69,8 +69,8 @@ returns-else-ended-clause-verdict c =
     let small = body_start_small c.args.input.now d.interim d.head d.rest d.stands in
     let long = input_length c.args.input.now d.interim d.head d.rest d.stands in
     let u = counted_short c.args.method c.args.input.now c.args.ended d.interim d.head d.rest c.in-Ok-Counted.n d.stands f
-    (omega (arith, c.if-n-at.false, d.end_is, small)) (omega (arith, c.if-n-left.false, d.end_is, long)) in
-    (u, omega (arith, c.if-n-at.false, c.if-n-left.false, d.end_is, long, small), c.if-ended.false)
+    (omega (arith, c.is_too_large.ensures.few c.if-is_too_large.false, d.end_is, small)) (omega (arith, c.is_there.ensures.lacking c.if-is_there.false, d.end_is, long)) in
+    (u, omega (arith, c.is_too_large.ensures.few c.if-is_too_large.false, c.is_there.ensures.lacking c.if-is_there.false, d.end_is, long, small), c.if-ended.false)
 
 pub returns-then-ended-2-clause-verdict : goal.returns-then-ended-2-clause-verdict
 returns-then-ended-2-clause-verdict c =

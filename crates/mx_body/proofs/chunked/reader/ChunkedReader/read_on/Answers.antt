@@ -1,10 +1,12 @@
-use Rattle.std.proofs.Common.{◌≡◌, ◌+◌, ◌++◌, false, take, length, sym, ap, ◌∙◌, arith, length-append, refl, rules}
+use Rattle.std.proofs.Common.{◌≡◌, ◌+◌, ◌++◌, false, take, length, sym, ap, ◌∙◌, arith, length-append, refl, subst, rules}
 use Rattle.std.proofs.lemmas.List.{take-append-le, take_all}
 use Rattle.std.specs.Prelude.{option_to_list}
 use Rattle.mx_head.specs.Limits.{most_bytes}
 use Rattle.mx_body.specs.declared.chunked.place.Place.TheVariants.{Start, Data}
 use Rattle.mx_body.specs.ChunkedPlace.{is_settled, parts_begun}
+use Rattle.mx_body.specs.ChunkedReader.{HasRead}
 use Rattle.mx_body.specs.ChunkedStretch.{part_begun}
+use Rattle.mx_body.specs.declared.chunked.reader.ChunkedReader.{ChunkedReader}
 use Rattle.mx_body.proofs.ChunkedSteps.{is_open, At, further, whole_at, short, bad_at, large_at}
 use Rattle.mx_body.proofs.ChunkedParts.{further_begun}
 use Rattle.mx_body.proofs.ChunkedReaderLemmas.{left_fits}
@@ -44,33 +46,33 @@ returns-in-Done-clause-read c =
     let here = further most_bytes c.args.body.now c.loop-read.read c.go_over-stretch.result.len c.loop-read.place _ c.loop-read.invariant.place (sym c.go_over-stretch.ensures.leads) in
     let front = parts_begun most_bytes Start c.loop-read.self.at (take c.loop-read.read c.args.body.now) in
     let more = further_begun most_bytes c.loop-read.self.at c.args.body.now c.loop-read.read c.go_over-stretch.result.len c.loop-read.place (part_begun c.go_over-stretch.result.ahead) c.loop-read.invariant.within c.loop-read.invariant.place (c.go_over-stretch.ensures.part (c.loop-read.self.at + c.loop-read.read)) in
-    record {
+    subst (λ (s : ChunkedReader). HasRead most_bytes c.args.body.now s) (sym c.go_to.ensures) (record {
       within = omega arith;
       place = here;
       parts = c.in-Ok.ensures.added ∙ ap (λ ps. ps ++ option_to_list c.part_at.result) c.loop-read.invariant.parts ∙ ap (λ ps. front ++ ps) c.part_at.ensures ∙ sym more;
-    }
+    })
 
 pub returns-in-Bad-clause-read : goal.returns-in-Bad-clause-read
 returns-in-Bad-clause-read c =
     let here = further most_bytes c.args.body.now c.loop-read.read c.go_over-stretch.result.len c.loop-read.place _ c.loop-read.invariant.place (sym c.go_over-stretch.ensures.leads) in
     let front = parts_begun most_bytes Start c.loop-read.self.at (take c.loop-read.read c.args.body.now) in
     let more = further_begun most_bytes c.loop-read.self.at c.args.body.now c.loop-read.read c.go_over-stretch.result.len c.loop-read.place (part_begun c.go_over-stretch.result.ahead) c.loop-read.invariant.within c.loop-read.invariant.place (c.go_over-stretch.ensures.part (c.loop-read.self.at + c.loop-read.read)) in
-    record {
+    subst (λ (s : ChunkedReader). HasRead most_bytes c.args.body.now s) (sym c.go_to-in-Bad.ensures) (record {
       within = omega arith;
       place = here;
       parts = c.in-Ok.ensures.added ∙ ap (λ ps. ps ++ option_to_list c.part_at.result) c.loop-read.invariant.parts ∙ ap (λ ps. front ++ ps) c.part_at.ensures ∙ sym more;
-    }
+    })
 
 pub returns-in-TooLarge-clause-read : goal.returns-in-TooLarge-clause-read
 returns-in-TooLarge-clause-read c =
     let here = further most_bytes c.args.body.now c.loop-read.read c.go_over-stretch.result.len c.loop-read.place _ c.loop-read.invariant.place (sym c.go_over-stretch.ensures.leads) in
     let front = parts_begun most_bytes Start c.loop-read.self.at (take c.loop-read.read c.args.body.now) in
     let more = further_begun most_bytes c.loop-read.self.at c.args.body.now c.loop-read.read c.go_over-stretch.result.len c.loop-read.place (part_begun c.go_over-stretch.result.ahead) c.loop-read.invariant.within c.loop-read.invariant.place (c.go_over-stretch.ensures.part (c.loop-read.self.at + c.loop-read.read)) in
-    record {
+    subst (λ (s : ChunkedReader). HasRead most_bytes c.args.body.now s) (sym c.go_to-in-TooLarge.ensures) (record {
       within = omega arith;
       place = here;
       parts = c.in-Ok.ensures.added ∙ ap (λ ps. ps ++ option_to_list c.part_at.result) c.loop-read.invariant.parts ∙ ap (λ ps. front ++ ps) c.part_at.ensures ∙ sym more;
-    }
+    })
 
 pub loop-read-preserved : goal.loop-read-preserved
 loop-read-preserved c =
