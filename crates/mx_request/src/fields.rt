@@ -1,5 +1,5 @@
 //! Which header fields a caller may add to a request (RFC 9110, sections 5.1, 5.5 and 5.6).
-ghost use Rattle.std.specs.Prelude.{◌≡◌, ◌&&◌, true, false, nat_le, length, option_copied, option_map, string_bytes};
+ghost use Rattle.std.specs.Prelude.{◌≡◌, ◌==◌, ◌&&◌, not, true, false, nat_le, length, option_copied, option_map, string_bytes};
 ghost use Rattle.std.specs.List.{list_all, list_any};
 ghost use Rattle.std.specs.Option.{option_map_or};
 ghost use Rattle.std.specs.Str.{str_eq_ignore_ascii_case};
@@ -71,10 +71,16 @@ fn is_field_name(name: &str) -> bool
     is_token(name) && !is_reserved(name)
 }
 
+fn is_printable(byte: u8) -> bool
+    ensures { result ≡ (nat_le 32 byte && not (byte == 127)) }
+{
+    byte >= 32 && byte != 127
+}
+
 fn is_value_byte(byte: u8) -> bool
     ensures { result ≡ spec.is_value_byte byte }
 {
-    byte == b'\t' || (byte >= 32 && byte != 127)
+    byte == b'\t' || is_printable(byte)
 }
 
 fn is_blank(byte: u8) -> bool

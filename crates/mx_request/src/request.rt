@@ -1,9 +1,9 @@
 //! Requests, and what they are built from.
-ghost use Rattle.std.specs.Prelude.{◌≡◌, ◌<◌, ◌⊎◌, length, option_map, Ok, Err, MatchResult, IfOk};
+ghost use Rattle.std.specs.Prelude.{◌≡◌, ◌<◌, ◌⊎◌, bytes_eq, codes, length, option_map, Ok, Err, MatchResult, IfOk};
 ghost use Rattle.mx_request.specs.Request as spec;
 ghost use Rattle.mx_request.specs.Request.{RequestValue, IsBuiltFrom, checked_url, url_of, request_to, request_of};
 ghost use Rattle.mx_request.specs.declared.error.RequestError.TheVariants as refusal;
-ghost use Rattle.url.specs.Parts.{IsValid};
+ghost use Rattle.url.specs.Parts.{IsValid, has_credentials};
 
 use crate::fields::are_fields;
 use crate::wire::{endpoint_of, request_bytes};
@@ -70,14 +70,26 @@ impl Request {
     }
 }
 
+fn is_http(url: &Url) -> bool
+    ensures { result ≡ bytes_eq url.now.scheme (codes "http") }
+{
+    url.scheme() == "http"
+}
+
+fn has_credentials(url: &Url) -> bool
+    ensures { result ≡ has_credentials url.now }
+{
+    !url.username().is_empty() || url.password().is_some()
+}
+
 /// Tests a URL's scheme, and then that it has no user name and no password.
 fn check_url(url: Url) -> Result<Url, RequestError>
     ensures { result ≡ checked_url (Ok url) }
 {
-    if url.scheme() != "http" {
+    if !is_http(&url) {
         return Err(RequestError::Scheme);
     }
-    if !url.username().is_empty() || url.password().is_some() {
+    if has_credentials(&url) {
         return Err(RequestError::UserInfo);
     }
     Ok(url)

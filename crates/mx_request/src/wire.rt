@@ -1,5 +1,5 @@
 //! The bytes of a request (RFC 9112, sections 2.1, 3 and 5).
-ghost use Rattle.std.specs.Prelude.{◌≡◌, ◌++◌, [], ◌∷◌, map, option_map, string_bytes, unwrap_or, OnOk, IfOk};
+ghost use Rattle.std.specs.Prelude.{◌≡◌, ◌==◌, ◌++◌, not, [], ◌∷◌, map, option_map, string_bytes, unwrap_or, OnOk, IfOk};
 ghost use Rattle.std.specs.List.{list_any};
 ghost use Rattle.mx_types.specs.Settings.{field_of};
 ghost use Rattle.mx_request.specs.RequestBytes as spec;
@@ -57,6 +57,13 @@ fn put_field(out: &mut Vec<u8>, name: &str, value: &str) -> Result<(), AllocErro
     out.extend_from_slice(b"\r\n")
 }
 
+/// Whether the port isn't the one that every `http` URL has unsaid.
+fn has_port(endpoint: &Endpoint) -> bool
+    ensures { result ≡ not (endpoint.now.port == 80) }
+{
+    endpoint.port != HTTP_PORT
+}
+
 /// Adds the line of the host.
 fn put_host(alloc: Global, out: &mut Vec<u8>, endpoint: &Endpoint) -> Result<(), AllocError>
     ensures { OnOk result (out.new.items ≡ out.old.items
@@ -64,7 +71,7 @@ fn put_host(alloc: Global, out: &mut Vec<u8>, endpoint: &Endpoint) -> Result<(),
 {
     out.extend_from_slice(b"Host: ")?;
     out.extend_from_slice(endpoint.host.as_bytes())?;
-    if endpoint.port != HTTP_PORT {
+    if has_port(endpoint) {
         out.extend_from_slice(b":")?;
         out.extend_from_slice(endpoint.port.to_string(alloc)?.as_bytes())?;
     }
