@@ -45,6 +45,13 @@ pub(crate) enum Halt {
     Over(Code),
 }
 
+/// Whether requests of that method may be sent again: GET and HEAD, which change nothing at the server (RFC 9110, section 9.2.1).
+fn is_repeated(method: Method) -> bool
+    ensures { result ≡ is_repeated method }
+{
+    matches!(method, Method::Get | Method::Head)
+}
+
 /// Whether a request of that method is sent again where a reused link is lost before it gave a byte.
 fn may_retry(method: Method, is_reused: bool, decoder: &Decoder) -> bool
     ensures { IsTrue result ↔ ((is_reused ≡ true) × (is_repeated method ≡ true) × (decoder.now.wire ≡ [])) }
@@ -52,11 +59,7 @@ fn may_retry(method: Method, is_reused: bool, decoder: &Decoder) -> bool
     if !is_reused || !decoder.wire().is_empty() {
         return false;
     }
-    match method {
-        Method::Get => true,
-        Method::Head => true,
-        _ => false,
-    }
+    is_repeated(method)
 }
 
 impl<L: Link> Line<L> {

@@ -1,4 +1,4 @@
-use Rattle.std.proofs.Common.{◌≡◌, Some, None, refl, sym, ap, ◌∙◌}
+use Rattle.std.proofs.Common.{◌≡◌, Some, refl, sym, ap, ◌∙◌}
 use Rattle.mx_exchange.specs.Lines.{LineState}
 use Rattle.mx_exchange.specs.Turns.{unserved}
 use Rattle.mx_exchange.proofs.Advanced.{Exchange-blocked, Exchange-unfinished, Exchange-lost, Exchange-ended}
