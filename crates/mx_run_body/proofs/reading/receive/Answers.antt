@@ -107,3 +107,12 @@ returns-in-Err-feed-clause-memory g c is =
     let got = take c.in-Ok.count c.read.new.buffer in
     let some : 0 < length got = omega (arith, length-take {A = ℕ}) in
     had_bytes _ _ _ _ _ r.given c.in-Ok.ensures.bytes.0 some
+
+pub returns-in-Err-clause-received : goal.returns-in-Err-clause-received
+returns-in-Err-clause-received g c = search rules
+
+pub returns-in-Err-clause-memory : goal.returns-in-Err-clause-memory
+returns-in-Err-clause-memory g c = search rules
+
+pub returns-in-Err-clause-failed : goal.returns-in-Err-clause-failed
+returns-in-Err-clause-failed g c = search rules

@@ -1,4 +1,5 @@
 use Rattle.std.proofs.Common.{rules, arith}
+use Rattle.std.proofs.lemmas.Grind.{common_steps}
 use Rattle.mx_run_body.proofs.Gathered.{holds_on, joined_more}
 use Rattle.mx_run_body.proofs.text.print_parts.Goals as goal
 
@@ -10,3 +11,6 @@ loop-part-preserved g c =
       holds = rw more (holds_on _ _ _ _ _ _ _ c.loop-part.invariant.holds c.in_ok-held.ensures.bytes);
       kept = search rules;
     }
+
+pub returns-clause-bytes : goal.returns-clause-bytes
+returns-clause-bytes g c = grind (arith, common_steps)
