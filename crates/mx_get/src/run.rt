@@ -27,10 +27,8 @@ fn print_unfetched<W: Write>(output: &mut Output<W>) -> u8
     ensures printed { has_failed_write output.new ≢ true → PrintsFault (code_number codes.OutOfMemory)
         (W.contents (writer_of output.old)) (W.contents (writer_of output.new)) result }
 {
-    match end_with(output, Code::OutOfMemory) {
-        Ok(status) if output.flush().is_ok() => status,
-        _ => UNWRITTEN,
-    }
+    let status = end_with(output, Code::OutOfMemory);
+    output.end(status)
 }
 
 /// Fetches the URLs by GET, and prints what each ended with, in their order: a line, the body, and the end of a line.

@@ -1,10 +1,7 @@
 -- What a run has written, and that a verdict on an ended input is printed.
 use Rattle.std.proofs.Common.{◌≡◌, ◌≢◌, ℕ, ◌+◌, ◌<◌, ◌≤◌, Bool, List, [], ◌∷◌, ◌++◌, length, true, false, inl, inr, refl, sym, subst, ap, ◌∙◌, arith, length-append}
 use Rattle.std.specs.Prelude.{Option, Some, Result, Ok, Err, IfOk, OnOk}
-use Rattle.std.specs.Result.{is_ok}
-use Rattle.std.proofs.lemmas.Bool.{false≢true}
-use Rattle.std.specs.Io.KnownBytes.{Appends, Keeps}
-use Rattle.std.proofs.KnownBytes.{Appends-kept}
+use Rattle.std.specs.Io.KnownBytes.{Appends}
 use Rattle.httparse.specs.Ascii.{space}
 use Rattle.httparse.specs.Grammar.{ResponseHead, print_response, print_blank, print_version, print_reason, print_end, print_section}
 use Rattle.mx_run_io.specs.Faults.{PrintsFault}
@@ -73,24 +70,6 @@ pub answers_short : {E : Type 0} (m : Method) (known left old new : Option (List
 answers_short m known left old new (Ok status) printed some = inl (printed, some)
 answers_short m known left old new (Err e) printed some = tt
 
--- a flush prints nothing
-pub answers_kept : (m : Method) (known left old mid new : Option (List ℕ)) (n : ℕ)
-    → AnswersRead m known left old mid n → Keeps mid new → AnswersRead m known left old new n
-answers_kept m known left old mid new n (inl x) kept =
-    inl (record { written = Appends-kept old mid new _ x.0.written kept; status = x.0.status }, x.1)
-answers_kept m known left old mid new n (inr x) kept =
-    inr (
-      x.0,
-      x.1,
-      record {
-        verdict = x.2.verdict;
-        decided = x.2.decided;
-        content = x.2.content;
-        written = Appends-kept old mid new _ x.2.written kept;
-        status = x.2.status;
-      },
-    )
-
 -- a head has bytes, and so has a response
 head_bytes : (h : ResponseHead) → 0 < length (print_response h)
 unfolding print_response
@@ -112,8 +91,3 @@ response_bytes m bytes none begins =
     let head : length (print_response r.head ++ r.body) ≡ length (print_response r.head) + length r.body =
     length-append (print_response r.head) r.body in
     let some : 0 < length (print_response r.head) = head_bytes r.head in omega arith
-
--- what holds on success, where it succeeded
-pub when_ok : {T E P : Type 0} (r : Result T E) → is_ok r ≡ true → OnOk r P → P
-when_ok (Ok x) is holds = holds
-when_ok (Err e) is holds = absurd (false≢true is)

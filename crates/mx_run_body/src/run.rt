@@ -150,8 +150,6 @@ pub fn run_body<R: Read, W: Write>(
         → AnswersRead method (R.remaining (reader_of input.old)) (R.remaining (reader_of input.new))
         (W.contents (writer_of output.old)) (W.contents (writer_of output.new)) result }
 {
-    match print_body(alloc, method, input, output) {
-        Ok(status) if output.flush().is_ok() => status,
-        _ => UNWRITTEN,
-    }
+    let status = print_body(alloc, method, input, output);
+    output.end(status)
 }

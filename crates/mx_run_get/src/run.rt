@@ -23,16 +23,18 @@ pub fn exit_status(fetched: &[Fetched]) -> u8
     0
 }
 
-// Prints the texts of all handles.
-fn print_all<W: Write>(output: &mut Output<W>, fetched: &[Fetched]) -> Result<(), WriteFailed>
+// Prints the texts of all handles, and answers the exit status.
+fn print_all<W: Write>(output: &mut Output<W>, fetched: &[Fetched]) -> Result<u8, WriteFailed>
     ensures bytes { OnOk result (Appends (W.contents (writer_of output.old)) (W.contents (writer_of output.new))
         (texts_from 0 fetched.now)) }
+    ensures status { IfOk result (λ status. status ≡ exit_status fetched.now) }
+    ensures small { IfOk result (λ status. status < UNWRITTEN) }
     ensures failed { IsErr result → has_failed_write output.new ≡ true }
 {
     for (handle, one) in fetched.iter().enumerate() {
         print_transfer(output, handle, one)?;
     }
-    Ok(())
+    Ok(exit_status(fetched))
 }
 
 /// Prints what each handle ended with, in the order of the handles: a line, the body, and the end of a line. The
@@ -46,9 +48,6 @@ pub fn print_get<W: Write>(output: &mut Output<W>, fetched: &[Fetched]) -> u8
         → Appends (W.contents (writer_of output.old)) (W.contents (writer_of output.new)) (texts_from 0 fetched.now) }
     ensures status { has_failed_write output.new ≢ true → result ≡ exit_status fetched.now }
 {
-    if print_all(output, fetched).is_ok() && output.flush().is_ok() {
-        exit_status(fetched)
-    } else {
-        UNWRITTEN
-    }
+    let status = print_all(output, fetched);
+    output.end(status)
 }

@@ -8,9 +8,6 @@ use crate::output::{Output, WriteFailed};
 use mx_types::Code;
 use std::io::Write;
 
-/// The exit status where the output couldn't be written.
-pub const UNWRITTEN: u8 = 121;
-
 /// Prints the line of a fault, `FAULT C` with the number of its code, and answers that number: the exit status.
 pub fn end_with<W: Write>(output: &mut Output<W>, code: Code) -> Result<u8, WriteFailed>
     ensures printed { IfOk result (PrintsFault (code_number code)

@@ -6,6 +6,6 @@ mod faults;
 mod input;
 mod output;
 
-pub use crate::faults::{UNWRITTEN, end_with};
+pub use crate::faults::end_with;
 pub use crate::input::{Input, ReadFailed};
-pub use crate::output::{Output, WriteFailed};
+pub use crate::output::{Output, UNWRITTEN, WriteFailed};

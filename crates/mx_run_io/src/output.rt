@@ -2,6 +2,9 @@
 use std::fmt::Display;
 use std::io::Write;
 
+/// The exit status where the output couldn't be written.
+pub const UNWRITTEN: u8 = 121;
+
 /// A write failed.
 #[derive(Clone, Copy, Debug, PartialEq, Eq)]
 pub struct WriteFailed;
@@ -16,7 +19,7 @@ pub struct Output<W> {
 }
 
 impl<W: Write> Output<W> {
-    ghost use Rattle.std.specs.Prelude.{◌≡◌, true, false, IsOk, IsErr, OnOk, OnErr, IfSome, ◌↔◌};
+    ghost use Rattle.std.specs.Prelude.{◌≡◌, ◌≢◌, true, false, Ok, IsOk, IsErr, IfOk, OnOk, OnErr, IfSome, ◌↔◌};
     ghost use Rattle.std.specs.Io.KnownBytes.{Appends, Keeps};
     ghost use Rattle.mx_run_io.specs.Ends.{writer_of, has_failed_write, is_pending};
 
@@ -77,6 +80,22 @@ impl<W: Write> Output<W> {
         let flushed = self.writer.flush();
         self.pending = self.pending && flushed.is_err();
         self.note(flushed)
+    }
+
+    /// Ends a run: flushes, and answers the exit status, or `UNWRITTEN` where the output couldn't be written. The
+    /// status handed in is another than that, or the error of a write that failed.
+    pub fn end(&mut self, status: Result<u8, WriteFailed>) -> u8
+        requires status { IfOk status (λ s. s ≢ UNWRITTEN) }
+        requires failed { IsErr status → has_failed_write self.old ≡ true }
+        ensures unwritten { (result ≡ UNWRITTEN) ↔ (has_failed_write self.new ≡ true) }
+        ensures flushed { result ≢ UNWRITTEN → is_pending self.new ≡ false }
+        ensures status { has_failed_write self.new ≢ true → status ≡ Ok result }
+        ensures bytes { has_failed_write self.new ≢ true → Keeps (W.contents (writer_of self.old)) (W.contents (writer_of self.new)) }
+    {
+        match status {
+            Ok(status) if self.flush().is_ok() => status,
+            _ => UNWRITTEN,
+        }
     }
 
     // an error of the writer fails the output for good

@@ -1,10 +1,8 @@
 -- What a run of a script has printed in the end.
-use Rattle.std.proofs.Common.{◌≡◌, ℕ, ◌+◌, ◌∙◌, sym, ap, subst, List, [], ◌++◌, inl, inr, true}
-use Rattle.std.specs.Prelude.{Option, Some, None, Result, Ok, Err, IfOk, OnOk}
-use Rattle.std.specs.Result.{is_ok}
-use Rattle.std.proofs.lemmas.Bool.{false≢true}
-use Rattle.std.specs.Io.KnownBytes.{Appends, Keeps}
-use Rattle.std.proofs.KnownBytes.{Appends-kept, Appends-trans}
+use Rattle.std.proofs.Common.{◌≡◌, ℕ, ◌+◌, ◌∙◌, sym, ap, subst, List, [], ◌++◌, inl, inr}
+use Rattle.std.specs.Prelude.{Option, Some, None, Result, Ok, Err, IfOk}
+use Rattle.std.specs.Io.KnownBytes.{Appends}
+use Rattle.std.proofs.KnownBytes.{Appends-trans}
 use Rattle.mx_run_play.specs.declared.session.Session.{Session}
 use Rattle.mx_run_play.specs.declared.session.Turn.{Turn}
 use Rattle.mx_run_play.specs.declared.session.Turn.TheVariants as turn
@@ -104,45 +102,3 @@ pub unread_as : {E : Type 0} (history : ℕ) (s : Session) (o : Option Turn) (kn
     → PlaysAll s o known left old mid → o ≡ None → IfOk r (PrintsFault 56 mid new) → IfOk r (PrintsUnread history known left old new)
 unread_as history s o known left old mid new r b w is fault =
     prints_unread history s known left old mid new r b (subst (λ z. PlaysAll s z known left old mid) is w) fault
-
--- a flush prints nothing
-pub unread_kept : (history : ℕ) (known left old mid new : Option (List ℕ)) (n : ℕ) → PrintsUnread history known left old mid n → Keeps mid new
-    → PrintsUnread history known left old new n
-unread_kept history known left old mid new n p kept = record {
-  front = p.front;
-  given = p.given;
-  told = p.told;
-  last = p.last;
-  cut = p.cut;
-  good = p.good;
-  written = Appends-kept old mid new _ p.written kept;
-  status = p.status;
-}
-
-pub answers_kept : (history before after : ℕ) (known old mid new : Option (List ℕ)) (n : ℕ) → AnswersScript history before after known old mid n
-    → Keeps mid new → AnswersScript history before after known old new n
-answers_kept history before after known old mid new n (inl p) kept =
-    inl (record { script = p.script; is_it = p.is_it; written = Appends-kept old mid new _ p.written kept; status = p.status })
-answers_kept history before after known old mid new n (inr (inl p)) kept =
-    inr (inl (record {
-      script = p.script;
-      is_it = p.is_it;
-      told = p.told;
-      unanswered = p.unanswered;
-      more = p.more;
-      cut = p.cut;
-      good = p.good;
-      wants = p.wants;
-      written = Appends-kept old mid new _ p.written kept;
-      status = p.status;
-    }))
-answers_kept history before after known old mid new n (inr (inr p)) kept =
-    inr (inr (record {
-      unread = p.unread;
-      printed = record { written = Appends-kept old mid new _ p.printed.written kept; status = p.printed.status };
-    }))
-
--- what holds on success, where it succeeded
-pub when_ok : {T E P : Type 0} (r : Result T E) → is_ok r ≡ true → OnOk r P → P
-when_ok (Ok x) is holds = holds
-when_ok (Err e) is holds = absurd (false≢true is)

@@ -77,8 +77,6 @@ pub fn run_play<R: Read, W: Write>(
         → AnswersScript history (reads_of input.old) (reads_of input.new) (R.remaining (reader_of input.old))
         (W.contents (writer_of output.old)) (W.contents (writer_of output.new)) result }
 {
-    match play_script(alloc, history, input, output) {
-        Ok(status) if output.flush().is_ok() => status,
-        _ => UNWRITTEN,
-    }
+    let status = play_script(alloc, history, input, output);
+    output.end(status)
 }
