@@ -1,10 +1,11 @@
 //! Work that is given back to the queue.
 ghost use Rattle.std.specs.Prelude.{◌≡◌, []};
 
+use crate::sample::End;
 use mx_journal::{
     AddReply, Claim, Control, FinishReply, GiveBackReply, PauseReply, RemoveReply, VecLog,
 };
-use mx_types::{Code, Ending, HandleId, Who, Work};
+use mx_types::{Code, HandleId, Who, Work};
 use std::alloc::Global;
 use std::marker::Model;
 use std::process::Abort;
@@ -22,28 +23,6 @@ struct Job {
 
 impl Work for Job {
     ghost origin = { λ _. [] };
-}
-
-/// An ending without a request.
-#[derive(Drop)]
-struct End {
-    code: Code,
-}
-
-impl Ending for End {
-    ghost origin = { λ _. [] };
-
-    ghost code_of = { λ e. e.code };
-
-    ghost size_of = { λ _. 0 };
-
-    fn code(&self) -> Code {
-        self.code
-    }
-
-    fn size(&self) -> u32 {
-        0
-    }
 }
 
 /// A claim with its work.

@@ -4,4 +4,6 @@
 #[cfg(test)]
 mod back;
 #[cfg(test)]
+mod sample;
+#[cfg(test)]
 mod tests;

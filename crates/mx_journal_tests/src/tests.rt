@@ -2,11 +2,12 @@
 //! `mx_journal::definitions` read off that log.
 ghost use Rattle.std.specs.Prelude.{◌≡◌, ◌≤◌, [], List, ℕ};
 
+use crate::sample::End;
 use mx_journal::{
     AddReply, Claim, Control, FinishReply, InfoReply, Log, PauseReply, RemoveReply, VecLog,
     WakeupReply, definitions,
 };
-use mx_types::{Code, Ending, Event, HandleId, Look, OutOfMemory, State, Ticket, What, Who, Work};
+use mx_types::{Code, Event, HandleId, Look, OutOfMemory, State, Ticket, What, Who, Work};
 use std::alloc::Global;
 use std::process::Abort;
 use std::test::Fail;
@@ -17,28 +18,6 @@ struct Job;
 
 impl Work for Job {
     ghost origin = { λ _. [] };
-}
-
-/// An ending without a request.
-#[derive(Drop)]
-struct End {
-    code: Code,
-}
-
-impl Ending for End {
-    ghost origin = { λ _. [] };
-
-    ghost code_of = { λ e. e.code };
-
-    ghost size_of = { λ _. 0 };
-
-    fn code(&self) -> Code {
-        self.code
-    }
-
-    fn size(&self) -> u32 {
-        0
-    }
 }
 
 /// A log that refuses one append: the one that finds `accepts` at 0.

@@ -1,0 +1,26 @@
+//! An ending for the tests of both files.
+ghost use Rattle.std.specs.Prelude.{[]};
+
+use mx_types::{Code, Ending};
+
+/// An ending without a request.
+#[derive(Drop)]
+pub struct End {
+    pub code: Code,
+}
+
+impl Ending for End {
+    ghost origin = { λ _. [] };
+
+    ghost code_of = { λ e. e.code };
+
+    ghost size_of = { λ _. 0 };
+
+    fn code(&self) -> Code {
+        self.code
+    }
+
+    fn size(&self) -> u32 {
+        0
+    }
+}
