@@ -91,6 +91,7 @@ impl<W: Write> Output<W> {
         ensures flushed { result ≢ UNWRITTEN → is_pending self.new ≡ false }
         ensures status { has_failed_write self.new ≢ true → status ≡ Ok result }
         ensures bytes { has_failed_write self.new ≢ true → Keeps (W.contents (writer_of self.old)) (W.contents (writer_of self.new)) }
+        ensures stays { has_failed_write self.old ≡ true → self.new ≡ self.old }
     {
         match status {
             Ok(status) if self.flush().is_ok() => status,
