@@ -1,13 +1,16 @@
 -- What is asked for of URLs, and at their places.
-use Rattle.std.proofs.Common.{◌≡◌, ℕ, ◌<◌, List, [], ◌∷◌, map, length, refl, ap, sym, ◌∙◌, inl, inr, suc, zero, arith}
-use Rattle.std.specs.Prelude.{◌⊎◌, Some, Result, Ok, Err, MatchResult, slice_get, slice_set, slice_index_or}
+use Rattle.std.proofs.Common.{◌≡◌, ℕ, ◌<◌, List, [], ◌∷◌, ◌++◌, map, length, reverse, refl, ap, sym, ◌∙◌, inl, inr, suc, zero, arith}
+use Rattle.std.specs.Prelude.{All, ◌⊎◌, Some, Result, Ok, Err, MatchResult, slice_get, slice_set, slice_index_or}
 use Rattle.mx_types.specs.Settings.{SettingsValue, no_settings}
 use Rattle.mx_types.specs.declared.method.Method.TheVariants as method
 use Rattle.mx_request.specs.Request.{RequestValue, request_of}
 use Rattle.mx_request.specs.RequestError.{refusal_code}
 use Rattle.mx_request.specs.declared.error.RequestError.{RequestError}
 use Rattle.mx_request.specs.declared.error.RequestError.TheVariants as refusal
-use Rattle.mx_get.specs.Asked.{asked_for, bytes_or_code}
+use Rattle.std.proofs.lemmas.List.Elements.{All-push}
+use Rattle.std.proofs.lemmas.List.Sorted.{All-permutation, IsPermutation-reverse}
+use Rattle.mx_run_get.specs.declared.fetched.Fetched.{Fetched}
+use Rattle.mx_get.specs.Asked.{asked_by, asked_for, asked_or_code, IsEnd}
 use Rattle.mx_get.specs.Places.{asked_at}
 use Rattle.mx_get.specs.declared.collect.Place.{Place}
 
@@ -15,10 +18,10 @@ use Rattle.mx_get.specs.declared.collect.Place.{Place}
 pub built : (timeout_ms : ℕ) (url : List ℕ) (settings : SettingsValue) (result : Result RequestValue RequestError)
     → settings ≡ record no_settings { timeout_ms = timeout_ms }
     → MatchResult result (λ r. request_of method.Get url settings ≡ Ok r) (λ e. (request_of method.Get url settings ≡ Err e) ⊎ (e ≡ refusal.OutOfMemory))
-    → MatchResult result (λ r. asked_for timeout_ms url ≡ Ok r.bytes) (λ e. (asked_for timeout_ms url ≡ Err (refusal_code e)) ⊎ (e ≡ refusal.OutOfMemory))
+    → MatchResult result (λ r. asked_for timeout_ms url ≡ Ok (asked_by r)) (λ e. (asked_for timeout_ms url ≡ Err (refusal_code e)) ⊎ (e ≡ refusal.OutOfMemory))
 unfolding asked_for
-built timeout_ms url settings (Ok r) is at = ap (λ s. bytes_or_code (request_of method.Get url s)) (sym is) ∙ ap bytes_or_code at
-built timeout_ms url settings (Err e) is (inl at) = inl (ap (λ s. bytes_or_code (request_of method.Get url s)) (sym is) ∙ ap bytes_or_code at)
+built timeout_ms url settings (Ok r) is at = ap (λ s. asked_or_code (request_of method.Get url s)) (sym is) ∙ ap asked_or_code at
+built timeout_ms url settings (Err e) is (inl at) = inl (ap (λ s. asked_or_code (request_of method.Get url s)) (sym is) ∙ ap asked_or_code at)
 built timeout_ms url settings (Err e) is (inr at) = inr at
 
 -- what stands at a place
@@ -32,3 +35,10 @@ pub kept : (places : List Place) (i : ℕ) (p : Place) → slice_get (map asked_
 kept [] i p is = refl
 kept (q ∷ ps) zero p is = let same : asked_at q ≡ asked_at p = cc in ap (λ a. a ∷ map asked_at ps) (sym same)
 kept (q ∷ ps) (suc i) p is = ap (λ rest. asked_at q ∷ rest) (kept ps i p is)
+
+-- one end more, and the ends in the order of the places
+pub ends_more : (ends : List Fetched) (end : Fetched) → All IsEnd ends → IsEnd end → All IsEnd (ends ++ end ∷ [])
+ends_more ends end all is = All-push IsEnd ends end all is
+
+pub ends_reversed : (ends : List Fetched) → All IsEnd ends → All IsEnd (reverse ends)
+ends_reversed ends all = All-permutation IsEnd ends (reverse ends) (IsPermutation-reverse ends) all

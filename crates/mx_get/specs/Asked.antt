@@ -1,28 +1,46 @@
 -- What is asked for of URLs, and what an end is of.
-use Rattle.std.specs.Prelude.{◌≡◌, ℕ, List, map, Result, Ok, Err}
+use Rattle.std.specs.Prelude.{◌≡◌, ℕ, List, map, Result, Ok, Err, All}
 use Rattle.mx_types.specs.Settings.{no_settings}
 use Rattle.mx_types.specs.declared.code.Code.{Code}
+use Rattle.mx_types.specs.declared.code.Code.TheVariants as code
+use Rattle.mx_types.specs.declared.method.Method.{Method}
 use Rattle.mx_types.specs.declared.method.Method.TheVariants as method
 use Rattle.mx_request.specs.Request.{RequestValue, request_of}
 use Rattle.mx_request.specs.RequestError.{refusal_code}
 use Rattle.mx_request.specs.declared.error.RequestError.{RequestError}
+use Rattle.mx_exchange.specs.Outcomes.{IsOutcome, HasContent}
 use Rattle.mx_run_get.specs.declared.fetched.Fetched.{Fetched}
 use Rattle.mx_run_get.specs.declared.fetched.Fetched.TheVariants.{Refused, Ended}
 
--- the bytes of a request, or the code of its refusal
-abbrev pub bytes_or_code : Result RequestValue RequestError → Result (List ℕ) Code
-bytes_or_code (Ok request) = Ok request.bytes
-bytes_or_code (Err refused) = Err (refusal_code refused)
+-- what goes out: a method, and the bytes of its request
+pub record Asked : Type 0 where
+  pub method : Method
+  pub bytes : List ℕ
 
--- the bytes of the request that a GET of a URL calls for, which may take so many milliseconds, or the code with which the URL is refused
-unfoldable pub asked_for : ℕ → List ℕ → Result (List ℕ) Code
-asked_for timeout_ms url = bytes_or_code (request_of method.Get url (record no_settings { timeout_ms = timeout_ms }))
+abbrev pub asked_by : RequestValue → Asked
+asked_by request = record { method = request.method; bytes = request.bytes }
 
--- the bytes of the request that a transfer was of which has ended, or the code of a refusal
-abbrev pub asked_of : Fetched → Result (List ℕ) Code
+-- what a request asks for, or the code of its refusal
+abbrev pub asked_or_code : Result RequestValue RequestError → Result Asked Code
+asked_or_code (Ok request) = Ok (asked_by request)
+asked_or_code (Err refused) = Err (refusal_code refused)
+
+-- what a GET of a URL asks for, which may take so many milliseconds, or the code with which the URL is refused
+unfoldable pub asked_for : ℕ → List ℕ → Result Asked Code
+asked_for timeout_ms url = asked_or_code (request_of method.Get url (record no_settings { timeout_ms = timeout_ms }))
+
+-- what the transfer asked for that has ended, or the code of a refusal
+abbrev pub asked_of : Fetched → Result Asked Code
 asked_of (Refused code) = Err code
-asked_of (Ended outcome) = Ok outcome.request.bytes
+asked_of (Ended outcome) = Ok (asked_by outcome.request)
 
--- One end for each URL, in their order: the code of its refusal, or what a transfer of its request ended with.
-abbrev pub AreEndsOf : ℕ → List (List ℕ) → List Fetched → Type 0
-AreEndsOf timeout_ms urls ends = map asked_of ends ≡ map (asked_for timeout_ms) urls
+-- What a transfer ended with is an outcome, with its truth: its code, status and parts are what the answers of its link come to. With code 0
+-- the first bytes that came are a response to its request, whose content stands at the parts.
+abbrev pub IsEnd : Fetched → Type 0
+IsEnd (Refused _) = Unit {0}
+IsEnd (Ended outcome) = IsOutcome outcome × (outcome.code ≡ code.Ok → HasContent outcome)
+
+-- One end for each URL, in their order: the code of its refusal, or what a transfer of its request ended with, with its truth.
+pub record AreEndsOf (timeout_ms : ℕ) (urls : List (List ℕ)) (ends : List Fetched) : Type 0 where
+  pub asked : map asked_of ends ≡ map (asked_for timeout_ms) urls
+  pub outcomes : All IsEnd ends

@@ -1,11 +1,12 @@
 //! The one who adds what is to be fetched, and collects what came.
-ghost use Rattle.std.specs.Prelude.{◌≡◌, ◌⊎◌, ◌<◌, ◌++◌, [], ◌∷◌, length, map, slice_get, Some, Ok, Err, IsTrue, MatchResult, IfOk, OnOk};
+ghost use Rattle.std.specs.Prelude.{◌≡◌, ◌⊎◌, ◌<◌, ◌++◌, [], ◌∷◌, length, map, slice_get, Some, Ok, Err, All, IsTrue, MatchResult, IfOk, OnOk};
 ghost use Rattle.mx_request.specs.RequestError.{refusal_code};
 ghost use Rattle.mx_request.specs.declared.error.RequestError.TheVariants as refusal;
-ghost use Rattle.mx_get.specs.Asked.{asked_for, asked_of, AreEndsOf};
+ghost use Rattle.mx_get.specs.Asked.{asked_by, asked_for, asked_of, AreEndsOf, IsEnd};
 ghost use Rattle.mx_get.specs.Places.{asked_at};
 
 use crate::crew::Crew;
+use crate::end::End;
 use crate::options::Options;
 use mx_exchange::Outcome;
 use mx_journal::{AddReply, InfoReply};
@@ -21,15 +22,15 @@ use std::sync::Wait;
 /// What stands at the place of a URL.
 #[derive(Drop)]
 pub enum Place {
-    /// The bytes of the request whose end is awaited.
-    Awaited(Vec<u8>),
+    /// The method and the bytes of the request whose end is awaited.
+    Awaited(Method, Vec<u8>),
     /// What the URL ended with.
-    Known(Fetched),
+    Known(End),
 }
 
 // A GET of the URL.
 fn build(alloc: Global, url: &str, timeout_ms: u32) -> Result<Request, RequestError>
-    ensures { MatchResult result (λ r. asked_for timeout_ms url.now ≡ Ok r.bytes)
+    ensures { MatchResult result (λ r. asked_for timeout_ms url.now ≡ Ok (asked_by r))
         (λ e. (asked_for timeout_ms url.now ≡ Err (refusal_code e)) ⊎ (e ≡ refusal.OutOfMemory)) }
 {
     let mut settings = Settings::new(alloc);
@@ -43,32 +44,41 @@ fn are_same(some: &[u8], others: &[u8]) -> bool
     some == others
 }
 
+// Whether a request asks for this.
+fn is_of(request: &Request, method: Method, bytes: &[u8]) -> bool
+    ensures { IsTrue result → asked_by request.now ≡ record { method = method; bytes = bytes.now } }
+{
+    request.method() == method && are_same(bytes, request.bytes())
+}
+
 // Whether the end of this request is awaited at that place.
 #[tactic(auto, using(crate::proofs::Asking::found))]
-fn awaits(places: &[Place], at: usize, request: &[u8]) -> bool
+fn awaits(places: &[Place], at: usize, request: &Request) -> bool
     ensures inside { IsTrue result → at < length places.now }
-    ensures asked { IsTrue result → slice_get (map asked_at places.now) at ≡ Some (Ok request.now) }
+    ensures asked { IsTrue result → slice_get (map asked_at places.now) at ≡ Some (Ok (asked_by request.now)) }
 {
     if at >= places.len() {
         return false;
     }
     match &places[at] {
-        Place::Awaited(bytes) => are_same(bytes.as_slice(), request),
+        Place::Awaited(method, bytes) => is_of(request, *method, bytes.as_slice()),
         Place::Known(_) => false,
     }
 }
 
 // The ends, where each is known.
+#[tactic(auto, using(crate::proofs::Asking::ends_reversed))]
 fn ends_at(alloc: Global, places: Vec<Place>) -> Result<Vec<Fetched>, OutOfMemory>
-    ensures { IfOk result (λ ends. map asked_of ends.items ≡ map asked_at places.items) }
+    ensures asked { IfOk result (λ ends. map asked_of ends.items ≡ map asked_at places.items) }
+    ensures outcomes { IfOk result (λ ends. All IsEnd ends.items) }
 {
     let mut places = places;
     let mut ends = Vec::with_capacity(alloc, places.len())?;
     while let Some(place) = places.pop() {
-        let Place::Known(fetched) = place else {
+        let Place::Known(end) = place else {
             return Err(OutOfMemory);
         };
-        ends.push(fetched)?;
+        ends.push(end.into_fetched())?;
     }
     ends.reverse();
     Ok(ends)
@@ -115,11 +125,12 @@ impl<L: Link> Desk<L> {
     ) -> Result<(), OutOfMemory>
         requires own { self.old.seat.of ≡ multi.now }
         ensures own { self.new.seat.of ≡ multi.now }
-        ensures asked { OnOk result (map asked_at self.new.places.items ≡ map asked_at self.old.places.items ++ Ok request.bytes ∷ []) }
+        ensures asked { OnOk result (map asked_at self.new.places.items ≡ map asked_at self.old.places.items ++ Ok (asked_by request) ∷ []) }
     {
         let Ok(handle) = u32::try_from(self.places.len()) else {
             return Err(OutOfMemory);
         };
+        let method = request.method();
         let bytes = request.bytes().to_vec(rt.alloc())?;
         let work = Queued::new(rt.alloc(), request);
         let answer = multi.add(rt, &mut self.seat, HandleId(handle), work);
@@ -127,7 +138,7 @@ impl<L: Link> Desk<L> {
             return Err(OutOfMemory);
         }
         self.waiting = self.waiting.saturating_add(1);
-        self.places.push(Place::Awaited(bytes))?;
+        self.places.push(Place::Awaited(method, bytes))?;
         Ok(())
     }
 
@@ -148,7 +159,7 @@ impl<L: Link> Desk<L> {
             Err(RequestError::OutOfMemory) => Err(OutOfMemory),
             Err(error) => {
                 self.places
-                    .push(Place::Known(Fetched::Refused(error.code())))?;
+                    .push(Place::Known(End::refused(error.code())))?;
                 Ok(())
             }
         }
@@ -161,8 +172,8 @@ impl<L: Link> Desk<L> {
         ensures asked { map asked_at self.new.places.items ≡ map asked_at self.old.places.items }
     {
         let at = handle.0 as usize;
-        if awaits(self.places.as_slice(), at, outcome.request().bytes()) {
-            self.places[at] = Place::Known(Fetched::Ended(outcome));
+        if awaits(self.places.as_slice(), at, outcome.request()) {
+            self.places[at] = Place::Known(End::ended(outcome));
         }
     }
 

@@ -3,6 +3,7 @@
 
 mod collect;
 mod crew;
+mod end;
 mod fetch;
 mod options;
 mod run;
