@@ -11,7 +11,7 @@ use Rattle.mx_journal.specs.declared.replies.InfoReply.{InfoReply}
 use Rattle.mx_journal.specs.declared.replies.InfoReply.TheVariants as info
 use Rattle.mx_journal.specs.declared.replies.FinishReply.{FinishReply}
 use Rattle.mx_journal.specs.declared.replies.FinishReply.TheVariants as finish
-use Rattle.mx_journal.specs.Core.{Claimed, queued}
+use Rattle.mx_journal.specs.Core.{queued}
 use Rattle.mx_history.specs.History.{IsInOrder}
 use Rattle.mx_journal.specs.declared.replies.GiveBackReply.{GiveBackReply}
 use Rattle.mx_journal.specs.declared.replies.GiveBackReply.TheVariants as giving
@@ -74,19 +74,19 @@ reply_of_wakeup wakeup.Ok = reply.Ok
 reply_of_wakeup wakeup.Failure = reply.Failure
 reply_of_wakeup wakeup.OutOfMemory = reply.OutOfMemory
 
-abbrev pub reply_of_finish : {Q O : Type 0} → FinishReply Q O → Reply
+abbrev pub reply_of_finish : {C O : Type 0} → FinishReply C O → Reply
 reply_of_finish finish.Recorded = reply.Recorded
 reply_of_finish (finish.Stale _) = reply.Stale
 reply_of_finish (finish.OutOfMemory _ _) = reply.OutOfMemory
 
 -- the ending that comes last after an end: a recorded one
-abbrev pub ending_recorded : {Q O : Type 0} → FinishReply Q O → Ticket → O → List (Ticket × O)
+abbrev pub ending_recorded : {C O : Type 0} → FinishReply C O → Ticket → O → List (Ticket × O)
 ending_recorded finish.Recorded t o = (t, o) ∷ []
 ending_recorded (finish.Stale _) t o = []
 ending_recorded (finish.OutOfMemory _ _) t o = []
 
 -- what is not recorded is handed back
-abbrev pub IsHandedBack : {Q O : Type 0} → Claimed → O → FinishReply Q O → Type 0
+abbrev pub IsHandedBack : {C O : Type 0} → C → O → FinishReply C O → Type 0
 IsHandedBack claim ending finish.Recorded = Unit {0}
 IsHandedBack claim ending (finish.Stale o) = o ≡ ending
 IsHandedBack claim ending (finish.OutOfMemory c o) = (c ≡ claim) × (o ≡ ending)

@@ -387,7 +387,7 @@ impl<Q: Work + Drop, O: Ending + Drop> Control<Q, O> {
         who: Who,
         claim: Claim<Q>,
         ending: O,
-    ) -> FinishReply<Q, O>
+    ) -> FinishReply<Claim<Q>, O>
         requires maker { is_maker who ≡ true }
         requires origin { O.origin ending ≡ claim.origin }
         ensures answers { Answers self.old.opening who (Call.Finish claim.ticket (O.code_of ending) (O.size_of ending)) self.old.journal (reply_of_finish result) self.new.journal }

@@ -2,8 +2,7 @@
 ghost use Rattle.std.specs.Prelude.{◌≡◌};
 ghost use Rattle.mx_journal.specs.Replies.{reply_of_add, reply_of_finish, reply_of_info, reply_of_pause, reply_of_remove, reply_of_wakeup};
 
-use crate::claim::Claim;
-use mx_types::{Ending, HandleId, Reply, Ticket, Work};
+use mx_types::{Ending, HandleId, Reply, Ticket};
 
 /// A refusal hands the work back.
 #[derive(Drop)]
@@ -53,11 +52,12 @@ pub enum WakeupReply {
     OutOfMemory,
 }
 
+/// Of `finish`, by a claim of this kind.
 #[derive(Drop)]
-pub enum FinishReply<Q: Work, O> {
+pub enum FinishReply<C, O> {
     Recorded,
     Stale(O),
-    OutOfMemory(Claim<Q>, O),
+    OutOfMemory(C, O),
 }
 
 /// Of `give_back`: the work is queued again, or it is stale and handed back.
@@ -148,7 +148,7 @@ impl WakeupReply {
     }
 }
 
-impl<Q: Work, O> FinishReply<Q, O> {
+impl<C, O> FinishReply<C, O> {
     /// The reply, without what it hands back.
     pub fn reply(&self) -> Reply
         ensures { result ≡ reply_of_finish self.now }

@@ -36,18 +36,10 @@ abbrev is_recorded : Reply → Bool
 is_recorded reply.Recorded = true
 is_recorded _ = false
 
-neither : (a b : Bool) → (a || b) ≡ false → b ≡ false
-neither true b e = absurd (false≢true (sym e))
-neither false b e = e
-
--- an end that was recorded is of a ticket that had none, and is its end
-pub recorded_as : (opening : Opening) (w : Who) (t : Ticket) (code : Code) (size : ℕ) (j k : List Event) → Answers opening w (call.Finish t code size) j reply.Recorded k
-    → (occurs (ends t) j ≡ false) × ((u : Ticket) → occurs (ends u) k ≡ false → same_ticket u t ≡ false)
-recorded_as opening w t code size j k a = by (has_ticket t (running j)) refl a.0 a.1
+-- an end that was recorded is of a ticket that runs
+pub recorded_runs : (opening : Opening) (w : Who) (t : Ticket) (code : Code) (size : ℕ) (j k : List Event) → Answers opening w (call.Finish t code size) j reply.Recorded k → has_ticket t (running j) ≡ true
+recorded_runs opening w t code size j k a = by (has_ticket t (running j)) a.0
   where
-    by : (b : Bool) → has_ticket t (running j) ≡ b → reply.Recorded ≡ (cond b (reply.Recorded, Some (what.Done t code size)) (only reply.Stale)).0 → k ≡ j ++ MadeBy w (cond b (reply.Recorded, Some (what.Done t code size)) (only reply.Stale)).1
-        → (occurs (ends t) j ≡ false) × ((u : Ticket) → occurs (ends u) k ≡ false → same_ticket u t ≡ false)
-    by true runs is grown =
-        let f = has-filter t (λ u. not (occurs (ends u) j)) (tickets j) runs in
-        (not-true _ f.1, λ u e. neither (occurs (ends u) j) (same_ticket u t) (sym (occurs-snoc (ends u) j (record { who = w; what = what.Done t code size })) ∙ ap (occurs (ends u)) (sym grown) ∙ e))
-    by false runs is grown = absurd (false≢true (sym (ap is_recorded is)))
+    by : (b : Bool) → reply.Recorded ≡ (cond b (reply.Recorded, Some (what.Done t code size)) (only reply.Stale)).0 → b ≡ true
+    by true is = refl
+    by false is = absurd (false≢true (sym (ap is_recorded is)))

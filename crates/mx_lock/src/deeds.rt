@@ -6,18 +6,20 @@ ghost use Rattle.mx_journal.specs.History.{is_maker};
 ghost use Rattle.mx_journal.specs.Receipts.{is_poll};
 ghost use Rattle.mx_journal.specs.Replies.{handed_back, work_back, IsHandedBack, reply_of_add, reply_of_finish, reply_of_info, reply_of_pause, reply_of_remove, reply_of_wakeup};
 ghost use Rattle.std.specs.Prelude.{Option};
-ghost use Rattle.mx_lock.specs.declared.ties.Tie.{Tie};
 ghost use Rattle.mx_lock.specs.Shared.{Leaves, SharedState};
-ghost use Rattle.mx_lock.specs.Ties.{Tells, tie_added, tie_finished, tie_read};
+ghost use Rattle.logbook.specs.Pages.{Book};
+ghost use Rattle.mx_lock.specs.Ties.{Tells, Tie, tie_added, tie_read};
 
+use crate::claim::{TiedClaim, tied_again};
 use crate::shared::Shared;
-use mx_journal::{AddReply, Claim, FinishReply, InfoReply, PauseReply, RemoveReply, WakeupReply};
+use mx_journal::{AddReply, FinishReply, InfoReply, PauseReply, RemoveReply, WakeupReply};
 use mx_types::{Ending, HandleId, Who, Work};
 use std::snapshot::Snapshot;
 use std::sync::Wait;
 
 /// A call that is made under the lock, at an engine of type `E`: which call of the history it is, what its answer stands
-/// for, what comes back, and of which request the answer tells that a ticket's addition or end is.
+/// for, what comes back, of which request the answer tells that a ticket's addition is, and of which list of ties its claim is, where it
+/// has one.
 pub trait Deed<E, Q, O> {
     type Reply;
 
@@ -31,9 +33,12 @@ pub trait Deed<E, Q, O> {
 
     ghost tie: { Self → Self.Reply → Option Tie };
 
+    ghost own: { Self → Book → Type 0 };
+
     /// Makes the call for a maker.
     fn run<R: Wait>(self, rt: &R, engine: E, who: Who) -> (E, Self::Reply)
-        requires { is_maker who ≡ true }
+        requires maker { is_maker who ≡ true }
+        requires own { own self (state engine).ties.book }
         ensures leaves { Leaves who (call self) (state engine) (reply result.1) (state result.0) }
         ensures back { back self result.1 }
         ensures tells { Tells (tie self result.1) (state result.0).ties.ties }
@@ -68,8 +73,11 @@ impl<Q: Work + Drop, O: Ending + Drop> Deed<Shared<Q, O>, Q, O> for Addition<Q> 
 
     ghost tie = { λ d r. tie_added r (Q.origin d.work) };
 
+    ghost own = { λ d b. Unit {0} };
+
     fn run<R: Wait>(self, rt: &R, engine: Shared<Q, O>, who: Who) -> (Shared<Q, O>, AddReply<Q>)
-        requires { is_maker who ≡ true }
+        requires maker { is_maker who ≡ true }
+        requires own { Unit {0} }
         ensures leaves { Leaves who (Call.Add self.handle) engine (reply_of_add result.1) result.0 }
         ensures back { handed_back result.1 ≡ work_back result.1 self.work }
         ensures tells { Tells (tie_added result.1 (Q.origin self.work)) result.0.ties.ties }
@@ -80,6 +88,7 @@ impl<Q: Work + Drop, O: Ending + Drop> Deed<Shared<Q, O>, Q, O> for Addition<Q> 
             mut board,
             mut ties,
         } = engine;
+        control.sound();
         let added = Snapshot::of(&self.work);
         let reply = control.add(&mut board, who, self.handle, self.work);
         ties.tie_addition(rt, &reply, added);
@@ -112,8 +121,11 @@ impl<Q: Work + Drop, O: Ending + Drop> Deed<Shared<Q, O>, Q, O> for Removal {
 
     ghost tie = { λ d r. None };
 
+    ghost own = { λ d b. Unit {0} };
+
     fn run<R: Wait>(self, rt: &R, engine: Shared<Q, O>, who: Who) -> (Shared<Q, O>, RemoveReply)
-        requires { is_maker who ≡ true }
+        requires maker { is_maker who ≡ true }
+        requires own { Unit {0} }
         ensures leaves { Leaves who (Call.Remove self.0) engine (reply_of_remove result.1) result.0 }
         ensures back { Unit {0} }
         ensures tells { Unit {0} }
@@ -154,8 +166,11 @@ impl<Q: Work + Drop, O: Ending + Drop> Deed<Shared<Q, O>, Q, O> for Pausing {
 
     ghost tie = { λ d r. None };
 
+    ghost own = { λ d b. Unit {0} };
+
     fn run<R: Wait>(self, rt: &R, engine: Shared<Q, O>, who: Who) -> (Shared<Q, O>, PauseReply)
-        requires { is_maker who ≡ true }
+        requires maker { is_maker who ≡ true }
+        requires own { Unit {0} }
         ensures leaves { Leaves who (Call.Pause self.0) engine (reply_of_pause result.1) result.0 }
         ensures back { Unit {0} }
         ensures tells { Unit {0} }
@@ -196,8 +211,11 @@ impl<Q: Work + Drop, O: Ending + Drop> Deed<Shared<Q, O>, Q, O> for Unpausing {
 
     ghost tie = { λ d r. None };
 
+    ghost own = { λ d b. Unit {0} };
+
     fn run<R: Wait>(self, rt: &R, engine: Shared<Q, O>, who: Who) -> (Shared<Q, O>, PauseReply)
-        requires { is_maker who ≡ true }
+        requires maker { is_maker who ≡ true }
+        requires own { Unit {0} }
         ensures leaves { Leaves who (Call.Unpause self.0) engine (reply_of_pause result.1) result.0 }
         ensures back { Unit {0} }
         ensures tells { Unit {0} }
@@ -238,8 +256,11 @@ impl<Q: Work + Drop, O: Ending + Drop> Deed<Shared<Q, O>, Q, O> for Reading {
 
     ghost tie = { λ d r. tie_read O.origin r };
 
+    ghost own = { λ d b. Unit {0} };
+
     fn run<R: Wait>(self, rt: &R, engine: Shared<Q, O>, who: Who) -> (Shared<Q, O>, InfoReply<O>)
-        requires { is_maker who ≡ true }
+        requires maker { is_maker who ≡ true }
+        requires own { Unit {0} }
         ensures leaves { Leaves who Call.InfoRead engine (reply_of_info O.code_of O.size_of result.1) result.0 }
         ensures back { Unit {0} }
         ensures tells { Tells (tie_read O.origin result.1) result.0.ties.ties }
@@ -280,8 +301,11 @@ impl<Q: Work + Drop, O: Ending + Drop> Deed<Shared<Q, O>, Q, O> for Waking {
 
     ghost tie = { λ d r. None };
 
+    ghost own = { λ d b. Unit {0} };
+
     fn run<R: Wait>(self, rt: &R, engine: Shared<Q, O>, who: Who) -> (Shared<Q, O>, WakeupReply)
-        requires { is_maker who ≡ true }
+        requires maker { is_maker who ≡ true }
+        requires own { Unit {0} }
         ensures leaves { Leaves who Call.Wakeup engine (reply_of_wakeup result.1) result.0 }
         ensures back { Unit {0} }
         ensures tells { Unit {0} }
@@ -304,17 +328,17 @@ impl<Q: Work + Drop, O: Ending + Drop> Deed<Shared<Q, O>, Q, O> for Waking {
 /// Records the end of a claimed transfer.
 #[derive(Drop)]
 pub struct Finishing<Q: Work, O: Ending> {
-    pub claim: Claim<Q>,
+    pub claim: TiedClaim<Q>,
     pub ending: O,
     pub ghost origin: { O.origin ending ≡ claim.origin },
 }
 
 impl<Q: Work + Drop, O: Ending + Drop> Deed<Shared<Q, O>, Q, O> for Finishing<Q, O> {
     ghost use Rattle.mx_types.specs.declared.call.Call.TheVariants as call_of;
+    ghost use Rattle.std.specs.Prelude.{◌≡◌, None};
     ghost use Rattle.mx_journal.specs.Replies.{IsHandedBack, reply_of_finish};
-    ghost use Rattle.mx_lock.specs.Ties.{tie_finished};
 
-    type Reply = FinishReply<Q, O>;
+    type Reply = FinishReply<TiedClaim<Q>, O>;
 
     ghost state = { λ s. s };
 
@@ -324,34 +348,41 @@ impl<Q: Work + Drop, O: Ending + Drop> Deed<Shared<Q, O>, Q, O> for Finishing<Q,
 
     ghost back = { λ d r. IsHandedBack d.claim d.ending r };
 
-    ghost tie = { λ d r. tie_finished r d.claim.ticket (O.origin d.ending) };
+    ghost tie = { λ d r. None };
+
+    ghost own = { λ d b. d.claim.of ≡ b };
 
     fn run<R: Wait>(
         self,
         rt: &R,
         engine: Shared<Q, O>,
         who: Who,
-    ) -> (Shared<Q, O>, FinishReply<Q, O>)
-        requires { is_maker who ≡ true }
+    ) -> (Shared<Q, O>, FinishReply<TiedClaim<Q>, O>)
+        requires maker { is_maker who ≡ true }
+        requires own { self.claim.of ≡ engine.ties.book }
         ensures leaves { Leaves who (Call.Finish self.claim.ticket (O.code_of self.ending) (O.size_of self.ending)) engine (reply_of_finish result.1) result.0 }
         ensures back { IsHandedBack self.claim self.ending result.1 }
-        ensures tells { Tells (tie_finished result.1 self.claim.ticket (O.origin self.ending)) result.0.ties.ties }
+        ensures tells { Unit {0} }
         ensures quiet { is_poll (Call.Finish self.claim.ticket (O.code_of self.ending) (O.size_of self.ending)) ≡ false }
     {
         let Finishing { claim, ending } = self;
         let Shared {
             mut control,
             mut board,
-            mut ties,
+            ties,
         } = engine;
-        let ticket = claim.ticket();
+        let (claim, mark) = claim.into_parts();
+        let all = ties.mark();
+        all.are_of_one_list(&mark);
+        control.sound();
+        let given = Snapshot::of(&claim);
         let ended = Snapshot::of(&ending);
         let reply = control.finish(&mut board, who, claim, ending);
-        ties.tie_end(rt, &reply, ticket, ended);
-        (Shared::publish(rt, control, board, ties), reply)
+        let shared = Shared::publish(rt, control, board, ties);
+        (shared, tied_again(reply, mark, given, ended))
     }
 
-    fn wakes(answer: &FinishReply<Q, O>) -> bool {
+    fn wakes(answer: &FinishReply<TiedClaim<Q>, O>) -> bool {
         matches!(answer, FinishReply::Recorded)
     }
 }

@@ -2,6 +2,7 @@
 //! is added and in the endings that are recorded.
 #![tactic(auto)]
 
+mod claim;
 mod deeds;
 mod key_view;
 mod lock;
@@ -10,9 +11,10 @@ mod shared;
 mod taken;
 mod ties;
 
+pub use crate::claim::TiedClaim;
 pub use crate::deeds::{Addition, Deed, Finishing, Pausing, Reading, Removal, Unpausing, Waking};
 pub use crate::key_view::{BookName, EngineName, KeyView};
 pub use crate::lock::{Key, Lock};
 pub use crate::shared::Shared;
 pub use crate::taken::Taken;
-pub use crate::ties::{Tie, TieLog, TieMark, Tied};
+pub use crate::ties::{Origin, TieLog, TieMark};

@@ -11,19 +11,19 @@ ghost use Rattle.mx_journal.specs.Table.{IsTableOf};
 ghost use Rattle.mx_board.specs.Board.{caught_up, mark_of};
 ghost use Rattle.mx_journal.specs.Replies.{IsGivenBack, is_back, queue_given};
 ghost use Rattle.mx_lock.specs.Shared.{HasNoOther, IsLocked, content};
-ghost use Rattle.mx_lock.specs.Ties.{IsClaimOf, IsTied, TellsGiven};
+ghost use Rattle.mx_lock.specs.Ties.{AreOfAdditions, Has, IsTied, tie};
 
+use crate::claim::TiedClaim;
 use crate::ties::{TieLog, TieMark};
 use mx_board::{BoardReader, BoardWriter, JournalMark, board};
-use mx_journal::{Claim, Control, GiveBackReply, Table};
+use mx_journal::{Control, GiveBackReply, Table};
 use mx_types::{Ending, Event, OutOfMemory, Who, Work};
 use std::alloc::Global;
 use std::marker::Model;
-use std::snapshot::Snapshot;
 use std::sync::Wait;
 
 /// The control state, and the board. The published version is always that of the control state's journal. Beside the journal
-/// stands of which request each addition, each giving back and each end is, for contracts alone.
+/// stands of which request each addition is, for contracts alone.
 #[derive(Drop)]
 pub struct Shared<Q: Work + Drop, O: Ending + Drop> {
     pub(crate) control: Control<Q, O>,
@@ -40,7 +40,7 @@ impl<Q: Work + Drop, O: Ending + Drop> Model for Shared<Q, O> {
 
     ghost view = { λ s. record { core = s.control; published = s.board.published; book = s.board.book; ties = s.ties } };
 
-    ghost invariant = { λ s. (s.board.events ≡ s.control.journal) × (s.board.published ≡ s.control.journal) × IsTied Q.origin O.origin s.control s.ties.ties };
+    ghost invariant = { λ s. (s.board.events ≡ s.control.journal) × (s.board.published ≡ s.control.journal) × IsTied O.origin s.control s.ties.ties };
 }
 
 impl<Q: Work + Drop, O: Ending + Drop> Shared<Q, O> {
@@ -71,7 +71,7 @@ impl<Q: Work + Drop, O: Ending + Drop> Shared<Q, O> {
         board: BoardWriter,
         ties: TieLog,
     ) -> Shared<Q, O>
-        requires { (board.events ≡ control.journal) × IsTied Q.origin O.origin control ties.ties }
+        requires { (board.events ≡ control.journal) × IsTied O.origin control ties.ties }
         ensures is { result ≡ record { core = control; published = control.journal; book = board.book; ties = ties } }
         ensures legal { is_legal result.core.journal ≡ true }
     {
@@ -84,9 +84,10 @@ impl<Q: Work + Drop, O: Ending + Drop> Shared<Q, O> {
     }
 
     /// What holds of everything that lies in a lock: the control state is sound, and the version that is published is that
-    /// of its journal.
+    /// of its journal; there is a tie for each addition, and queued work and endings are of their tickets' additions.
     pub fn sound(&self)
-        ensures { IsLocked O.code_of O.size_of self.now }
+        ensures locked { IsLocked O.code_of O.size_of self.now }
+        ensures tied { AreOfAdditions Q.origin O.origin self.now.core self.now.ties.ties }
     {
         self.control.sound()
     }
@@ -206,11 +207,12 @@ impl<Q: Work + Drop, O: Ending + Drop> Shared<Q, O> {
     }
 
     /// Takes the work of the lowest ticket in the queue.
-    pub fn claim(&mut self) -> Option<(Claim<Q>, Q)>
+    pub fn claim(&mut self) -> Option<(TiedClaim<Q>, Q)>
         ensures journal { (self.new.core.journal ≡ self.old.core.journal) × (self.new.core.opening ≡ self.old.core.opening) × (self.new.book ≡ self.old.book) }
         ensures ties { self.new.ties ≡ self.old.ties }
         ensures origin { IfSome result (λ r. r.0.origin ≡ Q.origin r.1) }
-        ensures request { IfSome result (λ r. IsClaimOf self.new.ties.ties r.0.ticket r.0.origin) }
+        ensures own { IfSome result (λ r. r.0.of ≡ self.new.ties.book) }
+        ensures request { IfSome result (λ r. Has self.new.ties.ties (tie r.0.ticket r.0.origin)) }
         ensures endings { self.new.core.endings ≡ self.old.core.endings }
         ensures none { IfNone result ((self.old.core.queue ≡ []) × (self.new.core.queue ≡ [])) }
         ensures some { IfSome result (λ r. self.old.core.queue ≡ (r.0.ticket, r.1) ∷ self.new.core.queue) }
@@ -219,15 +221,18 @@ impl<Q: Work + Drop, O: Ending + Drop> Shared<Q, O> {
         ensures handle { IfSome result (λ r. handle_of r.0.ticket self.old.core.journal ≡ Some r.0.handle) }
         ensures slot { IfSome result (λ r. slot_of r.0.ticket self.old.core.journal ≡ Some r.0.slot) }
     {
-        self.control.claim()
+        let Some((claim, work)) = self.control.claim() else {
+            return None;
+        };
+        Some((TiedClaim::of(claim, self.ties.mark()), work))
     }
 
     /// Puts claimed work back into the queue, to the place of its ticket; `Stale` hands it back, and changes nothing.
-    pub fn give_back<R: Wait>(&mut self, rt: &R, claim: Claim<Q>, work: Q) -> GiveBackReply<Q>
+    pub fn give_back(&mut self, claim: TiedClaim<Q>, work: Q) -> GiveBackReply<Q>
         requires origin { Q.origin work ≡ claim.origin }
+        requires own { claim.of ≡ self.old.ties.book }
         ensures journal { (self.new.core.journal ≡ self.old.core.journal) × (self.new.core.opening ≡ self.old.core.opening) × (self.new.book ≡ self.old.book) }
-        ensures ties { self.new.ties.book ≡ self.old.ties.book }
-        ensures tells { TellsGiven result claim.ticket claim.origin self.new.ties.ties }
+        ensures ties { self.new.ties ≡ self.old.ties }
         ensures endings { self.new.core.endings ≡ self.old.core.endings }
         ensures back { is_back result ≡ has_ticket claim.ticket (claimed self.old.core.journal self.old.core.queue) }
         ensures runs { is_back result ≡ true → has_ticket claim.ticket (running self.old.core.journal) ≡ true }
@@ -235,10 +240,10 @@ impl<Q: Work + Drop, O: Ending + Drop> Shared<Q, O> {
         ensures handed { IsGivenBack work result }
         ensures claims { HasNoOther (content self.old).claimed (content self.new).claimed }
     {
-        let ticket = claim.ticket();
-        let given = Snapshot::of(&work);
-        let reply = self.control.give_back(claim, work);
-        self.ties.tie_giving(rt, &reply, ticket, given);
-        reply
+        let (claim, mark) = claim.into_parts();
+        let all = self.ties.mark();
+        all.are_of_one_list(&mark);
+        self.control.sound();
+        self.control.give_back(claim, work)
     }
 }

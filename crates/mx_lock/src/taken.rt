@@ -11,13 +11,14 @@ ghost use Rattle.mx_journal.specs.Receipts.{is_poll};
 ghost use Rattle.mx_journal.specs.Slots.{slot_of};
 ghost use Rattle.mx_board.specs.Board.{caught_up};
 ghost use Rattle.mx_lock.specs.Shared.{HasNoOther, IsLocked, Leaves, SharedState, content};
-ghost use Rattle.mx_lock.specs.Ties.{IsClaimOf, Tells, TellsGiven};
+ghost use Rattle.mx_lock.specs.Ties.{AreOfAdditions, Has, Tells, tie};
 
+use crate::claim::TiedClaim;
 use crate::deeds::Deed;
 use crate::shared::Shared;
 use crate::ties::TieMark;
 use mx_board::BoardReader;
-use mx_journal::{Claim, GiveBackReply};
+use mx_journal::GiveBackReply;
 use mx_types::{Ending, Who, Work};
 use std::marker::Model;
 use std::snapshot::Snapshot;
@@ -60,6 +61,7 @@ impl<Q: Work + Drop, O: Ending + Drop> Taken<Q, O> {
     ) -> (Taken<Q, O>, D::Reply)
         requires maker { is_maker who ≡ true }
         requires state { (x : SharedState Q O) → D.state x ≡ x }
+        requires own { D.own deed self.ties.book }
         ensures leaves { Leaves who (D.call deed) self (D.reply result.1) result.0 }
         ensures back { D.back deed result.1 }
         ensures tells { Tells (D.tie deed result.1) result.0.ties.ties }
@@ -75,6 +77,7 @@ impl<Q: Work + Drop, O: Ending + Drop> Taken<Q, O> {
     pub fn know(&self) -> Snapshot<Shared<Q, O>>
         ensures is { result.value ≡ self.now }
         ensures locked { IsLocked O.code_of O.size_of self.now }
+        ensures tied { AreOfAdditions Q.origin O.origin self.now.core self.now.ties.ties }
     {
         self.shared.sound();
         Snapshot::of(&self.shared)
@@ -132,11 +135,12 @@ impl<Q: Work + Drop, O: Ending + Drop> Taken<Q, O> {
     }
 
     /// Takes the work of the lowest ticket in the queue.
-    pub fn claim(&mut self) -> Option<(Claim<Q>, Q)>
+    pub fn claim(&mut self) -> Option<(TiedClaim<Q>, Q)>
         ensures journal { (self.new.core.journal ≡ self.old.core.journal) × (self.new.core.opening ≡ self.old.core.opening) × (self.new.book ≡ self.old.book) }
         ensures ties { self.new.ties ≡ self.old.ties }
         ensures origin { IfSome result (λ r. r.0.origin ≡ Q.origin r.1) }
-        ensures request { IfSome result (λ r. IsClaimOf self.new.ties.ties r.0.ticket r.0.origin) }
+        ensures own { IfSome result (λ r. r.0.of ≡ self.new.ties.book) }
+        ensures request { IfSome result (λ r. Has self.new.ties.ties (tie r.0.ticket r.0.origin)) }
         ensures none { IfNone result ((self.old.core.queue ≡ []) × (self.new.core.queue ≡ [])) }
         ensures some { IfSome result (λ r. self.old.core.queue ≡ (r.0.ticket, r.1) ∷ self.new.core.queue) }
         ensures claimed { IfSome result (λ r. has_ticket r.0.ticket (claimed self.new.core.journal self.new.core.queue) ≡ true) }
@@ -148,11 +152,11 @@ impl<Q: Work + Drop, O: Ending + Drop> Taken<Q, O> {
     }
 
     /// Puts claimed work back into the queue, to the place of its ticket; `Stale` hands it back, and changes nothing.
-    pub fn give_back<R: Wait>(&mut self, rt: &R, claim: Claim<Q>, work: Q) -> GiveBackReply<Q>
+    pub fn give_back(&mut self, claim: TiedClaim<Q>, work: Q) -> GiveBackReply<Q>
         requires origin { Q.origin work ≡ claim.origin }
+        requires own { claim.of ≡ self.old.ties.book }
         ensures journal { (self.new.core.journal ≡ self.old.core.journal) × (self.new.core.opening ≡ self.old.core.opening) × (self.new.book ≡ self.old.book) }
-        ensures ties { self.new.ties.book ≡ self.old.ties.book }
-        ensures tells { TellsGiven result claim.ticket claim.origin self.new.ties.ties }
+        ensures ties { self.new.ties ≡ self.old.ties }
         ensures endings { self.new.core.endings ≡ self.old.core.endings }
         ensures back { is_back result ≡ has_ticket claim.ticket (claimed self.old.core.journal self.old.core.queue) }
         ensures runs { is_back result ≡ true → has_ticket claim.ticket (running self.old.core.journal) ≡ true }
@@ -160,6 +164,6 @@ impl<Q: Work + Drop, O: Ending + Drop> Taken<Q, O> {
         ensures handed { IsGivenBack work result }
         ensures claims { HasNoOther (content self.old).claimed (content self.new).claimed }
     {
-        self.shared.give_back(rt, claim, work)
+        self.shared.give_back(claim, work)
     }
 }

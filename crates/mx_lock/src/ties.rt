@@ -1,36 +1,24 @@
-//! Of which request each addition, each giving back and each end is: a list that only grows and exists in contracts alone, and tokens
-//! of it.
+//! Of which request each addition is: a list that only grows and exists in contracts alone, and tokens of it.
 ghost use Rattle.std.specs.Prelude.{◌≡◌, ◌++◌, ◌∷◌, [], None, MatchBool};
 ghost use mathlib.Core.List.{IsPrefix};
-ghost use Rattle.std.specs.Option.{option_to_list};
-ghost use Rattle.mx_lock.specs.Ties.{AreOfOneList, tie_added, tie_finished, tie_given};
+ghost use Rattle.mx_journal.specs.Replies.{origins_added};
+ghost use Rattle.mx_lock.specs.Ties.{AreOfOneList};
 
 use logbook::{Gain, Offer, Plain, Play, Rule, Seen, Start, Word};
-use mx_journal::{AddReply, FinishReply, GiveBackReply};
-use mx_types::{Ending, Ticket, Work};
+use mx_journal::AddReply;
+use mx_types::Work;
 use std::collections::LinkedList;
 use std::marker::Model;
 use std::snapshot::Snapshot;
 use std::sync::Wait;
 
-/// What is tied to a request.
-pub enum Tied {
-    Added,
-    GivenBack,
-    Ended,
-}
-
-/// A ticket's addition, giving back or end, with the bytes of the request that it is of. No value of it is made.
-pub struct Tie {
-    pub of: Tied,
-    pub ticket: Ticket,
-    pub origin: LinkedList<u8>,
-}
+/// The bytes of the request that an addition is of. No value of it is made.
+pub type Origin = LinkedList<u8>;
 
 /// What always holds of the list: its word is its length. Those who step keep nothing beside it.
 pub struct TieRule;
 
-impl Rule<Tie, u64> for TieRule {
+impl Rule<Origin, u64> for TieRule {
     ghost use Rattle.std.specs.Prelude.{[]};
     ghost use base.Fml.{ftrue};
     ghost use Rattle.mx_lock.specs.Ties.{IsKept};
@@ -51,52 +39,27 @@ impl Rule<Tie, u64> for TieRule {
 /// The one kind of step: a tie is put behind all that were seen.
 pub struct Join;
 
-impl Play<Tie, u64> for Join {
+impl Play<Origin, u64> for Join {
     ghost use Rattle.mx_lock.specs.Ties.{Joins};
 
     ghost then = { Joins };
 }
 
-impl Gain<Tie, u64> for Join {
+impl Gain<Origin, u64> for Join {
     ghost use base.Fml.{ftrue};
 
     ghost after = { λ _ _ _. ftrue };
 }
 
-/// The tie of an addition: of its ticket with its work.
+/// The tie of an addition: its work's request.
 pub struct TiesAddition;
 
-impl<Q: Work> Plain<(Ticket, Snapshot<Q>), Tie, u64> for TiesAddition {
+impl<Q: Work> Plain<Snapshot<Q>, Origin, u64> for TiesAddition {
     ghost use Rattle.std.specs.Prelude.{None};
-    ghost use Rattle.mx_lock.specs.declared.ties.Tied.TheVariants as tied;
 
     ghost state = { λ _. None };
 
-    ghost ask = { λ x. record { of = tied.Added; ticket = x.0; origin = Q.origin x.1.value } };
-}
-
-/// The tie of work that is given back: of its ticket with it.
-pub struct TiesGiving;
-
-impl<Q: Work> Plain<(Ticket, Snapshot<Q>), Tie, u64> for TiesGiving {
-    ghost use Rattle.std.specs.Prelude.{None};
-    ghost use Rattle.mx_lock.specs.declared.ties.Tied.TheVariants as tied;
-
-    ghost state = { λ _. None };
-
-    ghost ask = { λ x. record { of = tied.GivenBack; ticket = x.0; origin = Q.origin x.1.value } };
-}
-
-/// The tie of an end: of its ticket with its ending.
-pub struct TiesEnd;
-
-impl<O: Ending> Plain<(Ticket, Snapshot<O>), Tie, u64> for TiesEnd {
-    ghost use Rattle.std.specs.Prelude.{None};
-    ghost use Rattle.mx_lock.specs.declared.ties.Tied.TheVariants as tied;
-
-    ghost state = { λ _. None };
-
-    ghost ask = { λ x. record { of = tied.Ended; ticket = x.0; origin = O.origin x.1.value } };
+    ghost ask = { λ x. Q.origin x.value };
 }
 
 // The most ties that a list can have.
@@ -105,9 +68,9 @@ const MOST_TIES: u64 = 1 << 61;
 /// The list where it grows: its length, which one atomic step raises. Contracts see the ties so far, and which list it is.
 #[derive(Drop)]
 pub struct TieLog {
-    word: Word<Tie, u64, TieRule>,
+    word: Word<Origin, u64, TieRule>,
     count: u64,
-    seen: Seen<Tie, u64, TieRule>,
+    seen: Seen<Origin, u64, TieRule>,
 }
 
 impl Model for TieLog {
@@ -124,7 +87,7 @@ impl Model for TieLog {
 /// A beginning of the list that was reached. It has no size.
 #[derive(Drop)]
 pub struct TieMark {
-    seen: Seen<Tie, u64, TieRule>,
+    seen: Seen<Origin, u64, TieRule>,
 }
 
 impl Model for TieMark {
@@ -160,7 +123,7 @@ impl TieLog {
 
     // Puts a tie behind the others. False, and nothing changes, where the list has more ties than were seen, or as many as it can
     // have.
-    fn try_add<X, M: Plain<X, Tie, u64>>(&mut self, about: &X) -> bool
+    fn try_add<X, M: Plain<X, Origin, u64>>(&mut self, about: &X) -> bool
         requires { M.state about.now ≡ None }
         ensures { MatchBool result ((self.new.book ≡ self.old.book) × (self.new.ties ≡ self.old.ties ++ M.ask about.now ∷ [])) (self.new ≡ self.old) }
     {
@@ -170,7 +133,7 @@ impl TieLog {
         }
         let mut seen = self.seen.again();
         let mut nothing = seen.no_pen();
-        let mut offer: Offer<Tie, u64, TieRule, Join> = seen.plain::<Join, X, M>(about);
+        let mut offer: Offer<Origin, u64, TieRule, Join> = seen.plain::<Join, X, M>(about);
         let found = self
             .word
             .compare_exchange::<Join, Join>(known, known + 1, &mut seen, &mut offer, &mut nothing);
@@ -184,7 +147,7 @@ impl TieLog {
 
     /// Puts a tie behind the others. It would wait for ever where the list had more ties than were seen here; none are put in
     /// elsewhere.
-    pub fn add<X, M: Plain<X, Tie, u64>, R: Wait>(&mut self, rt: &R, about: &X)
+    pub fn add<X, M: Plain<X, Origin, u64>, R: Wait>(&mut self, rt: &R, about: &X)
         requires { M.state about.now ≡ None }
         ensures book { self.new.book ≡ self.old.book }
         ensures ties { self.new.ties ≡ self.old.ties ++ M.ask about.now ∷ [] }
@@ -205,42 +168,10 @@ impl TieLog {
         work: Snapshot<Q>,
     )
         ensures book { self.new.book ≡ self.old.book }
-        ensures ties { self.new.ties ≡ self.old.ties ++ option_to_list (tie_added answer.now (Q.origin work.value)) }
+        ensures ties { self.new.ties ≡ origins_added answer.now self.old.ties (Q.origin work.value) }
     {
-        if let AddReply::Added(ticket) = answer {
-            self.add::<(Ticket, Snapshot<Q>), TiesAddition, R>(rt, &(*ticket, work));
-        }
-    }
-
-    /// Puts in the tie of work that was given back, where it is queued again.
-    pub fn tie_giving<Q: Work, R: Wait>(
-        &mut self,
-        rt: &R,
-        answer: &GiveBackReply<Q>,
-        ticket: Ticket,
-        work: Snapshot<Q>,
-    )
-        ensures book { self.new.book ≡ self.old.book }
-        ensures ties { self.new.ties ≡ self.old.ties ++ option_to_list (tie_given answer.now ticket (Q.origin work.value)) }
-    {
-        if let GiveBackReply::Back = answer {
-            self.add::<(Ticket, Snapshot<Q>), TiesGiving, R>(rt, &(ticket, work));
-        }
-    }
-
-    /// Puts in the tie of an end, where it was recorded.
-    pub fn tie_end<Q: Work, O: Ending, R: Wait>(
-        &mut self,
-        rt: &R,
-        answer: &FinishReply<Q, O>,
-        ticket: Ticket,
-        ending: Snapshot<O>,
-    )
-        ensures book { self.new.book ≡ self.old.book }
-        ensures ties { self.new.ties ≡ self.old.ties ++ option_to_list (tie_finished answer.now ticket (O.origin ending.value)) }
-    {
-        if let FinishReply::Recorded = answer {
-            self.add::<(Ticket, Snapshot<O>), TiesEnd, R>(rt, &(ticket, ending));
+        if let AddReply::Added(_) = answer {
+            self.add::<Snapshot<Q>, TiesAddition, R>(rt, &work);
         }
     }
 }

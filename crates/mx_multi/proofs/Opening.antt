@@ -15,7 +15,6 @@ use Rattle.mx_multi.specs.Seats.{MultiView, SeatView, IsSeat, IsReceived, IsNew}
 use Rattle.mx_multi.specs.Opening.{maker_of, first_of, AreReaders, AreNew}
 use Rattle.mx_multi.proofs.Standing.{seat_of}
 use Rattle.mx_lock.specs.declared.key_view.KeyView.{KeyView}
-use Rattle.mx_lock.specs.declared.ties.Tie.{Tie}
 
 pub key_maker : (worker : Bool) (n : ℕ) → n < 16 → maker (first_of worker + n) ≡ maker_of worker n
 key_maker false n lt =
@@ -50,7 +49,7 @@ reader_is worker n m w j a b r got who none book same =
     got ∙ path
 
 -- a key and a reader make a new seat
-pub is_new : {Q O : Type 0} (m of : MultiView Q O) (v : KeyView) (r : ReaderState) (worker : Bool) (n k : ℕ) (t : ProgressState) (w : NoteState) (ties : List Tie) → of.table ≡ m.table → of.keys ≡ m.keys → of.engine ≡ engine_of v → of.words ≡ w.of → w ≡ new_seat t → t.id ≡ m.words → v ≡ child (founder_at m.engine k) → r ≡ caught_up (maker_of worker n) [] m.engine.book → ties ≡ []
+pub is_new : {Q O : Type 0} (m of : MultiView Q O) (v : KeyView) (r : ReaderState) (worker : Bool) (n k : ℕ) (t : ProgressState) (w : NoteState) (ties : List (List ℕ)) → of.table ≡ m.table → of.keys ≡ m.keys → of.engine ≡ engine_of v → of.words ≡ w.of → w ≡ new_seat t → t.id ≡ m.words → v ≡ child (founder_at m.engine k) → r ≡ caught_up (maker_of worker n) [] m.engine.book → ties ≡ []
     → IsNew m (maker_of worker n) (seat_of of v r 0 w ties)
 is_new {Q} {O} m of v r worker n k t w ties table keys engine words fresh of_words key got none =
     let same : of ≡ m = λ i. record { table = table i; keys = keys i; engine = (engine ∙ ap engine_of key) i; words = (words ∙ ap (λ (z : NoteState). z.of) fresh ∙ of_words) i } in

@@ -33,14 +33,9 @@ use Rattle.mx_multi.specs.declared.progress.Progress.{Progress}
 use Rattle.mx_multi.specs.Progress.{IsProgress}
 use Rattle.mx_types.specs.declared.names.HandleId.{HandleId}
 use Rattle.mx_lock.specs.declared.key_view.KeyView.{KeyView}
-use Rattle.mx_lock.specs.declared.ties.Tie.{Tie}
-use Rattle.mx_journal.specs.declared.replies.GiveBackReply.{GiveBackReply}
-use Rattle.mx_journal.specs.declared.replies.GiveBackReply.TheVariants as giving
-use Rattle.mx_lock.specs.declared.ties.Tied.TheVariants as tied
-use Rattle.mx_lock.specs.declared.ties.Tied.{Tied}
-use Rattle.mx_lock.specs.Ties.{AreOfOneList, tie, Has, Tells, TellsGiven, WasGiven, IsClaimOf}
-use Rattle.mx_multi.specs.Laws.{AreToldAlike, IsOfItsAddition}
-use Rattle.mx_lock.proofs.Tying.{has_more, claim_more, given_more}
+use Rattle.mx_lock.specs.Ties.{AreOfOneList, Tie, tie, Has, Tells}
+use Rattle.mx_multi.specs.Laws.{AreToldAlike}
+use Rattle.mx_lock.proofs.Tying.{has_more}
 use Rattle.mx_lock.proofs.Keys.{longer}
 
 -- 1. Of seats as values.
@@ -125,7 +120,7 @@ all_confirmed j = (omega arith, omega arith)
 
 module _ {Q O : Type 0} where
   -- the seat of a key and a reader
-  abbrev pub seat_of : MultiView Q O → KeyView → ReaderState → ℕ → NoteState → List Tie → SeatView Q O
+  abbrev pub seat_of : MultiView Q O → KeyView → ReaderState → ℕ → NoteState → List (List ℕ) → SeatView Q O
   seat_of of v r p n k = record { of = of; who = r.who; seen = r.seen; confirmed = r.confirmed; polled = p; claims = v.claims; words = n; ties = k }
 
   -- a reader that has seen the whole journal
@@ -146,7 +141,7 @@ only_new t p (u ∷ after) h = go (p u) refl (only_new t p after (λ x k q. h x 
 -- the engine that a key took, before anything was done
 module _ {Q O : Type 0} (v w : KeyView) (r : ReaderState) (x : SharedState Q O) (seat : IsSeat v r) (took : Took content v x w) where
   -- the journal that was found
-  pub finds : (of : MultiView Q O) (p : ℕ) (n : NoteState) (k : List Tie) → IsPrefix r.seen x.core.journal → Finds (seat_of of v r p n k) x.core.journal
+  pub finds : (of : MultiView Q O) (p : ℕ) (n : NoteState) (k : List (List ℕ)) → IsPrefix r.seen x.core.journal → Finds (seat_of of v r p n k) x.core.journal
   finds of p n k pre =
       let own : made_by r.who x.core.journal ≡ made_by r.who v.seen = subst (λ m. made_by m x.core.journal ≡ made_by m v.seen) seat.who took.own in
       record { later = pre; own = own ∙ sym seat.own }
@@ -204,7 +199,7 @@ module _ {Q O : Type 0} (v w : KeyView) (r : ReaderState) (x : SharedState Q O) 
     claims_after none =
         claims_are ∙ ap (λ l. v.claims ++ l) (none_new (content x).claimed (λ s. not (has_ticket s (content x).claimed)) (content y).claimed (λ s k. ap not (none s k))) ∙ append-nil v.claims
 
-    pub claims_only : (of of' : MultiView Q O) (p q : ℕ) (n : NoteState) (k l : List Tie) (ticket : Ticket) → HasNoOther (ticket ∷ (content x).claimed) (content y).claimed → ClaimsOnly (seat_of of v r p n k) (seat_of of' u t q n l) ticket
+    pub claims_only : (of of' : MultiView Q O) (p q : ℕ) (n : NoteState) (k l : List (List ℕ)) (ticket : Ticket) → HasNoOther (ticket ∷ (content x).claimed) (content y).claimed → ClaimsOnly (seat_of of v r p n k) (seat_of of' u t q n l) ticket
     claims_only of of' p q n k l ticket none = record {
       more = newly (content x).claimed (content y).claimed;
       claims = claims_are;
@@ -216,7 +211,7 @@ module _ {Q O : Type 0} (v w : KeyView) (r : ReaderState) (x : SharedState Q O) 
         first s false is n k = absurd (false≢true (sym (ap not (sym (ap (λ b. b || has_ticket s (content x).claimed) is) ∙ k)) ∙ n))
 
     -- all is confirmed then
-    confirms : (of of' : MultiView Q O) (p q : ℕ) (n : NoteState) (k l : List Tie) → IsPrefix r.seen y.core.journal → Confirms (seat_of of v r p n k) (seat_of of' u t q n l)
+    confirms : (of of' : MultiView Q O) (p q : ℕ) (n : NoteState) (k l : List (List ℕ)) → IsPrefix r.seen y.core.journal → Confirms (seat_of of v r p n k) (seat_of of' u t q n l)
     confirms of of' p q n k l pre =
         let at : t.confirmed ≡ length t.seen = ap (λ (z : ReaderState). z.confirmed) got ∙ ap length (sym (ap (λ (z : ReaderState). z.seen) got)) in
         let long = prefix_length r.seen y.core.journal pre in
@@ -224,7 +219,7 @@ module _ {Q O : Type 0} (v w : KeyView) (r : ReaderState) (x : SharedState Q O) 
         let was = seat.but_last.0 in
         record { more = omega (arith, at, long, seen, was); within = omega (arith, at); but_last = omega (arith, at) }
 
-    pub lock_stands : (of of' : MultiView Q O) (p q : ℕ) (n : NoteState) (k l : List Tie) (by : Who) (call : Call) (reply : Reply) → IsPrefix k l → of.engine ≡ engine_of v → of' ≡ of → by ≡ r.who → IsPrefix r.seen x.core.journal → Leaves by call x reply y
+    pub lock_stands : (of of' : MultiView Q O) (p q : ℕ) (n : NoteState) (k l : List (List ℕ)) (by : Who) (call : Call) (reply : Reply) → IsPrefix k l → of.engine ≡ engine_of v → of' ≡ of → by ≡ r.who → IsPrefix r.seen x.core.journal → Leaves by call x reply y
         → q ≡ polled_after call (length y.core.journal) p → (is_poll call ≡ true → is_ready p y.core.journal ≡ true) → Stands (seat_of of v r p n k) (seat_of of' u t q n l) call reply
     lock_stands of of' p q n k l by call reply ties engine same is pre leaves at ready =
         let opening : x.core.opening ≡ of.engine.opening = ap (λ (e : Engine). e.opening) (sym (engine ∙ took.engine)) in
@@ -236,7 +231,7 @@ module _ {Q O : Type 0} (v w : KeyView) (r : ReaderState) (x : SharedState Q O) 
         (confirms of of' p q n k l (begins_by y by call reply leaves pre)) (claims_after leaves.claims) refl ties
         (at ∙ ap (λ z. polled_after call (length z) p) (sym seen)) (λ poll. ap (is_ready p) seen ∙ ready poll)
 
-    pub lock_sees : (of of' : MultiView Q O) (p : ℕ) (n : NoteState) (k l : List Tie) → IsPrefix k l → of' ≡ of → IsPrefix r.seen x.core.journal → IsLeft x y → Sees (seat_of of v r p n k) (seat_of of' u t p n l)
+    pub lock_sees : (of of' : MultiView Q O) (p : ℕ) (n : NoteState) (k l : List (List ℕ)) → IsPrefix k l → of' ≡ of → IsPrefix r.seen x.core.journal → IsLeft x y → Sees (seat_of of v r p n k) (seat_of of' u t p n l)
     lock_sees of of' p n k l ties same pre left =
         let seen : t.seen ≡ x.core.journal = ap (λ (z : ReaderState). z.seen) got ∙ left.journal in
         sees_at (seat_of of v r p n k) (seat_of of' u t p n l) same (ap (λ (z : ReaderState). z.who) got) (subst (Finds (seat_of of v r p n k)) (sym seen) (finds of p n k pre)) (ap is_legal (ap (λ (z : ReaderState). z.seen) got) ∙ left.legal) refl
@@ -254,6 +249,10 @@ module _ {Q O : Type 0} (v w : KeyView) (r : ReaderState) (x : SharedState Q O) 
   -- the key's engine stays
   pub engine_kept : (u : KeyView) (c : SharedState Q O) → u ≡ given w (content c) → engine_of u ≡ engine_of v
   engine_kept u c gave = ap engine_of gave ∙ ap engine_of took.is
+
+  -- its list of ties is that of the multi handle of which the seat is
+  pub list_of : (of : MultiView Q O) → engine_of v ≡ of.engine → x.ties.book ≡ of.engine.ties
+  list_of of is = ap (λ (e : Engine). e.ties) (sym took.engine ∙ is)
 
   -- its list of ties is that of the seat's mark
   pub list_found : (y : SharedState Q O) (a : Book) → a ≡ (engine_of v).ties → y.ties.book ≡ x.ties.book → y.ties.book ≡ a
@@ -286,7 +285,7 @@ seat_read v r t s h = record {
 }
 
 -- a read stands at what it has then seen
-pub stands_read : {Q O : Type 0} (of : MultiView Q O) (v : KeyView) (r t : ReaderState) (p : ℕ) (n : NoteState) (k : List Tie) (call : Call) (reply : Reply) → Reads r t → is_poll call ≡ false → Answers of.engine.opening r.who call t.seen reply t.seen
+pub stands_read : {Q O : Type 0} (of : MultiView Q O) (v : KeyView) (r t : ReaderState) (p : ℕ) (n : NoteState) (k : List (List ℕ)) (call : Call) (reply : Reply) → Reads r t → is_poll call ≡ false → Answers of.engine.opening r.who call t.seen reply t.seen
     → Stands (seat_of of v r p n k) (seat_of of v t p n k) call reply
 stands_read of v r t p n k call reply h quiet a =
     stands_at (seat_of of v r p n k) (seat_of of v t p n k) t.seen call reply refl h.who (record { later = h.later; own = h.own }) a h.legal
@@ -308,7 +307,7 @@ seat_sees v r t x s pre own book got =
       but_last = all_confirmed x.core.journal;
     })
 
-pub other_sees : {Q O : Type 0} (of : MultiView Q O) (v : KeyView) (r t : ReaderState) (p : ℕ) (n : NoteState) (k l : List Tie) (x : SharedState Q O) → IsPrefix k l → IsPrefix r.seen x.core.journal → made_by r.who x.core.journal ≡ made_by r.who r.seen → is_legal x.core.journal ≡ true → t ≡ at_end r.who x
+pub other_sees : {Q O : Type 0} (of : MultiView Q O) (v : KeyView) (r t : ReaderState) (p : ℕ) (n : NoteState) (k l : List (List ℕ)) (x : SharedState Q O) → IsPrefix k l → IsPrefix r.seen x.core.journal → made_by r.who x.core.journal ≡ made_by r.who r.seen → is_legal x.core.journal ≡ true → t ≡ at_end r.who x
     → Sees (seat_of of v r p n k) (seat_of of v t p n l)
 other_sees of v r t p n k l x ties pre own legal got =
     let seen : t.seen ≡ x.core.journal = ap (λ (z : ReaderState). z.seen) got in
@@ -338,7 +337,7 @@ pub quiet_mark : (c : Call) (n p : ℕ) → is_poll c ≡ false → p ≡ polled
 quiet_mark c n p quiet = ap (λ b. cond b n p) (sym quiet)
 
 -- a seat whose key put back what it took
-pub received_released : {Q O : Type 0} (v u : KeyView) (r : ReaderState) (of of' : MultiView Q O) (p : ℕ) (n : NoteState) (k : List Tie) → of'.engine ≡ of.engine → IsReceived (seat_of of v r p n k) → IsReceived (seat_of of' u r p n k)
+pub received_released : {Q O : Type 0} (v u : KeyView) (r : ReaderState) (of of' : MultiView Q O) (p : ℕ) (n : NoteState) (k : List (List ℕ)) → of'.engine ≡ of.engine → IsReceived (seat_of of v r p n k) → IsReceived (seat_of of' u r p n k)
 received_released v u r of of' p n k same h =
     (h.0, record { placed = subst (λ (e : Engine). IsPlaced e.opening r.who h.0 r.seen) (sym same) h.1.placed; polled = h.1.polled })
 
@@ -346,31 +345,20 @@ pub claims_from : {Q O : Type 0} (old s t : SeatView Q O) (ticket : Ticket) → 
 claims_from {Q} {O} old s t ticket e h = subst (λ (z : SeatView Q O). ClaimsOnly z t ticket) e h
 
 -- what was told of a list is told of each that goes on
-pub tells_on : (xs ys : List Tie) (o : Option Tie) → IsPrefix xs ys → Tells o xs → Tells o ys
+pub tells_on : (xs ys : List (List ℕ)) (o : Option Tie) → IsPrefix xs ys → Tells o xs → Tells o ys
 tells_on xs ys None p h = tt
-tells_on xs ys (Some x) p h = subst (λ l. Has l x) p.1 (has_more xs p.0 x h)
+tells_on xs ys (Some x) p h = has_more xs ys x.ticket x.origin p h
 
-pub claim_on : (xs ys : List Tie) (t : Ticket) (origin : List ℕ) → IsPrefix xs ys → IsClaimOf xs t origin → IsClaimOf ys t origin
-claim_on xs ys t origin p h = subst (λ l. IsClaimOf l t origin) p.1 (claim_more xs p.0 t origin h)
+same_origin : (xs : List (List ℕ)) (t : Ticket) (a b : List ℕ) → Has xs (tie t a) → Has xs (tie t b) → a ≡ b
+same_origin xs t a b h k = ap (λ (o : Option (List ℕ)). unwrap_or o a) (sym h ∙ k)
 
-pub given_on : {Q : Type 0} (xs ys : List Tie) (r : GiveBackReply Q) (t : Ticket) (origin : List ℕ) → IsPrefix xs ys → TellsGiven r t origin xs → TellsGiven r t origin ys
-given_on xs ys giving.Back t origin p h = subst (λ l. WasGiven l t origin) p.1 (given_more xs p.0 t origin h)
-given_on xs ys (giving.Stale _) t origin p h = tt
-
-same_origin : (xs : List Tie) (what : Tied) (t : Ticket) (a b : List ℕ) → Has xs (tie what t a) → Has xs (tie what t b) → a ≡ b
-same_origin xs what t a b h k = ap (λ (o : Option Tie). (unwrap_or o (tie what t a)).origin) (sym h ∙ k)
-
-pub told_alike : (xs ys : List Tie) → AreOfOneList xs ys → AreToldAlike xs ys
-told_alike xs ys (inl p) what t a b h k = same_origin ys what t a b (tells_on xs ys (Some (tie what t a)) p h) k
-told_alike xs ys (inr p) what t a b h k = same_origin xs what t a b h (tells_on ys xs (Some (tie what t b)) p k)
-
-pub of_its_addition : (xs ys zs : List Tie) → AreToldAlike xs ys → AreToldAlike ys zs → IsOfItsAddition xs ys zs
-of_its_addition xs ys zs p q t added claimed read a (inl c) own e r = sym (q tied.Ended t claimed read e r) ∙ sym (p tied.Added t added claimed a c)
-of_its_addition xs ys zs p q t added claimed read a (inr given) own e r = sym (q tied.Ended t claimed read e r) ∙ own claimed given
+pub told_alike : (xs ys : List (List ℕ)) → AreOfOneList xs ys → AreToldAlike xs ys
+told_alike xs ys (inl p) t a b h k = same_origin ys t a b (has_more xs ys t a p h) k
+told_alike xs ys (inr p) t a b h k = same_origin xs t a b h (has_more ys xs t b p k)
 
 -- 6. A version that was read, with no receipt.
 
-pub sees_version : {Q O : Type 0} (of of' : MultiView Q O) (v : KeyView) (r t : ReaderState) (p : ℕ) (n m : NoteState) (k : List Tie) → of' ≡ of → Reads r t → SeesVersion (seat_of of v r p n k) (seat_of of' v t p m k)
+pub sees_version : {Q O : Type 0} (of of' : MultiView Q O) (v : KeyView) (r t : ReaderState) (p : ℕ) (n m : NoteState) (k : List (List ℕ)) → of' ≡ of → Reads r t → SeesVersion (seat_of of v r p n k) (seat_of of' v t p m k)
 sees_version {Q} {O} of of' v r t p n m k same h = record {
   of = same;
   who = h.who;

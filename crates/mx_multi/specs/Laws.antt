@@ -5,10 +5,7 @@ use Rattle.mx_types.specs.declared.call.Call.{Call}
 use Rattle.mx_types.specs.declared.call.Call.TheVariants as call
 use Rattle.mx_types.specs.declared.call.Receipt.{Receipt}
 use Rattle.mx_journal.specs.History.{is_legal}
-use Rattle.mx_lock.specs.declared.ties.Tied.{Tied}
-use Rattle.mx_lock.specs.declared.ties.Tied.TheVariants as tied
-use Rattle.mx_lock.specs.declared.ties.Tie.{Tie}
-use Rattle.mx_lock.specs.Ties.{tie, Has, WasGiven, IsClaimOf}
+use Rattle.mx_lock.specs.Ties.{tie, Has}
 use Rattle.mx_multi.specs.declared.laws.Step.{Step}
 use Rattle.mx_multi.specs.declared.laws.Step.TheVariants as step
 use Rattle.mx_multi.specs.Seats.{SeatView, Ran}
@@ -36,12 +33,6 @@ pub record Met {Q O : Type 0} (s t : SeatView Q O) : Type 0 where
   pub seen : s.seen ≡ t.seen
   pub legal : is_legal s.seen ≡ true
 
--- for both that were told, each addition and each end of a ticket is of one request
-abbrev pub AreToldAlike : List Tie → List Tie → Type 0
-AreToldAlike xs ys = (what : Tied) (t : Ticket) (a b : List ℕ) → Has xs (tie what t a) → Has ys (tie what t b) → a ≡ b
-
--- A done message is of the request of its ticket's addition: one was told of the addition; a worker claimed the ticket, for which no work of
--- another request was given back, and recorded an ending of its claim's request; one read the message.
-abbrev pub IsOfItsAddition : List Tie → List Tie → List Tie → Type 0
-IsOfItsAddition adder worker reader = (t : Ticket) (added claimed read : List ℕ) → Has adder (tie tied.Added t added) → IsClaimOf worker t claimed → ((o : List ℕ) → WasGiven worker t o → o ≡ added) → Has worker (tie tied.Ended t claimed)
-    → Has reader (tie tied.Ended t read) → read ≡ added
+-- for both that were told, the addition under a ticket is of one request
+abbrev pub AreToldAlike : List (List ℕ) → List (List ℕ) → Type 0
+AreToldAlike xs ys = (t : Ticket) (a b : List ℕ) → Has xs (tie t a) → Has ys (tie t b) → a ≡ b

@@ -23,7 +23,6 @@ use Rattle.mx_board.specs.Progress.{NoteState}
 use Rattle.mx_lock.specs.Shared.{SharedState, Engine, IsLocked, content}
 use Rattle.mx_lock.specs.Lock.{maker, engine_of}
 use Rattle.mx_lock.specs.declared.key_view.KeyView.{KeyView}
-use Rattle.mx_lock.specs.declared.ties.Tie.{Tie}
 
 -- which engine it is: its lock, its journal, what it was opened with, and its progress words
 pub record MultiView (Q O : Type 0) : Type 0 where
@@ -34,7 +33,7 @@ pub record MultiView (Q O : Type 0) : Type 0 where
 
 -- a seat: of which engine it is, which maker, the events that it has seen, how many of these are confirmed by more than a
 -- read, how many they were at its last poll, the tickets that it has claimed, the progress words that it has noted and read, and of
--- which requests additions, work given back and ends are, as it was told under the lock
+-- which requests additions are, as it was told under the lock
 pub record SeatView (Q O : Type 0) : Type 0 where
   pub of : MultiView Q O
   pub who : Who
@@ -43,7 +42,7 @@ pub record SeatView (Q O : Type 0) : Type 0 where
   pub polled : ℕ
   pub claims : List Ticket
   pub words : NoteState
-  pub ties : List Tie
+  pub ties : List (List ℕ)
 
 -- the seat's key is free, and its reader has seen no less than the key, and no event more of its maker
 pub record IsSeat (v : KeyView) (r : ReaderState) : Type 0 where

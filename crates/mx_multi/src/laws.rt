@@ -7,10 +7,10 @@ ghost use Rattle.mx_types.specs.declared.reply.Reply.{Reply};
 ghost use Rattle.mx_journal.specs.Receipts.{IsPlaced};
 ghost use Rattle.mx_multi.specs.Seats.{IsNew, Later, SeatView, Sees, Stands};
 ghost use Rattle.mx_lock.specs.Ties.{AreOfOneList};
-ghost use Rattle.mx_multi.specs.Laws.{call_of, AreToldAlike, IsOfItsAddition, RanScript, Met};
+ghost use Rattle.mx_multi.specs.Laws.{call_of, AreToldAlike, RanScript, Met};
 
 use crate::multi::Multi;
-use crate::seat::{Seat, WorkerSeat};
+use crate::seat::Seat;
 use mx_types::{Ending, HandleId, Work};
 use std::sync::Wait;
 use std::thread::{Threads, join};
@@ -140,29 +140,14 @@ impl<Q: Work + Drop, O: Ending + Drop> Multi<Q, O> {
         let _ = &self.lock;
     }
 
-    /// What two seats were told under the lock are beginnings of one list, whatever each has seen: for both, each addition and each
-    /// end of a ticket is of one request.
+    /// What two seats were told under the lock are beginnings of one list, whatever each has seen: for both, the addition under a
+    /// ticket is of one request.
     pub fn are_told_alike(&self, one: &Seat<Q, O>, two: &Seat<Q, O>)
         requires own { (one.now.of ≡ self.now) × (two.now.of ≡ self.now) }
         ensures list { AreOfOneList one.now.ties two.now.ties }
         ensures alike { AreToldAlike one.now.ties two.now.ties }
     {
         one.ties.are_of_one_list(&two.ties)
-    }
-
-    /// A done message is of the request of its ticket's addition, where the claim that was finished is one that `claim` gave, and
-    /// no work of another request was given back under the ticket.
-    pub fn message_is_of_its_addition(
-        &self,
-        adder: &Seat<Q, O>,
-        worker: &WorkerSeat<Q, O>,
-        reader: &Seat<Q, O>,
-    )
-        requires own { (adder.now.of ≡ self.now) × (worker.now.of ≡ self.now) × (reader.now.of ≡ self.now) }
-        ensures { IsOfItsAddition adder.now.ties worker.now.ties reader.now.ties }
-    {
-        self.are_told_alike(adder, &worker.seat);
-        self.are_told_alike(&worker.seat, reader);
     }
 }
 

@@ -8,16 +8,17 @@ ghost use Rattle.mx_journal.specs.Slots.{slot_of};
 ghost use Rattle.mx_journal.specs.Replies.{IsGivenBack, is_back, handed_back, work_back, IsHandedBack, reply_of_add, reply_of_finish, reply_of_info, reply_of_pause, reply_of_remove, reply_of_wakeup};
 ghost use Rattle.mx_board.specs.Board.{AreOfOneJournal, OneBeginsOther};
 ghost use Rattle.mx_lock.specs.Shared.{SharedState};
-ghost use Rattle.mx_lock.specs.Ties.{IsClaimOf, Tells, TellsGiven, tie_added, tie_finished, tie_read};
+ghost use Rattle.mx_lock.specs.Ties.{AreOfAdditions, Has, Tells, tie, tie_added, tie_read};
 ghost use Rattle.mx_multi.specs.Seats.{Stands, Sees, FoundState, GivesBack, ClaimsLeast, ClaimsNothing, ClaimsOnly};
 
 use crate::seat::{Seat, WorkerSeat};
 use mx_board::{JournalMark, ProgressTable, are_of_one_journal};
 use mx_journal::{
-    AddReply, Claim, FinishReply, GiveBackReply, InfoReply, PauseReply, RemoveReply, WakeupReply,
+    AddReply, FinishReply, GiveBackReply, InfoReply, PauseReply, RemoveReply, WakeupReply,
 };
 use mx_lock::{
-    Addition, Deed, Finishing, Lock, Pausing, Reading, Removal, Shared, TieMark, Unpausing, Waking,
+    Addition, Deed, Finishing, Lock, Pausing, Reading, Removal, Shared, TieMark, TiedClaim,
+    Unpausing, Waking,
 };
 use mx_types::{AddedHandles, Ending, HandleId, Look, State, Ticket, Work};
 use std::marker::Model;
@@ -78,6 +79,7 @@ impl<Q: Work + Drop, O: Ending + Drop> Multi<Q, O> {
     ) -> Result<D::Reply, WrongSeat<D>>
         requires own { seat.old.of ≡ self.now }
         requires state { (x : SharedState Q O) → D.state x ≡ x }
+        requires claim { D.own deed self.now.engine.ties }
         ensures stands { MatchResult result (λ r. Stands seat.old seat.new (D.call deed) (D.reply r)) (λ w. (seat.new ≡ seat.old) × (w.0 ≡ deed)) }
         ensures back { IfOk result (λ r. D.back deed r) }
         ensures tells { IfOk result (λ r. Tells (D.tie deed r) seat.new.ties) }
@@ -168,8 +170,8 @@ impl<Q: Work + Drop, O: Ending + Drop> Multi<Q, O> {
         }
     }
 
-    /// Reads the first message (curl_multi_info_read(3)). The seat is then told that the ticket's end is of the ending's
-    /// request, which is that of the ending that was recorded.
+    /// Reads the first message (curl_multi_info_read(3)). The seat is then told that the addition under its ticket is of the ending's
+    /// request, whoever worked.
     pub fn info_read<R: Wait>(
         &self,
         rt: &R,
@@ -207,14 +209,14 @@ impl<Q: Work + Drop, O: Ending + Drop> Multi<Q, O> {
         &self,
         rt: &R,
         seat: &mut Seat<Q, O>,
-        claim: Claim<Q>,
+        claim: TiedClaim<Q>,
         ending: O,
-    ) -> Result<FinishReply<Q, O>, WrongSeat<(Claim<Q>, O)>>
+    ) -> Result<FinishReply<TiedClaim<Q>, O>, WrongSeat<(TiedClaim<Q>, O)>>
         requires own { seat.old.of ≡ self.now }
+        requires claim { claim.of ≡ self.now.engine.ties }
         requires origin { O.origin ending ≡ claim.origin }
         ensures stands { MatchResult result (λ r. Stands seat.old seat.new (Call.Finish claim.ticket (O.code_of ending) (O.size_of ending)) (reply_of_finish r)) (λ w. (seat.new ≡ seat.old) × (w.0 ≡ (claim, ending))) }
         ensures back { IfOk result (λ r. IsHandedBack claim ending r) }
-        ensures tells { IfOk result (λ r. Tells (tie_finished r claim.ticket (O.origin ending)) seat.new.ties) }
         ensures confirmed { OnOk result (seat.new.confirmed ≡ length seat.new.seen) }
     {
         match self.act(rt, seat, Finishing { claim, ending }) {
@@ -271,13 +273,14 @@ impl<Q: Work + Drop, O: Ending + Drop> Multi<Q, O> {
     }
 
     // Takes the work of the lowest ticket in the queue.
-    pub(crate) fn claim_at<R: Wait>(&self, rt: &R, seat: &mut Seat<Q, O>) -> Option<(Claim<Q>, Q)>
+    pub(crate) fn claim_at<R: Wait>(&self, rt: &R, seat: &mut Seat<Q, O>) -> Option<(TiedClaim<Q>, Q)>
         requires own { seat.old.of ≡ self.now }
         ensures sees { MatchOption result ((seat.new ≡ seat.old) ⊎ Sees seat.old seat.new) (λ r. Sees seat.old seat.new) }
         ensures claims { MatchOption result (seat.new.claims ≡ seat.old.claims) (λ r. ClaimsOnly seat.old seat.new r.0.ticket) }
         ensures runs { IfSome result (λ r. has_ticket r.0.ticket (running seat.new.seen) ≡ true) }
         ensures origin { IfSome result (λ r. r.0.origin ≡ Q.origin r.1) }
-        ensures request { IfSome result (λ r. IsClaimOf seat.new.ties r.0.ticket r.0.origin) }
+        ensures own { IfSome result (λ r. r.0.of ≡ self.now.engine.ties) }
+        ensures request { IfSome result (λ r. Has seat.new.ties (tie r.0.ticket r.0.origin)) }
         ensures handle { IfSome result (λ r. handle_of r.0.ticket seat.new.seen ≡ Some r.0.handle) }
         ensures slot { IfSome result (λ r. slot_of r.0.ticket seat.new.seen ≡ Some r.0.slot) }
         ensures queue { MatchOption result ((seat.new ≡ seat.old) ⊎ ClaimsNothing O.code_of O.size_of seat.new) (λ r. ClaimsLeast O.code_of O.size_of seat.new r.0.ticket r.1) }
@@ -307,6 +310,7 @@ impl<Q: Work + Drop, O: Ending + Drop> Multi<Q, O> {
         requires own { seat.old.of ≡ self.now }
         ensures sees { MatchResult result (λ x. Sees seat.old seat.new) (λ _. seat.new ≡ seat.old) }
         ensures found { IfOk result (λ x. FoundState O.code_of O.size_of seat.new x.value) }
+        ensures tied { IfOk result (λ x. AreOfAdditions Q.origin O.origin x.value.core x.value.ties.ties) }
         ensures claims { seat.new.claims ≡ seat.old.claims }
     {
         let Some(taken) = self.lock.enter(rt, &mut seat.key, &seat.reader) else {
@@ -349,36 +353,36 @@ impl<Q: Work + Drop, O: Ending + Drop> Multi<Q, O> {
         Err(WrongSeat(()))
     }
 
-    /// Records the end of a claimed transfer, by a worker's seat. What isn't recorded comes back. Where it is recorded, the seat is
-    /// then told that the ticket's end is of the ending's request.
+    /// Records the end of a claimed transfer, by a worker's seat, with a claim that this multi handle gave. What isn't recorded comes
+    /// back.
     pub fn finish<R: Wait>(
         &self,
         rt: &R,
         worker: &mut WorkerSeat<Q, O>,
-        claim: Claim<Q>,
+        claim: TiedClaim<Q>,
         ending: O,
-    ) -> Result<FinishReply<Q, O>, WrongSeat<(Claim<Q>, O)>>
+    ) -> Result<FinishReply<TiedClaim<Q>, O>, WrongSeat<(TiedClaim<Q>, O)>>
         requires own { worker.old.of ≡ self.now }
+        requires claim { claim.of ≡ self.now.engine.ties }
         requires origin { O.origin ending ≡ claim.origin }
         ensures stands { MatchResult result (λ r. Stands worker.old worker.new (Call.Finish claim.ticket (O.code_of ending) (O.size_of ending)) (reply_of_finish r)) (λ w. (worker.new ≡ worker.old) × (w.0 ≡ (claim, ending))) }
         ensures back { IfOk result (λ r. IsHandedBack claim ending r) }
-        ensures tells { IfOk result (λ r. Tells (tie_finished r claim.ticket (O.origin ending)) worker.new.ties) }
         ensures confirmed { OnOk result (worker.new.confirmed ≡ length worker.new.seen) }
     {
         self.finish_at(rt, &mut worker.seat, claim, ending)
     }
 
     /// Takes the work of the lowest ticket in the queue, which then runs as this worker's seat has seen; its claim has the
-    /// handle and the slot of that addition, and is of the request of that addition or of work that was given back under that
-    /// ticket. None where the queue is empty, which the seat has then seen too, or where the
-    /// seat isn't one of this multi handle's, and nothing changes.
-    pub fn claim<R: Wait>(&self, rt: &R, worker: &mut WorkerSeat<Q, O>) -> Option<(Claim<Q>, Q)>
+    /// handle and the slot of that addition, and is of its request. None where the queue is empty, which the seat has then seen
+    /// too, or where the seat isn't one of this multi handle's, and nothing changes.
+    pub fn claim<R: Wait>(&self, rt: &R, worker: &mut WorkerSeat<Q, O>) -> Option<(TiedClaim<Q>, Q)>
         requires own { worker.old.of ≡ self.now }
         ensures sees { MatchOption result ((worker.new ≡ worker.old) ⊎ Sees worker.old worker.new) (λ r. Sees worker.old worker.new) }
         ensures claims { MatchOption result (worker.new.claims ≡ worker.old.claims) (λ r. ClaimsOnly worker.old worker.new r.0.ticket) }
         ensures runs { IfSome result (λ r. has_ticket r.0.ticket (running worker.new.seen) ≡ true) }
         ensures origin { IfSome result (λ r. r.0.origin ≡ Q.origin r.1) }
-        ensures request { IfSome result (λ r. IsClaimOf worker.new.ties r.0.ticket r.0.origin) }
+        ensures own { IfSome result (λ r. r.0.of ≡ self.now.engine.ties) }
+        ensures request { IfSome result (λ r. Has worker.new.ties (tie r.0.ticket r.0.origin)) }
         ensures handle { IfSome result (λ r. handle_of r.0.ticket worker.new.seen ≡ Some r.0.handle) }
         ensures slot { IfSome result (λ r. slot_of r.0.ticket worker.new.seen ≡ Some r.0.slot) }
         ensures queue { MatchOption result ((worker.new ≡ worker.old) ⊎ ClaimsNothing O.code_of O.size_of worker.new) (λ r. ClaimsLeast O.code_of O.size_of worker.new r.0.ticket r.1) }
@@ -480,14 +484,14 @@ impl<Q: Work + Drop, O: Ending + Drop> Multi<Q, O> {
         &self,
         rt: &R,
         seat: &mut Seat<Q, O>,
-        claim: Claim<Q>,
+        claim: TiedClaim<Q>,
         work: Q,
-    ) -> Result<GiveBackReply<Q>, WrongSeat<(Claim<Q>, Q)>>
+    ) -> Result<GiveBackReply<Q>, WrongSeat<(TiedClaim<Q>, Q)>>
         requires own { seat.old.of ≡ self.now }
+        requires claim { claim.of ≡ self.now.engine.ties }
         requires origin { Q.origin work ≡ claim.origin }
         ensures sees { MatchResult result (λ r. Sees seat.old seat.new) (λ w. (seat.new ≡ seat.old) × (w.0 ≡ (claim, work))) }
         ensures back { IfOk result (λ r. IsGivenBack work r) }
-        ensures tells { IfOk result (λ r. TellsGiven r claim.ticket claim.origin seat.new.ties) }
         ensures runs { IfOk result (λ r. is_back r ≡ true → has_ticket claim.ticket (running seat.new.seen) ≡ true) }
         ensures queue { IfOk result (λ r. GivesBack O.code_of O.size_of seat.new claim.ticket work r) }
         ensures claims { seat.new.claims ≡ seat.old.claims }
@@ -497,7 +501,7 @@ impl<Q: Work + Drop, O: Ending + Drop> Multi<Q, O> {
         };
         let _known = taken.know();
         let _cut = taken.len();
-        let reply = taken.give_back(rt, claim, work);
+        let reply = taken.give_back(claim, work);
         let _left = taken.know();
         self.lock
             .leave(rt, &mut seat.key, taken, &mut seat.reader, &mut seat.ties);
@@ -510,14 +514,14 @@ impl<Q: Work + Drop, O: Ending + Drop> Multi<Q, O> {
         &self,
         rt: &R,
         worker: &mut WorkerSeat<Q, O>,
-        claim: Claim<Q>,
+        claim: TiedClaim<Q>,
         work: Q,
-    ) -> Result<GiveBackReply<Q>, WrongSeat<(Claim<Q>, Q)>>
+    ) -> Result<GiveBackReply<Q>, WrongSeat<(TiedClaim<Q>, Q)>>
         requires own { worker.old.of ≡ self.now }
+        requires claim { claim.of ≡ self.now.engine.ties }
         requires origin { Q.origin work ≡ claim.origin }
         ensures sees { MatchResult result (λ r. Sees worker.old worker.new) (λ w. (worker.new ≡ worker.old) × (w.0 ≡ (claim, work))) }
         ensures back { IfOk result (λ r. IsGivenBack work r) }
-        ensures tells { IfOk result (λ r. TellsGiven r claim.ticket claim.origin worker.new.ties) }
         ensures runs { IfOk result (λ r. is_back r ≡ true → has_ticket claim.ticket (running worker.new.seen) ≡ true) }
         ensures queue { IfOk result (λ r. GivesBack O.code_of O.size_of worker.new claim.ticket work r) }
         ensures claims { worker.new.claims ≡ worker.old.claims }

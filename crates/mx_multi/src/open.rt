@@ -276,6 +276,13 @@ impl<Q: Work + Drop, O: Ending + Drop> Multi<Q, O> {
         Ok((multi, seats, workers))
     }
 
+    /// The beginning of its list of ties, for contracts alone: it tells which claims are of this multi handle.
+    pub fn first_ties(&self) -> TieMark
+        ensures { result.book ≡ self.now.engine.ties }
+    {
+        self.no_ties.again()
+    }
+
     /// How many idle connections a worker keeps at most.
     pub fn max_connects(&self) -> u8 {
         self.max_connects

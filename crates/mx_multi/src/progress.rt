@@ -6,7 +6,7 @@ ghost use Rattle.mx_multi.specs.Progress.{IsProgress, SaysWord, noted_by};
 use crate::multi::Multi;
 use crate::seat::{Seat, WorkerSeat};
 use mx_board::{Found, NoteSeat, ProgressTable};
-use mx_journal::Claim;
+use mx_lock::TiedClaim;
 use mx_types::{Ending, HandleId, Ticket, Work};
 
 /// How far a handle's transfer is.
@@ -54,7 +54,7 @@ impl<Q: Work + Drop, O: Ending + Drop> Multi<Q, O> {
 
     /// Notes that a claimed transfer has received so many bytes of its response. Where a greater word was noted for its slot,
     /// of a newer ticket or a greater count, that stays. It takes no lock and no memory.
-    pub fn note(&self, worker: &mut WorkerSeat<Q, O>, claim: &Claim<Q>, count: u32)
+    pub fn note(&self, worker: &mut WorkerSeat<Q, O>, claim: &TiedClaim<Q>, count: u32)
         requires own { worker.old.of ≡ self.now }
         ensures { worker.new ≡ noted_by worker.old claim.now.slot claim.now.ticket count }
     {

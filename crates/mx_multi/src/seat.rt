@@ -10,8 +10,8 @@ use std::marker::Model;
 
 /// An application thread's seat: its key to the lock, and what it has seen. Contracts see of which multi handle it is, whose
 /// it is, the events that it has seen and how many of them are confirmed, how many they were at its last poll, the tickets
-/// that it has claimed, the progress words that it has noted and read, and of which requests additions, work given
-/// back and ends are, as it was told under the lock.
+/// that it has claimed, the progress words that that it has claimed, the progress words that it has noted and read, and of which requests additions are, as it was told
+/// under the lock.
 #[derive(Drop)]
 pub struct Seat<Q: Work + Drop, O: Ending + Drop> {
     pub(crate) key: Key<Q, O>,
@@ -20,7 +20,7 @@ pub struct Seat<Q: Work + Drop, O: Ending + Drop> {
     pub(crate) polled: u32,
     /// Its right to the progress words.
     pub(crate) notes: NoteSeat,
-    /// Of which requests additions, work given back and ends are, for contracts alone: it has no size.
+    /// Of which requests additions are, for contracts alone: it has no size.
     pub(crate) ties: TieMark,
 }
 
@@ -67,6 +67,13 @@ impl<Q: Work + Drop, O: Ending + Drop> Model for WorkerSeat<Q, O> {
 }
 
 impl<Q: Work + Drop, O: Ending + Drop> WorkerSeat<Q, O> {
+    /// The worker's seat as a seat, for the laws of seats.
+    pub fn as_seat(&self) -> &Seat<Q, O>
+        ensures { result.now ≡ self.now }
+    {
+        &self.seat
+    }
+
     // Seats for workers.
     pub(crate) fn all(
         alloc: Global,

@@ -2,6 +2,8 @@
 use Rattle.std.proofs.Common.{◌≡◌, ◌∙◌, ℕ, ◌+◌, ◌<◌, Bool, false, List, [], ◌∷◌, ◌++◌, length, get_or, take, drop, ap, sym, append_assoc, add-one, drop-cons}
 use Rattle.std.proofs.lemmas.List.{take_more}
 use Rattle.std.proofs.lemmas.List.Elements.{filter-append}
+use Rattle.std.specs.Prelude.{All}
+use Rattle.std.proofs.lemmas.List.Elements.{All-head, All-push, All-rest, All-same}
 use Rattle.mx_worker.specs.Racks.{started}
 
 drop_more : (xs : List Bool) (i : ℕ) → i < length xs → drop i xs ≡ get_or xs i false ∷ drop (i + 1) xs
@@ -22,3 +24,12 @@ pub rotates_on : (xs : List Bool) (i : ℕ) (held : List Bool) → i < length xs
 rotates_on xs i held lt h none =
     let e : [] ≡ get_or xs i false ∷ (drop (i + 1) xs ++ started (take i xs)) = sym none ∙ h ∙ ap (λ (l : List Bool). l ++ started (take i xs)) (drop_more xs i lt) in
     cc
+
+-- one more that is of the same
+pub all_more : {X B : Type 0} (of : X → B) (b : B) (xs : List X) (x : X) → All (λ y. of y ≡ b) xs → of x ≡ b → All (λ y. of y ≡ b) (xs ++ x ∷ [])
+all_more of b xs x all is = All-push (λ y. of y ≡ b) xs x all is
+
+-- the first, and the rest
+pub all_rest : {X B : Type 0} (of : X → B) (b : B) (old rest : List X) (x : X) → All (λ y. of y ≡ b) old → old ≡ x ∷ rest → (of x ≡ b) × All (λ y. of y ≡ b) rest
+all_rest of b old rest x all is =
+    (All-head (λ y. of y ≡ b) x rest (All-same (λ y. of y ≡ b) (x ∷ rest) old (sym is) all), All-rest (λ y. of y ≡ b) x rest old is all)

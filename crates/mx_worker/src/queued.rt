@@ -1,9 +1,10 @@
 //! The work of a multi handle with workers, and what a worker has of it.
 ghost use Rattle.std.specs.Prelude.{◌≡◌, None, Bool, false};
+ghost use Rattle.logbook.specs.Pages.{Book};
 
 use mx_exchange::{Outcome, Transfer};
-use mx_journal::Claim;
 use mx_link::Link;
+use mx_lock::TiedClaim;
 use mx_request::Request;
 use mx_types::{Ticket, Work};
 use std::alloc::Global;
@@ -13,6 +14,12 @@ use std::marker::Model;
 pub(crate) trait Start {
     /// Whether it has started, for contracts alone.
     ghost is_started: { Self → Bool };
+}
+
+/// What has a claim.
+pub(crate) trait Tied {
+    /// Which list of ties has the tie of its claim's addition, for contracts alone.
+    ghost of: { Self → Book };
 }
 
 /// A transfer that has not ended, as it waits for a worker. Contracts see the transfer.
@@ -76,7 +83,7 @@ impl<L: Link> Queued<L> {
 /// A claim and its transfer, which are of one request. The transfer has not ended.
 #[derive(Drop)]
 pub(crate) struct Held<L: Link> {
-    pub claim: Claim<Queued<L>>,
+    pub claim: TiedClaim<Queued<L>>,
     pub transfer: Transfer<L>,
     pub ghost running: { transfer.code ≡ None },
     pub ghost of_one: { transfer.request.bytes ≡ claim.origin },
@@ -84,6 +91,10 @@ pub(crate) struct Held<L: Link> {
 
 impl<L: Link> Start for Held<L> {
     ghost is_started = { λ h. h.transfer.is_started };
+}
+
+impl<L: Link> Tied for Held<L> {
+    ghost of = { λ h. h.claim.of };
 }
 
 impl<L: Link> Held<L> {
@@ -97,7 +108,11 @@ impl<L: Link> Held<L> {
 /// A claim and the outcome that ends it, which are of one request.
 #[derive(Drop)]
 pub(crate) struct Finished<L: Link> {
-    pub claim: Claim<Queued<L>>,
+    pub claim: TiedClaim<Queued<L>>,
     pub outcome: Outcome,
     pub ghost of_one: { outcome.request.bytes ≡ claim.origin },
+}
+
+impl<L: Link> Tied for Finished<L> {
+    ghost of = { λ f. f.claim.of };
 }

@@ -1,7 +1,8 @@
 //! What a worker has in hand.
-ghost use Rattle.std.specs.Prelude.{◌≡◌, ◌+◌, ◌<◌, ◌≤◌, ◌↔◌, ◌∷◌, ◌++◌, [], length, IsTrue, IfOk, MatchOption};
+ghost use Rattle.std.specs.Prelude.{◌≡◌, ◌+◌, ◌<◌, ◌≤◌, ◌↔◌, ◌∷◌, ◌++◌, [], length, IsTrue, IfOk, IfSome, MatchOption};
 
-use crate::queued::Start;
+use crate::queued::{Start, Tied};
+use mx_lock::TieMark;
 use mx_types::OutOfMemory;
 use std::alloc::Global;
 use std::collections::VecDeque;
@@ -11,34 +12,37 @@ use std::marker::Model;
 const MOST_HELD: usize = 64;
 
 /// The transfers that a worker holds, in order of claim, and the ends that found no memory. They are at most 64 together, and there is
-/// room for as many. Contracts see which of the transfers have started, and how many ends there are. It knows of neither what it is, so
-/// that no goal of its calls has to look into a transfer.
+/// room for as many. All are of one multi handle. Contracts see which of the transfers have started, how many ends there are, and of which
+/// list of ties they are. It knows of neither what it is, so that no goal of its calls has to look into a transfer.
 #[derive(Drop)]
-pub(crate) struct Rack<H: Start + Drop, F: Drop> {
+pub(crate) struct Rack<H: Start + Tied + Drop, F: Tied + Drop> {
+    /// For contracts alone: it has no size.
+    of: TieMark,
     held: VecDeque<H>,
     unrecorded: VecDeque<F>,
 }
 
-impl<H: Start + Drop, F: Drop> Model for Rack<H, F> {
-    ghost use Rattle.std.specs.Prelude.{◌+◌, ◌≤◌, map};
+impl<H: Start + Tied + Drop, F: Tied + Drop> Model for Rack<H, F> {
+    ghost use Rattle.std.specs.Prelude.{◌≡◌, ◌+◌, ◌≤◌, map, All};
     ghost use Rattle.std.specs.VecDeque.{deque_len, deque_capacity};
     ghost use Rattle.mx_worker.specs.Racks.{RackView};
 
     ghost Value = { RackView };
 
-    ghost view = { λ r. record { held = map H.is_started r.held.items; unrecorded = deque_len r.unrecorded } };
+    ghost view = { λ r. record { held = map H.is_started r.held.items; unrecorded = deque_len r.unrecorded; of = r.of.book } };
 
-    ghost invariant = { λ r. (deque_len r.held + deque_len r.unrecorded ≤ 64) × (64 ≤ deque_capacity r.held) × (64 ≤ deque_capacity r.unrecorded) };
+    ghost invariant = { λ r. (deque_len r.held + deque_len r.unrecorded ≤ 64) × (64 ≤ deque_capacity r.held) × (64 ≤ deque_capacity r.unrecorded) × All (λ h. H.of h ≡ r.of.book) r.held.items × All (λ f. F.of f ≡ r.of.book) r.unrecorded.items };
 }
 
-impl<H: Start + Drop, F: Drop> Rack<H, F> {
+impl<H: Start + Tied + Drop, F: Tied + Drop> Rack<H, F> {
     ghost use Rattle.mx_worker.specs.Racks.{in_hand};
 
     /// Nothing in hand, and room for 64.
-    pub fn new(alloc: Global) -> Result<Rack<H, F>, OutOfMemory>
-        ensures { IfOk result (λ rack. rack ≡ record { held = []; unrecorded = 0 }) }
+    pub fn new(alloc: Global, of: TieMark) -> Result<Rack<H, F>, OutOfMemory>
+        ensures { IfOk result (λ rack. rack ≡ record { held = []; unrecorded = 0; of = of.book }) }
     {
         Ok(Rack {
+            of,
             held: VecDeque::with_capacity(alloc, MOST_HELD)?,
             unrecorded: VecDeque::with_capacity(alloc, MOST_HELD)?,
         })
@@ -72,17 +76,22 @@ impl<H: Start + Drop, F: Drop> Rack<H, F> {
     }
 
     /// Puts a transfer behind the others.
+    #[tactic(auto, using(crate::proofs::Racks::all_more))]
     pub fn hold(&mut self, held: H)
         requires room { in_hand self.old < 64 }
+        requires of { H.of held ≡ self.old.of }
         ensures { self.new ≡ record self.old { held = self.old.held ++ H.is_started held ∷ [] } }
     {
         self.held.push_back_reserved(held);
     }
 
     /// Takes the transfer that stands first.
+    #[tactic(auto, using(crate::proofs::Racks::all_rest))]
     pub fn next(&mut self) -> Option<H>
         ensures taken { MatchOption result ((self.old.held ≡ []) × (self.new ≡ self.old)) (λ h. self.old.held ≡ H.is_started h ∷ self.new.held) }
         ensures rest { self.new.unrecorded ≡ self.old.unrecorded }
+        ensures same { self.new.of ≡ self.old.of }
+        ensures of { IfSome result (λ h. H.of h ≡ self.old.of) }
         ensures room { MatchOption result (in_hand self.new ≤ 64) (λ _. in_hand self.new < 64) }
     {
         let Some(held) = self.held.pop_front() else {
@@ -92,17 +101,22 @@ impl<H: Start + Drop, F: Drop> Rack<H, F> {
     }
 
     /// Puts an end that found no memory behind the others.
+    #[tactic(auto, using(crate::proofs::Racks::all_more))]
     pub fn set_aside(&mut self, finished: F)
         requires room { in_hand self.old < 64 }
+        requires of { F.of finished ≡ self.old.of }
         ensures { self.new ≡ record self.old { unrecorded = self.old.unrecorded + 1 } }
     {
         self.unrecorded.push_back_reserved(finished);
     }
 
     /// Takes the end that stands first.
+    #[tactic(auto, using(crate::proofs::Racks::all_rest))]
     pub fn next_unrecorded(&mut self) -> Option<F>
         ensures taken { MatchOption result ((self.old.unrecorded ≡ 0) × (self.new ≡ self.old)) (λ _. self.new.unrecorded + 1 ≡ self.old.unrecorded) }
         ensures rest { self.new.held ≡ self.old.held }
+        ensures same { self.new.of ≡ self.old.of }
+        ensures of { IfSome result (λ f. F.of f ≡ self.old.of) }
         ensures room { MatchOption result (in_hand self.new ≤ 64) (λ _. in_hand self.new < 64) }
     {
         let Some(finished) = self.unrecorded.pop_front() else {

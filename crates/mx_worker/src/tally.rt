@@ -5,7 +5,8 @@ ghost use Rattle.mx_multi.specs.Progress.{noted_by};
 ghost use Rattle.mx_worker.specs.Work.{Worked, Lacks};
 
 use crate::queued::Start;
-use mx_journal::{Claim, FinishReply, GiveBackReply};
+use mx_journal::{FinishReply, GiveBackReply};
+use mx_lock::TiedClaim;
 use mx_multi::{Multi, WorkerSeat};
 use mx_types::{Ending, Look, Ticket, Work};
 use std::marker::Model;
@@ -47,10 +48,11 @@ impl<Q: Work + Start + Drop, O: Ending + Drop> Tally<Q, O> {
 
     /// Takes work out of the queue, if there is some.
     #[tactic(auto, using(crate::proofs::Tallies::worked_sees))]
-    pub fn claim<R: Wait>(&mut self, rt: &R, multi: &Multi<Q, O>) -> Option<(Claim<Q>, Q)>
+    pub fn claim<R: Wait>(&mut self, rt: &R, multi: &Multi<Q, O>) -> Option<(TiedClaim<Q>, Q)>
         requires own { self.old.start.of ≡ multi.now }
         ensures start { self.new.start ≡ self.old.start }
         ensures origin { IfSome result (λ r. Q.origin r.1 ≡ r.0.origin) }
+        ensures claim { IfSome result (λ r. r.0.of ≡ multi.now.engine.ties) }
     {
         let Some((claim, work)) = multi.claim(rt, &mut self.seat) else {
             return None;
@@ -72,7 +74,7 @@ impl<Q: Work + Start + Drop, O: Ending + Drop> Tally<Q, O> {
 
     /// Notes how many bytes of its response a claimed transfer has received.
     #[tactic(auto, using(crate::proofs::Tallies::worked_notes))]
-    pub fn note(&mut self, multi: &Multi<Q, O>, claim: &Claim<Q>, count: u32)
+    pub fn note(&mut self, multi: &Multi<Q, O>, claim: &TiedClaim<Q>, count: u32)
         requires own { self.old.start.of ≡ multi.now }
         ensures start { self.new.start ≡ self.old.start }
         ensures noted { self.new.seat ≡ noted_by self.old.seat claim.now.slot claim.now.ticket count }
@@ -86,10 +88,11 @@ impl<Q: Work + Start + Drop, O: Ending + Drop> Tally<Q, O> {
         &mut self,
         rt: &R,
         multi: &Multi<Q, O>,
-        claim: Claim<Q>,
+        claim: TiedClaim<Q>,
         work: Q,
     ) -> bool
         requires own { self.old.start.of ≡ multi.now }
+        requires claim { claim.of ≡ multi.now.engine.ties }
         requires origin { Q.origin work ≡ claim.origin }
         requires unstarted { Q.is_started work ≡ false }
         ensures start { self.new.start ≡ self.old.start }
@@ -107,10 +110,11 @@ impl<Q: Work + Start + Drop, O: Ending + Drop> Tally<Q, O> {
         &mut self,
         rt: &R,
         multi: &Multi<Q, O>,
-        claim: Claim<Q>,
+        claim: TiedClaim<Q>,
         ending: O,
-    ) -> Option<(Claim<Q>, O)>
+    ) -> Option<(TiedClaim<Q>, O)>
         requires own { self.old.start.of ≡ multi.now }
+        requires claim { claim.of ≡ multi.now.engine.ties }
         requires origin { O.origin ending ≡ claim.origin }
         ensures start { self.new.start ≡ self.old.start }
         ensures lacking { IfSome result (λ r. Lacks self.old.seat self.new.seat r.0.ticket) }

@@ -1,5 +1,5 @@
 //! The loop of a worker.
-ghost use Rattle.std.specs.Prelude.{◌≡◌, ◌<◌, ◌∷◌, ◌++◌, [], None, true, false};
+ghost use Rattle.std.specs.Prelude.{◌≡◌, ◌<◌, ◌∷◌, ◌++◌, [], None, true, false, IfSome};
 ghost use Rattle.futures.specs.Poll.{IfReady, OnPending};
 ghost use Rattle.mx_worker.specs.Work.{Worked};
 ghost use Rattle.mx_worker.specs.Racks.{in_hand, started};
@@ -57,16 +57,19 @@ struct Worker<L: Link> {
     is_stopping: bool,
     // A transfer that isn't paused asked to be polled again at once.
     asks: bool,
+    ghost own: { rack.of ≡ tally.start.of.engine.ties },
 }
 
 fn make_tools<L: Link, R: RandomSource + AllocGlobal>(
     rt: &R,
-    max_connects: u8,
-) -> Option<Tools<L>> {
-    let Ok(rack) = Rack::new(rt.alloc()) else {
+    multi: &Multi<Queued<L>, Outcome>,
+) -> Option<Tools<L>>
+    ensures { IfSome result (λ t. t.rack.of ≡ multi.now.engine.ties) }
+{
+    let Ok(rack) = Rack::new(rt.alloc(), multi.first_ties()) else {
         return None;
     };
-    let Ok(links) = Links::new(rt.alloc(), max_connects) else {
+    let Ok(links) = Links::new(rt.alloc(), multi.max_connects()) else {
         return None;
     };
     let Ok(solo) = Solo::new(rt, Doorbell::spinning()) else {
@@ -126,6 +129,7 @@ fn set_deadline(deadlines: &mut Deadlines, ticket: Ticket, deadline: Option<u64>
 
 impl<L: Link> Worker<L> {
     fn new(tools: Tools<L>, seat: WorkerSeat<Queued<L>, Outcome>) -> Worker<L>
+        requires own { tools.rack.of ≡ seat.of.engine.ties }
         ensures { result.tally.start ≡ seat }
     {
         let Tools { rack, links, solo } = tools;
@@ -179,6 +183,7 @@ impl<L: Link> Worker<L> {
     fn record<R: Wait>(&mut self, rt: &R, multi: &Multi<Queued<L>, Outcome>, finished: Finished<L>)
         requires own { self.old.tally.start.of ≡ multi.now }
         requires room { in_hand self.old.rack < 64 }
+        requires claim { finished.claim.of ≡ multi.now.engine.ties }
         ensures start { self.new.tally.start ≡ self.old.tally.start }
     {
         let Finished { claim, outcome } = finished;
@@ -210,6 +215,7 @@ impl<L: Link> Worker<L> {
     )
         requires own { self.old.tally.start.of ≡ multi.now }
         requires room { in_hand self.old.rack < 64 }
+        requires claim { finished.claim.of ≡ multi.now.engine.ties }
         ensures start { self.new.tally.start ≡ self.old.tally.start }
     {
         self.deadlines.clear(finished.claim.ticket());
@@ -220,6 +226,7 @@ impl<L: Link> Worker<L> {
     // Puts a transfer back among those that it holds, after a poll that didn't end it.
     fn resume(&mut self, held: Held<L>, is_paused: bool, had_deadline: bool)
         requires room { in_hand self.old.rack < 64 }
+        requires claim { held.claim.of ≡ self.old.rack.of }
         ensures start { self.new.tally.start ≡ self.old.tally.start }
     {
         if !is_paused && has_asked(&self.solo) {
@@ -243,6 +250,7 @@ impl<L: Link> Worker<L> {
     )
         requires own { self.old.tally.start.of ≡ multi.now }
         requires room { in_hand self.old.rack < 64 }
+        requires claim { held.claim.of ≡ multi.now.engine.ties }
         ensures start { self.new.tally.start ≡ self.old.tally.start }
     {
         let Held {
@@ -275,6 +283,7 @@ impl<L: Link> Worker<L> {
     )
         requires own { self.old.tally.start.of ≡ multi.now }
         requires room { in_hand self.old.rack < 64 }
+        requires claim { held.claim.of ≡ multi.now.engine.ties }
         ensures start { self.new.tally.start ≡ self.old.tally.start }
     {
         let ticket = held.ticket();
@@ -315,6 +324,7 @@ impl<L: Link> Worker<L> {
     fn hand_back<R: Wait>(&mut self, rt: &R, multi: &Multi<Queued<L>, Outcome>, held: Held<L>)
         requires own { self.old.tally.start.of ≡ multi.now }
         requires room { in_hand self.old.rack < 64 }
+        requires claim { held.claim.of ≡ multi.now.engine.ties }
         ensures start { self.new.tally.start ≡ self.old.tally.start }
         ensures held { self.new.rack.held ≡ self.old.rack.held ++ started (held.transfer.is_started ∷ []) }
         ensures stopping { self.new.is_stopping ≡ self.old.is_stopping }
@@ -400,7 +410,7 @@ pub fn run_worker<L: Link, R: Wait + RandomSource + AllocGlobal, G: Gate<Link = 
     ensures ran { Worked seat result.seat result.recorded result.stale }
     ensures refused { result.refused ≡ true → result.seat ≡ seat }
 {
-    let Some(tools) = make_tools(rt, multi.max_connects()) else {
+    let Some(tools) = make_tools(rt, multi) else {
         return WorkerEnd {
             seat,
             recorded: 0,

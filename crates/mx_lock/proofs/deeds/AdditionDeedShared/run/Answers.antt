@@ -1,15 +1,13 @@
-use Rattle.std.proofs.Common.{◌≡◌, ◌∙◌, ap, List, ◌++◌, subst, sym}
-use Rattle.std.specs.Option.{option_to_list}
+use Rattle.std.proofs.Common.{◌≡◌, ◌∙◌, ℕ, ap, List, subst, sym}
 use Rattle.mx_types.specs.declared.call.Call.TheVariants as call
 use Rattle.mx_types.specs.declared.names.Ticket.{Ticket}
 use Rattle.mx_journal.specs.Core.{claimed}
-use Rattle.mx_journal.specs.Replies.{reply_of_add}
+use Rattle.mx_journal.specs.Replies.{origins_added, reply_of_add}
 use Rattle.mx_lock.specs.Shared.{HasNoOther, SharedState}
-use Rattle.mx_lock.specs.declared.ties.Tie.{Tie}
 use Rattle.mx_lock.specs.Ties.{IsTied, Tells, tie_added}
 use Rattle.mx_lock.proofs.Claims.{claims_added}
 use Rattle.mx_lock.proofs.Leaving.{log_is, leaves_by}
-use Rattle.mx_lock.proofs.Tying.{tied_added}
+use Rattle.mx_lock.proofs.Tying.{tied_added, added_tells}
 use Rattle.mx_lock.proofs.deeds.AdditionDeedShared.run.Goals as goal
 
 pub publish-requires : goal.publish-requires
@@ -20,11 +18,11 @@ publish-requires g c =
     let answer = reply_of_add c.add-reply.result in
     let other : HasNoOther (claimed x.journal x.queue) (claimed y.journal y.queue) =
     subst (λ (q : List (Ticket × g.row.Q.Denot)). HasNoOther (claimed x.journal x.queue) (claimed y.journal q)) (sym e.queue) (claims_added x.opening _ _ x.journal c.add-reply.result y.journal x.queue c.args.self.work e.answers) in
-    let ties : c.tie_addition.new.self.ties ≡ c.engine.inside.ties.ties ++ option_to_list (tie_added c.add-reply.result (g.Q.Work.origin c.args.self.work)) =
-    c.tie_addition.ensures.ties ∙ ap (λ (w : g.row.Q.Denot). c.engine.inside.ties.ties ++ option_to_list (tie_added c.add-reply.result (g.Q.Work.origin w))) c.of-added.ensures in (
+    let ties : c.tie_addition.new.self.ties ≡ origins_added c.add-reply.result c.engine.inside.ties.ties (g.Q.Work.origin c.args.self.work) =
+    c.tie_addition.ensures.ties ∙ ap (λ (w : g.row.Q.Denot). origins_added c.add-reply.result c.engine.inside.ties.ties (g.Q.Work.origin w)) c.of-added.ensures in (
       log_is x.opening _ (call.Add _) answer x.journal y.journal c.engine.inside.board.events c.add-reply.new.log.events e.answers c.engine.invariant.0 e.logged,
-      subst (λ (l : List Tie). IsTied g.Q.Work.origin g.O.Ending.origin y l) (sym ties)
-          (tied_added g.Q.Work.origin g.O.Ending.origin x.opening _ _ c.add-reply.result x y c.engine.inside.ties.ties c.args.self.work c.engine.invariant.2 e.answers e.queue e.endings).0,
+      subst (λ (l : List (List ℕ)). IsTied g.O.Ending.origin y l) (sym ties)
+          (tied_added g.O.Ending.origin x y c.engine.inside.ties.ties c.add-reply.result (g.Q.Work.origin c.args.self.work) c.engine.invariant.2 e.origins e.own),
     )
 
 pub returns-clause-leaves : goal.returns-clause-leaves
@@ -43,7 +41,7 @@ returns-clause-tells g c =
     let y = c.add-reply.new.self in
     let other : HasNoOther (claimed x.journal x.queue) (claimed y.journal y.queue) =
     subst (λ (q : List (Ticket × g.row.Q.Denot)). HasNoOther (claimed x.journal x.queue) (claimed y.journal q)) (sym e.queue) (claims_added x.opening _ _ x.journal c.add-reply.result y.journal x.queue c.args.self.work e.answers) in
-    let ties : c.tie_addition.new.self.ties ≡ c.engine.inside.ties.ties ++ option_to_list (tie_added c.add-reply.result (g.Q.Work.origin c.args.self.work)) =
-    c.tie_addition.ensures.ties ∙ ap (λ (w : g.row.Q.Denot). c.engine.inside.ties.ties ++ option_to_list (tie_added c.add-reply.result (g.Q.Work.origin w))) c.of-added.ensures in
+    let ties : c.tie_addition.new.self.ties ≡ origins_added c.add-reply.result c.engine.inside.ties.ties (g.Q.Work.origin c.args.self.work) =
+    c.tie_addition.ensures.ties ∙ ap (λ (w : g.row.Q.Denot). origins_added c.add-reply.result c.engine.inside.ties.ties (g.Q.Work.origin w)) c.of-added.ensures in
     subst (Tells (tie_added c.add-reply.result (g.Q.Work.origin c.args.self.work))) (sym (ap (λ (z : SharedState g.row.Q.Denot g.row.O.Denot). z.ties.ties) c.publish.ensures.is ∙ ties))
-    (tied_added g.Q.Work.origin g.O.Ending.origin x.opening _ _ c.add-reply.result x y c.engine.inside.ties.ties c.args.self.work c.engine.invariant.2 e.answers e.queue e.endings).1
+    (added_tells g.O.Ending.origin x.opening _ _ x y.journal c.engine.inside.ties.ties c.add-reply.result (g.Q.Work.origin c.args.self.work) c.engine.invariant.2 c.sound.ensures.origins.0 e.answers)

@@ -1,31 +1,27 @@
-use Rattle.std.proofs.Common.{◌≡◌, ◌∙◌, ap, refl, List, ◌++◌, subst, sym}
-use Rattle.std.specs.Option.{option_to_list}
+use Rattle.std.proofs.Common.{◌≡◌, ◌∙◌, ap, refl, subst, sym}
 use Rattle.mx_types.specs.declared.call.Call.TheVariants as call
 use Rattle.mx_journal.specs.Replies.{reply_of_finish}
-use Rattle.mx_lock.specs.Shared.{SharedState}
-use Rattle.mx_lock.specs.declared.ties.Tie.{Tie}
-use Rattle.mx_lock.specs.Ties.{IsTied, Tells, tie_finished}
+use Rattle.mx_lock.specs.Shared.{Leaves}
+use Rattle.mx_lock.specs.Ties.{AreOfOneList, TieState}
 use Rattle.mx_lock.proofs.Claims.{claims_running}
 use Rattle.mx_lock.proofs.Leaving.{log_is, leaves_by}
 use Rattle.mx_lock.proofs.Tying.{tied_finished}
 use Rattle.mx_lock.proofs.deeds.FinishingDeedShared.run.Goals as goal
 
-pub publish-requires : goal.publish-requires
-publish-requires g c =
+pub publish-shared-requires : goal.publish-shared-requires
+publish-shared-requires g c =
     let e = c.finish-reply.ensures in
     let x = c.engine.inside.control in
     let y = c.finish-reply.new.self in
-    let d = c.args.self in
-    let code = g.O.Ending.code_of d.ending in
-    let size = g.O.Ending.size_of d.ending in
-    let call = call.Finish d.claim.ticket code size in
+    let code = g.O.Ending.code_of c.args.self.ending in
+    let size = g.O.Ending.size_of c.args.self.ending in
+    let claim = c.into_parts-claim.result.0 in
+    let marked = c.into_parts-claim.result.1.ties in
     let answer = reply_of_finish c.finish-reply.result in
-    let other = claims_running x.opening c.args.who call x.journal answer y.journal x.queue y.queue e.answers refl e.queue in
-    let ties : c.tie_end.new.self.ties ≡ c.engine.inside.ties.ties ++ option_to_list (tie_finished c.finish-reply.result d.claim.ticket (g.O.Ending.origin d.ending)) =
-    c.tie_end.ensures.ties ∙ (λ i. c.engine.inside.ties.ties ++ option_to_list (tie_finished c.finish-reply.result (c.ticket-ticket.ensures i) (g.O.Ending.origin (c.of-ended.ensures i)))) in
-    let tied = tied_finished g.Q.Work.origin g.O.Ending.origin x.opening c.args.who d.claim.ticket code size c.finish-reply.result x y c.engine.inside.ties.ties d.ending c.engine.invariant.2 e.answers e.queue e.endings in (
-      log_is x.opening c.args.who call answer x.journal y.journal c.engine.inside.board.events c.finish-reply.new.log.events e.answers c.engine.invariant.0 e.logged,
-      subst (λ (l : List Tie). IsTied g.Q.Work.origin g.O.Ending.origin y l) (sym ties) tied.0,
+    let one : AreOfOneList c.engine.inside.ties.ties marked = subst (λ (s : TieState). AreOfOneList s.ties marked) c.mark-all.ensures c.are_of_one_list.ensures in (
+      log_is x.opening c.args.who (call.Finish claim.ticket code size) answer x.journal y.journal c.engine.inside.board.events c.finish-reply.new.log.events e.answers c.engine.invariant.0 e.logged,
+      tied_finished g.O.Ending.origin x.opening c.args.who claim.ticket code size c.finish-reply.result x y c.engine.inside.ties.ties marked claim.origin c.engine.invariant.2 c.sound.ensures.sound.kept.legal c.sound.ensures.origins.0
+          one c.into_parts-claim.ensures.known e.answers e.origins e.unchanged e.own,
     )
 
 pub returns-clause-leaves : goal.returns-clause-leaves
@@ -36,24 +32,11 @@ returns-clause-leaves g c =
     let d = c.args.self in
     let code = g.O.Ending.code_of d.ending in
     let size = g.O.Ending.size_of d.ending in
-    let call = call.Finish d.claim.ticket code size in
+    let claim = c.into_parts-claim.result.0 in
+    let made = call.Finish claim.ticket code size in
     let answer = reply_of_finish c.finish-reply.result in
-    let other = claims_running x.opening c.args.who call x.journal answer y.journal x.queue y.queue e.answers refl e.queue in
-    let p = c.publish.ensures in
-    leaves_by c.args.who call answer c.args.engine c.publish.result x y c.engine.inside.board.book c.finish-reply.new.log.book _ _ _ _ c.engine.view_is p.is e.answers e.opening e.same_log c.tie_end.ensures.book p.legal other
-
-pub returns-clause-tells : goal.returns-clause-tells
-returns-clause-tells g c =
-    let e = c.finish-reply.ensures in
-    let x = c.engine.inside.control in
-    let y = c.finish-reply.new.self in
-    let d = c.args.self in
-    let code = g.O.Ending.code_of d.ending in
-    let size = g.O.Ending.size_of d.ending in
-    let call = call.Finish d.claim.ticket code size in
-    let answer = reply_of_finish c.finish-reply.result in
-    let other = claims_running x.opening c.args.who call x.journal answer y.journal x.queue y.queue e.answers refl e.queue in
-    let ties : c.tie_end.new.self.ties ≡ c.engine.inside.ties.ties ++ option_to_list (tie_finished c.finish-reply.result d.claim.ticket (g.O.Ending.origin d.ending)) =
-    c.tie_end.ensures.ties ∙ (λ i. c.engine.inside.ties.ties ++ option_to_list (tie_finished c.finish-reply.result (c.ticket-ticket.ensures i) (g.O.Ending.origin (c.of-ended.ensures i)))) in
-    let tied = tied_finished g.Q.Work.origin g.O.Ending.origin x.opening c.args.who d.claim.ticket code size c.finish-reply.result x y c.engine.inside.ties.ties d.ending c.engine.invariant.2 e.answers e.queue e.endings in
-    subst (Tells (tie_finished c.finish-reply.result d.claim.ticket (g.O.Ending.origin d.ending))) (sym (ap (λ (z : SharedState g.row.Q.Denot g.row.O.Denot). z.ties.ties) c.publish.ensures.is ∙ ties)) tied.1
+    let other = claims_running x.opening c.args.who made x.journal answer y.journal x.queue y.queue e.answers refl e.queue in
+    let p = c.publish-shared.ensures in
+    subst (λ r. Leaves c.args.who (call.Finish d.claim.ticket code size) c.args.engine r c.publish-shared.result) (sym c.tied_again.ensures.same)
+    (subst (λ t. Leaves c.args.who (call.Finish t code size) c.args.engine answer c.publish-shared.result) c.into_parts-claim.ensures.ticket
+    (leaves_by c.args.who made answer c.args.engine c.publish-shared.result x y c.engine.inside.board.book c.finish-reply.new.log.book _ _ _ _ c.engine.view_is p.is e.answers e.opening e.same_log refl p.legal other))

@@ -3,7 +3,7 @@ use Rattle.mx_types.specs.declared.call.Call.TheVariants as call
 use Rattle.mx_journal.specs.Replies.{reply_of_remove}
 use Rattle.mx_lock.proofs.Claims.{claims_running}
 use Rattle.mx_lock.proofs.Leaving.{log_is, leaves_by}
-use Rattle.mx_lock.proofs.Tying.{tied_removed}
+use Rattle.mx_lock.proofs.Tying.{tied_on}
 use Rattle.mx_lock.proofs.deeds.RemovalDeedShared.run.Goals as goal
 
 pub publish-requires : goal.publish-requires
@@ -14,7 +14,7 @@ publish-requires g c =
     let answer = reply_of_remove c.remove-reply.result in
     let other = claims_running x.opening c.args.who (call.Remove c.args.self.0) x.journal answer y.journal x.queue y.queue e.answers refl e.queue in (
       log_is x.opening c.args.who (call.Remove c.args.self.0) answer x.journal y.journal c.engine.inside.board.events c.remove-reply.new.log.events e.answers c.engine.invariant.0 e.logged,
-      tied_removed g.Q.Work.origin g.O.Ending.origin x.opening c.args.who (call.Remove c.args.self.0) answer x y c.engine.inside.ties.ties c.engine.invariant.2 e.answers e.queue e.endings,
+      tied_on g.O.Ending.origin x y c.engine.inside.ties.ties c.engine.invariant.2 e.origins e.own,
     )
 
 pub returns-clause-leaves : goal.returns-clause-leaves

@@ -1,5 +1,5 @@
 use Rattle.std.proofs.Common.{◌∙◌, sym}
-use Rattle.mx_lock.proofs.Tying.{tied_taken}
+use Rattle.mx_lock.proofs.Tying.{tied_same}
 use Rattle.mx_lock.proofs.shared.Shared.claim.Goals as goal
 
 pub invariant_of-self : goal.invariant_of-self
@@ -7,10 +7,5 @@ invariant_of-self g c =
     let e = c.claim.ensures in (
       c.self.invariant.0 ∙ sym e.journal,
       c.self.invariant.1 ∙ sym e.journal,
-      (tied_taken g.Q.Work.origin g.O.Ending.origin c.self.inside.control c.claim.new.self c.self.inside.ties.ties c.claim.result c.self.invariant.2 e.journal e.endings e.none e.some e.origin).0,
+      tied_same g.O.Ending.origin c.self.inside.control c.claim.new.self c.self.inside.ties.ties c.self.invariant.2 e.origins e.endings,
     )
-
-pub returns-clause-request : goal.returns-clause-request
-returns-clause-request g c =
-    let e = c.claim.ensures in
-    (tied_taken g.Q.Work.origin g.O.Ending.origin c.self.inside.control c.claim.new.self c.self.inside.ties.ties c.claim.result c.self.invariant.2 e.journal e.endings e.none e.some e.origin).1

@@ -1,8 +1,8 @@
-use Rattle.std.proofs.Common.{◌∙◌, ap, sym, refl}
+use Rattle.std.proofs.Common.{◌∙◌, ap, subst, sym, refl}
 use Rattle.std.proofs.lemmas.Bool.{false≢true}
 use Rattle.mx_lock.specs.Lock.{IsKeyOf}
-use Rattle.mx_multi.specs.Seats.{SeatView}
-use Rattle.mx_multi.proofs.Standing.{list_kept, grows_by, begins_by, seat_after, received_more, lock_stands, same_of, engine_kept, stands_from, quiet_mark, tells_on, list_found}
+use Rattle.mx_multi.specs.Seats.{MultiView, SeatView}
+use Rattle.mx_multi.proofs.Standing.{list_kept, list_of, grows_by, begins_by, seat_after, received_more, lock_stands, same_of, engine_kept, stands_from, quiet_mark, tells_on, list_found}
 use Rattle.mx_multi.proofs.multi.Multi.act.Goals as goal
 
 pub leave-requires-clause-grows : goal.leave-requires-clause-grows
@@ -48,3 +48,9 @@ leave-requires-clause-ties g c =
 
 pub returns-clause-tells : goal.returns-clause-tells
 returns-clause-tells g c = tells_on _ _ _ c.leave.ensures.told.2 c.run-taken.ensures.tells
+
+pub run-taken-requires-clause-own : goal.run-taken-requires-clause-own
+run-taken-requires-clause-own g c =
+    subst (g.D.Deed.own c.args.deed)
+    (sym (list_of _ _ c.seat.inside.reader c.in-Some.taken c.seat.invariant.0 c.in-Some.ensures.entered.0 c.args.self.now (ap (λ (s : SeatView g.row.Q.Denot g.row.O.Denot). s.of.engine) c.seat.view_is ∙ ap (λ (m : MultiView g.row.Q.Denot g.row.O.Denot). m.engine) c.requires.own)))
+    c.requires.claim

@@ -3,10 +3,11 @@ use Rattle.mx_lock.specs.Lock.{IsKeyOf}
 use Rattle.mx_journal.specs.History.{is_legal}
 use Rattle.mx_lock.specs.Shared.{IsLeft}
 use Rattle.mx_lock.specs.Ties.{TieState}
-use Rattle.mx_multi.specs.Seats.{SeatView}
+use Rattle.mx_multi.specs.Seats.{MultiView, SeatView}
 use Rattle.mx_board.specs.Board.{ReaderState}
 use Rattle.mx_lock.proofs.Claims.{claims_first}
-use Rattle.mx_multi.proofs.Standing.{list_kept, seat_after, received_same, lock_sees, same_of, engine_kept, sees_from, claims_after, claims_from, claims_only, claim_on, none_claimed, found_state}
+use Rattle.mx_lock.proofs.Tying.{has_more}
+use Rattle.mx_multi.proofs.Standing.{list_kept, seat_after, received_same, lock_sees, same_of, engine_kept, sees_from, claims_after, claims_from, claims_only, list_of, none_claimed, found_state}
 use Rattle.mx_multi.proofs.multi.Multi.claim_at.Goals as goal
 
 pub invariant_of-seat-in_default-claimed : goal.invariant_of-seat-in_default-claimed
@@ -108,4 +109,10 @@ returns-clause-queue g c =
     }
 
 pub returns-clause-request : goal.returns-clause-request
-returns-clause-request g c = claim_on _ _ _ _ c.leave.ensures.told.2 c.in-Some-claimed.ensures.request
+returns-clause-request g c = has_more _ _ _ _ c.leave.ensures.told.2 c.in-Some-claimed.ensures.request
+
+pub returns-clause-own : goal.returns-clause-own
+returns-clause-own g c =
+    let took = c.in-Some.ensures.entered.0 in
+    c.in-Some-claimed.ensures.own ∙ ap (λ (z : TieState). z.book) c.claim-claimed.ensures.ties
+    ∙ list_of _ _ c.seat.inside.reader c.in-Some.taken c.seat.invariant.0 took c.args.self.now (ap (λ (s : SeatView g.row.Q.Denot g.row.O.Denot). s.of.engine) c.seat.view_is ∙ ap (λ (m : MultiView g.row.Q.Denot g.row.O.Denot). m.engine) c.requires.own)

@@ -3,8 +3,9 @@ use Rattle.mx_journal.specs.History.{is_legal, has_ticket, running}
 use Rattle.mx_board.specs.Board.{ReaderState}
 use Rattle.mx_lock.specs.Lock.{IsKeyOf}
 use Rattle.mx_lock.specs.Shared.{IsLeft}
-use Rattle.mx_multi.specs.Seats.{SeatView}
-use Rattle.mx_multi.proofs.Standing.{given_on, list_kept, seat_after, received_same, lock_sees, same_of, engine_kept, sees_from, claims_after, found_state, found_left}
+use Rattle.mx_lock.specs.Ties.{TieState}
+use Rattle.mx_multi.specs.Seats.{MultiView, SeatView}
+use Rattle.mx_multi.proofs.Standing.{list_kept, list_of, seat_after, received_same, lock_sees, same_of, engine_kept, sees_from, claims_after, found_state, found_left}
 use Rattle.mx_multi.proofs.multi.Multi.give_back_at.Goals as goal
 
 pub invariant_of-seat-2 : goal.invariant_of-seat-2
@@ -14,7 +15,7 @@ invariant_of-seat-2 g c =
     let x = c.in-Some.taken in
     let y = c.give_back-reply.new.self in
     let j = c.give_back-reply.ensures.journal in
-    let left : IsLeft x y = record { journal = j.0; opening = j.1; book = j.2; ties = c.give_back-reply.ensures.ties; legal = ap is_legal j.0 ∙ c.len-cut.ensures.legal } in (
+    let left : IsLeft x y = record { journal = j.0; opening = j.1; book = j.2; ties = ap (λ (z : TieState). z.book) c.give_back-reply.ensures.ties; legal = ap is_legal j.0 ∙ c.len-cut.ensures.legal } in (
       seat_after _ _ c.seat.inside.reader x c.seat.invariant.0 took _ _ y c.leave.ensures.gave c.leave.ensures.reader left.book,
       k.2,
       received_same _ _
@@ -30,7 +31,7 @@ returns-clause-sees g c =
     let x = c.in-Some.taken in
     let y = c.give_back-reply.new.self in
     let j = c.give_back-reply.ensures.journal in
-    let left : IsLeft x y = record { journal = j.0; opening = j.1; book = j.2; ties = c.give_back-reply.ensures.ties; legal = ap is_legal j.0 ∙ c.len-cut.ensures.legal } in
+    let left : IsLeft x y = record { journal = j.0; opening = j.1; book = j.2; ties = ap (λ (z : TieState). z.book) c.give_back-reply.ensures.ties; legal = ap is_legal j.0 ∙ c.len-cut.ensures.legal } in
     sees_from _ _ _ c.seat.view_is
     (lock_sees _ _ c.seat.inside.reader x c.seat.invariant.0 took _ c.leave.new.reader y c.leave.ensures.gave c.leave.ensures.reader _ _ c.seat.inside.polled c.seat.inside.notes c.seat.inside.ties.ties c.leave.new.ties.ties c.leave.ensures.told.1 (same_of _ _ _ c.args.self.now c.args.seat.now c.requires.own c.self.view_is (ap (λ (s : SeatView g.row.Q.Denot g.row.O.Denot). s.of) c.seat.view_is) k.0 k.1 (engine_kept _ _ c.seat.inside.reader x c.seat.invariant.0 took _ y c.leave.ensures.gave) refl) c.in-Some.ensures.entered.1 left)
 
@@ -50,7 +51,7 @@ returns-clause-queue g c =
       is = found_state _ _ c.seat.inside.reader x c.seat.invariant.0 took g.O.Ending.code_of g.O.Ending.size_of _ x refl (seen ∙ same.0) engine c.know-known.ensures.locked;
       back = c.give_back-reply.ensures.back;
       after = y;
-      left = found_left _ _ c.seat.inside.reader x c.seat.invariant.0 took g.O.Ending.code_of g.O.Ending.size_of _ y same.2 same.1 c.give_back-reply.ensures.ties (sym seen) engine c.know-left.ensures.locked;
+      left = found_left _ _ c.seat.inside.reader x c.seat.invariant.0 took g.O.Ending.code_of g.O.Ending.size_of _ y same.2 same.1 (ap (λ (z : TieState). z.book) c.give_back-reply.ensures.ties) (sym seen) engine c.know-left.ensures.locked;
       queue = c.give_back-reply.ensures.queue;
       endings = c.give_back-reply.ensures.endings;
     }
@@ -62,5 +63,7 @@ returns-clause-claims g c =
     let y = c.give_back-reply.new.self in
     claims_after _ _ c.seat.inside.reader x c.seat.invariant.0 took _ _ y c.leave.ensures.gave c.leave.ensures.reader c.give_back-reply.ensures.claims ∙ ap (λ (s : SeatView g.row.Q.Denot g.row.O.Denot). s.claims) c.seat.view_is
 
-pub returns-clause-tells : goal.returns-clause-tells
-returns-clause-tells g c = given_on _ _ _ _ _ c.leave.ensures.told.2 c.give_back-reply.ensures.tells
+pub give_back-reply-requires-clause-own : goal.give_back-reply-requires-clause-own
+give_back-reply-requires-clause-own g c =
+    c.requires.claim
+    ∙ sym (list_of _ _ c.seat.inside.reader c.in-Some.taken c.seat.invariant.0 c.in-Some.ensures.entered.0 c.args.self.now (ap (λ (s : SeatView g.row.Q.Denot g.row.O.Denot). s.of.engine) c.seat.view_is ∙ ap (λ (m : MultiView g.row.Q.Denot g.row.O.Denot). m.engine) c.requires.own))

@@ -1,0 +1,10 @@
+use Rattle.std.proofs.Common.{subst}
+use Rattle.mx_lock.specs.Shared.{SharedState}
+use Rattle.mx_lock.specs.Ties.{AreOfAdditions}
+use Rattle.mx_lock.proofs.Tying.{of_additions}
+use Rattle.mx_lock.proofs.shared.Shared.sound.Goals as goal
+
+pub returns-clause-tied : goal.returns-clause-tied
+returns-clause-tied g c =
+    subst (λ (x : SharedState g.row.Q.Denot g.row.O.Denot). AreOfAdditions g.Q.Work.origin g.O.Ending.origin x.core x.ties.ties) c.self.view_is
+    (of_additions g.O.Ending.origin g.Q.Work.origin c.self.inside.control c.self.inside.ties.ties c.self.invariant.2 c.sound.ensures.origins.0 c.sound.ensures.origins.1)

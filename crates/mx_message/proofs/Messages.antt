@@ -1,0 +1,90 @@
+-- Calls that wait for a message, and what is known of it then.
+use Rattle.std.proofs.Common.{◌≡◌, ◌≢◌, ◌∙◌, inl, sym, refl, ap, subst, ℕ, List, [], ◌∷◌, ◌++◌, append_assoc, length, true}
+use Rattle.mx_types.specs.declared.code.Code.TheVariants as code
+use Rattle.mx_types.specs.declared.names.HandleId.{HandleId}
+use Rattle.mx_types.specs.declared.names.Ticket.{Ticket}
+use Rattle.mx_types.specs.declared.call.Call.{Call}
+use Rattle.mx_types.specs.declared.call.Call.TheVariants as call
+use Rattle.mx_types.specs.declared.call.Receipt.{Receipt}
+use Rattle.mx_types.specs.declared.event.Event.{Event}
+use Rattle.mx_types.specs.declared.reply.Reply.{Reply}
+use Rattle.mx_body.specs.Parts.{joined}
+use Rattle.mx_link.specs.Answers.{given}
+use Rattle.mx_exchange.specs.Transfers.{OutcomeValue}
+use Rattle.mx_exchange.specs.Outcomes.{HasContent, IsOutcome}
+use Rattle.mx_journal.specs.History.{is_legal}
+use Rattle.mx_journal.specs.Replies.{reply_of_info}
+use Rattle.mx_journal.specs.declared.replies.InfoReply.{InfoReply}
+use Rattle.mx_journal.specs.declared.replies.InfoReply.TheVariants as info
+use Rattle.mx_history.proofs.LegalLaws.{each_at_most_once, nothing_after_removal}
+use Rattle.mx_history.proofs.Messages.{first_in_first_out}
+use Rattle.mx_lock.specs.Ties.{Tells, tie_read}
+use Rattle.mx_board.proofs.Prefixes.{prefix_trans}
+use Rattle.mx_multi.specs.Seats.{HasReceipts, Later, SeatView, Stands}
+use Rattle.mx_multi.proofs.Runs.{later_none, later_more}
+use Rattle.mx_multi.proofs.Standing.{told_alike}
+use Rattle.mx_message.specs.Message.{CarriesBody, IsNextMessage, IsOrderly, IsRead, Waited}
+
+-- with code OK the wire is all that the link gave
+pub carries : (o : OutcomeValue) (wire : List ℕ) → (o.code ≢ code.OutOfMemory → wire ≡ given o.answers) → wire ≡ o.wire → HasContent o → o.code ≡ code.Ok → CarriesBody o
+carries o wire all is content ok = record {
+  within = sym (all (λ e. let bad : code.Ok ≡ code.OutOfMemory = sym ok ∙ e in cc)) ∙ is;
+  content = content;
+}
+
+later_on : {Q O : Type 0} (s t u : SeatView Q O) (a b : List Receipt) → Later s t a → Later t u b → Later s u (a ++ b)
+later_on s t u a b h k = record {
+  of = k.of ∙ h.of;
+  who = k.who ∙ h.who;
+  later = prefix_trans s.seen t.seen u.seen h.later k.later;
+  ties = prefix_trans s.ties t.ties u.ties h.ties k.ties;
+  legal = λ l. k.legal (h.legal l);
+  placed = λ mine p. subst (HasReceipts u) (append_assoc mine a b) (k.placed (mine ++ a) (h.placed mine p));
+}
+
+module _ {Q : Type 0} where
+  pub waited_none : (s : SeatView Q OutcomeValue) → Waited s s
+  waited_none s = record { more = []; later = later_none s }
+
+  pub waited_on : (s t u : SeatView Q OutcomeValue) → Waited s t → Waited t u → Waited s u
+  waited_on s t u h k = record { more = h.more ++ k.more; later = later_on s t u h.more k.more h.later k.later }
+
+  pub waited_two : (s t u : SeatView Q OutcomeValue) (c d : Call) (p q : Reply) → Stands s t c p → Stands t u d q → Waited s u
+  waited_two s t u c d p q h k =
+      let one : Receipt = record { cut = length t.seen; call = c; reply = p } in
+      let two : Receipt = record { cut = length u.seen; call = d; reply = q } in
+      record { more = ([] ++ one ∷ []) ++ two ∷ []; later = later_more s t u ([] ++ one ∷ []) d q (later_more s s t [] c p (later_none s) h) k }
+
+  -- what was read
+  pub read_is : (s t : SeatView Q OutcomeValue) (r : InfoReply OutcomeValue) (h : HandleId) (ticket : Ticket) (o : OutcomeValue) (left : ℕ) → r ≡ info.Message h ticket o left
+      → Stands s t call.InfoRead (reply_of_info (λ x. x.code) (λ x. length (joined x.wire x.parts)) r) → Tells (tie_read (λ x. x.request.bytes) r) t.ties → IsOutcome o → (o.code ≡ code.Ok → CarriesBody o) → IsRead s t h ticket o left
+  read_is s t r h ticket o left is stands tells outcome body = record {
+    stands = subst (λ x. Stands s t call.InfoRead (reply_of_info (λ x. x.code) (λ x. length (joined x.wire x.parts)) x)) is stands;
+    outcome = outcome;
+    body = body;
+    of_addition = subst (λ x. Tells (tie_read (λ x. x.request.bytes) x) t.ties) is tells;
+  }
+
+orderly : (j : List Event) (t : Ticket) → is_legal j ≡ true → IsOrderly j t
+orderly j t legal =
+    let n = each_at_most_once j legal t in
+    record {
+      legal = legal;
+      ended = n.1;
+      read = n.2;
+      removed = n.3;
+      none_after = λ f later w h is. nothing_after_removal f later w h t (ap is_legal (sym is) ∙ legal);
+      in_order = first_in_first_out j legal;
+    }
+
+pub next : {Q : Type 0} (s at t : SeatView Q OutcomeValue) (h : HandleId) (ticket : Ticket) (o : OutcomeValue) (left : ℕ) → Waited s at → IsRead at t h ticket o left → IsNextMessage s t h ticket o left
+next s at t h ticket o left w r = record {
+  at = at;
+  waited = w;
+  stands = r.stands;
+  orderly = orderly t.seen ticket r.stands.legal;
+  outcome = r.outcome;
+  body = r.body;
+  of_addition = r.of_addition;
+  as_told = λ origin told. sym (told_alike s.ties t.ties (inl (prefix_trans s.ties at.ties t.ties w.later.ties r.stands.ties)) ticket origin o.request.bytes told r.of_addition);
+}

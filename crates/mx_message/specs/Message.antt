@@ -1,0 +1,67 @@
+-- What is known of a message.
+use Rattle.std.specs.Prelude.{◌≡◌, ℕ, ◌≤◌, true, false, not, List, ◌∷◌, ◌++◌, map, length}
+use Rattle.std.specs.List.{filter}
+use Rattle.mx_types.specs.declared.code.Code.TheVariants as code
+use Rattle.mx_types.specs.declared.names.HandleId.{HandleId}
+use Rattle.mx_types.specs.declared.names.Ticket.{Ticket}
+use Rattle.mx_types.specs.declared.event.Who.{Who}
+use Rattle.mx_types.specs.declared.event.What.TheVariants as what
+use Rattle.mx_types.specs.declared.event.Event.{Event}
+use Rattle.mx_types.specs.declared.call.Call.TheVariants as call
+use Rattle.mx_types.specs.declared.call.Receipt.{Receipt}
+use Rattle.mx_types.specs.declared.reply.Reply.{Reply}
+use Rattle.mx_types.specs.declared.reply.Reply.TheVariants as reply
+use Rattle.mx_body.specs.Parts.{joined}
+use Rattle.mx_link.specs.Answers.{given}
+use Rattle.mx_exchange.specs.Transfers.{OutcomeValue}
+use Rattle.mx_exchange.specs.Outcomes.{IsOutcome, HasContent}
+use Rattle.mx_journal.specs.History.{ends, is_legal, occurs, reads, removes, waiting}
+use Rattle.mx_journal.specs.Laws.{count_of_events, done_tickets, is_of, is_removed_unread, read_tickets}
+use Rattle.mx_lock.specs.Ties.{Has, tie}
+use Rattle.mx_multi.specs.Seats.{Later, SeatView, Stands}
+
+-- the answer of a reading that hands out this outcome
+abbrev pub answer_of : HandleId → Ticket → OutcomeValue → ℕ → Reply
+answer_of h t o left = reply.Message h t o.code (length (joined o.wire o.parts)) left
+
+-- The history is legal. In it the ticket has at most one end, one reading and one removal, and no event after its removal; and the messages
+-- are read, and wait, in the order of the ends, without those that were removed unread.
+pub record IsOrderly (j : List Event) (t : Ticket) : Type 0 where
+  pub legal : is_legal j ≡ true
+  pub ended : count_of_events (ends t) j ≤ 1
+  pub read : count_of_events (reads t) j ≤ 1
+  pub removed : count_of_events (removes t) j ≤ 1
+  pub none_after : (f later : List Event) (w : Who) (h : HandleId) → j ≡ f ++ record { who = w; what = what.Removed h t } ∷ later → occurs (is_of t) later ≡ false
+  pub in_order : read_tickets j ++ map (λ m. m.ticket) (waiting j) ≡ filter (λ u. not (is_removed_unread u j)) (done_tickets j)
+
+-- the first of the bytes that its connection gave are a response to its request by RFC 9112, and its parts, joined, are that one's content
+pub record CarriesBody (o : OutcomeValue) : Type 0 where
+  pub within : given o.answers ≡ o.wire
+  pub content : HasContent o
+
+-- calls that wait for a message were answered: readings that found nothing, and polls
+pub record Waited {Q : Type 0} (s t : SeatView Q OutcomeValue) : Type 0 where
+  pub more : List Receipt
+  pub later : Later s t more
+
+-- the seat read this message, whose outcome is true, and is of the request that was added under the ticket
+pub record IsRead {Q : Type 0} (s t : SeatView Q OutcomeValue) (h : HandleId) (ticket : Ticket) (o : OutcomeValue) (left : ℕ) : Type 0 where
+  pub stands : Stands s t call.InfoRead (answer_of h ticket o left)
+  pub outcome : IsOutcome o
+  pub body : o.code ≡ code.Ok → CarriesBody o
+  pub of_addition : Has t.ties (tie ticket o.request.bytes)
+
+-- The headline, of one message:
+pub record IsNextMessage {Q : Type 0} (s t : SeatView Q OutcomeValue) (h : HandleId) (ticket : Ticket) (o : OutcomeValue) (left : ℕ) : Type 0 where
+  -- the calls that waited for it have receipts behind those of the seat, and then the reading stands
+  pub at : SeatView Q OutcomeValue
+  pub waited : Waited s at
+  pub stands : Stands at t call.InfoRead (answer_of h ticket o left)
+  -- at most one for an addition, none after its removal, first in, first out
+  pub orderly : IsOrderly t.seen ticket
+  -- its outcome is true, and with code OK it carries the body of the response
+  pub outcome : IsOutcome o
+  pub body : o.code ≡ code.Ok → CarriesBody o
+  -- to the request that was added under its ticket, which is that of which the seat was told, where it was
+  pub of_addition : Has t.ties (tie ticket o.request.bytes)
+  pub as_told : (origin : List ℕ) → Has s.ties (tie ticket origin) → o.request.bytes ≡ origin

@@ -1,0 +1,6 @@
+//! The next message of a multi handle of transfers, with all that is known of it.
+#![tactic(auto)]
+
+mod next;
+
+pub use crate::next::{Message, NoMessage, next_message};

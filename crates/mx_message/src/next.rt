@@ -1,0 +1,107 @@
+//! The next message, and what is known of it.
+ghost use Rattle.std.specs.Prelude.{◌≡◌, IfOk, MatchOption};
+ghost use Rattle.mx_types.specs.declared.code.Code.TheVariants as code;
+ghost use Rattle.mx_exchange.specs.Outcomes.{IsOutcome};
+ghost use Rattle.mx_message.specs.Message.{CarriesBody, IsNextMessage, IsRead, Waited};
+
+use mx_exchange::Outcome;
+use mx_journal::InfoReply;
+use mx_multi::{Multi, Seat};
+use mx_types::{Code, HandleId, Ticket, Work};
+use std::sync::Wait;
+
+/// A done message: how the transfer of an addition ended.
+#[derive(Drop)]
+pub struct Message {
+    pub handle: HandleId,
+    /// The number of the addition.
+    pub ticket: Ticket,
+    pub code: Code,
+    pub outcome: Outcome,
+    /// How many messages wait behind it.
+    pub left: u32,
+}
+
+/// No message was read: the seat isn't one of this multi handle's, or there was no memory.
+#[derive(Clone, Copy, Debug, PartialEq, Eq)]
+pub struct NoMessage;
+
+// What is known of an outcome.
+fn know(outcome: &Outcome)
+    ensures outcome { IsOutcome outcome.now }
+    ensures body { outcome.now.code ≡ code.Ok → CarriesBody outcome.now }
+{
+    outcome.know();
+    let _code = outcome.code();
+    let _wire = outcome.wire();
+}
+
+// Reads the first message. Where none waits it polls, and answers None.
+fn read_once<Q: Work + Drop, R: Wait>(
+    rt: &R,
+    multi: &Multi<Q, Outcome>,
+    seat: &mut Seat<Q, Outcome>,
+) -> Result<Option<Message>, NoMessage>
+    requires own { seat.old.of ≡ multi.now }
+    ensures own { seat.new.of ≡ multi.now }
+    ensures read { IfOk result (λ o. MatchOption o (Waited seat.old seat.new) (λ m. (m.code ≡ m.outcome.code) × IsRead seat.old seat.new m.handle m.ticket m.outcome m.left)) }
+{
+    let Ok(reply) = multi.info_read(rt, seat) else {
+        return Err(NoMessage);
+    };
+    match reply {
+        InfoReply::Message {
+            handle,
+            ticket,
+            ending,
+            left,
+        } => {
+            know(&ending);
+            let code = Outcome::code(&ending);
+            Ok(
+                Some(
+                    Message {
+                        handle,
+                        ticket,
+                        code,
+                        outcome: ending,
+                        left,
+                    },
+                ),
+            )
+        }
+        InfoReply::Empty => {
+            let Ok(_) = multi.poll(rt, seat) else {
+                return Err(NoMessage);
+            };
+            Ok(None)
+        }
+        InfoReply::OutOfMemory => Err(NoMessage),
+    }
+}
+
+/// Waits for the next message, and reads it (curl_multi_info_read(3), curl_multi_poll(3)).
+///
+/// The reading stands in the one legal history that the seat has then seen, behind all that it had seen, with the answer of a one-thread
+/// multi handle, and its receipt behind those of the calls that waited for it. In that history the ticket has one end and one reading at
+/// most, and nothing after its removal, and messages are first in, first out. The outcome is what the answers of its link come to, and with
+/// `Code::Ok` it carries the body of the response, by RFC 9112, within the bytes that its connection gave. Its request is the one that was
+/// added under the ticket.
+#[tactic(auto, using(crate::proofs::Messages::waited_none, crate::proofs::Messages::waited_on))]
+pub fn next_message<Q: Work + Drop, R: Wait>(
+    rt: &R,
+    multi: &Multi<Q, Outcome>,
+    seat: &mut Seat<Q, Outcome>,
+) -> Result<Message, NoMessage>
+    requires own { seat.old.of ≡ multi.now }
+    ensures own { seat.new.of ≡ multi.now }
+    ensures code { IfOk result (λ m. m.code ≡ m.outcome.code) }
+    ensures message { IfOk result (λ m. IsNextMessage seat.old seat.new m.handle m.ticket m.outcome m.left) }
+{
+    for _ in rt.forever() {
+        if let Some(message) = read_once(rt, multi, seat)? {
+            return Ok(message);
+        }
+    }
+    unreachable!()
+}
