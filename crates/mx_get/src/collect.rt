@@ -9,8 +9,9 @@ use crate::crew::Crew;
 use crate::end::End;
 use crate::options::Options;
 use mx_exchange::Outcome;
-use mx_journal::{AddReply, InfoReply};
+use mx_journal::AddReply;
 use mx_link::Link;
+use mx_message::next_message;
 use mx_multi::{Multi, Seat, WrongSeat};
 use mx_request::{Request, RequestError};
 use mx_run_get::Fetched;
@@ -187,21 +188,11 @@ impl<L: Link> Desk<L> {
         ensures own { self.new.seat.of ≡ multi.now }
         ensures asked { map asked_at self.new.places.items ≡ map asked_at self.old.places.items }
     {
-        for _ in rt.forever() {
-            match multi.info_read(rt, &mut self.seat) {
-                Ok(InfoReply::Message { handle, ending, .. }) => {
-                    self.note(handle, ending);
-                    return Ok(());
-                }
-                Ok(InfoReply::Empty) => {
-                    if multi.poll(rt, &mut self.seat).is_err() {
-                        return Err(OutOfMemory);
-                    }
-                }
-                _ => return Err(OutOfMemory),
-            }
-        }
-        unreachable!()
+        let Ok(message) = next_message(rt, multi, &mut self.seat) else {
+            return Err(OutOfMemory);
+        };
+        self.note(message.handle, message.outcome);
+        Ok(())
     }
 
     // Waits for all messages that are to come.
