@@ -1,2 +1,2 @@
--- What `read_command` and `run_task` promise.
+-- What `run_task` promises.
 pub mod Tasks

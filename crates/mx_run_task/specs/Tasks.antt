@@ -1,5 +1,5 @@
--- What a command line may ask for, and what is promised of its run.
-use Rattle.std.specs.Prelude.{◌≡◌, ◌≤◌, ℕ, ◌+◌, Bool, true, List, Option}
+-- What is promised of the run of a task.
+use Rattle.std.specs.Prelude.{ℕ, ◌+◌, Bool, List, Option}
 use Rattle.mx_types.specs.Code.{code_number}
 use Rattle.mx_types.specs.declared.code.Code.TheVariants as codes
 use Rattle.mx_head.specs.Limits.{most_bytes}
@@ -7,21 +7,8 @@ use Rattle.mx_run_io.specs.Faults.{PrintsFault}
 use Rattle.mx_run_body.specs.Reading.{ReadsUpTo}
 use Rattle.mx_run_body.specs.Run.{AnswersRead}
 use Rattle.mx_run_play.specs.Run.{AnswersScript, PrintsUnread}
-use Rattle.mx_get.specs.Options.{are_within}
-use Rattle.mx_run_task.specs.declared.asked.Asked.{Asked}
-use Rattle.mx_run_task.specs.declared.asked.Asked.TheVariants.{Task, Get}
-use Rattle.mx_run_task.specs.declared.task.Task.{Task as Tasks}
-use Rattle.mx_run_task.specs.declared.task.Task.TheVariants.{Body, Play}
-
--- a history is within its limits
-abbrev pub IsTask : Tasks → Type 0
-IsTask (Body method) = Unit {0}
-IsTask (Play history) = (4 ≤ history) × (history ≤ 1048576)
-
--- a task that is one, or options within their limits
-abbrev pub IsAsked : Asked → Type 0
-IsAsked (Task task) = IsTask task
-IsAsked (Get get) = are_within get.options ≡ true
+use Rattle.mx_command.specs.declared.task.Task.{Task as Tasks}
+use Rattle.mx_command.specs.declared.task.Task.TheVariants.{Body, Play}
 
 -- how often a task reads at most
 abbrev pub most_reads : Tasks → ℕ

@@ -1,11 +1,6 @@
-//! The command line of `mxfetch`, and the task that it asks for.
+//! The run of the task that a command line asks for.
 #![tactic(auto)]
 
-mod asked;
-mod command;
-mod help;
 mod task;
 
-pub use crate::asked::{Asked, Get};
-pub use crate::command::read_command;
-pub use crate::task::{Task, run_task};
+pub use crate::task::{most_reads, run_task};

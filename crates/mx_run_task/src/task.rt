@@ -1,34 +1,24 @@
-//! What a command line asks for.
+//! The run of a task.
 ghost use Rattle.std.specs.Prelude.{◌≡◌, ◌≢◌, ◌≤◌, ◌↔◌, true, false};
 ghost use Rattle.mx_run_io.specs.Ends.{reader_of, reads_of, most_reads_of, has_failed_read, writer_of, has_failed_write, is_pending};
 ghost use Rattle.mx_run_play.specs.Run.{WasAsked};
-ghost use Rattle.mx_run_task.specs.Tasks.{IsTask, most_reads, AnswersTask, PrintsFailedRead, StopsReading};
+ghost use Rattle.mx_command.specs.Asked.{IsTask};
+ghost use Rattle.mx_run_task.specs.Tasks.{most_reads, AnswersTask, PrintsFailedRead, StopsReading};
 
+use mx_command::Task;
 use mx_run_body::run_body;
 use mx_run_io::{Input, Output, UNWRITTEN};
 use mx_run_play::run_play;
-use mx_types::Method;
 use std::alloc::Global;
 use std::io::{Read, Write};
 
-/// What a command line asks for.
-#[derive(Clone, Copy, Debug, PartialEq, Eq)]
-pub enum Task {
-    /// Decode the response that is read, as the answer to that method.
-    Body(Method),
-    /// Play the script that is read, on a control core whose history has room for so many events.
-    Play(u32),
-}
-
-impl Task {
-    /// How often its run reads at most.
-    pub fn most_reads(self) -> u64
-        ensures { result ≡ most_reads self }
-    {
-        match self {
-            Task::Body(_) => mx_run_body::MOST_READS,
-            Task::Play(_) => mx_run_play::MOST_READS,
-        }
+/// How often the run of a task reads at most.
+pub fn most_reads(task: Task) -> u64
+    ensures { result ≡ most_reads task }
+{
+    match task {
+        Task::Body(_) => mx_run_body::MOST_READS,
+        Task::Play(_) => mx_run_play::MOST_READS,
     }
 }
 

@@ -1,9 +1,9 @@
 //! Command lines, and the runs that they ask for.
-ghost use Rattle.mx_run_task.specs.Tasks.{IsTask};
+ghost use Rattle.mx_command.specs.Asked.{IsTask};
 
-use mx_get::Options;
-use mx_run_io::{Input, Output};
-use mx_run_task::{Asked, Get, Task, read_command, run_task};
+use mx_command::{Asked, Get, Task, read_command};
+use mx_run_io::{Input, Options, Output};
+use mx_run_task::{most_reads, run_task};
 use mx_types::Method;
 use std::alloc::Global;
 use std::process::Abort;
@@ -197,7 +197,7 @@ fn runs(rt: &impl Abort, alloc: Global, task: Task, input: &[u8], status: u8, ou
     let ended = run_task(
         alloc,
         task,
-        &mut Input::new(input, task.most_reads()),
+        &mut Input::new(input, most_reads(task)),
         &mut Output::new(&mut written),
     );
     assert_eq!(rt; ended, status);

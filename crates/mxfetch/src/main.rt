@@ -2,14 +2,15 @@
 #![tactic(auto)]
 
 ghost use Rattle.std.specs.Prelude.{◌≡◌, ◌⊎◌, true, IfErr};
-ghost use Rattle.mx_get.specs.Options.{are_within};
-ghost use Rattle.mx_run_task.specs.Tasks.{IsTask};
+ghost use Rattle.mx_run_io.specs.Options.{are_within};
+ghost use Rattle.mx_command.specs.Asked.{IsTask};
 
 use clap::Error;
 use clap::error::ErrorKind;
+use mx_command::{Asked, Get, Task, read_command};
 use mx_get::{MOST_URLS, run_get};
 use mx_run_io::{Input, Output, UNWRITTEN, end_with};
-use mx_run_task::{Asked, Get, Task, read_command, run_task};
+use mx_run_task::{most_reads, run_task};
 use mx_types::Code;
 use std::io::BufWriter;
 use std::net::{Net, TcpListener, TcpStream};
@@ -54,7 +55,7 @@ fn explain(rt: &(impl Print + Eprint), error: &Error) -> u8
 fn run<R: io::Input + Print + AllocGlobal>(rt: &R, task: Task) -> u8
     requires { IsTask task }
 {
-    let mut input = Input::new(rt.reader(), task.most_reads());
+    let mut input = Input::new(rt.reader(), most_reads(task));
     match BufWriter::with_capacity(rt.alloc(), 65_536, io::writer(rt)) {
         Ok(writer) => run_task(rt.alloc(), task, &mut input, &mut Output::new(writer)),
         Err(_) => out_of_memory(rt),

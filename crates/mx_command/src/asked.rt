@@ -1,6 +1,6 @@
 //! What a command line asks for.
 use crate::task::Task;
-use mx_get::Options;
+use mx_run_io::Options;
 
 /// What `get` is asked for.
 #[derive(Drop)]

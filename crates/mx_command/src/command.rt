@@ -1,14 +1,14 @@
 //! The command line.
 ghost use Rattle.std.specs.Prelude.{◌≡◌, true, IfOk, IfSome};
-ghost use Rattle.mx_get.specs.Options.{are_within};
-ghost use Rattle.mx_run_task.specs.Tasks.{IsTask, IsAsked};
+ghost use Rattle.mx_run_io.specs.Options.{are_within};
+ghost use Rattle.mx_command.specs.Asked.{IsTask, IsAsked};
 
 use crate::asked::{Asked, Get};
 use crate::help;
 use crate::task::Task;
 use clap::error::ErrorKind;
 use clap::{Arg, ArgAction, ArgMatches, Command, Error, value_parser};
-use mx_get::Options;
+use mx_run_io::Options;
 use mx_types::Method;
 use std::alloc::{AllocError, Global};
 

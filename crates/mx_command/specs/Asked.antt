@@ -1,0 +1,17 @@
+-- What a command line may ask for.
+use Rattle.std.specs.Prelude.{◌≡◌, ◌≤◌, true}
+use Rattle.mx_run_io.specs.Options.{are_within}
+use Rattle.mx_command.specs.declared.asked.Asked.{Asked}
+use Rattle.mx_command.specs.declared.asked.Asked.TheVariants.{Task, Get}
+use Rattle.mx_command.specs.declared.task.Task.{Task as Tasks}
+use Rattle.mx_command.specs.declared.task.Task.TheVariants.{Body, Play}
+
+-- a history is within its limits
+abbrev pub IsTask : Tasks → Type 0
+IsTask (Body method) = Unit {0}
+IsTask (Play history) = (4 ≤ history) × (history ≤ 1048576)
+
+-- a task that is one, or options within their limits
+abbrev pub IsAsked : Asked → Type 0
+IsAsked (Task task) = IsTask task
+IsAsked (Get get) = are_within get.options ≡ true

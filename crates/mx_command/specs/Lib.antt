@@ -1,0 +1,2 @@
+-- What `read_command` promises.
+pub mod Asked

@@ -1,0 +1,11 @@
+//! A task over standard input.
+use mx_types::Method;
+
+/// What a command line asks for, over standard input.
+#[derive(Clone, Copy, Debug, PartialEq, Eq)]
+pub enum Task {
+    /// Decode the response that is read, as the answer to that method.
+    Body(Method),
+    /// Play the script that is read, on a control core whose history has room for so many events.
+    Play(u32),
+}

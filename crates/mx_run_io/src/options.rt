@@ -1,0 +1,23 @@
+//! How URLs are fetched.
+ghost use Rattle.std.specs.Prelude.{◌≡◌};
+ghost use Rattle.mx_run_io.specs.Options.{are_within};
+
+/// How URLs are fetched.
+#[derive(Clone, Copy, Debug, PartialEq, Eq)]
+pub struct Options {
+    /// How many workers fetch, each on a thread of its own: 1 to 16.
+    pub workers: u8,
+    /// The longest that a transfer may take, in milliseconds; 0 for no limit.
+    pub timeout_ms: u32,
+    /// The greatest number of idle connections that a worker keeps, 0 to 64.
+    pub max_connects: u8,
+}
+
+impl Options {
+    /// Whether each number is within its limits.
+    pub fn are_within(&self) -> bool
+        ensures { result ≡ are_within self.now }
+    {
+        1 <= self.workers && self.workers <= 16 && self.max_connects <= 64
+    }
+}
