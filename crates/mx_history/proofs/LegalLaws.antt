@@ -39,7 +39,7 @@ after_append f (e ∷ j) k h =
 pub prefix_is_legal : PrefixIsLegal
 prefix_is_legal j k h = after_append [] j k h
 
-after_split : (f j k : List Event) → is_legal_after f (j ++ k) ≡ true → is_legal_after (f ++ j) k ≡ true
+pub after_split : (f j k : List Event) → is_legal_after f (j ++ k) ≡ true → is_legal_after (f ++ j) k ≡ true
 after_split f [] k h = rw (append-nil f) h
 after_split f (e ∷ j) k h =
     let x = and_parts (may_follow f e.what) (is_legal_after (f ++ e ∷ []) (j ++ k)) h in

@@ -8,6 +8,7 @@ pub mod SlotLists
 pub mod LegalLaws
 pub mod Messages
 pub mod SlotLaws
+pub mod SlotStaying
 pub mod ReceiptLaws
 pub mod Defined
 pub mod AnswersFit

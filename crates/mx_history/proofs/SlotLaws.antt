@@ -94,7 +94,7 @@ pub slots_from-snoc : (s : List (Ticket × ℕ)) (j : List Event) (e : Event) �
 slots_from-snoc s [] e = refl
 slots_from-snoc s (x ∷ j) e = slots_from-snoc (slots_after s x.what) j e
 
-slots-then : (j : List Event) (w : Who) (e : What) → slots (then j w e) ≡ slots_after (slots j) e
+pub slots-then : (j : List Event) (w : Who) (e : What) → slots (then j w e) ≡ slots_after (slots j) e
 slots-then j w e = slots_from-snoc [] j (record { who = w; what = e })
 
 either_off : (a b : Bool) → (a || b) ≡ false → (a ≡ false) × (b ≡ false)
@@ -132,7 +132,7 @@ slots_few : (j : List Event) → HasOwnSlots j → length (slots j) ≡ length (
 slots_few j o =
     sym (length-map (slots j) (λ (x : Ticket × ℕ). x.0)) ∙ ap length o.tickets ∙ length-map (added j) (λ (a : Addition). a.ticket)
 
-may_add_few : (j : List Event) (h : HandleId) (t : Ticket) → may_follow j (what.Added h t) ≡ true → (length (added j) < 256) × (t.0 ≡ additions j)
+pub may_add_few : (j : List Event) (h : HandleId) (t : Ticket) → may_follow j (what.Added h t) ≡ true → (length (added j) < 256) × (t.0 ≡ additions j)
 may_add_few j h t m =
     let k = and_parts (not (has_handle h (added j)) && nat_lt (length (added j)) 256) (t.0 == additions j) m in
     (ltb-true (length (added j)) 256 (and_parts (not (has_handle h (added j))) (nat_lt (length (added j)) 256) k.0).1, eqb-true t.0 (additions j) k.1)

@@ -177,6 +177,10 @@ pub record HasOwnSlots (j : List Event) : Type 0 where
 abbrev pub SlotsDiffer : Type 0
 SlotsDiffer = (j : List Event) → is_legal j ≡ true → HasOwnSlots j
 
+-- an added ticket keeps its slot as events follow
+abbrev pub SlotStays : Type 0
+SlotStays = (j more : List Event) (t : Ticket) (n m : ℕ) → is_legal (j ++ more) ≡ true → slot_of t j ≡ Some n → slot_of t (j ++ more) ≡ Some m → n ≡ m
+
 -- the least slot that no ticket has
 pub record IsLeastFree (slots : List (Ticket × ℕ)) (n : ℕ) : Type 0 where
   pub below : n < 256

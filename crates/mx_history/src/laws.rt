@@ -1,6 +1,6 @@
 //! What every legal history keeps. Each law is the contract of a function that does nothing: a caller that calls it
 //! may use it in its own proof.
-ghost use Rattle.mx_history.specs.Laws.{AdditionTakesLeastSlot, AnswerIsLegal, AnswersFit, CallAddsAtMostOne, CallIsPlaced, ClosingFindsRoom, EachAtMostOnce, EachOnceByCount, FirstInFirstOut, FitsByItsCut, LegalIsTidy, NothingAfterRemoval, PlacedStays, PrefixIsLegal, ReadyStays, SlotsDiffer, StateAndLookAgree, TableFollows};
+ghost use Rattle.mx_history.specs.Laws.{AdditionTakesLeastSlot, AnswerIsLegal, AnswersFit, CallAddsAtMostOne, CallIsPlaced, ClosingFindsRoom, EachAtMostOnce, EachOnceByCount, FirstInFirstOut, FitsByItsCut, LegalIsTidy, NothingAfterRemoval, PlacedStays, PrefixIsLegal, ReadyStays, SlotStays, SlotsDiffer, StateAndLookAgree, TableFollows};
 
 /// What comes first in a legal history is one.
 pub fn prefix_is_legal()
@@ -52,6 +52,11 @@ pub fn ready_stays()
 /// The slots of added handles are below 256 and differ.
 pub fn slots_differ()
     ensures { SlotsDiffer }
+{}
+
+/// An added handle's ticket keeps its slot until it is removed.
+pub fn slot_stays()
+    ensures { SlotStays }
 {}
 
 /// An addition takes the least slot that no added handle has.
