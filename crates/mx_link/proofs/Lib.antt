@@ -1,3 +1,4 @@
 pub mod Plans
 pub mod ScriptLaws
 pub mod CountLaws
+pub mod Settling

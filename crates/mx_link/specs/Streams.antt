@@ -1,5 +1,5 @@
 -- What the results of a stream's calls mean (read(2), write(2), connect(2), with errors by their kind).
-use Rattle.std.specs.Prelude.{◌≡◌, ℕ, ◌≤◌, ◌==◌, Bool, true, false, List, [], ◌∷◌, ◌++◌, Option, Some, None, Result, Ok, Err, if◌then◌else◌}
+use Rattle.std.specs.Prelude.{◌≡◌, ℕ, ◌≤◌, ◌==◌, Bool, true, false, List, [], ◌∷◌, ◌++◌, replicate, Option, Some, None, Result, Ok, Err, if◌then◌else◌}
 use Rattle.std.specs.IoError.{error_kind}
 use Rattle.std.specs.declared.io.Error.{Error}
 use Rattle.std.specs.declared.io.ErrorKind.{ErrorKind}
@@ -27,11 +27,15 @@ pub record StreamState (S : Type 0) : Type 0 where
   pub history : List Answer
   pub asked : List ℕ
 
--- the call would have waited (EAGAIN), or is to be made again (EINTR)
+-- the call would have waited (EAGAIN)
 abbrev pub is_wait : ErrorKind → Bool
 is_wait kind.WouldBlock = true
-is_wait kind.Interrupted = true
 is_wait _ = false
+
+-- the call is to be made again (EINTR)
+abbrev pub is_interrupted : Result ℕ ErrorKind → Bool
+is_interrupted (Err kind.Interrupted) = true
+is_interrupted _ = false
 
 -- the connection is still being made
 abbrev pub is_unconnected : ErrorKind → Bool
@@ -60,13 +64,21 @@ abbrev pub IsCountWithin : Result ℕ ErrorKind → ℕ → Type 0
 IsCountWithin (Ok n) len = n ≤ len
 IsCountWithin (Err e) len = Unit {0}
 
--- one read of the stream, and the answer is what its result means
-abbrev pub IsReadBy : List Called → List Called → Read → Type 0
-IsReadBy before after answer = (count : Result ℕ ErrorKind) × (after ≡ before ++ called.Read count ∷ []) × (answer ≡ read_of count)
+-- The call was made, and again as long as it was interrupted, at most so many times. The last result counts; it is an interruption where
+-- the call was made again the most times.
+pub record IsSettled (called : Result ℕ ErrorKind → Called) (most : ℕ) (before after : List Called) (count : Result ℕ ErrorKind) : Type 0 where
+  pub again : ℕ
+  pub told : after ≡ before ++ (replicate again (called (Err kind.Interrupted)) ++ called count ∷ [])
+  pub within : again ≤ most
+  pub settled : is_interrupted count ≡ true → again ≡ most
 
--- one write
+-- a read of the stream, and the answer is what its result means
+abbrev pub IsReadBy : List Called → List Called → Read → Type 0
+IsReadBy before after answer = (count : Result ℕ ErrorKind) × IsSettled called.Read 64 before after count × (answer ≡ read_of count)
+
+-- a write
 abbrev pub IsWrittenBy : List Called → List Called → Write → Type 0
-IsWrittenBy before after answer = (count : Result ℕ ErrorKind) × (after ≡ before ++ called.Write count ∷ []) × (answer ≡ write_of count)
+IsWrittenBy before after answer = (count : Result ℕ ErrorKind) × IsSettled called.Write 64 before after count × (answer ≡ write_of count)
 
 -- the stream was asked for its error, and then for its peer
 pub record IsConnectedBy (before after : List Called) (answer : Connect) : Type 0 where

@@ -1,7 +1,7 @@
 //! What the calls of a link answer.
 ghost use Rattle.std.specs.Prelude.{◌≡◌, ◌≤◌, ◌-◌, ◌^◌, ℕ, List, [], ◌∷◌, ◌++◌, length, min};
 
-use crate::history::{History, bytes_of};
+use mx_types::History;
 use std::marker::Model;
 
 /// Whether a connection stands.
@@ -166,4 +166,15 @@ impl Answers {
     {
         self.failures
     }
+}
+
+/// These bytes, for contracts alone.
+pub fn bytes_of(bytes: &[u8]) -> History<u8>
+    ensures { result ≡ bytes.now }
+{
+    let mut all = History::new();
+    for byte in bytes {
+        all.note(*byte);
+    }
+    all
 }

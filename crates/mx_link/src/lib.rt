@@ -3,15 +3,13 @@
 #![tactic(auto)]
 
 mod answers;
-mod history;
 pub mod laws;
 mod links;
 mod scripted;
 mod sockets;
 mod streams;
 
-pub use crate::answers::{Answer, Connect, Read, Write};
-pub use crate::history::{History, bytes_of};
+pub use crate::answers::{Answer, Connect, Read, Write, bytes_of};
 pub use crate::links::Link;
 pub use crate::scripted::{ScriptLink, ScriptRead};
 pub use crate::sockets::{TcpLink, TcpSocket};

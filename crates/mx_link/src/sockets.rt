@@ -2,10 +2,10 @@
 ghost use Rattle.std.specs.Prelude.{◌≡◌, []};
 ghost use Rattle.mx_link.specs.Streams.{by_kind};
 
-use crate::history::History;
 use crate::streams::{Called, Stream, StreamLink};
 use mio::net::TcpStream;
 use mio::{Interest, Registry, Token};
+use mx_types::History;
 use std::io;
 use std::io::{ErrorKind, Read as _, Write as _};
 use std::marker::Model;

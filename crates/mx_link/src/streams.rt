@@ -1,7 +1,8 @@
 //! A link over a stream.
 ghost use Rattle.std.specs.Prelude.{◌≡◌, ℕ, ◌<◌, ◌≤◌, ◌-◌, ◌^◌, List, [], ◌∷◌, ◌++◌, length, min, Result};
 ghost use Rattle.mx_link.specs.Calls.{connect_answer, read_answer, write_answer, IsReadWithin, IsWriteWithin};
-ghost use Rattle.mx_link.specs.Streams.{read_of, write_of, connect_of, is_wait, is_unconnected};
+ghost use Rattle.mx_link.specs.Streams.{read_of, write_of, connect_of, is_wait, is_unconnected, IsCountWithin, IsSettled};
+ghost use Rattle.mx_link.specs.declared.streams.Called.TheVariants as called;
 
 use crate::answers::{Answers, Connect, Read, Write};
 use crate::links::Link;
@@ -50,10 +51,36 @@ pub trait Stream: Drop {
         ensures within { IsCountWithin result (length bytes.now) };
 }
 
+/// How often in a row a call that was interrupted is made again. What is interrupted once more has failed.
+const MOST_AGAIN: u8 = 64;
+
 fn is_wait(kind: ErrorKind) -> bool
     ensures { result ≡ is_wait kind }
 {
-    matches!(kind, ErrorKind::WouldBlock | ErrorKind::Interrupted)
+    matches!(kind, ErrorKind::WouldBlock)
+}
+
+// Reads, and at most `more` times again as long as the read is interrupted.
+fn read_until<S: Stream>(stream: &mut S, buffer: &mut [u8], more: u8) -> Result<usize, ErrorKind>
+    ensures settled { IsSettled called.Read more (S.results stream.old) (S.results stream.new) result }
+    ensures within { IsCountWithin result (length buffer.new) }
+    ensures length { length buffer.new ≡ length buffer.old }
+{
+    match stream.read(buffer) {
+        Err(ErrorKind::Interrupted) if more > 0 => read_until(stream, buffer, more - 1),
+        count => count,
+    }
+}
+
+// Writes, and at most `more` times again as long as the write is interrupted.
+fn write_until<S: Stream>(stream: &mut S, bytes: &[u8], more: u8) -> Result<usize, ErrorKind>
+    ensures settled { IsSettled called.Write more (S.results stream.old) (S.results stream.new) result }
+    ensures within { IsCountWithin result (length bytes.now) }
+{
+    match stream.write(bytes) {
+        Err(ErrorKind::Interrupted) if more > 0 => write_until(stream, bytes, more - 1),
+        count => count,
+    }
 }
 
 fn read_of(count: Result<usize, ErrorKind>) -> Read
@@ -90,7 +117,8 @@ fn connect_of(error: Result<Option<ErrorKind>, ErrorKind>, peer: Result<(), Erro
     }
 }
 
-/// A link over a stream. Each of its answers is what the stream's result means.
+/// A link over a stream. Each of its answers is what the stream's result means; a read or a write that was interrupted
+/// (EINTR) is made again at once, at most 64 times in a row.
 #[derive(Drop)]
 pub struct StreamLink<S: Stream> {
     pub(crate) stream: S,
@@ -146,7 +174,7 @@ impl<S: Stream> Link for StreamLink<S> {
         ensures within { IsReadWithin result (length buffer.new) }
         ensures length { length buffer.new ≡ length buffer.old }
     {
-        let read = read_of(self.stream.read(buffer));
+        let read = read_of(read_until(&mut self.stream, buffer, MOST_AGAIN));
         self.answers.note_read(read, buffer);
         read
     }
@@ -157,7 +185,7 @@ impl<S: Stream> Link for StreamLink<S> {
         ensures rest { self.new ≡ record self.old { stream = self.new.stream; history = self.old.history ++ write_answer result bytes.now ∷ []; asked = self.old.asked ++ length bytes.now ∷ [] } }
         ensures within { IsWriteWithin result (length bytes.now) }
     {
-        let write = write_of(self.stream.write(bytes));
+        let write = write_of(write_until(&mut self.stream, bytes, MOST_AGAIN));
         self.answers.note_write(write, bytes);
         write
     }

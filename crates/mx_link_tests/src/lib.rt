@@ -4,6 +4,8 @@
 #[cfg(test)]
 mod asking;
 #[cfg(test)]
+mod interrupted;
+#[cfg(test)]
 mod scripted;
 #[cfg(test)]
 mod sockets;
