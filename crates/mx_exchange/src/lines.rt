@@ -4,8 +4,9 @@ ghost use Rattle.mx_link.specs.Calls.{connect_answer, read_answer, write_answer,
 ghost use Rattle.mx_exchange.specs.Order.{is_connected, most_read};
 ghost use Rattle.mx_exchange.specs.Lines.{IsLine, IsOpen, IsProbed, Grows, MayHandOut, taken_count};
 
-use mx_link::{Answer, Connect, History, Link, Read, Write};
+use mx_link::{Answer, Connect, Link, Read, Write};
 use mx_request::Request;
+use mx_types::History;
 use std::marker::Model;
 use std::snapshot::Snapshot;
 

@@ -12,9 +12,9 @@ ghost use Rattle.mx_types.specs.declared.code.Code.TheVariants as code;
 
 use crate::laws;
 use mx_body::Part as BodyPart;
-use mx_link::{Answer, History};
+use mx_link::Answer;
 use mx_request::Request;
-use mx_types::{Code, Ending, OutOfMemory};
+use mx_types::{Code, Ending, History, OutOfMemory};
 use std::alloc::Global;
 use std::marker::Model;
 use std::snapshot::Snapshot;
@@ -202,8 +202,9 @@ impl Outcome {
 impl Ending for Outcome {
     ghost use Rattle.std.specs.Prelude.{length};
     ghost use Rattle.mx_body.specs.Parts.{joined};
+    ghost use Rattle.mx_request.specs.Request.{request_origin};
 
-    ghost origin = { λ o. o.request.bytes };
+    ghost origin = { λ o. request_origin o.request };
 
     ghost code_of = { λ o. o.code };
 

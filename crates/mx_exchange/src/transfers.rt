@@ -81,7 +81,9 @@ impl<L: Link> Model for Transfer<L> {
 }
 
 impl<L: Link> Work for Transfer<L> {
-    ghost origin = { λ t. t.request.bytes };
+    ghost use Rattle.mx_request.specs.Request.{request_origin};
+
+    ghost origin = { λ t. request_origin t.request };
 }
 
 impl<L: Link> Transfer<L> {

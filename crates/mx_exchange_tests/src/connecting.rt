@@ -3,9 +3,9 @@
 use futures::task::Poll;
 use futures::test::MockTask;
 use mx_exchange::Transfer;
-use mx_link::{Called, History, Link, Stream, StreamLink};
+use mx_link::{Called, Link, Stream, StreamLink};
 use mx_request::Request;
-use mx_types::{Code, Method, Settings};
+use mx_types::{Code, History, Method, Settings};
 use std::alloc::Global;
 use std::io::ErrorKind;
 use std::process::Abort;

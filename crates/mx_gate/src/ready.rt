@@ -3,7 +3,8 @@ ghost use Rattle.std.specs.Prelude.{◌≡◌, ◌<◌, ◌≤◌, ◌-◌, ◌^
 ghost use Rattle.mx_link.specs.Calls.{connect_answer, read_answer, write_answer, IsReadWithin, IsWriteWithin};
 
 use crate::signals::Signals;
-use mx_link::{Answer, Connect, History, Link, Read, Write};
+use mx_link::{Answer, Connect, Link, Read, Write};
+use mx_types::History;
 use std::marker::Model;
 use std::sync::Arc;
 

@@ -11,6 +11,7 @@ use Rattle.mx_types.specs.declared.event.Who.{Who}
 use Rattle.mx_types.specs.declared.event.What.{What}
 use Rattle.mx_types.specs.declared.event.What.TheVariants as what
 use Rattle.mx_types.specs.declared.event.Event.{Event}
+use Rattle.mx_types.specs.declared.origin.Origin.{Origin}
 use Rattle.mx_history.specs.History.{addition_of, added, additions, has_handle, may_follow}
 use Rattle.mx_journal.specs.Core.{AreOwn, KeepsOrigins, origin_of}
 use Rattle.mx_journal.specs.Replies.{is_pausing}
@@ -18,27 +19,27 @@ use Rattle.mx_history.specs.Laws.{then}
 use Rattle.mx_history.proofs.Lists.{Each-map, Each-append, Each-filter}
 use Rattle.mx_history.proofs.Histories.{additions-then}
 
-stands_later : (xs more : List (List ℕ)) (i : ℕ) (y : List ℕ) → slice_get xs i ≡ Some y → slice_get (xs ++ more) i ≡ Some y
+stands_later : (xs more : List Origin) (i : ℕ) (y : Origin) → slice_get xs i ≡ Some y → slice_get (xs ++ more) i ≡ Some y
 stands_later [] more i y e = cc
 stands_later (x ∷ xs) more zero y e = e
 stands_later (x ∷ xs) more (suc i) y e = stands_later xs more i y e
 
-stands_last : (xs : List (List ℕ)) (y : List ℕ) → slice_get (xs ++ y ∷ []) (length xs) ≡ Some y
+stands_last : (xs : List Origin) (y : Origin) → slice_get (xs ++ y ∷ []) (length xs) ≡ Some y
 stands_last [] y = refl
 stands_last (x ∷ xs) y = stands_last xs y
 
 -- what is of its addition stays so as additions come
-pub own_later : {X : Type 0} (origin : X → List ℕ) (origins more : List (List ℕ)) (xs : List (Ticket × X)) → AreOwn origin origins xs → AreOwn origin (origins ++ more) xs
+pub own_later : {X : Type 0} (origin : X → Origin) (origins more : List Origin) (xs : List (Ticket × X)) → AreOwn origin origins xs → AreOwn origin (origins ++ more) xs
 own_later {X} origin origins more xs own =
     Each-map (λ (x : Ticket × X). slice_get origins x.0.0 ≡ Some (origin x.1)) (λ (x : Ticket × X). slice_get (origins ++ more) x.0.0 ≡ Some (origin x.1))
     (λ x e. stands_later origins more x.0.0 (origin x.1) e) xs own
 
-pub own_filter : {X : Type 0} (origin : X → List ℕ) (origins : List (List ℕ)) (p : Ticket × X → Bool) (xs : List (Ticket × X)) → AreOwn origin origins xs → AreOwn origin origins (filter p xs)
+pub own_filter : {X : Type 0} (origin : X → Origin) (origins : List Origin) (p : Ticket × X → Bool) (xs : List (Ticket × X)) → AreOwn origin origins xs → AreOwn origin origins (filter p xs)
 own_filter {X} origin origins p xs own =
     Each-filter p (λ (x : Ticket × X). slice_get origins x.0.0 ≡ Some (origin x.1)) (λ (x : Ticket × X). slice_get origins x.0.0 ≡ Some (origin x.1)) (λ x _ e. e) xs own
 
 -- with an addition
-pub origins-added : {Q : Type 0} (origin : Q → List ℕ) (history : ℕ) (j : List Event) (w : Who) (h : HandleId) (t : Ticket) (origins : List (List ℕ)) (queue : List (Ticket × Q)) (work : Q) (space : ℕ)
+pub origins-added : {Q : Type 0} (origin : Q → Origin) (history : ℕ) (j : List Event) (w : Who) (h : HandleId) (t : Ticket) (origins : List Origin) (queue : List (Ticket × Q)) (work : Q) (space : ℕ)
     → KeepsOrigins origin history j origins queue space → may_follow j (what.Added h t) ≡ true
     → KeepsOrigins origin history (then j w (what.Added h t)) (origins ++ origin work ∷ []) (queue ++ (t, work) ∷ []) space
 origins-added origin history j w h t origins queue work space k m =
@@ -52,7 +53,7 @@ origins-added origin history j w h t origins queue work space k m =
     }
 
 -- with another event, and a queue that is of these origins
-pub origins-then : {Q : Type 0} (origin : Q → List ℕ) (history : ℕ) (j : List Event) (w : Who) (e : What) (origins : List (List ℕ)) (old new : List (Ticket × Q)) (space : ℕ)
+pub origins-then : {Q : Type 0} (origin : Q → Origin) (history : ℕ) (j : List Event) (w : Who) (e : What) (origins : List Origin) (old new : List (Ticket × Q)) (space : ℕ)
     → KeepsOrigins origin history j origins old space → is_some (addition_of e) ≡ false → AreOwn origin origins new → KeepsOrigins origin history (then j w e) origins new space
 origins-then origin history j w e origins old new space k none own = record {
   each = k.each ∙ sym (additions-then j w e ∙ ap (λ b. additions j + cond b 1 0) none ∙ add-zero (additions j));
@@ -73,6 +74,6 @@ pub map-pushed : {X Y : Type 0} (f : X → Y) (xs : List X) (x : X) (y : Y) → 
 map-pushed f xs x y e = map-append f xs (x ∷ []) ∙ ap (λ z. map f xs ++ z ∷ []) e
 
 -- with one more behind
-pub own_pushed : {X : Type 0} (origin : X → List ℕ) (origins : List (List ℕ)) (xs : List (Ticket × X)) (t : Ticket) (x : X) → AreOwn origin origins xs → origin_of t origins ≡ Some (origin x)
+pub own_pushed : {X : Type 0} (origin : X → Origin) (origins : List Origin) (xs : List (Ticket × X)) (t : Ticket) (x : X) → AreOwn origin origins xs → origin_of t origins ≡ Some (origin x)
     → AreOwn origin origins (xs ++ (t, x) ∷ [])
 own_pushed {X} origin origins xs t x own e = Each-append (λ (y : Ticket × X). slice_get origins y.0.0 ≡ Some (origin y.1)) xs ((t, x) ∷ []) own (e, tt)

@@ -8,6 +8,7 @@ use Rattle.std.proofs.lemmas.List.Sums.{sum_by-cons}
 use Rattle.mx_types.specs.declared.code.Code.{Code}
 use Rattle.mx_types.specs.declared.names.Ticket.{Ticket}
 use Rattle.mx_types.specs.declared.event.Event.{Event}
+use Rattle.mx_types.specs.declared.origin.Origin.{Origin}
 use Rattle.mx_history.specs.History.{Message, IsInOrder, same_ticket, has_ticket, running, waiting, is_legal}
 use Rattle.mx_journal.specs.Core.{queued, claimed, message, origin_of, AreOwn, IsControl, KeepsOrigins}
 use Rattle.mx_journal.specs.Replies.{in_place, GiveBackUndoesClaim}
@@ -133,31 +134,31 @@ queue_short code size history j t work queue endings cq ce c h =
 
 -- 4. The origins.
 
-set_same : (xs : List (List ℕ)) (i : ℕ) (y : List ℕ) → i < length xs → slice_get (slice_set xs i y) i ≡ Some y
+set_same : (xs : List Origin) (i : ℕ) (y : Origin) → i < length xs → slice_get (slice_set xs i y) i ≡ Some y
 set_same [] i y lt = absurd (omega arith)
 set_same (x ∷ xs) zero y lt = refl
 set_same (x ∷ xs) (suc i) y lt = set_same xs i y (omega arith)
 
-set_other : (xs : List (List ℕ)) (i k : ℕ) (y : List ℕ) → (k ≡ i → ⊥) → slice_get (slice_set xs i y) k ≡ slice_get xs k
+set_other : (xs : List Origin) (i k : ℕ) (y : Origin) → (k ≡ i → ⊥) → slice_get (slice_set xs i y) k ≡ slice_get xs k
 set_other [] i k y off = refl
 set_other (x ∷ xs) zero zero y off = absurd (off refl)
 set_other (x ∷ xs) zero (suc k) y off = refl
 set_other (x ∷ xs) (suc i) zero y off = refl
 set_other (x ∷ xs) (suc i) (suc k) y off = set_other xs i k y (λ e. off (ap suc e))
 
-pub set_idle : (xs : List (List ℕ)) (i : ℕ) (y : List ℕ) → slice_get xs i ≡ Some y → slice_set xs i y ≡ xs
+pub set_idle : (xs : List Origin) (i : ℕ) (y : Origin) → slice_get xs i ≡ Some y → slice_set xs i y ≡ xs
 set_idle [] i y e = refl
 set_idle (x ∷ xs) zero y e = cc
 set_idle (x ∷ xs) (suc i) y e = ap (λ z. x ∷ z) (set_idle xs i y e)
 
-own_apart : {X : Type 0} (origin : X → List ℕ) (origins : List (List ℕ)) (t : Ticket) (o : List ℕ) (xs : List (Ticket × X)) → has_ticket t (queued xs) ≡ false
+own_apart : {X : Type 0} (origin : X → Origin) (origins : List Origin) (t : Ticket) (o : Origin) (xs : List (Ticket × X)) → has_ticket t (queued xs) ≡ false
     → AreOwn origin origins xs → AreOwn origin (slice_set origins t.0 o) xs
 own_apart origin origins t o [] h a = tt
 own_apart origin origins t o (x ∷ xs) h a =
     let k = parts_false (same_ticket t x.0) (has_ticket t (queued xs)) h in
     (set_other origins t.0 x.0.0 o (λ e. eqb-false t.0 x.0.0 k.0 (sym e)) ∙ a.0, own_apart origin origins t o xs k.1 a.1)
 
-own_in_place : {X : Type 0} (origin : X → List ℕ) (origins : List (List ℕ)) (t : Ticket) (w : X) (xs : List (Ticket × X)) → origin_of t origins ≡ Some (origin w)
+own_in_place : {X : Type 0} (origin : X → Origin) (origins : List Origin) (t : Ticket) (w : X) (xs : List (Ticket × X)) → origin_of t origins ≡ Some (origin w)
     → AreOwn origin origins xs → AreOwn origin origins (in_place t w xs)
 own_in_place origin origins t w [] e a = (e, tt)
 own_in_place {X} origin origins t w (x ∷ xs) e a = go (nat_lt x.0.0 t.0) (own_in_place origin origins t w xs e a.1)
@@ -167,12 +168,12 @@ own_in_place {X} origin origins t w (x ∷ xs) e a = go (nat_lt x.0.0 t.0) (own_
     go false r = (e, a)
 
 -- a running ticket has its origin
-pub within : {Q : Type 0} (origin : Q → List ℕ) (history : ℕ) (j : List Event) (t : Ticket) (origins : List (List ℕ)) (queue : List (Ticket × Q)) (space : ℕ)
+pub within : {Q : Type 0} (origin : Q → Origin) (history : ℕ) (j : List Event) (t : Ticket) (origins : List Origin) (queue : List (Ticket × Q)) (space : ℕ)
     → KeepsOrigins origin history j origins queue space → is_legal j ≡ true → has_ticket t (claimed j queue) ≡ true → t.0 < length origins
 within origin history j t origins queue space k l h =
     let b = below j (laws j l) t (running-has j t (claimed_parts j t queue h).0).0 in omega (arith, b, k.each)
 
-pub origins-given : {Q : Type 0} (origin : Q → List ℕ) (history : ℕ) (j : List Event) (t : Ticket) (work : Q) (origins : List (List ℕ)) (queue : List (Ticket × Q)) (space : ℕ)
+pub origins-given : {Q : Type 0} (origin : Q → Origin) (history : ℕ) (j : List Event) (t : Ticket) (work : Q) (origins : List Origin) (queue : List (Ticket × Q)) (space : ℕ)
     → KeepsOrigins origin history j origins queue space → is_legal j ≡ true → has_ticket t (claimed j queue) ≡ true
     → KeepsOrigins origin history j (slice_set origins t.0 (origin work)) (in_place t work queue) space
 origins-given origin history j t work origins queue space k l h = record {
@@ -187,7 +188,7 @@ ended_tickets code size [] = refl
 ended_tickets code size (x ∷ xs) = ap (λ z. x.0 ∷ z) (ended_tickets code size xs)
 
 -- no ending is of a ticket that runs
-pub endings_apart : {O : Type 0} (code : O → Code) (size : O → ℕ) (origin : O → List ℕ) (j : List Event) (t : Ticket) (o : List ℕ) (origins : List (List ℕ)) (endings : List (Ticket × O))
+pub endings_apart : {O : Type 0} (code : O → Code) (size : O → ℕ) (origin : O → Origin) (j : List Event) (t : Ticket) (o : Origin) (origins : List Origin) (endings : List (Ticket × O))
     → is_legal j ≡ true → map (message code size) endings ≡ waiting j → has_ticket t (running j) ≡ true
     → AreOwn origin origins endings → AreOwn origin (slice_set origins t.0 o) endings
 endings_apart code size origin j t o origins endings l w r =

@@ -5,31 +5,32 @@ use Rattle.mx_types.specs.declared.code.Code.{Code}
 use Rattle.mx_types.specs.declared.names.HandleId.{HandleId}
 use Rattle.mx_types.specs.declared.names.Ticket.{Ticket}
 use Rattle.mx_types.specs.declared.event.Event.{Event}
+use Rattle.mx_types.specs.declared.origin.Origin.{Origin}
 use Rattle.mx_history.specs.Table.{TableView, IsTableOf, HasCounters}
 use Rattle.mx_history.specs.History.{HasRoomForDue, IsInOrder, Message, Opening, additions, same_ticket, waiting, running, has_ticket}
 
--- what it was opened with, the journal, for each addition, in their order, the bytes of the request of the work that was queued under its
--- ticket last, the work that waits for a worker, and the endings that wait to be read
+-- what it was opened with, the journal, for each addition, in their order, the request of the work that was queued under its ticket last,
+-- the work that waits for a worker, and the endings that wait to be read
 pub record Core (Q O : Type 0) : Type 0 where
   pub opening : Opening
   pub journal : List Event
-  pub origins : List (List ℕ)
+  pub origins : List Origin
   pub queue : List (Ticket × Q)
   pub endings : List (Ticket × O)
 
--- a claim: its addition, the slot of that addition, and the bytes of its work's request
+-- a claim: its addition, the slot of that addition, and its work's request
 pub record Claimed : Type 0 where
   pub handle : HandleId
   pub ticket : Ticket
   pub slot : ℕ
-  pub origin : List ℕ
+  pub origin : Origin
 
--- the bytes of the request of the work that was queued under the ticket: tickets number the additions
-abbrev pub origin_of : Ticket → List (List ℕ) → Option (List ℕ)
+-- the request of the work that was queued under the ticket: tickets number the additions
+abbrev pub origin_of : Ticket → List Origin → Option Origin
 origin_of t origins = slice_get origins t.0
 
 -- each is of the work that was queued under its ticket
-abbrev pub AreOwn : {X : Type 0} → (X → List ℕ) → List (List ℕ) → List (Ticket × X) → Type 0
+abbrev pub AreOwn : {X : Type 0} → (X → Origin) → List Origin → List (Ticket × X) → Type 0
 AreOwn origin origins xs = AllByRecursion (λ x. origin_of x.0 origins ≡ Some (origin x.1)) xs
 
 abbrev pub queued : {Q : Type 0} → List (Ticket × Q) → List Ticket
@@ -64,7 +65,7 @@ pub record IsControl {Q O : Type 0} (code : O → Code) (size : O → ℕ) (hist
   pub endings_fit : 256 ≤ for_endings
 
 -- there is an origin for each addition, and space for those to come; queued work is of its addition's
-pub record KeepsOrigins {Q : Type 0} (origin : Q → List ℕ) (history : ℕ) (journal : List Event) (origins : List (List ℕ)) (queue : List (Ticket × Q)) (space : ℕ) : Type 0 where
+pub record KeepsOrigins {Q : Type 0} (origin : Q → Origin) (history : ℕ) (journal : List Event) (origins : List Origin) (queue : List (Ticket × Q)) (space : ℕ) : Type 0 where
   pub each : length origins ≡ additions journal
   pub own : AreOwn origin origins queue
   pub fits : history ≤ space

@@ -18,6 +18,7 @@ use Rattle.mx_journal.specs.declared.replies.GiveBackReply.TheVariants as giving
 use Rattle.mx_types.specs.declared.names.Ticket.{Ticket}
 use Rattle.mx_types.specs.declared.reply.Reply.{Reply}
 use Rattle.mx_types.specs.declared.reply.Reply.TheVariants as reply
+use Rattle.mx_types.specs.declared.origin.Origin.{Origin}
 use Rattle.mx_journal.specs.declared.replies.AddReply.{AddReply}
 use Rattle.mx_journal.specs.declared.replies.AddReply.TheVariants as add
 use Rattle.mx_journal.specs.declared.replies.RemoveReply.{RemoveReply}
@@ -40,7 +41,7 @@ queue_added (add.Added t) queue work = queue ++ (t, work) ∷ []
 queue_added _ queue work = queue
 
 -- the origins after an addition: its work's comes last
-abbrev pub origins_added : {Q : Type 0} → AddReply Q → List (List ℕ) → List ℕ → List (List ℕ)
+abbrev pub origins_added : {Q : Type 0} → AddReply Q → List Origin → Origin → List Origin
 origins_added (add.Added t) origins origin = origins ++ origin ∷ []
 origins_added _ origins origin = origins
 
@@ -111,7 +112,7 @@ queue_given giving.Back queue t work = in_place t work queue
 queue_given (giving.Stale _) queue t work = queue
 
 -- the origins after work was given back: that of its ticket is this work's
-abbrev pub origins_given : {Q : Type 0} → GiveBackReply Q → List (List ℕ) → Ticket → List ℕ → List (List ℕ)
+abbrev pub origins_given : {Q : Type 0} → GiveBackReply Q → List Origin → Ticket → Origin → List Origin
 origins_given giving.Back origins t origin = slice_set origins t.0 origin
 origins_given (giving.Stale _) origins t origin = origins
 

@@ -1,5 +1,6 @@
 //! Work that is given back to the queue.
-ghost use Rattle.std.specs.Prelude.{◌≡◌, []};
+ghost use Rattle.std.specs.Prelude.{◌≡◌};
+ghost use Rattle.mx_types.specs.Origin.{no_request};
 
 use crate::sample::End;
 use mx_journal::{
@@ -22,7 +23,9 @@ struct Job {
 }
 
 impl Work for Job {
-    ghost origin = { λ _. [] };
+    ghost use Rattle.mx_types.specs.Origin.{no_request};
+
+    ghost origin = { λ _. no_request };
 }
 
 /// A claim with its work.
@@ -33,13 +36,14 @@ struct Held {
 }
 
 impl Model for Held {
-    ghost use Rattle.std.specs.Prelude.{◌≡◌, []};
+    ghost use Rattle.std.specs.Prelude.{◌≡◌};
+    ghost use Rattle.mx_types.specs.Origin.{no_request};
 
     ghost Value = { Unit {0} };
 
     ghost view = { λ _. tt };
 
-    ghost invariant = { λ h. h.claim.origin ≡ [] };
+    ghost invariant = { λ h. h.claim.origin ≡ no_request };
 }
 
 /// The next claim.

@@ -1,6 +1,4 @@
 //! An ending for the tests of both files.
-ghost use Rattle.std.specs.Prelude.{[]};
-
 use mx_types::{Code, Ending};
 
 /// An ending without a request.
@@ -10,7 +8,9 @@ pub struct End {
 }
 
 impl Ending for End {
-    ghost origin = { λ _. [] };
+    ghost use Rattle.mx_types.specs.Origin.{no_request};
+
+    ghost origin = { λ _. no_request };
 
     ghost code_of = { λ e. e.code };
 

@@ -17,7 +17,9 @@ use std::test::Fail;
 struct Job;
 
 impl Work for Job {
-    ghost origin = { λ _. [] };
+    ghost use Rattle.mx_types.specs.Origin.{no_request};
+
+    ghost origin = { λ _. no_request };
 }
 
 /// A log that refuses one append: the one that finds `accepts` at 0.

@@ -4,7 +4,7 @@ use Rattle.std.specs.List.{AllPass}
 use Rattle.mx_types.specs.Settings.{SettingsValue}
 use Rattle.mx_types.specs.declared.method.Method.{Method}
 use Rattle.mx_request.specs.Fields.{is_value_byte}
-use Rattle.mx_request.specs.Request.{RequestValue, IsBuiltFrom}
+use Rattle.mx_request.specs.Request.{RequestValue, IsBuiltFrom, request_origin}
 use Rattle.mx_request.specs.RequestBytes.{crlf, ended, target, request_line, endpoint_of, host_field, sent_fields, head_lines, body_bytes, request_head}
 use Rattle.url.specs.Parts.{Parts}
 
@@ -75,3 +75,7 @@ TargetBeginsWithSlash =
     (method : Method) (text : List ℕ) (settings : SettingsValue) (request : RequestValue)
     (built : IsBuiltFrom method text settings request)
     → (rest : List ℕ) × (target built.url ≡ 47 ∷ rest)
+
+-- requests of one origin are the same: method, endpoint, bytes and timeout
+abbrev pub OriginIsWholeRequest : Type 0
+OriginIsWholeRequest = (request other : RequestValue) → request_origin request ≡ request_origin other → request ≡ other

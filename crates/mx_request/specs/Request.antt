@@ -3,6 +3,7 @@ use Rattle.std.specs.Prelude.{◌≡◌, ℕ, nat_lt, Bool, false, not, List, le
 use Rattle.std.specs.Option.{option_map_or}
 use Rattle.mx_types.specs.Settings.{SettingsValue}
 use Rattle.mx_types.specs.declared.method.Method.{Method}
+use Rattle.mx_types.specs.declared.origin.Origin.{Origin}
 use Rattle.mx_request.specs.Endpoint.{HostAndPort}
 use Rattle.mx_request.specs.Fields.{are_fields}
 use Rattle.mx_request.specs.RequestBytes.{endpoint_of, request_bytes}
@@ -17,6 +18,16 @@ pub record RequestValue : Type 0 where
   pub endpoint : HostAndPort
   pub bytes : List ℕ
   pub timeout_ms : ℕ
+
+-- the request as the origin of an addition or of an outcome: all of it
+abbrev pub request_origin : RequestValue → Origin
+request_origin request = record {
+  method = request.method;
+  host = request.endpoint.host;
+  port = request.endpoint.port;
+  bytes = request.bytes;
+  timeout_ms = request.timeout_ms;
+}
 
 -- a URL that the URL Standard's parser took, or why it is refused all the same
 abbrev pub checked_url : Parsed Parts → Result Parts RequestError

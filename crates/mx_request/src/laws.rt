@@ -29,3 +29,8 @@ pub fn equal_bytes_are_sent_alike()
 pub fn target_begins_with_slash()
     ensures { law.TargetBeginsWithSlash }
 {}
+
+/// Requests of one origin are the same: their methods, endpoints, bytes and timeouts.
+pub fn origin_is_whole_request()
+    ensures { law.OriginIsWholeRequest }
+{}

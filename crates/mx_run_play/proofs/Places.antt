@@ -4,6 +4,7 @@ use Rattle.std.specs.Prelude.{suc, zero, ◌==◌, ◌||◌, Option, Some, None,
 use Rattle.std.proofs.lemmas.Bool.{eq-eqb, ne_eqb}
 use Rattle.std.proofs.lemmas.List.{length-set}
 use Rattle.mx_types.specs.declared.names.Ticket.{Ticket}
+use Rattle.mx_types.specs.Origin.{no_request}
 use Rattle.mx_journal.specs.Core.{Claimed}
 use Rattle.mx_journal.specs.History.{same_ticket, has_ticket}
 use Rattle.mx_run_play.specs.Turns.{without_claim}
@@ -38,7 +39,7 @@ pub record IsEmpty (n : ℕ) (xs : List (Option Claimed)) (t : Ticket) (i : ℕ)
 
 pub record IsTaken (n : ℕ) (xs : List (Option Claimed)) (t : Ticket) (i : ℕ) (claim : Claimed) : Type 0 where
   pub its : claim.ticket ≡ t
-  pub origin : claim.origin ≡ []
+  pub origin : claim.origin ≡ no_request
   pub has : has_ticket t (tickets_at xs) ≡ true
   pub rest : tickets_at (set xs i None) ≡ without_claim t (tickets_at xs)
   pub places : AreAtTheirPlaces n (set xs i None)
@@ -101,7 +102,7 @@ kept (None ∷ xs) claim = kept xs claim
 kept (Some c ∷ xs) claim = ap (λ z. c.ticket ∷ z) (kept xs claim)
 
 pub kept_places : (n : ℕ) (xs : List (Option Claimed)) (claim : Claimed) → AreAtTheirPlaces n xs → claim.ticket.0 ≡ n + length xs
-    → claim.origin ≡ [] → AreAtTheirPlaces n (xs ++ Some claim ∷ [])
+    → claim.origin ≡ no_request → AreAtTheirPlaces n (xs ++ Some claim ∷ [])
 kept_places n [] claim h next origin = (omega (arith, next), origin, tt)
 kept_places n (None ∷ xs) claim h next origin = kept_places (n + 1) xs claim h (omega (arith, next)) origin
 kept_places n (Some c ∷ xs) claim h next origin = (h.0, h.1, kept_places (n + 1) xs claim h.2 (omega (arith, next)) origin)
@@ -114,7 +115,7 @@ pub record Took (xs : List (Option Claimed)) (t : Ticket) (given : Option Claime
   pub places : AreAtTheirPlaces 0 (set xs t.0 after)
   pub none : IfNone given ((has_ticket t (tickets_at xs) ≡ false) × (tickets_at (set xs t.0 after) ≡ tickets_at xs))
   pub some : IfSome given (λ claim. (has_ticket t (tickets_at xs) ≡ true) × (tickets_at (set xs t.0 after) ≡ without_claim t (tickets_at xs)))
-  pub its : IfSome given (λ claim. (claim.ticket ≡ t) × (claim.origin ≡ []))
+  pub its : IfSome given (λ claim. (claim.ticket ≡ t) × (claim.origin ≡ no_request))
 
 pub took : (xs : List (Option Claimed)) (t : Ticket) (now given after : Option Claimed) → AreAtTheirPlaces 0 xs → t.0 < length xs
     → now ≡ slice_index_or xs t.0 now → given ≡ now → after ≡ None → Took xs t given after
@@ -145,7 +146,7 @@ took_some xs t (Some claim) after space p h is =
 pub past_all : (xs : List (Option Claimed)) (t : Ticket) → AreAtTheirPlaces 0 xs → length xs ≤ t.0 → has_ticket t (tickets_at xs) ≡ false
 past_all xs t h le = above 0 xs t h (omega (arith, le))
 
-pub kept_next : (xs : List (Option Claimed)) (claim : Claimed) → AreAtTheirPlaces 0 xs → claim.ticket.0 ≡ length xs → claim.origin ≡ []
+pub kept_next : (xs : List (Option Claimed)) (claim : Claimed) → AreAtTheirPlaces 0 xs → claim.ticket.0 ≡ length xs → claim.origin ≡ no_request
     → AreAtTheirPlaces 0 (xs ++ Some claim ∷ [])
 kept_next xs claim h next origin = kept_places 0 xs claim h (omega (arith, next)) origin
 

@@ -5,6 +5,7 @@ use Rattle.mx_types.specs.declared.names.Ticket.{Ticket}
 use Rattle.mx_types.specs.declared.call.Call.{Call}
 use Rattle.mx_types.specs.declared.reply.Reply.{Reply}
 use Rattle.mx_types.specs.declared.reply.Reply.TheVariants as reply
+use Rattle.mx_types.specs.Origin.{no_request}
 use Rattle.mx_journal.specs.Core.{Claimed}
 use Rattle.mx_journal.specs.Receipts.{lacks_memory}
 use Rattle.mx_run_play.specs.declared.player.Said.{Said}
@@ -27,7 +28,7 @@ tickets_at (Some claim ∷ more) = claim.ticket ∷ tickets_at more
 abbrev pub AreAtTheirPlaces : ℕ → List (Option Claimed) → Type 0
 AreAtTheirPlaces n [] = Unit {0}
 AreAtTheirPlaces n (None ∷ more) = AreAtTheirPlaces (n + 1) more
-AreAtTheirPlaces n (Some claim ∷ more) = (claim.ticket.0 ≡ n) × (claim.origin ≡ []) × AreAtTheirPlaces (n + 1) more
+AreAtTheirPlaces n (Some claim ∷ more) = (claim.ticket.0 ≡ n) × (claim.origin ≡ no_request) × AreAtTheirPlaces (n + 1) more
 
 -- a reply of the core is said, and its want of memory passed on
 abbrev pub Passes : Reply → Result Said OutOfMemory → Type 0

@@ -1,5 +1,6 @@
 //! The claims that a player keeps.
 ghost use Rattle.std.specs.Prelude.{◌≡◌, ◌+◌, ◌<◌, ◌++◌, ◌∷◌, [], true, false, IfOk, IfSome, IfNone};
+ghost use Rattle.mx_types.specs.Origin.{no_request};
 ghost use Rattle.mx_journal.specs.History.{has_ticket};
 ghost use Rattle.mx_run_play.specs.Turns.{without_claim};
 
@@ -41,7 +42,7 @@ impl Claims {
     pub fn keep(&mut self, claim: Claim<NoWork>)
         requires next { claim.ticket.0 ≡ self.old.made }
         requires space { self.old.made < self.old.space }
-        requires origin { claim.origin ≡ [] }
+        requires origin { claim.origin ≡ no_request }
         ensures { self.new ≡ record self.old { made = self.old.made + 1; tickets = self.old.tickets ++ claim.ticket ∷ [] } }
     {
         self.places.push_reserved(Some(claim));
@@ -52,7 +53,7 @@ impl Claims {
         ensures none { IfNone result ((has_ticket ticket self.old.tickets ≡ false) × (self.new ≡ self.old)) }
         ensures some { IfSome result (λ c. (has_ticket ticket self.old.tickets ≡ true)
             × (self.new ≡ record self.old { tickets = without_claim ticket self.old.tickets })) }
-        ensures its { IfSome result (λ c. (c.ticket ≡ ticket) × (c.origin ≡ [])) }
+        ensures its { IfSome result (λ c. (c.ticket ≡ ticket) × (c.origin ≡ no_request)) }
     {
         let at = ticket.0 as usize;
         if at >= self.places.len() {

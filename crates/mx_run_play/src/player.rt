@@ -15,9 +15,9 @@ use std::marker::Model;
 pub struct NoWork;
 
 impl Work for NoWork {
-    ghost use Rattle.std.specs.Prelude.{[]};
+    ghost use Rattle.mx_types.specs.Origin.{no_request};
 
-    ghost origin = { λ _. [] };
+    ghost origin = { λ _. no_request };
 }
 
 /// The end of a transfer without a request, as the script tells it.
@@ -28,9 +28,9 @@ pub struct ToldEnd {
 }
 
 impl Ending for ToldEnd {
-    ghost use Rattle.std.specs.Prelude.{[]};
+    ghost use Rattle.mx_types.specs.Origin.{no_request};
 
-    ghost origin = { λ _. [] };
+    ghost origin = { λ _. no_request };
 
     ghost code_of = { λ e. e.code };
 

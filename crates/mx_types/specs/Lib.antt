@@ -1,4 +1,5 @@
 pub mod Code
 pub mod Method
 pub mod MultiCode
+pub mod Origin
 pub mod Settings

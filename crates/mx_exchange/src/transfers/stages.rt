@@ -11,9 +11,9 @@ ghost use Rattle.mx_exchange.specs.Stages.{link_of, answers_of, reused_of};
 use crate::lines::Line;
 use crate::outcomes::Outcome;
 use mx_body::Decoder;
-use mx_link::{Answer, History, Link};
+use mx_link::{Answer, Link};
 use mx_request::Request;
-use mx_types::Code;
+use mx_types::{Code, History};
 use std::alloc::Global;
 use std::snapshot::Snapshot;
 
