@@ -6,34 +6,35 @@ use prog.Atomic.{either}
 use Rattle.logbook.specs.Pages.{Cell, cell, keeps, no_nib, step, Moves, Goes}
 use Rattle.mx_lock.specs.Ties.{IsKept, Joins}
 use Rattle.mx_board.proofs.Prefixes.{prefix_whole}
+use Rattle.mx_types.specs.declared.origin.Origin.{Origin}
 
-abbrev pub nothing : List (List ℕ) → List (List ℕ)
+abbrev pub nothing : List Origin → List Origin
 nothing _ = []
 
-abbrev pub any_move : List (List ℕ) → List (List ℕ) → ℕ → Type 0
+abbrev pub any_move : List Origin → List Origin → ℕ → Type 0
 any_move _ _ _ = Unit {0}
 
 abbrev words : ℕ → List Cell
 words n = (n, true) ∷ (0, true) ∷ []
 
 -- the exchange of one who has seen v and expects the length n, where the list is log
-abbrev Exchanges : List (List ℕ) → List ℕ → ℕ → List (List ℕ) → List Cell → Type 0
+abbrev Exchanges : List Origin → Origin → ℕ → List Origin → List Cell → Type 0
 Exchanges v e n log cells =
     Goes IsKept nothing any_move 0 (v, (no_nib, None)) (λ k. either (k == n) (n + 1) k) (Joins (step 0 n (n + 1) e) (v, (no_nib, None))) cells log
 
-at_its_length : (log : List (List ℕ)) (e : List ℕ) → Exchanges log e (length log) log (words (length log))
+at_its_length : (log : List Origin) (e : Origin) → Exchanges log e (length log) log (words (length log))
 at_its_length log e =
     let hit : (length log == length log) ≡ true = eq-eqb (length log) (length log) refl in
     let longer : length log + 1 ≡ length (log ++ e ∷ []) = sym (length-append log (e ∷ [])) in
     (keeps, e ∷ [], None, tt, record { words = rw hit (ap words longer) }, inl (refl, refl), rw hit refl)
 
-at_another : (v log : List (List ℕ)) (e : List ℕ) (n : ℕ) → length log ≢ n → Exchanges v e n log (words (length log))
+at_another : (v log : List Origin) (e : Origin) (n : ℕ) → length log ≢ n → Exchanges v e n log (words (length log))
 at_another v log e n apart =
     let miss : (length log == n) ≡ false = ne_eqb (length log) n apart in
     let all = append-nil log in
     (keeps, [], None, tt, record { words = rw miss (ap (λ l. words (length l)) (sym all)) }, inl (refl, refl), rw miss (ap length all))
 
-pub exchange_keeps : (v : List (List ℕ)) (e : List ℕ) (n : ℕ) → n ≡ length v
+pub exchange_keeps : (v : List Origin) (e : Origin) (n : ℕ) → n ≡ length v
     → Moves IsKept nothing any_move 0 (v, (no_nib, None)) (λ k. either (k == n) (n + 1) k) (Joins (step 0 n (n + 1) e) (v, (no_nib, None)))
 exchange_keeps v e n count cells log kept begins away =
     let step_from : Exchanges v e n log (words (length log)) = dite (ℕ_discrete (length log) n)

@@ -1,5 +1,5 @@
 -- How a call leaves the engine.
-use Rattle.std.proofs.Common.{◌≡◌, inl, inr, ℕ, ◌∙◌, sym, refl, ap, subst, List, [], ◌∷◌, ◌++◌, append-nil, length, true}
+use Rattle.std.proofs.Common.{◌≡◌, inl, inr, ℕ, ◌∙◌, sym, refl, ap, subst, List, [], ◌∷◌, ◌++◌, append-nil, length, true, false}
 use Rattle.std.specs.Prelude.{drop, slice_index}
 use Rattle.logbook.specs.Pages.{Book}
 use Rattle.mx_types.specs.declared.event.Who.{Who}
@@ -9,6 +9,7 @@ use Rattle.mx_types.specs.declared.reply.Reply.{Reply}
 use Rattle.mx_journal.specs.History.{Opening, is_legal}
 use Rattle.mx_journal.specs.Core.{Core, claimed}
 use Rattle.mx_journal.specs.Answers.{Answers}
+use Rattle.mx_journal.specs.Receipts.{comes_with_event}
 use Rattle.mx_journal.specs.Laws.{HasAtMostOneMore}
 use Rattle.mx_history.proofs.Placing.{call_adds_at_most_one}
 use Rattle.mx_board.specs.Board.{name_of}
@@ -33,8 +34,8 @@ book_is : (a b : Book) → name_of a ≡ name_of b → a ≡ b
 book_is a b e = ap (λ (l : List ℕ). record { number = slice_index l 0; log_name = slice_index l 1; cells_name = slice_index l 2 }) e
 
 pub leaves_by : {Q O : Type 0} (who : Who) (call : Call) (reply : Reply) (x y : SharedState Q O) (a b : Core Q O) (m n : Book) (p q : List Event) (s t : TieState) → record { core = a; published = p; book = m; ties = s } ≡ x → y ≡ record { core = b; published = q; book = n; ties = t }
-    → Answers a.opening who call a.journal reply b.journal → b.opening ≡ a.opening → name_of n ≡ name_of m → t.book ≡ s.book → is_legal y.core.journal ≡ true → HasNoOther (claimed a.journal a.queue) (claimed b.journal b.queue) → Leaves who call x reply y
-leaves_by {Q} {O} who call reply x y a b m n p q s t before after ans opening name list legal claims =
+    → Answers a.opening who call a.journal reply b.journal → b.opening ≡ a.opening → name_of n ≡ name_of m → t.book ≡ s.book → is_legal y.core.journal ≡ true → HasNoOther (claimed a.journal a.queue) (claimed b.journal b.queue) → (comes_with_event reply ≡ false → b ≡ a) → Leaves who call x reply y
+leaves_by {Q} {O} who call reply x y a b m n p q s t before after ans opening name list legal claims unchanged =
     subst (λ (z : SharedState Q O). Leaves who call z reply y) before
     (record {
       answers = subst (λ (z : SharedState Q O). Answers a.opening who call a.journal reply z.core.journal) (sym after) ans;
@@ -43,4 +44,5 @@ leaves_by {Q} {O} who call reply x y a b m n p q s t before after ans opening na
       ties = ap (λ (z : SharedState Q O). z.ties.book) after ∙ list;
       legal = legal;
       claims = subst (λ (z : SharedState Q O). HasNoOther (claimed a.journal a.queue) (content z).claimed) (sym after) claims;
+      unchanged = λ none. ap (λ (z : SharedState Q O). z.core) after ∙ unchanged none;
     })

@@ -10,6 +10,7 @@ use Rattle.mx_types.specs.declared.event.Event.{Event}
 use Rattle.mx_types.specs.declared.call.Call.{Call}
 use Rattle.mx_types.specs.declared.call.Call.TheVariants as call
 use Rattle.mx_types.specs.declared.reply.Reply.TheVariants as reply
+use Rattle.mx_types.specs.declared.origin.Origin.{Origin}
 use Rattle.mx_journal.specs.declared.replies.AddReply.{AddReply}
 use Rattle.mx_journal.specs.declared.replies.AddReply.TheVariants as add
 use Rattle.mx_journal.specs.declared.replies.FinishReply.{FinishReply}
@@ -32,37 +33,37 @@ use Rattle.mx_lock.proofs.Made.{added_as, recorded_runs}
 
 -- 1. Of lists of ties.
 
-gets_more : (xs ys : List (List ℕ)) (k : ℕ) (x : List ℕ) → slice_get xs k ≡ Some x → slice_get (xs ++ ys) k ≡ Some x
+gets_more : (xs ys : List Origin) (k : ℕ) (x : Origin) → slice_get xs k ≡ Some x → slice_get (xs ++ ys) k ≡ Some x
 gets_more [] ys k x e = cc
 gets_more (y ∷ xs) ys zero x e = e
 gets_more (y ∷ xs) ys (suc k) x e = gets_more xs ys k x e
 
-gets_less : (xs ys : List (List ℕ)) (k : ℕ) (x : List ℕ) → k < length xs → slice_get (xs ++ ys) k ≡ Some x → slice_get xs k ≡ Some x
+gets_less : (xs ys : List Origin) (k : ℕ) (x : Origin) → k < length xs → slice_get (xs ++ ys) k ≡ Some x → slice_get xs k ≡ Some x
 gets_less [] ys k x lt e = absurd (omega (arith, lt))
 gets_less (y ∷ xs) ys zero x lt e = e
 gets_less (y ∷ xs) ys (suc k) x lt e = gets_less xs ys k x (omega (arith, lt)) e
 
-gets_last : (xs : List (List ℕ)) (x : List ℕ) → slice_get (xs ++ x ∷ []) (length xs) ≡ Some x
+gets_last : (xs : List Origin) (x : Origin) → slice_get (xs ++ x ∷ []) (length xs) ≡ Some x
 gets_last [] x = refl
 gets_last (y ∷ xs) x = gets_last xs x
 
-pub has_more : (xs ys : List (List ℕ)) (t : Ticket) (origin : List ℕ) → IsPrefix xs ys → Has xs (tie t origin) → Has ys (tie t origin)
+pub has_more : (xs ys : List Origin) (t : Ticket) (origin : Origin) → IsPrefix xs ys → Has xs (tie t origin) → Has ys (tie t origin)
 has_more xs ys t origin p h = subst (λ l. slice_get l t.0 ≡ Some origin) p.1 (gets_more xs p.0 t.0 origin h)
 
 either : {A B : Type 0} (b : Bool) → MatchBool b A B → A ⊎ B
 either true a = inl a
 either false b = inr b
 
-pub of_one_list : (xs ys zs : List (List ℕ)) → IsPrefix xs zs → IsPrefix ys zs → AreOfOneList xs ys
+pub of_one_list : (xs ys zs : List Origin) → IsPrefix xs zs → IsPrefix ys zs → AreOfOneList xs ys
 of_one_list xs ys zs p q = either (nat_le (length xs) (length ys)) (one_begins xs ys zs p q (length xs) (length ys) refl refl)
 
 -- what a mark knows of a ticket that is in the list, the list has
-had : (origins marked : List (List ℕ)) (t : Ticket) (origin : List ℕ) → AreOfOneList origins marked → t.0 < length origins → origin_of t marked ≡ Some origin → origin_of t origins ≡ Some origin
+had : (origins marked : List Origin) (t : Ticket) (origin : Origin) → AreOfOneList origins marked → t.0 < length origins → origin_of t marked ≡ Some origin → origin_of t origins ≡ Some origin
 had origins marked t origin (inl p) lt e = gets_less origins p.0 t.0 origin lt (subst (λ l. slice_get l t.0 ≡ Some origin) (sym p.1) e)
 had origins marked t origin (inr p) lt e = has_more marked origins t origin p e
 
 -- what a mark knows of a ticket that runs is so
-pub known : (j : List Event) (origins marked : List (List ℕ)) (t : Ticket) (origin : List ℕ) → is_legal j ≡ true → length origins ≡ additions j → AreOfOneList origins marked → origin_of t marked ≡ Some origin
+pub known : (j : List Event) (origins marked : List Origin) (t : Ticket) (origin : Origin) → is_legal j ≡ true → length origins ≡ additions j → AreOfOneList origins marked → origin_of t marked ≡ Some origin
     → has_ticket t (running j) ≡ true → origin_of t origins ≡ Some origin
 known j origins marked t origin legal each one e runs =
     let lt : t.0 < additions j = below j (laws j legal) t (has-filter t _ _ runs).0 in
@@ -70,30 +71,30 @@ known j origins marked t origin legal each one e runs =
 
 -- 2. Of control states.
 
-module _ {Q O : Type 0} (ending : O → List ℕ) where
-  pub tied_on : (x y : Core Q O) (ties : List (List ℕ)) → IsTied ending x ties → y.origins ≡ x.origins → (AreOwn ending x.origins x.endings → AreOwn ending y.origins y.endings) → IsTied ending y ties
+module _ {Q O : Type 0} (ending : O → Origin) where
+  pub tied_on : (x y : Core Q O) (ties : List Origin) → IsTied ending x ties → y.origins ≡ x.origins → (AreOwn ending x.origins x.endings → AreOwn ending y.origins y.endings) → IsTied ending y ties
   tied_on x y ties h same own =
       let is : y.origins ≡ ties = same ∙ h.same in
       record { same = is; endings = subst (λ l. AreOwn ending l y.endings) is (own (subst (λ l. AreOwn ending l x.endings) (sym h.same) h.endings)) }
 
   -- a call that leaves the endings
-  pub tied_same : (x y : Core Q O) (ties : List (List ℕ)) → IsTied ending x ties → y.origins ≡ x.origins → y.endings ≡ x.endings → IsTied ending y ties
+  pub tied_same : (x y : Core Q O) (ties : List Origin) → IsTied ending x ties → y.origins ≡ x.origins → y.endings ≡ x.endings → IsTied ending y ties
   tied_same x y ties h same endings = record { same = same ∙ h.same; endings = subst (AreOwn ending ties) (sym endings) h.endings }
 
   -- what a message took is of its ticket's addition
-  pub read_tells : (x : Core Q O) (ties : List (List ℕ)) (r : InfoReply O) → IsTied ending x ties → AreOwn ending x.origins (ending_read r) → Tells (tie_read ending r) ties
+  pub read_tells : (x : Core Q O) (ties : List Origin) (r : InfoReply O) → IsTied ending x ties → AreOwn ending x.origins (ending_read r) → Tells (tie_read ending r) ties
   read_tells x ties (info.Message h t o left) is e = ap (origin_of t) (sym is.same) ∙ e.0
   read_tells x ties info.Empty is e = tt
   read_tells x ties info.OutOfMemory is e = tt
 
   -- an addition
-  pub tied_added : (x y : Core Q O) (ties : List (List ℕ)) (r : AddReply Q) (origin : List ℕ) → IsTied ending x ties → y.origins ≡ origins_added r x.origins origin → (AreOwn ending x.origins x.endings → AreOwn ending y.origins y.endings)
+  pub tied_added : (x y : Core Q O) (ties : List Origin) (r : AddReply Q) (origin : Origin) → IsTied ending x ties → y.origins ≡ origins_added r x.origins origin → (AreOwn ending x.origins x.endings → AreOwn ending y.origins y.endings)
       → IsTied ending y (origins_added r ties origin)
   tied_added x y ties r origin h grown own =
       let is : y.origins ≡ origins_added r ties origin = grown ∙ ap (λ l. origins_added r l origin) h.same in
       record { same = is; endings = subst (λ l. AreOwn ending l y.endings) is (own (subst (λ l. AreOwn ending l x.endings) (sym h.same) h.endings)) }
 
-  pub added_tells : (opening : Opening) (w : Who) (handle : HandleId) (x : Core Q O) (k : List Event) (ties : List (List ℕ)) (r : AddReply Q) (origin : List ℕ) → IsTied ending x ties → length x.origins ≡ additions x.journal
+  pub added_tells : (opening : Opening) (w : Who) (handle : HandleId) (x : Core Q O) (k : List Event) (ties : List Origin) (r : AddReply Q) (origin : Origin) → IsTied ending x ties → length x.origins ≡ additions x.journal
       → Answers opening w (call.Add handle) x.journal (reply_of_add r) k → Tells (tie_added r origin) (origins_added r ties origin)
   added_tells opening w handle x k ties (add.Added t) origin h each a =
       let at : t.0 ≡ length ties = (added_as opening w handle x.journal t k a).0 ∙ sym each ∙ ap length h.same in
@@ -104,7 +105,7 @@ module _ {Q O : Type 0} (ending : O → List ℕ) where
   added_tells opening w handle x k ties (add.OutOfMemory b) origin h each a = tt
 
   -- an end, by a claim whose mark knows its ticket's addition
-  pub tied_finished : {C : Type 0} (opening : Opening) (w : Who) (t : Ticket) (code : Code) (size : ℕ) (r : FinishReply C O) (x y : Core Q O) (ties marked : List (List ℕ)) (origin : List ℕ)
+  pub tied_finished : {C : Type 0} (opening : Opening) (w : Who) (t : Ticket) (code : Code) (size : ℕ) (r : FinishReply C O) (x y : Core Q O) (ties marked : List Origin) (origin : Origin)
       → IsTied ending x ties → is_legal x.journal ≡ true → length x.origins ≡ additions x.journal → AreOfOneList ties marked → origin_of t marked ≡ Some origin
       → Answers opening w (call.Finish t code size) x.journal (reply_of_finish r) y.journal → y.origins ≡ x.origins → (comes_with_event (reply_of_finish r) ≡ false → y ≡ x)
       → (AreOwn ending x.origins x.endings → origin_of t x.origins ≡ Some origin → AreOwn ending y.origins y.endings) → IsTied ending y ties
@@ -116,7 +117,7 @@ module _ {Q O : Type 0} (ending : O → List ℕ) where
   tied_finished opening w t code size (finish.OutOfMemory b o) x y ties marked origin h legal each one known_ a same unchanged own = subst (λ (z : Core Q O). IsTied ending z ties) (sym (unchanged refl)) h
 
   -- work that was given back, by such a claim
-  pub tied_given : (r : GiveBackReply Q) (x y : Core Q O) (ties marked : List (List ℕ)) (t : Ticket) (origin : List ℕ)
+  pub tied_given : (r : GiveBackReply Q) (x y : Core Q O) (ties marked : List Origin) (t : Ticket) (origin : Origin)
       → IsTied ending x ties → is_legal x.journal ≡ true → length x.origins ≡ additions x.journal → AreOfOneList ties marked → origin_of t marked ≡ Some origin
       → is_back r ≡ has_ticket t (claimed x.journal x.queue) → y.endings ≡ x.endings → y.origins ≡ origins_given r x.origins t origin → (origin_of t x.origins ≡ Some origin → y.origins ≡ x.origins) → IsTied ending y ties
   tied_given giving.Back x y ties marked t origin h legal each one known_ back endings given same =
@@ -126,7 +127,7 @@ module _ {Q O : Type 0} (ending : O → List ℕ) where
   tied_given (giving.Stale _) x y ties marked t origin h legal each one known_ back endings given same = tied_same x y ties h given endings
 
   -- what lies in the lock is of its tickets' additions
-  pub of_additions : (work : Q → List ℕ) (x : Core Q O) (ties : List (List ℕ)) → IsTied ending x ties → length x.origins ≡ additions x.journal → AreOwn work x.origins x.queue → AreOfAdditions work ending x ties
+  pub of_additions : (work : Q → Origin) (x : Core Q O) (ties : List Origin) → IsTied ending x ties → length x.origins ≡ additions x.journal → AreOwn work x.origins x.queue → AreOfAdditions work ending x ties
   of_additions work x ties h each own = record {
     each = ap length (sym h.same) ∙ each;
     queue = subst (λ l. AreOwn work l x.queue) h.same own;

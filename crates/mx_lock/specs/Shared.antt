@@ -1,5 +1,5 @@
 -- What the lock keeps, for contracts.
-use Rattle.std.specs.Prelude.{ℕ, List, ◌≡◌, true}
+use Rattle.std.specs.Prelude.{ℕ, List, ◌≡◌, true, false}
 use Rattle.logbook.specs.Pages.{Book}
 use Rattle.mx_types.specs.declared.names.Ticket.{Ticket}
 use Rattle.mx_types.specs.declared.event.Event.{Event}
@@ -8,6 +8,7 @@ use Rattle.mx_types.specs.declared.event.Who.{Who}
 use Rattle.mx_types.specs.declared.call.Call.{Call}
 use Rattle.mx_types.specs.declared.reply.Reply.{Reply}
 use Rattle.mx_journal.specs.Answers.{Answers}
+use Rattle.mx_journal.specs.Receipts.{comes_with_event}
 use Rattle.mx_journal.specs.Core.{Core, IsSound, claimed}
 use Rattle.mx_types.specs.declared.code.Code.{Code}
 use Rattle.mx_lock.specs.Ties.{TieState}
@@ -45,7 +46,7 @@ abbrev pub HasNoOther : List Ticket → List Ticket → Type 0
 HasNoOther before after = (t : Ticket) → has_ticket t after ≡ true → has_ticket t before ≡ true
 
 -- The call was answered after the journal that the engine had, and left the engine with that journal or one event more.
--- It is the same engine, and legal; and no work left the queue but that which runs no more.
+-- It is the same engine, and legal; and no work left the queue but that which runs no more. A call that comes with no event changes nothing.
 pub record Leaves {Q O : Type 0} (who : Who) (call : Call) (x : SharedState Q O) (reply : Reply) (y : SharedState Q O) : Type 0 where
   pub answers : Answers x.core.opening who call x.core.journal reply y.core.journal
   pub opening : y.core.opening ≡ x.core.opening
@@ -53,6 +54,7 @@ pub record Leaves {Q O : Type 0} (who : Who) (call : Call) (x : SharedState Q O)
   pub ties : y.ties.book ≡ x.ties.book
   pub legal : is_legal y.core.journal ≡ true
   pub claims : HasNoOther (content x).claimed (content y).claimed
+  pub unchanged : comes_with_event reply ≡ false → y.core ≡ x.core
 
 -- the engine was left with the journal that was found
 pub record IsLeft {Q O : Type 0} (x y : SharedState Q O) : Type 0 where

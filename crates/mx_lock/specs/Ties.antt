@@ -5,6 +5,7 @@ use mathlib.Core.List.{IsPrefix}
 use Rattle.logbook.specs.Pages.{Cell, Step, View, Book, Named}
 use Rattle.mx_types.specs.declared.names.HandleId.{HandleId}
 use Rattle.mx_types.specs.declared.names.Ticket.{Ticket}
+use Rattle.mx_types.specs.declared.origin.Origin.{Origin}
 use Rattle.mx_journal.specs.History.{additions}
 use Rattle.mx_journal.specs.Core.{AreOwn, Claimed, Core, origin_of}
 use Rattle.mx_journal.specs.declared.replies.AddReply.{AddReply}
@@ -12,48 +13,48 @@ use Rattle.mx_journal.specs.declared.replies.AddReply.TheVariants as add
 use Rattle.mx_journal.specs.declared.replies.InfoReply.{InfoReply}
 use Rattle.mx_journal.specs.declared.replies.InfoReply.TheVariants as info
 
--- the bytes of the requests of the additions so far, in their order, and which list it is
+-- the requests of the additions so far, in their order, and which list it is
 pub record TieState : Type 0 where
-  pub ties : List (List ℕ)
+  pub ties : List Origin
   pub book : Book
 
 -- the list's first word is its length; the second is not used
-pub record IsKept (cells : List Cell) (ties : List (List ℕ)) : Type 0 where
+pub record IsKept (cells : List Cell) (ties : List Origin) : Type 0 where
   pub words : cells ≡ (length ties, true) ∷ (0, true) ∷ []
 
 abbrev pub first_word : Book → Named
 first_word b = record { tracked = true; key = 0; book = b }
 
 -- where the length found is the one expected, the tie now stands behind all that had been seen; else the whole list was seen
-abbrev pub Joins : Step (List ℕ) → View (List ℕ) ℕ → ℕ → View (List ℕ) ℕ → Type 0
+abbrev pub Joins : Step Origin → View Origin ℕ → ℕ → View Origin ℕ → Type 0
 Joins asked before found after = MatchBool (found == asked.old) (after.0 ≡ before.0 ++ asked.ask ∷ []) (length after.0 ≡ found)
 
 -- two beginnings of one list: one begins the other
-abbrev pub AreOfOneList : List (List ℕ) → List (List ℕ) → Type 0
+abbrev pub AreOfOneList : List Origin → List Origin → Type 0
 AreOfOneList xs ys = IsPrefix xs ys ⊎ IsPrefix ys xs
 
 -- the addition under the ticket is of this request
 pub record Tie : Type 0 where
   pub ticket : Ticket
-  pub origin : List ℕ
+  pub origin : Origin
 
-abbrev pub tie : Ticket → List ℕ → Tie
+abbrev pub tie : Ticket → Origin → Tie
 tie t origin = record { ticket = t; origin = origin }
 
-abbrev pub Has : List (List ℕ) → Tie → Type 0
+abbrev pub Has : List Origin → Tie → Type 0
 Has ties x = origin_of x.ticket ties ≡ Some x.origin
 
 -- what an answer tells: an addition is of its work's request, and so is a message's ticket's of the ending's
-abbrev pub tie_added : {Q : Type 0} → AddReply Q → List ℕ → Option Tie
+abbrev pub tie_added : {Q : Type 0} → AddReply Q → Origin → Option Tie
 tie_added (add.Added t) origin = Some (tie t origin)
 tie_added _ origin = None
 
-abbrev pub tie_read : {O : Type 0} → (O → List ℕ) → InfoReply O → Option Tie
+abbrev pub tie_read : {O : Type 0} → (O → Origin) → InfoReply O → Option Tie
 tie_read origin (info.Message h t o left) = Some (tie t (origin o))
 tie_read origin _ = None
 
 -- what was told is in the list
-abbrev pub Tells : Option Tie → List (List ℕ) → Type 0
+abbrev pub Tells : Option Tie → List Origin → Type 0
 Tells None ties = Unit {0}
 Tells (Some x) ties = Has ties x
 
@@ -62,19 +63,19 @@ pub record TiedClaimed : Type 0 where
   pub handle : HandleId
   pub ticket : Ticket
   pub slot : ℕ
-  pub origin : List ℕ
+  pub origin : Origin
   pub of : Book
 
 abbrev pub tied : Claimed → Book → TiedClaimed
 tied c of = record { handle = c.handle; ticket = c.ticket; slot = c.slot; origin = c.origin; of = of }
 
 -- The ties of a control state are the origins of its additions, and each ending that waits is of its ticket's.
-pub record IsTied {Q O : Type 0} (ending : O → List ℕ) (core : Core Q O) (ties : List (List ℕ)) : Type 0 where
+pub record IsTied {Q O : Type 0} (ending : O → Origin) (core : Core Q O) (ties : List Origin) : Type 0 where
   pub same : core.origins ≡ ties
   pub endings : AreOwn ending ties core.endings
 
 -- There is a tie for each addition; and work that is queued, and endings that wait, are of the request of their ticket's addition.
-pub record AreOfAdditions {Q O : Type 0} (work : Q → List ℕ) (ending : O → List ℕ) (core : Core Q O) (ties : List (List ℕ)) : Type 0 where
+pub record AreOfAdditions {Q O : Type 0} (work : Q → Origin) (ending : O → Origin) (core : Core Q O) (ties : List Origin) : Type 0 where
   pub each : length ties ≡ additions core.journal
   pub queue : AreOwn work ties core.queue
   pub endings : AreOwn ending ties core.endings

@@ -13,7 +13,7 @@ ghost use Rattle.mx_lock.specs.Ties.{Tells, Tie, tie_added, tie_read};
 use crate::claim::{TiedClaim, tied_again};
 use crate::shared::Shared;
 use mx_journal::{AddReply, FinishReply, InfoReply, PauseReply, RemoveReply, WakeupReply};
-use mx_types::{Ending, HandleId, Who, Work};
+use mx_types::{Call, Ending, HandleId, Reply, Who, Work};
 use std::snapshot::Snapshot;
 use std::sync::Wait;
 
@@ -46,6 +46,14 @@ pub trait Deed<E, Q, O> {
 
     /// Whether those that poll are to be told.
     fn wakes(answer: &Self::Reply) -> bool;
+
+    /// Which call of the history it is, for its receipt.
+    fn as_call(&self) -> Call
+        ensures { result ≡ call self.now };
+
+    /// The reply that its answer stands for, for its receipt.
+    fn as_reply(answer: &Self::Reply) -> Reply
+        ensures { result ≡ reply answer.now };
 }
 
 /// Adds a handle with its work.
@@ -98,6 +106,18 @@ impl<Q: Work + Drop, O: Ending + Drop> Deed<Shared<Q, O>, Q, O> for Addition<Q> 
     fn wakes(_answer: &AddReply<Q>) -> bool {
         false
     }
+
+    fn as_call(&self) -> Call
+        ensures { result ≡ Call.Add self.now.handle }
+    {
+        Call::Add(self.handle)
+    }
+
+    fn as_reply(answer: &AddReply<Q>) -> Reply
+        ensures { result ≡ reply_of_add answer.now }
+    {
+        answer.reply()
+    }
 }
 
 /// Removes a handle.
@@ -142,6 +162,18 @@ impl<Q: Work + Drop, O: Ending + Drop> Deed<Shared<Q, O>, Q, O> for Removal {
 
     fn wakes(_answer: &RemoveReply) -> bool {
         false
+    }
+
+    fn as_call(&self) -> Call
+        ensures { result ≡ Call.Remove self.now.0 }
+    {
+        Call::Remove(self.0)
+    }
+
+    fn as_reply(answer: &RemoveReply) -> Reply
+        ensures { result ≡ reply_of_remove answer.now }
+    {
+        answer.reply()
     }
 }
 
@@ -188,6 +220,18 @@ impl<Q: Work + Drop, O: Ending + Drop> Deed<Shared<Q, O>, Q, O> for Pausing {
     fn wakes(_answer: &PauseReply) -> bool {
         false
     }
+
+    fn as_call(&self) -> Call
+        ensures { result ≡ Call.Pause self.now.0 }
+    {
+        Call::Pause(self.0)
+    }
+
+    fn as_reply(answer: &PauseReply) -> Reply
+        ensures { result ≡ reply_of_pause answer.now }
+    {
+        answer.reply()
+    }
 }
 
 /// Resumes a handle.
@@ -232,6 +276,18 @@ impl<Q: Work + Drop, O: Ending + Drop> Deed<Shared<Q, O>, Q, O> for Unpausing {
 
     fn wakes(_answer: &PauseReply) -> bool {
         false
+    }
+
+    fn as_call(&self) -> Call
+        ensures { result ≡ Call.Unpause self.now.0 }
+    {
+        Call::Unpause(self.0)
+    }
+
+    fn as_reply(answer: &PauseReply) -> Reply
+        ensures { result ≡ reply_of_pause answer.now }
+    {
+        answer.reply()
     }
 }
 
@@ -278,6 +334,18 @@ impl<Q: Work + Drop, O: Ending + Drop> Deed<Shared<Q, O>, Q, O> for Reading {
     fn wakes(_answer: &InfoReply<O>) -> bool {
         false
     }
+
+    fn as_call(&self) -> Call
+        ensures { result ≡ Call.InfoRead }
+    {
+        Call::InfoRead
+    }
+
+    fn as_reply(answer: &InfoReply<O>) -> Reply
+        ensures { result ≡ reply_of_info O.code_of O.size_of answer.now }
+    {
+        answer.reply()
+    }
 }
 
 /// Wakes those that poll.
@@ -322,6 +390,18 @@ impl<Q: Work + Drop, O: Ending + Drop> Deed<Shared<Q, O>, Q, O> for Waking {
 
     fn wakes(answer: &WakeupReply) -> bool {
         matches!(answer, WakeupReply::Ok)
+    }
+
+    fn as_call(&self) -> Call
+        ensures { result ≡ Call.Wakeup }
+    {
+        Call::Wakeup
+    }
+
+    fn as_reply(answer: &WakeupReply) -> Reply
+        ensures { result ≡ reply_of_wakeup answer.now }
+    {
+        answer.reply()
     }
 }
 
@@ -384,5 +464,17 @@ impl<Q: Work + Drop, O: Ending + Drop> Deed<Shared<Q, O>, Q, O> for Finishing<Q,
 
     fn wakes(answer: &FinishReply<TiedClaim<Q>, O>) -> bool {
         matches!(answer, FinishReply::Recorded)
+    }
+
+    fn as_call(&self) -> Call
+        ensures { result ≡ Call.Finish self.now.claim.ticket (O.code_of self.now.ending) (O.size_of self.now.ending) }
+    {
+        Call::Finish(self.claim.ticket(), self.ending.code(), self.ending.size())
+    }
+
+    fn as_reply(answer: &FinishReply<TiedClaim<Q>, O>) -> Reply
+        ensures { result ≡ reply_of_finish answer.now }
+    {
+        answer.reply()
     }
 }

@@ -17,4 +17,4 @@ pub use crate::key_view::{BookName, EngineName, KeyView};
 pub use crate::lock::{Key, Lock};
 pub use crate::shared::Shared;
 pub use crate::taken::Taken;
-pub use crate::ties::{Origin, TieLog, TieMark};
+pub use crate::ties::{TieLog, TieMark};

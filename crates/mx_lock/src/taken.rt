@@ -141,6 +141,7 @@ impl<Q: Work + Drop, O: Ending + Drop> Taken<Q, O> {
         ensures origin { IfSome result (λ r. r.0.origin ≡ Q.origin r.1) }
         ensures own { IfSome result (λ r. r.0.of ≡ self.new.ties.book) }
         ensures request { IfSome result (λ r. Has self.new.ties.ties (tie r.0.ticket r.0.origin)) }
+        ensures endings { self.new.core.endings ≡ self.old.core.endings }
         ensures none { IfNone result ((self.old.core.queue ≡ []) × (self.new.core.queue ≡ [])) }
         ensures some { IfSome result (λ r. self.old.core.queue ≡ (r.0.ticket, r.1) ∷ self.new.core.queue) }
         ensures claimed { IfSome result (λ r. has_ticket r.0.ticket (claimed self.new.core.journal self.new.core.queue) ≡ true) }

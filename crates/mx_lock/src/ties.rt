@@ -6,14 +6,10 @@ ghost use Rattle.mx_lock.specs.Ties.{AreOfOneList};
 
 use logbook::{Gain, Offer, Plain, Play, Rule, Seen, Start, Word};
 use mx_journal::AddReply;
-use mx_types::Work;
-use std::collections::LinkedList;
+use mx_types::{Origin, Work};
 use std::marker::Model;
 use std::snapshot::Snapshot;
 use std::sync::Wait;
-
-/// The bytes of the request that an addition is of. No value of it is made.
-pub type Origin = LinkedList<u8>;
 
 /// What always holds of the list: its word is its length. Those who step keep nothing beside it.
 pub struct TieRule;

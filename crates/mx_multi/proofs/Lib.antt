@@ -1,4 +1,6 @@
 pub mod Standing
+pub mod Claiming
 pub mod Opening
+pub mod Progresses
 pub mod Runs
 pub mod Sends

@@ -6,12 +6,14 @@ use Rattle.logbook.specs.Pages.{Book}
 use Rattle.mx_types.specs.declared.event.Who.{Who}
 use Rattle.mx_types.specs.declared.event.Who.TheVariants as who
 use Rattle.mx_types.specs.declared.event.Event.{Event}
-use Rattle.mx_journal.specs.Receipts.{IsPlaced}
+use Rattle.mx_types.specs.declared.origin.Origin.{Origin}
+use Rattle.mx_types.specs.declared.call.Receipt.{Receipt}
+use Rattle.mx_journal.specs.Receipts.{IsPlaced, mark}
 use Rattle.mx_board.specs.Board.{ReaderState, caught_up}
 use Rattle.mx_board.specs.Progress.{NoteState, ProgressState, new_seat}
 use Rattle.mx_lock.specs.Shared.{Engine}
 use Rattle.mx_lock.specs.Lock.{maker, engine_of, founder_at, child}
-use Rattle.mx_multi.specs.Seats.{MultiView, SeatView, IsSeat, IsReceived, IsNew}
+use Rattle.mx_multi.specs.Seats.{MultiView, SeatView, IsSeat, HasReceipts, IsNew}
 use Rattle.mx_multi.specs.Opening.{maker_of, first_of, AreReaders, AreNew}
 use Rattle.mx_multi.proofs.Standing.{seat_of}
 use Rattle.mx_lock.specs.declared.key_view.KeyView.{KeyView}
@@ -30,8 +32,11 @@ seat_is_new e n v r w key who got =
     subst (λ (k : KeyView). IsSeat k r) (sym key)
     (subst (λ (z : ReaderState). IsSeat (child (founder_at e n)) z) (sym got) (record { free = refl; told = refl; who = who; book = refl; later = ([], refl); own = refl; but_last = (omega arith, omega arith) }))
 
-pub new_received : {Q O : Type 0} (s : SeatView Q O) → s.seen ≡ [] → s.polled ≡ 0 → IsReceived s
-new_received s e p = ([], record { placed = subst (λ l. IsPlaced s.of.engine.opening s.who [] l) (sym e) (record { fit = tt; within = tt; rise = tt; each_once = refl }); polled = sym p })
+pub new_received : {Q O : Type 0} (s : SeatView Q O) → s.seen ≡ [] → s.polled ≡ 0 → s.mine ≡ [] → HasReceipts s
+new_received s e p none = record {
+  placed = subst (λ m. IsPlaced s.of.engine.opening s.who m s.seen) (sym none) (subst (λ l. IsPlaced s.of.engine.opening s.who [] l) (sym e) (record { fit = tt; within = tt; rise = tt; each_once = refl }));
+  polled = ap mark none ∙ sym p;
+}
 
 pub new_more : {Q O : Type 0} (m : MultiView Q O) (worker : Bool) (n : ℕ) (ss : List (SeatView Q O)) (s : SeatView Q O) → AreNew m worker n ss → IsNew m (maker_of worker (n + length ss)) s → AreNew m worker n (ss ++ s ∷ [])
 new_more {Q} {O} m worker n [] s h new = let e : n + 0 ≡ n = omega arith in (subst (λ k. IsNew m (maker_of worker k) s) e new, tt)
@@ -49,9 +54,9 @@ reader_is worker n m w j a b r got who none book same =
     got ∙ path
 
 -- a key and a reader make a new seat
-pub is_new : {Q O : Type 0} (m of : MultiView Q O) (v : KeyView) (r : ReaderState) (worker : Bool) (n k : ℕ) (t : ProgressState) (w : NoteState) (ties : List (List ℕ)) → of.table ≡ m.table → of.keys ≡ m.keys → of.engine ≡ engine_of v → of.words ≡ w.of → w ≡ new_seat t → t.id ≡ m.words → v ≡ child (founder_at m.engine k) → r ≡ caught_up (maker_of worker n) [] m.engine.book → ties ≡ []
-    → IsNew m (maker_of worker n) (seat_of of v r 0 w ties)
-is_new {Q} {O} m of v r worker n k t w ties table keys engine words fresh of_words key got none =
+pub is_new : {Q O : Type 0} (m of : MultiView Q O) (v : KeyView) (r : ReaderState) (worker : Bool) (n k : ℕ) (t : ProgressState) (w : NoteState) (ties : List Origin) (mine : List Receipt) → of.table ≡ m.table → of.keys ≡ m.keys → of.engine ≡ engine_of v → of.words ≡ w.of → w ≡ new_seat t → t.id ≡ m.words → v ≡ child (founder_at m.engine k) → r ≡ caught_up (maker_of worker n) [] m.engine.book → ties ≡ [] → mine ≡ []
+    → IsNew m (maker_of worker n) (seat_of of v r 0 w ties mine)
+is_new {Q} {O} m of v r worker n k t w ties mine table keys engine words fresh of_words key got none no_receipt =
     let same : of ≡ m = λ i. record { table = table i; keys = keys i; engine = (engine ∙ ap engine_of key) i; words = (words ∙ ap (λ (z : NoteState). z.of) fresh ∙ of_words) i } in
     record {
       of = same;
@@ -61,6 +66,7 @@ is_new {Q} {O} m of v r worker n k t w ties table keys engine words fresh of_wor
       polled = refl;
       claims = ap (λ (z : KeyView). z.claims) key;
       ties = none;
+      mine = no_receipt;
       noted = ap (λ (z : NoteState). z.noted) fresh;
       read = ap (λ (z : NoteState). z.read) fresh;
     }

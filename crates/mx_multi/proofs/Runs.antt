@@ -8,11 +8,12 @@ use Rattle.mx_types.specs.declared.reply.Reply.{Reply}
 use Rattle.mx_journal.specs.Receipts.{IsPlaced}
 use Rattle.mx_board.proofs.Prefixes.{prefix_self, prefix_trans}
 use Rattle.mx_multi.specs.declared.laws.Step.{Step}
-use Rattle.mx_multi.specs.Seats.{MultiView, SeatView, HasReceipts, Stands, Sees, IsNew, Later, Ran}
+use Rattle.mx_multi.specs.Seats.{MultiView, SeatView, Stands, Sees, IsNew, Later, Ran}
 use Rattle.mx_multi.specs.Laws.{call_of, RanScript}
+use Rattle.mx_multi.proofs.Opening.{new_received}
 
 pub later_none : {Q O : Type 0} (s : SeatView Q O) → Later s s []
-later_none s = record { of = refl; who = refl; later = prefix_self s.seen; ties = prefix_self s.ties; legal = λ l. l; placed = λ mine h. subst (HasReceipts s) (sym (append-nil mine)) h }
+later_none s = record { of = refl; who = refl; later = prefix_self s.seen; ties = prefix_self s.ties; legal = λ l. l; mine = sym (append-nil s.mine); placed = λ h. h }
 
 -- one call more
 pub later_more : {Q O : Type 0} (s t u : SeatView Q O) (more : List Receipt) (call : Call) (reply : Reply) → Later s t more → Stands t u call reply → Later s u (more ++ record { cut = length u.seen; call = call; reply = reply } ∷ [])
@@ -24,7 +25,8 @@ later_more s t u more call reply r h =
       later = prefix_trans s.seen t.seen u.seen r.later h.later;
       ties = prefix_trans s.ties t.ties u.ties r.ties h.ties;
       legal = λ _. h.legal;
-      placed = λ mine p. subst (HasReceipts u) (append_assoc mine more (new ∷ [])) (h.placed (mine ++ more) (r.placed mine p));
+      mine = h.mine ∙ ap (λ l. l ++ new ∷ []) r.mine ∙ append_assoc s.mine more (new ∷ []);
+      placed = λ p. h.placed (r.placed p);
     }
 
 -- a journal more that was seen
@@ -35,7 +37,8 @@ later_sees s t u more r h = record {
   later = prefix_trans s.seen t.seen u.seen r.later h.found.later;
   ties = prefix_trans s.ties t.ties u.ties r.ties h.ties;
   legal = λ _. h.legal;
-  placed = λ mine p. h.placed (mine ++ more) (r.placed mine p);
+  mine = h.mine ∙ r.mine;
+  placed = λ p. h.placed (r.placed p);
 }
 
 ran_more : {Q O : Type 0} (s t u : SeatView Q O) (more : List Receipt) (call : Call) (reply : Reply) → Ran s t more → Stands t u call reply → Ran s u (more ++ record { cut = length u.seen; call = call; reply = reply } ∷ [])
@@ -73,10 +76,7 @@ step_by {Q} {O} s t a b reply e h = (reply, subst (λ k. Stands s t k reply) (sy
 pub first_is_placed : {Q O : Type 0} (m : MultiView Q O) (w : Who) (s t : SeatView Q O) (call : Call) (reply : Reply) → IsNew m w s → Stands s t call reply
     → IsPlaced m.engine.opening w (record { cut = length t.seen; call = call; reply = reply } ∷ []) t.seen
 first_is_placed {Q} {O} m w s t call reply new h =
-    let none : HasReceipts s [] = record {
-      placed = subst (λ l. IsPlaced s.of.engine.opening s.who [] l) (sym new.seen) (record { fit = tt; within = tt; rise = tt; each_once = refl });
-      polled = sym new.polled;
-    } in
     let mine : List Receipt = record { cut = length t.seen; call = call; reply = reply } ∷ [] in
     subst (λ (z : MultiView Q O). IsPlaced z.engine.opening w mine t.seen) (h.of ∙ new.of)
-    (subst (λ x. IsPlaced t.of.engine.opening x mine t.seen) (h.who ∙ new.who) (h.placed [] none).placed)
+    (subst (λ x. IsPlaced t.of.engine.opening x mine t.seen) (h.who ∙ new.who)
+    (subst (λ l. IsPlaced t.of.engine.opening t.who l t.seen) (h.mine ∙ ap (λ l. l ++ mine) new.mine) (h.placed (new_received s new.seen new.polled new.mine)).placed))

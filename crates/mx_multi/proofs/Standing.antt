@@ -1,7 +1,7 @@
 -- What a call says of its seat.
 use Rattle.std.proofs.Common.{◌≡◌, inl, inr, ℕ, ◌∙◌, sym, refl, ap, subst, List, [], ◌∷◌, ◌+◌, ◌≤◌, ◌++◌, append-nil, length, length-append, Bool, true, false, cond, arith}
 use Rattle.std.specs.Prelude.{not, ◌||◌, Option, Some, None}
-use Rattle.std.specs.List.{AllByRecursion, filter}
+use Rattle.std.specs.List.{filter}
 use Rattle.std.specs.Option.{unwrap_or}
 use mathlib.Core.List.{IsPrefix}
 use Rattle.logbook.specs.Pages.{Book}
@@ -28,10 +28,11 @@ use Rattle.mx_board.specs.Progress.{NoteState}
 use Rattle.mx_board.proofs.Prefixes.{prefix_self, prefix_trans}
 use Rattle.mx_lock.specs.Shared.{SharedState, Engine, content, HasNoOther, IsLocked, Leaves, IsLeft}
 use Rattle.mx_lock.specs.Lock.{maker, engine_of, newly, Took, given, released}
-use Rattle.mx_multi.specs.Seats.{MultiView, SeatView, IsSeat, IsReceived, Finds, Confirms, Stands, Sees, SeesVersion, FoundState, ClaimsOnly}
+use Rattle.mx_multi.specs.Seats.{MultiView, SeatView, IsSeat, HasReceipts, Finds, Confirms, Stands, Sees, SeesVersion, FoundState, LeavesState}
 use Rattle.mx_multi.specs.declared.progress.Progress.{Progress}
 use Rattle.mx_multi.specs.Progress.{IsProgress}
 use Rattle.mx_types.specs.declared.names.HandleId.{HandleId}
+use Rattle.mx_types.specs.declared.origin.Origin.{Origin}
 use Rattle.mx_lock.specs.declared.key_view.KeyView.{KeyView}
 use Rattle.mx_lock.specs.Ties.{AreOfOneList, Tie, tie, Has, Tells}
 use Rattle.mx_multi.specs.Laws.{AreToldAlike}
@@ -44,13 +45,18 @@ use Rattle.mx_lock.proofs.Keys.{longer}
 abbrev pub polled_after : Call → ℕ → ℕ → ℕ
 polled_after call n p = cond (is_poll call) n p
 
+-- the receipt of a call, noted in other words
+pub receipt_is : (new old : List Receipt) (n k : ℕ) (c d : Call) (r q : Reply) → new ≡ old ++ record { cut = n; call = c; reply = r } ∷ [] → n ≡ k → c ≡ d → r ≡ q → new ≡ old ++ record { cut = k; call = d; reply = q } ∷ []
+receipt_is new old n k c d r q is cut call reply = is ∙ (λ i. old ++ record { cut = cut i; call = call i; reply = reply i } ∷ [])
+
 mark_more : (mine : List Receipt) (call : Call) (reply : Reply) (n : ℕ) → mark (mine ++ record { cut = n; call = call; reply = reply } ∷ []) ≡ polled_after call n (mark mine)
 mark_more mine call reply n = fold-append (λ m (r : Receipt). cond (is_poll r.call) r.cut m) 0 mine (record { cut = n; call = call; reply = reply } ∷ [])
 
 module _ {Q O : Type 0} where
   pub stands_at : (s t : SeatView Q O) (j : List Event) (call : Call) (reply : Reply) → t.of ≡ s.of → t.who ≡ s.who → Finds s j → Answers s.of.engine.opening s.who call j reply t.seen → is_legal t.seen ≡ true
-      → Confirms s t → t.claims ≡ s.claims → t.words ≡ s.words → IsPrefix s.ties t.ties → t.polled ≡ polled_after call (length t.seen) s.polled → (is_poll call ≡ true → is_ready s.polled t.seen ≡ true) → Stands s t call reply
-  stands_at s t j call reply same who f a legal confirmed claims words ties at ready =
+      → Confirms s t → t.claims ≡ s.claims → t.words ≡ s.words → IsPrefix s.ties t.ties → t.polled ≡ polled_after call (length t.seen) s.polled → (is_poll call ≡ true → is_ready s.polled t.seen ≡ true)
+      → t.mine ≡ s.mine ++ record { cut = length t.seen; call = call; reply = reply } ∷ [] → Stands s t call reply
+  stands_at s t j call reply same who f a legal confirmed claims words ties at ready mine =
       let new : Receipt = record { cut = length t.seen; call = call; reply = reply } in
       record {
         of = same;
@@ -64,16 +70,18 @@ module _ {Q O : Type 0} where
         ties = ties;
         polled = at;
         ready = ready;
-        placed = λ mine h. record {
-          placed = subst (λ w. IsPlaced t.of.engine.opening w (mine ++ new ∷ []) t.seen) (sym who)
-              (subst (λ (o : MultiView Q O). IsPlaced o.engine.opening s.who (mine ++ new ∷ []) t.seen) (sym same)
-              (call_is_placed s.of.engine.opening s.who mine s.seen j t.seen call reply h.placed f.later f.own a (λ is. ap (λ m. is_ready m t.seen) h.polled ∙ ready is)));
-          polled = mark_more mine call reply (length t.seen) ∙ ap (λ m. polled_after call (length t.seen) m) h.polled ∙ sym at;
+        mine = mine;
+        placed = λ h. record {
+          placed = subst (λ l. IsPlaced t.of.engine.opening t.who l t.seen) (sym mine)
+              (subst (λ w. IsPlaced t.of.engine.opening w (s.mine ++ new ∷ []) t.seen) (sym who)
+              (subst (λ (o : MultiView Q O). IsPlaced o.engine.opening s.who (s.mine ++ new ∷ []) t.seen) (sym same)
+              (call_is_placed s.of.engine.opening s.who s.mine s.seen j t.seen call reply h.placed f.later f.own a (λ is. ap (λ m. is_ready m t.seen) h.polled ∙ ready is))));
+          polled = ap mark mine ∙ mark_more s.mine call reply (length t.seen) ∙ ap (λ m. polled_after call (length t.seen) m) h.polled ∙ sym at;
         };
       }
 
-  pub sees_at : (s t : SeatView Q O) → t.of ≡ s.of → t.who ≡ s.who → Finds s t.seen → is_legal t.seen ≡ true → t.polled ≡ s.polled → t.confirmed ≡ length t.seen → t.words ≡ s.words → IsPrefix s.ties t.ties → Sees s t
-  sees_at s t same who f legal polled confirmed words ties = record {
+  pub sees_at : (s t : SeatView Q O) → t.of ≡ s.of → t.who ≡ s.who → Finds s t.seen → is_legal t.seen ≡ true → t.polled ≡ s.polled → t.confirmed ≡ length t.seen → t.words ≡ s.words → IsPrefix s.ties t.ties → t.mine ≡ s.mine → Sees s t
+  sees_at s t same who f legal polled confirmed words ties mine = record {
     of = same;
     who = who;
     polled = polled;
@@ -82,18 +90,20 @@ module _ {Q O : Type 0} where
     ties = ties;
     found = f;
     legal = legal;
-    placed = λ mine h. record {
-      placed = subst (λ w. IsPlaced t.of.engine.opening w mine t.seen) (sym who)
-          (subst (λ (o : MultiView Q O). IsPlaced o.engine.opening s.who mine t.seen) (sym same) (placed_stays s.of.engine.opening s.who mine s.seen t.seen h.placed f.later f.own));
-      polled = h.polled ∙ sym polled;
+    mine = mine;
+    placed = λ h. record {
+      placed = subst (λ l. IsPlaced t.of.engine.opening t.who l t.seen) (sym mine)
+          (subst (λ w. IsPlaced t.of.engine.opening w s.mine t.seen) (sym who)
+          (subst (λ (o : MultiView Q O). IsPlaced o.engine.opening s.who s.mine t.seen) (sym same) (placed_stays s.of.engine.opening s.who s.mine s.seen t.seen h.placed f.later f.own)));
+      polled = ap mark mine ∙ h.polled ∙ sym polled;
     };
   }
 
-  pub received_more : (s t : SeatView Q O) (call : Call) (reply : Reply) → Stands s t call reply → IsReceived s → IsReceived t
-  received_more s t call reply h r = (r.0 ++ record { cut = length t.seen; call = call; reply = reply } ∷ [], h.placed r.0 r.1)
+  pub received_more : (s t : SeatView Q O) (call : Call) (reply : Reply) → Stands s t call reply → HasReceipts s → HasReceipts t
+  received_more s t call reply h r = h.placed r
 
-  pub received_same : (s t : SeatView Q O) → Sees s t → IsReceived s → IsReceived t
-  received_same s t h r = (r.0, h.placed r.0 r.1)
+  pub received_same : (s t : SeatView Q O) → Sees s t → HasReceipts s → HasReceipts t
+  received_same s t h r = h.placed r
 
   pub stands_from : (old s t : SeatView Q O) (call : Call) (reply : Reply) → old ≡ s → Stands old t call reply → Stands s t call reply
   stands_from old s t call reply e h = subst (λ (z : SeatView Q O). Stands z t call reply) e h
@@ -120,8 +130,8 @@ all_confirmed j = (omega arith, omega arith)
 
 module _ {Q O : Type 0} where
   -- the seat of a key and a reader
-  abbrev pub seat_of : MultiView Q O → KeyView → ReaderState → ℕ → NoteState → List (List ℕ) → SeatView Q O
-  seat_of of v r p n k = record { of = of; who = r.who; seen = r.seen; confirmed = r.confirmed; polled = p; claims = v.claims; words = n; ties = k }
+  abbrev pub seat_of : MultiView Q O → KeyView → ReaderState → ℕ → NoteState → List Origin → List Receipt → SeatView Q O
+  seat_of of v r p n k m = record { of = of; who = r.who; seen = r.seen; confirmed = r.confirmed; polled = p; claims = v.claims; words = n; ties = k; mine = m }
 
   -- a reader that has seen the whole journal
   abbrev pub at_end : Who → SharedState Q O → ReaderState
@@ -131,19 +141,12 @@ none_new : (before : List Ticket) (p : Ticket → Bool) (after : List Ticket) �
 none_new before p [] h = refl
 none_new before p (t ∷ after) h = ap (λ b. cond b (t ∷ filter p after) (filter p after)) (h t (or_left _ _ (same-refl t))) ∙ none_new before p after (λ u k. h u (or_right _ _ k))
 
-only_new : (t : Ticket) (p : Ticket → Bool) (after : List Ticket) → ((u : Ticket) → has_ticket u after ≡ true → p u ≡ true → u ≡ t) → AllByRecursion (λ u. u ≡ t) (filter p after)
-only_new t p [] h = tt
-only_new t p (u ∷ after) h = go (p u) refl (only_new t p after (λ x k q. h x (or_right _ _ k) q)) where
-  go : (b : Bool) → p u ≡ b → AllByRecursion (λ x. x ≡ t) (filter p after) → AllByRecursion (λ x. x ≡ t) (cond b (u ∷ filter p after) (filter p after))
-  go true is rest = (h u (or_left _ _ (same-refl u)) is, rest)
-  go false is rest = rest
-
 -- the engine that a key took, before anything was done
 module _ {Q O : Type 0} (v w : KeyView) (r : ReaderState) (x : SharedState Q O) (seat : IsSeat v r) (took : Took content v x w) where
   -- the journal that was found
-  pub finds : (of : MultiView Q O) (p : ℕ) (n : NoteState) (k : List (List ℕ)) → IsPrefix r.seen x.core.journal → Finds (seat_of of v r p n k) x.core.journal
-  finds of p n k pre =
-      let own : made_by r.who x.core.journal ≡ made_by r.who v.seen = subst (λ m. made_by m x.core.journal ≡ made_by m v.seen) seat.who took.own in
+  pub finds : (of : MultiView Q O) (p : ℕ) (n : NoteState) (k : List Origin) (m : List Receipt) → IsPrefix r.seen x.core.journal → Finds (seat_of of v r p n k m) x.core.journal
+  finds of p n k m pre =
+      let own : made_by r.who x.core.journal ≡ made_by r.who v.seen = subst (λ w. made_by w x.core.journal ≡ made_by w v.seen) seat.who took.own in
       record { later = pre; own = own ∙ sym seat.own }
 
   pub book_found : r.book ≡ x.book
@@ -199,43 +202,36 @@ module _ {Q O : Type 0} (v w : KeyView) (r : ReaderState) (x : SharedState Q O) 
     claims_after none =
         claims_are ∙ ap (λ l. v.claims ++ l) (none_new (content x).claimed (λ s. not (has_ticket s (content x).claimed)) (content y).claimed (λ s k. ap not (none s k))) ∙ append-nil v.claims
 
-    pub claims_only : (of of' : MultiView Q O) (p q : ℕ) (n : NoteState) (k l : List (List ℕ)) (ticket : Ticket) → HasNoOther (ticket ∷ (content x).claimed) (content y).claimed → ClaimsOnly (seat_of of v r p n k) (seat_of of' u t q n l) ticket
-    claims_only of of' p q n k l ticket none = record {
-      more = newly (content x).claimed (content y).claimed;
-      claims = claims_are;
-      only = only_new ticket (λ s. not (has_ticket s (content x).claimed)) (content y).claimed (λ s k n. first s (same_ticket s ticket) refl n (none s k));
-    }
-      where
-        first : (s : Ticket) (b : Bool) → same_ticket s ticket ≡ b → not (has_ticket s (content x).claimed) ≡ true → has_ticket s (ticket ∷ (content x).claimed) ≡ true → s ≡ ticket
-        first s true is n k = same-is s ticket is
-        first s false is n k = absurd (false≢true (sym (ap not (sym (ap (λ b. b || has_ticket s (content x).claimed) is) ∙ k)) ∙ n))
+    pub claims_one : (ticket : Ticket) → newly (content x).claimed (content y).claimed ≡ ticket ∷ [] → u.claims ≡ v.claims ++ ticket ∷ []
+    claims_one ticket one = claims_are ∙ ap (λ l. v.claims ++ l) one
 
     -- all is confirmed then
-    confirms : (of of' : MultiView Q O) (p q : ℕ) (n : NoteState) (k l : List (List ℕ)) → IsPrefix r.seen y.core.journal → Confirms (seat_of of v r p n k) (seat_of of' u t q n l)
-    confirms of of' p q n k l pre =
+    confirms : (of of' : MultiView Q O) (p q : ℕ) (n : NoteState) (k l : List Origin) (ms mt : List Receipt) → IsPrefix r.seen y.core.journal → Confirms (seat_of of v r p n k ms) (seat_of of' u t q n l mt)
+    confirms of of' p q n k l ms mt pre =
         let at : t.confirmed ≡ length t.seen = ap (λ (z : ReaderState). z.confirmed) got ∙ ap length (sym (ap (λ (z : ReaderState). z.seen) got)) in
         let long = prefix_length r.seen y.core.journal pre in
         let seen : length t.seen ≡ length y.core.journal = ap (λ (z : ReaderState). length z.seen) got in
         let was = seat.but_last.0 in
         record { more = omega (arith, at, long, seen, was); within = omega (arith, at); but_last = omega (arith, at) }
 
-    pub lock_stands : (of of' : MultiView Q O) (p q : ℕ) (n : NoteState) (k l : List (List ℕ)) (by : Who) (call : Call) (reply : Reply) → IsPrefix k l → of.engine ≡ engine_of v → of' ≡ of → by ≡ r.who → IsPrefix r.seen x.core.journal → Leaves by call x reply y
-        → q ≡ polled_after call (length y.core.journal) p → (is_poll call ≡ true → is_ready p y.core.journal ≡ true) → Stands (seat_of of v r p n k) (seat_of of' u t q n l) call reply
-    lock_stands of of' p q n k l by call reply ties engine same is pre leaves at ready =
+    pub lock_stands : (of of' : MultiView Q O) (p q : ℕ) (n : NoteState) (k l : List Origin) (ms mt : List Receipt) (by : Who) (call : Call) (reply : Reply) → IsPrefix k l → of.engine ≡ engine_of v → of' ≡ of → by ≡ r.who → IsPrefix r.seen x.core.journal → Leaves by call x reply y
+        → q ≡ polled_after call (length y.core.journal) p → (is_poll call ≡ true → is_ready p y.core.journal ≡ true) → mt ≡ ms ++ record { cut = length t.seen; call = call; reply = reply } ∷ []
+        → Stands (seat_of of v r p n k ms) (seat_of of' u t q n l mt) call reply
+    lock_stands of of' p q n k l ms mt by call reply ties engine same is pre leaves at ready mine =
         let opening : x.core.opening ≡ of.engine.opening = ap (λ (e : Engine). e.opening) (sym (engine ∙ took.engine)) in
         let a = subst (λ o. Answers o by call x.core.journal reply y.core.journal) opening leaves.answers in
         let b = subst (λ m. Answers of.engine.opening m call x.core.journal reply y.core.journal) is a in
         let seen : t.seen ≡ y.core.journal = ap (λ (z : ReaderState). z.seen) got in
-        stands_at (seat_of of v r p n k) (seat_of of' u t q n l) x.core.journal call reply same (ap (λ (z : ReaderState). z.who) got) (finds of p n k pre)
+        stands_at (seat_of of v r p n k ms) (seat_of of' u t q n l mt) x.core.journal call reply same (ap (λ (z : ReaderState). z.who) got) (finds of p n k ms pre)
         (subst (λ z. Answers of.engine.opening r.who call x.core.journal reply z) (sym seen) b) (ap is_legal seen ∙ leaves.legal)
-        (confirms of of' p q n k l (begins_by y by call reply leaves pre)) (claims_after leaves.claims) refl ties
-        (at ∙ ap (λ z. polled_after call (length z) p) (sym seen)) (λ poll. ap (is_ready p) seen ∙ ready poll)
+        (confirms of of' p q n k l ms mt (begins_by y by call reply leaves pre)) (claims_after leaves.claims) refl ties
+        (at ∙ ap (λ z. polled_after call (length z) p) (sym seen)) (λ poll. ap (is_ready p) seen ∙ ready poll) mine
 
-    pub lock_sees : (of of' : MultiView Q O) (p : ℕ) (n : NoteState) (k l : List (List ℕ)) → IsPrefix k l → of' ≡ of → IsPrefix r.seen x.core.journal → IsLeft x y → Sees (seat_of of v r p n k) (seat_of of' u t p n l)
-    lock_sees of of' p n k l ties same pre left =
+    pub lock_sees : (of of' : MultiView Q O) (p : ℕ) (n : NoteState) (k l : List Origin) (m : List Receipt) → IsPrefix k l → of' ≡ of → IsPrefix r.seen x.core.journal → IsLeft x y → Sees (seat_of of v r p n k m) (seat_of of' u t p n l m)
+    lock_sees of of' p n k l m ties same pre left =
         let seen : t.seen ≡ x.core.journal = ap (λ (z : ReaderState). z.seen) got ∙ left.journal in
-        sees_at (seat_of of v r p n k) (seat_of of' u t p n l) same (ap (λ (z : ReaderState). z.who) got) (subst (Finds (seat_of of v r p n k)) (sym seen) (finds of p n k pre)) (ap is_legal (ap (λ (z : ReaderState). z.seen) got) ∙ left.legal) refl
-        (ap (λ (z : ReaderState). z.confirmed) got ∙ ap length (sym (ap (λ (z : ReaderState). z.seen) got))) refl ties
+        sees_at (seat_of of v r p n k m) (seat_of of' u t p n l m) same (ap (λ (z : ReaderState). z.who) got) (subst (Finds (seat_of of v r p n k m)) (sym seen) (finds of p n k m pre)) (ap is_legal (ap (λ (z : ReaderState). z.seen) got) ∙ left.legal) refl
+        (ap (λ (z : ReaderState). z.confirmed) got ∙ ap length (sym (ap (λ (z : ReaderState). z.seen) got))) refl ties refl
 
   -- the state that was found, by a seat that has then seen its journal
   pub found_state : (code : O → Code) (size : O → ℕ) (s : SeatView Q O) (y : SharedState Q O) → y ≡ x → s.seen ≡ x.core.journal → s.of.engine ≡ engine_of v → IsLocked code size x → FoundState code size s y
@@ -285,12 +281,12 @@ seat_read v r t s h = record {
 }
 
 -- a read stands at what it has then seen
-pub stands_read : {Q O : Type 0} (of : MultiView Q O) (v : KeyView) (r t : ReaderState) (p : ℕ) (n : NoteState) (k : List (List ℕ)) (call : Call) (reply : Reply) → Reads r t → is_poll call ≡ false → Answers of.engine.opening r.who call t.seen reply t.seen
-    → Stands (seat_of of v r p n k) (seat_of of v t p n k) call reply
-stands_read of v r t p n k call reply h quiet a =
-    stands_at (seat_of of v r p n k) (seat_of of v t p n k) t.seen call reply refl h.who (record { later = h.later; own = h.own }) a h.legal
+pub stands_read : {Q O : Type 0} (of : MultiView Q O) (v : KeyView) (r t : ReaderState) (p : ℕ) (n : NoteState) (k : List Origin) (ms mt : List Receipt) (call : Call) (reply : Reply) → Reads r t → is_poll call ≡ false → Answers of.engine.opening r.who call t.seen reply t.seen
+    → mt ≡ ms ++ record { cut = length t.seen; call = call; reply = reply } ∷ [] → Stands (seat_of of v r p n k ms) (seat_of of v t p n k mt) call reply
+stands_read of v r t p n k ms mt call reply h quiet a mine =
+    stands_at (seat_of of v r p n k ms) (seat_of of v t p n k mt) t.seen call reply refl h.who (record { later = h.later; own = h.own }) a h.legal
     (record { more = h.confirmed; within = h.but_last.0; but_last = h.but_last.1 }) refl refl (prefix_self k)
-    (ap (λ b. cond b (length t.seen) p) (sym quiet)) (λ is. absurd (false≢true (sym quiet ∙ is)))
+    (ap (λ b. cond b (length t.seen) p) (sym quiet)) (λ is. absurd (false≢true (sym quiet ∙ is))) mine
 
 -- 4. A seat that meets another.
 
@@ -307,12 +303,12 @@ seat_sees v r t x s pre own book got =
       but_last = all_confirmed x.core.journal;
     })
 
-pub other_sees : {Q O : Type 0} (of : MultiView Q O) (v : KeyView) (r t : ReaderState) (p : ℕ) (n : NoteState) (k l : List (List ℕ)) (x : SharedState Q O) → IsPrefix k l → IsPrefix r.seen x.core.journal → made_by r.who x.core.journal ≡ made_by r.who r.seen → is_legal x.core.journal ≡ true → t ≡ at_end r.who x
-    → Sees (seat_of of v r p n k) (seat_of of v t p n l)
-other_sees of v r t p n k l x ties pre own legal got =
+pub other_sees : {Q O : Type 0} (of : MultiView Q O) (v : KeyView) (r t : ReaderState) (p : ℕ) (n : NoteState) (k l : List Origin) (m : List Receipt) (x : SharedState Q O) → IsPrefix k l → IsPrefix r.seen x.core.journal → made_by r.who x.core.journal ≡ made_by r.who r.seen → is_legal x.core.journal ≡ true → t ≡ at_end r.who x
+    → Sees (seat_of of v r p n k m) (seat_of of v t p n l m)
+other_sees of v r t p n k l m x ties pre own legal got =
     let seen : t.seen ≡ x.core.journal = ap (λ (z : ReaderState). z.seen) got in
-    sees_at (seat_of of v r p n k) (seat_of of v t p n l) refl (ap (λ (z : ReaderState). z.who) got)
-    (subst (Finds (seat_of of v r p n k)) (sym seen) (record { later = pre; own = own })) (ap is_legal seen ∙ legal) refl (ap (λ (z : ReaderState). z.confirmed) got ∙ ap length (sym seen)) refl ties
+    sees_at (seat_of of v r p n k m) (seat_of of v t p n l m) refl (ap (λ (z : ReaderState). z.who) got)
+    (subst (Finds (seat_of of v r p n k m)) (sym seen) (record { later = pre; own = own })) (ap is_legal seen ∙ legal) refl (ap (λ (z : ReaderState). z.confirmed) got ∙ ap length (sym seen)) refl ties refl
 
 -- 5. How the engine is left.
 
@@ -328,7 +324,7 @@ none_claimed {Q} j k q r e none still = λ t h.
 
 -- a poll that may return
 pub woken : {Q O : Type 0} (who : Who) (x : SharedState Q O) → is_legal x.core.journal ≡ true → Leaves who call.Poll x reply.Woken x
-woken who x legal = record { answers = (refl, sym (append-nil x.core.journal)); opening = refl; book = refl; ties = refl; legal = legal; claims = λ t h. h }
+woken who x legal = record { answers = (refl, sym (append-nil x.core.journal)); opening = refl; book = refl; ties = refl; legal = legal; claims = λ t h. h; unchanged = λ none. refl }
 
 pub caught_confirmed : {Q O : Type 0} (who : Who) (t : ReaderState) (y : SharedState Q O) → t ≡ at_end who y → t.confirmed ≡ length t.seen
 caught_confirmed who t y got = ap (λ (z : ReaderState). z.confirmed) got ∙ ap length (sym (ap (λ (z : ReaderState). z.seen) got))
@@ -337,29 +333,29 @@ pub quiet_mark : (c : Call) (n p : ℕ) → is_poll c ≡ false → p ≡ polled
 quiet_mark c n p quiet = ap (λ b. cond b n p) (sym quiet)
 
 -- a seat whose key put back what it took
-pub received_released : {Q O : Type 0} (v u : KeyView) (r : ReaderState) (of of' : MultiView Q O) (p : ℕ) (n : NoteState) (k : List (List ℕ)) → of'.engine ≡ of.engine → IsReceived (seat_of of v r p n k) → IsReceived (seat_of of' u r p n k)
-received_released v u r of of' p n k same h =
-    (h.0, record { placed = subst (λ (e : Engine). IsPlaced e.opening r.who h.0 r.seen) (sym same) h.1.placed; polled = h.1.polled })
+pub received_released : {Q O : Type 0} (v u : KeyView) (r : ReaderState) (of of' : MultiView Q O) (p : ℕ) (n : NoteState) (k : List Origin) (m : List Receipt) → of'.engine ≡ of.engine → HasReceipts (seat_of of v r p n k m) → HasReceipts (seat_of of' u r p n k m)
+received_released v u r of of' p n k m same h =
+    record { placed = subst (λ (e : Engine). IsPlaced e.opening r.who m r.seen) (sym same) h.placed; polled = h.polled }
 
-pub claims_from : {Q O : Type 0} (old s t : SeatView Q O) (ticket : Ticket) → old ≡ s → ClaimsOnly old t ticket → ClaimsOnly s t ticket
-claims_from {Q} {O} old s t ticket e h = subst (λ (z : SeatView Q O). ClaimsOnly z t ticket) e h
+pub left_from : {Q O : Type 0} (code : O → Code) (size : O → ℕ) (old s t : SeatView Q O) (reply : Reply) → old ≡ s → LeavesState code size old t reply → LeavesState code size s t reply
+left_from {Q} {O} code size old s t reply e h = subst (λ (z : SeatView Q O). LeavesState code size z t reply) e h
 
 -- what was told of a list is told of each that goes on
-pub tells_on : (xs ys : List (List ℕ)) (o : Option Tie) → IsPrefix xs ys → Tells o xs → Tells o ys
+pub tells_on : (xs ys : List Origin) (o : Option Tie) → IsPrefix xs ys → Tells o xs → Tells o ys
 tells_on xs ys None p h = tt
 tells_on xs ys (Some x) p h = has_more xs ys x.ticket x.origin p h
 
-same_origin : (xs : List (List ℕ)) (t : Ticket) (a b : List ℕ) → Has xs (tie t a) → Has xs (tie t b) → a ≡ b
-same_origin xs t a b h k = ap (λ (o : Option (List ℕ)). unwrap_or o a) (sym h ∙ k)
+same_origin : (xs : List Origin) (t : Ticket) (a b : Origin) → Has xs (tie t a) → Has xs (tie t b) → a ≡ b
+same_origin xs t a b h k = ap (λ (o : Option Origin). unwrap_or o a) (sym h ∙ k)
 
-pub told_alike : (xs ys : List (List ℕ)) → AreOfOneList xs ys → AreToldAlike xs ys
+pub told_alike : (xs ys : List Origin) → AreOfOneList xs ys → AreToldAlike xs ys
 told_alike xs ys (inl p) t a b h k = same_origin ys t a b (has_more xs ys t a p h) k
 told_alike xs ys (inr p) t a b h k = same_origin xs t a b h (has_more ys xs t b p k)
 
 -- 6. A version that was read, with no receipt.
 
-pub sees_version : {Q O : Type 0} (of of' : MultiView Q O) (v : KeyView) (r t : ReaderState) (p : ℕ) (n m : NoteState) (k : List (List ℕ)) → of' ≡ of → Reads r t → SeesVersion (seat_of of v r p n k) (seat_of of' v t p m k)
-sees_version {Q} {O} of of' v r t p n m k same h = record {
+pub sees_version : {Q O : Type 0} (of of' : MultiView Q O) (v : KeyView) (r t : ReaderState) (p : ℕ) (n m : NoteState) (k : List Origin) (mine : List Receipt) → of' ≡ of → Reads r t → SeesVersion (seat_of of v r p n k mine) (seat_of of' v t p m k mine)
+sees_version {Q} {O} of of' v r t p n m k mine same h = record {
   of = same;
   who = h.who;
   polled = refl;
@@ -368,15 +364,16 @@ sees_version {Q} {O} of of' v r t p n m k same h = record {
   confirmed = record { more = h.confirmed; within = h.but_last.0; but_last = h.but_last.1 };
   found = record { later = h.later; own = h.own };
   legal = h.legal;
-  placed = λ mine q. record {
+  mine = refl;
+  placed = λ q. record {
     placed = subst (λ (o : MultiView Q O). IsPlaced o.engine.opening t.who mine t.seen) (sym same)
         (subst (λ w. IsPlaced of.engine.opening w mine t.seen) (sym h.who) (placed_stays of.engine.opening r.who mine r.seen t.seen q.placed h.later h.own));
     polled = q.polled;
   };
 }
 
-pub received_version : {Q O : Type 0} (s t : SeatView Q O) → SeesVersion s t → IsReceived s → IsReceived t
-received_version s t h r = (r.0, h.placed r.0 r.1)
+pub received_version : {Q O : Type 0} (s t : SeatView Q O) → SeesVersion s t → HasReceipts s → HasReceipts t
+received_version s t h r = h.placed r
 
 pub progress_from : {Q O : Type 0} (old s t : SeatView Q O) (h : HandleId) (p : Progress) → old ≡ s → SeesVersion old t → IsProgress h t.seen old.words t.words p → SeesVersion s t × IsProgress h t.seen s.words t.words p
 progress_from {Q} {O} old s t h p e sees is = subst (λ (z : SeatView Q O). SeesVersion z t × IsProgress h t.seen z.words t.words p) e (sees, is)

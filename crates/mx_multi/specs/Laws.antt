@@ -4,6 +4,7 @@ use Rattle.mx_types.specs.declared.names.Ticket.{Ticket}
 use Rattle.mx_types.specs.declared.call.Call.{Call}
 use Rattle.mx_types.specs.declared.call.Call.TheVariants as call
 use Rattle.mx_types.specs.declared.call.Receipt.{Receipt}
+use Rattle.mx_types.specs.declared.origin.Origin.{Origin}
 use Rattle.mx_journal.specs.History.{is_legal}
 use Rattle.mx_lock.specs.Ties.{tie, Has}
 use Rattle.mx_multi.specs.declared.laws.Step.{Step}
@@ -34,5 +35,5 @@ pub record Met {Q O : Type 0} (s t : SeatView Q O) : Type 0 where
   pub legal : is_legal s.seen ≡ true
 
 -- for both that were told, the addition under a ticket is of one request
-abbrev pub AreToldAlike : List (List ℕ) → List (List ℕ) → Type 0
-AreToldAlike xs ys = (t : Ticket) (a b : List ℕ) → Has xs (tie t a) → Has ys (tie t b) → a ≡ b
+abbrev pub AreToldAlike : List Origin → List Origin → Type 0
+AreToldAlike xs ys = (t : Ticket) (a b : Origin) → Has xs (tie t a) → Has ys (tie t b) → a ≡ b

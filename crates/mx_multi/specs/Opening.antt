@@ -5,11 +5,18 @@ use Rattle.mx_types.specs.declared.event.Who.{Who}
 use Rattle.mx_types.specs.declared.event.Who.TheVariants as who
 use Rattle.mx_board.specs.Board.{ReaderState, caught_up}
 use Rattle.mx_multi.specs.declared.open.Limits.{Limits}
+use Rattle.mx_multi.specs.declared.open.OpenError.{OpenError}
+use Rattle.mx_multi.specs.declared.open.OpenError.TheVariants as refusal
 use Rattle.mx_multi.specs.Seats.{MultiView, SeatView, IsNew}
 
 -- 1 to 16 seats and workers, a history of 4 to 1,048,576 events, at most 64 idle connections a worker
 abbrev pub are_within : Limits → Bool
 are_within l = nat_le 1 l.seats && nat_le l.seats 16 && nat_le 1 l.workers && nat_le l.workers 16 && nat_le 4 l.history && nat_le l.history 1048576 && nat_le l.max_connects 64
+
+-- the number of a refusal
+abbrev pub open_number : OpenError → ℕ
+open_number refusal.BadLimits = 1
+open_number refusal.OutOfMemory = 2
 
 -- the maker of the seat, or of the worker's seat, with the number
 abbrev pub maker_of : Bool → ℕ → Who

@@ -1,10 +1,12 @@
 -- How far a transfer is, by the progress word of its addition's slot.
-use Rattle.std.specs.Prelude.{◌≡◌, ◌⊎◌, ℕ, ◌<◌, ◌==◌, nat_lt, if◌then◌else◌, [], ◌∷◌, ◌++◌, List, None, Some}
+use Rattle.std.specs.Prelude.{◌≡◌, ◌⊎◌, ℕ, ◌<◌, ◌≤◌, ◌==◌, nat_lt, true, if◌then◌else◌, [], ◌∷◌, ◌++◌, List, None, Some}
 use Rattle.mx_types.specs.declared.names.HandleId.{HandleId}
 use Rattle.mx_types.specs.declared.names.Ticket.{Ticket}
 use Rattle.mx_types.specs.declared.event.Event.{Event}
+use Rattle.mx_journal.specs.History.{is_legal}
 use Rattle.mx_journal.specs.Answers.{ticket_of}
 use Rattle.mx_journal.specs.Slots.{slot_of}
+use Rattle.mx_board.specs.declared.note.Note.{Note}
 use Rattle.mx_board.specs.Progress.{NoteState, ReadsWord, note, word_of}
 use Rattle.mx_multi.specs.declared.progress.Progress.{Progress}
 use Rattle.mx_multi.specs.declared.progress.Progress.TheVariants as progress
@@ -34,6 +36,13 @@ pub record SaysAdded (h : HandleId) (j : List Event) (before after : NoteState) 
 -- how far a handle's transfer is by these events: it isn't added, or the word of its slot was read
 abbrev pub IsProgress : HandleId → List Event → NoteState → NoteState → Progress → Type 0
 IsProgress h j before after p = ((ticket_of h j ≡ None) × (p ≡ progress.NotAdded) × (after ≡ before)) ⊎ SaysAdded h j before after p
+
+-- Two answers of one seat for one ticket, the second after no less was seen and read: the second count is no less.
+abbrev pub ProgressNeverFalls : Type 0
+ProgressNeverFalls =
+    (h g : HandleId) (j more : List Event) (a b c d : NoteState) (since : List Note) (t : Ticket) (n m : ℕ)
+    → is_legal (j ++ more) ≡ true → c.read ≡ b.read ++ since
+    → IsProgress h j a b (progress.Bytes t n) → IsProgress g (j ++ more) c d (progress.Bytes t m) → n ≤ m
 
 -- the seat has noted a count for the ticket and the slot, and is else as it was
 abbrev pub noted_by : {Q O : Type 0} → SeatView Q O → ℕ → Ticket → ℕ → SeatView Q O

@@ -12,9 +12,10 @@ use Rattle.mx_types.specs.declared.event.Event.{Event}
 use Rattle.mx_types.specs.declared.call.Call.{Call}
 use Rattle.mx_types.specs.declared.call.Receipt.{Receipt}
 use Rattle.mx_types.specs.declared.reply.Reply.{Reply}
+use Rattle.mx_types.specs.declared.origin.Origin.{Origin}
 use Rattle.mx_journal.specs.History.{has_ticket, is_legal, made_by}
 use Rattle.mx_journal.specs.Answers.{Answers, is_ready}
-use Rattle.mx_journal.specs.Receipts.{is_poll, mark, IsPlaced}
+use Rattle.mx_journal.specs.Receipts.{comes_with_event, is_poll, mark, IsPlaced}
 use Rattle.mx_journal.specs.declared.replies.GiveBackReply.{GiveBackReply}
 use Rattle.mx_journal.specs.Replies.{is_back, queue_given}
 use Rattle.mx_journal.specs.Core.{claimed, queued}
@@ -32,8 +33,8 @@ pub record MultiView (Q O : Type 0) : Type 0 where
   pub words : TableId
 
 -- a seat: of which engine it is, which maker, the events that it has seen, how many of these are confirmed by more than a
--- read, how many they were at its last poll, the tickets that it has claimed, the progress words that it has noted and read, and of
--- which requests additions are, as it was told under the lock
+-- read, how many they were at its last poll, the tickets that it has claimed, the progress words that it has noted and read, of
+-- which requests additions are, as it was told under the lock, and the receipts of its answered calls
 pub record SeatView (Q O : Type 0) : Type 0 where
   pub of : MultiView Q O
   pub who : Who
@@ -42,7 +43,8 @@ pub record SeatView (Q O : Type 0) : Type 0 where
   pub polled : ℕ
   pub claims : List Ticket
   pub words : NoteState
-  pub ties : List (List ℕ)
+  pub ties : List Origin
+  pub mine : List Receipt
 
 -- the seat's key is free, and its reader has seen no less than the key, and no event more of its maker
 pub record IsSeat (v : KeyView) (r : ReaderState) : Type 0 where
@@ -54,14 +56,10 @@ pub record IsSeat (v : KeyView) (r : ReaderState) : Type 0 where
   pub own : made_by r.who r.seen ≡ made_by r.who v.seen
   pub but_last : ConfirmsAllButLast r
 
--- the receipts are those of the seat's calls: they stand in what it has seen, and the last poll among them is its last poll
-pub record HasReceipts {Q O : Type 0} (s : SeatView Q O) (mine : List Receipt) : Type 0 where
-  pub placed : IsPlaced s.of.engine.opening s.who mine s.seen
-  pub polled : mark mine ≡ s.polled
-
--- there are receipts of all its calls
-abbrev pub IsReceived : {Q O : Type 0} → SeatView Q O → Type 0
-IsReceived s = (mine : List Receipt) × HasReceipts s mine
+-- the seat's receipts are those of its calls: they stand in what it has seen, and the last poll among them is its last poll
+pub record HasReceipts {Q O : Type 0} (s : SeatView Q O) : Type 0 where
+  pub placed : IsPlaced s.of.engine.opening s.who s.mine s.seen
+  pub polled : mark s.mine ≡ s.polled
 
 -- a journal that begins with what the seat has seen, and has no event more of its own
 pub record Finds {Q O : Type 0} (s : SeatView Q O) (j : List Event) : Type 0 where
@@ -88,9 +86,10 @@ pub record Stands {Q O : Type 0} (s t : SeatView Q O) (call : Call) (reply : Rep
   pub ties : IsPrefix s.ties t.ties
   pub polled : t.polled ≡ (if is_poll call then length t.seen else s.polled)
   pub ready : is_poll call ≡ true → is_ready s.polled t.seen ≡ true
-  pub placed : (mine : List Receipt) → HasReceipts s mine → HasReceipts t (mine ++ record { cut = length t.seen; call = call; reply = reply } ∷ [])
+  pub mine : t.mine ≡ s.mine ++ record { cut = length t.seen; call = call; reply = reply } ∷ []
+  pub placed : HasReceipts s → HasReceipts t
 
--- the seat has seen a journal, with no receipt for that: what was placed stays placed
+-- the seat has seen a journal, with no receipt for that: those that it had stay placed
 pub record Sees {Q O : Type 0} (s t : SeatView Q O) : Type 0 where
   pub of : t.of ≡ s.of
   pub who : t.who ≡ s.who
@@ -100,9 +99,10 @@ pub record Sees {Q O : Type 0} (s t : SeatView Q O) : Type 0 where
   pub ties : IsPrefix s.ties t.ties
   pub found : Finds s t.seen
   pub legal : is_legal t.seen ≡ true
-  pub placed : (mine : List Receipt) → HasReceipts s mine → HasReceipts t mine
+  pub mine : t.mine ≡ s.mine
+  pub placed : HasReceipts s → HasReceipts t
 
--- the seat has read a published version, with no receipt for that: what was placed stays placed
+-- the seat has read a published version, with no receipt for that: those that it had stay placed
 pub record SeesVersion {Q O : Type 0} (s t : SeatView Q O) : Type 0 where
   pub of : t.of ≡ s.of
   pub who : t.who ≡ s.who
@@ -112,13 +112,8 @@ pub record SeesVersion {Q O : Type 0} (s t : SeatView Q O) : Type 0 where
   pub confirmed : Confirms s t
   pub found : Finds s t.seen
   pub legal : is_legal t.seen ≡ true
-  pub placed : (mine : List Receipt) → HasReceipts s mine → HasReceipts t mine
-
--- the seat has claimed no ticket but this
-pub record ClaimsOnly {Q O : Type 0} (s t : SeatView Q O) (ticket : Ticket) : Type 0 where
-  pub more : List Ticket
-  pub claims : t.claims ≡ s.claims ++ more
-  pub only : AllByRecursion (λ u. u ≡ ticket) more
+  pub mine : t.mine ≡ s.mine
+  pub placed : HasReceipts s → HasReceipts t
 
 -- a state of what lies in the lock of the seat's engine, with the journal that the seat has seen
 pub record FoundState {Q O : Type 0} (code : O → Code) (size : O → ℕ) (s : SeatView Q O) (x : SharedState Q O) : Type 0 where
@@ -126,13 +121,28 @@ pub record FoundState {Q O : Type 0} (code : O → Code) (size : O → ℕ) (s :
   pub engine : (content x).engine ≡ s.of.engine
   pub locked : IsLocked code size x
 
--- what was claimed came first in the queue that was found there, under the least ticket
+-- A call of a seat left the engine so, with this reply: it found a state whose journal begins with what the seat had seen, and left one with the
+-- journal that the seat has then seen. Where the call came with no event, queue and endings are as they were.
+pub record LeavesState {Q O : Type 0} (code : O → Code) (size : O → ℕ) (s t : SeatView Q O) (reply : Reply) : Type 0 where
+  pub found : SharedState Q O
+  pub engine : (content found).engine ≡ s.of.engine
+  pub begins : Finds s found.core.journal
+  pub locked : IsLocked code size found
+  pub after : SharedState Q O
+  pub left : FoundState code size t after
+  pub unchanged : comes_with_event reply ≡ false → after.core ≡ found.core
+
+-- What was claimed came first in the queue that was found there, under the least ticket. The queue that was left is the rest, the ticket is then
+-- claimed, and the endings are as they were.
 pub record ClaimsLeast {Q O : Type 0} (code : O → Code) (size : O → ℕ) (s : SeatView Q O) (ticket : Ticket) (work : Q) : Type 0 where
   pub found : SharedState Q O
   pub is : FoundState code size s found
-  pub rest : List (Ticket × Q)
-  pub first : found.core.queue ≡ (ticket, work) ∷ rest
   pub least : AllByRecursion (λ u. ticket.0 ≤ u.0) (queued found.core.queue)
+  pub after : SharedState Q O
+  pub left : FoundState code size s after
+  pub first : found.core.queue ≡ (ticket, work) ∷ after.core.queue
+  pub claimed : has_ticket ticket (claimed after.core.journal after.core.queue) ≡ true
+  pub endings : after.core.endings ≡ found.core.endings
 
 -- Work was given back: where its ticket ran and wasn't queued, it stands at its place by ticket in the queue that was left.
 -- Else the queue was left as it was found
@@ -160,17 +170,19 @@ pub record IsNew {Q O : Type 0} (m : MultiView Q O) (w : Who) (s : SeatView Q O)
   pub polled : s.polled ≡ 0
   pub claims : s.claims ≡ []
   pub ties : s.ties ≡ []
+  pub mine : s.mine ≡ []
   pub noted : s.words.noted ≡ []
   pub read : s.words.read ≡ []
 
--- the same seat, later: further calls of it were answered, with these receipts, which stand behind those that it had
+-- the same seat, later: further calls of it were answered, and these are their receipts, which stand behind those that it had
 pub record Later {Q O : Type 0} (s t : SeatView Q O) (more : List Receipt) : Type 0 where
   pub of : t.of ≡ s.of
   pub who : t.who ≡ s.who
   pub later : IsPrefix s.seen t.seen
   pub ties : IsPrefix s.ties t.ties
   pub legal : is_legal s.seen ≡ true → is_legal t.seen ≡ true
-  pub placed : (mine : List Receipt) → HasReceipts s mine → HasReceipts t (mine ++ more)
+  pub mine : t.mine ≡ s.mine ++ more
+  pub placed : HasReceipts s → HasReceipts t
 
 -- from s on, calls of the seat were answered, with these receipts, and it claimed no ticket
 pub record Ran {Q O : Type 0} (s t : SeatView Q O) (more : List Receipt) : Type 0 where

@@ -11,5 +11,5 @@ mod seat;
 pub use crate::laws::{Step, run_two};
 pub use crate::multi::{HandleList, Multi, WrongSeat};
 pub use crate::open::{Limits, OpenError};
-pub use crate::progress::Progress;
+pub use crate::progress::{Progress, progress_never_falls};
 pub use crate::seat::{Seat, WorkerSeat};

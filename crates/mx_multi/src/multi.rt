@@ -1,5 +1,5 @@
 //! The calls of a multi handle that threads share.
-ghost use Rattle.std.specs.Prelude.{◌⊎◌, ◌≡◌, ◌≤◌, true, length, take, Some, IfSome, IfOk, OnOk, MatchBool, MatchResult, MatchOption};
+ghost use Rattle.std.specs.Prelude.{◌⊎◌, ◌≡◌, ◌≤◌, ◌++◌, ◌∷◌, [], true, length, take, Some, IfSome, IfOk, OnOk, MatchBool, MatchResult, MatchOption};
 ghost use Rattle.mx_types.specs.declared.call.Call.{Call};
 ghost use Rattle.mx_types.specs.declared.reply.Reply.{Reply};
 ghost use Rattle.mx_journal.specs.History.{has_ticket, running};
@@ -9,9 +9,9 @@ ghost use Rattle.mx_journal.specs.Replies.{IsGivenBack, is_back, handed_back, wo
 ghost use Rattle.mx_board.specs.Board.{AreOfOneJournal, OneBeginsOther};
 ghost use Rattle.mx_lock.specs.Shared.{SharedState};
 ghost use Rattle.mx_lock.specs.Ties.{AreOfAdditions, Has, Tells, tie, tie_added, tie_read};
-ghost use Rattle.mx_multi.specs.Seats.{Stands, Sees, FoundState, GivesBack, ClaimsLeast, ClaimsNothing, ClaimsOnly};
+ghost use Rattle.mx_multi.specs.Seats.{Stands, Sees, FoundState, GivesBack, ClaimsLeast, ClaimsNothing, LeavesState};
 
-use crate::seat::{Seat, WorkerSeat};
+use crate::seat::{Seat, WorkerSeat, note_receipt};
 use mx_board::{JournalMark, ProgressTable, are_of_one_journal};
 use mx_journal::{
     AddReply, FinishReply, GiveBackReply, InfoReply, PauseReply, RemoveReply, WakeupReply,
@@ -20,7 +20,7 @@ use mx_lock::{
     Addition, Deed, Finishing, Lock, Pausing, Reading, Removal, Shared, TieMark, TiedClaim,
     Unpausing, Waking,
 };
-use mx_types::{AddedHandles, Ending, HandleId, Look, State, Ticket, Work};
+use mx_types::{AddedHandles, Call, Ending, HandleId, Look, Receipt, Reply, State, Ticket, Work};
 use std::marker::Model;
 use std::snapshot::Snapshot;
 use std::sync::{Condvar, Mutex, Wait};
@@ -83,15 +83,21 @@ impl<Q: Work + Drop, O: Ending + Drop> Multi<Q, O> {
         ensures stands { MatchResult result (λ r. Stands seat.old seat.new (D.call deed) (D.reply r)) (λ w. (seat.new ≡ seat.old) × (w.0 ≡ deed)) }
         ensures back { IfOk result (λ r. D.back deed r) }
         ensures tells { IfOk result (λ r. Tells (D.tie deed r) seat.new.ties) }
+        ensures left { IfOk result (λ r. LeavesState O.code_of O.size_of seat.old seat.new (D.reply r)) }
         ensures confirmed { OnOk result (seat.new.confirmed ≡ length seat.new.seen) }
     {
         let Some(taken) = self.lock.enter(rt, &mut seat.key, &seat.reader) else {
             return Err(WrongSeat(deed));
         };
+        let _known = taken.know();
         let who = seat.reader.who();
+        let call = deed.as_call();
         let (taken, reply) = taken.run(rt, deed, who);
+        let _left = taken.know();
         self.lock
             .leave(rt, &mut seat.key, taken, &mut seat.reader, &mut seat.ties);
+        let cut = seat.reader.cut();
+        note_receipt(&mut seat.mine, cut, call, D::as_reply(&reply));
         if D::wakes(&reply) {
             self.tell(rt);
         }
@@ -111,6 +117,7 @@ impl<Q: Work + Drop, O: Ending + Drop> Multi<Q, O> {
         ensures stands { MatchResult result (λ r. Stands seat.old seat.new (Call.Add handle) (reply_of_add r)) (λ w. (seat.new ≡ seat.old) × (w.0 ≡ work)) }
         ensures back { IfOk result (λ r. handed_back r ≡ work_back r work) }
         ensures tells { IfOk result (λ r. Tells (tie_added r (Q.origin work)) seat.new.ties) }
+        ensures left { IfOk result (λ r. LeavesState O.code_of O.size_of seat.old seat.new (reply_of_add r)) }
         ensures confirmed { OnOk result (seat.new.confirmed ≡ length seat.new.seen) }
     {
         match self.act(rt, seat, Addition { handle, work }) {
@@ -128,6 +135,7 @@ impl<Q: Work + Drop, O: Ending + Drop> Multi<Q, O> {
     ) -> Result<RemoveReply, WrongSeat<()>>
         requires own { seat.old.of ≡ self.now }
         ensures stands { MatchResult result (λ r. Stands seat.old seat.new (Call.Remove handle) (reply_of_remove r)) (λ _. seat.new ≡ seat.old) }
+        ensures left { IfOk result (λ r. LeavesState O.code_of O.size_of seat.old seat.new (reply_of_remove r)) }
         ensures confirmed { OnOk result (seat.new.confirmed ≡ length seat.new.seen) }
     {
         match self.act(rt, seat, Removal(handle)) {
@@ -145,6 +153,7 @@ impl<Q: Work + Drop, O: Ending + Drop> Multi<Q, O> {
     ) -> Result<PauseReply, WrongSeat<()>>
         requires own { seat.old.of ≡ self.now }
         ensures stands { MatchResult result (λ r. Stands seat.old seat.new (Call.Pause handle) (reply_of_pause r)) (λ _. seat.new ≡ seat.old) }
+        ensures left { IfOk result (λ r. LeavesState O.code_of O.size_of seat.old seat.new (reply_of_pause r)) }
         ensures confirmed { OnOk result (seat.new.confirmed ≡ length seat.new.seen) }
     {
         match self.act(rt, seat, Pausing(handle)) {
@@ -162,6 +171,7 @@ impl<Q: Work + Drop, O: Ending + Drop> Multi<Q, O> {
     ) -> Result<PauseReply, WrongSeat<()>>
         requires own { seat.old.of ≡ self.now }
         ensures stands { MatchResult result (λ r. Stands seat.old seat.new (Call.Unpause handle) (reply_of_pause r)) (λ _. seat.new ≡ seat.old) }
+        ensures left { IfOk result (λ r. LeavesState O.code_of O.size_of seat.old seat.new (reply_of_pause r)) }
         ensures confirmed { OnOk result (seat.new.confirmed ≡ length seat.new.seen) }
     {
         match self.act(rt, seat, Unpausing(handle)) {
@@ -180,6 +190,7 @@ impl<Q: Work + Drop, O: Ending + Drop> Multi<Q, O> {
         requires own { seat.old.of ≡ self.now }
         ensures stands { MatchResult result (λ r. Stands seat.old seat.new Call.InfoRead (reply_of_info O.code_of O.size_of r)) (λ _. seat.new ≡ seat.old) }
         ensures tells { IfOk result (λ r. Tells (tie_read O.origin r) seat.new.ties) }
+        ensures left { IfOk result (λ r. LeavesState O.code_of O.size_of seat.old seat.new (reply_of_info O.code_of O.size_of r)) }
         ensures confirmed { OnOk result (seat.new.confirmed ≡ length seat.new.seen) }
     {
         match self.act(rt, seat, Reading) {
@@ -196,6 +207,7 @@ impl<Q: Work + Drop, O: Ending + Drop> Multi<Q, O> {
     ) -> Result<WakeupReply, WrongSeat<()>>
         requires own { seat.old.of ≡ self.now }
         ensures stands { MatchResult result (λ r. Stands seat.old seat.new Call.Wakeup (reply_of_wakeup r)) (λ _. seat.new ≡ seat.old) }
+        ensures left { IfOk result (λ r. LeavesState O.code_of O.size_of seat.old seat.new (reply_of_wakeup r)) }
         ensures confirmed { OnOk result (seat.new.confirmed ≡ length seat.new.seen) }
     {
         match self.act(rt, seat, Waking) {
@@ -217,6 +229,7 @@ impl<Q: Work + Drop, O: Ending + Drop> Multi<Q, O> {
         requires origin { O.origin ending ≡ claim.origin }
         ensures stands { MatchResult result (λ r. Stands seat.old seat.new (Call.Finish claim.ticket (O.code_of ending) (O.size_of ending)) (reply_of_finish r)) (λ w. (seat.new ≡ seat.old) × (w.0 ≡ (claim, ending))) }
         ensures back { IfOk result (λ r. IsHandedBack claim ending r) }
+        ensures left { IfOk result (λ r. LeavesState O.code_of O.size_of seat.old seat.new (reply_of_finish r)) }
         ensures confirmed { OnOk result (seat.new.confirmed ≡ length seat.new.seen) }
     {
         match self.act(rt, seat, Finishing { claim, ending }) {
@@ -234,7 +247,16 @@ impl<Q: Work + Drop, O: Ending + Drop> Multi<Q, O> {
         let Some(answer) = seat.reader.handles() else {
             return None;
         };
-        Some(answer)
+        let receipt = Receipt {
+            cut: seat.reader.cut(),
+            call: Call::Handles,
+            reply: Reply::Handles(answer),
+        };
+        seat.mine.show(&receipt);
+        let Reply::Handles(list) = receipt.reply else {
+            unreachable!()
+        };
+        Some(list)
     }
 
     /// How many transfers run, paused ones too, by the version that was published last. It takes no lock and no memory.
@@ -246,6 +268,8 @@ impl<Q: Work + Drop, O: Ending + Drop> Multi<Q, O> {
         let Some(answer) = seat.reader.running() else {
             return None;
         };
+        let cut = seat.reader.cut();
+        note_receipt(&mut seat.mine, cut, Call::Running, Reply::Running(answer));
         Some(answer)
     }
 
@@ -258,6 +282,13 @@ impl<Q: Work + Drop, O: Ending + Drop> Multi<Q, O> {
         let Some(answer) = seat.reader.state(handle) else {
             return None;
         };
+        let cut = seat.reader.cut();
+        note_receipt(
+            &mut seat.mine,
+            cut,
+            Call::State(handle),
+            Reply::State(answer),
+        );
         Some(answer)
     }
 
@@ -269,14 +300,20 @@ impl<Q: Work + Drop, O: Ending + Drop> Multi<Q, O> {
         let Some(answer) = seat.reader.look(ticket) else {
             return None;
         };
+        let cut = seat.reader.cut();
+        note_receipt(&mut seat.mine, cut, Call::Look(ticket), Reply::Look(answer));
         Some(answer)
     }
 
     // Takes the work of the lowest ticket in the queue.
-    pub(crate) fn claim_at<R: Wait>(&self, rt: &R, seat: &mut Seat<Q, O>) -> Option<(TiedClaim<Q>, Q)>
+    pub(crate) fn claim_at<R: Wait>(
+        &self,
+        rt: &R,
+        seat: &mut Seat<Q, O>,
+    ) -> Option<(TiedClaim<Q>, Q)>
         requires own { seat.old.of ≡ self.now }
         ensures sees { MatchOption result ((seat.new ≡ seat.old) ⊎ Sees seat.old seat.new) (λ r. Sees seat.old seat.new) }
-        ensures claims { MatchOption result (seat.new.claims ≡ seat.old.claims) (λ r. ClaimsOnly seat.old seat.new r.0.ticket) }
+        ensures claims { MatchOption result (seat.new.claims ≡ seat.old.claims) (λ r. seat.new.claims ≡ seat.old.claims ++ r.0.ticket ∷ []) }
         ensures runs { IfSome result (λ r. has_ticket r.0.ticket (running seat.new.seen) ≡ true) }
         ensures origin { IfSome result (λ r. r.0.origin ≡ Q.origin r.1) }
         ensures own { IfSome result (λ r. r.0.of ≡ self.now.engine.ties) }
@@ -291,6 +328,7 @@ impl<Q: Work + Drop, O: Ending + Drop> Multi<Q, O> {
         let _known = taken.know();
         let _cut = taken.len();
         let claimed = taken.claim();
+        let _left = taken.know();
         self.lock
             .leave(rt, &mut seat.key, taken, &mut seat.reader, &mut seat.ties);
         let Some(claimed) = claimed else {
@@ -367,6 +405,7 @@ impl<Q: Work + Drop, O: Ending + Drop> Multi<Q, O> {
         requires origin { O.origin ending ≡ claim.origin }
         ensures stands { MatchResult result (λ r. Stands worker.old worker.new (Call.Finish claim.ticket (O.code_of ending) (O.size_of ending)) (reply_of_finish r)) (λ w. (worker.new ≡ worker.old) × (w.0 ≡ (claim, ending))) }
         ensures back { IfOk result (λ r. IsHandedBack claim ending r) }
+        ensures left { IfOk result (λ r. LeavesState O.code_of O.size_of worker.old worker.new (reply_of_finish r)) }
         ensures confirmed { OnOk result (worker.new.confirmed ≡ length worker.new.seen) }
     {
         self.finish_at(rt, &mut worker.seat, claim, ending)
@@ -378,7 +417,7 @@ impl<Q: Work + Drop, O: Ending + Drop> Multi<Q, O> {
     pub fn claim<R: Wait>(&self, rt: &R, worker: &mut WorkerSeat<Q, O>) -> Option<(TiedClaim<Q>, Q)>
         requires own { worker.old.of ≡ self.now }
         ensures sees { MatchOption result ((worker.new ≡ worker.old) ⊎ Sees worker.old worker.new) (λ r. Sees worker.old worker.new) }
-        ensures claims { MatchOption result (worker.new.claims ≡ worker.old.claims) (λ r. ClaimsOnly worker.old worker.new r.0.ticket) }
+        ensures claims { MatchOption result (worker.new.claims ≡ worker.old.claims) (λ r. worker.new.claims ≡ worker.old.claims ++ r.0.ticket ∷ []) }
         ensures runs { IfSome result (λ r. has_ticket r.0.ticket (running worker.new.seen) ≡ true) }
         ensures origin { IfSome result (λ r. r.0.origin ≡ Q.origin r.1) }
         ensures own { IfSome result (λ r. r.0.of ≡ self.now.engine.ties) }
@@ -453,6 +492,7 @@ impl<Q: Work + Drop, O: Ending + Drop> Multi<Q, O> {
             self.lock
                 .leave(rt, &mut seat.key, taken, &mut seat.reader, &mut seat.ties);
             seat.polled = cut;
+            note_receipt(&mut seat.mine, cut, Call::Poll, Reply::Woken);
             return Ok(true);
         }
         self.lock.put_back(rt, &mut seat.key, taken);

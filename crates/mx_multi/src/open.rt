@@ -5,16 +5,17 @@ ghost use Rattle.std.specs.VecDeque.{deque_len};
 ghost use Rattle.crossbeam_channel.specs.Claims.{view};
 ghost use Rattle.mx_board.specs.Progress.{new_seat};
 ghost use Rattle.mx_lock.specs.Lock.{engine_of, founder_at, IsKeyOf};
-ghost use Rattle.mx_multi.specs.Opening.{are_within, first_of, maker_of, AreNew, AreReaders, IsOpened};
+ghost use Rattle.mx_multi.specs.Opening.{are_within, first_of, open_number, maker_of, AreNew, AreReaders, IsOpened};
 
 use crate::multi::Multi;
 use crate::seat::{Seat, WorkerSeat};
 use mx_board::{BoardReader, NoteSeat, ProgressTable};
 use mx_lock::{Key, Lock, Shared, TieMark};
-use mx_types::{Ending, OutOfMemory, Who, Work};
+use mx_types::{Ending, History, OutOfMemory, Who, Work};
 use std::alloc::Global;
 use std::collections::VecDeque;
 use std::sync::{Condvar, Mutex, Wait};
+use thiserror::Error;
 
 /// What a multi handle is opened with.
 #[derive(Clone, Copy, Debug, PartialEq, Eq)]
@@ -55,11 +56,27 @@ fn is_history(events: u32) -> bool
     (4..=1048576).contains(&events)
 }
 
-/// Why a multi handle was not opened: a number isn't within its limits, which is tried first; or memory was refused.
-#[derive(Clone, Copy, Debug, PartialEq, Eq)]
+/// Why a multi handle was not opened.
+#[derive(Clone, Copy, Debug, PartialEq, Eq, Error)]
 pub enum OpenError {
+    /// A number isn't within its limits, which is tried first.
+    #[error("a number of seats, workers, events or idle connections isn't within its limits")]
     BadLimits,
+    /// A growth was refused.
+    #[error("out of memory")]
     OutOfMemory,
+}
+
+impl OpenError {
+    /// The number of the refusal, from 1 on.
+    pub fn number(self) -> u32
+        ensures { result ≡ open_number self }
+    {
+        match self {
+            OpenError::BadLimits => 1,
+            OpenError::OutOfMemory => 2,
+        }
+    }
 }
 
 fn maker(worker: bool, number: u8) -> Who
@@ -132,6 +149,7 @@ fn seated<Q: Work + Drop, O: Ending + Drop>(
             polled: 0,
             notes: own_notes,
             ties: ties.again(),
+            mine: History::new(),
         })?;
     }
     Ok(seats)

@@ -1,7 +1,7 @@
 //! How far transfers are: words that workers note and seats read, without a lock.
 ghost use Rattle.std.specs.Prelude.{◌≡◌, MatchOption};
 ghost use Rattle.mx_multi.specs.Seats.{SeesVersion};
-ghost use Rattle.mx_multi.specs.Progress.{IsProgress, SaysWord, noted_by};
+ghost use Rattle.mx_multi.specs.Progress.{IsProgress, ProgressNeverFalls, SaysWord, noted_by};
 
 use crate::multi::Multi;
 use crate::seat::{Seat, WorkerSeat};
@@ -34,6 +34,12 @@ fn read_word(words: &ProgressTable, notes: &mut NoteSeat, found: Found) -> Progr
     }
     Progress::Replaced
 }
+
+/// Of two answers of `Multi::progress` to one seat, both of the bytes of one ticket, the later is no less: the ticket keeps its slot as long
+/// as its handle is added, and no word that is read for a slot is less than those that the seat had read there.
+pub fn progress_never_falls()
+    ensures { ProgressNeverFalls }
+{}
 
 impl<Q: Work + Drop, O: Ending + Drop> Multi<Q, O> {
     /// How far a handle's transfer is, by the version that was published last and the word of its slot, which is no less

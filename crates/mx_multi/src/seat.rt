@@ -1,17 +1,17 @@
 //! A caller's seat at a multi handle.
-ghost use Rattle.std.specs.Prelude.{◌≡◌, length, IfOk};
-ghost use Rattle.mx_multi.specs.Seats.{IsReceived};
+ghost use Rattle.std.specs.Prelude.{◌≡◌, ◌++◌, ◌∷◌, [], length, IfOk};
+ghost use Rattle.mx_multi.specs.Seats.{HasReceipts};
 
 use mx_board::{BoardReader, NoteSeat};
 use mx_lock::{Key, TieMark};
-use mx_types::{Ending, OutOfMemory, Work};
+use mx_types::{Call, Ending, History, OutOfMemory, Receipt, Reply, Work};
 use std::alloc::Global;
 use std::marker::Model;
 
 /// An application thread's seat: its key to the lock, and what it has seen. Contracts see of which multi handle it is, whose
 /// it is, the events that it has seen and how many of them are confirmed, how many they were at its last poll, the tickets
-/// that it has claimed, the progress words that that it has claimed, the progress words that it has noted and read, and of which requests additions are, as it was told
-/// under the lock.
+/// that it has claimed, the progress words that it has noted and read, of which requests additions are, as it was told under the
+/// lock, and the receipts of all its calls that were answered.
 #[derive(Drop)]
 pub struct Seat<Q: Work + Drop, O: Ending + Drop> {
     pub(crate) key: Key<Q, O>,
@@ -22,18 +22,20 @@ pub struct Seat<Q: Work + Drop, O: Ending + Drop> {
     pub(crate) notes: NoteSeat,
     /// Of which requests additions are, for contracts alone: it has no size.
     pub(crate) ties: TieMark,
+    /// The receipts of its answered calls, for contracts alone: it has no size.
+    pub(crate) mine: History<Receipt>,
 }
 
 impl<Q: Work + Drop, O: Ending + Drop> Model for Seat<Q, O> {
     ghost use Rattle.std.specs.Prelude.{◌≡◌, []};
     ghost use Rattle.mx_lock.specs.Lock.{engine_of};
-    ghost use Rattle.mx_multi.specs.Seats.{SeatView, IsReceived, IsSeat};
+    ghost use Rattle.mx_multi.specs.Seats.{SeatView, HasReceipts, IsSeat};
 
     ghost Value = { SeatView Q O };
 
-    ghost view = { λ s. record { of = record { table = s.key.table_id; keys = s.key.me.0.of; engine = engine_of s.key.me.0.client; words = s.notes.of }; who = s.reader.who; seen = s.reader.seen; confirmed = s.reader.confirmed; polled = s.polled; claims = s.key.me.0.client.claims; words = s.notes; ties = s.ties.ties } };
+    ghost view = { λ s. record { of = record { table = s.key.table_id; keys = s.key.me.0.of; engine = engine_of s.key.me.0.client; words = s.notes.of }; who = s.reader.who; seen = s.reader.seen; confirmed = s.reader.confirmed; polled = s.polled; claims = s.key.me.0.client.claims; words = s.notes; ties = s.ties.ties; mine = s.mine } };
 
-    ghost invariant = { λ s. IsSeat s.key.me.0.client s.reader × (s.key.me.1 ≡ []) × IsReceived (record { of = record { table = s.key.table_id; keys = s.key.me.0.of; engine = engine_of s.key.me.0.client; words = s.notes.of }; who = s.reader.who; seen = s.reader.seen; confirmed = s.reader.confirmed; polled = s.polled; claims = s.key.me.0.client.claims; words = s.notes; ties = s.ties.ties }) × (s.ties.book ≡ (engine_of s.key.me.0.client).ties) };
+    ghost invariant = { λ s. IsSeat s.key.me.0.client s.reader × (s.key.me.1 ≡ []) × HasReceipts (record { of = record { table = s.key.table_id; keys = s.key.me.0.of; engine = engine_of s.key.me.0.client; words = s.notes.of }; who = s.reader.who; seen = s.reader.seen; confirmed = s.reader.confirmed; polled = s.polled; claims = s.key.me.0.client.claims; words = s.notes; ties = s.ties.ties; mine = s.mine }) × (s.ties.book ≡ (engine_of s.key.me.0.client).ties) };
 }
 
 impl<Q: Work + Drop, O: Ending + Drop> Seat<Q, O> {
@@ -44,12 +46,19 @@ impl<Q: Work + Drop, O: Ending + Drop> Seat<Q, O> {
         self.reader.cut()
     }
 
-    /// Each seat is placed: there are receipts of all its calls, which stand in what it has seen.
+    /// Each seat is placed: the receipts of all its calls stand in what it has seen.
     pub fn is_placed(&self)
-        ensures { IsReceived self.now }
+        ensures { HasReceipts self.now }
     {
         let _ = &self.reader;
     }
+}
+
+// Puts the receipt of an answered call behind the others. It is for contracts alone: nothing of it is kept.
+pub(crate) fn note_receipt(mine: &mut History<Receipt>, cut: u32, call: Call, reply: Reply)
+    ensures { mine.new ≡ mine.old ++ record { cut = cut; call = call; reply = reply } ∷ [] }
+{
+    mine.note(Receipt { cut, call, reply })
 }
 
 /// A worker's seat: contracts see the same of it as of a `Seat`.
@@ -96,9 +105,9 @@ impl<Q: Work + Drop, O: Ending + Drop> WorkerSeat<Q, O> {
         self.seat.cut()
     }
 
-    /// Each seat is placed: there are receipts of all its calls, which stand in what it has seen.
+    /// Each seat is placed: the receipts of all its calls stand in what it has seen.
     pub fn is_placed(&self)
-        ensures { IsReceived self.now }
+        ensures { HasReceipts self.now }
     {
         self.seat.is_placed()
     }

@@ -1,6 +1,7 @@
 use Rattle.std.proofs.Common.{◌≡◌, ◌∙◌, ℕ, ap, List, subst, sym}
 use Rattle.mx_types.specs.declared.call.Call.TheVariants as call
 use Rattle.mx_types.specs.declared.names.Ticket.{Ticket}
+use Rattle.mx_types.specs.declared.origin.Origin.{Origin}
 use Rattle.mx_journal.specs.Core.{claimed}
 use Rattle.mx_journal.specs.Replies.{origins_added, reply_of_add}
 use Rattle.mx_lock.specs.Shared.{HasNoOther, SharedState}
@@ -21,7 +22,7 @@ publish-requires g c =
     let ties : c.tie_addition.new.self.ties ≡ origins_added c.add-reply.result c.engine.inside.ties.ties (g.Q.Work.origin c.args.self.work) =
     c.tie_addition.ensures.ties ∙ ap (λ (w : g.row.Q.Denot). origins_added c.add-reply.result c.engine.inside.ties.ties (g.Q.Work.origin w)) c.of-added.ensures in (
       log_is x.opening _ (call.Add _) answer x.journal y.journal c.engine.inside.board.events c.add-reply.new.log.events e.answers c.engine.invariant.0 e.logged,
-      subst (λ (l : List (List ℕ)). IsTied g.O.Ending.origin y l) (sym ties)
+      subst (λ (l : List Origin). IsTied g.O.Ending.origin y l) (sym ties)
           (tied_added g.O.Ending.origin x y c.engine.inside.ties.ties c.add-reply.result (g.Q.Work.origin c.args.self.work) c.engine.invariant.2 e.origins e.own),
     )
 
@@ -32,7 +33,7 @@ returns-clause-leaves g c =
     let x = c.engine.inside.control in
     let y = c.add-reply.new.self in
     leaves_by c.args.who (call.Add c.args.self.handle) (reply_of_add c.add-reply.result) c.args.engine c.publish.result x y c.engine.inside.board.book c.add-reply.new.log.book _ _ _ _ c.engine.view_is p.is e.answers e.opening e.same_log c.tie_addition.ensures.book p.legal
-    (subst (λ (q : List (Ticket × g.row.Q.Denot)). HasNoOther (claimed x.journal x.queue) (claimed y.journal q)) (sym e.queue) (claims_added x.opening c.args.who c.args.self.handle x.journal c.add-reply.result y.journal x.queue c.args.self.work e.answers))
+    (subst (λ (q : List (Ticket × g.row.Q.Denot)). HasNoOther (claimed x.journal x.queue) (claimed y.journal q)) (sym e.queue) (claims_added x.opening c.args.who c.args.self.handle x.journal c.add-reply.result y.journal x.queue c.args.self.work e.answers)) e.unchanged
 
 pub returns-clause-tells : goal.returns-clause-tells
 returns-clause-tells g c =

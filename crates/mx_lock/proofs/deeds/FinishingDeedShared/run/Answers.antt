@@ -39,4 +39,4 @@ returns-clause-leaves g c =
     let p = c.publish-shared.ensures in
     subst (λ r. Leaves c.args.who (call.Finish d.claim.ticket code size) c.args.engine r c.publish-shared.result) (sym c.tied_again.ensures.same)
     (subst (λ t. Leaves c.args.who (call.Finish t code size) c.args.engine answer c.publish-shared.result) c.into_parts-claim.ensures.ticket
-    (leaves_by c.args.who made answer c.args.engine c.publish-shared.result x y c.engine.inside.board.book c.finish-reply.new.log.book _ _ _ _ c.engine.view_is p.is e.answers e.opening e.same_log refl p.legal other))
+    (leaves_by c.args.who made answer c.args.engine c.publish-shared.result x y c.engine.inside.board.book c.finish-reply.new.log.book _ _ _ _ c.engine.view_is p.is e.answers e.opening e.same_log refl p.legal other e.unchanged))

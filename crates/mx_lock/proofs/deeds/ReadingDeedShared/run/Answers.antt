@@ -28,7 +28,7 @@ returns-clause-leaves g c =
     let y = c.info_read-reply.new.self in
     let answer = reply_of_info g.O.Ending.code_of g.O.Ending.size_of c.info_read-reply.result in
     let other = claims_same x.opening c.args.who call.InfoRead x.journal answer y.journal x.queue y.queue e.answers refl e.queue in
-    leaves_by c.args.who call.InfoRead answer c.args.engine c.publish.result x y c.engine.inside.board.book c.info_read-reply.new.log.book _ _ _ _ c.engine.view_is p.is e.answers e.opening e.same_log refl p.legal other
+    leaves_by c.args.who call.InfoRead answer c.args.engine c.publish.result x y c.engine.inside.board.book c.info_read-reply.new.log.book _ _ _ _ c.engine.view_is p.is e.answers e.opening e.same_log refl p.legal other e.unchanged
 
 pub returns-clause-tells : goal.returns-clause-tells
 returns-clause-tells g c =

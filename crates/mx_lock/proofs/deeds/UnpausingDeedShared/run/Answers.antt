@@ -25,4 +25,4 @@ returns-clause-leaves g c =
     let y = c.unpause-reply.new.self in
     let answer = reply_of_pause c.unpause-reply.result in
     let other = claims_same x.opening c.args.who (call.Unpause c.args.self.0) x.journal answer y.journal x.queue y.queue e.answers refl e.queue in
-    leaves_by c.args.who (call.Unpause c.args.self.0) answer c.args.engine c.publish.result x y c.engine.inside.board.book c.unpause-reply.new.log.book _ _ _ _ c.engine.view_is p.is e.answers e.opening e.same_log refl p.legal other
+    leaves_by c.args.who (call.Unpause c.args.self.0) answer c.args.engine c.publish.result x y c.engine.inside.board.book c.unpause-reply.new.log.book _ _ _ _ c.engine.view_is p.is e.answers e.opening e.same_log refl p.legal other e.unchanged

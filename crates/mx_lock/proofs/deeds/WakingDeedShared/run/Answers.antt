@@ -25,4 +25,4 @@ returns-clause-leaves g c =
     let y = c.wakeup-reply.new.self in
     let answer = reply_of_wakeup c.wakeup-reply.result in
     let other = claims_same x.opening c.args.who call.Wakeup x.journal answer y.journal x.queue y.queue e.answers refl e.queue in
-    leaves_by c.args.who call.Wakeup answer c.args.engine c.publish.result x y c.engine.inside.board.book c.wakeup-reply.new.log.book _ _ _ _ c.engine.view_is p.is e.answers e.opening e.same_log refl p.legal other
+    leaves_by c.args.who call.Wakeup answer c.args.engine c.publish.result x y c.engine.inside.board.book c.wakeup-reply.new.log.book _ _ _ _ c.engine.view_is p.is e.answers e.opening e.same_log refl p.legal other e.unchanged
