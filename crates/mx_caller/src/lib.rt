@@ -1,11 +1,14 @@
 //! A caller of a multi handle, with no proof of its own: what it adds, and what it reads of that.
 #![tactic(auto)]
+
 ghost use Rattle.std.specs.Prelude.{◌≡◌, IfSome};
 ghost use Rattle.mx_types.specs.declared.code.Code.TheVariants as code;
+ghost use Rattle.mx_request.specs.Request.{request_origin};
 ghost use Rattle.mx_exchange.specs.Outcomes.{HasContent, IsOutcome};
 
 use mx_exchange::Outcome;
 use mx_journal::AddReply;
+use mx_lock::TiedClaim;
 use mx_message::next_message;
 use mx_multi::{Multi, Seat, WorkerSeat};
 use mx_types::{HandleId, Work};
@@ -21,7 +24,7 @@ pub fn add_and_read<Q: Work + Drop, R: Wait>(
     work: Q,
 ) -> Option<Outcome>
     requires own { seat.old.of ≡ multi.now }
-    ensures request { IfSome result (λ o. o.request.bytes ≡ Q.origin work) }
+    ensures request { IfSome result (λ o. request_origin o.request ≡ Q.origin work) }
     ensures outcome { IfSome result (λ o. IsOutcome o) }
     ensures body { IfSome result (λ o. o.code ≡ code.Ok → HasContent o) }
 {
@@ -35,6 +38,45 @@ pub fn add_and_read<Q: Work + Drop, R: Wait>(
         return None;
     }
     Some(message.outcome)
+}
+
+/// Ends a claimed transfer at the multi handle that gave the claim. The other one, whose seat it has too, would refuse that claim.
+pub fn finish_claimed<Q: Work + Drop, R: Wait>(
+    rt: &R,
+    one: &Multi<Q, Outcome>,
+    other: &Multi<Q, Outcome>,
+    worker: &mut WorkerSeat<Q, Outcome>,
+    other_worker: &mut WorkerSeat<Q, Outcome>,
+    claim: TiedClaim<Q>,
+    outcome: Outcome,
+) -> bool
+    requires own { (worker.old.of ≡ one.now) × (other_worker.old.of ≡ other.now) }
+    requires claim { claim.of ≡ one.now.engine.ties }
+    requires origin { request_origin outcome.request ≡ claim.origin }
+{
+    let _connects = other.max_connects();
+    let _cut = other_worker.cut();
+    one.finish(rt, worker, claim, outcome).is_ok()
+}
+
+/// Ends two claimed transfers, each with the outcome of its request.
+pub fn finish_both<Q: Work + Drop, R: Wait>(
+    rt: &R,
+    multi: &Multi<Q, Outcome>,
+    worker: &mut WorkerSeat<Q, Outcome>,
+    claims: (TiedClaim<Q>, TiedClaim<Q>),
+    outcomes: (Outcome, Outcome),
+) -> bool
+    requires own { worker.old.of ≡ multi.now }
+    requires claims { (claims.0.of ≡ multi.now.engine.ties) × (claims.1.of ≡ multi.now.engine.ties) }
+    requires origins { (request_origin outcomes.0.request ≡ claims.0.origin) × (request_origin outcomes.1.request ≡ claims.1.origin) }
+{
+    let (one, two) = claims;
+    let (first, second) = outcomes;
+    let Ok(_reply) = multi.finish(rt, worker, one, first) else {
+        return false;
+    };
+    multi.finish(rt, worker, two, second).is_ok()
 }
 
 /// Claims work, and gives it back to the multi handle that gave the claim. The other one, whose seat it has too, would refuse that claim.

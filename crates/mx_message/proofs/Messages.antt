@@ -8,6 +8,7 @@ use Rattle.mx_types.specs.declared.call.Call.TheVariants as call
 use Rattle.mx_types.specs.declared.call.Receipt.{Receipt}
 use Rattle.mx_types.specs.declared.event.Event.{Event}
 use Rattle.mx_types.specs.declared.reply.Reply.{Reply}
+use Rattle.mx_request.specs.Request.{request_origin}
 use Rattle.mx_body.specs.Parts.{joined}
 use Rattle.mx_link.specs.Answers.{given}
 use Rattle.mx_exchange.specs.Transfers.{OutcomeValue}
@@ -20,7 +21,7 @@ use Rattle.mx_history.proofs.LegalLaws.{each_at_most_once, nothing_after_removal
 use Rattle.mx_history.proofs.Messages.{first_in_first_out}
 use Rattle.mx_lock.specs.Ties.{Tells, tie_read}
 use Rattle.mx_board.proofs.Prefixes.{prefix_trans}
-use Rattle.mx_multi.specs.Seats.{HasReceipts, Later, SeatView, Stands}
+use Rattle.mx_multi.specs.Seats.{Later, SeatView, Stands}
 use Rattle.mx_multi.proofs.Runs.{later_none, later_more}
 use Rattle.mx_multi.proofs.Standing.{told_alike}
 use Rattle.mx_message.specs.Message.{CarriesBody, IsNextMessage, IsOrderly, IsRead, Waited}
@@ -39,7 +40,8 @@ later_on s t u a b h k = record {
   later = prefix_trans s.seen t.seen u.seen h.later k.later;
   ties = prefix_trans s.ties t.ties u.ties h.ties k.ties;
   legal = λ l. k.legal (h.legal l);
-  placed = λ mine p. subst (HasReceipts u) (append_assoc mine a b) (k.placed (mine ++ a) (h.placed mine p));
+  mine = k.mine ∙ ap (λ l. l ++ b) h.mine ∙ append_assoc s.mine a b;
+  placed = λ p. k.placed (h.placed p);
 }
 
 module _ {Q : Type 0} where
@@ -57,12 +59,12 @@ module _ {Q : Type 0} where
 
   -- what was read
   pub read_is : (s t : SeatView Q OutcomeValue) (r : InfoReply OutcomeValue) (h : HandleId) (ticket : Ticket) (o : OutcomeValue) (left : ℕ) → r ≡ info.Message h ticket o left
-      → Stands s t call.InfoRead (reply_of_info (λ x. x.code) (λ x. length (joined x.wire x.parts)) r) → Tells (tie_read (λ x. x.request.bytes) r) t.ties → IsOutcome o → (o.code ≡ code.Ok → CarriesBody o) → IsRead s t h ticket o left
+      → Stands s t call.InfoRead (reply_of_info (λ x. x.code) (λ x. length (joined x.wire x.parts)) r) → Tells (tie_read (λ x. request_origin x.request) r) t.ties → IsOutcome o → (o.code ≡ code.Ok → CarriesBody o) → IsRead s t h ticket o left
   read_is s t r h ticket o left is stands tells outcome body = record {
     stands = subst (λ x. Stands s t call.InfoRead (reply_of_info (λ x. x.code) (λ x. length (joined x.wire x.parts)) x)) is stands;
     outcome = outcome;
     body = body;
-    of_addition = subst (λ x. Tells (tie_read (λ x. x.request.bytes) x) t.ties) is tells;
+    of_addition = subst (λ x. Tells (tie_read (λ x. request_origin x.request) x) t.ties) is tells;
   }
 
 orderly : (j : List Event) (t : Ticket) → is_legal j ≡ true → IsOrderly j t
@@ -86,5 +88,5 @@ next s at t h ticket o left w r = record {
   outcome = r.outcome;
   body = r.body;
   of_addition = r.of_addition;
-  as_told = λ origin told. sym (told_alike s.ties t.ties (inl (prefix_trans s.ties at.ties t.ties w.later.ties r.stands.ties)) ticket origin o.request.bytes told r.of_addition);
+  as_told = λ origin told. sym (told_alike s.ties t.ties (inl (prefix_trans s.ties at.ties t.ties w.later.ties r.stands.ties)) ticket origin (request_origin o.request) told r.of_addition);
 }

@@ -11,6 +11,8 @@ use Rattle.mx_types.specs.declared.call.Call.TheVariants as call
 use Rattle.mx_types.specs.declared.call.Receipt.{Receipt}
 use Rattle.mx_types.specs.declared.reply.Reply.{Reply}
 use Rattle.mx_types.specs.declared.reply.Reply.TheVariants as reply
+use Rattle.mx_types.specs.declared.origin.Origin.{Origin}
+use Rattle.mx_request.specs.Request.{request_origin}
 use Rattle.mx_body.specs.Parts.{joined}
 use Rattle.mx_link.specs.Answers.{given}
 use Rattle.mx_exchange.specs.Transfers.{OutcomeValue}
@@ -49,7 +51,7 @@ pub record IsRead {Q : Type 0} (s t : SeatView Q OutcomeValue) (h : HandleId) (t
   pub stands : Stands s t call.InfoRead (answer_of h ticket o left)
   pub outcome : IsOutcome o
   pub body : o.code ≡ code.Ok → CarriesBody o
-  pub of_addition : Has t.ties (tie ticket o.request.bytes)
+  pub of_addition : Has t.ties (tie ticket (request_origin o.request))
 
 -- The headline, of one message:
 pub record IsNextMessage {Q : Type 0} (s t : SeatView Q OutcomeValue) (h : HandleId) (ticket : Ticket) (o : OutcomeValue) (left : ℕ) : Type 0 where
@@ -63,5 +65,5 @@ pub record IsNextMessage {Q : Type 0} (s t : SeatView Q OutcomeValue) (h : Handl
   pub outcome : IsOutcome o
   pub body : o.code ≡ code.Ok → CarriesBody o
   -- to the request that was added under its ticket, which is that of which the seat was told, where it was
-  pub of_addition : Has t.ties (tie ticket o.request.bytes)
-  pub as_told : (origin : List ℕ) → Has s.ties (tie ticket origin) → o.request.bytes ≡ origin
+  pub of_addition : Has t.ties (tie ticket (request_origin o.request))
+  pub as_told : (origin : Origin) → Has s.ties (tie ticket origin) → request_origin o.request ≡ origin

@@ -58,17 +58,13 @@ fn read_once<Q: Work + Drop, R: Wait>(
         } => {
             know(&ending);
             let code = Outcome::code(&ending);
-            Ok(
-                Some(
-                    Message {
-                        handle,
-                        ticket,
-                        code,
-                        outcome: ending,
-                        left,
-                    },
-                ),
-            )
+            Ok(Some(Message {
+                handle,
+                ticket,
+                code,
+                outcome: ending,
+                left,
+            }))
         }
         InfoReply::Empty => {
             let Ok(_) = multi.poll(rt, seat) else {
