@@ -41,7 +41,8 @@ later_notes s t slot ticket count more h = record {
   later = h.later;
   ties = h.ties;
   legal = h.legal;
-  placed = λ mine p. let q = h.placed mine p in record { placed = q.placed; polled = q.polled };
+  mine = h.mine;
+  placed = λ p. let q = h.placed p in record { placed = q.placed; polled = q.polled };
 }
 
 pub worked_notes : {Q O : Type 0} (s t u : SeatView Q O) (r k slot : ℕ) (ticket : Ticket) (count : ℕ) → Worked s t r k → u ≡ noted_by t slot ticket count → Worked s u r k

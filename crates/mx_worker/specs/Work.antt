@@ -26,8 +26,8 @@ is_stale r = is_stale_reply r.reply
 abbrev pub tallied : (Receipt → Bool) → List Receipt → ℕ
 tallied p receipts = min (count_by p receipts) (2 ^ 32 - 1)
 
--- The seat has further receipts, which stand behind those that it had; so many of them are of ends that were recorded, and so many of
--- ends that were stale.
+-- The seat has these receipts behind those that it had, and no others, so there is one such list; so many of them are of ends that were
+-- recorded, and so many of ends that were stale.
 pub record Worked {Q O : Type 0} (s t : SeatView Q O) (recorded stale : ℕ) : Type 0 where
   pub more : List Receipt
   pub later : Later s t more

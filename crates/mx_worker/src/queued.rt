@@ -1,6 +1,7 @@
 //! The work of a multi handle with workers, and what a worker has of it.
 ghost use Rattle.std.specs.Prelude.{◌≡◌, None, Bool, false};
 ghost use Rattle.logbook.specs.Pages.{Book};
+ghost use Rattle.mx_request.specs.Request.{request_origin};
 
 use mx_exchange::{Outcome, Transfer};
 use mx_link::Link;
@@ -40,7 +41,9 @@ impl<L: Link> Model for Queued<L> {
 }
 
 impl<L: Link> Work for Queued<L> {
-    ghost origin = { λ q. q.request.bytes };
+    ghost use Rattle.mx_request.specs.Request.{request_origin};
+
+    ghost origin = { λ q. request_origin q.request };
 }
 
 impl<L: Link> Start for Queued<L> {
@@ -65,14 +68,16 @@ impl<L: Link> Queued<L> {
         self.transfer.into_request()
     }
 
-    pub(crate) fn of(transfer: Transfer<L>) -> Queued<L>
+    /// A transfer that a worker has claimed and polled, to be given back. It has not ended.
+    pub fn of(transfer: Transfer<L>) -> Queued<L>
         requires { transfer.code ≡ None }
         ensures { result ≡ transfer }
     {
         Queued { transfer }
     }
 
-    pub(crate) fn into_transfer(self) -> Transfer<L>
+    /// The transfer, by move, for a worker that polls it itself. It has not ended.
+    pub fn into_transfer(self) -> Transfer<L>
         ensures same { result ≡ self }
         ensures running { result.code ≡ None }
     {
@@ -86,7 +91,7 @@ pub(crate) struct Held<L: Link> {
     pub claim: TiedClaim<Queued<L>>,
     pub transfer: Transfer<L>,
     pub ghost running: { transfer.code ≡ None },
-    pub ghost of_one: { transfer.request.bytes ≡ claim.origin },
+    pub ghost of_one: { request_origin transfer.request ≡ claim.origin },
 }
 
 impl<L: Link> Start for Held<L> {
@@ -110,7 +115,7 @@ impl<L: Link> Held<L> {
 pub(crate) struct Finished<L: Link> {
     pub claim: TiedClaim<Queued<L>>,
     pub outcome: Outcome,
-    pub ghost of_one: { outcome.request.bytes ≡ claim.origin },
+    pub ghost of_one: { request_origin outcome.request ≡ claim.origin },
 }
 
 impl<L: Link> Tied for Finished<L> {

@@ -394,8 +394,8 @@ impl<L: Link> Worker<L> {
 /// Runs a worker at a multi handle: it claims transfers, polls them over links of its gate, notes how many bytes they have received, and
 /// records their ends. Once its gate answers `Stop` it claims nothing more, gives back what has not started, and goes on with the rest.
 ///
-/// The seat comes back: its further receipts stand behind those that it had, and so many of them as it tells are of ends that were recorded
-/// and of ends that were stale. Where memory for the start is refused, nothing was claimed and the seat is as it was.
+/// The seat comes back: of the receipts that it has behind those that it had, so many as it tells are of ends that were recorded, and so
+/// many of ends that were stale. Where memory for the start is refused, nothing was claimed and the seat is as it was.
 ///
 /// No clause says in which order it goes through what it holds, how long it has its gate wait, how many it gave back, or that it ends: one
 /// that has started and stays paused keeps it.

@@ -18,6 +18,8 @@ mod paused;
 #[cfg(test)]
 mod reader;
 #[cfg(test)]
+mod removed;
+#[cfg(test)]
 mod runs;
 #[cfg(test)]
 mod sockets;
