@@ -2,7 +2,6 @@
 
 use crate::checks::{answered, check, compare};
 use crate::script::{By, Step, at_four_seats, take_steps};
-use mx_multi_workload::client::Held;
 use mx_multi_workload::desk::{Desk, Scene};
 use mx_multi_workload::hold::Hold;
 use mx_multi_workload::sample::End;
@@ -16,11 +15,11 @@ use std::thread::Threads;
 const ONE: HandleId = HandleId(1);
 
 // Adds handle 1, and claims it.
-fn add_and_claim<R: Wait>(rt: &R, alloc: Global, desk: &mut Desk) -> Result<Held, Fail> {
+fn add_and_claim<R: Wait>(rt: &R, alloc: Global, desk: &mut Desk) -> Result<usize, Fail> {
     const ADDITION: &[Step] = &[Step::Make(By::Third, Call::Add(ONE), "added 0", 1)];
     take_steps(rt, alloc, desk, ADDITION)?;
-    match desk.worker.claim(rt) {
-        Some(held) => Ok(held),
+    match desk.worker.claim(rt)? {
+        Some((number, _ticket)) => Ok(number),
         None => Err("nothing to claim".into()),
     }
 }
@@ -52,7 +51,7 @@ fn read_beside<R: Threads + Wait + Sync>(
     rt: &R,
     alloc: Global,
     desk: &mut Desk,
-    held: Held,
+    number: usize,
 ) -> Result<(), Fail> {
     let hold = Arc::new(alloc, Hold::new())?;
     let end = End {
@@ -63,7 +62,7 @@ fn read_beside<R: Threads + Wait + Sync>(
     let (ended, told) = read_meanwhile(
         rt,
         &mut desk.worker,
-        held,
+        number,
         end,
         &mut desk.fourth,
         &hold,
@@ -85,8 +84,8 @@ impl Scene for HeldLock {
         alloc: Global,
         desk: &mut Desk,
     ) -> Result<(), Fail> {
-        let held = add_and_claim(rt, alloc, desk)?;
-        read_beside(rt, alloc, desk, held)
+        let number = add_and_claim(rt, alloc, desk)?;
+        read_beside(rt, alloc, desk, number)
     }
 }
 

@@ -2,9 +2,8 @@
 //! answer the same as if it had been the first; a script in which one was refused fails with the want of memory in the end.
 
 use crate::checks::{check, compare};
-use mx_journal::FinishReply;
 use mx_multi::Progress;
-use mx_multi_workload::client::{Held, Worker};
+use mx_multi_workload::client::Worker;
 use mx_multi_workload::desk::{Desk, Scene, at_desk};
 use mx_multi_workload::sample::{End, FOUR_SEATS};
 use mx_types::{Call, Code, HandleId, OutOfMemory, Reply, Ticket};
@@ -46,7 +45,6 @@ pub enum Step {
 /// What is kept from one call to the next.
 #[derive(Drop)]
 struct Kept {
-    claims: Vec<Option<Held>>,
     /// Whether memory was refused.
     refused: bool,
 }
@@ -95,41 +93,11 @@ fn meet<R: Wait>(rt: &R, desk: &mut Desk, cut: u32) -> Result<(), Fail> {
     check(desk.pair.cuts() == (cut, cut), "another list")
 }
 
-fn claim<R: Wait>(
-    rt: &R,
-    worker: &mut Worker,
-    kept: &mut Kept,
-    ticket: Ticket,
-) -> Result<(), Fail> {
-    let Some(held) = worker.claim(rt) else {
+fn claim<R: Wait>(rt: &R, worker: &mut Worker, ticket: Ticket) -> Result<(), Fail> {
+    let Some((_number, claimed)) = worker.claim(rt)? else {
         return Err("nothing to claim".into());
     };
-    let claimed = held.claim.ticket();
-    kept.claims.push(Some(held))?;
     check(claimed == ticket, "another ticket")
-}
-
-// The claim of that number, which is then gone.
-fn take_claim(kept: &mut Kept, number: usize) -> Result<Held, Fail> {
-    match kept.claims.get_mut(number).map(Option::take) {
-        Some(Some(held)) => Ok(held),
-        _ => Err("no such claim".into()),
-    }
-}
-
-// What an end was answered, or the claim where memory was refused.
-fn finish_once<R: Wait>(
-    rt: &R,
-    worker: &mut Worker,
-    held: Held,
-    end: End,
-) -> Result<Option<Reply>, Held> {
-    let Held { claim } = held;
-    match worker.multi.finish(rt, &mut worker.seat, claim, end) {
-        Ok(FinishReply::OutOfMemory(claim, _)) => Err(Held { claim }),
-        Ok(reply) => Ok(Some(reply.reply())),
-        Err(_) => Ok(None),
-    }
 }
 
 // What an end was answered, the second time where the first was refused memory.
@@ -137,17 +105,16 @@ fn finish<R: Wait>(
     rt: &R,
     worker: &mut Worker,
     kept: &mut Kept,
-    held: Held,
+    number: usize,
     code: Code,
     size: u32,
 ) -> Option<Reply> {
-    match finish_once(rt, worker, held, End::new(code, size)) {
-        Ok(reply) => reply,
-        Err(held) => {
-            kept.refused = true;
-            worker.finish(rt, held, End::new(code, size))
-        }
+    let reply = worker.finish(rt, number, End::new(code, size));
+    if !matches!(reply, Some(Reply::OutOfMemory)) {
+        return reply;
     }
+    kept.refused = true;
+    worker.finish(rt, number, End::new(code, size))
 }
 
 // Ends the transfer of a claim, which is to be recorded.
@@ -160,32 +127,16 @@ fn end<R: Wait>(
     size: u32,
     cut: u32,
 ) -> Result<(), Fail> {
-    let held = take_claim(kept, number)?;
-    let reply = finish(rt, worker, kept, held, code, size);
+    let reply = finish(rt, worker, kept, number, code, size);
     check(matches!(reply, Some(Reply::Recorded)), "not recorded")?;
     check(worker.cut() == cut, "other events")
 }
 
-fn give_back<R: Wait>(
-    rt: &R,
-    worker: &mut Worker,
-    kept: &mut Kept,
-    number: usize,
-    back: bool,
-) -> Result<(), Fail> {
-    let held = take_claim(kept, number)?;
+fn give_back<R: Wait>(rt: &R, worker: &mut Worker, number: usize, back: bool) -> Result<(), Fail> {
     check(
-        worker.give_back(rt, held) == Some(back),
+        worker.give_back(rt, number) == Some(back),
         "given back otherwise",
     )
-}
-
-fn note(worker: &mut Worker, kept: &Kept, number: usize, bytes: u32) -> Result<(), Fail> {
-    let Some(Some(held)) = kept.claims.get(number) else {
-        return Err("no such claim".into());
-    };
-    worker.note(held, bytes);
-    Ok(())
 }
 
 fn look(
@@ -216,12 +167,12 @@ fn take_step<R: Wait>(
             compare(alloc, call, reply, now, (answer, cut))
         }
         Step::Meet(cut) => meet(rt, desk, cut),
-        Step::Claim(ticket) => claim(rt, &mut desk.worker, kept, ticket),
+        Step::Claim(ticket) => claim(rt, &mut desk.worker, ticket),
         Step::Finish(number, code, size, cut) => {
             end(rt, &mut desk.worker, kept, number, code, size, cut)
         }
-        Step::GiveBack(number, back) => give_back(rt, &mut desk.worker, kept, number, back),
-        Step::Note(number, bytes) => note(&mut desk.worker, kept, number, bytes),
+        Step::GiveBack(number, back) => give_back(rt, &mut desk.worker, number, back),
+        Step::Note(number, bytes) => check(desk.worker.note(number, bytes), "no such claim"),
         Step::Look(ticket, answer, cut) => look(alloc, &mut desk.worker, ticket, (answer, cut)),
         Step::Progress(handle, progress) => {
             let read = desk.fourth.progress(handle);
@@ -237,10 +188,7 @@ pub fn take_steps<R: Wait>(
     desk: &mut Desk,
     steps: &[Step],
 ) -> Result<(), Fail> {
-    let mut kept = Kept {
-        claims: Vec::new(alloc),
-        refused: false,
-    };
+    let mut kept = Kept { refused: false };
     for step in steps {
         take_step(rt, alloc, desk, &mut kept, *step)?;
     }

@@ -4,6 +4,9 @@ use denote.Param.Send.{IsSend, IsSync, struct_send, shr_send, recorded_send, sen
 use denote.Struct.Declared.{shape}
 use Rattle.std.proofs.Crossing.{crosses, Vec-send}
 use Rattle.std.proofs.alloc.Global.TheSendSync as heap
+use Rattle.mx_lock.proofs.ties.TieMark.TheSendSync.{the_send as tie_send}
+use Rattle.mx_lock.specs.contracts.claim.TiedClaim as TiedClaim
+use Rattle.mx_lock.specs.contracts.claim.TiedClaim.TheInside as TiedInside
 use Rattle.mx_multi.proofs.Sends.{multi_sync, seat_send}
 use Rattle.mx_multi.specs.contracts.multi.Multi as Multi
 use Rattle.mx_multi.specs.contracts.seat.Seat as Seat
@@ -16,7 +19,8 @@ use Rattle.mx_multi_workload.specs.contracts.sample.Job as Job
 use Rattle.mx_multi_workload.specs.contracts.sample.End as End
 use Rattle.mx_multi_workload.specs.contracts.client.Client as Client
 use Rattle.mx_multi_workload.specs.contracts.client.Worker as Worker
-use Rattle.mx_multi_workload.specs.contracts.client.Held as Held
+use Rattle.mx_multi_workload.specs.contracts.hand.Hand as Hand
+use Rattle.mx_multi_workload.specs.contracts.hand.Hand.TheInside as HandInside
 use Rattle.mx_multi_workload.specs.contracts.party.Place as Place
 use Rattle.mx_multi_workload.specs.contracts.party.Party as Party
 
@@ -29,11 +33,23 @@ end_send = search (sendable, crosses) depth 40
 pub end_field : IsSend End.the_field.row
 end_field = search (sendable, crosses) depth 40
 
-pub held_field : IsSend Held.the_field.row
-held_field = search (sendable, crosses) depth 40
+tied_inside : IsSend (TiedInside.the_field Job.the_row job).row
+tied_inside =
+    let j = job_send in
+    struct_send (shape (TiedInside.the_type Job.the_row job)) (search (sendable, crosses) depth 40 fits 20000, (tie_send, tt))
 
-pub held_send : IsSend Held.the_row
-held_send = search (sendable, crosses) depth 40
+tied_send : IsSend (TiedClaim.the_row Job.the_row job)
+tied_send =
+    let a = tied_inside in
+    search (sendable) depth 40 fits 20000
+
+hand_inside : IsSend HandInside.the_field.row
+hand_inside = struct_send (shape HandInside.the_type) (tie_send, (search (tied_send, sendable, crosses) depth 40 fits 20000, tt))
+
+hand_send : IsSend Hand.the_row
+hand_send =
+    let a = hand_inside in
+    search (sendable) depth 40 fits 20000
 
 pub handle_sync : IsSync (Multi.the_row Job.the_row End.the_row job end)
 handle_sync = multi_sync Job.the_row End.the_row job end job_send end_send
@@ -56,7 +72,7 @@ pub client_send : (x : NamedLft) → IsSend (Client.the_row x)
 client_send x = recorded_send (Client.the_field x).row _ _ (Client.the_type x).to_one (client_field x)
 
 pub worker_field : (x : NamedLft) → IsSend (Worker.the_field x).row
-worker_field x = struct_send (shape (Worker.the_type x)) (shr_send x.mir x.lft (Multi.the_row Job.the_row End.the_row job end) handle_sync, (bench_field, tt))
+worker_field x = struct_send (shape (Worker.the_type x)) (shr_send x.mir x.lft (Multi.the_row Job.the_row End.the_row job end) handle_sync, (bench_field, (hand_send, tt)))
 
 pub worker_send : (x : NamedLft) → IsSend (Worker.the_row x)
 worker_send x = recorded_send (Worker.the_field x).row _ _ (Worker.the_type x).to_one (worker_field x)

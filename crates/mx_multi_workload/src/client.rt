@@ -1,11 +1,12 @@
 //! Seats beside the multi handle that gave them, so that each call is one that the seat may make.
-ghost use Rattle.std.specs.Prelude.{◌≡◌, []};
+ghost use Rattle.std.specs.Prelude.{◌≡◌};
 
 use crate::calls;
+use crate::hand::Hand;
 use crate::sample::{Bench, Chair, End, Handle, Job};
-use mx_journal::{Claim, GiveBackReply};
+use mx_journal::{FinishReply, GiveBackReply};
 use mx_multi::{HandleList, Progress};
-use mx_types::{Call, HandleId, Look, Reply, Ticket};
+use mx_types::{Call, HandleId, Look, OutOfMemory, Reply, Ticket};
 use std::sync::Wait;
 
 /// An application thread's seat, with its multi handle.
@@ -25,19 +26,14 @@ pub struct Pair<'a> {
     pub ghost own: { (one.of ≡ multi.now) × (two.of ≡ multi.now) },
 }
 
-/// A worker's seat, with its multi handle.
+/// A worker's seat, with its multi handle, and what it has claimed.
 #[derive(Drop)]
 pub struct Worker<'a> {
     pub multi: &'a Handle,
     pub seat: Bench,
+    pub hand: Hand,
     pub ghost own: { seat.of ≡ multi.now },
-}
-
-/// A claim on an addition of this crate's work.
-#[derive(Drop)]
-pub struct Held {
-    pub claim: Claim<Job>,
-    pub ghost origin: { claim.origin ≡ [] },
+    pub ghost claims: { hand ≡ multi.now.engine.ties },
 }
 
 // Makes a call.
@@ -109,12 +105,14 @@ impl<'a> Worker<'a> {
         self.seat.cut()
     }
 
-    /// Takes the next work, and keeps the claim alone.
-    pub fn claim<R: Wait>(&mut self, rt: &R) -> Option<Held> {
+    /// Takes the next work, and keeps the claim alone: the number of the claim, and its ticket.
+    pub fn claim<R: Wait>(&mut self, rt: &R) -> Result<Option<(usize, Ticket)>, OutOfMemory> {
         let Some((claim, _work)) = self.multi.claim(rt, &mut self.seat) else {
-            return None;
+            return Ok(None);
         };
-        Some(Held { claim })
+        let ticket = claim.ticket();
+        let number = self.hand.keep(claim)?;
+        Ok(Some((number, ticket)))
     }
 
     /// What it is told of a ticket.
@@ -125,23 +123,34 @@ impl<'a> Worker<'a> {
         Some(look)
     }
 
-    /// Notes how many bytes a claimed transfer has received.
-    pub fn note(&mut self, held: &Held, count: u32) {
-        self.multi.note(&mut self.seat, &held.claim, count)
+    /// Notes how many bytes the transfer of the claim of that number has received. False where there is no such claim.
+    pub fn note(&mut self, number: usize, count: u32) -> bool {
+        let Some(claim) = self.hand.get(number) else {
+            return false;
+        };
+        self.multi.note(&mut self.seat, claim, count);
+        true
     }
 
-    /// Ends a claimed transfer; None where it was answered `WrongSeat`.
-    pub fn finish<R: Wait>(&mut self, rt: &R, held: Held, end: End) -> Option<Reply> {
-        let Held { claim } = held;
+    /// Ends the transfer of the claim of that number; None where it was answered `WrongSeat`, or where there is no such claim. A claim
+    /// that comes back for want of memory is kept under its number.
+    pub fn finish<R: Wait>(&mut self, rt: &R, number: usize, end: End) -> Option<Reply> {
+        let claim = self.hand.take(number)?;
         match self.multi.finish(rt, &mut self.seat, claim, end) {
-            Ok(reply) => Some(reply.reply()),
+            Ok(FinishReply::OutOfMemory(claim, _)) => {
+                self.hand.put(number, claim);
+                Some(Reply::OutOfMemory)
+            }
+            Ok(FinishReply::Recorded) => Some(Reply::Recorded),
+            Ok(FinishReply::Stale(_)) => Some(Reply::Stale),
             Err(_) => None,
         }
     }
 
-    /// Gives claimed work back; whether its ticket ran and was claimed; None where it was answered `WrongSeat`.
-    pub fn give_back<R: Wait>(&mut self, rt: &R, held: Held) -> Option<bool> {
-        let Held { claim } = held;
+    /// Gives the work of the claim of that number back; whether its ticket ran and was claimed; None where it was answered `WrongSeat`, or
+    /// where there is no such claim.
+    pub fn give_back<R: Wait>(&mut self, rt: &R, number: usize) -> Option<bool> {
+        let claim = self.hand.take(number)?;
         match self.multi.give_back(rt, &mut self.seat, claim, Job) {
             Ok(GiveBackReply::Back) => Some(true),
             Ok(GiveBackReply::Stale(_)) => Some(false),

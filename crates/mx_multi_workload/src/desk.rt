@@ -28,10 +28,14 @@ pub trait Scene {
 }
 
 // Each part of a desk is had or not, and so are all together: what was had of one that lacks a part is let go as one value.
-fn take_desk<'a>(seats: &mut Seats<'a>, benches: &mut Benches<'a>) -> Option<Desk<'a>> {
+fn take_desk<'a>(
+    alloc: Global,
+    seats: &mut Seats<'a>,
+    benches: &mut Benches<'a>,
+) -> Option<Desk<'a>> {
     let apart = seats.take_two();
     let clients = seats.take().zip(seats.take());
-    let ((pair, (third, fourth)), worker) = apart.zip(clients).zip(benches.take())?;
+    let ((pair, (third, fourth)), worker) = apart.zip(clients).zip(benches.take(alloc))?;
     Some(Desk {
         pair,
         third,
@@ -48,7 +52,7 @@ fn play_at<'a, R: Threads + Wait + Sync, S: Scene>(
     benches: &mut Benches<'a>,
     scene: &S,
 ) -> Option<S::Told> {
-    let mut desk = take_desk(seats, benches)?;
+    let mut desk = take_desk(alloc, seats, benches)?;
     Some(scene.play(rt, alloc, &mut desk))
 }
 

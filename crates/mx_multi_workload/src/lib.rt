@@ -6,6 +6,7 @@ pub mod calls;
 pub mod client;
 pub mod desk;
 pub mod entries;
+pub mod hand;
 pub mod hold;
 pub mod one_thread;
 pub mod opened;

@@ -1,10 +1,10 @@
 //! The calls of many makers, one after another, on one thread: the control state alone, with no lock and no versions.
 ghost use Rattle.std.specs.Prelude.{◌≡◌, ◌<◌, ◌≤◌, true};
+ghost use Rattle.mx_types.specs.Origin.{no_request};
 ghost use Rattle.mx_journal.specs.History.{is_maker};
 
-use crate::client::Held;
 use crate::sample::{End, Job};
-use mx_journal::{AddReply, Control, VecLog};
+use mx_journal::{AddReply, Claim, Control, VecLog};
 use mx_types::{Call, Code, HandleId, OutOfMemory, Reply, Ticket, Who};
 use std::alloc::Global;
 
@@ -25,6 +25,13 @@ fn may_call(who: Who) -> bool
         Who::Seat(n) => n < 16,
         Who::Worker(n) => n < 16,
     }
+}
+
+// A claim on an addition of this crate's work.
+#[derive(Drop)]
+struct Held {
+    claim: Claim<Job>,
+    ghost origin: { claim.origin ≡ no_request },
 }
 
 /// A control state with its log, the claims on all additions, and the marks of the makers' polls.

@@ -3,6 +3,7 @@ ghost use Rattle.std.specs.Prelude.{◌≡◌, IfSome};
 ghost use Rattle.std.specs.List.{All};
 
 use crate::client::{Client, Pair, Worker};
+use crate::hand::Hand;
 use crate::sample::{Bench, Chair, Handle};
 use mx_multi::{Limits, OpenError};
 use mx_types::OutOfMemory;
@@ -86,11 +87,12 @@ pub struct Benches<'a> {
 
 impl<'a> Benches<'a> {
     /// The last of them.
-    pub fn take(&mut self) -> Option<Worker<'a>> {
+    pub fn take(&mut self, alloc: Global) -> Option<Worker<'a>> {
         let seat = self.left.pop()?;
         Some(Worker {
             multi: self.multi,
             seat,
+            hand: Hand::new(alloc, self.multi.first_ties()),
         })
     }
 }

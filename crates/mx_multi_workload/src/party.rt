@@ -1,10 +1,10 @@
 //! One of many threads: some seats and a worker's seat, and the calls that they make by chance.
 ghost use Rattle.std.specs.Prelude.{◌<◌};
 
-use crate::client::{Client, Held, Worker};
+use crate::client::{Client, Worker};
 use crate::entries::{Entry, makes_event, text_of};
 use crate::sample::End;
-use mx_types::{Call, Code, HandleId, Reply, Who};
+use mx_types::{Call, Code, HandleId, Reply, Ticket, Who};
 use std::alloc::Global;
 use std::sync::Wait;
 
@@ -153,16 +153,23 @@ impl<'a> Party<'a> {
     }
 
     // Claims, and looks at what was claimed first.
-    fn worker_claims<R: Wait>(&mut self, rt: &R, held: &mut Vec<Held>) -> Result<(), Stop> {
-        if let Some(claim) = self.worker.claim(rt) {
-            if held.push(claim).is_err() {
+    fn worker_claims<R: Wait>(
+        &mut self,
+        rt: &R,
+        held: &mut Vec<(usize, Ticket)>,
+    ) -> Result<(), Stop> {
+        let Ok(claimed) = self.worker.claim(rt) else {
+            return Err(Stop::Memory);
+        };
+        if let Some(claimed) = claimed {
+            if held.push(claimed).is_err() {
                 return Err(Stop::Memory);
             }
         }
         let Some(first) = held.first() else {
             return Ok(());
         };
-        let ticket = first.claim.ticket();
+        let (_number, ticket) = *first;
         let Some(look) = self.worker.look(ticket) else {
             return Err(Stop::NoAnswer);
         };
@@ -170,24 +177,27 @@ impl<'a> Party<'a> {
     }
 
     // Ends one of the claimed transfers.
-    fn worker_finishes<R: Wait>(&mut self, rt: &R, held: &mut Vec<Held>) -> Result<(), Stop> {
+    fn worker_finishes<R: Wait>(
+        &mut self,
+        rt: &R,
+        held: &mut Vec<(usize, Ticket)>,
+    ) -> Result<(), Stop> {
         let size = self.chance.below(1000);
-        let Some(claimed) = held.pop() else {
+        let Some((number, ticket)) = held.pop() else {
             return Ok(());
         };
-        let ticket = claimed.claim.ticket();
         let code = if size < 800 {
             Code::Ok
         } else {
             Code::RecvError
         };
-        let Some(reply) = self.worker.finish(rt, claimed, End::new(code, size)) else {
+        let Some(reply) = self.worker.finish(rt, number, End::new(code, size)) else {
             return Err(Stop::NoAnswer);
         };
         self.note_worker(Call::Finish(ticket, code, size), reply)
     }
 
-    fn turns<R: Wait>(&mut self, rt: &R, held: &mut Vec<Held>) -> Result<(), Stop> {
+    fn turns<R: Wait>(&mut self, rt: &R, held: &mut Vec<(usize, Ticket)>) -> Result<(), Stop> {
         for index in 0..self.places.len() {
             self.turn_at(rt, index)?;
         }

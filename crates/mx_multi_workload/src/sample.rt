@@ -10,9 +10,9 @@ use std::sync::Arc;
 pub struct Job;
 
 impl Work for Job {
-    ghost use Rattle.std.specs.Prelude.{[]};
+    ghost use Rattle.mx_types.specs.Origin.{no_request};
 
-    ghost origin = { λ _. [] };
+    ghost origin = { λ _. no_request };
 }
 
 /// An ending that says its code and its size.
@@ -35,9 +35,9 @@ impl End {
 }
 
 impl Ending for End {
-    ghost use Rattle.std.specs.Prelude.{[]};
+    ghost use Rattle.mx_types.specs.Origin.{no_request};
 
-    ghost origin = { λ _. [] };
+    ghost origin = { λ _. no_request };
 
     ghost code_of = { λ e. e.code };
 

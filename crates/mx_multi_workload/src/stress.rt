@@ -54,7 +54,7 @@ fn parties<'a>(
 ) -> Result<Vec<Party<'a>>, OutOfMemory> {
     let mut parties = Vec::new(alloc);
     for _ in 0..benches.left.len() {
-        let Some(worker) = benches.take() else {
+        let Some(worker) = benches.take(alloc) else {
             return Ok(parties);
         };
         let number = (benches.left.len() % 16) as u8;

@@ -1,7 +1,7 @@
 //! What two threads do, with a seat each.
 ghost use Rattle.std.specs.Prelude.{◌≡◌};
 
-use crate::client::{Client, Held, Pair, Worker};
+use crate::client::{Client, Pair, Worker};
 use crate::hold::Hold;
 use crate::sample::{Chair, End, Handle, Job};
 use mx_journal::AddReply;
@@ -101,12 +101,12 @@ fn read_all(client: &mut Client, hold: &Hold, handle: HandleId) -> Option<Told> 
     Some(told)
 }
 
-/// A worker ends a transfer, and a client, in a thread of its own, reads once the ending keeps the lock. It answers what the
+/// A worker ends the transfer of the claim of that number, and a client, in a thread of its own, reads once the ending keeps the lock. It answers what the
 /// worker was told, and what the client was told.
 pub fn read_meanwhile<R: Threads + Wait + Sync>(
     rt: &R,
     worker: &mut Worker,
-    held: Held,
+    number: usize,
     end: End,
     client: &mut Client,
     hold: &Hold,
@@ -114,7 +114,7 @@ pub fn read_meanwhile<R: Threads + Wait + Sync>(
 ) -> (Option<Reply>, Option<Told>) {
     join(
         rt,
-        move || worker.finish(rt, held, end),
+        move || worker.finish(rt, number, end),
         move || read_all(client, hold, handle),
     )
 }
