@@ -10,7 +10,7 @@ use Rattle.mx_request.specs.declared.error.RequestError.TheVariants as refusal
 use Rattle.std.proofs.lemmas.List.Elements.{All-push}
 use Rattle.std.proofs.lemmas.List.Sorted.{All-permutation, IsPermutation-reverse}
 use Rattle.mx_run_get.specs.declared.fetched.Fetched.{Fetched}
-use Rattle.mx_get.specs.Asked.{asked_by, asked_for, asked_or_code, IsEnd}
+use Rattle.mx_get.specs.Asked.{asked_for, asked_or_code, IsEnd}
 use Rattle.mx_get.specs.Places.{asked_at}
 use Rattle.mx_get.specs.declared.collect.Place.{Place}
 
@@ -18,7 +18,7 @@ use Rattle.mx_get.specs.declared.collect.Place.{Place}
 pub built : (timeout_ms : ℕ) (url : List ℕ) (settings : SettingsValue) (result : Result RequestValue RequestError)
     → settings ≡ record no_settings { timeout_ms = timeout_ms }
     → MatchResult result (λ r. request_of method.Get url settings ≡ Ok r) (λ e. (request_of method.Get url settings ≡ Err e) ⊎ (e ≡ refusal.OutOfMemory))
-    → MatchResult result (λ r. asked_for timeout_ms url ≡ Ok (asked_by r)) (λ e. (asked_for timeout_ms url ≡ Err (refusal_code e)) ⊎ (e ≡ refusal.OutOfMemory))
+    → MatchResult result (λ r. asked_for timeout_ms url ≡ Ok r) (λ e. (asked_for timeout_ms url ≡ Err (refusal_code e)) ⊎ (e ≡ refusal.OutOfMemory))
 unfolding asked_for
 built timeout_ms url settings (Ok r) is at = ap (λ s. asked_or_code (request_of method.Get url s)) (sym is) ∙ ap asked_or_code at
 built timeout_ms url settings (Err e) is (inl at) = inl (ap (λ s. asked_or_code (request_of method.Get url s)) (sym is) ∙ ap asked_or_code at)

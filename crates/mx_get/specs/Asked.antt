@@ -3,7 +3,6 @@ use Rattle.std.specs.Prelude.{◌≡◌, ℕ, List, map, Result, Ok, Err, All}
 use Rattle.mx_types.specs.Settings.{no_settings}
 use Rattle.mx_types.specs.declared.code.Code.{Code}
 use Rattle.mx_types.specs.declared.code.Code.TheVariants as code
-use Rattle.mx_types.specs.declared.method.Method.{Method}
 use Rattle.mx_types.specs.declared.method.Method.TheVariants as method
 use Rattle.mx_request.specs.Request.{RequestValue, request_of}
 use Rattle.mx_request.specs.RequestError.{refusal_code}
@@ -12,27 +11,19 @@ use Rattle.mx_exchange.specs.Outcomes.{IsOutcome, HasContent}
 use Rattle.mx_run_get.specs.declared.fetched.Fetched.{Fetched}
 use Rattle.mx_run_get.specs.declared.fetched.Fetched.TheVariants.{Refused, Ended}
 
--- what goes out: a method, and the bytes of its request
-pub record Asked : Type 0 where
-  pub method : Method
-  pub bytes : List ℕ
-
-abbrev pub asked_by : RequestValue → Asked
-asked_by request = record { method = request.method; bytes = request.bytes }
-
--- what a request asks for, or the code of its refusal
-abbrev pub asked_or_code : Result RequestValue RequestError → Result Asked Code
-asked_or_code (Ok request) = Ok (asked_by request)
+-- a request, or the code of its refusal
+abbrev pub asked_or_code : Result RequestValue RequestError → Result RequestValue Code
+asked_or_code (Ok request) = Ok request
 asked_or_code (Err refused) = Err (refusal_code refused)
 
--- what a GET of a URL asks for, which may take so many milliseconds, or the code with which the URL is refused
-unfoldable pub asked_for : ℕ → List ℕ → Result Asked Code
+-- the GET of a URL, which may take so many milliseconds, or the code with which the URL is refused
+unfoldable pub asked_for : ℕ → List ℕ → Result RequestValue Code
 asked_for timeout_ms url = asked_or_code (request_of method.Get url (record no_settings { timeout_ms = timeout_ms }))
 
--- what the transfer asked for that has ended, or the code of a refusal
-abbrev pub asked_of : Fetched → Result Asked Code
+-- the request of the transfer that has ended, or the code of a refusal
+abbrev pub asked_of : Fetched → Result RequestValue Code
 asked_of (Refused code) = Err code
-asked_of (Ended outcome) = Ok (asked_by outcome.request)
+asked_of (Ended outcome) = Ok outcome.request
 
 -- What a transfer ended with is an outcome, with its truth: its code, status and parts are what the answers of its link come to. With code 0
 -- the first bytes that came are a response to its request, whose content stands at the parts.

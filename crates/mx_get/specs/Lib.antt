@@ -1,4 +1,3 @@
 pub mod Asked
-pub mod Options
 pub mod Places
 pub mod Run

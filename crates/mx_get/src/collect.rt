@@ -2,12 +2,12 @@
 ghost use Rattle.std.specs.Prelude.{◌≡◌, ◌⊎◌, ◌<◌, ◌++◌, [], ◌∷◌, length, map, slice_get, Some, Ok, Err, All, IsTrue, MatchResult, IfOk, OnOk};
 ghost use Rattle.mx_request.specs.RequestError.{refusal_code};
 ghost use Rattle.mx_request.specs.declared.error.RequestError.TheVariants as refusal;
-ghost use Rattle.mx_get.specs.Asked.{asked_by, asked_for, asked_of, AreEndsOf, IsEnd};
+ghost use Rattle.mx_get.specs.Asked.{asked_for, asked_of, AreEndsOf, IsEnd};
 ghost use Rattle.mx_get.specs.Places.{asked_at};
 
+use crate::awaited::Awaited;
 use crate::crew::Crew;
 use crate::end::End;
-use crate::options::Options;
 use mx_exchange::Outcome;
 use mx_journal::AddReply;
 use mx_link::Link;
@@ -15,6 +15,7 @@ use mx_message::next_message;
 use mx_multi::{Multi, Seat, WrongSeat};
 use mx_request::{Request, RequestError};
 use mx_run_get::Fetched;
+use mx_run_io::Options;
 use mx_types::{HandleId, Method, OutOfMemory, Settings};
 use mx_worker::Queued;
 use std::alloc::{AllocGlobal, Global};
@@ -23,15 +24,15 @@ use std::sync::Wait;
 /// What stands at the place of a URL.
 #[derive(Drop)]
 pub enum Place {
-    /// The method and the bytes of the request whose end is awaited.
-    Awaited(Method, Vec<u8>),
+    /// The request whose end is awaited.
+    Awaited(Awaited),
     /// What the URL ended with.
     Known(End),
 }
 
 // A GET of the URL.
 fn build(alloc: Global, url: &str, timeout_ms: u32) -> Result<Request, RequestError>
-    ensures { MatchResult result (λ r. asked_for timeout_ms url.now ≡ Ok (asked_by r))
+    ensures { MatchResult result (λ r. asked_for timeout_ms url.now ≡ Ok r)
         (λ e. (asked_for timeout_ms url.now ≡ Err (refusal_code e)) ⊎ (e ≡ refusal.OutOfMemory)) }
 {
     let mut settings = Settings::new(alloc);
@@ -39,30 +40,17 @@ fn build(alloc: Global, url: &str, timeout_ms: u32) -> Result<Request, RequestEr
     Request::build(alloc, Method::Get, url, settings)
 }
 
-fn are_same(some: &[u8], others: &[u8]) -> bool
-    ensures { IsTrue result → some.now ≡ others.now }
-{
-    some == others
-}
-
-// Whether a request asks for this.
-fn is_of(request: &Request, method: Method, bytes: &[u8]) -> bool
-    ensures { IsTrue result → asked_by request.now ≡ record { method = method; bytes = bytes.now } }
-{
-    request.method() == method && are_same(bytes, request.bytes())
-}
-
 // Whether the end of this request is awaited at that place.
 #[tactic(auto, using(crate::proofs::Asking::found))]
 fn awaits(places: &[Place], at: usize, request: &Request) -> bool
     ensures inside { IsTrue result → at < length places.now }
-    ensures asked { IsTrue result → slice_get (map asked_at places.now) at ≡ Some (Ok (asked_by request.now)) }
+    ensures asked { IsTrue result → slice_get (map asked_at places.now) at ≡ Some (Ok request.now) }
 {
     if at >= places.len() {
         return false;
     }
     match &places[at] {
-        Place::Awaited(method, bytes) => is_of(request, *method, bytes.as_slice()),
+        Place::Awaited(awaited) => awaited.is(request),
         Place::Known(_) => false,
     }
 }
@@ -126,20 +114,19 @@ impl<L: Link> Desk<L> {
     ) -> Result<(), OutOfMemory>
         requires own { self.old.seat.of ≡ multi.now }
         ensures own { self.new.seat.of ≡ multi.now }
-        ensures asked { OnOk result (map asked_at self.new.places.items ≡ map asked_at self.old.places.items ++ Ok (asked_by request) ∷ []) }
+        ensures asked { OnOk result (map asked_at self.new.places.items ≡ map asked_at self.old.places.items ++ Ok request ∷ []) }
     {
         let Ok(handle) = u32::try_from(self.places.len()) else {
             return Err(OutOfMemory);
         };
-        let method = request.method();
-        let bytes = request.bytes().to_vec(rt.alloc())?;
+        let awaited = Awaited::of(rt.alloc(), &request)?;
         let work = Queued::new(rt.alloc(), request);
         let answer = multi.add(rt, &mut self.seat, HandleId(handle), work);
         if !is_added(answer) {
             return Err(OutOfMemory);
         }
         self.waiting = self.waiting.saturating_add(1);
-        self.places.push(Place::Awaited(method, bytes))?;
+        self.places.push(Place::Awaited(awaited))?;
         Ok(())
     }
 
@@ -159,8 +146,7 @@ impl<L: Link> Desk<L> {
             Ok(request) => self.add_request(rt, multi, request),
             Err(RequestError::OutOfMemory) => Err(OutOfMemory),
             Err(error) => {
-                self.places
-                    .push(Place::Known(End::refused(error.code())))?;
+                self.places.push(Place::Known(End::refused(error.code())))?;
                 Ok(())
             }
         }

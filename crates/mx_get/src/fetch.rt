@@ -1,17 +1,17 @@
 //! A run of workers on threads.
 ghost use Rattle.std.specs.Prelude.{◌≡◌, ◌+◌, [], true, All, IfOk, IfSome, OnSome, map, vec_len};
 ghost use Rattle.std.specs.Thread.{IsSync};
+ghost use Rattle.mx_run_io.specs.Options.{are_within};
 ghost use Rattle.mx_get.specs.Asked.{AreEndsOf};
-ghost use Rattle.mx_get.specs.Options.{are_within};
 
 use crate::collect::Desk;
 use crate::crew::{Crew, Post, posts, work};
-use crate::options::Options;
 use mx_exchange::Outcome;
 use mx_gate::Gate;
 use mx_link::Link;
 use mx_multi::{Limits, Multi, Seat, WorkerSeat};
 use mx_run_get::Fetched;
+use mx_run_io::Options;
 use mx_types::OutOfMemory;
 use mx_worker::Queued;
 use std::alloc::AllocGlobal;
@@ -100,6 +100,7 @@ fn open<L: Link, R: Wait + AllocGlobal>(rt: &R, options: Options) -> Result<Open
     ensures seat { IfOk result (λ o. o.seat.of ≡ o.multi) }
     ensures workers { IfOk result (λ o. All (λ s. s.of ≡ o.multi) o.workers.items) }
     ensures count { IfOk result (λ o. vec_len o.workers ≡ options.workers) }
+    ensures history { IfOk result (λ o. o.multi.engine.opening ≡ record { history = 2048 }) }
 {
     let limits = Limits {
         seats: 1,

@@ -3,14 +3,13 @@ ghost use Rattle.std.specs.Prelude.{◌≡◌, ◌≢◌, ◌↔◌, true, false
 ghost use Rattle.mx_types.specs.Code.{code_number};
 ghost use Rattle.mx_types.specs.declared.code.Code.TheVariants as codes;
 ghost use Rattle.mx_run_io.specs.Faults.{PrintsFault};
+ghost use Rattle.mx_run_io.specs.Options.{are_within};
 ghost use Rattle.mx_run_io.specs.Ends.{writer_of, has_failed_write, is_pending};
-ghost use Rattle.mx_get.specs.Options.{are_within};
 ghost use Rattle.mx_get.specs.Run.{AnswersUrls};
 
 use crate::fetch::fetch_all;
-use crate::options::Options;
 use mx_run_get::print_get;
-use mx_run_io::{Output, UNWRITTEN, end_with};
+use mx_run_io::{Options, Output, UNWRITTEN, end_with};
 use mx_types::{Code, OutOfMemory};
 use std::alloc::AllocGlobal;
 use std::io::Write;
@@ -19,6 +18,9 @@ use std::random::RandomSource;
 use std::rt::Clock;
 use std::sync::Wait;
 use std::thread::Threads;
+
+/// The most URLs of a run.
+pub const MOST_URLS: usize = 256;
 
 // Prints the want of memory.
 fn print_unfetched<W: Write>(output: &mut Output<W>) -> u8

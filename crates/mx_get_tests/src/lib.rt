@@ -1,0 +1,7 @@
+//! `get` over loopback: what `run_get` prints of the URLs of a server of the test's own. There is nothing in this crate but tests.
+#![tactic(auto)]
+
+#[cfg(test)]
+mod server;
+#[cfg(test)]
+mod tests;

@@ -1,0 +1,100 @@
+use crate::server::Server;
+use mx_get::run_get;
+use mx_run_io::{Options, Output};
+use std::alloc::AllocGlobal;
+use std::net::{Net, TcpListener, TcpStream};
+use std::random::RandomSource;
+use std::rt::Clock;
+use std::sync::Wait;
+use std::test::Fail;
+use std::thread::Threads;
+
+/// What `get` printed, its exit status, and on how many connections requests came.
+#[derive(Drop)]
+struct Ran {
+    printed: Vec<u8>,
+    status: u8,
+    connections: u32,
+}
+
+// Two URLs of a server: these paths.
+fn get_two<
+    R: Threads
+        + Wait
+        + Net<Listener = TcpListener, Stream = TcpStream>
+        + Clock
+        + RandomSource
+        + AllocGlobal
+        + Sync,
+>(rt: &R, one: &str, two: &str, options: Options) -> Result<Ran, Fail> {
+    let server = Server::start(rt)?;
+    let port = server.address.port();
+    let one = format!(in rt.alloc(); "http://127.0.0.1:{port}/{one}")?;
+    let two = format!(in rt.alloc(); "http://127.0.0.1:{port}/{two}")?;
+    let mut printed = Vec::new(rt.alloc());
+    let urls = [one.as_str(), two.as_str()];
+    let status = if options.are_within() {
+        run_get(rt, &urls, options, &mut Output::new(&mut printed))
+    } else {
+        0
+    };
+    Ok(Ran {
+        printed,
+        status,
+        connections: server.end(rt)?,
+    })
+}
+
+const ONE_WORKER: Options = Options {
+    workers: 1,
+    timeout_ms: 0,
+    max_connects: 4,
+};
+
+const NO_IDLE_LINKS: Options = Options {
+    workers: 1,
+    timeout_ms: 0,
+    max_connects: 0,
+};
+
+const FOUR_WORKERS: Options = Options {
+    workers: 4,
+    timeout_ms: 10_000,
+    max_connects: 4,
+};
+
+/// Both bodies in the order of the URLs, over one connection.
+#[test]
+fn one_connection_serves_two_urls(rt: HostRuntime) -> Result<(), Fail> {
+    let ran = get_two(&rt, "one", "two", ONE_WORKER)?;
+    assert_eq!(rt;
+        ran.printed.as_slice(),
+        b"transfer 0 code 0 status 200 length 3\none\ntransfer 1 code 0 status 404 length 3\ntwo\n".as_slice()
+    );
+    assert_eq!(rt; (ran.status, ran.connections), (0, 1));
+    Ok(())
+}
+
+/// A worker that keeps no idle links makes a connection for each.
+#[test]
+fn without_idle_links_each_url_has_a_connection(rt: HostRuntime) -> Result<(), Fail> {
+    let ran = get_two(&rt, "two", "one", NO_IDLE_LINKS)?;
+    assert_eq!(rt;
+        ran.printed.as_slice(),
+        b"transfer 0 code 0 status 404 length 3\ntwo\ntransfer 1 code 0 status 200 length 3\none\n".as_slice()
+    );
+    assert_eq!(rt; (ran.status, ran.connections), (0, 2));
+    Ok(())
+}
+
+/// A body that ends before its length is not printed: the code says why, and is the exit status.
+#[test]
+fn a_short_body_is_told_by_its_code(rt: HostRuntime) -> Result<(), Fail> {
+    let ran = get_two(&rt, "short", "one", FOUR_WORKERS)?;
+    assert_eq!(rt;
+        ran.printed.as_slice(),
+        b"transfer 0 code 18 status 200 length 0\n\ntransfer 1 code 0 status 200 length 3\none\n".as_slice()
+    );
+    assert_eq!(rt; ran.status, 18);
+    Ok(())
+}
