@@ -65,7 +65,7 @@ field_sent field h =
     let named : is_token field.name ≡ true = (and_parts (is_token field.name) _ parts.0).0 in
     rw (named, value_bytes field.value parts.1)
 
-allowed_parts : (a b : Bool) → (if not a then Some refusal.BadField else (if b then Some refusal.BodyTooLarge else None)) ≡ None → (a ≡ true) × (b ≡ false)
+pub allowed_parts : (a b : Bool) → (if not a then Some refusal.BadField else (if b then Some refusal.BodyTooLarge else None)) ≡ None → (a ≡ true) × (b ≡ false)
 allowed_parts true true e = cc
 allowed_parts true false e = (refl, refl)
 allowed_parts false b e = cc

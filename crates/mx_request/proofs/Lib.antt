@@ -1,6 +1,11 @@
+pub mod BuiltLemmas
 pub mod CleanLemmas
 pub mod LawProofs
 pub mod LineLemmas
+pub mod NextLemmas
+pub mod PrivateLemmas
+pub mod SameLemmas
 pub mod SettingsLemmas
 pub mod SplitLemmas
+pub mod ToldLemmas
 pub mod UrlLemmas

@@ -57,7 +57,7 @@ lines_and_body (l ∷ ls) (m ∷ ms) b d hl hm e =
     (cc (parted.0, more.0), more.1)
 
 -- where CR LF stands in a line, its CR LF and what follows: at the line's end, or in what follows
-after_line : (l before R S : List ℕ) → list_all is_value_byte l ≡ true → l ++ 13 ∷ 10 ∷ R ≡ before ++ 13 ∷ 10 ∷ S → (R ≡ S) ⊎ ((rest : List ℕ) × (R ≡ rest ++ 13 ∷ 10 ∷ S))
+pub after_line : (l before R S : List ℕ) → list_all is_value_byte l ≡ true → l ++ 13 ∷ 10 ∷ R ≡ before ++ 13 ∷ 10 ∷ S → (R ≡ S) ⊎ ((rest : List ℕ) × (R ≡ rest ++ 13 ∷ 10 ∷ S))
 after_line [] [] R S hl e = inl cc
 after_line [] (y ∷ []) R S hl e = cc
 after_line [] (y ∷ z ∷ b) R S hl e = inr (b, cc)

@@ -1,5 +1,5 @@
 -- What a URL of scheme `http` is made of.
-use Rattle.std.proofs.Common.{◌≡◌, ℕ, ◌^◌, ◌<◌, Bool, true, false, not, ◌==◌, if◌then◌else◌, List, [], ◌∷◌, ◌++◌, length, Some, None, Ok, Err, All, refl, ap, ◌∙◌, subst, arith, lit<}
+use Rattle.std.proofs.Common.{◌≡◌, ℕ, ◌^◌, ◌<◌, Bool, true, false, not, ◌==◌, if◌then◌else◌, List, [], ◌∷◌, ◌++◌, length, Some, None, Ok, Err, All, refl, sym, ap, ◌∙◌, subst, arith, lit<}
 use Rattle.std.specs.Prelude.{Option, MatchOption, codes, bytes_eq, decimal, option_map, unwrap_or, IfSome, Result}
 use Rattle.std.specs.Int.{IsInRange}
 use Rattle.std.proofs.lemmas.Bool.{cond_both}
@@ -20,12 +20,13 @@ use Rattle.url.specs.declared.scheme.SchemeType.TheVariants.{SpecialNotFile}
 use Rattle.url.specs.declared.sets.TheConstants.{PATH, SPECIAL_QUERY, FORBIDDEN_DOMAIN}
 use Rattle.url.specs.Host.{host_text, is_empty_host, IsHostOf}
 use Rattle.url.specs.Parser.{Parsed, parse_url}
-use Rattle.url.specs.Parts.{Parts, kind_of, has_credentials, query_set, IsPortOf, IsHierarchicalPath, IsValid, IsValidHead}
+use Rattle.url.specs.Parts.{Parts, kind_of, has_credentials, query_set, serialize, IsPortOf, IsHierarchicalPath, IsValid, IsValidHead}
 use Rattle.url.specs.Path.{join_segments}
 use Rattle.url.specs.Scheme.{default_port, scheme_type, is_special}
 use Rattle.url.proofs.HostLemmas.{All-host_text}
 use Rattle.url.proofs.HostRoundTrip.{All-decimal}
 use Rattle.url.proofs.SetLemmas.{passes_from_kept}
+use Rattle.url.proofs.Theorems.{parse_url-serialize_special}
 use Rattle.url.proofs.ValidLemmas.{segment_list_kept, special_has_authority, base_from_authority, hierarchical}
 
 picked : (a c : Bool) (u url : Parts) → (if not a then Err refusal.Scheme else (if c then Err refusal.UserInfo else Ok u)) ≡ Ok url → (a ≡ true) × (u ≡ url)
@@ -39,9 +40,27 @@ taken (Ok u) url e =
     let parts = picked (bytes_eq u.scheme (codes "http")) (has_credentials u) u url e in
     subst (λ (v : Parts). bytes_eq v.scheme (codes "http") ≡ true) parts.1 parts.0
 
+-- a URL that was checked is of that scheme
+pub scheme_of : (url : Parts) → checked_url (Ok url) ≡ Ok url → url.scheme ≡ codes "http"
+scheme_of url e = (bytes_eq-Decides url.scheme (codes "http")).0 (taken (Ok url) url e)
+
+-- and is checked as it is
+pub checked_again : (u url : Parts) → checked_url (Ok u) ≡ Ok url → checked_url (Ok url) ≡ Ok url
+checked_again u url e =
+    let parts = picked (bytes_eq u.scheme (codes "http")) (has_credentials u) u url e in
+    subst (λ (v : Parts). checked_url (Ok v) ≡ Ok url) parts.1 e
+
 limited : (b : Bool) (r : Result Parts RequestError) (url : Parts) → (if b then Err refusal.Malformed else r) ≡ Ok url → r ≡ Ok url
 limited true r url e = cc
 limited false r url e = e
+
+-- a URL that a text gives was checked
+pub parsed_checked : (text : List ℕ) (url : Parts) → url_of text ≡ Ok url → checked_url (Ok url) ≡ Ok url
+parsed_checked text url e = again (parse_url None text) (limited _ _ url e)
+  where
+    again : (p : Parsed Parts) → checked_url p ≡ Ok url → checked_url (Ok url) ≡ Ok url
+    again (Err x) e = cc
+    again (Ok u) e = checked_again u url e
 
 -- the scheme of a URL that is taken is `http`
 pub http_scheme : (text : List ℕ) (url : Parts) → url_of text ≡ Ok url → url.scheme ≡ codes "http"
@@ -51,6 +70,16 @@ http_scheme text url e =
 http_kind : (url : Parts) → url.scheme ≡ codes "http" → kind_of url ≡ SpecialNotFile
 unfolding scheme_type default_port
 http_kind url scheme = ap scheme_type scheme
+
+-- what such a URL is written as is parsed to it again
+written : (url : Parts) → IsValid url → checked_url (Ok url) ≡ Ok url → parse_url None (serialize url) ≡ Ok url
+written url valid checked = parse_url-serialize_special url None valid (http_kind url (scheme_of url checked))
+
+-- two of them that are written alike are the same
+pub same_url : (u v : Parts) → IsValid u → checked_url (Ok u) ≡ Ok u → IsValid v → checked_url (Ok v) ≡ Ok v → serialize u ≡ serialize v → u ≡ v
+same_url u v valid checked other_valid other_checked same =
+    let both = sym (written u valid checked) ∙ ap (parse_url None) same ∙ written v other_valid other_checked in
+    cc
 
 http_path : (url : Parts) → IsValid url → kind_of url ≡ SpecialNotFile → IsHierarchicalPath (kind_of url) url.path
 http_path url valid kind =

@@ -4,7 +4,7 @@ use Rattle.std.specs.List.{AllPass}
 use Rattle.mx_types.specs.Settings.{SettingsValue}
 use Rattle.mx_types.specs.declared.method.Method.{Method}
 use Rattle.mx_request.specs.Fields.{is_value_byte}
-use Rattle.mx_request.specs.Request.{RequestValue, IsBuiltFrom, request_origin}
+use Rattle.mx_request.specs.Request.{RequestValue, IsBuiltFrom, IsRequest, request_origin}
 use Rattle.mx_request.specs.RequestBytes.{crlf, ended, target, request_line, endpoint_of, host_field, sent_fields, head_lines, body_bytes, request_head}
 use Rattle.url.specs.Parts.{Parts}
 
@@ -76,6 +76,13 @@ TargetBeginsWithSlash =
     (built : IsBuiltFrom method text settings request)
     → (rest : List ℕ) × (target built.url ≡ 47 ∷ rest)
 
--- requests of one origin are the same: method, endpoint, bytes and timeout
+-- requests of one origin are the same, and so are those that follow them
 abbrev pub OriginIsWholeRequest : Type 0
-OriginIsWholeRequest = (request other : RequestValue) → request_origin request ≡ request_origin other → request ≡ other
+OriginIsWholeRequest =
+    (request other : RequestValue) → IsRequest request → IsRequest other → request_origin request ≡ request_origin other → request ≡ other
+
+-- what is built is a request as any other
+abbrev pub BuiltIsRequest : Type 0
+BuiltIsRequest =
+    (method : Method) (text : List ℕ) (settings : SettingsValue) (request : RequestValue)
+    → IsBuiltFrom method text settings request → IsRequest request

@@ -1,6 +1,7 @@
 pub mod Endpoint
 pub mod Fields
 pub mod Laws
+pub mod Redirects
 pub mod Request
 pub mod RequestBytes
 pub mod RequestError

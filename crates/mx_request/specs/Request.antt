@@ -1,4 +1,4 @@
--- Which requests are built, and which are refused.
+-- Which requests are built, which follow a redirect, and which are refused.
 use Rattle.std.specs.Prelude.{◌≡◌, ℕ, nat_lt, Bool, false, not, List, length, codes, bytes_eq, Option, Some, None, Result, Ok, Err, if◌then◌else◌}
 use Rattle.std.specs.Option.{option_map_or}
 use Rattle.mx_types.specs.Settings.{SettingsValue}
@@ -6,27 +6,30 @@ use Rattle.mx_types.specs.declared.method.Method.{Method}
 use Rattle.mx_types.specs.declared.origin.Origin.{Origin}
 use Rattle.mx_request.specs.Endpoint.{HostAndPort}
 use Rattle.mx_request.specs.Fields.{are_fields}
-use Rattle.mx_request.specs.RequestBytes.{endpoint_of, request_bytes}
+use Rattle.mx_request.specs.RequestBytes.{endpoint_of, request_bytes, told}
 use Rattle.mx_request.specs.declared.error.RequestError.{RequestError}
 use Rattle.mx_request.specs.declared.error.RequestError.TheVariants as refusal
-use Rattle.url.specs.Parts.{Parts, has_credentials, IsValid}
+use Rattle.url.specs.Parts.{Parts, has_credentials, serialize, IsValid}
 use Rattle.url.specs.Parser.{Parsed, parse_url}
 
--- what contracts see of a `Request`
+-- What contracts see of a `Request`. `first` is the endpoint of the first request of its chain, its own where it follows none.
 pub record RequestValue : Type 0 where
   pub method : Method
+  pub url : Parts
+  pub settings : SettingsValue
+  pub first : HostAndPort
   pub endpoint : HostAndPort
   pub bytes : List ℕ
   pub timeout_ms : ℕ
 
--- the request as the origin of an addition or of an outcome: all of it
+-- the request as the origin of an addition or of an outcome: all that it was built from
 abbrev pub request_origin : RequestValue → Origin
 request_origin request = record {
   method = request.method;
-  host = request.endpoint.host;
-  port = request.endpoint.port;
-  bytes = request.bytes;
-  timeout_ms = request.timeout_ms;
+  url = serialize request.url;
+  settings = request.settings;
+  first_host = request.first.host;
+  first_port = request.first.port;
 }
 
 -- a URL that the URL Standard's parser took, or why it is refused all the same
@@ -51,6 +54,9 @@ is_body_too_large body = option_map_or (λ bytes. nat_lt 1048576 (length bytes))
 abbrev pub request_to : Method → Parts → SettingsValue → RequestValue
 request_to method url settings = record {
   method = method;
+  url = url;
+  settings = settings;
+  first = endpoint_of url;
   endpoint = endpoint_of url;
   bytes = request_bytes method url settings;
   timeout_ms = settings.timeout_ms;
@@ -86,3 +92,22 @@ pub record IsBuiltFrom (method : Method) (text : List ℕ) (settings : SettingsV
   pub valid : IsValid url
   pub allowed : refusal_of settings ≡ None
   pub value : request ≡ request_to method url settings
+
+-- the request with these parts, in a chain whose first request went to `first`
+abbrev pub chained : HostAndPort → Method → Parts → SettingsValue → RequestValue
+chained first method url settings = record {
+  method = method;
+  url = url;
+  settings = settings;
+  first = first;
+  endpoint = endpoint_of url;
+  bytes = request_bytes method url (told first url settings);
+  timeout_ms = settings.timeout_ms;
+}
+
+-- what holds of every request, built or following another
+pub record IsRequest (r : RequestValue) : Type 0 where
+  pub valid : IsValid r.url
+  pub checked : checked_url (Ok r.url) ≡ Ok r.url
+  pub allowed : refusal_of r.settings ≡ None
+  pub value : r ≡ chained r.first r.method r.url r.settings

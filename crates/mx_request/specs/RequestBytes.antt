@@ -1,11 +1,11 @@
 -- The bytes of a request (RFC 9112, sections 2.1, 3 and 5).
-use Rattle.std.specs.Prelude.{ℕ, ◌==◌, Bool, List, [], ◌∷◌, ◌++◌, length, map, flat_map, codes, decimal, Option, Some, None, unwrap_or, option_map, if◌then◌else◌}
+use Rattle.std.specs.Prelude.{ℕ, ◌==◌, Bool, not, ◌||◌, filter, List, [], ◌∷◌, ◌++◌, length, map, flat_map, codes, decimal, Option, Some, None, unwrap_or, option_map, if◌then◌else◌}
 use Rattle.std.specs.List.{list_any}
 use Rattle.std.specs.Str.{str_eq_ignore_ascii_case}
 use Rattle.mx_types.specs.Method.{method_name}
 use Rattle.mx_types.specs.Settings.{Field, SettingsValue}
 use Rattle.mx_types.specs.declared.method.Method.{Method}
-use Rattle.mx_request.specs.Endpoint.{HostAndPort}
+use Rattle.mx_request.specs.Endpoint.{HostAndPort, is_same_endpoint}
 use Rattle.url.specs.Parts.{Parts, nonempty_host}
 use Rattle.url.specs.Host.{host_text}
 
@@ -74,6 +74,25 @@ abbrev pub settings_fields : SettingsValue → List Field
 settings_fields settings =
     user_agent_fields settings.user_agent ++ (accept_fields settings.fields ++ (settings.fields
     ++ length_fields settings.body))
+
+-- credentials (RFC 9110, section 11.6.2) and cookies (RFC 6265, section 4.2), by their name in any letter case
+abbrev pub is_private_name : List ℕ → Bool
+is_private_name name =
+    str_eq_ignore_ascii_case name (codes "Authorization") || str_eq_ignore_ascii_case name (codes "Cookie")
+
+-- a field of such a name
+abbrev pub is_private : Field → Bool
+is_private field = is_private_name field.name
+
+-- the caller's fields that an endpoint is told: all, where it is the first of its chain, and else those that aren't private
+unfoldable pub told_fields : Bool → List Field → List Field
+told_fields is_first fields = filter (λ field. is_first || not (is_private field)) fields
+
+-- what the endpoint of the URL is told of the settings, in a chain whose first request went to `first`
+abbrev pub told : HostAndPort → Parts → SettingsValue → SettingsValue
+told first url settings = record settings {
+  fields = told_fields (is_same_endpoint (endpoint_of url) first) settings.fields;
+}
 
 -- the fields as they are sent, in order
 abbrev pub sent_fields : Parts → SettingsValue → List Field

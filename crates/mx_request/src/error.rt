@@ -2,7 +2,7 @@
 ghost use Rattle.std.specs.Prelude.{◌≡◌};
 ghost use Rattle.mx_request.specs.declared.error.RequestError.TheVariants as refusal;
 
-use mx_types::Code;
+use mx_types::{Code, OutOfMemory};
 use std::alloc::AllocError;
 use thiserror::Error;
 
@@ -66,6 +66,14 @@ impl From<AllocError> for RequestError {
     ghost from_gives = { λ _ e. e ≡ refusal.OutOfMemory };
 
     fn from(_error: AllocError) -> RequestError {
+        RequestError::OutOfMemory
+    }
+}
+
+impl From<OutOfMemory> for RequestError {
+    ghost from_gives = { λ _ e. e ≡ refusal.OutOfMemory };
+
+    fn from(_error: OutOfMemory) -> RequestError {
         RequestError::OutOfMemory
     }
 }

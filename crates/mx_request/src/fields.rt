@@ -5,6 +5,7 @@ ghost use Rattle.std.specs.Option.{option_map_or};
 ghost use Rattle.std.specs.Str.{str_eq_ignore_ascii_case};
 ghost use Rattle.mx_types.specs.Settings.{field_of};
 ghost use Rattle.mx_request.specs.Fields as spec;
+ghost use Rattle.mx_request.specs.RequestBytes.{is_private_name};
 
 use mx_types::Settings;
 
@@ -32,6 +33,13 @@ pub fn is_same_name(one: &str, other: &str) -> bool
     ensures { result ≡ str_eq_ignore_ascii_case one.now other.now }
 {
     one.eq_ignore_ascii_case(other)
+}
+
+/// Whether a field of that name is for the first endpoint of a chain alone.
+pub fn is_private(name: &str) -> bool
+    ensures { result ≡ is_private_name name.now }
+{
+    is_same_name(name, "Authorization") || is_same_name(name, "Cookie")
 }
 
 fn is_token_byte(byte: u8) -> bool

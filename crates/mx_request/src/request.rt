@@ -1,11 +1,14 @@
 //! Requests, and what they are built from.
-ghost use Rattle.std.specs.Prelude.{◌≡◌, ◌<◌, ◌⊎◌, bytes_eq, codes, length, option_map, Ok, Err, MatchResult, IfOk};
+ghost use Rattle.std.specs.Prelude.{◌≡◌, ◌<◌, ◌⊎◌, IsTrue, bytes_eq, codes, length, option_map, Ok, Err, None, MatchResult, IfOk};
+ghost use Rattle.mx_request.specs.Endpoint.{is_same_endpoint};
 ghost use Rattle.mx_request.specs.Request as spec;
-ghost use Rattle.mx_request.specs.Request.{RequestValue, IsBuiltFrom, checked_url, url_of, request_to, request_of};
+ghost use Rattle.mx_request.specs.Redirects.{is_redirect_status, short_url, joined_url, next_request};
+ghost use Rattle.mx_request.specs.Request.{RequestValue, IsBuiltFrom, IsRequest, checked_url, url_of, chained, request_of};
 ghost use Rattle.mx_request.specs.declared.error.RequestError.TheVariants as refusal;
 ghost use Rattle.url.specs.Parts.{IsValid, has_credentials};
 
 use crate::fields::are_fields;
+use crate::redirects::{next_method, next_settings};
 use crate::wire::{endpoint_of, request_bytes};
 use crate::{Endpoint, RequestError};
 use mx_types::{Method, Settings};
@@ -13,31 +16,50 @@ use std::alloc::{AllocError, Global};
 use std::marker::Model;
 use url::{ParseError, Url};
 
+mod same;
+
 /// The most bytes of a URL's text.
 const MAX_TEXT: usize = 65_536;
 
 /// The most bytes of a body.
 const MAX_BODY: usize = 1_048_576;
 
-/// A request: its method, where it goes, the bytes that go there, and how long it may take. Contracts see it
-/// as these four.
+/// A request: its method, its URL, where it goes, the bytes that go there, and how long it may take; and what a request that follows
+/// it is made from: its settings, and the endpoint of the first request of its chain. Contracts see it as these.
 #[derive(Debug, Drop)]
 pub struct Request {
     method: Method,
+    url: Url,
+    settings: Settings,
+    first: Endpoint,
     endpoint: Endpoint,
     bytes: Vec<u8>,
-    timeout_ms: u32,
 }
 
 impl Model for Request {
+    ghost use Rattle.mx_request.specs.Request.{RequestValue, IsRequest};
+
     ghost Value = { RequestValue };
 
     ghost view = { λ r. record {
       method = r.method;
+      url = r.url;
+      settings = r.settings;
+      first = r.first;
       endpoint = r.endpoint;
       bytes = r.bytes.items;
-      timeout_ms = r.timeout_ms;
+      timeout_ms = r.settings.timeout_ms;
     } };
+
+    ghost invariant = { λ r. IsRequest (record {
+      method = r.method;
+      url = r.url;
+      settings = r.settings;
+      first = r.first;
+      endpoint = r.endpoint;
+      bytes = r.bytes.items;
+      timeout_ms = r.settings.timeout_ms;
+    }) };
 }
 
 impl Request {
@@ -66,7 +88,21 @@ impl Request {
     pub fn timeout_ms(&self) -> u32
         ensures { result ≡ self.now.timeout_ms }
     {
-        self.timeout_ms
+        self.settings.timeout_ms
+    }
+
+    /// How many redirects are followed from the first request of its chain on; 0 for none.
+    pub fn max_redirects(&self) -> u8
+        ensures { result ≡ self.now.settings.max_redirects }
+    {
+        self.settings.max_redirects
+    }
+
+    /// What holds of every request. It does nothing: a call gives its caller's proof the law.
+    pub fn know(&self)
+        ensures { IsRequest self.now }
+    {
+        let _method = self.method;
     }
 }
 
@@ -134,24 +170,61 @@ fn refusal_of(settings: &Settings) -> Option<RequestError>
     None
 }
 
-/// The request to a URL, whose settings were tested.
-fn build_to(
-    alloc: Global,
-    method: Method,
-    url: &Url,
-    settings: &Settings,
-) -> Result<Request, AllocError>
-    ensures value { IfOk result (λ r. r ≡ request_to method url.now settings.now) }
-    ensures valid { IsValid url.now }
+/// Whether an endpoint is the first of its chain.
+fn is_first(endpoint: &Endpoint, first: &Endpoint) -> bool
+    ensures { result ≡ is_same_endpoint endpoint.now first.now }
 {
-    let endpoint = endpoint_of(alloc, url)?;
-    let bytes = request_bytes(alloc, method, url, &endpoint, settings)?;
+    *endpoint == *first
+}
+
+/// The request of a method to a URL that was checked, by settings that aren't refused, in a chain whose first request went to `first`.
+fn request_in_chain(
+    alloc: Global,
+    first: Endpoint,
+    method: Method,
+    url: Url,
+    settings: Settings,
+) -> Result<Request, AllocError>
+    requires checked { checked_url (Ok url) ≡ Ok url }
+    requires allowed { spec.refusal_of settings ≡ None }
+    ensures value { IfOk result (λ r. r ≡ chained first method url settings) }
+{
+    let endpoint = endpoint_of(alloc, &url)?;
+    let is_first = is_first(&endpoint, &first);
+    let bytes = request_bytes(alloc, method, &url, &endpoint, &settings, is_first)?;
     Ok(Request {
         method,
+        url,
+        settings,
+        first,
         endpoint,
         bytes,
-        timeout_ms: settings.timeout_ms,
     })
+}
+
+/// Tests a URL that was joined: its length, then its scheme, and then that it has no user name and no password.
+fn check_joined(url: Url) -> Result<Url, RequestError>
+    ensures { result ≡ short_url (Ok url) }
+{
+    if url.as_str().len() > MAX_TEXT {
+        return Err(RequestError::Malformed);
+    }
+    check_url(url)
+}
+
+/// The URL that a Location leads to, tested.
+fn join_url(base: &Url, location: &[u8]) -> Result<Url, RequestError>
+    ensures { MatchResult result (λ url. joined_url base.now location.now ≡ Ok url)
+        (λ e. (joined_url base.now location.now ≡ Err e) ⊎ (e ≡ refusal.OutOfMemory)) }
+{
+    let Ok(text) = str::from_utf8(location) else {
+        return Err(RequestError::Malformed);
+    };
+    match base.join(text) {
+        Ok(url) => check_joined(url),
+        Err(ParseError::Overflow | ParseError::OutOfMemory) => Err(RequestError::OutOfMemory),
+        Err(_) => Err(RequestError::Malformed),
+    }
 }
 
 impl Request {
@@ -185,6 +258,45 @@ impl Request {
         if let Some(refused) = refusal_of(&settings) {
             return Err(refused);
         }
-        Ok(build_to(alloc, method, &url, &settings)?)
+        let first = endpoint_of(alloc, &url)?;
+        Ok(request_in_chain(alloc, first, method, url, settings)?)
+    }
+
+    /// The request that follows this one where its response has that status and that Location (RFC 9110, section 15.4). The URL is the
+    /// join of the Location with this request's. 303 makes each method but HEAD a GET without a body, 301 and 302 make POST one; all else
+    /// keeps method and body. The fields Authorization and Cookie are sent only to the endpoint of the first request of the chain.
+    ///
+    /// # Errors
+    ///
+    /// The first that applies, in this order:
+    ///
+    /// - `Malformed`: the Location isn't UTF-8, its join is no URL, or that URL is over 65,536 bytes;
+    /// - `Scheme`: the URL's scheme isn't `http`;
+    /// - `UserInfo`: the URL has a user name or a password.
+    ///
+    /// `OutOfMemory` stands in place of any of these, or of the request, where a growth was refused.
+    pub fn follow(
+        &self,
+        alloc: Global,
+        status: u16,
+        location: &[u8],
+    ) -> Result<Request, RequestError>
+        requires { IsTrue (is_redirect_status status) }
+        ensures { MatchResult result (λ r. next_request self.now status location.now ≡ Ok r)
+            (λ e. (next_request self.now status location.now ≡ Err e) ⊎ (e ≡ refusal.OutOfMemory)) }
+    {
+        let url = match join_url(&self.url, location) {
+            Ok(url) => url,
+            Err(refused) => return Err(refused),
+        };
+        let first = self.first.copy(alloc)?;
+        let settings = next_settings(alloc, status, self.method, &self.settings)?;
+        Ok(request_in_chain(
+            alloc,
+            first,
+            next_method(status, self.method),
+            url,
+            settings,
+        )?)
     }
 }

@@ -1,12 +1,12 @@
 //! The bytes of a request (RFC 9112, sections 2.1, 3 and 5).
-ghost use Rattle.std.specs.Prelude.{◌≡◌, ◌==◌, ◌++◌, not, [], ◌∷◌, map, option_map, string_bytes, unwrap_or, OnOk, IfOk};
+ghost use Rattle.std.specs.Prelude.{◌≡◌, ◌==◌, ◌++◌, ◌||◌, not, [], ◌∷◌, map, option_map, string_bytes, unwrap_or, OnOk, IfOk};
 ghost use Rattle.std.specs.List.{list_any};
 ghost use Rattle.mx_types.specs.Settings.{field_of};
 ghost use Rattle.mx_request.specs.RequestBytes as spec;
 ghost use Rattle.url.specs.Parts.{IsValid};
 
 use crate::Endpoint;
-use crate::fields::is_same_name;
+use crate::fields::{is_private, is_same_name};
 use mx_types::{Method, Settings};
 use std::alloc::{AllocError, Global};
 use url::Url;
@@ -109,13 +109,35 @@ fn put_accept(out: &mut Vec<u8>, fields: &[(String, String)]) -> Result<(), Allo
     put_field(out, "Accept", "*/*")
 }
 
-/// Adds the lines of the caller's fields, in order.
-fn put_fields(out: &mut Vec<u8>, fields: &[(String, String)]) -> Result<(), AllocError>
-    ensures { OnOk result
-        (out.new.items ≡ out.old.items ++ spec.field_lines (map field_of fields.now)) }
+/// Whether an endpoint is told the field: unless it is private and the endpoint isn't the first of its chain.
+fn is_told(name: &str, is_first: bool) -> bool
+    ensures { result ≡ (is_first || not (spec.is_private_name name.now)) }
+{
+    is_first || !is_private(name)
+}
+
+/// Adds the line of a field, if the endpoint is told it.
+fn put_told(out: &mut Vec<u8>, name: &str, value: &str, is_first: bool) -> Result<(), AllocError>
+    ensures { OnOk result (out.new.items ≡ out.old.items
+        ++ spec.field_lines (spec.told_fields is_first (record { name = name.now; value = value.now } ∷ []))) }
+{
+    if is_told(name, is_first) {
+        return put_field(out, name, value);
+    }
+    Ok(())
+}
+
+/// Adds the lines of the caller's fields that the endpoint is told, in order.
+fn put_fields(
+    out: &mut Vec<u8>,
+    fields: &[(String, String)],
+    is_first: bool,
+) -> Result<(), AllocError>
+    ensures { OnOk result (out.new.items ≡ out.old.items
+        ++ spec.field_lines (spec.told_fields is_first (map field_of fields.now))) }
 {
     for field in fields {
-        put_field(out, field.0.as_str(), field.1.as_str())?;
+        put_told(out, field.0.as_str(), field.1.as_str(), is_first)?;
     }
     Ok(())
 }
@@ -149,16 +171,17 @@ fn put_settings(
     agent: &Option<String>,
     fields: &[(String, String)],
     body: &Option<Vec<u8>>,
+    is_first: bool,
 ) -> Result<(), AllocError>
     ensures { OnOk result (out.new.items ≡ out.old.items ++ spec.field_lines
         (spec.user_agent_fields (option_map string_bytes agent.now)
         ++ (spec.accept_fields (map field_of fields.now)
-        ++ (map field_of fields.now
+        ++ (spec.told_fields is_first (map field_of fields.now)
         ++ spec.length_fields (option_map (λ bytes. bytes.items) body.now))))) }
 {
     put_user_agent(out, agent)?;
     put_accept(out, fields)?;
-    put_fields(out, fields)?;
+    put_fields(out, fields, is_first)?;
     put_length(alloc, out, body)
 }
 
@@ -170,10 +193,11 @@ fn put_head(
     url: &Url,
     endpoint: &Endpoint,
     settings: &Settings,
+    is_first: bool,
 ) -> Result<(), AllocError>
     requires { endpoint.now ≡ spec.endpoint_of url.now }
-    ensures { OnOk result
-        (out.new.items ≡ out.old.items ++ spec.request_head method url.now settings.now) }
+    ensures { OnOk result (out.new.items ≡ out.old.items ++ spec.request_head method url.now
+        (record settings.now { fields = spec.told_fields is_first settings.now.fields })) }
 {
     put_request_line(out, method, url)?;
     put_host(alloc, out, endpoint)?;
@@ -183,24 +207,27 @@ fn put_head(
         &settings.user_agent,
         settings.fields.as_slice(),
         &settings.body,
+        is_first,
     )?;
     out.extend_from_slice(b"\r\n")?;
     Ok(())
 }
 
-/// The bytes of a request: its head and its body.
+/// The bytes of a request: its head and its body. Private fields are left out unless the endpoint is the first of its chain.
 pub fn request_bytes(
     alloc: Global,
     method: Method,
     url: &Url,
     endpoint: &Endpoint,
     settings: &Settings,
+    is_first: bool,
 ) -> Result<Vec<u8>, AllocError>
     requires { endpoint.now ≡ spec.endpoint_of url.now }
-    ensures { IfOk result (λ v. v.items ≡ spec.request_bytes method url.now settings.now) }
+    ensures { IfOk result (λ v. v.items ≡ spec.request_bytes method url.now
+        (record settings.now { fields = spec.told_fields is_first settings.now.fields })) }
 {
     let mut out = Vec::new(alloc);
-    put_head(alloc, &mut out, method, url, endpoint, settings)?;
+    put_head(alloc, &mut out, method, url, endpoint, settings, is_first)?;
     put_body(&mut out, &settings.body)?;
     Ok(out)
 }

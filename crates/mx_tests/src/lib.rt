@@ -6,4 +6,6 @@ mod cache_tests;
 #[cfg(test)]
 mod clock_tests;
 #[cfg(test)]
+mod redirect_tests;
+#[cfg(test)]
 mod request_tests;

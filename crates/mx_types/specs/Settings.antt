@@ -16,7 +16,8 @@ pub record SettingsValue : Type 0 where
   pub fields : List Field
   pub body : Option (List ℕ)
   pub timeout_ms : ℕ
+  pub max_redirects : ℕ
 
 -- nothing is set
 abbrev pub no_settings : SettingsValue
-no_settings = record { user_agent = None; fields = []; body = None; timeout_ms = 0 }
+no_settings = record { user_agent = None; fields = []; body = None; timeout_ms = 0; max_redirects = 0 }

@@ -6,7 +6,7 @@ use std::alloc::Global;
 use std::marker::Model;
 
 /// What a caller sets for a request, beside its method and its URL. Contracts see it as bytes, lists of bytes
-/// and a number.
+/// and numbers.
 #[derive(Debug, Drop)]
 pub struct Settings {
     /// The value of `User-Agent`; without one no such field is sent.
@@ -15,8 +15,11 @@ pub struct Settings {
     pub fields: Vec<(String, String)>,
     /// The body, an empty one too; without one no `Content-Length` is sent.
     pub body: Option<Vec<u8>>,
-    /// The longest that the transfer may take, in milliseconds; 0 for no limit.
+    /// The longest that the transfer may take, all its hops together, in milliseconds; 0 for no limit.
     pub timeout_ms: u32,
+    /// How many redirects are followed; 0 for none. What a chain holds grows with it: the request and the wire of every hop are held until
+    /// the outcome is dropped. A wire has up to 64 MiB, and a request has its body twice.
+    pub max_redirects: u8,
 }
 
 impl Model for Settings {
@@ -27,11 +30,12 @@ impl Model for Settings {
       fields = map field_of s.fields.items;
       body = option_map (λ bytes. bytes.items) s.body;
       timeout_ms = s.timeout_ms;
+      max_redirects = s.max_redirects;
     } };
 }
 
 impl Settings {
-    /// No user agent, no field, no body, and no limit of time. It takes no memory.
+    /// No user agent, no field, no body, no limit of time, and no redirect followed. It takes no memory.
     pub fn new(alloc: Global) -> Settings
         ensures { result ≡ no_settings }
     {
@@ -40,6 +44,7 @@ impl Settings {
             fields: Vec::new(alloc),
             body: None,
             timeout_ms: 0,
+            max_redirects: 0,
         }
     }
 }

@@ -1,11 +1,13 @@
 use Rattle.std.proofs.Common.{ap}
 use Rattle.mx_types.specs.declared.origin.Origin.{Origin}
-use Rattle.mx_request.specs.Request.{RequestValue}
+use Rattle.mx_request.specs.Endpoint.{HostAndPort}
+use Rattle.mx_request.proofs.SameLemmas.{same_request}
 use Rattle.mx_request.proofs.laws.origin_is_whole_request.Goals as goal
 
-request_by : Origin → RequestValue
-request_by o = record { method = o.method; endpoint = record { host = o.host; port = o.port }; bytes = o.bytes; timeout_ms = o.timeout_ms }
+first_of : Origin → HostAndPort
+first_of o = record { host = o.first_host; port = o.first_port }
 
 pub returns : goal.returns
-unfolding request_by
-returns c request other same = ap request_by same
+unfolding first_of
+returns c request other is other_is same =
+    same_request request other is other_is (ap (λ (o : Origin). o.method) same) (ap (λ (o : Origin). o.url) same) (ap (λ (o : Origin). o.settings) same) (ap first_of same)

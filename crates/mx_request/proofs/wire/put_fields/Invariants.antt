@@ -5,4 +5,4 @@ use Rattle.mx_request.proofs.wire.put_fields.Given as goal
 
 abbrev pub invariant-loop-field : goal.invariant-loop-field
 invariant-loop-field l =
-    l.out.items ≡ l.initial.out.items ++ spec.field_lines (map field_of (take l.field-index l.fields))
+    l.out.items ≡ l.initial.out.items ++ spec.field_lines (spec.told_fields l.is_first (map field_of (take l.field-index l.fields)))
