@@ -47,13 +47,14 @@ row() {
     local name=$1 shape=$2 count=$3 bytes=$4 base by_hand_base beside_base=0
     shift 4
     base=$(instructions out/decoder_bench "$shape" "$count" 0)
-    by_hand_base=$(instructions "$work/by_hand" "$shape" "$count" 0)
-    [ ! -x "$work/beside" ] || beside_base=$(instructions "$work/beside" "$shape" "$count" 0)
+    by_hand_base=0
+    [ "$shape" = head ] || [ "$shape" = interim ] || by_hand_base=$(instructions "$work/by_hand" "$shape" "$count" 0)
+    [ ! -x "$work/beside" ] || [ "$shape" = interim ] || beside_base=$(instructions "$work/beside" "$shape" "$count" 0)
     for piece in "$@"; do
         local all=$(($(instructions out/decoder_bench "$shape" "$count" "$piece") - base)) hand=0 beside=0
-        [ "$shape" = head ] || hand=$(($(instructions "$work/by_hand" "$shape" "$count" "$piece") - by_hand_base))
+        [ "$shape" = head ] || [ "$shape" = interim ] || hand=$(($(instructions "$work/by_hand" "$shape" "$count" "$piece") - by_hand_base))
         case "$shape,$piece" in
-            trailer*,* | extension,100 | extension,16384) ;;
+            trailer*,* | interim,* | extension,100 | extension,16384) ;;
             *) [ ! -x "$work/beside" ] || beside=$(($(instructions "$work/beside" "$shape" "$count" "$piece") - beside_base)) ;;
         esac
         awk -v name="$name" -v piece="$piece" -v bytes="$bytes" -v all="$all" -v hand="$hand" -v beside="$beside" 'BEGIN {
@@ -72,3 +73,4 @@ row 'a trailer line of 4 MiB' trailer 4096 4194304 100 16384 $all
 row '1,000,000 trailer lines' trailers 1000000 6000000 100 16384 $all
 row 'a head of 60 KB' head 120 60027 1 100 16384 $all
 row 'a head of 6 KB' head 12 6027 1 100
+row '16 interim heads of 60 KB' interim 120 960475 1 100

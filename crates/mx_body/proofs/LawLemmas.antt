@@ -7,6 +7,7 @@ use Rattle.std.specs.Prelude.{if◌then◌else◌, ◌==◌}
 use Rattle.mx_types.specs.declared.code.Code.{Code}
 use Rattle.mx_types.specs.declared.code.Code.TheVariants.{WeirdServerReply, TooLarge, BadContentEncoding, FilesizeExceeded, RecvError}
 use Rattle.mx_types.specs.declared.method.Method.{Method}
+use Rattle.mx_head.specs.Fields.{location_of}
 use Rattle.mx_head.specs.Framing.{keeps_of}
 use Rattle.mx_head.specs.Faults.{many_fields, never_head, long_head, ComesFirst, MeetsNothing}
 use Rattle.mx_head.specs.Laws.{HasOneCodePerLine}
@@ -18,7 +19,7 @@ use Rattle.mx_body.specs.Parts.{AreOrdered, joined}
 use Rattle.mx_body.specs.Response.{print_heads, Response, IsResponse}
 use Rattle.mx_body.specs.Causes.{Cause, at_head, refused_status, at_body, bad_framing, unknown_coding, too_big, bad_chunk, cause_code, cause_line, Meets}
 use Rattle.mx_body.specs.Decision.{BeginsWithResponse, IsNoResponse, first_bytes, HasFinalHead, EndsTooSoon, FailsWith, is_close, IsVerdict}
-use Rattle.mx_body.specs.Laws.{HasOneVerdict, HasOneStatus, CompleteHasStatus, FaultStaysSame, FaultIsHopeless, CompleteStaysSame, CompleteHasContent}
+use Rattle.mx_body.specs.Laws.{HasOneVerdict, HasOneStatus, HasOneLocation, CompleteHasStatus, FaultStaysSame, FaultIsHopeless, CompleteStaysSame, CompleteHasContent}
 use Rattle.mx_body.proofs.HeadsLemmas.{same_body}
 use Rattle.mx_body.proofs.FirstBytesLemmas.{first_split, length-first_bytes, first_same, first_front}
 use Rattle.mx_body.proofs.ResponseLemmas.{response_stands, one_response, response_ended, never_close, response_stays_same, response_early, response_meets_nothing}
@@ -117,6 +118,14 @@ one_status input a b (inl x) (inl y) =
 one_status input a b (inl x) (inr y) = absurd (y.0 (x.0, x.1, x.2, x.3))
 one_status input a b (inr x) (inl y) = absurd (x.0 (y.0, y.1, y.2, y.3))
 one_status input a b (inr x) (inr y) = x.1 ∙ sym y.1
+
+pub one_location : HasOneLocation
+one_location input a b (inl x) (inl y) =
+    let same = same_body input y.0 x.0 y.1 x.1 y.2 x.2 y.3 x.3 in
+    x.4 ∙ ap location_of same.1 ∙ sym y.4
+one_location input a b (inl x) (inr y) = absurd (y.0 (x.0, x.1, x.2, x.3))
+one_location input a b (inr x) (inl y) = absurd (x.0 (y.0, y.1, y.2, y.3))
+one_location input a b (inr x) (inr y) = x.1 ∙ sym y.1
 
 pub complete_status : CompleteHasStatus
 complete_status m input ended (verdict.Complete status len parts keep) v = inl (v.0.interim, v.0.head, v.0.body ++ v.1, response_stands m input ended v.0 v.1 v.2, v.3)

@@ -1,17 +1,19 @@
 -- What the bytes of an exchange decide (RFC 9112, sections 6 to 8).
-use Rattle.std.specs.Prelude.{◌≡◌, ◌≢◌, ℕ, ◌+◌, ◌<◌, ◌≤◌, ◌⊎◌, Bool, true, false, not, ◌&&◌, List, [], ◌++◌, length, take}
-use Rattle.httparse.specs.Grammar.{ResponseHead, status_code}
+use Rattle.std.specs.Prelude.{◌≡◌, ◌≢◌, ℕ, ◌+◌, ◌<◌, ◌≤◌, ◌⊎◌, Bool, true, false, not, ◌&&◌, List, [], ◌++◌, length, take, slice_range, Option, Some, None, option_map, IfSome}
+use Rattle.httparse.specs.Grammar.{ResponseHead, print_response, status_code}
 use Rattle.mx_types.specs.declared.code.Code.{Code}
 use Rattle.mx_types.specs.declared.code.Code.TheVariants.{WeirdServerReply, FilesizeExceeded, GotNothing, PartialFile}
 use Rattle.mx_types.specs.declared.method.Method.{Method}
 use Rattle.mx_head.specs.declared.types.Framing.{Framing}
 use Rattle.mx_head.specs.declared.types.Framing.TheVariants.{Empty, Counted, Chunked, Close}
+use Rattle.mx_head.specs.Fields.{location_of}
 use Rattle.mx_head.specs.Framing.{keeps_of}
 use Rattle.mx_head.specs.Limits.{most_bytes}
 use Rattle.mx_head.specs.Faults.{ComesFirst, MeetsNothing}
 use Rattle.mx_body.specs.declared.verdict.Verdict.{Verdict}
 use Rattle.mx_body.specs.declared.verdict.Verdict.TheVariants as verdict
-use Rattle.mx_body.specs.Response.{StandsAtBody, Response, IsResponse}
+use Rattle.mx_body.specs.declared.part.Part.{Part}
+use Rattle.mx_body.specs.Response.{print_heads, StandsAtBody, Response, IsResponse}
 use Rattle.mx_body.specs.Causes.{cause_code, cause_line, Meets}
 
 -- the input is the response r and then left, which is nothing where only the end ends the response
@@ -81,6 +83,35 @@ HasStatus input status =
     ((hs : List ResponseHead) × (h : ResponseHead) × (r : List ℕ)
     × StandsAtBody input hs h r × (status ≡ status_code h))
     ⊎ (¬ (HasFinalHead input) × (status ≡ 0))
+
+-- the part stands in the text between two offsets, and its bytes are the value; there is one exactly where there is a value
+abbrev pub IsPartAt : List ℕ → ℕ → ℕ → Option Part → Option (List ℕ) → Type 0
+IsPartAt text from to None None = Unit {0}
+IsPartAt text from to (Some p) (Some value) =
+    (from ≤ p.start) × (p.start ≤ p.end) × (p.end ≤ to) × (slice_range text p.start p.end ≡ value)
+IsPartAt text from to _ _ = ⊥
+
+-- where in the final head the value of its first Location line stands; nowhere where that is empty, or the input has no final head
+abbrev pub HasLocation : List ℕ → Option Part → Type 0
+HasLocation input place =
+    ((hs : List ResponseHead) × (h : ResponseHead) × (r : List ℕ) × StandsAtBody input hs h r
+    × IsPartAt input (length (print_heads hs)) (length (print_heads hs ++ print_response h)) place (location_of h))
+    ⊎ (¬ (HasFinalHead input) × (place ≡ None))
+
+-- the value of the first Location line of the final head, unless it is empty; none where the input has no final head
+abbrev pub TellsLocation : List ℕ → Option (List ℕ) → Type 0
+TellsLocation input value =
+    ((hs : List ResponseHead) × (h : ResponseHead) × (r : List ℕ)
+    × StandsAtBody input hs h r × (value ≡ location_of h))
+    ⊎ (¬ (HasFinalHead input) × (value ≡ None))
+
+-- the bytes of a text at a place
+abbrev pub bytes_at : List ℕ → Option Part → Option (List ℕ)
+bytes_at text place = option_map (λ p. slice_range text p.start p.end) place
+
+-- the place, if there is one, lies in a text of so many bytes
+abbrev pub IsPlaceIn : ℕ → Option Part → Type 0
+IsPlaceIn len place = IfSome place (λ p. (p.start ≤ p.end) × (p.end ≤ len))
 
 -- the input begins with a response whose body isn't empty
 abbrev pub BeginsWithParts : Method → List ℕ → Bool → Type 0

@@ -1,5 +1,5 @@
 -- Laws of the definitions. Each is the contract of a function of `laws`.
-use Rattle.std.specs.Prelude.{◌≡◌, ◌≢◌, ℕ, ◌≤◌, Bool, false, List, [], ◌++◌, length, take}
+use Rattle.std.specs.Prelude.{◌≡◌, ◌≢◌, ℕ, ◌≤◌, Bool, false, List, [], ◌++◌, length, take, Option}
 use Rattle.mx_types.specs.declared.code.Code.{Code}
 use Rattle.mx_types.specs.declared.method.Method.{Method}
 use Rattle.mx_head.specs.declared.types.Framing.TheVariants.{Close}
@@ -9,7 +9,7 @@ use Rattle.mx_body.specs.declared.verdict.Verdict.TheVariants.{Complete, More, F
 use Rattle.mx_body.specs.Parts.{AreOrdered, joined}
 use Rattle.mx_body.specs.Response.{Response, IsResponse}
 use Rattle.mx_body.specs.Causes.{Meets}
-use Rattle.mx_body.specs.Decision.{BeginsWithResponse, IsVerdict, IsHopeless, HasStatus}
+use Rattle.mx_body.specs.Decision.{BeginsWithResponse, IsVerdict, IsHopeless, HasStatus, TellsLocation}
 
 -- two verdicts that say the same
 abbrev pub IsSameVerdict : Verdict → Verdict → Type 0
@@ -35,6 +35,10 @@ HasOneResponse =
 -- an input has one status
 abbrev pub HasOneStatus : Type 0
 HasOneStatus = (input : List ℕ) (a b : ℕ) → HasStatus input a → HasStatus input b → a ≡ b
+
+-- an input tells of one location at most, whichever place that is read from
+abbrev pub HasOneLocation : Type 0
+HasOneLocation = (input : List ℕ) (a b : Option (List ℕ)) → TellsLocation input a → TellsLocation input b → a ≡ b
 
 -- the verdict's status is that of the input, where it has one
 abbrev pub StatusIs : List ℕ → Verdict → Type 0

@@ -4,12 +4,14 @@ use Rattle.httparse.specs.Grammar.{ResponseHead, print_response}
 use Rattle.mx_types.specs.declared.method.Method.{Method}
 use Rattle.mx_head.specs.Summary.{Summary, Describes}
 use Rattle.mx_head.specs.Limits.{most_bytes}
+use Rattle.mx_head.specs.Scan.{HasScanned}
 use Rattle.mx_head.specs.Faults.{ComesFirst, MeetsNothing}
 use Rattle.mx_body.specs.declared.verdict.Verdict.{Verdict}
 use Rattle.mx_body.specs.declared.verdict.Verdict.TheVariants as verdict
 use Rattle.mx_body.specs.declared.heads.FinalStep.{FinalStep}
 use Rattle.mx_body.specs.declared.heads.FinalStep.TheVariants as final
 use Rattle.mx_body.specs.declared.heads.Next.{Next}
+use Rattle.mx_body.specs.declared.heads.Passed.{Passed}
 use Rattle.mx_body.specs.declared.heads.Next.TheVariants as next
 use Rattle.mx_body.specs.Response.{print_heads, StandsAtHead, StandsAtBody, one_part}
 use Rattle.mx_body.specs.Causes.{cause_code, cause_line, Meets}
@@ -22,6 +24,11 @@ pub record IsBehind (text : List ℕ) (start passed : ℕ) : Type 0 where
   pub stands : StandsAtHead text interim rest
   pub start_is : start ≡ length (print_heads interim)
   pub passed_is : passed ≡ length interim
+
+-- the same, and the bytes of the next head were scanned so far
+pub record HavePassed (text : List ℕ) (p : Passed) : Type 0 where
+  pub behind : IsBehind text p.start p.count
+  pub scanned : HasScanned behind.rest p.scan
 
 -- the final head is the one that x describes, and it ends at `end`
 pub record HasHeadAt (text : List ℕ) (x : Summary) (end : ℕ) : Type 0 where

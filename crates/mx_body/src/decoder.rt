@@ -1,7 +1,7 @@
 //! A decoder that is fed the bytes of an exchange in pieces.
 ghost use Rattle.std.specs.Prelude.{◌≡◌, ◌≢◌, ◌++◌, [], true, false, length, IfOk, OnErr, Ok};
 ghost use Rattle.mx_body.specs.Parts.{AreOrdered};
-ghost use Rattle.mx_body.specs.Decision.{HasStatus, BeginsWithParts};
+ghost use Rattle.mx_body.specs.Decision.{HasStatus, HasLocation, TellsLocation, IsPlaceIn, bytes_at, BeginsWithParts};
 ghost use Rattle.mx_body.specs.Decoder as spec;
 ghost use Rattle.mx_body.specs.Decoder.{IsExact, HasVerdictCode};
 ghost use Rattle.mx_body.specs.declared.decoder.Stand.TheVariants as stand;
@@ -42,9 +42,9 @@ pub struct Decoder {
 
 impl Model for Decoder {
     ghost use Rattle.std.specs.Prelude.{◌≡◌};
-    ghost use Rattle.mx_body.specs.Decision.{IsVerdict, HasStatus};
+    ghost use Rattle.mx_body.specs.Decision.{IsVerdict};
     ghost use Rattle.mx_body.specs.Decoder.{Decoded};
-    ghost use Rattle.mx_body.specs.Progress.{IsProgressing, status_read};
+    ghost use Rattle.mx_body.specs.Progress.{IsProgressing, KnowsHead};
 
     ghost Value = { Decoded };
 
@@ -56,7 +56,7 @@ impl Model for Decoder {
     } };
 
     ghost invariant = { λ d. IsVerdict d.method d.wire.items d.ended d.verdict
-        × HasStatus d.wire.items (status_read d.progress.phase)
+        × KnowsHead d.wire.items d.progress.phase
         × IsProgressing d.method d.wire.items d.progress d.verdict };
 }
 
@@ -184,10 +184,21 @@ impl Decoder {
     }
 
     /// The status of the final head in the bytes fed, 0 where there is none. It takes no memory.
+    #[tactic(auto, using(crate::proofs::ProgressLemmas::known_status))]
     pub fn status(&self) -> u16
         ensures { HasStatus self.now.wire result }
     {
         self.progress.status()
+    }
+
+    /// Where in the bytes fed the value of the first Location line of the final head stands (RFC 9110, section 10.2.2); `None` where
+    /// that is empty, or there is no such line, or no final head. It takes no memory.
+    pub fn location(&self) -> Option<Part>
+        ensures place { HasLocation self.now.wire result }
+        ensures bytes { TellsLocation self.now.wire (bytes_at self.now.wire result) }
+        ensures within { IsPlaceIn (length self.now.wire) result }
+    {
+        self.progress.location(self.wire.as_slice())
     }
 
     /// Where a whole response ends in the bytes fed; 0 where there is none.

@@ -1,11 +1,12 @@
 //! The final head of a response, behind its interim heads.
 
-ghost use Rattle.std.specs.Prelude.{◌≡◌, ◌↔◌, IsTrue};
+ghost use Rattle.std.specs.Prelude.{◌≡◌, ◌+◌, ◌↔◌, IsTrue, [], length, slice_range};
+ghost use Rattle.mx_head.specs.Reading.{IsStepOn};
 ghost use Rattle.mx_body.specs.Response.{IsInterimStatus};
-ghost use Rattle.mx_body.specs.Steps.{IsBehind, IsNextOn, IsFinalStepOn};
+ghost use Rattle.mx_body.specs.Steps.{IsBehind, HavePassed, IsNextOn, IsFinalStepOn};
 
 use crate::limits::MOST_INTERIM;
-use mx_head::{Head, HeadStep, read_head};
+use mx_head::{Head, HeadScan, HeadStep, read_head, read_head_on};
 use mx_types::Code;
 
 /// The status that would leave HTTP: no head with it is passed over (RFC 9110, section 15.2.2).
@@ -36,12 +37,13 @@ fn is_interim(status: u16) -> bool
     100 <= status && status < 200
 }
 
-/// What the head at `start` comes to, behind as many interim heads as have passed.
-fn next_head(text: &[u8], start: usize, passed: usize) -> Next
-    requires { IsBehind text.now start passed }
+/// What the head at `start` comes to by that answer, behind as many interim heads as have passed.
+fn next_by(text: &[u8], start: usize, passed: usize, step: HeadStep) -> Next
+    requires behind { IsBehind text.now start passed }
+    requires step { IsStepOn (slice_range text.now start (length text.now)) step }
     ensures { IsNextOn text.now passed result }
 {
-    match read_head(&text[start..]) {
+    match step {
         HeadStep::Fault(code) => Next::Decided(FinalStep::Fault(code)),
         HeadStep::More => Next::Decided(FinalStep::More),
         HeadStep::Head(head) => {
@@ -58,25 +60,68 @@ fn next_head(text: &[u8], start: usize, passed: usize) -> Next
     }
 }
 
-/// How many interim heads have passed, and where the next head begins.
+/// What the head at `start` comes to, behind as many interim heads as have passed.
+fn next_head(text: &[u8], start: usize, passed: usize) -> Next
+    requires { IsBehind text.now start passed }
+    ensures { IsNextOn text.now passed result }
+{
+    next_by(text, start, passed, read_head(&text[start..]))
+}
+
+/// How many interim heads have passed, where the next head begins, and how far that has been scanned.
 #[derive(Clone, Copy, Debug, PartialEq, Eq)]
 pub(crate) struct Passed {
     pub(crate) start: usize,
     pub(crate) count: usize,
+    pub(crate) scan: HeadScan,
+}
+
+impl Passed {
+    /// Before the first head.
+    pub(crate) fn new() -> Passed
+        ensures { HavePassed [] result }
+    {
+        Passed {
+            start: 0,
+            count: 0,
+            scan: HeadScan::new(),
+        }
+    }
+
+    /// Goes on to the next head, which begins there.
+    fn pass(&mut self, text: &[u8], end: usize)
+        requires { IsBehind text.now end (self.old.count + 1) }
+        ensures passed { HavePassed text.now self.new }
+        ensures count { self.new.count ≡ self.old.count + 1 }
+    {
+        *self = Passed {
+            start: end,
+            count: self.count + 1,
+            scan: HeadScan::new(),
+        };
+    }
+}
+
+/// What the next head comes to, of which some bytes were scanned before.
+fn next_head_on(text: &[u8], passed: &mut Passed) -> Next
+    requires { HavePassed text.now passed.old }
+    ensures next { IsNextOn text.now passed.new.count result }
+    ensures passed { HavePassed text.now passed.new }
+    ensures count { passed.new.count ≡ passed.old.count }
+{
+    let step = read_head_on(&text[passed.start..], &mut passed.scan);
+    next_by(text, passed.start, passed.count, step)
 }
 
 /// What the heads behind those that have passed come to. Whole interim heads pass.
 pub(crate) fn final_head_from(text: &[u8], passed: &mut Passed) -> FinalStep
-    requires { IsBehind text.now passed.old.start passed.old.count }
+    requires { HavePassed text.now passed.old }
     ensures step { IsFinalStepOn text.now result }
-    ensures behind { IsBehind text.now passed.new.start passed.new.count }
+    ensures passed { HavePassed text.now passed.new }
 {
     loop {
-        match next_head(text, passed.start, passed.count) {
-            Next::Passed(end) => {
-                passed.start = end;
-                passed.count += 1;
-            }
+        match next_head_on(text, passed) {
+            Next::Passed(end) => passed.pass(text, end),
             Next::Decided(step) => return step,
         }
     }

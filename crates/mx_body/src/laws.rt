@@ -4,7 +4,7 @@
 ghost use Rattle.mx_types.specs.declared.method.Method.{Method};
 ghost use Rattle.mx_head.specs.Laws.{HasOneCodePerLine, ShortestComesFirst, FirstIsShortest, FirstHasShortest, HasOneFirst};
 ghost use Rattle.mx_body.specs.Causes.{cause_code, cause_line, Meets};
-ghost use Rattle.mx_body.specs.Laws.{HasOneVerdict, HasOneResponse, HasOneStatus, CompleteHasStatus, FaultStaysSame, FaultIsHopeless, CompleteStaysSame, ResponseStaysSame, ResponsesArePrefixFree, ResponseMeetsNothing, CompleteHasContent};
+ghost use Rattle.mx_body.specs.Laws.{HasOneVerdict, HasOneResponse, HasOneStatus, HasOneLocation, CompleteHasStatus, FaultStaysSame, FaultIsHopeless, CompleteStaysSame, ResponseStaysSame, ResponsesArePrefixFree, ResponseMeetsNothing, CompleteHasContent};
 
 /// An input has one verdict: it begins with one response at most, and no two verdicts hold of it.
 pub fn one_verdict()
@@ -16,6 +16,11 @@ pub fn one_verdict()
 pub fn one_status()
     ensures one { HasOneStatus }
     ensures complete { CompleteHasStatus }
+{}
+
+/// An input tells of one location at most.
+pub fn one_location()
+    ensures { HasOneLocation }
 {}
 
 /// The fault of an input that hasn't ended is the same whatever follows, and no continuation begins with a

@@ -1,15 +1,15 @@
 //! Reading the bytes of an exchange as they come: each byte of a body once.
 
-ghost use Rattle.std.specs.Prelude.{◌≡◌, ◌≤◌, ◌++◌, ℕ, List, true, false, length, take, drop, slice_range, min, Ok, IfOk, OnErr, IsTrue};
+ghost use Rattle.std.specs.Prelude.{◌≡◌, ◌≤◌, ◌++◌, [], ℕ, List, true, false, length, take, drop, slice_range, min, Ok, IfOk, OnErr, IsTrue};
 ghost use Rattle.mx_head.specs.declared.types.Framing.TheVariants.{Chunked};
 ghost use Rattle.mx_head.specs.Limits.{most_bytes};
 ghost use Rattle.mx_head.specs.Summary.{framing_by};
 ghost use Rattle.mx_body.specs.ChunkedPlace.{is_settled};
 ghost use Rattle.mx_body.specs.ChunkedReader.{HasRead};
-ghost use Rattle.mx_body.specs.Decision.{IsVerdict, BeginsWithParts, HasStatus};
-ghost use Rattle.mx_body.specs.Progress.{IsProgress, status_read};
+ghost use Rattle.mx_body.specs.Decision.{IsVerdict, BeginsWithParts};
+ghost use Rattle.mx_body.specs.Progress.{IsProgress, KnowsHead, status_read, location_read, place_at};
 ghost use Rattle.mx_body.specs.Steps.{HasHeadAt};
-ghost use Rattle.mx_body.specs.declared.progress.Phase.TheVariants.{Heads};
+ghost use Rattle.mx_types.specs.declared.method.Method.{Method};
 ghost use Rattle.mx_body.specs.declared.verdict.Verdict.TheVariants.{More};
 
 use crate::chunked::place::Place;
@@ -17,6 +17,7 @@ use crate::chunked::reader::ChunkedReader;
 use crate::chunked::scan::ChunkedScan;
 use crate::heads::{FinalStep, Passed, final_head_from};
 use crate::limits::MOST_BYTES;
+use crate::part::Part;
 use crate::verdict::Verdict;
 use crate::whole::{decode_body, decode_no_head, decode_short};
 use mx_head::{Framing, Head, framing, keeps};
@@ -44,11 +45,13 @@ pub(crate) struct Progress {
 
 impl Progress {
     /// No byte was read.
+    #[tactic(auto, using(crate::proofs::EmptyLemmas::no_final))]
     pub(crate) fn new(alloc: Global) -> Progress
-        ensures phase { result.phase ≡ Heads (record { start = 0; count = 0 }) }
+        ensures head { KnowsHead [] result.phase }
+        ensures progress { (m : Method) → IsProgress m [] result }
     {
         Progress {
-            phase: Phase::Heads(Passed { start: 0, count: 0 }),
+            phase: Phase::Heads(Passed::new()),
             reader: ChunkedReader::new(alloc, 0),
         }
     }
@@ -83,6 +86,31 @@ impl Progress {
             Phase::Chunks { head, .. } => head.status(),
         }
     }
+
+    /// Where the location of the final head stands.
+    pub(crate) fn location(&self, wire: &[u8]) -> Option<Part>
+        requires { KnowsHead wire.now self.now.phase }
+        ensures { result ≡ location_read self.now.phase }
+    {
+        match &self.phase {
+            Phase::Heads(_) => None,
+            Phase::Body { head, at } => place_of(head, *at, wire),
+            Phase::Chunks { head, at } => place_of(head, *at, wire),
+        }
+    }
+}
+
+/// Where the location of a head stands that ends at `at`.
+fn place_of(head: &Head, at: usize, wire: &[u8]) -> Option<Part>
+    requires { HasHeadAt wire.now head.now at }
+    ensures { result ≡ place_at head.now at }
+{
+    let span = head.location()?;
+    let start = at - head.len();
+    Some(Part {
+        start: (start + span.start) as u32,
+        end: (start + span.end) as u32,
+    })
 }
 
 /// The verdict where a chunked body has been read on.
@@ -134,7 +162,7 @@ fn begin_body(
     requires head { HasHeadAt wire.now head at }
     ensures verdict { IfOk result (IsVerdict method wire.now false) }
     ensures progress { result ≡ Ok More → IsProgress method wire.now progress.new }
-    ensures status { IfOk result (λ _. HasStatus wire.now (status_read progress.new.phase)) }
+    ensures head { IfOk result (λ _. KnowsHead wire.now progress.new.phase) }
     ensures refused { OnErr result (progress.new ≡ progress.old) }
 {
     match framing(method, &head) {
@@ -160,7 +188,7 @@ pub(crate) fn pass_data(method: Method, wire: &[u8], before: usize, progress: &m
     requires progress { IsProgress method (take before wire.now) progress.old }
     ensures verdict { IsTrue result → IsVerdict method wire.now false More }
     ensures progress { IsTrue result → IsProgress method wire.now progress.new }
-    ensures status { IsTrue result → HasStatus wire.now (status_read progress.new.phase) }
+    ensures head { IsTrue result → KnowsHead wire.now progress.new.phase }
     ensures other { result ≡ false → progress.new ≡ progress.old }
 {
     let Phase::Chunks { head: _, at } = progress.phase else {
@@ -191,7 +219,7 @@ pub(crate) fn go_on(
     requires progress { IsProgress method (take before wire.now) progress.old }
     ensures verdict { IfOk result (IsVerdict method wire.now false) }
     ensures progress { result ≡ Ok More → IsProgress method wire.now progress.new }
-    ensures status { IfOk result (λ _. HasStatus wire.now (status_read progress.new.phase)) }
+    ensures head { IfOk result (λ _. KnowsHead wire.now progress.new.phase) }
     ensures refused { OnErr result (IsProgress method (take before wire.now) progress.new) }
     ensures refused_phase { OnErr result (progress.new.phase ≡ progress.old.phase) }
 {

@@ -7,6 +7,22 @@ use std::process::Abort;
 
 const OK: &[u8] = b"HTTP/1.1 200 OK\r\n";
 
+/// Bytes that no head begins with.
+pub(crate) const REFUSED: [&[u8]; 12] = [
+    b"X",
+    b"HTTP/2",
+    b"HTTP/1.1 20x",
+    b"HTTP/1.1 2000",
+    b" HTTP/1.1 200 OK\r\n\r\n",
+    b"HTTP/1.1 200 O\rK",
+    b"HTTP/1.1 200 OK\r\n :",
+    b"HTTP/1.1 200 OK\r\nA b: c\r\n\r\n",
+    b"HTTP/1.1 200 OK\r\nA: b\rc",
+    b"HTTP/1.1 200 OK\r\nA: \0",
+    b"HTTP/1.1 200 OK\r\nA: b\r\n c\r\n\r\n",
+    b"\0\x01\x02\x80\xff\xfe\r\n\r\n",
+];
+
 /// What the head at the front of the input says of its body and its connection.
 fn decided(method: Method, input: &[u8]) -> Option<(Result<Framing, Code>, bool)> {
     match read_head(input) {
@@ -17,7 +33,7 @@ fn decided(method: Method, input: &[u8]) -> Option<(Result<Framing, Code>, bool)
 }
 
 /// The first bytes, as many of them as there are.
-fn front(bytes: &[u8], len: usize) -> &[u8] {
+pub(crate) fn front(bytes: &[u8], len: usize) -> &[u8] {
     &bytes[..len.min(bytes.len())]
 }
 
@@ -30,7 +46,7 @@ fn with_lines(alloc: Global, lines: &[u8]) -> Result<Vec<u8>, AllocError> {
 }
 
 /// A status line, so many short field lines, and then the end.
-fn with_fields(alloc: Global, count: usize, end: &[u8]) -> Result<Vec<u8>, AllocError> {
+pub(crate) fn with_fields(alloc: Global, count: usize, end: &[u8]) -> Result<Vec<u8>, AllocError> {
     let mut bytes = Vec::from_slice(alloc, OK)?;
     for _ in 0..count {
         bytes.extend_from_slice(b"A: b\r\n")?;
@@ -40,7 +56,11 @@ fn with_fields(alloc: Global, count: usize, end: &[u8]) -> Result<Vec<u8>, Alloc
 }
 
 /// A status line, so many short field lines, and one that is as long as the head of that length needs.
-fn with_long_field(alloc: Global, count: usize, len: usize) -> Result<Vec<u8>, AllocError> {
+pub(crate) fn with_long_field(
+    alloc: Global,
+    count: usize,
+    len: usize,
+) -> Result<Vec<u8>, AllocError> {
     let mut bytes = with_fields(alloc, count, b"B: ")?;
     for _ in 0..len.saturating_sub(bytes.len().saturating_add(4)) {
         bytes.push(b'c')?;
@@ -82,20 +102,7 @@ fn a_head_cut_anywhere_wants_more(rt: HostRuntime) {
 
 #[test]
 fn bytes_that_begin_no_head_are_refused(rt: HostRuntime) {
-    for input in [
-        b"X".as_slice(),
-        b"HTTP/2".as_slice(),
-        b"HTTP/1.1 20x".as_slice(),
-        b"HTTP/1.1 2000".as_slice(),
-        b" HTTP/1.1 200 OK\r\n\r\n".as_slice(),
-        b"HTTP/1.1 200 O\rK".as_slice(),
-        b"HTTP/1.1 200 OK\r\n :".as_slice(),
-        b"HTTP/1.1 200 OK\r\nA b: c\r\n\r\n".as_slice(),
-        b"HTTP/1.1 200 OK\r\nA: b\rc".as_slice(),
-        b"HTTP/1.1 200 OK\r\nA: \0".as_slice(),
-        b"HTTP/1.1 200 OK\r\nA: b\r\n c\r\n\r\n".as_slice(),
-        b"\0\x01\x02\x80\xff\xfe\r\n\r\n".as_slice(),
-    ] {
+    for input in REFUSED {
         assert_eq!(rt; read_head(input), HeadStep::Fault(Code::WeirdServerReply));
     }
 }

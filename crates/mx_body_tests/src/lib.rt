@@ -4,7 +4,11 @@
 #[cfg(test)]
 mod chunked;
 #[cfg(test)]
+mod cuts;
+#[cfg(test)]
 mod heads;
+#[cfg(test)]
+mod locations;
 #[cfg(test)]
 mod pieces;
 #[cfg(test)]

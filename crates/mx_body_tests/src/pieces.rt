@@ -36,7 +36,7 @@ fn read(decoder: &Decoder) -> Reading {
 }
 
 /// `None` for want of memory.
-fn feed(decoder: &mut Decoder, piece: &[u8]) -> Option<Stand> {
+pub(crate) fn feed(decoder: &mut Decoder, piece: &[u8]) -> Option<Stand> {
     decoder.feed(piece).ok()
 }
 
@@ -46,7 +46,7 @@ fn end(decoder: &mut Decoder) -> Option<Stand> {
 }
 
 /// Feeds the bytes one by one, until one isn't answered `More`: how many were, and the last answer.
-fn feed_each(decoder: &mut Decoder, bytes: &[u8]) -> (usize, Option<Stand>) {
+pub(crate) fn feed_each(decoder: &mut Decoder, bytes: &[u8]) -> (usize, Option<Stand>) {
     for i in 0..bytes.len() {
         let stand = feed(decoder, &bytes[i..i + 1]);
         if stand != Some(Stand::More) {
@@ -56,7 +56,7 @@ fn feed_each(decoder: &mut Decoder, bytes: &[u8]) -> (usize, Option<Stand>) {
     (bytes.len(), Some(Stand::More))
 }
 
-fn decoder(alloc: Global, method: Method) -> Decoder {
+pub(crate) fn decoder(alloc: Global, method: Method) -> Decoder {
     Decoder::new(alloc, method)
 }
 
@@ -298,7 +298,13 @@ fn many_chunks_in_pieces(rt: HostRuntime) {
 }
 
 /// Whether the decoder says what the plain program says of the same bytes; not where that one is out of memory.
-fn agrees(decoder: &Decoder, method: Method, bytes: &[u8], alloc: Global, ended: bool) -> bool {
+pub(crate) fn agrees(
+    decoder: &Decoder,
+    method: Method,
+    bytes: &[u8],
+    alloc: Global,
+    ended: bool,
+) -> bool {
     match decode_whole(alloc, method, bytes, ended) {
         Ok(
             Verdict::Complete {

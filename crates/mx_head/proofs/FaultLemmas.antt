@@ -103,13 +103,13 @@ head_meets_nothing input h rest reads q more long_head e meets =
     meets.1 h r.0 (reads.0, r.1)
 
 -- bytes that begin with one that is no line end, and another behind it
-record BeginsLine (text : List ℕ) : Type 0 where
-  first : ℕ
-  others : List ℕ
-  is : text ≡ first ∷ others
-  not_return : first ≢ 13
-  not_feed : first ≢ 10
-  some : 1 ≤ length others
+pub record BeginsLine (text : List ℕ) : Type 0 where
+  pub first : ℕ
+  pub others : List ℕ
+  pub is : text ≡ first ∷ others
+  pub not_return : first ≢ 13
+  pub not_feed : first ≢ 10
+  pub some : 1 ≤ length others
 
 word_begins : (name more : List ℕ) → 0 < length name → All (λ v. is_token_byte v ≡ true) name → 1 ≤ length more → BeginsLine (name ++ more)
 word_begins [] more some all long = absurd (omega arith)
@@ -124,7 +124,7 @@ word_begins (b ∷ name) more some all long =
       some = omega (arith, length-append name more);
     }
 
-fields_begin : (fs : List Field) (tail : List ℕ) → All IsField fs → 0 < length fs → BeginsLine (flat_map print_field fs ++ tail)
+pub fields_begin : (fs : List Field) (tail : List ℕ) → All IsField fs → 0 < length fs → BeginsLine (flat_map print_field fs ++ tail)
 fields_begin [] tail all some = absurd (omega arith)
 fields_begin (f ∷ fs) tail all some =
     let is = all 0 f (omega arith) in

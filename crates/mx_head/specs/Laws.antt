@@ -1,9 +1,11 @@
 -- Laws of the definitions. Each is the contract of a function of `laws`.
-use Rattle.std.specs.Prelude.{◌≡◌, ◌≢◌, ℕ, ◌≤◌, List, [], ◌++◌, length}
+use Rattle.std.specs.Prelude.{◌≡◌, ◌≢◌, ℕ, ◌≤◌, List, [], ◌++◌, length, None, option_map}
 use Rattle.httparse.specs.Grammar.{ResponseHead, print_response}
 use Rattle.mx_types.specs.declared.code.Code.{Code}
 use Rattle.mx_head.specs.declared.types.HeadStep.{HeadStep}
 use Rattle.mx_head.specs.declared.types.HeadStep.TheVariants.{More}
+use Rattle.mx_head.specs.declared.types.HeadStep.TheVariants as step
+use Rattle.httparse.specs.Spans.{span_bytes}
 use Rattle.mx_types.specs.declared.method.Method.{Method}
 use Rattle.mx_head.specs.Heads.{IsHead, ReadsHead}
 use Rattle.mx_head.specs.Framing.{framing_of, keeps_of}
@@ -55,9 +57,19 @@ HasOneFirst code_of line_of Meets =
     (input : List ℕ) (code other : Code) → ComesFirst code_of line_of Meets input code
     → ComesFirst code_of line_of Meets input other → code ≡ other
 
+-- two answers that say the same; of the places of a location no more is said than that the same bytes stand there
+abbrev pub IsSameStep : List ℕ → HeadStep → HeadStep → Type 0
+IsSameStep input (step.Head x) (step.Head y) =
+    (record x { location = None } ≡ record y { location = None })
+    × (option_map (span_bytes input) x.location ≡ option_map (span_bytes input) y.location)
+IsSameStep input step.More step.More = Unit {0}
+IsSameStep input (step.Fault code) (step.Fault other) = code ≡ other
+IsSameStep input _ _ = ⊥
+
 -- an input has one answer of `read_head`
 abbrev pub HasOneStep : Type 0
-HasOneStep = (input : List ℕ) (a b : HeadStep) → IsStepOn input a → IsStepOn input b → a ≡ b
+HasOneStep =
+    (input : List ℕ) (a b : HeadStep) → IsStepOn input a → IsStepOn input b → IsSameStep input a b
 
 -- no head is a proper prefix of another: they are the same head
 abbrev pub HeadsArePrefixFree : Type 0

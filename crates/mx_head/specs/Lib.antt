@@ -5,9 +5,11 @@ pub mod Fields
 pub mod Framing
 pub mod Summary
 pub mod Faults
+pub mod Fronts
 pub mod Reading
 pub mod Laws
 -- Private: what the functions behind these promise one another. Nothing outside the crate names them.
 pub mod Steps
 pub mod Lines
 pub mod Tried
+pub mod Scan

@@ -1,8 +1,10 @@
 -- What is kept of a head, which is what contracts see of a `Head`, and the rules of framing and of keeping from that.
-use Rattle.std.specs.Prelude.{◌≡◌, ℕ, min, ◌^◌, ◌-◌, Bool, true, false, not, ◌&&◌, ◌||◌, List, [], ◌∷◌, if◌then◌else◌, ◌==◌, Result, Ok, Err, filter, length, codes}
+use Rattle.std.specs.Prelude.{◌≡◌, ℕ, min, ◌^◌, ◌-◌, Bool, true, false, not, ◌&&◌, ◌||◌, List, [], ◌∷◌, if◌then◌else◌, ◌==◌, Result, Ok, Err, Option, Some, None, filter, length, codes}
 use Rattle.std.specs.List.{list_all}
 use Rattle.std.specs.Str.Parse.{digits_value}
 use Rattle.httparse.specs.Grammar.{ResponseHead, print_response, status_code}
+use Rattle.httparse.specs.Spans.{IsWithin, span_bytes}
+use Rattle.httparse.specs.declared.spans.Span.{Span}
 use Rattle.mx_types.specs.declared.code.Code.{Code}
 use Rattle.mx_types.specs.declared.code.Code.TheVariants.{WeirdServerReply, BadContentEncoding}
 use Rattle.mx_types.specs.declared.method.Method.{Method}
@@ -12,11 +14,11 @@ use Rattle.mx_head.specs.declared.types.Coding.{Coding}
 use Rattle.mx_head.specs.declared.types.Coding.TheVariants as coding
 use Rattle.mx_head.specs.declared.types.Length.{Length}
 use Rattle.mx_head.specs.declared.types.Length.TheVariants as sized
-use Rattle.mx_head.specs.Fields.{lines_of, elements}
+use Rattle.mx_head.specs.Fields.{lines_of, elements, location_of}
 use Rattle.mx_head.specs.Framing.{has_no_body, has_word, is_blank, is_chunked_alone, is_number, is_number_of, chunked_framing}
 
--- the bytes of the head, its status, its minor version, what Transfer-Encoding and Content-Length come to, and
--- whether Connection has `close` and `keep-alive`
+-- the bytes of the head, its status, its minor version, what Transfer-Encoding and Content-Length come to,
+-- whether Connection has `close` and `keep-alive`, and where the location stands
 pub record Summary : Type 0 where
   pub len : ℕ
   pub status : ℕ
@@ -25,6 +27,7 @@ pub record Summary : Type 0 where
   pub length : Length
   pub close : Bool
   pub keep_alive : Bool
+  pub location : Option Span
 
 -- what the elements of Transfer-Encoding come to
 abbrev pub coding_of : List (List ℕ) → Coding
@@ -83,6 +86,12 @@ keeps_by x =
     not x.close && (not (x.minor == 0) || x.keep_alive)
     && not (is_coded x.coding && (is_sized x.length || (x.minor == 0)))
 
+-- there is a span exactly where there is a value, and it covers bytes of the text that are the value
+abbrev pub StandsAt : List ℕ → Option Span → Option (List ℕ) → Type 0
+StandsAt text None None = Unit {0}
+StandsAt text (Some s) (Some value) = IsWithin (length text) s × (span_bytes text s ≡ value)
+StandsAt text _ _ = ⊥
+
 -- x is the summary of the head h
 pub record Describes (x : Summary) (h : ResponseHead) : Type 0 where
   pub len : x.len ≡ length (print_response h)
@@ -92,3 +101,4 @@ pub record Describes (x : Summary) (h : ResponseHead) : Type 0 where
   pub length : x.length ≡ length_of (elements (codes "content-length") (lines_of h))
   pub close : x.close ≡ has_word (codes "close") (elements (codes "connection") (lines_of h))
   pub keep_alive : x.keep_alive ≡ has_word (codes "keep-alive") (elements (codes "connection") (lines_of h))
+  pub location : StandsAt (print_response h) x.location (location_of h)

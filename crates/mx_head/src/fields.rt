@@ -1,10 +1,10 @@
 //! What the field lines of a head come to.
 
-ghost use Rattle.std.specs.Prelude.{◌≡◌, ◌≤◌, ◌||◌, ◌&&◌, ◌<◌, ◌-◌, ◌^◌, ◌==◌, min, List, [], ◌∷◌, length, map, fold, All, codes, IsTrue, IfSome, IfNone, option_copied, slice_get};
+ghost use Rattle.std.specs.Prelude.{◌≡◌, ◌≤◌, ◌||◌, ◌&&◌, ◌<◌, ◌-◌, ◌^◌, ◌==◌, min, List, [], ◌∷◌, length, map, fold, All, codes, IsTrue, ℕ, Some, IfSome, IfNone, option_copied, option_map, slice_get};
 ghost use Rattle.std.specs.List.{list_all, list_any};
 ghost use Rattle.std.specs.Str.Parse.{digits_value};
-ghost use Rattle.httparse.specs.Spans.{IsHeaderWithin, header_bytes};
-ghost use Rattle.mx_head.specs.Fields.{elements_of, elements};
+ghost use Rattle.httparse.specs.Spans.{IsHeaderWithin, IsWithin, header_bytes, span_bytes};
+ghost use Rattle.mx_head.specs.Fields.{elements_of, elements, first_value, nonempty};
 ghost use Rattle.mx_head.specs.Framing.{has_word, is_number, is_number_of};
 ghost use Rattle.mx_head.specs.Steps.{seen_after, seen_after_line, coding_seen, stripped};
 ghost use Rattle.mx_head.specs.Summary.{coding_of, length_of};
@@ -12,7 +12,7 @@ ghost use Rattle.mx_head.specs.Summary.{coding_of, length_of};
 use crate::elements::{comma_list, first_element};
 use crate::text::same_word;
 use crate::types::{Coding, Length};
-use httparse::spans::HeaderSpan;
+use httparse::spans::{HeaderSpan, Span};
 
 /// What the elements of Transfer-Encoding that were read come to.
 #[derive(Clone, Copy, Debug, PartialEq, Eq)]
@@ -198,4 +198,31 @@ pub(crate) fn length(buf: &[u8], headers: &[HeaderSpan]) -> Length
         }
         Some(_) => Length::Invalid,
     }
+}
+
+/// The span, unless it is empty.
+fn unless_empty(buf: &[u8], span: Span) -> Option<Span>
+    requires { IsWithin (length buf.now) span }
+    ensures value { option_map (span_bytes buf.now) result ≡ nonempty (Some (span_bytes buf.now span)) }
+    ensures same { IfSome result (λ s. s ≡ span) }
+{
+    if span.of(buf).is_empty() {
+        return None;
+    }
+    Some(span)
+}
+
+/// Where the value of the first Location line stands; `None` where it is empty.
+pub(crate) fn location(buf: &[u8], headers: &[HeaderSpan]) -> Option<Span>
+    requires { All (IsHeaderWithin (length buf.now)) headers.now }
+    ensures value { option_map (span_bytes buf.now) result
+        ≡ nonempty (first_value (codes "location") (map (header_bytes buf.now) headers.now)) }
+    ensures within { (len : ℕ) → All (IsHeaderWithin len) headers.now → IfSome result (IsWithin len) }
+{
+    for header in headers {
+        if same_word(header.name.of(buf), b"location") {
+            return unless_empty(buf, header.value);
+        }
+    }
+    None
 }

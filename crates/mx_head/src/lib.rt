@@ -9,10 +9,12 @@ mod limits;
 mod lines;
 mod reading;
 mod rules;
+mod scan;
 mod text;
 mod types;
 
 pub use crate::limits::{MOST_FIELDS, MOST_HEAD_BYTES};
-pub use crate::reading::read_head;
+pub use crate::reading::{read_head, read_head_on};
 pub use crate::rules::{framing, keeps};
+pub use crate::scan::HeadScan;
 pub use crate::types::{Framing, Head, HeadStep};

@@ -1,18 +1,17 @@
 use Rattle.std.proofs.Common.{ℕ, List, take, subst, sym, ◌∙◌, inl, arith, length-take, rules}
 use Rattle.mx_head.specs.Limits.{most_bytes}
 use Rattle.mx_body.specs.declared.progress.Phase.{Phase}
-use Rattle.mx_body.specs.Decision.{HasStatus}
-use Rattle.mx_body.specs.Progress.{IsPhase, status_read}
+use Rattle.mx_body.specs.Progress.{IsPhase, KnowsHead}
 use Rattle.mx_body.specs.Steps.{IsFinalStepOn}
 use Rattle.mx_body.proofs.FirstBytesLemmas.{first_is, head_from, no_final}
 use Rattle.mx_body.proofs.MeetsLemmas.{headless_no_response}
-use Rattle.mx_body.proofs.ProgressLemmas.{behind_grows, head_grows, read_grows, head_status, no_status}
+use Rattle.mx_body.proofs.ProgressLemmas.{passed_grows, passed_whole, head_grows, read_grows}
 use Rattle.mx_body.proofs.progress.go_on.Goals as goal
 
 pub final_head_from-requires : goal.final_head_from-requires
 final_head_from-requires c =
     let p = subst (λ (x : Phase). IsPhase c.args.method (take c.args.before c.args.wire.now) x c.args.progress.now.reader) c.in-Heads.is c.requires.progress in
-    behind_grows c.args.wire.now c.args.before c.min.result _ _ (omega (arith, c.min.ensures, c.requires.within, c.requires.small)) p
+    passed_grows c.args.wire.now c.args.before c.min.result _ (omega (arith, c.min.ensures, c.requires.within, c.requires.small)) p
 
 pub begin_body-requires : goal.begin_body-requires
 begin_body-requires c =
@@ -58,26 +57,30 @@ returns-in-Chunks-clause-progress c more =
     subst (λ (x : Phase). IsPhase c.args.method c.args.wire.now x r) (sym c.in-Chunks.is)
     (head_grows c.args.wire.now c.args.before _ _ p.0, p.1, c.go_on_chunked.ensures.read more, c.go_on_chunked.ensures.open more, c.go_on_chunked.ensures.at ∙ p.4, c.go_on_chunked.ensures.all more)
 
-pub returns-in-More-clause-status : goal.returns-in-More-clause-status
-returns-in-More-clause-status c =
+pub returns-in-More-clause-head : goal.returns-in-More-clause-head
+returns-in-More-clause-head c =
     let s = subst (λ (t : List ℕ). IsFinalStepOn t c.final_head_from.result) (first_is c.args.wire.now c.min.result c.min.ensures) c.final_head_from.ensures.step in
     let more = subst (IsFinalStepOn _) c.in-More.is s in
-    no_status c.args.wire.now more.0
+    no_final c.args.wire.now more.0
 
-pub returns-in-Fault-clause-status : goal.returns-in-Fault-clause-status
-returns-in-Fault-clause-status c =
+pub returns-in-Fault-clause-head : goal.returns-in-Fault-clause-head
+returns-in-Fault-clause-head c =
     let s = subst (λ (t : List ℕ). IsFinalStepOn t c.final_head_from.result) (first_is c.args.wire.now c.min.result c.min.ensures) c.final_head_from.ensures.step in
     let fault = subst (IsFinalStepOn _) c.in-Fault.is s in
-    subst (λ (x : Phase). HasStatus c.args.wire.now (status_read x)) (sym c.in-Heads.is) (no_status c.args.wire.now fault.0)
+    subst (λ (x : Phase). KnowsHead c.args.wire.now x) (sym c.in-Heads.is) (no_final c.args.wire.now fault.0)
 
-pub returns-in-Body-clause-status : goal.returns-in-Body-clause-status
-returns-in-Body-clause-status c =
+pub returns-in-Body-clause-head : goal.returns-in-Body-clause-head
+returns-in-Body-clause-head c =
     let p = subst (λ (x : Phase). IsPhase c.args.method (take c.args.before c.args.wire.now) x c.args.progress.now.reader) c.in-Body.is c.requires.progress in
-    let status = subst (λ (x : Phase). HasStatus c.args.wire.now (status_read x)) (sym c.in-Body.is) (head_status c.args.wire.now _ _ (head_grows c.args.wire.now c.args.before _ _ p)) in
+    let known = subst (λ (x : Phase). KnowsHead c.args.wire.now x) (sym c.in-Body.is) (head_grows c.args.wire.now c.args.before _ _ p) in
     search rules
 
-pub returns-in-Chunks-clause-status : goal.returns-in-Chunks-clause-status
-returns-in-Chunks-clause-status c =
+pub returns-in-Chunks-clause-head : goal.returns-in-Chunks-clause-head
+returns-in-Chunks-clause-head c =
     let p = subst (λ (x : Phase). IsPhase c.args.method (take c.args.before c.args.wire.now) x c.args.progress.now.reader) c.in-Chunks.is c.requires.progress in
-    let status = subst (λ (x : Phase). HasStatus c.args.wire.now (status_read x)) (sym c.in-Chunks.is) (head_status c.args.wire.now _ _ (head_grows c.args.wire.now c.args.before _ _ p.0)) in
+    let known = subst (λ (x : Phase). KnowsHead c.args.wire.now x) (sym c.in-Chunks.is) (head_grows c.args.wire.now c.args.before _ _ p.0) in
     search rules
+
+pub returns-in-More-clause-progress : goal.returns-in-More-clause-progress
+returns-in-More-clause-progress c more =
+    passed_whole c.args.wire.now c.min.result c.final_head_from.new.passed (omega (arith, c.min.ensures)) c.final_head_from.ensures.passed

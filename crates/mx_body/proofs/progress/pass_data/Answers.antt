@@ -2,9 +2,8 @@ use Rattle.std.proofs.Common.{◌-◌, false, length, take, subst, sym, refl, ar
 use Rattle.std.proofs.lemmas.List.{length-take-le}
 use Rattle.mx_body.specs.declared.chunked.place.Place.TheVariants.{Data}
 use Rattle.mx_body.specs.declared.progress.Phase.{Phase}
-use Rattle.mx_body.specs.Decision.{HasStatus}
-use Rattle.mx_body.specs.Progress.{IsPhase, status_read}
-use Rattle.mx_body.proofs.ProgressLemmas.{head_grows, head_status, chunks_pass, chunks_undecided}
+use Rattle.mx_body.specs.Progress.{IsPhase, KnowsHead}
+use Rattle.mx_body.proofs.ProgressLemmas.{head_grows, chunks_pass, chunks_undecided}
 use Rattle.mx_body.proofs.progress.pass_data.Goals as goal
 
 pub returns-clause-progress : goal.returns-clause-progress
@@ -27,7 +26,7 @@ returns-clause-verdict c passed =
     (omega arith) (omega arith) (omega (arith, p.0.within, first, c.requires.within)) in
     (chunks_undecided c.args.method c.args.wire.now false _ _ _ (omega arith) q.0 q.1 q.2 q.3 q.5, omega arith, refl)
 
-pub returns-clause-status : goal.returns-clause-status
-returns-clause-status c passed =
+pub returns-clause-head : goal.returns-clause-head
+returns-clause-head c passed =
     let p = subst (λ (x : Phase). IsPhase c.args.method (take c.args.before c.args.wire.now) x c.args.progress.now.reader) c.in-Chunks.is c.requires.progress in
-    subst (λ (x : Phase). HasStatus c.args.wire.now (status_read x)) (sym c.in-Chunks.is) (head_status _ _ _ (head_grows c.args.wire.now c.args.before _ _ p.0))
+    subst (λ (x : Phase). KnowsHead c.args.wire.now x) (sym c.in-Chunks.is) (head_grows c.args.wire.now c.args.before _ _ p.0)

@@ -1,8 +1,8 @@
 use Rattle.std.proofs.Common.{◌≡◌, ℕ, ◌++◌, List, Bool, take, subst, sym, ap, ◌∙◌, Ok, arith, rules}
 use Rattle.std.proofs.lemmas.Grind.{common_steps}
 use Rattle.std.proofs.lemmas.List.{take-append-le, take_all}
-use Rattle.mx_body.specs.Decision.{IsVerdict, HasStatus}
-use Rattle.mx_body.specs.Progress.{status_read}
+use Rattle.mx_body.specs.Decision.{IsVerdict}
+use Rattle.mx_body.specs.Progress.{KnowsHead}
 use Rattle.mx_body.specs.declared.progress.Phase.{Phase}
 use Rattle.mx_body.specs.declared.progress.Progress.{Progress}
 use Rattle.mx_body.specs.declared.verdict.Verdict.{Verdict}
@@ -17,7 +17,7 @@ invariant_of-self-in-Ok c =
     let old = subst (λ (v : Verdict). IsVerdict c.self.inside.method c.self.inside.wire.items c.self.inside.ended v) c.in-More.is c.self.invariant.0 in
     let new = rw c.as_slice-2.ensures.value at c.in-Ok.ensures.verdict in (
       subst (λ (b : Bool). IsVerdict c.self.inside.method c.extend_from_slice.new.self.items b c.in-Ok.verdict) (sym old.2) new,
-      rw c.as_slice-2.ensures.value at c.in-Ok.ensures.status,
+      rw c.as_slice-2.ensures.value at c.in-Ok.ensures.head,
       λ e. rw c.as_slice-2.ensures.value at (c.in-Ok.ensures.progress (ap Ok e)),
     )
 
@@ -27,7 +27,7 @@ invariant_of-self-then-pass_data c =
     let new = rw c.as_slice.ensures.value at (c.pass_data.ensures.verdict c.if-pass_data.true) in
     let there = subst (λ (b : Bool). IsVerdict c.self.inside.method c.extend_from_slice.new.self.items b More) (sym old.2) new in (
       subst (λ (v : Verdict). IsVerdict c.self.inside.method c.extend_from_slice.new.self.items c.self.inside.ended v) (sym c.in-More.is) there,
-      rw c.as_slice.ensures.value at (c.pass_data.ensures.status c.if-pass_data.true),
+      rw c.as_slice.ensures.value at (c.pass_data.ensures.head c.if-pass_data.true),
       λ e. rw c.as_slice.ensures.value at (c.pass_data.ensures.progress c.if-pass_data.true),
     )
 
@@ -45,8 +45,8 @@ invariant_of-self-in-Err c =
     ∙ take-append-le c.len-len.result c.self.inside.wire.items c.args.piece.now (omega arith) ∙ take_all c.len-len.result c.self.inside.wire.items (omega arith) in
     let phase = c.in-Err.ensures.refused_phase ∙ ap (λ (p : Progress). p.phase) (c.pass_data.ensures.other c.if-pass_data.false) in (
       subst (λ (t : List ℕ). IsVerdict c.self.inside.method t c.self.inside.ended c.self.inside.verdict) (sym same) c.self.invariant.0,
-      subst (λ (t : List ℕ). HasStatus t (status_read c.go_on.new.progress.phase)) (sym same)
-          (subst (λ (p : Phase). HasStatus c.self.inside.wire.items (status_read p)) (sym phase) c.self.invariant.1),
+      subst (λ (t : List ℕ). KnowsHead t c.go_on.new.progress.phase) (sym same)
+          (subst (λ (p : Phase). KnowsHead c.self.inside.wire.items p) (sym phase) c.self.invariant.1),
       λ e. search rules,
     )
 
