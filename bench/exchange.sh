@@ -11,8 +11,8 @@ top=$(cd "$(dirname "$(readlink -f "$0")")/.." && pwd)
 work=$(mktemp -d)
 trap 'rm -rf "$work"' EXIT
 mkdir -p "$work/crates/exchange_bench/src" "$work/crates/exchange_bench/specs"
-# mx_exchange and all crates below it
-reached='mx_exchange mx_request mx_link mx_types' seen=
+# mx_transfer and all crates below it
+reached='mx_transfer mx_request mx_link mx_types' seen=
 while [ "$reached" != "$seen" ]; do
     seen=$reached
     reached=$(for crate in $seen; do
@@ -25,7 +25,7 @@ for crate in $reached; do
     cp -r "$top/crates/$crate" "$work/crates/"
     grep "^$crate:" "$top/crates.txt" >> "$work/crates.txt"
 done
-echo 'exchange_bench: mx_types mx_request mx_link mx_exchange futures' >> "$work/crates.txt"
+echo 'exchange_bench: mx_types mx_request mx_link mx_transfer futures' >> "$work/crates.txt"
 cp "$top/bench/exchange-program.txt" "$work/crates/exchange_bench/src/main.rt"
 touch "$work/crates/exchange_bench/specs/Lib.antt"
 cp "$top/HANDLES" "$work/"

@@ -2,7 +2,6 @@
 use Rattle.std.proofs.Common.{◌≡◌, ℕ, ◌≤◌, Bool, true, false, List, [], ◌∷◌, ◌++◌, length, refl, sym, ◌∙◌, ap, subst, append_assoc, length-append, Option, Some, None, ◌↔◌, inl, inr, arith}
 use Rattle.std.specs.Prelude.{IfSome}
 use Rattle.std.proofs.lemmas.Grind.{flat_map-append}
-use Rattle.futures.specs.declared.task.waker.Waker.{Waker}
 use Rattle.mx_types.specs.declared.code.Code.{Code}
 use Rattle.mx_types.specs.declared.code.Code.TheVariants as code
 use Rattle.mx_types.specs.declared.method.Method.{Method}
@@ -18,7 +17,7 @@ use Rattle.mx_link.specs.declared.answers.Answer.{Answer}
 use Rattle.mx_link.specs.declared.answers.Answer.TheVariants as said
 use Rattle.mx_exchange.specs.Order.{InOrder}
 use Rattle.mx_exchange.specs.Endings.{EndsBy, by_bytes, by_end, by_fault, by_memory, MustRetry, may_keep, code_of, fault_code, is_link_code}
-use Rattle.mx_exchange.specs.Transfers.{OutcomeValue, TransferState, IsDue, clocked, dropped}
+use Rattle.mx_exchange.specs.Exchanges.{HopValue, ExchangeState, IsDue, clocked, dropped}
 use Rattle.mx_exchange.specs.Turns.{How, waits, asks, ends, ProbeFails, Probed, Answered, GoesOn, EndsWith, StopsWith, Exchanged, unserved, lost, blocked, unfinished, ended, Turns, late, given_up, paused, refused, turned}
 use Rattle.mx_exchange.specs.Lines.{LineState, ServesTo}
 use Rattle.mx_exchange.specs.declared.calls.Halt.{Halt}
@@ -45,7 +44,7 @@ no_verdict kind wire e (verdict.Fault c) h is =
     let x : is_verdict_code code.OperationTimedout ≡ true = ap is_verdict_code (sym same) ∙ listed in cc
 
 module _ {L : Type 0} (history : L → List Answer) where
-  module _ (old new : TransferState L) (line next : LineState L) (d : Decoded) (how : Halt)
+  module _ (old new : ExchangeState L) (line next : LineState L) (d : Decoded) (how : Halt)
       (had : old.link ≡ Some line.link) (answers : old.answers ≡ line.answers) (again : line.is_reused ≡ old.is_reused) (about : line.request ≡ old.request)
       (was : history line.link ≡ history line.attached ++ line.answers) (is : history next.link ≡ history next.attached ++ next.answers) (t : ServesTo line next how d) where
     grown : next.answers ≡ old.answers ++ t.more
@@ -59,7 +58,7 @@ module _ {L : Type 0} (history : L → List Answer) where
         ∙ sym (append_assoc (history line.attached) line.answers t.more)
         ∙ ap (λ (l : List Answer). l ++ t.more) (sym was)
 
-    abbrev answered : (last : TransferState L) → last.link ≡ Some next.link → last.answers ≡ next.answers → Answered history old last
+    abbrev answered : (last : ExchangeState L) → last.link ≡ Some next.link → last.answers ≡ next.answers → Answered history old last
     answered last has same = record {
       more = t.more;
       noted = same ∙ grown;
@@ -82,8 +81,8 @@ module _ {L : Type 0} (history : L → List Answer) where
 
     goes : new ≡ record old { link = Some next.link; answers = next.answers; received = length d.wire } → d.wire ≡ given next.answers → GoesOn old new
     goes e f =
-        let link : new.link ≡ Some next.link = ap (λ (x : TransferState L). x.link) e in
-        let all : new.answers ≡ next.answers = ap (λ (x : TransferState L). x.answers) e in
+        let link : new.link ≡ Some next.link = ap (λ (x : ExchangeState L). x.link) e in
+        let all : new.answers ≡ next.answers = ap (λ (x : ExchangeState L). x.answers) e in
         e
         ∙ ap (λ (n : ℕ). record old { link = Some next.link; answers = next.answers; received = n }) (ap (λ (l : List ℕ). length l) f)
         ∙ ap (λ (x : Option L). record old { link = x; answers = next.answers; received = length (given next.answers) }) (sym link)
@@ -92,33 +91,33 @@ module _ {L : Type 0} (history : L → List Answer) where
     pub Exchange-blocked : how ≡ halt.Blocked → new ≡ record old { link = Some next.link; answers = next.answers; received = length d.wire } → Exchanged history old new waits
     Exchange-blocked e same =
         let so = rw e at t.so in
-        let link : new.link ≡ Some next.link = ap (λ (x : TransferState L). x.link) same in
-        let all : new.answers ≡ next.answers = ap (λ (x : TransferState L). x.answers) same in
+        let link : new.link ≡ Some next.link = ap (λ (x : ExchangeState L). x.link) same in
+        let all : new.answers ≡ next.answers = ap (λ (x : ExchangeState L). x.answers) same in
         blocked (answered new link all) so.1 (goes same so.0.wire)
 
     pub Exchange-unfinished : how ≡ halt.Unfinished → new ≡ record old { link = Some next.link; answers = next.answers; received = length d.wire } → Exchanged history old new asks
     Exchange-unfinished e same =
         let so = rw e at t.so in
-        let link : new.link ≡ Some next.link = ap (λ (x : TransferState L). x.link) same in
-        let all : new.answers ≡ next.answers = ap (λ (x : TransferState L). x.answers) same in
+        let link : new.link ≡ Some next.link = ap (λ (x : ExchangeState L). x.link) same in
+        let all : new.answers ≡ next.answers = ap (λ (x : ExchangeState L). x.answers) same in
         unfinished (answered new link all) so.1 (goes same so.0.wire)
 
     pub Exchange-lost : how ≡ halt.Lost → InOrder next.is_reused next.request.bytes next.answers → new ≡ dropped old → Exchanged history old new waits
     Exchange-lost e order same =
-        let last : TransferState L = record old { link = Some next.link; answers = next.answers } in
+        let last : ExchangeState L = record old { link = Some next.link; answers = next.answers } in
         let so = rw e at t.so in
         let bytes : next.request ≡ old.request = ap (λ (l : LineState L). l.request) t.grows ∙ about in
         lost last (answered last refl refl)
         (subst (λ (b : Bool). InOrder b old.request.bytes next.answers) same_reused (subst (λ (r : RequestValue). InOrder next.is_reused r.bytes next.answers) bytes order))
         (retried so) same
 
-    pub Exchange-ended : (c : Code) (o : OutcomeValue) → how ≡ halt.Over c → o.request ≡ line.request → o.wire ≡ d.wire → o.code ≡ c → HasStatus o.wire o.status → o.parts ≡ parts_of d.verdict
+    pub Exchange-ended : (c : Code) (o : HopValue) → how ≡ halt.Over c → o.request ≡ line.request → o.wire ≡ d.wire → o.code ≡ c → HasStatus o.wire o.status → o.parts ≡ parts_of d.verdict
         → o.answers ≡ next.answers → o.is_reused ≡ next.is_reused → new.is_kept ≡ may_keep d.verdict d.wire
         → new ≡ record old { link = Some next.link; answers = next.answers; code = Some c; is_kept = new.is_kept; received = length d.wire } → Exchanged history old new (ends o)
     Exchange-ended c o e er ew ec st ep ea eu kept same =
         let so = rw e at t.so in
-        let link : new.link ≡ Some next.link = ap (λ (x : TransferState L). x.link) same in
-        let all : new.answers ≡ next.answers = ap (λ (x : TransferState L). x.answers) same in
+        let link : new.link ≡ Some next.link = ap (λ (x : ExchangeState L). x.link) same in
+        let all : new.answers ≡ next.answers = ap (λ (x : ExchangeState L). x.answers) same in
         let cause : EndsBy old.request.method new.answers o.wire d.verdict o.code =
         subst (λ (x : Code). EndsBy old.request.method new.answers o.wire d.verdict x) (sym ec)
         (subst (λ (l : List ℕ). EndsBy old.request.method new.answers l d.verdict c) (sym ew)
@@ -140,37 +139,37 @@ module _ {L : Type 0} (history : L → List Answer) where
         (record { ends = end; verdict = d.verdict; cause = cause; parts = ep; kept = kept ∙ ap (λ (l : List ℕ). may_keep d.verdict l) (sym ew) })
         (rw all (unretried so.final))
 
-  -- the request, the code and the waker are as they were
-  abbrev Stays : TransferState L → TransferState L → Type 0
-  Stays t new = (new.request ≡ t.request) × (new.code ≡ t.code) × (new.waker ≡ t.waker)
+  -- the request and the code are as they were
+  abbrev Stays : ExchangeState L → ExchangeState L → Type 0
+  Stays t new = (new.request ≡ t.request) × (new.code ≡ t.code)
 
-  -- so a probe leaves them, and a turn over the link that doesn't end the transfer
-  probed_stays : (t mid : TransferState L) → Probed history t mid → Stays t mid
-  probed_stays t mid (inl p) = rw p.1 (refl, refl, refl)
-  probed_stays t mid (inr p) = rw p.after (refl, refl, refl)
+  -- so a probe leaves them, and a turn over the link that doesn't end the exchange
+  probed_stays : (t mid : ExchangeState L) → Probed history t mid → Stays t mid
+  probed_stays t mid (inl p) = rw p.1 (refl, refl)
+  probed_stays t mid (inr p) = rw p.after (refl, refl)
 
-  goes_stays : (t new : TransferState L) → GoesOn t new → Stays t new
-  goes_stays t new g = (ap (λ (x : TransferState L). x.request) g, ap (λ (x : TransferState L). x.code) g, ap (λ (x : TransferState L). x.waker) g)
+  goes_stays : (t new : ExchangeState L) → GoesOn t new → Stays t new
+  goes_stays t new g = (ap (λ (x : ExchangeState L). x.request) g, ap (λ (x : ExchangeState L). x.code) g)
 
-  waits_stays : (t new : TransferState L) → Exchanged history t new waits → Stays t new
-  waits_stays t new (unserved none e) = rw e (refl, refl, refl)
-  waits_stays t new (lost last a o r e) = rw e (refl, refl, refl)
+  waits_stays : (t new : ExchangeState L) → Exchanged history t new waits → Stays t new
+  waits_stays t new (unserved none e) = rw e (refl, refl)
+  waits_stays t new (lost last a o r e) = rw e (refl, refl)
   waits_stays t new (blocked a b g) = goes_stays t new g
 
-  asks_stays : (t new : TransferState L) → Exchanged history t new asks → Stays t new
+  asks_stays : (t new : ExchangeState L) → Exchanged history t new asks → Stays t new
   asks_stays t new (unfinished a b g) = goes_stays t new g
 
-  both_stay : (t mid new : TransferState L) → Stays t mid → Stays mid new → Stays t new
-  both_stay t mid new a b = (b.0 ∙ a.0, b.1 ∙ a.1, b.2 ∙ a.2)
+  both_stay : (t mid new : ExchangeState L) → Stays t mid → Stays mid new → Stays t new
+  both_stay t mid new a b = (b.0 ∙ a.0, b.1 ∙ a.1)
 
-  module _ (old t new : TransferState L) (e : t ≡ clocked old) where
+  module _ (old t new : ExchangeState L) (e : t ≡ clocked old) where
     clock : (how : How) → Turns history t new how → Turns history (clocked old) new how
-    clock how h = subst (λ (x : TransferState L). Turns history x new how) e h
+    clock how h = subst (λ (x : ExchangeState L). Turns history x new how) e h
 
-    pub Advance-late : (o : OutcomeValue) → IsDue t.deadline t.moment → o.code ≡ code.OperationTimedout → StopsWith t new o → Turns history (clocked old) new (ends o)
+    pub Advance-late : (o : HopValue) → IsDue t.deadline t.moment → o.code ≡ code.OperationTimedout → StopsWith t new o → Turns history (clocked old) new (ends o)
     Advance-late o due is s = clock (ends o) (late due is s)
 
-    pub Advance-given_up : (o : OutcomeValue) (c : Code) → ¬ (IsDue t.deadline t.moment) → t.failure ≡ Some c → o.code ≡ c → StopsWith t new o → Turns history (clocked old) new (ends o)
+    pub Advance-given_up : (o : HopValue) (c : Code) → ¬ (IsDue t.deadline t.moment) → t.failure ≡ Some c → o.code ≡ c → StopsWith t new o → Turns history (clocked old) new (ends o)
     Advance-given_up o c early failed is s = clock (ends o) (given_up early (failed ∙ ap (λ (x : Code). Some x) (sym is)) s)
 
     pub Advance-paused : ¬ (IsDue t.deadline t.moment) → t.failure ≡ None → t.is_paused ≡ true → new ≡ t → Turns history (clocked old) new asks
@@ -180,42 +179,32 @@ module _ {L : Type 0} (history : L → List Answer) where
       pub Advance-refused : ProbeFails history t new → Turns history (clocked old) new waits
       Advance-refused f = clock waits (refused ((early, failed), runs) f)
 
-      pub Advance-turned : (mid : TransferState L) (how : How) → Probed history t mid → Exchanged history mid new how → Turns history (clocked old) new how
+      pub Advance-turned : (mid : ExchangeState L) (how : How) → Probed history t mid → Exchanged history mid new how → Turns history (clocked old) new how
       Advance-turned mid how p x = clock how (turned ((early, failed), runs) mid p x)
 
-  -- an outcome is of the transfer's request
-  pub Turns-request : (t new : TransferState L) (o : OutcomeValue) → Turns history t new (ends o) → o.request ≡ t.request
+  -- a hop is of the exchange's request
+  pub Turns-request : (t new : ExchangeState L) (o : HopValue) → Turns history t new (ends o) → o.request ≡ t.request
   Turns-request t new o (late due is s) = s.ends.request
   Turns-request t new o (given_up early is s) = s.ends.request
   Turns-request t new o (turned m mid p (ended a e r)) = e.ends.request ∙ (probed_stays t mid p).0
 
-  ending : {t new : TransferState L} {o : OutcomeValue} → EndsWith t new o → (new.code ≡ Some o.code) × (new.received ≡ length o.wire)
-  ending e = (ap (λ (x : TransferState L). x.code) e.after, ap (λ (x : TransferState L). x.received) e.after)
+  ending : {t new : ExchangeState L} {o : HopValue} → EndsWith t new o → (new.code ≡ Some o.code) × (new.received ≡ length o.wire)
+  ending e = (ap (λ (x : ExchangeState L). x.code) e.after, ap (λ (x : ExchangeState L). x.received) e.after)
 
-  -- once it has ended, its code is the outcome's, and the bytes received are the wire
-  pub Turns-ended : (t new : TransferState L) (o : OutcomeValue) → Turns history t new (ends o) → (new.code ≡ Some o.code) × (new.received ≡ length o.wire)
+  -- once it has ended, its code is the hop's, and the bytes received are the wire
+  pub Turns-ended : (t new : ExchangeState L) (o : HopValue) → Turns history t new (ends o) → (new.code ≡ Some o.code) × (new.received ≡ length o.wire)
   Turns-ended t new o (late due is s) = ending s.ends
   Turns-ended t new o (given_up early is s) = ending s.ends
   Turns-ended t new o (turned m mid p (ended a e r)) = ending e.ends
 
-  -- a transfer that waits, or asks to be polled again, is of the same request, and hasn't ended
-  pub Turns-waits : (t new : TransferState L) → Turns history t new waits → Stays t new
-  Turns-waits t new (refused m f) = rw f.after (refl, refl, refl)
+  -- an exchange that waits, or asks for another turn, is of the same request, and hasn't ended
+  pub Turns-waits : (t new : ExchangeState L) → Turns history t new waits → Stays t new
+  Turns-waits t new (refused m f) = rw f.after (refl, refl)
   Turns-waits t new (turned m mid p x) = both_stay t mid new (probed_stays t mid p) (waits_stays mid new x)
 
-  pub Turns-asks : (t new : TransferState L) → Turns history t new asks → Stays t new
-  Turns-asks t new (paused m still e) = rw e (refl, refl, refl)
+  pub Turns-asks : (t new : ExchangeState L) → Turns history t new asks → Stays t new
+  Turns-asks t new (paused m still e) = rw e (refl, refl)
   Turns-asks t new (turned m mid p x) = both_stay t mid new (probed_stays t mid p) (asks_stays mid new x)
-
-  -- once it has left a waker, its turn is that before it
-  pub Waits-left : (old mid new : TransferState L) → Turns history (clocked old) mid waits → new ≡ record mid { waker = new.waker }
-      → Turns history (clocked old) (record new { waker = old.waker }) waits
-  Waits-left old mid new h e =
-      let same : record new { waker = old.waker } ≡ mid = (
-      ap (λ (x : TransferState L). record x { waker = old.waker }) e
-      ∙ ap (λ (w : Option Waker). record mid { waker = w }) (sym (Turns-waits (clocked old) mid h).2)
-      ) in
-      subst (λ (x : TransferState L). Turns history (clocked old) x waits) (sym same) h
 
   -- no response, no fault of a link and no want of memory comes to 28
   untimely : (kind : Method) (past : List Answer) (wire : List ℕ) (v : Verdict) (c : Code) → EndsBy kind past wire v c → c ≡ code.OperationTimedout → ⊥
@@ -225,7 +214,7 @@ module _ {L : Type 0} (history : L → List Answer) where
   untimely kind past wire v c (by_memory earlier last e h w m) t = cc
 
   -- 28 comes just where the deadline is due
-  pub Turns-late : (t new : TransferState L) (o : OutcomeValue) → IfSome t.failure (λ (c : Code). is_link_code c ≡ true) → Turns history t new (ends o) → (o.code ≡ code.OperationTimedout) ↔ IsDue t.deadline t.moment
+  pub Turns-late : (t new : ExchangeState L) (o : HopValue) → IfSome t.failure (λ (c : Code). is_link_code c ≡ true) → Turns history t new (ends o) → (o.code ≡ code.OperationTimedout) ↔ IsDue t.deadline t.moment
   Turns-late t new o f (late due is s) = ((λ e. due), (λ d. is))
   Turns-late t new o f (given_up early is s) = (
     (λ e. let listed : is_link_code o.code ≡ true = rw is at f in
@@ -241,7 +230,7 @@ module _ {L : Type 0} (history : L → List Answer) where
   longer : (past more all : List Answer) → all ≡ past ++ more → length (given past) ≤ length (given all)
   longer past more all e = omega (arith, ap (λ (l : List Answer). length (given l)) e, ap (λ (l : List ℕ). length l) (given-append past more), length-append (given past) (given more))
 
-  -- what came before the last answer has all that came before this poll
+  -- what came before the last answer has all that came before this turn
   before_last : (past more earlier : List Answer) (last : Answer) → (more ≡ [] → ⊥) → past ++ more ≡ earlier ++ last ∷ [] → (rest : List Answer) × (earlier ≡ past ++ rest)
   before_last [] more earlier last some e = (earlier, refl)
   before_last (x ∷ past) more [] last some e =
@@ -263,27 +252,27 @@ module _ {L : Type 0} (history : L → List Answer) where
   wire_holds kind past more answers wire v c n some (by_memory earlier last e h w m) =
       let r = before_last past more earlier last some (sym n ∙ e.0) in rw w (longer past r.0 earlier r.1)
 
-  module _ (t : TransferState L) (counts : t.received ≡ length (given t.answers)) where
-    counted_on : (mid new : TransferState L) (how : How) → mid.received ≡ length (given mid.answers) → Exchanged history mid new how → mid.received ≤ new.received
-    counted_on mid new how c (unserved none e) = omega (arith, ap (λ (x : TransferState L). x.received) e)
+  module _ (t : ExchangeState L) (counts : t.received ≡ length (given t.answers)) where
+    counted_on : (mid new : ExchangeState L) (how : How) → mid.received ≡ length (given mid.answers) → Exchanged history mid new how → mid.received ≤ new.received
+    counted_on mid new how c (unserved none e) = omega (arith, ap (λ (x : ExchangeState L). x.received) e)
     counted_on mid new how c (lost last a o m e) =
         let nothing : length (given last.answers) ≡ 0 = ap (λ (l : List ℕ). length l) m.silent in
         omega (arith, c, longer mid.answers a.more last.answers a.noted, nothing)
-    counted_on mid new how c (blocked a b g) = omega (arith, c, longer mid.answers a.more new.answers a.noted, ap (λ (x : TransferState L). x.received) g)
-    counted_on mid new how c (unfinished a b g) = omega (arith, c, longer mid.answers a.more new.answers a.noted, ap (λ (x : TransferState L). x.received) g)
+    counted_on mid new how c (blocked a b g) = omega (arith, c, longer mid.answers a.more new.answers a.noted, ap (λ (x : ExchangeState L). x.received) g)
+    counted_on mid new how c (unfinished a b g) = omega (arith, c, longer mid.answers a.more new.answers a.noted, ap (λ (x : ExchangeState L). x.received) g)
     counted_on mid new how c (ended {o} a e r) =
         omega (arith, c, wire_holds mid.request.method mid.answers a.more new.answers o.wire e.verdict o.code a.noted a.asked e.cause, (ending e.ends).1)
 
-    stopped_count : {new : TransferState L} {o : OutcomeValue} → StopsWith t new o → t.received ≤ new.received
+    stopped_count : {new : ExchangeState L} {o : HopValue} → StopsWith t new o → t.received ≤ new.received
     stopped_count s = omega (arith, counts, ap (λ (l : List ℕ). length l) s.wire, (ending s.ends).1)
 
-    pub Turns-counted : (new : TransferState L) (how : How) → (t.needs_probe ≡ true → t.answers ≡ []) → Turns history t new how → t.received ≤ new.received
+    pub Turns-counted : (new : ExchangeState L) (how : How) → (t.needs_probe ≡ true → t.answers ≡ []) → Turns history t new how → t.received ≤ new.received
     Turns-counted new how u (late due is s) = stopped_count s
     Turns-counted new how u (given_up early is s) = stopped_count s
-    Turns-counted new how u (paused m still e) = omega (arith, ap (λ (x : TransferState L). x.received) e)
+    Turns-counted new how u (paused m still e) = omega (arith, ap (λ (x : ExchangeState L). x.received) e)
     Turns-counted new how u (refused m f) = omega (arith, counts, ap (λ (l : List Answer). length (given l)) (u f.needed))
-    Turns-counted new how u (turned m mid (inl p) x) = subst (λ (y : TransferState L). y.received ≤ new.received) p.1 (counted_on mid new how (rw p.1 counts) x)
+    Turns-counted new how u (turned m mid (inl p) x) = subst (λ (y : ExchangeState L). y.received ≤ new.received) p.1 (counted_on mid new how (rw p.1 counts) x)
     Turns-counted new how u (turned m mid (inr p) x) =
-        let same : mid.received ≡ t.received = ap (λ (y : TransferState L). y.received) p.after in
-        let heard : mid.answers ≡ t.answers = ap (λ (y : TransferState L). y.answers) p.after in
+        let same : mid.received ≡ t.received = ap (λ (y : ExchangeState L). y.received) p.after in
+        let heard : mid.answers ≡ t.answers = ap (λ (y : ExchangeState L). y.answers) p.after in
         omega (arith, same, counted_on mid new how (same ∙ counts ∙ ap (λ (l : List Answer). length (given l)) (sym heard)) x)

@@ -4,9 +4,8 @@ pub mod Ordered
 pub mod LineSteps
 pub mod Steps
 pub mod Serves
-pub mod OutcomeLemmas
+pub mod HopLemmas
 pub mod Advanced
 pub mod StageLemmas
 pub mod Bodies
-pub mod Wakers
 pub mod Sends

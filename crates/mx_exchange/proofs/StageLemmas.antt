@@ -5,8 +5,8 @@ use Rattle.mx_request.specs.Request.{RequestValue}
 use Rattle.mx_link.specs.declared.answers.Answer.{Answer}
 use Rattle.mx_exchange.specs.Lines.{LineState}
 use Rattle.mx_exchange.specs.Stages.{link_of, line_of, IsServing, IsStage}
-use Rattle.mx_exchange.specs.declared.transfers.stages.Stage.{Stage}
-use Rattle.mx_exchange.specs.declared.transfers.stages.Stage.TheVariants as stage
+use Rattle.mx_exchange.specs.declared.exchanges.stages.Stage.{Stage}
+use Rattle.mx_exchange.specs.declared.exchanges.stages.Stage.TheVariants as stage
 use Rattle.std.specs.Prelude.{IfSome}
 
 module _ {L : Type 0} (history : L → List Answer) (asked : L → List ℕ) (token_of : L → ℕ) (request : RequestValue) (failure : Option Code) where

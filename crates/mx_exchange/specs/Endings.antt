@@ -1,4 +1,4 @@
--- How a transfer ends by what its link answers.
+-- How an exchange ends by what its link answers.
 use Rattle.std.specs.Prelude.{◌≡◌, ◌==◌, ℕ, Bool, true, false, ◌&&◌, ◌⊎◌, List, [], ◌∷◌, ◌++◌, length, Option, Some, None}
 use Rattle.std.specs.List.{list_any}
 use Rattle.mx_types.specs.declared.code.Code.{Code}
@@ -54,7 +54,7 @@ is_heard (said.Gave piece) = true
 is_heard said.ReadEnded = true
 is_heard _ = false
 
--- Why a transfer ended with a code over its link: by the link's last answer. Bytes or their end decided; or the
+-- Why an exchange ended with a code over its link: by the link's last answer. Bytes or their end decided; or the
 -- link failed; or no memory was found for bytes or their end. The verdict is that on the wire, and `More` where
 -- the wire decides nothing.
 pub data EndsBy (kind : Method) (answers : List Answer) (wire : List ℕ) (v : Verdict) : Code → Type 0 where
@@ -94,7 +94,7 @@ pub record MustRetry (kind : Method) (reused : Bool) (answers : List Answer) : T
   pub ends : answers ≡ earlier ++ last ∷ []
   pub lost : is_loss last ≡ true
 
--- Why a transfer ended with a code and no look at what its link could still give: its deadline had come, or the code was given in
+-- Why an exchange ended with a code and no look at what its link could still give: its deadline had come, or the code was given in
 -- place of a link. What the link gave until then decided nothing.
 pub record IsStopped (kind : Method) (answers : List Answer) (wire : List ℕ) (v : Verdict) (c : Code) : Type 0 where
   pub listed : is_stop_code c ≡ true
@@ -102,7 +102,7 @@ pub record IsStopped (kind : Method) (answers : List Answer) (wire : List ℕ) (
   pub wire_is : wire ≡ given answers
   pub more : v ≡ verdict.More
 
--- how a transfer ended: over its link, which is not to be tried again, or without it
+-- how an exchange ended: over its link, which is not to be tried again, or without it
 abbrev pub Ends : Method → Bool → List Answer → List ℕ → Verdict → Code → Type 0
 Ends kind reused answers wire v c =
     (EndsBy kind answers wire v c × ¬ (MustRetry kind reused answers)) ⊎ IsStopped kind answers wire v c

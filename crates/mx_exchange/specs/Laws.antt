@@ -1,14 +1,13 @@
--- What holds of every link that serves a request, of every outcome, and of every transfer's life.
+-- What holds of every link that serves a request, of every hop, and of every exchange's life.
 use Rattle.std.specs.Prelude.{◌≡◌, ℕ, ◌+◌, ◌≤◌, ◌⊎◌, ◌&&◌, Bool, true, false, List, [], ◌++◌, Option, Some, is_some, is_none, if◌then◌else◌}
 use Rattle.std.specs.List.{list_any}
 use Rattle.mx_types.specs.declared.code.Code.TheVariants as code
 use Rattle.mx_link.specs.Answers.{taken, is_read}
 use Rattle.mx_link.specs.declared.answers.Answer.{Answer}
 use Rattle.mx_exchange.specs.Order.{InOrder}
-use Rattle.futures.specs.declared.task.waker.Waker.{Waker}
-use Rattle.mx_exchange.specs.Transfers.{OutcomeValue, TransferState, clocked}
+use Rattle.mx_exchange.specs.Exchanges.{HopValue, ExchangeState, clocked}
 use Rattle.mx_exchange.specs.Turns.{How, Turns}
-use Rattle.mx_exchange.specs.Outcomes.{IsOutcome, HasContent, is_outcome_code}
+use Rattle.mx_exchange.specs.Hops.{IsHop, HasContent, is_hop_code}
 
 -- what was taken is the front of the bytes, and all of them once the link was read
 pub record TakesFront (bytes : List ℕ) (answers : List Answer) : Type 0 where
@@ -21,27 +20,27 @@ TakenIsTheFront = (reused : Bool) (bytes : List ℕ) (answers : List Answer) →
 
 -- with code 0 the parts are the data of the response
 abbrev pub OkHasContent : Type 0
-OkHasContent = (o : OutcomeValue) → IsOutcome o → o.code ≡ code.Ok → HasContent o
+OkHasContent = (o : HopValue) → IsHop o → o.code ≡ code.Ok → HasContent o
 
--- an outcome has one of the listed codes
+-- a hop has one of the listed codes
 abbrev pub CodesAreListed : Type 0
-CodesAreListed = (o : OutcomeValue) → IsOutcome o → is_outcome_code o.code ≡ true
+CodesAreListed = (o : HopValue) → IsHop o → is_hop_code o.code ≡ true
 
 -- whether the link that there was is gone
-abbrev pub drops : {L : Type 0} → TransferState L → TransferState L → ℕ
+abbrev pub drops : {L : Type 0} → ExchangeState L → ExchangeState L → ℕ
 drops t new = if is_some t.link && is_none new.link then 1 else 0
 
--- A transfer's life: the calls on it, one after another, and how many of its polls dropped the link that there was. A call that isn't
--- a poll and attaches nothing leaves the link, or hands it out.
-pub data Life {L : Type 0} (history : L → List Answer) : TransferState L → ℕ → Type 0 where
-  begins : {t : TransferState L} → t.needs_fresh ≡ false → t.is_reused ≡ false → t.needs_probe ≡ false → Life history t 0
-  attaches : {t : TransferState L} {n : ℕ} → Life history t n → (link : L) (reused : Bool) → (t.needs_fresh ≡ true → reused ≡ false)
+-- An exchange's life: the calls on it, one after another, and how many of its turns dropped the link that there was. A call that isn't
+-- a turn and attaches nothing leaves the link, or hands it out.
+pub data Life {L : Type 0} (history : L → List Answer) : ExchangeState L → ℕ → Type 0 where
+  begins : {t : ExchangeState L} → t.needs_fresh ≡ false → t.is_reused ≡ false → t.needs_probe ≡ false → Life history t 0
+  attaches : {t : ExchangeState L} {n : ℕ} → Life history t n → (link : L) (reused : Bool) → (t.needs_fresh ≡ true → reused ≡ false)
       → Life history (record t { link = Some link; attached = Some link; answers = []; is_reused = reused; needs_probe = reused; is_started = true }) n
-  polls : {t : TransferState L} {n : ℕ} → Life history t n → (new : TransferState L) (how : How) (waker : Option Waker) → Turns history (clocked t) new how
-      → Life history (record new { waker = waker }) (n + drops t new)
-  goes_on : {t new : TransferState L} {n : ℕ} → Life history t n → new.needs_fresh ≡ t.needs_fresh
+  polls : {t : ExchangeState L} {n : ℕ} → Life history t n → (new : ExchangeState L) (how : How) → Turns history (clocked t) new how
+      → Life history new (n + drops t new)
+  goes_on : {t new : ExchangeState L} {n : ℕ} → Life history t n → new.needs_fresh ≡ t.needs_fresh
       → ((new.is_reused ≡ t.is_reused) × (new.needs_probe ≡ t.needs_probe)) ⊎ ((new.is_reused ≡ false) × (new.needs_probe ≡ false)) → Life history new n
 
--- so a transfer drops one link at most, and tries its request again once at most
+-- so an exchange drops one link at most, and tries its request again once at most
 abbrev pub DropsOnce : {L : Type 0} → (L → List Answer) → Type 0
-DropsOnce {L} history = (t : TransferState L) (n : ℕ) → Life history t n → n ≤ 1
+DropsOnce {L} history = (t : ExchangeState L) (n : ℕ) → Life history t n → n ≤ 1

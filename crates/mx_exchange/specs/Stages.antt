@@ -1,14 +1,14 @@
--- A transfer that goes on, or has ended.
+-- An exchange that goes on, or has ended.
 use Rattle.std.specs.Prelude.{◌≡◌, ℕ, ◌≤◌, Bool, true, false, List, [], length, Option, Some, None, IfSome, option_map, unwrap_or}
 use Rattle.mx_types.specs.declared.code.Code.{Code}
 use Rattle.mx_request.specs.Request.{RequestValue}
 use Rattle.mx_link.specs.declared.answers.Answer.{Answer}
 use Rattle.mx_exchange.specs.Lines.{LineState, IsLine, IsGoing, MayHandOut}
-use Rattle.mx_exchange.specs.Transfers.{TransferState, most_received}
-use Rattle.mx_exchange.specs.declared.transfers.stages.Live.{Live}
-use Rattle.mx_exchange.specs.declared.transfers.stages.Ended.{Ended}
-use Rattle.mx_exchange.specs.declared.transfers.stages.Stage.{Stage}
-use Rattle.mx_exchange.specs.declared.transfers.stages.Stage.TheVariants as stage
+use Rattle.mx_exchange.specs.Exchanges.{ExchangeState, most_received}
+use Rattle.mx_exchange.specs.declared.exchanges.stages.Live.{Live}
+use Rattle.mx_exchange.specs.declared.exchanges.stages.Ended.{Ended}
+use Rattle.mx_exchange.specs.declared.exchanges.stages.Stage.{Stage}
+use Rattle.mx_exchange.specs.declared.exchanges.stages.Stage.TheVariants as stage
 
 -- what is told of the link that there is, if there is one
 abbrev pub link_of : {L : Type 0} → Option (LineState L) → Option L
@@ -43,8 +43,8 @@ abbrev pub received_of : {L : Type 0} → Stage L → ℕ
 received_of (stage.Live o) = length o.decoder.wire
 received_of (stage.Ended e) = e.received
 
--- the transfer, as it goes on with this
-abbrev pub alive : {L : Type 0} → TransferState L → Live L → TransferState L
+-- the exchange, as it goes on with this
+abbrev pub alive : {L : Type 0} → ExchangeState L → Live L → ExchangeState L
 alive t o = record t {
   link = link_of o.line;
   attached = attached_of o.line;
@@ -56,8 +56,8 @@ alive t o = record t {
   received = length o.decoder.wire;
 }
 
--- the transfer, as it has ended with this
-abbrev pub over : {L : Type 0} → TransferState L → Ended L → TransferState L
+-- the exchange, as it has ended with this
+abbrev pub over : {L : Type 0} → ExchangeState L → Ended L → ExchangeState L
 over t e = record t {
   link = link_of e.line;
   attached = attached_of e.line;
@@ -78,7 +78,7 @@ pub record IsServing {L : Type 0} (history : L → List Answer) (asked : L → L
   pub unreused : fresh ≡ true → l.is_reused ≡ false
   pub wanted : failure ≡ None
 
--- what is known of a transfer that goes on
+-- what is known of an exchange that goes on
 pub record IsAlive {L : Type 0} (history : L → List Answer) (asked : L → List ℕ) (token_of : L → ℕ) (request : RequestValue) (fresh : Bool) (failure : Option Code) (o : Live L) : Type 0 where
   pub about : o.request ≡ request
   pub going : IsGoing request.method (answers_of o.line) o.decoder

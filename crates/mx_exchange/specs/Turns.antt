@@ -1,5 +1,5 @@
--- What one poll of a transfer does.
-use Rattle.std.specs.Prelude.{◌≡◌, ◌≢◌, ◌≤◌, true, false, List, [], ◌∷◌, ◌++◌, length, Some, None, ◌⊎◌, count_by}
+-- What one turn of an exchange does.
+use Rattle.std.specs.Prelude.{◌≡◌, ◌≢◌, ◌≤◌, Bool, true, false, List, [], ◌∷◌, ◌++◌, length, Some, None, ◌⊎◌, count_by}
 use Rattle.mx_types.specs.declared.code.Code.TheVariants as code
 use Rattle.mx_body.specs.Decision.{HasStatus}
 use Rattle.mx_body.specs.Decoder.{parts_of}
@@ -7,24 +7,22 @@ use Rattle.mx_body.specs.declared.verdict.Verdict.{Verdict}
 use Rattle.mx_link.specs.Answers.{is_read, is_write, is_blocked, given}
 use Rattle.mx_link.specs.declared.answers.Answer.{Answer}
 use Rattle.mx_link.specs.declared.answers.Answer.TheVariants as said
-use Rattle.futures.specs.Slot.{IsLeftIn}
-use Rattle.futures.specs.declared.task.context.Context.{Context}
-use Rattle.futures.specs.declared.task.Poll.{Poll}
-use Rattle.futures.specs.declared.task.Poll.TheVariants as poll
+use Rattle.mx_exchange.specs.declared.exchanges.turns.Turned.{Turned}
+use Rattle.mx_exchange.specs.declared.exchanges.turns.Turned.TheVariants as went
 use Rattle.mx_exchange.specs.Order.{InOrder, is_connect}
 use Rattle.mx_exchange.specs.Endings.{EndsBy, MustRetry, may_keep}
-use Rattle.mx_exchange.specs.Transfers.{OutcomeValue, TransferState, IsDue, LinkTold, clocked, dropped}
+use Rattle.mx_exchange.specs.Exchanges.{HopValue, ExchangeState, IsDue, LinkTold, dropped}
 
 -- no deadline has come, and no code was given in place of a link
-abbrev pub IsOnTime : {L : Type 0} → TransferState L → Type 0
+abbrev pub IsOnTime : {L : Type 0} → ExchangeState L → Type 0
 IsOnTime t = ¬ (IsDue t.deadline t.moment) × (t.failure ≡ None)
 
 -- it may touch its link
-abbrev pub MayTouch : {L : Type 0} → TransferState L → Type 0
+abbrev pub MayTouch : {L : Type 0} → ExchangeState L → Type 0
 MayTouch t = IsOnTime t × (t.is_paused ≡ false)
 
--- a reused link was asked for a byte first, and had none: from there on it serves this transfer
-pub record ProbeBlocks {L : Type 0} (history : L → List Answer) (t new : TransferState L) : Type 0 where
+-- a reused link was asked for a byte first, and had none: from there on it serves this exchange
+pub record ProbeBlocks {L : Type 0} (history : L → List Answer) (t new : ExchangeState L) : Type 0 where
   pub link : L
   pub next : L
   pub needed : t.needs_probe ≡ true
@@ -33,7 +31,7 @@ pub record ProbeBlocks {L : Type 0} (history : L → List Answer) (t new : Trans
   pub after : new ≡ record t { link = Some next; attached = Some next; needs_probe = false }
 
 -- it gave a byte, had ended or failed, and is dropped
-pub record ProbeFails {L : Type 0} (history : L → List Answer) (t new : TransferState L) : Type 0 where
+pub record ProbeFails {L : Type 0} (history : L → List Answer) (t new : ExchangeState L) : Type 0 where
   pub link : L
   pub gone : L
   pub answer : Answer
@@ -45,11 +43,11 @@ pub record ProbeFails {L : Type 0} (history : L → List Answer) (t new : Transf
   pub after : new ≡ dropped t
 
 -- no probe was needed, or it found nothing
-abbrev pub Probed : {L : Type 0} → (L → List Answer) → TransferState L → TransferState L → Type 0
+abbrev pub Probed : {L : Type 0} → (L → List Answer) → ExchangeState L → ExchangeState L → Type 0
 Probed history t mid = ((t.needs_probe ≡ false) × (mid ≡ t)) ⊎ ProbeBlocks history t mid
 
--- what the link answered in this poll, and how much it was asked at most
-pub record Answered {L : Type 0} (history : L → List Answer) (t new : TransferState L) : Type 0 where
+-- what the link answered in this turn, and how much it was asked at most
+pub record Answered {L : Type 0} (history : L → List Answer) (t new : ExchangeState L) : Type 0 where
   pub more : List Answer
   pub noted : new.answers ≡ t.answers ++ more
   pub asked : more ≢ []
@@ -60,15 +58,15 @@ pub record Answered {L : Type 0} (history : L → List Answer) (t new : Transfer
   pub writes : count_by is_write more ≤ 64
 
 -- only the link and its answers have changed, and the bytes received are those that it gave
-abbrev pub GoesOn : {L : Type 0} → TransferState L → TransferState L → Type 0
+abbrev pub GoesOn : {L : Type 0} → ExchangeState L → ExchangeState L → Type 0
 GoesOn t new = new ≡ record t { link = new.link; answers = new.answers; received = length (given new.answers) }
 
 -- the last answer would have waited
 abbrev pub EndsBlocked : List Answer → Type 0
 EndsBlocked more = (earlier : List Answer) × (last : Answer) × (more ≡ earlier ++ last ∷ []) × (is_blocked last ≡ true)
 
--- it has ended with the outcome
-pub record EndsWith {L : Type 0} (t new : TransferState L) (o : OutcomeValue) : Type 0 where
+-- it has ended with the hop
+pub record EndsWith {L : Type 0} (t new : ExchangeState L) (o : HopValue) : Type 0 where
   pub request : o.request ≡ t.request
   pub status : HasStatus o.wire o.status
   pub answers : o.answers ≡ new.answers
@@ -76,7 +74,7 @@ pub record EndsWith {L : Type 0} (t new : TransferState L) (o : OutcomeValue) : 
   pub after : new ≡ record t { link = new.link; answers = new.answers; code = Some o.code; is_kept = new.is_kept; received = length o.wire }
 
 -- it has ended untouched, with no body and no link to keep
-pub record StopsWith {L : Type 0} (t new : TransferState L) (o : OutcomeValue) : Type 0 where
+pub record StopsWith {L : Type 0} (t new : ExchangeState L) (o : HopValue) : Type 0 where
   pub ends : EndsWith t new o
   pub link : new.link ≡ t.link
   pub answers : new.answers ≡ t.answers
@@ -85,46 +83,59 @@ pub record StopsWith {L : Type 0} (t new : TransferState L) (o : OutcomeValue) :
   pub parts : o.parts ≡ []
 
 -- it has ended over its link
-pub record EndsOver {L : Type 0} (t new : TransferState L) (o : OutcomeValue) : Type 0 where
+pub record EndsOver {L : Type 0} (t new : ExchangeState L) (o : HopValue) : Type 0 where
   pub ends : EndsWith t new o
   pub verdict : Verdict
   pub cause : EndsBy t.request.method new.answers o.wire verdict o.code
   pub parts : o.parts ≡ parts_of verdict
   pub kept : new.is_kept ≡ may_keep verdict o.wire
 
--- what a poll comes to: it waits, it asks to be polled again, or it ends
+-- what a turn comes to: it waits, it asks for another turn, or it ends
 pub data How : Type 0 where
   waits : How
   asks : How
-  ends : OutcomeValue → How
+  ends : HopValue → How
 
 -- a turn over the link, if there is one, that needs no probe
-pub data Exchanged {L : Type 0} (history : L → List Answer) (t new : TransferState L) : How → Type 0 where
+pub data Exchanged {L : Type 0} (history : L → List Answer) (t new : ExchangeState L) : How → Type 0 where
   unserved : t.link ≡ None → new ≡ t → Exchanged history t new waits
-  lost : (last : TransferState L) → Answered history t last → InOrder t.is_reused t.request.bytes last.answers
+  lost : (last : ExchangeState L) → Answered history t last → InOrder t.is_reused t.request.bytes last.answers
       → MustRetry t.request.method t.is_reused last.answers → new ≡ dropped t → Exchanged history t new waits
   blocked : (a : Answered history t new) → EndsBlocked a.more → GoesOn t new → Exchanged history t new waits
   unfinished : (a : Answered history t new) → (count_by is_read a.more ≡ 64) ⊎ (count_by is_write a.more ≡ 64)
       → GoesOn t new → Exchanged history t new asks
-  ended : {o : OutcomeValue} → Answered history t new → EndsOver t new o
+  ended : {o : HopValue} → Answered history t new → EndsOver t new o
       → ¬ (MustRetry t.request.method t.is_reused new.answers) → Exchanged history t new (ends o)
 
--- A poll of a transfer whose clock runs: first the deadline, then the code given in place of a link, then the pause; then the
+-- A turn of an exchange whose clock runs: first the deadline, then the code given in place of a link, then the pause; then the
 -- probe of a reused link, and then what the link is asked in order, if there is one.
-pub data Turns {L : Type 0} (history : L → List Answer) (t new : TransferState L) : How → Type 0 where
-  late : {o : OutcomeValue} → IsDue t.deadline t.moment → o.code ≡ code.OperationTimedout → StopsWith t new o
+pub data Turns {L : Type 0} (history : L → List Answer) (t new : ExchangeState L) : How → Type 0 where
+  late : {o : HopValue} → IsDue t.deadline t.moment → o.code ≡ code.OperationTimedout → StopsWith t new o
       → Turns history t new (ends o)
-  given_up : {o : OutcomeValue} → ¬ (IsDue t.deadline t.moment) → t.failure ≡ Some o.code → StopsWith t new o
+  given_up : {o : HopValue} → ¬ (IsDue t.deadline t.moment) → t.failure ≡ Some o.code → StopsWith t new o
       → Turns history t new (ends o)
   paused : IsOnTime t → t.is_paused ≡ true → new ≡ t → Turns history t new asks
   refused : MayTouch t → ProbeFails history t new → Turns history t new waits
-  turned : {how : How} → MayTouch t → (mid : TransferState L) → Probed history t mid → Exchanged history mid new how
+  turned : {how : How} → MayTouch t → (mid : ExchangeState L) → Probed history t mid → Exchanged history mid new how
       → Turns history t new how
 
--- What a poll answers. One that waits has left its task's waker in the transfer, unless none could be made, and nothing else of the
--- transfer is new; any other that is pending has asked to be polled again.
-abbrev pub PollSo : {L : Type 0} → (L → List Answer) → TransferState L → TransferState L → Poll OutcomeValue → Context → Context → Type 0
-PollSo history old new (poll.Ready o) was is = Turns history (clocked old) new (ends o)
-PollSo history old new poll.Pending was is =
-    (Turns history (clocked old) (record new { waker = old.waker }) waits × IsLeftIn was is new.waker)
-    ⊎ (Turns history (clocked old) new asks × (is.is_woken ≡ true))
+-- what a turn comes to
+abbrev pub how_of : Turned → How
+how_of went.Waits = waits
+how_of went.Asks = asks
+how_of (went.Ended o) = ends o
+
+-- of the hop, where the turn ended it
+abbrev pub IfEnded : Turned → (HopValue → Type 0) → Type 0
+IfEnded (went.Ended o) P = P o
+IfEnded _ P = Unit {0}
+
+-- where it goes on
+abbrev pub IfGoing : Turned → Type 0 → Type 0
+IfGoing (went.Ended o) P = Unit {0}
+IfGoing _ P = P
+
+-- what the probe leaves: a link that stays, or none
+abbrev pub ProbeSo : {L : Type 0} → Bool → (L → List Answer) → ExchangeState L → ExchangeState L → Type 0
+ProbeSo true history t new = Probed history t new
+ProbeSo false history t new = ProbeFails history t new

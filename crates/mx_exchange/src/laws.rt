@@ -1,4 +1,4 @@
-//! What holds of every link that serves a request, of every outcome, and of every transfer's life. Each law is a function that does
+//! What holds of every link that serves a request, of every hop, and of every exchange's life. Each law is a function that does
 //! nothing: its contract is the law.
 ghost use Rattle.mx_exchange.specs.Laws.{TakenIsTheFront, OkHasContent, CodesAreListed, DropsOnce};
 
@@ -17,12 +17,12 @@ pub fn ok_has_content()
     laws::parts_are_content();
 }
 
-/// An outcome's code is `Ok`, one that the bytes of an exchange come to, one of a link or of memory, or that of a deadline.
+/// A hop's code is `Ok`, one that the bytes of a response come to, one of a link or of memory, or that of a deadline.
 pub fn codes_are_listed()
     ensures { CodesAreListed }
 {}
 
-/// In its life a transfer drops one link at most for a fresh one, and so it tries its request again once at most.
+/// In its life an exchange drops one link at most for a fresh one, and so it tries its request again once at most.
 pub fn link_is_dropped_once<L: Link>()
     ensures { DropsOnce L.history }
 {}

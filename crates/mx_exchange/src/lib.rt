@@ -1,11 +1,12 @@
-//! A transfer: one request over a link, as a future, and its outcome.
+//! An exchange: one request over one link, turn by turn, and the hop that it ends as.
 #![tactic(auto)]
 
 mod calls;
+mod exchanges;
+mod hops;
 pub mod laws;
 mod lines;
-mod outcomes;
-mod transfers;
 
-pub use crate::outcomes::Outcome;
-pub use crate::transfers::{Transfer, Want};
+pub use crate::exchanges::turns::Turned;
+pub use crate::exchanges::{Exchange, Want};
+pub use crate::hops::Hop;

@@ -1,4 +1,4 @@
-//! A link while it serves one transfer.
+//! A link while it serves one exchange.
 ghost use Rattle.std.specs.Prelude.{◌≡◌, ◌↔◌, IsTrue, true, false, ◌<◌, ◌≤◌, ℕ, List, [], ◌∷◌, ◌++◌, length, drop};
 ghost use Rattle.mx_link.specs.Calls.{connect_answer, read_answer, write_answer, IsReadWithin, IsWriteWithin};
 ghost use Rattle.mx_exchange.specs.Order.{is_connected, most_read};

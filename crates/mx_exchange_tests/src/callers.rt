@@ -5,35 +5,38 @@ ghost use Rattle.futures.specs.Poll.{IfReady, OnPending};
 ghost use Rattle.mx_types.specs.declared.code.Code.TheVariants as code;
 ghost use Rattle.mx_exchange.specs.Order.{InOrder};
 ghost use Rattle.mx_exchange.specs.Endings.{IsUndecided};
-ghost use Rattle.mx_exchange.specs.Transfers.{KeepsToken};
-ghost use Rattle.mx_exchange.specs.Outcomes.{IsOutcome, IsWhole, HasContent, IsFront};
+ghost use Rattle.mx_exchange.specs.Exchanges.{KeepsToken};
+ghost use Rattle.mx_exchange.specs.Hops.{IsWhole, HasContent, IsFront};
+ghost use Rattle.mx_chain.specs.Chains.{bytes_in, received_of};
+ghost use Rattle.mx_chain.specs.Outcomes.{IsOutcome, hops_of, is_outcome_code};
 
 use futures::Future;
 use futures::task::{Context, Poll};
-use mx_exchange::{Outcome, Transfer};
 use mx_link::Link;
+use mx_transfer::{Outcome, Transfer};
 use mx_types::Code;
 
 /// Polls once.
 pub fn poll_once<L: Link>(transfer: &mut Transfer<L>, cx: &mut Context<'_>) -> Poll<Outcome>
-    requires { transfer.old.code ≡ None }
-    ensures request { IfReady result (λ outcome. outcome.request ≡ transfer.old.request) }
-    ensures code { IfReady result (λ outcome. transfer.new.code ≡ Some outcome.code) }
-    ensures received { IfReady result (λ outcome. transfer.new.received ≡ length outcome.wire) }
-    ensures again { OnPending result (transfer.new.code ≡ None) }
-    ensures kept { OnPending result (transfer.new.request ≡ transfer.old.request) }
-    ensures undecided { OnPending result (IsUndecided transfer.new.request.method transfer.new.answers) }
-    ensures counted { transfer.old.received ≤ transfer.new.received }
-    ensures token { KeepsToken L.token_of transfer.old.link transfer.new.link }
+    requires { transfer.old.chain.code ≡ None }
+    ensures request { IfReady result (λ outcome. outcome.request ≡ transfer.old.chain.request) }
+    ensures code { IfReady result (λ outcome. transfer.new.chain.code ≡ Some outcome.code) }
+    ensures received { IfReady result (λ outcome. received_of transfer.new.chain ≡ bytes_in (hops_of outcome)) }
+    ensures again { OnPending result (transfer.new.chain.code ≡ None) }
+    ensures kept { OnPending result (transfer.new.chain.request ≡ transfer.old.chain.request) }
+    ensures undecided { OnPending result (IsUndecided transfer.new.chain.now.request.method transfer.new.chain.now.answers) }
+    ensures counted { received_of transfer.old.chain ≤ received_of transfer.new.chain }
+    ensures token { KeepsToken L.token_of transfer.old.chain.now.link transfer.new.chain.now.link }
 {
     transfer.poll(cx)
 }
 
-/// Whether an outcome, wherever it comes from, is a whole response.
+/// Whether the last hop of an outcome, wherever that comes from, is a whole response that no other followed.
 pub fn is_whole(outcome: &Outcome) -> bool
-    ensures whole { result ≡ true → IsWhole outcome.now }
-    ensures content { result ≡ true → HasContent outcome.now }
+    ensures whole { result ≡ true → IsWhole outcome.now.last }
+    ensures content { result ≡ true → HasContent outcome.now.last }
     ensures only { outcome.now.code ≡ code.Ok → result ≡ true }
+    ensures listed { is_outcome_code outcome.now.code ≡ true }
 {
     outcome.code() == Code::Ok
 }
@@ -45,22 +48,22 @@ pub fn parts_of(outcome: &Outcome) -> usize
     outcome.part_count()
 }
 
-/// How many bytes its link gave that count. They are the front of what the link gave, and the link was asked in order.
+/// How many bytes the link of its last hop gave that count. They are the front of what that link gave, and it was asked in order.
 pub fn bytes_of(outcome: &Outcome) -> usize
     ensures count { result ≡ length outcome.now.wire }
-    ensures front { IsFront outcome.now }
-    ensures order { InOrder outcome.now.is_reused outcome.now.request.bytes outcome.now.answers }
+    ensures front { IsFront outcome.now.last }
+    ensures order { InOrder outcome.now.last.is_reused outcome.now.last.request.bytes outcome.now.last.answers }
 {
     let _request = outcome.request();
     outcome.wire().len()
 }
 
-/// Takes the link of a transfer that has ended. What it ended with stays.
+/// Takes the link of a transfer. What it ended with, or goes on with, stays.
 pub fn link_of<L: Link>(transfer: &mut Transfer<L>) -> Option<L>
-    ensures code { transfer.new.code ≡ transfer.old.code }
-    ensures request { transfer.new.request ≡ transfer.old.request }
-    ensures received { transfer.new.received ≡ transfer.old.received }
-    ensures deadline { transfer.new.deadline ≡ transfer.old.deadline }
+    ensures code { transfer.new.chain.code ≡ transfer.old.chain.code }
+    ensures request { transfer.new.chain.request ≡ transfer.old.chain.request }
+    ensures received { received_of transfer.new.chain ≡ received_of transfer.old.chain }
+    ensures deadline { transfer.new.chain.now.deadline ≡ transfer.old.chain.now.deadline }
 {
     transfer.take_link()
 }

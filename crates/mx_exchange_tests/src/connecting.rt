@@ -2,9 +2,9 @@
 
 use futures::task::Poll;
 use futures::test::MockTask;
-use mx_exchange::Transfer;
 use mx_link::{Called, Link, Stream, StreamLink};
 use mx_request::Request;
+use mx_transfer::Transfer;
 use mx_types::{Code, History, Method, Settings};
 use std::alloc::Global;
 use std::io::ErrorKind;

@@ -5,6 +5,8 @@ pub mod callers;
 #[cfg(test)]
 mod connecting;
 #[cfg(test)]
+mod hops;
+#[cfg(test)]
 mod replay;
 #[cfg(test)]
 mod tests;

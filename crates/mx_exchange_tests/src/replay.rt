@@ -5,9 +5,9 @@
 
 use futures::task::Poll;
 use futures::test::MockTask;
-use mx_exchange::{Outcome, Transfer};
 use mx_link::{ScriptLink, ScriptRead, Write};
 use mx_request::Request;
+use mx_transfer::{Outcome, Transfer};
 use mx_types::{Code, Ending as Ends, Method, OutOfMemory, Settings};
 use std::alloc::{AllocGlobal, Global};
 use std::random::RandomSource;
@@ -60,6 +60,7 @@ pub(crate) struct Ended<'a> {
     pub(crate) size: u32,
     /// How many links it gives, asked for twice.
     pub(crate) links: u32,
+    pub(crate) hops: usize,
 }
 
 /// What is seen of a transfer.
@@ -108,6 +109,7 @@ impl Ending {
             body: self.body.as_slice(),
             size: outcome.size(),
             links: self.links,
+            hops: outcome.hops(),
         }
     }
 }
@@ -264,6 +266,16 @@ fn with_task<R: RandomSource + AllocGlobal>(
     make_all(rt.alloc(), &task, transfer, calls)
 }
 
+/// What is seen of a new transfer of the request over these calls, up to its end.
+pub(crate) fn play_request<R: RandomSource + AllocGlobal>(
+    rt: &R,
+    request: Request,
+    calls: &[Call<'_>],
+) -> Result<Played, Fail> {
+    let mut transfer = Transfer::new(rt.alloc(), request);
+    with_task(rt, &mut transfer, calls)
+}
+
 /// What is seen of a new transfer, with that limit of time, over these calls, up to its end.
 pub(crate) fn play<R: RandomSource + AllocGlobal>(
     rt: &R,
@@ -272,6 +284,5 @@ pub(crate) fn play<R: RandomSource + AllocGlobal>(
     calls: &[Call<'_>],
 ) -> Result<Played, Fail> {
     let request = build(rt.alloc(), method, timeout_ms)?;
-    let mut transfer = Transfer::new(rt.alloc(), request);
-    with_task(rt, &mut transfer, calls)
+    play_request(rt, request, calls)
 }

@@ -64,6 +64,7 @@ fn hello(wire: &[u8], links: u32) -> Ended<'_> {
         body: b"hello",
         size: 5,
         links,
+        hops: 1,
     }
 }
 
@@ -78,6 +79,7 @@ fn failed(code: Code, status: u16, wire: &[u8]) -> Ended<'_> {
         body: b"",
         size: 0,
         links: 0,
+        hops: 1,
     }
 }
 

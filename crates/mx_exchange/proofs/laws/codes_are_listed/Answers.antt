@@ -1,4 +1,4 @@
-use Rattle.mx_exchange.proofs.OutcomeLemmas.{outcome_listed}
+use Rattle.mx_exchange.proofs.HopLemmas.{outcome_listed}
 use Rattle.mx_exchange.proofs.laws.codes_are_listed.Goals as goal
 
 pub returns : goal.returns

@@ -1,4 +1,4 @@
-use Rattle.mx_exchange.proofs.OutcomeLemmas.{content_of}
+use Rattle.mx_exchange.proofs.HopLemmas.{content_of}
 use Rattle.mx_exchange.proofs.laws.ok_has_content.Goals as goal
 
 pub returns : goal.returns

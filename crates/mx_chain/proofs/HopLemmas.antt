@@ -1,0 +1,141 @@
+-- Hops that lead one to the next, and how a chain of them ends.
+use Rattle.std.proofs.Common.{◌≡◌, ℕ, ◌+◌, ◌≤◌, ◌<◌, Bool, true, false, List, [], ◌∷◌, ◌++◌, length, Some, None, Ok, Err, inl, inr, ◌⊎◌, refl, sym, ap, ◌∙◌, subst, ◌↔◌, arith, length-append}
+use Rattle.std.specs.Prelude.{is_some, ◌||◌}
+use Rattle.std.proofs.lemmas.Bool.{and_parts}
+use Rattle.std.proofs.lemmas.List.Sums.{sum_by-append}
+use Rattle.std.specs.List.{sum_by}
+use Rattle.mx_types.specs.declared.code.Code.{Code}
+use Rattle.mx_types.specs.declared.code.Code.TheVariants as code
+use Rattle.mx_request.specs.Redirects.{is_redirect_status}
+use Rattle.mx_request.specs.Request.{RequestValue, IsRequest}
+use Rattle.mx_request.specs.RequestError.{refusal_code}
+use Rattle.mx_request.specs.declared.error.RequestError.{RequestError}
+use Rattle.mx_request.specs.declared.error.RequestError.TheVariants as refusal
+use Rattle.mx_exchange.specs.Hops as hop
+use Rattle.mx_exchange.specs.Exchanges.{HopValue}
+use Rattle.mx_chain.specs.Hops.{is_ok, is_redirect, next_of, LeadTo, EndsWith, stays, too_many, refused, memory}
+use Rattle.mx_chain.specs.Chains.{bytes_in, counted}
+use Rattle.mx_chain.specs.Outcomes.{OutcomeValue, IsOutcome, first_of, outcome_of, is_outcome_code, is_unfollowed_code}
+
+-- one hop more
+pub leads_on : (most : ℕ) (first : RequestValue) (hops : List HopValue) (o : HopValue) (next : RequestValue) → LeadTo most first hops o.request
+    → is_redirect most o ≡ true → hop.IsHop o → next_of o ≡ Ok next → LeadTo most first (hops ++ o ∷ []) next
+leads_on most first [] o next l r h n = (sym l, r, h, (next, n, refl))
+leads_on most first (x ∷ hops) o next l r h n = (l.0, l.1, l.2, (l.3.0, l.3.1, leads_on most l.3.0 hops o next l.3.2 r h n))
+
+-- the request that hops lead from is that of the first
+pub first_is : (most : ℕ) (first : RequestValue) (hops : List HopValue) (last : HopValue) → LeadTo most first hops last.request → first_of hops last ≡ first
+first_is most first [] last l = sym l
+first_is most first (x ∷ hops) last l = l.0
+
+-- the request that hops lead from can be sent, as that of each hop can
+request_of : (most : ℕ) (first : RequestValue) (hops : List HopValue) (last : HopValue) → LeadTo most first hops last.request → hop.IsHop last → IsRequest first
+request_of most first [] last l h = subst IsRequest (sym l) h.request
+request_of most first (x ∷ hops) last l h = subst IsRequest l.0 l.2.request
+
+-- an outcome of these hops
+pub made : (first : RequestValue) (hops : List HopValue) (last : HopValue) (c : Code) → LeadTo first.settings.max_redirects first hops last.request
+    → length hops ≤ first.settings.max_redirects → hop.IsHop last → EndsWith first.settings.max_redirects (length hops) last c → IsOutcome (outcome_of hops last c)
+made first hops last c l few h e =
+    let same = sym (first_is first.settings.max_redirects first hops last l) in
+    record {
+      value = refl;
+      request = subst IsRequest same (request_of first.settings.max_redirects first hops last l h);
+      leads = subst (λ (r : RequestValue). LeadTo r.settings.max_redirects r hops last.request) same l;
+      few = subst (λ (r : RequestValue). length hops ≤ r.settings.max_redirects) same few;
+      last = h;
+      ends = subst (λ (r : RequestValue). EndsWith r.settings.max_redirects (length hops) last c) same e;
+    }
+
+-- a hop that sends its request on is a whole response with a location
+ok_is : (c : Code) → is_ok c ≡ true → c ≡ code.Ok
+ok_is code.Ok e = refl
+ok_is code.UnsupportedProtocol e = cc
+ok_is code.UrlMalformat e = cc
+ok_is code.CouldntResolveHost e = cc
+ok_is code.CouldntConnect e = cc
+ok_is code.WeirdServerReply e = cc
+ok_is code.PartialFile e = cc
+ok_is code.OutOfMemory e = cc
+ok_is code.OperationTimedout e = cc
+ok_is code.TooManyRedirects e = cc
+ok_is code.GotNothing e = cc
+ok_is code.SendError e = cc
+ok_is code.RecvError e = cc
+ok_is code.BadContentEncoding e = cc
+ok_is code.FilesizeExceeded e = cc
+ok_is code.TooLarge e = cc
+
+pub redirect_ok : (most : ℕ) (o : HopValue) → is_redirect most o ≡ true → o.code ≡ code.Ok
+redirect_ok most o r = ok_is o.code (and_parts _ _ (and_parts _ _ (and_parts _ _ r).0).0).1
+
+pub redirect_located : (most : ℕ) (o : HopValue) → is_redirect most o ≡ true → is_some o.location ≡ true
+redirect_located most o r = (and_parts _ _ r).1
+
+pub redirect_status : (most : ℕ) (o : HopValue) → is_redirect most o ≡ true → is_redirect_status o.status ≡ true
+redirect_status most o r = (and_parts _ _ (and_parts _ _ r).0).1
+
+-- a next request that was refused, or no memory for it
+pub refused_or : (most followed : ℕ) (o : HopValue) (r : RequestError) (c : Code) → is_redirect most o ≡ true → followed < most
+    → (next_of o ≡ Err r) ⊎ (r ≡ refusal.OutOfMemory) → c ≡ refusal_code r → EndsWith most followed o c
+refused_or most followed o r c sends few (inl no_next) is = subst (λ (x : Code). EndsWith most followed o x) (sym is) (refused r sends few no_next)
+refused_or most followed o r c sends few (inr none) is =
+    subst (λ (x : Code). EndsWith most followed o x) (sym (is ∙ ap refusal_code none)) (memory sends few)
+
+no_refusal_is_ok : (r : RequestError) → refusal_code r ≡ code.Ok → ⊥
+no_refusal_is_ok refusal.Scheme e = cc
+no_refusal_is_ok refusal.Malformed e = cc
+no_refusal_is_ok refusal.UserInfo e = cc
+no_refusal_is_ok refusal.BadField e = cc
+no_refusal_is_ok refusal.BodyTooLarge e = cc
+no_refusal_is_ok refusal.OutOfMemory e = cc
+
+-- a chain that ends with 0 ends with a hop that does
+pub ok_stays : (most followed : ℕ) (o : HopValue) (c : Code) → EndsWith most followed o c → c ≡ code.Ok → o.code ≡ code.Ok
+ok_stays most followed o c (stays r) e = e
+ok_stays most followed o c (too_many r n) e = cc
+ok_stays most followed o c (refused f r n x) e = absurd (no_refusal_is_ok f e)
+ok_stays most followed o c (memory r n) e = cc
+
+no_refusal_is_late : (r : RequestError) → refusal_code r ≡ code.OperationTimedout → ⊥
+no_refusal_is_late refusal.Scheme e = cc
+no_refusal_is_late refusal.Malformed e = cc
+no_refusal_is_late refusal.UserInfo e = cc
+no_refusal_is_late refusal.BadField e = cc
+no_refusal_is_late refusal.BodyTooLarge e = cc
+no_refusal_is_late refusal.OutOfMemory e = cc
+
+-- a chain ends with 28 just where its last hop does
+pub late_as : (most count : ℕ) (o : HopValue) (c : Code) (Due : Type 0) → EndsWith most count o c → (o.code ≡ code.OperationTimedout) ↔ Due → (c ≡ code.OperationTimedout) ↔ Due
+late_as most count o c Due (stays r) d = d
+late_as most count o c Due (too_many r n) d = (λ e. cc, λ due. absurd (timely (redirect_ok most o r) (d.1 due)))
+  where
+    timely : o.code ≡ code.Ok → o.code ≡ code.OperationTimedout → ⊥
+    timely a b = let x : code.Ok ≡ code.OperationTimedout = sym a ∙ b in cc
+late_as most count o c Due (refused f r n e) d = (λ e. absurd (no_refusal_is_late f e), λ due. absurd (timely (redirect_ok most o r) (d.1 due)))
+  where
+    timely : o.code ≡ code.Ok → o.code ≡ code.OperationTimedout → ⊥
+    timely a b = let x : code.Ok ≡ code.OperationTimedout = sym a ∙ b in cc
+late_as most count o c Due (memory r n) d = (λ e. cc, λ due. absurd (timely (redirect_ok most o r) (d.1 due)))
+  where
+    timely : o.code ≡ code.Ok → o.code ≡ code.OperationTimedout → ⊥
+    timely a b = let x : code.Ok ≡ code.OperationTimedout = sym a ∙ b in cc
+
+refusal_listed : (r : RequestError) → is_outcome_code (refusal_code r) ≡ true
+refusal_listed refusal.Scheme = refl
+refusal_listed refusal.Malformed = refl
+refusal_listed refusal.UserInfo = refl
+refusal_listed refusal.BadField = refl
+refusal_listed refusal.BodyTooLarge = refl
+refusal_listed refusal.OutOfMemory = refl
+
+-- the code of a chain is one of these, where its last hop's is one of a hop
+pub ends_listed : (most followed : ℕ) (o : HopValue) (c : Code) → EndsWith most followed o c → hop.is_hop_code o.code ≡ true → is_outcome_code c ≡ true
+ends_listed most followed o c (stays r) h = ap (λ (b : Bool). b || is_unfollowed_code o.code) h
+ends_listed most followed o c (too_many r n) h = refl
+ends_listed most followed o c (refused f r n e) h = refusal_listed f
+ends_listed most followed o c (memory r n) h = refl
+
+-- the bytes of one hop more are counted
+pub bytes_more : (hops : List HopValue) (o : HopValue) → counted (bytes_in hops) (length o.wire) ≡ bytes_in (hops ++ o ∷ [])
+bytes_more hops o = omega (arith, sum_by-append (λ (x : HopValue). length x.wire) hops (o ∷ []))

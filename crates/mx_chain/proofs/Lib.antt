@@ -1,0 +1,4 @@
+pub mod HopLemmas
+pub mod StepLemmas
+pub mod Sends
+pub mod LawLemmas

@@ -1,0 +1,5 @@
+pub mod Hops
+pub mod Outcomes
+pub mod Chains
+pub mod Steps
+pub mod Laws

@@ -1,0 +1,63 @@
+-- What a transfer ends with.
+use Rattle.std.specs.Prelude.{◌≡◌, ℕ, ◌≤◌, ◌||◌, Bool, true, false, List, [], ◌∷◌, ◌++◌, length, if◌then◌else◌}
+use Rattle.mx_types.specs.declared.code.Code.{Code}
+use Rattle.mx_types.specs.declared.code.Code.TheVariants as code
+use Rattle.mx_request.specs.Request.{RequestValue, IsRequest}
+use Rattle.mx_body.specs.declared.part.Part.{Part}
+use Rattle.mx_exchange.specs.Hops as hop
+use Rattle.mx_exchange.specs.Exchanges.{HopValue}
+use Rattle.mx_chain.specs.Hops.{is_ok, LeadTo, EndsWith}
+
+-- The first hop's request, the hops that were followed, and the last one. The bytes, the status and the parts are those of the last hop,
+-- and there are parts with code 0 alone.
+pub record OutcomeValue : Type 0 where
+  pub request : RequestValue
+  pub earlier : List HopValue
+  pub last : HopValue
+  pub wire : List ℕ
+  pub code : Code
+  pub status : ℕ
+  pub parts : List Part
+
+-- all its hops, in their order
+abbrev pub hops_of : OutcomeValue → List HopValue
+hops_of o = o.earlier ++ o.last ∷ []
+
+-- the request of the first hop
+abbrev pub first_of : List HopValue → HopValue → RequestValue
+first_of [] last = last.request
+first_of (o ∷ hops) last = o.request
+
+-- the outcome that these hops make, with this code
+abbrev pub outcome_of : List HopValue → HopValue → Code → OutcomeValue
+outcome_of earlier last code = record {
+  request = first_of earlier last;
+  earlier = earlier;
+  last = last;
+  wire = last.wire;
+  code = code;
+  status = last.status;
+  parts = if is_ok code then last.parts else [];
+}
+
+-- the codes that say why a redirect was not followed: as many were followed as may be, the next request is refused, or a growth was
+abbrev pub is_unfollowed_code : Code → Bool
+is_unfollowed_code code.TooManyRedirects = true
+is_unfollowed_code code.UrlMalformat = true
+is_unfollowed_code code.UnsupportedProtocol = true
+is_unfollowed_code code.OutOfMemory = true
+is_unfollowed_code _ = false
+
+-- the codes that a transfer ends with: these, and those of a hop
+abbrev pub is_outcome_code : Code → Bool
+is_outcome_code c = hop.is_hop_code c || is_unfollowed_code c
+
+-- The hops are a chain: each later request is the next request of the hop before, and at most as many were followed as the first request
+-- allows. The code is the last hop's, or says why no other followed it.
+pub record IsOutcome (o : OutcomeValue) : Type 0 where
+  pub value : o ≡ outcome_of o.earlier o.last o.code
+  pub request : IsRequest o.request
+  pub leads : LeadTo o.request.settings.max_redirects o.request o.earlier o.last.request
+  pub few : length o.earlier ≤ o.request.settings.max_redirects
+  pub last : hop.IsHop o.last
+  pub ends : EndsWith o.request.settings.max_redirects (length o.earlier) o.last o.code

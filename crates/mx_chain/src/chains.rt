@@ -1,0 +1,429 @@
+//! A transfer with its hops.
+ghost use Rattle.std.specs.Prelude.{◌≡◌, ◌≢◌, ◌≤◌, ◌<◌, ◌↔◌, ◌⊎◌, ◌∷◌, ◌++◌, ℕ, true, false, [], None, Some, Ok, Err, IsSome, IfSome, IsTrue, MatchResult, is_some, option_map, option_copied, length};
+ghost use Rattle.mx_request.specs.declared.error.RequestError.TheVariants as refusal;
+ghost use Rattle.mx_exchange.specs.Exchanges.{ExchangeState, WantsLink, IsDue, IsExchange, KeepsToken, attached, clocked};
+ghost use Rattle.mx_exchange.specs.Endings.{is_link_code, IsUndecided};
+ghost use Rattle.mx_chain.specs.Hops.{is_redirect, next_of, LeadTo, EndsWith};
+ghost use Rattle.mx_chain.specs.Chains.{ChainState, IsChain, begun, bytes_in, received_of, home_by, home_of, released, left_of};
+ghost use Rattle.mx_chain.specs.declared.chains.Stepped.TheVariants as stepped;
+
+use crate::outcomes::{Outcome, is_ok};
+use mx_exchange::{Exchange, Hop, Turned, Want};
+use mx_link::Link;
+use mx_request::{Endpoint, Request, RequestError, is_redirect as sends_on};
+use mx_types::Code;
+use std::alloc::Global;
+use std::marker::Model;
+use std::mem;
+use std::snapshot::Snapshot;
+
+/// What a turn comes to.
+#[derive(Drop)]
+pub enum Stepped {
+    /// It waits: for a link, for the one that it has, or for its deadline.
+    Waits,
+    /// It asks for another turn at once.
+    Asks,
+    /// It has ended.
+    Ended(Outcome),
+}
+
+/// A request, and the hops that it comes to: one exchange after another, as redirects lead on.
+#[derive(Drop)]
+pub struct Chain<L: Link> {
+    alloc: Global,
+    about: Snapshot<Request>,
+    most: u8,
+    hops: Vec<Hop>,
+    exchange: Exchange<L>,
+    code: Option<Code>,
+    // The bytes of the hops that were followed.
+    earlier: u32,
+    // The link of a hop that has ended, until it is taken or another is attached.
+    idle: Option<L>,
+    // A link was attached in this hop.
+    is_linked: bool,
+    // Where the link goes that was attached last, once the transfer has ended.
+    home: Option<Endpoint>,
+}
+
+// A copy of an endpoint, where there is one and memory is found.
+fn copy_of(alloc: Global, endpoint: Option<&Endpoint>) -> Option<Endpoint>
+    ensures { IfSome result (λ copy. option_copied endpoint.entry ≡ Some copy) }
+{
+    match endpoint {
+        Some(endpoint) => endpoint.copy(alloc).ok(),
+        None => None,
+    }
+}
+
+// The request that follows a hop.
+fn next_request(alloc: Global, hop: &Hop) -> Result<Request, RequestError>
+    requires { (most : ℕ) × (is_redirect most hop.now ≡ true) }
+    ensures { MatchResult result (λ next. next_of hop.now ≡ Ok next) (λ e. (next_of hop.now ≡ Err e) ⊎ (e ≡ refusal.OutOfMemory)) }
+{
+    match hop.location() {
+        Some(location) => hop.request().follow(alloc, hop.status(), location),
+        None => unreachable!(),
+    }
+}
+
+impl<L: Link> Model for Chain<L> {
+    ghost use Rattle.std.specs.Prelude.{◌≡◌};
+    ghost use Rattle.mx_chain.specs.Chains.{ChainState, IsChain};
+
+    ghost Value = { ChainState L };
+
+    ghost view = { λ c. record {
+      request = c.about.value;
+      hops = c.hops.items;
+      now = c.exchange;
+      linked = c.is_linked;
+      earlier = c.earlier;
+      code = c.code;
+      link = c.idle;
+      home = c.home;
+    } };
+
+    ghost invariant = { λ c. record {
+      most : c.most ≡ c.about.value.settings.max_redirects;
+      chain : IsChain (record {
+        request = c.about.value;
+        hops = c.hops.items;
+        now = c.exchange;
+        linked = c.is_linked;
+        earlier = c.earlier;
+        code = c.code;
+        link = c.idle;
+        home = c.home;
+      });
+    } };
+}
+
+impl<L: Link> Chain<L> {
+    ghost use Rattle.mx_chain.specs.Steps.{how_of, IfEnded, IfGoing, Steps, GoesOn, KeepsHome};
+    ghost use Rattle.mx_chain.specs.Outcomes.{IsOutcome, outcome_of, first_of, hops_of};
+    ghost use Rattle.mx_types.specs.declared.code.Code.TheVariants as code;
+
+    /// A transfer of the request. It takes no memory; what its turns grow comes from `alloc`.
+    pub fn new(alloc: Global, request: Request) -> Chain<L>
+        ensures { result ≡ begun request }
+    {
+        let about = Snapshot::of(&request);
+        let most = request.max_redirects();
+        Chain {
+            alloc,
+            about,
+            most,
+            hops: Vec::new(alloc),
+            exchange: Exchange::new(alloc, request),
+            code: None,
+            earlier: 0,
+            idle: None,
+            is_linked: false,
+            home: None,
+        }
+    }
+
+    /// The request that was handed in, by move, of a transfer that has not ended. Its links are dropped.
+    pub fn into_request(self) -> Request
+        requires { self.code ≡ None }
+        ensures { result ≡ self.request }
+    {
+        let Chain {
+            alloc: _,
+            about: _,
+            most: _,
+            mut hops,
+            exchange,
+            code: _,
+            earlier: _,
+            idle: _,
+            is_linked: _,
+            home: _,
+        } = self;
+        if hops.is_empty() {
+            return exchange.into_request();
+        }
+        hops.swap_remove(0).into_request()
+    }
+
+    /// The link that it wants, where it wants one: where the hop that is under way goes, and of any kind when that begins.
+    pub fn wants(&self) -> Option<Want<'_>>
+        ensures wants { IsSome result ↔ WantsLink self.now.now }
+        ensures which { IfSome result (λ want. (want.fresh ≡ self.now.now.needs_fresh) × (want.endpoint.now ≡ self.now.now.request.endpoint)) }
+    {
+        self.exchange.wants()
+    }
+
+    /// Hands over a link that serves nothing else, for the hop that is under way. One that was left of a hop before and not taken is
+    /// dropped.
+    pub fn attach(&mut self, link: L, is_reused: bool)
+        requires wanted { WantsLink self.old.now }
+        requires fresh { self.old.now.needs_fresh ≡ true → is_reused ≡ false }
+        ensures { self.new ≡ record self.old { now = attached self.old.now link is_reused; linked = true; link = None } }
+    {
+        self.idle = None;
+        self.is_linked = true;
+        self.exchange.attach(link, is_reused);
+    }
+
+    /// Gives the code that it ends with at its next turn, as no link can be had.
+    pub fn fail_link(&mut self, code: Code)
+        requires wanted { WantsLink self.old.now }
+        requires code { is_link_code code ≡ true }
+        ensures { self.new ≡ record self.old { now = record self.old.now { failure = Some code } } }
+    {
+        self.exchange.fail_link(code);
+    }
+
+    /// Sets the inputs of the turns until the next call: the moment in milliseconds, and whether it is paused.
+    pub fn prepare(&mut self, now: u64, is_paused: bool)
+        ensures { self.new ≡ record self.old { now = record self.old.now { moment = now; is_paused = is_paused } } }
+    {
+        self.exchange.prepare(now, is_paused);
+    }
+
+    /// Whether a link was attached once.
+    pub fn started(&self) -> bool
+        ensures { result ≡ self.now.now.is_started }
+    {
+        self.exchange.started()
+    }
+
+    /// The moment at which it ends unless it has ended before, all its hops together.
+    pub fn deadline(&self) -> Option<u64>
+        ensures { result ≡ self.now.now.deadline }
+    {
+        self.exchange.deadline()
+    }
+
+    /// How many bytes its links have given, in all hops; at most 4,294,967,295 are told.
+    pub fn received(&self) -> u32
+        ensures { result ≡ received_of self.now }
+    {
+        self.earlier.saturating_add(self.exchange.received())
+    }
+
+    /// The number under which the readiness of the link is told that serves it.
+    pub fn token(&self) -> Option<u64>
+        ensures { result ≡ option_map L.token_of self.now.now.link }
+    {
+        self.exchange.token()
+    }
+
+    /// What holds of every transfer. It does nothing: a call gives its caller's proof the law.
+    pub fn know(&self)
+        ensures chain { IsChain self.now }
+        ensures hop { IsExchange L.history L.asked L.token_of self.now.now }
+    {
+        self.exchange.know();
+    }
+
+    /// Whether it has ended.
+    pub fn spent(&self) -> bool
+        ensures { result ≡ is_some self.now.code }
+    {
+        self.code.is_some()
+    }
+
+    /// The code that it ended with.
+    pub fn code(&self) -> Option<Code>
+        ensures { result ≡ self.now.code }
+    {
+        self.code
+    }
+
+    /// A link that served a hop which has ended, and may serve again; `None` where it was taken before, or another was attached. It goes
+    /// to `link_endpoint`.
+    pub fn take_link(&mut self) -> Option<L>
+        ensures link { result ≡ self.old.link }
+        ensures rest { self.new ≡ record self.old { link = None } }
+    {
+        self.idle.take()
+    }
+
+    /// Where the link goes that was attached last. After the end it is told where that link may serve again.
+    pub fn link_endpoint(&self) -> Option<&Endpoint>
+        ensures { option_copied result ≡ home_of self.now }
+    {
+        if self.code.is_some() {
+            return self.home.as_ref();
+        }
+        if self.is_linked {
+            return match self.exchange.request() {
+                Some(request) => Some(request.endpoint()),
+                None => None,
+            };
+        }
+        match self.hops.last() {
+            Some(hop) => Some(hop.request().endpoint()),
+            None => None,
+        }
+    }
+
+    // Sets the link aside that the hop leaves, where that may serve again.
+    fn release(&mut self)
+        requires { IsSome self.old.code }
+        ensures { self.new ≡ record self.old { now = released self.old.now; link = left_of self.old.link self.old.now } }
+    {
+        if let Some(link) = self.exchange.take_link() {
+            self.idle = Some(link);
+        }
+    }
+
+    // Where the link goes that is left.
+    fn home_of<'a>(&'a self, hop: &'a Hop) -> Option<&'a Endpoint>
+        ensures { option_copied result ≡ home_by None self.now.linked hop.now.request self.now.hops None }
+    {
+        if self.is_linked {
+            return Some(hop.request().endpoint());
+        }
+        match self.hops.last() {
+            Some(before) => Some(before.request().endpoint()),
+            None => None,
+        }
+    }
+
+    // Copies the endpoint of the link that is left. Where no memory is found for it, the link is dropped.
+    fn settle_home(&mut self, hop: &Hop)
+        requires { IsSome self.old.code }
+        ensures same { self.new ≡ record self.old { link = self.new.link; home = self.new.home } }
+        ensures home { ((self.new.link ≡ self.old.link) × (self.new.link ≢ None → IsSome self.new.home × (self.new.home ≡ home_by None self.old.linked hop.now.request self.old.hops None)))
+            ⊎ ((self.new.link ≡ None) × (self.new.home ≡ None)) }
+    {
+        self.home = None;
+        if self.idle.is_none() {
+            return;
+        }
+        let copy = copy_of(self.alloc, self.home_of(hop));
+        if copy.is_none() {
+            self.idle = None;
+        }
+        self.home = copy;
+    }
+
+    // Ends with this hop.
+    fn end(&mut self, hop: Hop, code: Code) -> Stepped
+        requires ended { IsSome self.old.code }
+        requires leads { LeadTo self.old.request.settings.max_redirects self.old.request self.old.hops hop.request }
+        requires cause { EndsWith self.old.request.settings.max_redirects (length self.old.hops) hop code }
+        ensures outcome { result ≡ stepped.Ended (outcome_of self.old.hops hop code) }
+        ensures known { IsOutcome (outcome_of self.old.hops hop code) }
+        ensures hop { IsExchange L.history L.asked L.token_of self.new.now }
+        ensures request { first_of self.old.hops hop ≡ self.old.request }
+        ensures new { self.new ≡ record self.old { hops = []; code = Some code; link = self.new.link; home = self.new.home } }
+        ensures home { ((self.new.link ≡ self.old.link) × (self.new.link ≢ None → IsSome self.new.home × (self.new.home ≡ home_by None self.old.linked hop.request self.old.hops None)))
+            ⊎ ((self.new.link ≡ None) × (self.new.home ≡ None)) }
+    {
+        hop.know();
+        self.exchange.know();
+        self.settle_home(&hop);
+        self.code = Some(code);
+        let hops = mem::replace(&mut self.hops, Vec::new(self.alloc));
+        Stepped::Ended(Outcome::new(hops, hop, code))
+    }
+
+    // Begins the hop of the next request.
+    fn follow(&mut self, hop: Hop, next: Request) -> Stepped
+        requires ended { IsSome self.old.code }
+        requires unkept { self.old.now.is_kept ≡ false }
+        requires leads { LeadTo self.old.request.settings.max_redirects self.old.request self.old.hops hop.request }
+        requires redirect { is_redirect self.old.request.settings.max_redirects hop ≡ true }
+        requires few { length self.old.hops < self.old.request.settings.max_redirects }
+        requires next { next_of hop ≡ Ok next }
+        requires bytes { self.old.earlier ≡ bytes_in self.old.hops }
+        requires wire { self.old.now.received ≡ length hop.wire }
+        ensures goes { GoesOn self.old self.old.now hop self.new (how_of result) }
+        ensures outcome { IfEnded result IsOutcome }
+        ensures value { IfEnded result (λ o. o.request ≡ self.old.request) }
+        ensures known { IsChain self.new }
+        ensures hop { IsExchange L.history L.asked L.token_of self.new.now }
+    {
+        hop.know();
+        let count = self.earlier.saturating_add(self.exchange.received());
+        match self.hops.push(hop) {
+            Err(refused) => self.end(refused.value, Code::OutOfMemory),
+            Ok(()) => {
+                self.earlier = count;
+                self.exchange.renew(next);
+                self.exchange.know();
+                self.is_linked = false;
+                self.code = None;
+                Stepped::Asks
+            }
+        }
+    }
+
+    // Whether the hop sends its request on.
+    fn redirects(&self, hop: &Hop) -> bool
+        ensures { result ≡ is_redirect self.now.request.settings.max_redirects hop.now }
+    {
+        self.most != 0 && is_ok(hop.code()) && sends_on(hop.status()) && hop.location().is_some()
+    }
+
+    // Whether as many hops were followed as may be.
+    fn is_at_limit(&self) -> bool
+        ensures full { IsTrue result → length self.now.hops ≡ self.now.request.settings.max_redirects }
+        ensures room { result ≡ false → length self.now.hops < self.now.request.settings.max_redirects }
+    {
+        self.hops.len() >= usize::from(self.most)
+    }
+
+    // Goes on from a hop that has ended.
+    fn go_on(&mut self, hop: Hop) -> Stepped
+        requires ended { IsSome self.old.code }
+        requires leads { LeadTo self.old.request.settings.max_redirects self.old.request self.old.hops hop.request }
+        requires bytes { self.old.earlier ≡ bytes_in self.old.hops }
+        requires wire { self.old.now.received ≡ length hop.wire }
+        ensures goes { GoesOn self.old self.old.now hop self.new (how_of result) }
+        ensures outcome { IfEnded result IsOutcome }
+        ensures value { IfEnded result (λ o. o.request ≡ self.old.request) }
+        ensures known { IsChain self.new }
+        ensures hop { IsExchange L.history L.asked L.token_of self.new.now }
+    {
+        self.release();
+        if !self.redirects(&hop) {
+            let code = hop.code();
+            return self.end(hop, code);
+        }
+        if self.is_at_limit() {
+            return self.end(hop, Code::TooManyRedirects);
+        }
+        match next_request(self.alloc, &hop) {
+            Ok(next) => self.follow(hop, next),
+            Err(refused) => self.end(hop, refused.code()),
+        }
+    }
+
+    /// Takes one turn: at most one probe, 64 reads and 64 writes, all of one hop.
+    pub fn turn(&mut self) -> Stepped
+        requires { self.old.code ≡ None }
+        ensures turn { Steps L.history self.old self.new (how_of result) }
+        ensures value { IfEnded result (λ o. o.request ≡ self.old.request) }
+        ensures again { IfGoing result (self.new.code ≡ None) }
+        ensures same { IfGoing result (self.new.request ≡ self.old.request) }
+        // 28 comes where the deadline is due, and only there
+        ensures late { IfEnded result (λ o. (o.code ≡ code.OperationTimedout) ↔ IsDue (clocked self.old.now).deadline self.old.now.moment) }
+        ensures ended { IfEnded result (λ o. self.new.code ≡ Some o.code) }
+        // a link that is left has a place where it goes
+        ensures home { IfEnded result (λ o. self.new.link ≢ None → IsSome self.new.home) }
+        ensures received { IfEnded result (λ o. received_of self.new ≡ bytes_in (hops_of o)) }
+        // the count of bytes never falls
+        ensures counted { received_of self.old ≤ received_of self.new }
+        ensures outcome { IfEnded result IsOutcome }
+        ensures token { KeepsToken L.token_of self.old.now.link self.new.now.link }
+        ensures known { IsChain self.new }
+        ensures hop { IsExchange L.history L.asked L.token_of self.new.now }
+        ensures undecided { IfGoing result (IsUndecided self.new.now.request.method self.new.now.answers) }
+    {
+        match self.exchange.turn() {
+            Turned::Waits => Stepped::Waits,
+            Turned::Asks => Stepped::Asks,
+            Turned::Ended(hop) => {
+                self.code = Some(hop.code());
+                self.go_on(hop)
+            }
+        }
+    }
+}

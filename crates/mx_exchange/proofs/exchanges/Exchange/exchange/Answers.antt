@@ -1,0 +1,58 @@
+use Rattle.std.proofs.Common.{◌≡◌, Some, refl, sym, ap, ◌∙◌}
+use Rattle.mx_exchange.specs.Lines.{LineState}
+use Rattle.mx_exchange.specs.Turns.{unserved}
+use Rattle.mx_exchange.proofs.Advanced.{Exchange-blocked, Exchange-unfinished, Exchange-lost, Exchange-ended}
+use Rattle.mx_exchange.proofs.HopLemmas.{received_bounded, kept_ends}
+use Rattle.mx_exchange.proofs.exchanges.Exchange.exchange.Goals as goal
+
+pub returns-in_default-clause-turn : goal.returns-in_default-clause-turn
+returns-in_default-clause-turn g c = rw (c.go_on.ensures, c.in_default.is) (unserved refl refl)
+
+pub returns-in-Blocked-clause-turn : goal.returns-in-Blocked-clause-turn
+returns-in-Blocked-clause-turn g c =
+    let had : c.args.live.line ≡ Some c.in-Some.line = c.in-Some.is in
+    let serves = rw had at c.requires.live.serves in
+    let t = c.in-Blocked.ensures.turn in
+    rw (c.go_on-in-Blocked.ensures, had, ap (λ (l : LineState _). l.attached) t.grows, ap (λ (l : LineState _). l.is_reused) t.grows, ap (λ (l : LineState _). l.needs_probe) t.grows)
+    (Exchange-blocked _ _ _ _ _ _ _ refl refl refl serves.about serves.line.told c.in-Blocked.ensures.line.told t refl refl)
+
+pub returns-in-Unfinished-clause-turn : goal.returns-in-Unfinished-clause-turn
+returns-in-Unfinished-clause-turn g c =
+    let had : c.args.live.line ≡ Some c.in-Some.line = c.in-Some.is in
+    let serves = rw had at c.requires.live.serves in
+    let t = c.in-Unfinished.ensures.turn in
+    rw (c.go_on-in-Unfinished.ensures, had, ap (λ (l : LineState _). l.attached) t.grows, ap (λ (l : LineState _). l.is_reused) t.grows, ap (λ (l : LineState _). l.needs_probe) t.grows)
+    (Exchange-unfinished _ _ _ _ _ _ _ refl refl refl serves.about serves.line.told c.in-Unfinished.ensures.line.told t refl refl)
+
+pub returns-in-Lost-clause-turn : goal.returns-in-Lost-clause-turn
+returns-in-Lost-clause-turn g c =
+    let had : c.args.live.line ≡ Some c.in-Some.line = c.in-Some.is in
+    let serves = rw had at c.requires.live.serves in
+    let t = c.in-Lost.ensures.turn in
+    let fresh = ap (λ (l : LineState _). l.is_stale) t.grows ∙ serves.current in
+    rw (c.begin_again.ensures, had)
+    (Exchange-lost _ _ _ _ _ _ _ refl refl refl serves.about serves.line.told c.in-Lost.ensures.line.told t refl (c.in-Lost.ensures.line.serving fresh).order refl)
+
+pub returns-in-Over-clause-turn : goal.returns-in-Over-clause-turn
+returns-in-Over-clause-turn g c =
+    let had : c.args.live.line ≡ Some c.in-Some.line = c.in-Some.is in
+    let serves = rw had at c.requires.live.serves in
+    let about = c.requires.live.about in
+    let t = c.in-Over.ensures.turn in
+    rw (c.settle.ensures, had, ap (λ (l : LineState _). l.attached) t.grows, ap (λ (l : LineState _). l.is_reused) t.grows, ap (λ (l : LineState _). l.needs_probe) t.grows, c.received-count.ensures)
+    (Exchange-ended _ _ _ _ _ _ _ refl refl refl serves.about serves.line.told c.in-Over.ensures.line.told t c.in-Over.code _ refl (c.end.ensures.request ∙ about ∙ sym serves.about) c.end.ensures.wire c.end.ensures.code c.end.ensures.status c.end.ensures.parts (c.end.ensures.answers ∙ c.answers-answers.ensures) (c.end.ensures.reused ∙ c.of-is_reused.ensures ∙ c.is_reused.ensures) c.may_keep-is_kept.ensures refl)
+
+pub settle-requires : goal.settle-requires
+settle-requires g c =
+    let had : c.args.live.line ≡ Some c.in-Some.line = c.in-Some.is in
+    let serves = rw had at c.requires.live.serves in
+    let t = c.in-Over.ensures.turn in
+    let request = ap (λ (l : LineState _). l.request) t.grows in
+    let reused = ap (λ (l : LineState _). l.is_reused) t.grows in
+    let fresh = ap (λ (l : LineState _). l.is_stale) t.grows ∙ serves.current in
+    let order = (c.in-Over.ensures.line.serving fresh).order in
+    record {
+      serves = record { about = request ∙ serves.about; current = fresh; line = c.in-Over.ensures.line; unreused = λ e. reused ∙ serves.unreused e; wanted = serves.wanted };
+      kept = λ k. (c.serve.new.decoder.wire, c.serve.new.decoder.verdict, rw request (kept_ends _ _ _ _ _ t.so.cause (sym c.may_keep-is_kept.ensures ∙ k)));
+      bounded = rw c.received-count.ensures (received_bounded _ _ _ _ _ _ _ order t.so.cause);
+    }

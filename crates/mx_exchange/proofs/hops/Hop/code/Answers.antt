@@ -1,0 +1,11 @@
+use Rattle.mx_exchange.proofs.HopLemmas.{whole_of}
+use Rattle.mx_exchange.proofs.hops.Hop.code.Goals as goal
+
+pub returns-clause-whole : goal.returns-clause-whole
+returns-clause-whole c = rw (← c.self.view_is) (whole_of _ c.self.invariant.outcome)
+
+pub returns-clause-content : goal.returns-clause-content
+returns-clause-content c = rw (← c.self.view_is) (c.ok_has_content.ensures _ c.self.invariant.outcome)
+
+pub returns-clause-listed : goal.returns-clause-listed
+returns-clause-listed c = c.codes_are_listed.ensures _ c.self.invariant.outcome

@@ -1,8 +1,0 @@
-use Rattle.std.proofs.Common.{refl}
-use Rattle.mx_exchange.proofs.outcomes.Outcome.new.Goals as goal
-
-pub invariant_of-result : goal.invariant_of-result
-invariant_of-result c = record { ordered = c.requires.ordered; outcome = c.requires.outcome }
-
-pub returns : goal.returns
-returns c = refl

@@ -1,7 +1,0 @@
-use Rattle.std.proofs.Common.{length, ap, ◌∙◌, List}
-use Rattle.mx_body.specs.declared.part.Part.{Part}
-use Rattle.mx_exchange.proofs.OutcomeLemmas.{parts_none}
-use Rattle.mx_exchange.proofs.outcomes.Outcome.part_count.Goals as goal
-
-pub returns-clause-none : goal.returns-clause-none
-returns-clause-none c = rw (← c.self.view_is) (λ bad. ap (λ (l : List Part). length l) (c.as_slice.ensures.value ∙ parts_none _ c.self.invariant.outcome bad))

@@ -1,5 +1,0 @@
-use Rattle.std.proofs.Common.{rules}
-use Rattle.mx_exchange.proofs.transfers.Transfer.into_request.Goals as goal
-
-pub returns : goal.returns
-returns g c = search rules

@@ -1,5 +1,0 @@
-use Rattle.std.proofs.Common.{rules}
-use Rattle.mx_exchange.proofs.transfers.Transfer.wants.Goals as goal
-
-pub returns-in-Live-clause-wants : goal.returns-in-Live-clause-wants
-returns-in-Live-clause-wants g c = search rules

@@ -1,0 +1,253 @@
+//! What a turn of an exchange does.
+ghost use Rattle.std.specs.Prelude.{◌≡◌, ◌≤◌, true, false, Some, None, IsTrue, ◌↔◌, length};
+ghost use Rattle.mx_exchange.specs.Exchanges.{IsDue, IsServed, IsExchange, KeepsToken, first_deadline, clocked, dropped};
+ghost use Rattle.mx_exchange.specs.Endings.{IsUndecided, is_stop_code};
+
+use super::Exchange;
+use super::stages::{Ended, Live, Stage, end, may_keep, received};
+use crate::calls::Halt;
+use crate::hops::Hop;
+use crate::lines::Line;
+use mx_link::Link;
+use mx_request::Request;
+use mx_types::Code;
+use std::mem;
+use std::snapshot::Snapshot;
+
+/// What a turn comes to.
+#[derive(Drop)]
+pub enum Turned {
+    /// It waits: for a link, for the one that it has, or for its deadline.
+    Waits,
+    /// It asks for another turn at once.
+    Asks,
+    /// It has ended.
+    Ended(Hop),
+}
+
+impl<L: Link> Exchange<L> {
+    ghost use Rattle.mx_exchange.specs.Turns.{how_of, ProbeSo, StopsWith, Exchanged, Turns, IfEnded, IfGoing};
+    ghost use Rattle.mx_exchange.specs.Hops.{IsHop};
+    ghost use Rattle.mx_types.specs.declared.code.Code.TheVariants as code;
+    ghost use Rattle.mx_exchange.specs.Stages.{alive, over, link_of, IsAlive, IsEnded};
+
+    // The first turn sets the deadline.
+    fn start_clock(&mut self, timeout_ms: u32)
+        requires { timeout_ms ≡ self.old.request.timeout_ms }
+        ensures { self.new ≡ clocked self.old }
+    {
+        if self.is_polled {
+            return;
+        }
+        self.is_polled = true;
+        self.deadline = if timeout_ms == 0 {
+            None
+        } else {
+            Some(self.moment.saturating_add(u64::from(timeout_ms)))
+        };
+    }
+
+    fn is_due(&self) -> bool
+        ensures { IsTrue result ↔ IsDue self.now.deadline self.now.moment }
+    {
+        match self.deadline {
+            Some(deadline) => deadline <= self.moment,
+            None => false,
+        }
+    }
+
+    // Goes on with this.
+    fn go_on(&mut self, live: Live<L>)
+        requires { IsAlive L.history L.asked L.token_of self.old.request self.old.needs_fresh self.old.failure live }
+        ensures { self.new ≡ alive self.old live }
+    {
+        self.stage = Stage::Live(live);
+    }
+
+    // Begins anew: only a link that was never in use will do.
+    fn begin_again(&mut self, request: Request)
+        requires { request ≡ self.old.request }
+        ensures { self.new ≡ record (dropped self.old) { code = None; is_kept = false } }
+    {
+        self.needs_fresh = true;
+        self.stage = Stage::Live(Live::new(self.alloc, request));
+    }
+
+    // Has ended, with this left of it.
+    fn settle(&mut self, ended: Ended<L>)
+        requires { IsEnded L.history L.asked L.token_of self.old.request self.old.needs_fresh self.old.failure ended }
+        ensures { self.new ≡ over self.old ended }
+    {
+        self.stage = Stage::Ended(ended);
+    }
+
+    // Ends without a look at the link.
+    fn stop(&mut self, live: Live<L>, code: Code) -> Hop
+        requires live { IsAlive L.history L.asked L.token_of self.old.request self.old.needs_fresh self.old.failure live }
+        requires listed { is_stop_code code ≡ true }
+        ensures code { result.code ≡ code }
+        ensures stopped { StopsWith (alive self.old live) self.new result }
+    {
+        let answers = live.answers();
+        let is_reused = live.reused();
+        let count = received(&live.decoder);
+        let Live {
+            request,
+            decoder,
+            line,
+        } = live;
+        self.settle(Ended {
+            code,
+            received: count,
+            line,
+            is_kept: false,
+        });
+        end(request, decoder, code, answers, is_reused)
+    }
+
+    // Asks a reused link for a byte first, and drops it where it doesn't answer that it would wait. False where
+    // it was dropped.
+    fn probe(&mut self, live: &mut Live<L>) -> bool
+        requires away { self.old.link ≡ None }
+        requires live { IsAlive L.history L.asked L.token_of self.old.request self.old.needs_fresh self.old.failure live.old }
+        ensures probe { ProbeSo result L.history (alive self.old live.old) (alive self.new live.new) }
+        ensures live { IsAlive L.history L.asked L.token_of self.new.request self.new.needs_fresh self.new.failure live.new }
+        ensures token { KeepsToken L.token_of (link_of live.old.line) (link_of live.new.line) }
+    {
+        let Some(line) = &mut live.line else {
+            return true;
+        };
+        if !line.needs_probe() || line.probe() {
+            return true;
+        }
+        live.line = None;
+        self.needs_fresh = true;
+        false
+    }
+
+    // Asks the link, if there is one.
+    fn exchange(&mut self, live: Live<L>) -> Turned
+        requires live { IsAlive L.history L.asked L.token_of self.old.request self.old.needs_fresh self.old.failure live }
+        requires probed { (alive self.old live).needs_probe ≡ false }
+        ensures turn { Exchanged L.history (alive self.old live) self.new (how_of result) }
+        ensures token { KeepsToken L.token_of (link_of live.line) self.new.link }
+    {
+        let Live {
+            request,
+            mut decoder,
+            line,
+        } = live;
+        let Some(mut line) = line else {
+            self.go_on(Live {
+                request,
+                decoder,
+                line: None,
+            });
+            return Turned::Waits;
+        };
+        match line.serve(&request, &mut decoder) {
+            Halt::Blocked => {
+                self.go_on(Live {
+                    request,
+                    decoder,
+                    line: Some(line),
+                });
+                Turned::Waits
+            }
+            Halt::Unfinished => {
+                self.go_on(Live {
+                    request,
+                    decoder,
+                    line: Some(line),
+                });
+                Turned::Asks
+            }
+            Halt::Lost => {
+                self.begin_again(request);
+                Turned::Waits
+            }
+            Halt::Over(code) => {
+                let answers = line.answers();
+                let is_reused = Snapshot::of(&line.is_reused());
+                let count = received(&decoder);
+                let is_kept = may_keep(&decoder);
+                self.settle(Ended {
+                    code,
+                    received: count,
+                    line: Some(line),
+                    is_kept,
+                });
+                Turned::Ended(end(request, decoder, code, answers, is_reused))
+            }
+        }
+    }
+
+    // The deadline, the code given in place of a link, the pause, the probe, and then the link.
+    fn advance(&mut self, live: Live<L>) -> Turned
+        requires away { self.old.link ≡ None }
+        requires live { IsAlive L.history L.asked L.token_of self.old.request self.old.needs_fresh self.old.failure live }
+        ensures turn { Turns L.history (clocked (alive self.old live)) self.new (how_of result) }
+        ensures token { KeepsToken L.token_of (link_of live.line) self.new.link }
+    {
+        let mut live = live;
+        self.start_clock(live.request.timeout_ms());
+        if self.is_due() {
+            return Turned::Ended(self.stop(live, Code::OperationTimedout));
+        }
+        if let Some(code) = self.failure {
+            return Turned::Ended(self.stop(live, code));
+        }
+        if self.is_paused {
+            self.go_on(live);
+            return Turned::Asks;
+        }
+        if !self.probe(&mut live) {
+            self.go_on(live);
+            return Turned::Waits;
+        }
+        self.exchange(live)
+    }
+
+    // Takes one turn.
+    fn step(&mut self) -> Turned
+        requires { self.old.code ≡ None }
+        ensures turn { Turns L.history (clocked self.old) self.new (how_of result) }
+        ensures token { KeepsToken L.token_of self.old.link self.new.link }
+    {
+        match mem::replace(&mut self.stage, Stage::gone()) {
+            Stage::Live(live) => self.advance(live),
+            Stage::Ended(_) => unreachable!(),
+        }
+    }
+
+    /// Takes one turn: at most one probe, 64 reads and 64 writes.
+    pub fn turn(&mut self) -> Turned
+        requires { self.old.code ≡ None }
+        ensures turn { Turns L.history (clocked self.old) self.new (how_of result) }
+        ensures value { IfEnded result (λ hop. hop.request ≡ self.old.request) }
+        ensures again { IfGoing result (self.new.code ≡ None) }
+        ensures same { IfGoing result (self.new.request ≡ self.old.request) }
+        // 28 comes where the deadline is due, and only there
+        ensures late { IfEnded result (λ hop. (hop.code ≡ code.OperationTimedout) ↔ IsDue (clocked self.old).deadline self.old.moment) }
+        ensures ended { IfEnded result (λ hop. (self.new.code ≡ Some hop.code) × (self.new.received ≡ length hop.wire)) }
+        // the count of bytes never falls
+        ensures counted { self.old.received ≤ self.new.received }
+        ensures outcome { IfEnded result IsHop }
+        ensures token { KeepsToken L.token_of self.old.link self.new.link }
+        ensures known { IsExchange L.history L.asked L.token_of self.new }
+        ensures served { IsServed L.history self.new }
+        ensures undecided { IfGoing result (IsUndecided self.new.request.method self.new.answers) }
+    {
+        self.know();
+        let turned = self.step();
+        self.know();
+        match turned {
+            Turned::Ended(hop) => {
+                hop.know();
+                Turned::Ended(hop)
+            }
+            Turned::Asks => Turned::Asks,
+            Turned::Waits => Turned::Waits,
+        }
+    }
+}

@@ -1,0 +1,227 @@
+//! What an exchange ends with.
+ghost use Rattle.std.specs.Prelude.{◌≡◌, ◌≢◌, ◌<◌, ◌↔◌, ℕ, true, length, slice_range, Some, IsSome, IfSome, IfOk, option_copied};
+ghost use Rattle.std.specs.List.{slice_get};
+ghost use Rattle.mx_body.specs.declared.part.Part.{Part};
+ghost use Rattle.mx_body.specs.Parts.{AreOrdered, joined};
+ghost use Rattle.mx_body.specs.Decision.{HasStatus, TellsLocation, IsPlaceIn, bytes_at};
+ghost use Rattle.mx_exchange.specs.Exchanges.{HopValue};
+ghost use Rattle.mx_link.specs.Answers.{given};
+ghost use Rattle.mx_exchange.specs.Order.{InOrder};
+ghost use Rattle.mx_exchange.specs.Hops.{IsHop, IsWhole, HasContent, IsFront, is_hop_code};
+ghost use Rattle.mx_types.specs.declared.code.Code.TheVariants as code;
+
+use crate::laws;
+use mx_body::Part as BodyPart;
+use mx_link::Answer;
+use mx_request::Request;
+use mx_types::{Code, History, OutOfMemory};
+use std::alloc::Global;
+use std::marker::Model;
+use std::snapshot::Snapshot;
+
+/// What an exchange ended with: its request, the bytes of the response, the code, the status, and where the data of the body and the
+/// value of the first Location line stand in the bytes. For contracts alone it has what its link answered since it was attached or
+/// probed, too, and whether that link was in use before.
+#[derive(Drop)]
+pub struct Hop {
+    request: Request,
+    wire: Vec<u8>,
+    code: Code,
+    status: u16,
+    parts: Vec<BodyPart>,
+    location: Option<BodyPart>,
+    answers: Snapshot<History<Answer>>,
+    is_reused: Snapshot<bool>,
+}
+
+impl Model for Hop {
+    ghost use Rattle.std.specs.Prelude.{length};
+    ghost use Rattle.mx_body.specs.Parts.{AreOrdered};
+    ghost use Rattle.mx_body.specs.Decision.{bytes_at, IsPlaceIn};
+    ghost use Rattle.mx_exchange.specs.Exchanges.{HopValue};
+    ghost use Rattle.mx_exchange.specs.Hops.{IsHop};
+
+    ghost Value = { HopValue };
+
+    ghost view = { λ o. record {
+      request = o.request;
+      wire = o.wire.items;
+      code = o.code;
+      status = o.status;
+      parts = o.parts.items;
+      location = bytes_at o.wire.items o.location;
+      answers = o.answers.value;
+      is_reused = o.is_reused.value;
+    } };
+
+    ghost invariant = { λ o. record {
+      ordered : AreOrdered 0 (length o.wire.items) o.parts.items;
+      within : IsPlaceIn (length o.wire.items) o.location;
+      outcome : IsHop (record {
+        request = o.request;
+        wire = o.wire.items;
+        code = o.code;
+        status = o.status;
+        parts = o.parts.items;
+        location = bytes_at o.wire.items o.location;
+        answers = o.answers.value;
+        is_reused = o.is_reused.value;
+      });
+    } };
+}
+
+impl Hop {
+    pub(crate) fn new(
+        request: Request,
+        wire: Vec<u8>,
+        code: Code,
+        status: u16,
+        parts: Vec<BodyPart>,
+        location: Option<BodyPart>,
+        answers: Snapshot<History<Answer>>,
+        is_reused: Snapshot<bool>,
+    ) -> Hop
+        requires ordered { AreOrdered 0 (length wire.items) parts.items }
+        requires within { IsPlaceIn (length wire.items) location }
+        requires outcome { IsHop (record {
+          request = request;
+          wire = wire.items;
+          code = code;
+          status = status;
+          parts = parts.items;
+          location = bytes_at wire.items location;
+          answers = answers.value;
+          is_reused = is_reused.value;
+        }) }
+        ensures { result ≡ record {
+          request = request;
+          wire = wire.items;
+          code = code;
+          status = status;
+          parts = parts.items;
+          location = bytes_at wire.items location;
+          answers = answers.value;
+          is_reused = is_reused.value;
+        } }
+    {
+        Hop {
+            request,
+            wire,
+            code,
+            status,
+            parts,
+            location,
+            answers,
+            is_reused,
+        }
+    }
+
+    /// What holds of every hop. It does nothing: a call gives its caller's proof the law.
+    pub fn know(&self)
+        ensures { IsHop self.now }
+    {
+        let _code = self.code;
+    }
+
+    /// The request that was handed to the exchange. Its link was asked in order.
+    pub fn request(&self) -> &Request
+        ensures request { result.now ≡ self.now.request }
+        ensures order { InOrder self.now.is_reused result.now.bytes self.now.answers }
+    {
+        &self.request
+    }
+
+    /// The bytes of the response, or of what came of one: the front of what the link gave, and all of it unless the code is
+    /// `OutOfMemory`.
+    pub fn wire(&self) -> &[u8]
+        ensures wire { result.now ≡ self.now.wire }
+        ensures front { IsFront self.now }
+        ensures all { self.now.code ≢ code.OutOfMemory → result.now ≡ given self.now.answers }
+    {
+        self.wire.as_slice()
+    }
+
+    /// The code. Where it is `Ok`, the wire begins with a whole response, or is one, and its data stand at the parts.
+    pub fn code(&self) -> Code
+        ensures code { result ≡ self.now.code }
+        ensures whole { result ≡ code.Ok → IsWhole self.now }
+        ensures content { result ≡ code.Ok → HasContent self.now }
+        ensures listed { is_hop_code result ≡ true }
+    {
+        laws::ok_has_content();
+        laws::codes_are_listed();
+        self.code
+    }
+
+    /// The status of the final head, 0 where none was read.
+    pub fn status(&self) -> u16
+        ensures status { result ≡ self.now.status }
+        ensures wire { HasStatus self.now.wire result }
+    {
+        self.status
+    }
+
+    /// The value of the first Location line of the final head (RFC 9110, section 10.2.2); `None` where that is empty, or there is no such
+    /// line, or no final head.
+    pub fn location(&self) -> Option<&[u8]>
+        ensures location { option_copied result ≡ self.now.location }
+        ensures wire { TellsLocation self.now.wire self.now.location }
+    {
+        let place = self.location?;
+        Some(&self.wire[place.start as usize..place.end as usize])
+    }
+
+    /// The request, by move.
+    pub fn into_request(self) -> Request
+        ensures { result ≡ self.request }
+    {
+        self.request
+    }
+
+    /// How many parts the body has; 0 where the code isn't `Ok`.
+    pub fn part_count(&self) -> usize
+        ensures count { result ≡ length self.now.parts }
+        ensures none { self.now.code ≢ code.Ok → result ≡ 0 }
+    {
+        self.parts.as_slice().len()
+    }
+
+    /// A part of the body, counted from 0; `None` past the last.
+    #[tactic(auto, using(crate::proofs::Bodies::ordered_at))]
+    pub fn part(&self, i: usize) -> Option<&[u8]>
+        ensures some { i < length self.now.parts → IfSome result (λ bytes. (p : Part) × (slice_get self.now.parts i ≡ Some p) × (bytes.now ≡ slice_range self.now.wire p.start p.end)) }
+        ensures count { IsSome result ↔ (i < length self.now.parts) }
+    {
+        if i >= self.parts.len() {
+            return None;
+        }
+        let part = self.parts[i];
+        Some(&self.wire[part.start as usize..part.end as usize])
+    }
+
+    /// The length of the body in bytes.
+    #[tactic(auto, using(crate::proofs::Bodies::ordered_at, crate::proofs::Bodies::joined_before, crate::proofs::Bodies::slice_len))]
+    pub fn body_len(&self) -> u32
+        ensures { result ≡ length (joined self.now.wire self.now.parts) }
+    {
+        let mut len = 0;
+        for part in &self.parts {
+            len += part.end - part.start;
+        }
+        len
+    }
+
+    /// The body: its parts, joined.
+    ///
+    /// `OutOfMemory` comes where no room is had for it.
+    #[tactic(auto, using(crate::proofs::Bodies::ordered_at))]
+    pub fn copy_body(&self, alloc: Global) -> Result<Vec<u8>, OutOfMemory>
+        ensures { IfOk result (λ body. body.items ≡ joined self.now.wire self.now.parts) }
+    {
+        let mut body = Vec::new(alloc);
+        for part in &self.parts {
+            body.extend_from_slice(&self.wire[part.start as usize..part.end as usize])?;
+        }
+        Ok(body)
+    }
+}

@@ -1,0 +1,2 @@
+pub mod Wakers
+pub mod Sends
