@@ -361,6 +361,30 @@ impl<Q: Work + Drop, O: Ending + Drop> Multi<Q, O> {
         Ok(known)
     }
 
+    // Lets both seats see the journal. False, and nothing changes, where a seat isn't one of this multi handle's.
+    fn try_meet<R: Wait>(&self, rt: &R, one: &mut Seat<Q, O>, two: &mut Seat<Q, O>) -> bool
+        requires own { (one.old.of ≡ self.now) × (two.old.of ≡ self.now) }
+        ensures meets { MatchBool result (Sees one.old one.new × Sees two.old two.new × (one.new.seen ≡ two.new.seen)) ((one.new ≡ one.old) × (two.new ≡ two.old)) }
+        ensures claims { (one.new.claims ≡ one.old.claims) × (two.new.claims ≡ two.old.claims) }
+    {
+        let Some(mut taken) = self.lock.enter(rt, &mut one.key, &one.reader) else {
+            return false;
+        };
+        if taken.begins_with(&two.reader) {
+            let other = two.reader.who();
+            if taken.made(other) == two.reader.made() {
+                let _cut = taken.len();
+                taken.refresh(&mut two.reader);
+                taken.tell(&mut two.ties);
+                self.lock
+                    .leave(rt, &mut one.key, taken, &mut one.reader, &mut one.ties);
+                return true;
+            }
+        }
+        self.lock.put_back(rt, &mut one.key, taken);
+        false
+    }
+
     /// Both seats see the journal. It answers how many events that has. `WrongSeat`, and nothing changes, where a seat isn't
     /// one of this multi handle's.
     pub fn meet<R: Wait>(
@@ -373,21 +397,10 @@ impl<Q: Work + Drop, O: Ending + Drop> Multi<Q, O> {
         ensures meets { MatchResult result (λ n. Sees one.old one.new × Sees two.old two.new × (one.new.seen ≡ two.new.seen) × (n ≡ length one.new.seen)) (λ _. (one.new ≡ one.old) × (two.new ≡ two.old)) }
         ensures claims { (one.new.claims ≡ one.old.claims) × (two.new.claims ≡ two.old.claims) }
     {
-        let Some(mut taken) = self.lock.enter(rt, &mut one.key, &one.reader) else {
-            return Err(WrongSeat(()));
-        };
-        if taken.begins_with(&two.reader) {
-            let other = two.reader.who();
-            if taken.made(other) == two.reader.made() {
-                let cut = taken.len();
-                taken.refresh(&mut two.reader);
-                taken.tell(&mut two.ties);
-                self.lock
-                    .leave(rt, &mut one.key, taken, &mut one.reader, &mut one.ties);
-                return Ok(cut);
-            }
+        let met = self.try_meet(rt, one, two);
+        if met {
+            return Ok(one.cut());
         }
-        self.lock.put_back(rt, &mut one.key, taken);
         Err(WrongSeat(()))
     }
 
