@@ -4,9 +4,10 @@
 ghost use Rattle.std.specs.Prelude.{◌≡◌, IfSome};
 ghost use Rattle.mx_types.specs.declared.code.Code.TheVariants as code;
 ghost use Rattle.mx_request.specs.Request.{request_origin};
-ghost use Rattle.mx_exchange.specs.Outcomes.{HasContent, IsOutcome};
+ghost use Rattle.mx_exchange.specs.Hops.{HasContent};
+ghost use Rattle.mx_chain.specs.Outcomes.{IsOutcome};
 
-use mx_exchange::Outcome;
+use mx_chain::Outcome;
 use mx_journal::AddReply;
 use mx_lock::TiedClaim;
 use mx_message::next_message;
@@ -15,7 +16,8 @@ use mx_types::{HandleId, Work};
 use std::sync::Wait;
 
 /// Adds a transfer, and reads the next message. What comes of it, if it is of this addition, is the outcome of the very request that was
-/// added, with its truth.
+/// added, with its truth: its hops are a chain that begins with that request, and with `Code::Ok` its content is that of the response to
+/// the last request of the chain.
 pub fn add_and_read<Q: Work + Drop, R: Wait>(
     rt: &R,
     multi: &Multi<Q, Outcome>,
@@ -26,7 +28,7 @@ pub fn add_and_read<Q: Work + Drop, R: Wait>(
     requires own { seat.old.of ≡ multi.now }
     ensures request { IfSome result (λ o. request_origin o.request ≡ Q.origin work) }
     ensures outcome { IfSome result (λ o. IsOutcome o) }
-    ensures body { IfSome result (λ o. o.code ≡ code.Ok → HasContent o) }
+    ensures body { IfSome result (λ o. o.code ≡ code.Ok → HasContent o.last) }
 {
     let Ok(AddReply::Added(ticket)) = multi.add(rt, seat, handle, work) else {
         return None;

@@ -59,6 +59,12 @@ fn get_command<'a>(alloc: Global) -> Result<Command<'a>, AllocError> {
         .value_parser(value_parser!(u8).range(0..=64))
         .default_value("4")
         .help("How many idle connections each worker keeps: 0 to 64");
+    let max_redirects = Arg::new(alloc, "max-redirects")
+        .long("max-redirects")
+        .value_name("N")
+        .value_parser(value_parser!(u8))
+        .default_value("0")
+        .help("How many redirects a transfer may follow: 0 to 255; with 0 none is followed");
     let urls = Arg::new(alloc, "URL")
         .required(true)
         .num_args(1..)
@@ -71,6 +77,7 @@ fn get_command<'a>(alloc: Global) -> Result<Command<'a>, AllocError> {
         .arg(workers)?
         .arg(timeout)?
         .arg(max_connects)?
+        .arg(max_redirects)?
         .arg(urls)
 }
 
@@ -105,10 +112,11 @@ fn task_of(matches: &ArgMatches<'_>) -> Option<Task>
 fn get_of<'a>(alloc: Global, get: &ArgMatches<'a>) -> Result<Option<Get<'a>>, AllocError>
     ensures { IfOk result (λ o. IfSome o (λ g. are_within g.options ≡ true)) }
 {
-    let (Some(workers), Some(timeout_ms), Some(max_connects), Some(given)) = (
+    let (Some(workers), Some(timeout_ms), Some(max_connects), Some(max_redirects), Some(given)) = (
         get.get_one::<u8>("workers"),
         get.get_one::<u32>("timeout-ms"),
         get.get_one::<u8>("max-connects"),
+        get.get_one::<u8>("max-redirects"),
         get.get_strs("URL"),
     ) else {
         return Ok(None);
@@ -117,6 +125,7 @@ fn get_of<'a>(alloc: Global, get: &ArgMatches<'a>) -> Result<Option<Get<'a>>, Al
         workers,
         timeout_ms,
         max_connects,
+        max_redirects,
     };
     if !options.are_within() {
         return Ok(None);

@@ -29,21 +29,23 @@ all have ended, each prints a line, its body and the end of a line, in the order
     transfer H code C status S length B
 
 H counts the URLs from 0; C is the number of a CURLcode (libcurl-errors(3)), 0 where all went well;
-S is the status of the response, 0 where there was none; B is the length of the body, 0 where C isn't
-0. Redirects are not followed: their responses are printed as they are. With one worker the URLs are
-fetched one after the other, with more at the same time.";
+S is the status of the response, 0 where there was none; B is the length of the body, 0 where C is
+not 0. Where redirects are followed these are of the last response. With --max-redirects 0, which is
+what is meant where it isn't given, none is followed, and a redirect is printed as it is. With one
+worker the URLs are fetched one after the other, with more at the same time.";
 
 /// The exit statuses of `get`, and an example.
 pub const MORE_GET: &str = "Exit status: the first C that isn't 0, in the order of the URLs:
     0  each response came whole, whatever its status; or this help was printed
-    1  the scheme of a URL isn't http
-    3  a URL doesn't parse, or has a user name or a password
+    1  the scheme of a URL, or of where a redirect leads, isn't http
+    3  a URL, or where a redirect leads, doesn't parse, or has a user name or a password
     6  a host wasn't found
     7  a connection was refused, or could not be made
     8  what came is no response head, or one that is cut short or refused
    18  a connection ended within a body
    27  there was not enough memory (`FAULT 27`: to begin at all)
    28  a transfer took longer than --timeout-ms
+   47  there were more redirects than --max-redirects
    52  a connection ended before a byte came
    55  a request could not be sent
    56  a read failed, or the framing of a chunked body is bad

@@ -15,14 +15,14 @@ use Rattle.mx_get.specs.Places.{asked_at}
 use Rattle.mx_get.specs.declared.collect.Place.{Place}
 
 -- what was built, or why it was not
-pub built : (timeout_ms : ℕ) (url : List ℕ) (settings : SettingsValue) (result : Result RequestValue RequestError)
-    → settings ≡ record no_settings { timeout_ms = timeout_ms }
+pub built : (timeout_ms max_redirects : ℕ) (url : List ℕ) (settings : SettingsValue) (result : Result RequestValue RequestError)
+    → settings ≡ record no_settings { timeout_ms = timeout_ms; max_redirects = max_redirects }
     → MatchResult result (λ r. request_of method.Get url settings ≡ Ok r) (λ e. (request_of method.Get url settings ≡ Err e) ⊎ (e ≡ refusal.OutOfMemory))
-    → MatchResult result (λ r. asked_for timeout_ms url ≡ Ok r) (λ e. (asked_for timeout_ms url ≡ Err (refusal_code e)) ⊎ (e ≡ refusal.OutOfMemory))
+    → MatchResult result (λ r. asked_for timeout_ms max_redirects url ≡ Ok r) (λ e. (asked_for timeout_ms max_redirects url ≡ Err (refusal_code e)) ⊎ (e ≡ refusal.OutOfMemory))
 unfolding asked_for
-built timeout_ms url settings (Ok r) is at = ap (λ s. asked_or_code (request_of method.Get url s)) (sym is) ∙ ap asked_or_code at
-built timeout_ms url settings (Err e) is (inl at) = inl (ap (λ s. asked_or_code (request_of method.Get url s)) (sym is) ∙ ap asked_or_code at)
-built timeout_ms url settings (Err e) is (inr at) = inr at
+built timeout_ms max_redirects url settings (Ok r) is at = ap (λ s. asked_or_code (request_of method.Get url s)) (sym is) ∙ ap asked_or_code at
+built timeout_ms max_redirects url settings (Err e) is (inl at) = inl (ap (λ s. asked_or_code (request_of method.Get url s)) (sym is) ∙ ap asked_or_code at)
+built timeout_ms max_redirects url settings (Err e) is (inr at) = inr at
 
 -- what stands at a place
 pub found : (places : List Place) (i : ℕ) (d : Place) → i < length places → slice_get (map asked_at places) i ≡ Some (asked_at (slice_index_or places i d))

@@ -7,7 +7,8 @@ use Rattle.mx_types.specs.declared.method.Method.TheVariants as method
 use Rattle.mx_request.specs.Request.{RequestValue, request_of}
 use Rattle.mx_request.specs.RequestError.{refusal_code}
 use Rattle.mx_request.specs.declared.error.RequestError.{RequestError}
-use Rattle.mx_exchange.specs.Outcomes.{IsOutcome, HasContent}
+use Rattle.mx_exchange.specs.Hops.{HasContent}
+use Rattle.mx_chain.specs.Outcomes.{IsOutcome}
 use Rattle.mx_run_get.specs.declared.fetched.Fetched.{Fetched}
 use Rattle.mx_run_get.specs.declared.fetched.Fetched.TheVariants.{Refused, Ended}
 
@@ -16,22 +17,24 @@ abbrev pub asked_or_code : Result RequestValue RequestError → Result RequestVa
 asked_or_code (Ok request) = Ok request
 asked_or_code (Err refused) = Err (refusal_code refused)
 
--- the GET of a URL, which may take so many milliseconds, or the code with which the URL is refused
-unfoldable pub asked_for : ℕ → List ℕ → Result RequestValue Code
-asked_for timeout_ms url = asked_or_code (request_of method.Get url (record no_settings { timeout_ms = timeout_ms }))
+-- the GET of a URL, which may take so many milliseconds and follow so many redirects, or the code with which the URL is refused
+unfoldable pub asked_for : ℕ → ℕ → List ℕ → Result RequestValue Code
+asked_for timeout_ms max_redirects url =
+    asked_or_code (request_of method.Get url (record no_settings { timeout_ms = timeout_ms; max_redirects = max_redirects }))
 
 -- the request of the transfer that has ended, or the code of a refusal
 abbrev pub asked_of : Fetched → Result RequestValue Code
 asked_of (Refused code) = Err code
 asked_of (Ended outcome) = Ok outcome.request
 
--- What a transfer ended with is an outcome, with its truth: its code, status and parts are what the answers of its link come to. With code 0
--- the first bytes that came are a response to its request, whose content stands at the parts.
+-- What a transfer ended with is an outcome, with its truth: its hops are a chain that begins with its request, each ended as the answers of
+-- its link come to, and its code, status and parts are those of the last one. With code 0 the first bytes that came in that one are a
+-- response to the last request of the chain, whose content stands at the parts.
 abbrev pub IsEnd : Fetched → Type 0
 IsEnd (Refused _) = Unit {0}
-IsEnd (Ended outcome) = IsOutcome outcome × (outcome.code ≡ code.Ok → HasContent outcome)
+IsEnd (Ended outcome) = IsOutcome outcome × (outcome.code ≡ code.Ok → HasContent outcome.last)
 
 -- One end for each URL, in their order: the code of its refusal, or what a transfer of its request ended with, with its truth.
-pub record AreEndsOf (timeout_ms : ℕ) (urls : List (List ℕ)) (ends : List Fetched) : Type 0 where
-  pub asked : map asked_of ends ≡ map (asked_for timeout_ms) urls
+pub record AreEndsOf (timeout_ms max_redirects : ℕ) (urls : List (List ℕ)) (ends : List Fetched) : Type 0 where
+  pub asked : map asked_of ends ≡ map (asked_for timeout_ms max_redirects) urls
   pub outcomes : All IsEnd ends

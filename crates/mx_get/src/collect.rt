@@ -5,10 +5,8 @@ ghost use Rattle.mx_request.specs.declared.error.RequestError.TheVariants as ref
 ghost use Rattle.mx_get.specs.Asked.{asked_for, asked_of, AreEndsOf, IsEnd};
 ghost use Rattle.mx_get.specs.Places.{asked_at};
 
-use crate::awaited::Awaited;
 use crate::crew::Crew;
 use crate::end::End;
-use mx_exchange::Outcome;
 use mx_journal::AddReply;
 use mx_link::Link;
 use mx_message::next_message;
@@ -16,6 +14,7 @@ use mx_multi::{Multi, Seat, WrongSeat};
 use mx_request::{Request, RequestError};
 use mx_run_get::Fetched;
 use mx_run_io::Options;
+use mx_transfer::Outcome;
 use mx_types::{HandleId, Method, OutOfMemory, Settings};
 use mx_worker::Queued;
 use std::alloc::{AllocGlobal, Global};
@@ -25,18 +24,24 @@ use std::sync::Wait;
 #[derive(Drop)]
 pub enum Place {
     /// The request whose end is awaited.
-    Awaited(Awaited),
+    Awaited(Request),
     /// What the URL ended with.
     Known(End),
 }
 
 // A GET of the URL.
-fn build(alloc: Global, url: &str, timeout_ms: u32) -> Result<Request, RequestError>
-    ensures { MatchResult result (λ r. asked_for timeout_ms url.now ≡ Ok r)
-        (λ e. (asked_for timeout_ms url.now ≡ Err (refusal_code e)) ⊎ (e ≡ refusal.OutOfMemory)) }
+fn build(
+    alloc: Global,
+    url: &str,
+    timeout_ms: u32,
+    max_redirects: u8,
+) -> Result<Request, RequestError>
+    ensures { MatchResult result (λ r. asked_for timeout_ms max_redirects url.now ≡ Ok r)
+        (λ e. (asked_for timeout_ms max_redirects url.now ≡ Err (refusal_code e)) ⊎ (e ≡ refusal.OutOfMemory)) }
 {
     let mut settings = Settings::new(alloc);
     settings.timeout_ms = timeout_ms;
+    settings.max_redirects = max_redirects;
     Request::build(alloc, Method::Get, url, settings)
 }
 
@@ -50,7 +55,7 @@ fn awaits(places: &[Place], at: usize, request: &Request) -> bool
         return false;
     }
     match &places[at] {
-        Place::Awaited(awaited) => awaited.is(request),
+        Place::Awaited(awaited) => awaited.is_same(request),
         Place::Known(_) => false,
     }
 }
@@ -119,7 +124,7 @@ impl<L: Link> Desk<L> {
         let Ok(handle) = u32::try_from(self.places.len()) else {
             return Err(OutOfMemory);
         };
-        let awaited = Awaited::of(rt.alloc(), &request)?;
+        let awaited = request.copy(rt.alloc())?;
         let work = Queued::new(rt.alloc(), request);
         let answer = multi.add(rt, &mut self.seat, HandleId(handle), work);
         if !is_added(answer) {
@@ -137,12 +142,13 @@ impl<L: Link> Desk<L> {
         multi: &Multi<Queued<L>, Outcome>,
         url: &str,
         timeout_ms: u32,
+        max_redirects: u8,
     ) -> Result<(), OutOfMemory>
         requires own { self.old.seat.of ≡ multi.now }
         ensures own { self.new.seat.of ≡ multi.now }
-        ensures asked { OnOk result (map asked_at self.new.places.items ≡ map asked_at self.old.places.items ++ asked_for timeout_ms url.now ∷ []) }
+        ensures asked { OnOk result (map asked_at self.new.places.items ≡ map asked_at self.old.places.items ++ asked_for timeout_ms max_redirects url.now ∷ []) }
     {
-        match build(rt.alloc(), url, timeout_ms) {
+        match build(rt.alloc(), url, timeout_ms, max_redirects) {
             Ok(request) => self.add_request(rt, multi, request),
             Err(RequestError::OutOfMemory) => Err(OutOfMemory),
             Err(error) => {
@@ -210,10 +216,10 @@ impl<L: Link> Desk<L> {
         requires own { self.old.seat.of ≡ multi.now }
         ensures own { self.new.seat.of ≡ multi.now }
         ensures asked { OnOk result (map asked_at self.new.places.items ≡ map asked_at self.old.places.items
-            ++ map (asked_for options.timeout_ms) (map (λ u. u.now) urls.now)) }
+            ++ map (asked_for options.timeout_ms options.max_redirects) (map (λ u. u.now) urls.now)) }
     {
         for url in urls {
-            self.add(rt, multi, *url, options.timeout_ms)?;
+            self.add(rt, multi, *url, options.timeout_ms, options.max_redirects)?;
             if options.workers == 1 {
                 crew.ring();
                 self.await_all(rt, multi)?;
@@ -233,7 +239,7 @@ impl<L: Link> Desk<L> {
     ) -> Result<(), OutOfMemory>
         requires own { self.old.seat.of ≡ multi.now }
         ensures asked { OnOk result (map asked_at self.new.places.items ≡ map asked_at self.old.places.items
-            ++ map (asked_for options.timeout_ms) (map (λ u. u.now) urls.now)) }
+            ++ map (asked_for options.timeout_ms options.max_redirects) (map (λ u. u.now) urls.now)) }
     {
         self.add_all(rt, multi, crew, urls, options)?;
         crew.ring();
@@ -251,7 +257,7 @@ impl<L: Link> Desk<L> {
     ) -> Result<Vec<Fetched>, OutOfMemory>
         requires own { self.seat.of ≡ multi.now }
         requires none { self.places.items ≡ [] }
-        ensures { IfOk result (λ ends. AreEndsOf options.timeout_ms (map (λ u. u.now) urls.now) ends.items) }
+        ensures { IfOk result (λ ends. AreEndsOf options.timeout_ms options.max_redirects (map (λ u. u.now) urls.now) ends.items) }
     {
         let mut desk = self;
         desk.fill(rt, multi, crew, urls, options)?;

@@ -1,10 +1,10 @@
 //! The workers' seats and gates, and what wakes and stops them.
 ghost use Rattle.std.specs.Prelude.{◌≡◌, All, IfOk, IfSome, min, vec_len};
 
-use mx_exchange::Outcome;
 use mx_gate::{Bell, Gate, SocketGate, Turn};
 use mx_link::Link;
 use mx_multi::{Multi, WorkerSeat};
+use mx_transfer::Outcome;
 use mx_types::OutOfMemory;
 use mx_worker::{Queued, run_worker};
 use std::alloc::{AllocGlobal, Global};

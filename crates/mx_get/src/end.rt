@@ -3,8 +3,8 @@ ghost use Rattle.std.specs.Prelude.{◌≡◌};
 ghost use Rattle.mx_run_get.specs.declared.fetched.Fetched.TheVariants as fetched;
 ghost use Rattle.mx_get.specs.Asked.{IsEnd};
 
-use mx_exchange::Outcome;
 use mx_run_get::Fetched;
+use mx_transfer::Outcome;
 use mx_types::Code;
 use std::marker::Model;
 

@@ -6,12 +6,12 @@ ghost use Rattle.mx_get.specs.Asked.{AreEndsOf};
 
 use crate::collect::Desk;
 use crate::crew::{Crew, Post, posts, work};
-use mx_exchange::Outcome;
 use mx_gate::Gate;
 use mx_link::Link;
 use mx_multi::{Limits, Multi, Seat, WorkerSeat};
 use mx_run_get::Fetched;
 use mx_run_io::Options;
+use mx_transfer::Outcome;
 use mx_types::OutOfMemory;
 use mx_worker::Queued;
 use std::alloc::AllocGlobal;
@@ -59,14 +59,14 @@ fn run_all<
     requires none { desk.places.items ≡ [] }
     requires posts { All (λ p. p.seat.of ≡ multi.now) posts.items }
     requires workers { vec_len posts ≡ options.workers }
-    ensures { IfOk result (λ ends. AreEndsOf options.timeout_ms (map (λ u. u.now) urls.now) ends.items) }
+    ensures { IfOk result (λ ends. AreEndsOf options.timeout_ms options.max_redirects (map (λ u. u.now) urls.now) ends.items) }
 {
     thread::scope(
         thread::scope_env(),
         rt,
         move |scope| -> Result<Vec<Fetched>, OutOfMemory>
             requires { IsSync R.row × (desk.seat.of ≡ multi.now) × (desk.places.items ≡ []) × All (λ p. p.seat.of ≡ multi.now) posts.items }
-            ensures { IfOk result (λ ends. AreEndsOf options.timeout_ms (map (λ u. u.now) urls.entry.now) ends.items) }
+            ensures { IfOk result (λ ends. AreEndsOf options.timeout_ms options.max_redirects (map (λ u. u.now) urls.entry.now) ends.items) }
         {
             let mut posts = posts;
             while let Some(post) = next_post(multi, &mut posts) {
@@ -141,7 +141,7 @@ fn fetch_with<
     requires seat { seats.0.of ≡ multi.now }
     requires workers { All (λ s. s.of ≡ multi.now) seats.1.items }
     requires counts { (vec_len seats.1 ≡ options.workers) × (vec_len gates ≡ options.workers) }
-    ensures { IfOk result (λ ends. AreEndsOf options.timeout_ms (map (λ u. u.now) urls.now) ends.items) }
+    ensures { IfOk result (λ ends. AreEndsOf options.timeout_ms options.max_redirects (map (λ u. u.now) urls.now) ends.items) }
 {
     let (seat, workers) = seats;
     let posts = posts(rt.alloc(), multi, workers, gates)?;
@@ -163,7 +163,7 @@ fn fetch_at<
     options: Options,
 ) -> Result<Vec<Fetched>, OutOfMemory>
     requires gates { vec_len gates ≡ options.workers }
-    ensures { IfOk result (λ ends. AreEndsOf options.timeout_ms (map (λ u. u.now) urls.now) ends.items) }
+    ensures { IfOk result (λ ends. AreEndsOf options.timeout_ms options.max_redirects (map (λ u. u.now) urls.now) ends.items) }
 {
     let Opened {
         multi,
@@ -187,7 +187,7 @@ pub fn fetch_all<
         + Sync,
 >(rt: &R, urls: &[&str], options: Options) -> Result<Vec<Fetched>, OutOfMemory>
     requires { are_within options ≡ true }
-    ensures { IfOk result (λ ends. AreEndsOf options.timeout_ms (map (λ u. u.now) urls.now) ends.items) }
+    ensures { IfOk result (λ ends. AreEndsOf options.timeout_ms options.max_redirects (map (λ u. u.now) urls.now) ends.items) }
 {
     let Ok(start) = Instant::now(rt) else {
         return Err(OutOfMemory);

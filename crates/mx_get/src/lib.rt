@@ -1,7 +1,6 @@
 //! `mxfetch get`: URLs fetched by workers on threads, and what came of them printed.
 #![tactic(auto)]
 
-mod awaited;
 mod collect;
 mod crew;
 mod end;

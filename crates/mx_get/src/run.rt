@@ -54,7 +54,7 @@ pub fn run_get<
     requires { are_within options ≡ true }
     ensures unwritten { (result ≡ UNWRITTEN) ↔ (has_failed_write output.new ≡ true) }
     ensures flushed { result ≢ UNWRITTEN → is_pending output.new ≡ false }
-    ensures answered { has_failed_write output.new ≢ true → AnswersUrls options.timeout_ms (map (λ u. u.now) urls.now)
+    ensures answered { has_failed_write output.new ≢ true → AnswersUrls options.timeout_ms options.max_redirects (map (λ u. u.now) urls.now)
         (W.contents (writer_of output.old)) (W.contents (writer_of output.new)) result }
 {
     match fetch_all(rt, urls, options) {

@@ -32,11 +32,14 @@ fn next_request(stream: &mut TcpStream) -> Option<u8> {
     None
 }
 
-// What is answered to a path that begins with this byte: a body, another body, or a head that says more than comes.
+// What is answered to a path that begins with this byte: a body, another body, a redirect to the first, one to itself, or a head that says
+// more than comes.
 fn response_to(path: u8) -> &'static [u8] {
     match path {
         b'o' => b"HTTP/1.1 200 OK\r\nContent-Length: 3\r\n\r\none",
         b't' => b"HTTP/1.1 404 Not Found\r\nContent-Length: 3\r\n\r\ntwo",
+        b'm' => b"HTTP/1.1 302 Found\r\nLocation: /one\r\nContent-Length: 0\r\n\r\n",
+        b'l' => b"HTTP/1.1 302 Found\r\nLocation: /loop\r\nContent-Length: 0\r\n\r\n",
         _ => b"HTTP/1.1 200 OK\r\nContent-Length: 9\r\nConnection: close\r\n\r\nshort",
     }
 }

@@ -49,18 +49,28 @@ const ONE_WORKER: Options = Options {
     workers: 1,
     timeout_ms: 0,
     max_connects: 4,
+    max_redirects: 0,
 };
 
 const NO_IDLE_LINKS: Options = Options {
     workers: 1,
     timeout_ms: 0,
     max_connects: 0,
+    max_redirects: 0,
 };
 
 const FOUR_WORKERS: Options = Options {
     workers: 4,
     timeout_ms: 10_000,
     max_connects: 4,
+    max_redirects: 0,
+};
+
+const TWO_REDIRECTS: Options = Options {
+    workers: 1,
+    timeout_ms: 0,
+    max_connects: 4,
+    max_redirects: 2,
 };
 
 /// Both bodies in the order of the URLs, over one connection.
@@ -96,5 +106,30 @@ fn a_short_body_is_told_by_its_code(rt: HostRuntime) -> Result<(), Fail> {
         b"transfer 0 code 18 status 200 length 0\n\ntransfer 1 code 0 status 200 length 3\none\n".as_slice()
     );
     assert_eq!(rt; ran.status, 18);
+    Ok(())
+}
+
+/// A redirect is followed: the body is that of the last response. One that leads to itself ends with 47 past the limit, which is the exit
+/// status. Each hop goes over the one connection.
+#[test]
+fn redirects_are_followed_up_to_the_limit(rt: HostRuntime) -> Result<(), Fail> {
+    let ran = get_two(&rt, "moved", "loop", TWO_REDIRECTS)?;
+    assert_eq!(rt;
+        ran.printed.as_slice(),
+        b"transfer 0 code 0 status 200 length 3\none\ntransfer 1 code 47 status 302 length 0\n\n".as_slice()
+    );
+    assert_eq!(rt; (ran.status, ran.connections), (47, 1));
+    Ok(())
+}
+
+/// Without a limit of redirects none is followed: it is a response as any other.
+#[test]
+fn a_redirect_is_a_response_where_none_is_followed(rt: HostRuntime) -> Result<(), Fail> {
+    let ran = get_two(&rt, "moved", "one", ONE_WORKER)?;
+    assert_eq!(rt;
+        ran.printed.as_slice(),
+        b"transfer 0 code 0 status 302 length 0\n\ntransfer 1 code 0 status 200 length 3\none\n".as_slice()
+    );
+    assert_eq!(rt; (ran.status, ran.connections), (0, 1));
     Ok(())
 }

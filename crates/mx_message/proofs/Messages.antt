@@ -1,5 +1,5 @@
 -- Calls that wait for a message, and what is known of it then.
-use Rattle.std.proofs.Common.{◌≡◌, ◌≢◌, ◌∙◌, inl, sym, refl, ap, subst, ℕ, List, [], ◌∷◌, ◌++◌, append_assoc, length, true}
+use Rattle.std.proofs.Common.{◌≡◌, ◌≢◌, ◌∙◌, inl, sym, refl, ap, subst, ℕ, List, [], ◌∷◌, ◌++◌, append_assoc, length, true, if◌then◌else◌}
 use Rattle.mx_types.specs.declared.code.Code.TheVariants as code
 use Rattle.mx_types.specs.declared.names.HandleId.{HandleId}
 use Rattle.mx_types.specs.declared.names.Ticket.{Ticket}
@@ -11,8 +11,10 @@ use Rattle.mx_types.specs.declared.reply.Reply.{Reply}
 use Rattle.mx_request.specs.Request.{request_origin}
 use Rattle.mx_body.specs.Parts.{joined}
 use Rattle.mx_link.specs.Answers.{given}
-use Rattle.mx_exchange.specs.Transfers.{OutcomeValue}
-use Rattle.mx_exchange.specs.Outcomes.{HasContent, IsOutcome}
+use Rattle.mx_exchange.specs.Hops.{HasContent}
+use Rattle.mx_chain.specs.Outcomes.{OutcomeValue, IsOutcome}
+use Rattle.mx_chain.specs.Hops.{is_ok}
+use Rattle.mx_chain.proofs.HopLemmas.{ok_stays}
 use Rattle.mx_journal.specs.History.{is_legal}
 use Rattle.mx_journal.specs.Replies.{reply_of_info}
 use Rattle.mx_journal.specs.declared.replies.InfoReply.{InfoReply}
@@ -26,12 +28,19 @@ use Rattle.mx_multi.proofs.Runs.{later_none, later_more}
 use Rattle.mx_multi.proofs.Standing.{told_alike}
 use Rattle.mx_message.specs.Message.{CarriesBody, IsNextMessage, IsOrderly, IsRead, Waited}
 
--- with code OK the wire is all that the link gave
-pub carries : (o : OutcomeValue) (wire : List ℕ) → (o.code ≢ code.OutOfMemory → wire ≡ given o.answers) → wire ≡ o.wire → HasContent o → o.code ≡ code.Ok → CarriesBody o
-carries o wire all is content ok = record {
-  within = sym (all (λ e. let bad : code.Ok ≡ code.OutOfMemory = sym ok ∙ e in cc)) ∙ is;
-  content = content;
-}
+-- with code OK the wire is all that the last hop's link gave
+pub carries : (o : OutcomeValue) (wire : List ℕ) → IsOutcome o → (o.last.code ≢ code.OutOfMemory → wire ≡ given o.last.answers)
+    → wire ≡ o.wire → HasContent o.last → o.code ≡ code.Ok → CarriesBody o
+carries o wire outcome all is content ok =
+    let last = ok_stays _ _ o.last o.code outcome.ends ok in
+    let parts : o.parts ≡ (if is_ok o.code then o.last.parts else []) = ap (λ x. x.parts) outcome.value in
+    let as_ok : (if is_ok o.code then o.last.parts else []) ≡ o.last.parts = ap (λ c. if is_ok c then o.last.parts else []) ok in
+    let bytes : o.wire ≡ o.last.wire = ap (λ x. x.wire) outcome.value in
+    record {
+      within = sym (all (λ e. let bad : code.Ok ≡ code.OutOfMemory = sym last ∙ e in cc)) ∙ is;
+      content = content;
+      same = ap (λ x. joined x o.parts) bytes ∙ ap (joined o.last.wire) (parts ∙ as_ok);
+    }
 
 later_on : {Q O : Type 0} (s t u : SeatView Q O) (a b : List Receipt) → Later s t a → Later t u b → Later s u (a ++ b)
 later_on s t u a b h k = record {

@@ -15,8 +15,8 @@ use Rattle.mx_types.specs.declared.origin.Origin.{Origin}
 use Rattle.mx_request.specs.Request.{request_origin}
 use Rattle.mx_body.specs.Parts.{joined}
 use Rattle.mx_link.specs.Answers.{given}
-use Rattle.mx_exchange.specs.Transfers.{OutcomeValue}
-use Rattle.mx_exchange.specs.Outcomes.{IsOutcome, HasContent}
+use Rattle.mx_exchange.specs.Hops.{HasContent}
+use Rattle.mx_chain.specs.Outcomes.{OutcomeValue, IsOutcome}
 use Rattle.mx_journal.specs.History.{ends, is_legal, occurs, reads, removes, waiting}
 use Rattle.mx_journal.specs.Laws.{count_of_events, done_tickets, is_of, is_removed_unread, read_tickets}
 use Rattle.mx_lock.specs.Ties.{Has, tie}
@@ -36,17 +36,19 @@ pub record IsOrderly (j : List Event) (t : Ticket) : Type 0 where
   pub none_after : (f later : List Event) (w : Who) (h : HandleId) → j ≡ f ++ record { who = w; what = what.Removed h t } ∷ later → occurs (is_of t) later ≡ false
   pub in_order : read_tickets j ++ map (λ m. m.ticket) (waiting j) ≡ filter (λ u. not (is_removed_unread u j)) (done_tickets j)
 
--- the first of the bytes that its connection gave are a response to its request by RFC 9112, and its parts, joined, are that one's content
+-- Its bytes are all that the connection of its last hop gave, and the first of them are a response by RFC 9112 to the last request of the
+-- chain. Its parts are those of that hop, and, joined, they are that response's content.
 pub record CarriesBody (o : OutcomeValue) : Type 0 where
-  pub within : given o.answers ≡ o.wire
-  pub content : HasContent o
+  pub within : given o.last.answers ≡ o.wire
+  pub content : HasContent o.last
+  pub same : joined o.wire o.parts ≡ joined o.last.wire o.last.parts
 
 -- calls that wait for a message were answered: readings that found nothing, and polls
 pub record Waited {Q : Type 0} (s t : SeatView Q OutcomeValue) : Type 0 where
   pub more : List Receipt
   pub later : Later s t more
 
--- the seat read this message, whose outcome is true, and is of the request that was added under the ticket
+-- the seat read this message, whose outcome is true, and whose first request is the one that was added under the ticket
 pub record IsRead {Q : Type 0} (s t : SeatView Q OutcomeValue) (h : HandleId) (ticket : Ticket) (o : OutcomeValue) (left : ℕ) : Type 0 where
   pub stands : Stands s t call.InfoRead (answer_of h ticket o left)
   pub outcome : IsOutcome o
@@ -61,9 +63,10 @@ pub record IsNextMessage {Q : Type 0} (s t : SeatView Q OutcomeValue) (h : Handl
   pub stands : Stands at t call.InfoRead (answer_of h ticket o left)
   -- at most one for an addition, none after its removal, first in, first out
   pub orderly : IsOrderly t.seen ticket
-  -- its outcome is true, and with code OK it carries the body of the response
+  -- its hops are a chain, from its first request on, and each ended as its link answered; with code OK it carries the body of the response
+  -- to the last request of the chain
   pub outcome : IsOutcome o
   pub body : o.code ≡ code.Ok → CarriesBody o
-  -- to the request that was added under its ticket, which is that of which the seat was told, where it was
+  -- the first request is the one that was added under its ticket, which is that of which the seat was told, where it was
   pub of_addition : Has t.ties (tie ticket (request_origin o.request))
   pub as_told : (origin : Origin) → Has s.ties (tie ticket origin) → request_origin o.request ≡ origin

@@ -1,10 +1,10 @@
 //! The next message, and what is known of it.
 ghost use Rattle.std.specs.Prelude.{◌≡◌, IfOk, MatchOption};
 ghost use Rattle.mx_types.specs.declared.code.Code.TheVariants as code;
-ghost use Rattle.mx_exchange.specs.Outcomes.{IsOutcome};
+ghost use Rattle.mx_chain.specs.Outcomes.{IsOutcome};
 ghost use Rattle.mx_message.specs.Message.{CarriesBody, IsNextMessage, IsRead, Waited};
 
-use mx_exchange::Outcome;
+use mx_chain::Outcome;
 use mx_journal::InfoReply;
 use mx_multi::{Multi, Seat};
 use mx_types::{Code, HandleId, Ticket, Work};
@@ -80,9 +80,10 @@ fn read_once<Q: Work + Drop, R: Wait>(
 ///
 /// The reading stands in the one legal history that the seat has then seen, behind all that it had seen, with the answer of a one-thread
 /// multi handle, and its receipt behind those of the calls that waited for it. In that history the ticket has one end and one reading at
-/// most, and nothing after its removal, and messages are first in, first out. The outcome is what the answers of its link come to, and with
-/// `Code::Ok` it carries the body of the response, by RFC 9112, within the bytes that its connection gave. Its request is the one that was
-/// added under the ticket.
+/// most, and nothing after its removal, and messages are first in, first out. The outcome's request is the one that was added under the
+/// ticket, and its hops are a chain from there on: each later request is the one to which the response before led, and each hop ended as
+/// the answers of its link come to. With `Code::Ok` it carries the body of the response to the last request of the chain, by RFC 9112,
+/// within the bytes that the last hop's connection gave.
 #[tactic(auto, using(crate::proofs::Messages::waited_none, crate::proofs::Messages::waited_on))]
 pub fn next_message<Q: Work + Drop, R: Wait>(
     rt: &R,

@@ -3,7 +3,7 @@ use Rattle.std.specs.Prelude.{ℕ, List, []}
 use Rattle.mx_types.specs.declared.code.Code.{Code}
 use Rattle.mx_types.specs.declared.code.Code.TheVariants as code
 use Rattle.mx_body.specs.Parts.{joined}
-use Rattle.mx_exchange.specs.Transfers.{OutcomeValue}
+use Rattle.mx_chain.specs.Outcomes.{OutcomeValue}
 use Rattle.mx_run_get.specs.declared.fetched.Fetched.{Fetched}
 use Rattle.mx_run_get.specs.declared.fetched.Fetched.TheVariants.{Refused, Ended}
 

@@ -2,7 +2,7 @@
 ghost use Rattle.std.specs.Prelude.{◌≡◌};
 ghost use Rattle.mx_run_get.specs.Fetched.{code_of, status_of};
 
-use mx_exchange::Outcome;
+use mx_chain::Outcome;
 use mx_types::Code;
 
 /// What a handle ended with.

@@ -8,7 +8,7 @@ ghost use Rattle.mx_run_get.specs.Fetched.{content_of};
 ghost use Rattle.mx_run_get.specs.Texts.{transfer_line, transfer_text};
 
 use crate::fetched::Fetched;
-use mx_exchange::Outcome;
+use mx_chain::Outcome;
 use mx_run_io::{Output, WriteFailed};
 use mx_types::Code;
 use std::io::Write;

@@ -1,10 +1,10 @@
 //! Transfers that ended, from scripted links.
 use futures::task::Poll;
 use futures::test::MockTask;
-use mx_exchange::Transfer;
 use mx_link::{ScriptLink, ScriptRead};
 use mx_request::Request;
 use mx_run_get::Fetched;
+use mx_transfer::Transfer;
 use mx_types::{Code, Method, Settings};
 use std::alloc::{AllocGlobal, Global};
 use std::random::RandomSource;

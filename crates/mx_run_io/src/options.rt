@@ -11,6 +11,8 @@ pub struct Options {
     pub timeout_ms: u32,
     /// The greatest number of idle connections that a worker keeps, 0 to 64.
     pub max_connects: u8,
+    /// The greatest number of redirects that a transfer follows; 0 where none is followed.
+    pub max_redirects: u8,
 }
 
 impl Options {

@@ -99,6 +99,7 @@ fn options_of_get(rt: HostRuntime) -> Result<(), Fail> {
         workers: 2,
         timeout_ms: 0,
         max_connects: 4,
+        max_redirects: 0,
     };
     gets(
         &rt,
@@ -116,6 +117,8 @@ fn options_of_get(rt: HostRuntime) -> Result<(), Fail> {
         "4294967295",
         "--max-connects",
         "64",
+        "--max-redirects",
+        "255",
         "no URL",
         "http://a/",
     ];
@@ -123,6 +126,7 @@ fn options_of_get(rt: HostRuntime) -> Result<(), Fail> {
         workers: 16,
         timeout_ms: 4_294_967_295,
         max_connects: 64,
+        max_redirects: 255,
     };
     gets(
         &rt,
@@ -135,14 +139,21 @@ fn options_of_get(rt: HostRuntime) -> Result<(), Fail> {
         workers: 1,
         timeout_ms: 0,
         max_connects: 0,
+        max_redirects: 0,
     };
-    let few = ["get", "--workers=1", "--max-connects=0", "x"];
+    let few = [
+        "get",
+        "--workers=1",
+        "--max-connects=0",
+        "--max-redirects=0",
+        "x",
+    ];
     gets(&rt, rt.alloc(), &few, least, &["x"])
 }
 
 #[test]
 fn refused_command_lines(rt: HostRuntime) -> Result<(), Fail> {
-    let refused: [&[&str]; 16] = [
+    let refused: [&[&str]; 20] = [
         &[],
         &["body"],
         &["body", "get"],
@@ -155,6 +166,10 @@ fn refused_command_lines(rt: HostRuntime) -> Result<(), Fail> {
         &["get", "--workers", "0", "http://a/"],
         &["get", "--workers", "17", "http://a/"],
         &["get", "--max-connects", "65", "http://a/"],
+        &["get", "--max-redirects", "256", "http://a/"],
+        &["get", "--max-redirects", "-1", "http://a/"],
+        &["get", "--max-redirects", "all", "http://a/"],
+        &["get", "http://a/", "--max-redirects"],
         &["get", "--timeout-ms", "4294967296", "http://a/"],
         &["get", "--timeout-ms", "-1", "http://a/"],
         &["get", "--history", "9", "http://a/"],

@@ -7,9 +7,10 @@ use Rattle.mx_link.specs.declared.links.Link as link
 use Rattle.mx_types.specs.declared.work.Work as work
 use Rattle.mx_types.specs.declared.work.Ending as ending
 use Rattle.std.proofs.Crossing.{crosses}
-use Rattle.mx_exchange.proofs.Sends.{outcome_send, transfer_send}
-use Rattle.mx_exchange.specs.contracts.outcomes.Outcome as Outcome
-use Rattle.mx_exchange.specs.contracts.outcomes.OutcomeEnding.TheImpl.{ghosts as outcome_ending}
+use Rattle.mx_chain.proofs.Sends.{outcome_send}
+use Rattle.mx_transfer.proofs.Sends.{transfer_send}
+use Rattle.mx_chain.specs.contracts.outcomes.Outcome as Outcome
+use Rattle.mx_chain.specs.contracts.outcomes.OutcomeEnding.TheImpl.{ghosts as outcome_ending}
 use Rattle.mx_multi.proofs.Sends.{seat_send}
 use Rattle.mx_multi.specs.contracts.seat.WorkerSeat as WorkerSeat
 use Rattle.mx_multi.specs.contracts.seat.WorkerSeat.TheInside as WorkerInside

@@ -3,10 +3,10 @@ ghost use Rattle.std.specs.Prelude.{◌≡◌, All};
 
 use crate::queued::Queued;
 use crate::worker::{WorkerEnd, run_worker};
-use mx_exchange::Outcome;
 use mx_gate::Gate;
 use mx_link::Link;
 use mx_multi::{Multi, WorkerSeat};
+use mx_transfer::Outcome;
 use std::alloc::{AllocError, AllocGlobal};
 use std::random::RandomSource;
 use std::sync::Wait;

@@ -2,9 +2,9 @@
 ghost use Rattle.std.specs.Prelude.{◌≡◌, None};
 
 use mx_cache::IdleCache;
-use mx_exchange::{Outcome, Transfer};
 use mx_gate::Gate;
 use mx_link::Link;
+use mx_transfer::Transfer;
 use mx_types::OutOfMemory;
 use std::alloc::Global;
 
@@ -27,9 +27,9 @@ impl<L: Link> Links<L> {
     /// Hands a link to the transfer where it wants one: an idle one, unless only a fresh one will do, else one that the gate opens.
     /// Where the gate can't, the transfer is told why.
     pub fn supply<G: Gate<Link = L>>(&mut self, gate: &mut G, transfer: &mut Transfer<L>)
-        requires running { transfer.old.code ≡ None }
-        ensures running { transfer.new.code ≡ None }
-        ensures request { transfer.new.request ≡ transfer.old.request }
+        requires running { transfer.old.chain.code ≡ None }
+        ensures running { transfer.new.chain.code ≡ None }
+        ensures request { transfer.new.chain.request ≡ transfer.old.chain.request }
     {
         let Some(want) = transfer.wants() else {
             return;
@@ -49,13 +49,19 @@ impl<L: Link> Links<L> {
         }
     }
 
-    /// Keeps the link of a transfer that has ended, where it may be kept. It is dropped where its endpoint can't be copied for want of
-    /// memory.
-    pub fn keep(&mut self, transfer: &mut Transfer<L>, outcome: &Outcome) {
+    /// Keeps the link that a hop of the transfer leaves, where it may serve again. It is dropped where its endpoint can't be copied for
+    /// want of memory.
+    pub fn keep(&mut self, transfer: &mut Transfer<L>)
+        ensures code { transfer.new.chain.code ≡ transfer.old.chain.code }
+        ensures request { transfer.new.chain.request ≡ transfer.old.chain.request }
+    {
         let Some(link) = transfer.take_link() else {
             return;
         };
-        if let Ok(endpoint) = outcome.request().endpoint().copy(self.alloc) {
+        let Some(endpoint) = transfer.link_endpoint() else {
+            return;
+        };
+        if let Ok(endpoint) = endpoint.copy(self.alloc) {
             let _oldest = self.idle.put(endpoint, link);
         }
     }

@@ -3,10 +3,10 @@ ghost use Rattle.std.specs.Prelude.{◌≡◌, None, Bool, false};
 ghost use Rattle.logbook.specs.Pages.{Book};
 ghost use Rattle.mx_request.specs.Request.{request_origin};
 
-use mx_exchange::{Outcome, Transfer};
 use mx_link::Link;
 use mx_lock::TiedClaim;
 use mx_request::Request;
+use mx_transfer::{Outcome, Transfer};
 use mx_types::{Ticket, Work};
 use std::alloc::Global;
 use std::marker::Model;
@@ -31,30 +31,30 @@ pub struct Queued<L: Link> {
 
 impl<L: Link> Model for Queued<L> {
     ghost use Rattle.std.specs.Prelude.{◌≡◌, None};
-    ghost use Rattle.mx_exchange.specs.Transfers.{TransferState};
+    ghost use Rattle.mx_transfer.specs.Transfers.{TransferState};
 
     ghost Value = { TransferState L };
 
     ghost view = { λ q. q.transfer };
 
-    ghost invariant = { λ q. q.transfer.code ≡ None };
+    ghost invariant = { λ q. q.transfer.chain.code ≡ None };
 }
 
 impl<L: Link> Work for Queued<L> {
     ghost use Rattle.mx_request.specs.Request.{request_origin};
 
-    ghost origin = { λ q. request_origin q.request };
+    ghost origin = { λ q. request_origin q.chain.request };
 }
 
 impl<L: Link> Start for Queued<L> {
-    ghost is_started = { λ q. q.is_started };
+    ghost is_started = { λ q. q.chain.now.is_started };
 }
 
 impl<L: Link> Queued<L> {
     /// A transfer of the request, which has not started. It takes no memory; what its polls grow comes from `alloc`.
     pub fn new(alloc: Global, request: Request) -> Queued<L>
-        ensures request { result.request ≡ request }
-        ensures unstarted { (result.is_started ≡ false) × (result.code ≡ None) × (result.deadline ≡ None) }
+        ensures request { result.chain.request ≡ request }
+        ensures unstarted { (result.chain.now.is_started ≡ false) × (result.chain.code ≡ None) × (result.chain.now.deadline ≡ None) }
     {
         Queued {
             transfer: Transfer::new(alloc, request),
@@ -63,14 +63,14 @@ impl<L: Link> Queued<L> {
 
     /// The request, by move. A link that serves it is dropped.
     pub fn into_request(self) -> Request
-        ensures { result ≡ self.request }
+        ensures { result ≡ self.chain.request }
     {
         self.transfer.into_request()
     }
 
     /// A transfer that a worker has claimed and polled, to be given back. It has not ended.
     pub fn of(transfer: Transfer<L>) -> Queued<L>
-        requires { transfer.code ≡ None }
+        requires { transfer.chain.code ≡ None }
         ensures { result ≡ transfer }
     {
         Queued { transfer }
@@ -79,7 +79,7 @@ impl<L: Link> Queued<L> {
     /// The transfer, by move, for a worker that polls it itself. It has not ended.
     pub fn into_transfer(self) -> Transfer<L>
         ensures same { result ≡ self }
-        ensures running { result.code ≡ None }
+        ensures running { result.chain.code ≡ None }
     {
         self.transfer
     }
@@ -90,12 +90,12 @@ impl<L: Link> Queued<L> {
 pub(crate) struct Held<L: Link> {
     pub claim: TiedClaim<Queued<L>>,
     pub transfer: Transfer<L>,
-    pub ghost running: { transfer.code ≡ None },
-    pub ghost of_one: { request_origin transfer.request ≡ claim.origin },
+    pub ghost running: { transfer.chain.code ≡ None },
+    pub ghost of_one: { request_origin transfer.chain.request ≡ claim.origin },
 }
 
 impl<L: Link> Start for Held<L> {
-    ghost is_started = { λ h. h.transfer.is_started };
+    ghost is_started = { λ h. h.transfer.chain.now.is_started };
 }
 
 impl<L: Link> Tied for Held<L> {

@@ -12,10 +12,10 @@ use arrayvec::ArrayVec;
 use futures::Future;
 use futures::task::{Doorbell, Poll, Solo};
 use mx_clock::{Deadlines, MOST};
-use mx_exchange::{Outcome, Transfer};
 use mx_gate::{Gate, Turn};
 use mx_link::Link;
 use mx_multi::{Multi, WorkerSeat};
+use mx_transfer::{Outcome, Transfer};
 use mx_types::{Look, Ticket};
 use std::alloc::AllocGlobal;
 use std::random::RandomSource;
@@ -80,10 +80,10 @@ fn make_tools<L: Link, R: RandomSource + AllocGlobal>(
 
 // One poll, in the context of the worker's one task. The task goes on whatever the poll answers.
 fn poll_once<L: Link>(solo: &Solo, transfer: &mut Transfer<L>) -> Poll<Outcome>
-    requires running { transfer.old.code ≡ None }
-    ensures request { IfReady result (λ outcome. outcome.request ≡ transfer.old.request) }
-    ensures again { OnPending result (transfer.new.code ≡ None) }
-    ensures kept { OnPending result (transfer.new.request ≡ transfer.old.request) }
+    requires running { transfer.old.chain.code ≡ None }
+    ensures request { IfReady result (λ outcome. outcome.request ≡ transfer.old.chain.request) }
+    ensures again { OnPending result (transfer.new.chain.code ≡ None) }
+    ensures kept { OnPending result (transfer.new.chain.request ≡ transfer.old.chain.request) }
 {
     let mut cx = solo.begin();
     match transfer.poll(&mut cx) {
@@ -205,12 +205,11 @@ impl<L: Link> Worker<L> {
         }
     }
 
-    // Ends a transfer: its link is kept where it may be, and its end is recorded.
+    // Ends a transfer: its end is recorded.
     fn conclude<R: Wait>(
         &mut self,
         rt: &R,
         multi: &Multi<Queued<L>, Outcome>,
-        mut transfer: Transfer<L>,
         finished: Finished<L>,
     )
         requires own { self.old.tally.start.of ≡ multi.now }
@@ -219,7 +218,6 @@ impl<L: Link> Worker<L> {
         ensures start { self.new.tally.start ≡ self.old.tally.start }
     {
         self.deadlines.clear(finished.claim.ticket());
-        self.links.keep(&mut transfer, &finished.outcome);
         self.record(rt, multi, finished);
     }
 
@@ -264,10 +262,9 @@ impl<L: Link> Worker<L> {
         }
         let polled = poll_once(&self.solo, &mut transfer);
         self.tally.note(multi, &claim, transfer.received());
+        self.links.keep(&mut transfer);
         match polled {
-            Poll::Ready(outcome) => {
-                self.conclude(rt, multi, transfer, Finished { claim, outcome })
-            }
+            Poll::Ready(outcome) => self.conclude(rt, multi, Finished { claim, outcome }),
             Poll::Pending => self.resume(Held { claim, transfer }, is_paused, had_deadline),
         }
     }
@@ -326,7 +323,7 @@ impl<L: Link> Worker<L> {
         requires room { in_hand self.old.rack < 64 }
         requires claim { held.claim.of ≡ multi.now.engine.ties }
         ensures start { self.new.tally.start ≡ self.old.tally.start }
-        ensures held { self.new.rack.held ≡ self.old.rack.held ++ started (held.transfer.is_started ∷ []) }
+        ensures held { self.new.rack.held ≡ self.old.rack.held ++ started (held.transfer.chain.now.is_started ∷ []) }
         ensures stopping { self.new.is_stopping ≡ self.old.is_stopping }
     {
         if held.transfer.started() {

@@ -4,8 +4,8 @@ use denote.Param.Send.{IsSend, IsSync}
 use Rattle.mx_types.specs.declared.work.Work as work
 use Rattle.mx_types.specs.declared.work.Ending as ending
 use Rattle.mx_link.specs.declared.links.Link as link
-use Rattle.mx_exchange.proofs.Sends.{outcome_send}
-use Rattle.mx_exchange.specs.contracts.outcomes.Outcome as Outcome
+use Rattle.mx_chain.proofs.Sends.{outcome_send}
+use Rattle.mx_chain.specs.contracts.outcomes.Outcome as Outcome
 use Rattle.mx_multi.proofs.Sends.{multi_sync}
 use Rattle.mx_multi.specs.contracts.multi.Multi as Multi
 use Rattle.mx_multi.specs.contracts.seat.WorkerSeat as WorkerSeat

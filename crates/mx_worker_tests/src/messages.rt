@@ -1,10 +1,10 @@
 //! Done messages, and what they are to say.
 ghost use Rattle.std.specs.Prelude.{◌≡◌};
 
-use mx_exchange::Outcome;
 use mx_journal::InfoReply;
 use mx_link::Link;
 use mx_multi::{Multi, Seat};
+use mx_transfer::Outcome;
 use mx_types::{Code, HandleId, OutOfMemory, Ticket};
 use mx_worker::Queued;
 use std::sync::Wait;

@@ -3,10 +3,10 @@ ghost use Rattle.std.specs.Prelude.{◌≡◌};
 
 use crate::messages::Message;
 use crate::{messages, runs};
-use mx_exchange::Outcome;
 use mx_link::Link;
 use mx_multi::{Multi, Seat};
 use mx_multi_workload::calls;
+use mx_transfer::Outcome;
 use mx_types::HandleId;
 use mx_worker::Queued;
 use std::alloc::AllocGlobal;

@@ -1,11 +1,11 @@
 //! Requests, and a worker's run.
 ghost use Rattle.std.specs.Prelude.{◌≡◌};
 
-use mx_exchange::Outcome;
 use mx_gate::Gate;
 use mx_link::Link;
 use mx_multi::{Multi, WorkerSeat};
 use mx_request::{Request, RequestError};
+use mx_transfer::Outcome;
 use mx_types::{Method, Settings};
 use mx_worker::{Queued, run_worker};
 use std::alloc::{AllocGlobal, Global};

@@ -5,6 +5,6 @@ use Rattle.mx_get.proofs.collect.build.Goals as goal
 
 pub returns : goal.returns
 returns c =
-    built c.args.timeout_ms c.args.url.now _ c.build.result
-    (ap {A = SettingsValue} (λ s. record s { timeout_ms = c.args.timeout_ms }) (c.settings.view_is ∙ c.new-settings.ensures))
+    built c.args.timeout_ms c.args.max_redirects c.args.url.now _ c.build.result
+    (ap {A = SettingsValue} (λ s. record s { timeout_ms = c.args.timeout_ms; max_redirects = c.args.max_redirects }) (c.settings.view_is ∙ c.new-settings.ensures))
     c.build.ensures.answer

@@ -1,7 +1,7 @@
 use denote.Param.Send.{param_send, sendable}
 use Rattle.std.proofs.Crossing.{crosses}
 use Rattle.mx_multi.proofs.Sends.{multi_sync}
-use Rattle.mx_exchange.proofs.Sends.{outcome_send}
+use Rattle.mx_chain.proofs.Sends.{outcome_send}
 use Rattle.mx_worker.proofs.Sends.{end_send, queued_send, worker_send}
 use Rattle.mx_worker.proofs.crew.run_crew.Goals as goal
 

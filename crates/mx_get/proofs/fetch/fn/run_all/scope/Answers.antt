@@ -1,6 +1,6 @@
 use denote.Param.Send.{sendable}
 use Rattle.std.proofs.Crossing.{crosses}
-use Rattle.mx_exchange.proofs.Sends.{outcome_send}
+use Rattle.mx_chain.proofs.Sends.{outcome_send}
 use Rattle.mx_multi.proofs.Sends.{multi_sync}
 use Rattle.mx_worker.proofs.Sends.{queued_send, worker_send}
 use Rattle.mx_get.proofs.fetch.fn.run_all.scope.Goals as goal
