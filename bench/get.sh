@@ -2,7 +2,10 @@
 # `mxfetch get` beside `curl --parallel` with --parallel-max 64 and 16, from nginx over loopback: 1,000 small files in runs of 256,
 # and 4 files of 16 MiB, counted and chunked. Wall time and processor time, the least of five runs that take turns, and the system
 # calls a transfer of one run more under strace. curl writes a file for each body, or none ("to null"); mxfetch writes one for all,
-# and has the huge pages that ./run asks the C library for, or in the row "small pages" hasn't. Prints only.
+# and has the huge pages that ./run asks the C library for, or in the row "small pages" hasn't. Then heads of 6,000 and 60,000 bytes that
+# come whole, or byte by byte, from a server of its own: processor time, and how often the program waited. Prints only.
+#
+#     bench/get.sh [heads]        all of it, or the heads alone
 #
 # It needs nginx, curl, strace and python3, and installs nothing.
 set -eu
@@ -18,8 +21,8 @@ fi
 work=$(mktemp -d)
 chmod 755 "$work" # nginx's workers run as another user
 trap 'rm -rf "$work"' EXIT
-PROGRAM=$PROGRAM WORK=$work python3 - <<'P'
-import os, re, signal, socket, subprocess, time
+PROGRAM=$PROGRAM WORK=$work python3 - "$@" <<'P'
+import os, re, signal, socket, subprocess, sys, threading, time
 
 PROGRAM, WORK = os.environ["PROGRAM"], os.environ["WORK"]
 MIB = 1 << 20
@@ -79,7 +82,7 @@ def environment(program):
     return {**os.environ, **tunables}
 
 def run(program, commands):
-    begun, processor = time.monotonic(), 0.0
+    begun, processor, waits = time.monotonic(), 0.0, 0
     for words in commands:
         with open(f"{WORK}/stdout", "wb") as out:
             child = subprocess.Popen(words, stdout=out, stderr=subprocess.DEVNULL, env=environment(program))
@@ -87,7 +90,8 @@ def run(program, commands):
         if status != 0:
             raise SystemExit(f"{words[:4]}: status {status}")
         processor += usage.ru_utime + usage.ru_stime
-    return time.monotonic() - begun, processor
+        waits += usage.ru_nvcsw
+    return time.monotonic() - begun, processor, waits
 
 def calls(program, commands):
     total = {}
@@ -106,7 +110,7 @@ def show(name, programs, urls):
     least = {}
     for _ in range(ROUNDS):
         for program, words in programs.items():
-            wall, processor = run(program, words(urls))
+            wall, processor, _ = run(program, words(urls))
             before = least.get(program, (wall, processor))
             least[program] = (min(before[0], wall), min(before[1], processor))
     for program, words in programs.items():
@@ -116,15 +120,69 @@ def show(name, programs, urls):
         print(f"  {program:19} wall {wall:6.3f} s  processor {processor:6.3f} s  calls a transfer {sum(total.values()) / len(urls):7.2f}  "
               + ", ".join(f"{name} {count}" for name, count in most), flush=True)
 
-server, base = serve()
-try:
-    programs = {"curl 64": curl(64), "curl 16": curl(16), "curl 16, to null": curl(16, False)}
-    programs.update({f"get, {workers}": get(workers) for workers in (1, 2, 4, 16)})
-    programs["get, 1, small pages"] = get(1)
-    show("small files", programs, [f"{base}/small{number}" for number in range(1000)])
-    show("16 MiB counted", programs, [f"{base}/large{number}" for number in range(4)])
-    show("16 MiB chunked", programs, [f"{base}/chunked/large{number}" for number in range(4)])
-finally:
-    server.send_signal(signal.SIGTERM)
-    server.wait()
+# --- heads ---
+
+BYTES_APART = 40e-6  # seconds between the bytes of a head, so that each is read by itself
+
+def head_of(length):
+    head = b"HTTP/1.1 200 OK\r\nContent-Length: 0\r\n"
+    while (left := length - len(head) - len("\r\n")) > 0:
+        line = 600 if left >= 1200 else left
+        head += b"Field: " + b"x" * (line - len("Field: \r\n")) + b"\r\n"
+    return head + b"\r\n"
+
+def answer_with_head(connection):
+    with connection:
+        connection.setsockopt(socket.IPPROTO_TCP, socket.TCP_NODELAY, 1)
+        while request := connection.recv(65536):
+            _, how, length = request.split(b" ")[1].decode().split("/")
+            head = head_of(int(length))
+            if how == "whole":
+                connection.sendall(head)
+                continue
+            next_at = time.perf_counter()
+            for at in range(len(head)):
+                connection.send(head[at:at + 1])
+                next_at = max(next_at + BYTES_APART, time.perf_counter())
+                while time.perf_counter() < next_at:
+                    pass
+
+def serve_heads():
+    listener = socket.create_server(("127.0.0.1", 0))
+
+    def accept():
+        while True:
+            threading.Thread(target=answer_with_head, args=(listener.accept()[0],), daemon=True).start()
+
+    threading.Thread(target=accept, daemon=True).start()
+    return "http://127.0.0.1:%d" % listener.getsockname()[1]
+
+def show_heads(base):
+    for how in ("whole", "bytes"):
+        for length in (6_000, 60_000):
+            least = {}
+            for _ in range(ROUNDS):
+                for program, words in {"curl": curl(1, False), "get, 1": get(1)}.items():
+                    _, *found = run(program, words([f"{base}/{how}/{length}"]))
+                    least[program] = min(least.get(program, found), found)
+            (by_curl, curl_waits), (by_get, get_waits) = least["curl"], least["get, 1"]
+            print(f"a head of {length:6} bytes, {how:5}: curl {by_curl:6.3f} s ({curl_waits} waits), "
+                  f"get {by_get:6.3f} s ({get_waits} waits), {by_get / by_curl:.2f} times", flush=True)
+
+def show_files():
+    server, base = serve()
+    try:
+        programs = {"curl 64": curl(64), "curl 16": curl(16), "curl 16, to null": curl(16, False)}
+        programs.update({f"get, {workers}": get(workers) for workers in (1, 2, 4, 16)})
+        programs["get, 1, small pages"] = get(1)
+        show("small files", programs, [f"{base}/small{number}" for number in range(1000)])
+        show("16 MiB counted", programs, [f"{base}/large{number}" for number in range(4)])
+        show("16 MiB chunked", programs, [f"{base}/chunked/large{number}" for number in range(4)])
+    finally:
+        server.send_signal(signal.SIGTERM)
+        server.wait()
+
+if sys.argv[1:] != ["heads"]:
+    show_files()
+show_heads(serve_heads())
 P

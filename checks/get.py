@@ -1,223 +1,14 @@
-"""The cases of checks/get.sh: servers, runs of `mxfetch get`, and what is expected of each."""
+"""The cases of checks/get.sh: what servers do, and what is expected of `mxfetch get`."""
 
 import os
-import re
-import resource
-import signal
 import socket
-import struct
 import subprocess
 import sys
-import tempfile
-import threading
 import time
 
-PROGRAM = os.environ["PROGRAM"]
-WORK = os.environ["WORK"]
-MIB = 1 << 20
-LINE = re.compile(rb"transfer (\d+) code (\d+) status (\d+) length (\d+)\n")
-
-
-class Wrong(Exception):
-    pass
-
-
-def want(is_so, what):
-    if not is_so:
-        raise Wrong(what)
-
-
-# --- runs ---------------------------------------------------------------------------------------------------------------
-
-class Run:
-    """What a run of `mxfetch get` printed: its ends are (code, status, body), in the order of the handles."""
-
-    def __init__(self, words, seconds=60, asked=None):
-        begun = time.monotonic()
-        with tempfile.TemporaryFile(dir=WORK) as out, tempfile.TemporaryFile(dir=WORK) as err:
-            child = subprocess.Popen([PROGRAM, "get"] + words, stdin=subprocess.DEVNULL, stdout=out, stderr=err,
-                                     env={**os.environ, **(asked or {})})
-            watch = threading.Timer(seconds, child.kill)
-            watch.start()
-            _, status, usage = os.wait4(child.pid, 0)
-            watch.cancel()
-            child.returncode = os.waitstatus_to_exitcode(status)
-            out.seek(0)
-            err.seek(0)
-            self.out, self.err = out.read(), err.read()
-        self.status = child.returncode
-        self.seconds = time.monotonic() - begun
-        self.peak = usage.ru_maxrss * 1024
-        self.processor = usage.ru_utime + usage.ru_stime
-        want(self.status >= 0, f"ended by signal {-self.status} after {self.seconds:.1f} s")
-        self.ends = parse(self.out) if self.status not in (120, 121) and not self.out.startswith(b"FAULT") else []
-
-    def codes(self):
-        return [code for code, _, _ in self.ends]
-
-
-def parse(out):
-    ends, at = [], 0
-    while at < len(out):
-        line = LINE.match(out, at)
-        want(line is not None, f"no line of a transfer at byte {at}: {out[at:at + 60]!r}")
-        handle, code, status, length = map(int, line.groups())
-        want(handle == len(ends), f"handle {handle} in place of {len(ends)}")
-        body = out[line.end():line.end() + length]
-        at = line.end() + length
-        want(out[at:at + 1] == b"\n", f"no end of line behind the body of {handle}")
-        at += 1
-        ends.append((code, status, body))
-    return ends
-
-
-def first_fault(codes):
-    return next((code for code in codes if code != 0), 0)
-
-
-def want_ends(run, ends):
-    want(len(run.ends) == len(ends), f"{len(run.ends)} ends in place of {len(ends)}")
-    for handle, (found, wanted) in enumerate(zip(run.ends, ends)):
-        want(found[:2] == wanted[:2], f"handle {handle}: code and status {found[:2]} in place of {wanted[:2]}")
-        want(found[2] == wanted[2], f"handle {handle}: another body, of {len(found[2])} bytes in place of {len(wanted[2])}")
-    status = first_fault([code for code, _, _ in ends])
-    want(run.status == status, f"exit status {run.status} in place of {status}")
-
-
-# --- servers ------------------------------------------------------------------------------------------------------------
-
-class Server:
-    """Serves each connection by `serve(connection, number)` on a thread of its own."""
-
-    def __init__(self, serve):
-        self.listener = socket.socket()
-        self.listener.bind(("127.0.0.1", 0))
-        self.listener.listen(512)
-        self.port = self.listener.getsockname()[1]
-        self.count = 0
-        self.serve = serve
-        self.thread = threading.Thread(target=self.accept, daemon=True)
-        self.thread.start()
-
-    def accept(self):
-        while True:
-            try:
-                connection, _ = self.listener.accept()
-            except OSError:
-                return
-            number, self.count = self.count, self.count + 1
-            threading.Thread(target=self.handle, args=(connection, number), daemon=True).start()
-
-    def handle(self, connection, number):
-        try:
-            with connection:
-                connection.setsockopt(socket.IPPROTO_TCP, socket.TCP_NODELAY, 1)
-                self.serve(connection, number)
-        except OSError:
-            pass
-
-    def __enter__(self):
-        return self
-
-    def __exit__(self, *_):
-        # a thread that still accepts could take a connection of a later server, whose listener has the same descriptor
-        self.listener.shutdown(socket.SHUT_RDWR)
-        self.thread.join()
-        self.listener.close()
-
-    def url(self, path="/"):
-        return f"http://127.0.0.1:{self.port}{path}"
-
-
-def read_request(connection):
-    """A request's path, or None where the other side has ended."""
-    head = b""
-    while not head.endswith(b"\r\n\r\n"):
-        byte = connection.recv(1)
-        if not byte:
-            return None
-        head += byte
-    return head.split(b" ")[1].decode()
-
-
-def body_of(path):
-    """A body that its path alone decides."""
-    seed = sum(path.encode()) + 7 * len(path)
-    length = (seed * 7919 + len(path)) % 5003
-    return bytes((seed + 31 * at) % 251 for at in range(length))
-
-
-def counted(body, line="HTTP/1.1 200 OK", more=""):
-    return f"{line}\r\nContent-Length: {len(body)}\r\n{more}\r\n".encode() + body
-
-
-def chunked(body, size):
-    out = b"HTTP/1.1 200 OK\r\nTransfer-Encoding: chunked\r\n\r\n"
-    for at in range(0, len(body), size):
-        piece = body[at:at + size]
-        out += b"%x\r\n" % len(piece) + piece + b"\r\n"
-    return out + b"0\r\n\r\n"
-
-
-def keeping(connection, _):
-    while (path := read_request(connection)) is not None:
-        connection.sendall(counted(body_of(path)))
-
-
-def reset(connection):
-    connection.setsockopt(socket.SOL_SOCKET, socket.SO_LINGER, struct.pack("ii", 1, 0))
-    connection.close()
-
-
-def until_closed(connection):
-    while connection.recv(65536):
-        pass
-
-
-# --- cases --------------------------------------------------------------------------------------------------------------
-
-class Nginx:
-    """nginx over a folder of files."""
-
-    def __init__(self, files):
-        self.root = os.path.join(WORK, "files")
-        os.makedirs(self.root, exist_ok=True)
-        for name, content in files.items():
-            with open(os.path.join(self.root, name), "wb") as file:
-                file.write(content)
-        with socket.socket() as probe:
-            probe.bind(("127.0.0.1", 0))
-            self.port = probe.getsockname()[1]
-        conf = os.path.join(WORK, "nginx.conf")
-        with open(conf, "w") as file:
-            file.write(f"""
-daemon off; worker_processes 2; pid {WORK}/nginx.pid; error_log {WORK}/error.log;
-events {{ worker_connections 1024; }}
-http {{
-  access_log off; keepalive_requests 100000; sendfile on;
-  client_body_temp_path {WORK}/t1; proxy_temp_path {WORK}/t2; fastcgi_temp_path {WORK}/t3;
-  uwsgi_temp_path {WORK}/t4; scgi_temp_path {WORK}/t5;
-  server {{ listen 127.0.0.1:{self.port} backlog=511; root {self.root}; }}
-}}
-""")
-        self.child = subprocess.Popen(["nginx", "-e", f"{WORK}/error.log", "-c", conf], stderr=subprocess.DEVNULL)
-        for _ in range(200):
-            try:
-                socket.create_connection(("127.0.0.1", self.port)).close()
-                return
-            except OSError:
-                time.sleep(0.02)
-        raise Wrong("nginx doesn't answer")
-
-    def __enter__(self):
-        return self
-
-    def __exit__(self, *_):
-        self.child.send_signal(signal.SIGTERM)
-        self.child.wait()
-
-    def url(self, name):
-        return f"http://127.0.0.1:{self.port}/{name}"
+import redirects
+from servers import (MIB, PROGRAM, WORK, Nginx, Run, Server, Wrong, body_of, chunked, counted, keeping, read_request, refuse_growths, reset,
+                     until_closed, want, want_ends)
 
 
 def files_256():
@@ -402,11 +193,14 @@ def case_257_urls():
 
 def case_refused_command_lines():
     for words in ([], ["--workers", "0", "http://a/"], ["--workers", "17", "http://a/"], ["--max-connects", "65", "http://a/"],
-                  ["--timeout-ms", "4294967296", "http://a/"], ["--what", "http://a/"]):
+                  ["--timeout-ms", "4294967296", "http://a/"], ["--max-redirects", "256", "http://a/"],
+                  ["--max-redirects", "-1", "http://a/"], ["--max-redirects", "", "http://a/"], ["--max-redirects", "http://a/"],
+                  ["--what", "http://a/"]):
         run = Run(words)
         want(run.status == 120 and run.out == b"" and run.err != b"", f"{words}: exit status {run.status}")
     asked = subprocess.run([PROGRAM, "get", "--help"], capture_output=True, timeout=20)
     want(asked.returncode == 0 and b"transfer H code C" in asked.stdout and asked.stderr == b"", "help")
+    want(b"--max-redirects" in asked.stdout and b"\n   47  " in asked.stdout, "help has no --max-redirects, or no 47")
 
 
 def case_full_output():
@@ -416,29 +210,10 @@ def case_full_output():
 
 
 def case_refused_growths():
-    note = os.path.join(WORK, "note")
     paths = [f"/n{number}" for number in range(6)]
     with Server(keeping) as server:
         for workers in ("1", "2"):
-            counts = [0, 0, 0]
-            for which in range(1, 5000):
-                if os.path.exists(note):
-                    os.remove(note)
-                asked = {"REFUSE_GROWTH": str(which), "REFUSE_NOTE": note, "LD_PRELOAD": os.path.join(WORK, "refuse.so")}
-                run = Run(["--timeout-ms", "5000", "--workers", workers] + [server.url(path) for path in paths], 20, asked)
-                if not os.path.exists(note):
-                    break
-                if run.out == b"FAULT 27\n":
-                    want(run.status == 27, f"growth {which}: exit status {run.status}")
-                    counts[0] += 1
-                    continue
-                want(len(run.ends) == len(paths), f"growth {which}: {len(run.ends)} ends")
-                want(run.status == first_fault(run.codes()), f"growth {which}: exit status {run.status}")
-                for path, (code, status, body) in zip(paths, run.ends):
-                    want(code == 27 or (code, status, body) == (0, 200, body_of(path)), f"growth {which}: {path} has code {code}")
-                counts[2 if run.status == 0 else 1] += 1
-            want_ends(run, [(0, 200, body_of(path)) for path in paths])
-            print(f"    {workers} workers, growths refused: {counts[0]} ended at once, {counts[1]} ended a transfer, {counts[2]} were done without")
+            refuse_growths(["--workers", workers] + [server.url(path) for path in paths], [(0, 200, body_of(path)) for path in paths])
 
 
 # hostile servers
@@ -579,7 +354,7 @@ def case_cut_short():
 
 
 def main():
-    cases = [(name[5:], case) for name, case in globals().items() if name.startswith("case_")]
+    cases = [(name[5:], case) for name, case in [*globals().items(), *vars(redirects).items()] if name.startswith("case_")]
     word = sys.argv[1] if len(sys.argv) > 1 else ""
     wrong = 0
     for name, case in cases:
