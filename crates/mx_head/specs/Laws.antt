@@ -2,6 +2,7 @@
 use Rattle.std.specs.Prelude.{◌≡◌, ◌≢◌, ℕ, ◌≤◌, List, [], ◌++◌, length, None, option_map}
 use Rattle.httparse.specs.Grammar.{ResponseHead, print_response}
 use Rattle.mx_types.specs.declared.code.Code.{Code}
+use Rattle.mx_head.specs.declared.scan.HeadScan.{HeadScan}
 use Rattle.mx_head.specs.declared.types.HeadStep.{HeadStep}
 use Rattle.mx_head.specs.declared.types.HeadStep.TheVariants.{More}
 use Rattle.mx_head.specs.declared.types.HeadStep.TheVariants as step
@@ -12,6 +13,7 @@ use Rattle.mx_head.specs.Framing.{framing_of, keeps_of}
 use Rattle.mx_head.specs.Summary.{Summary, Describes, framing_by, keeps_by}
 use Rattle.mx_head.specs.Faults.{MeetsAtHead, ComesFirst, MeetsNothing}
 use Rattle.mx_head.specs.Reading.{IsStepOn}
+use Rattle.mx_head.specs.Scan.{HasScanned}
 
 -- causes of one line have one code
 abbrev pub HasOneCodePerLine : {Cause : Type 0} → (Cause → Code) → (Cause → ℕ) → Type 0
@@ -99,3 +101,8 @@ SummaryDecides =
 abbrev pub StepStaysSame : Type 0
 StepStaysSame =
     (input more : List ℕ) (s : HeadStep) → s ≢ More → IsStepOn input s → IsStepOn (input ++ more) s
+
+-- a scan of an input is one of whatever begins with it
+abbrev pub ScanStaysTrue : Type 0
+ScanStaysTrue =
+    (input more : List ℕ) (scan : HeadScan) → HasScanned input scan → HasScanned (input ++ more) scan

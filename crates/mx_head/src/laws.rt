@@ -2,7 +2,7 @@
 //! its caller's proof the law.
 
 ghost use Rattle.mx_head.specs.Faults.{head_code, head_line, MeetsAtHead};
-ghost use Rattle.mx_head.specs.Laws.{HasOneCodePerLine, ShortestComesFirst, FirstIsShortest, FirstHasShortest, HasOneFirst, HasOneStep, HasOneHead, HeadsArePrefixFree, HeadMeetsNothing, StepStaysSame, SummaryDecides};
+ghost use Rattle.mx_head.specs.Laws.{HasOneCodePerLine, ScanStaysTrue, ShortestComesFirst, FirstIsShortest, FirstHasShortest, HasOneFirst, HasOneStep, HasOneHead, HeadsArePrefixFree, HeadMeetsNothing, StepStaysSame, SummaryDecides};
 
 /// An input has one answer of `read_head`.
 pub fn one_step()
@@ -12,6 +12,11 @@ pub fn one_step()
 /// A head and a fault stay the same whatever follows the input.
 pub fn step_stays_same()
     ensures { StepStaysSame }
+{}
+
+/// What a scan has seen of an input it has seen of it with whatever bytes follow.
+pub fn scan_stays_true()
+    ensures { ScanStaysTrue }
 {}
 
 /// What is kept of a head decides how its body ends and whether its connection is kept, as the head itself does.

@@ -114,11 +114,17 @@ fn value_run(text: &[u8]) -> usize
     n
 }
 
+/// A text of fewer bytes is gone through a byte at a time: looking for the end of its line first costs more than it saves.
+const SHORT: usize = 16;
+
 /// How many bytes at the front may stand in a value, sixteen at a time where all up to the end of the line do.
 fn value_line(text: &[u8]) -> usize
     ensures within { result ≤ length text.now }
     ensures value { AllPass is_value_byte (take result text.now) }
 {
+    if text.len() < SHORT {
+        return value_run(text);
+    }
     let line = memchr2(b'\r', b'\n', text).unwrap_or(text.len());
     if is_header_value(&text[..line]) {
         line
