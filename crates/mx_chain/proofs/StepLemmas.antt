@@ -10,7 +10,7 @@ use Rattle.mx_exchange.specs.Exchanges.{HopValue, ExchangeState, IsExchange, Kee
 use Rattle.mx_chain.specs.Hops.{EndsWith}
 use Rattle.mx_chain.specs.Outcomes.{OutcomeValue, hops_of, outcome_of}
 use Rattle.mx_chain.specs.Chains.{ChainState, IsChain, counted, bytes_in, received_of, home_by, released, left_of, over, onward}
-use Rattle.mx_chain.specs.Steps.{How, waits, asks, ends, how_of, IfEnded, IfGoing, KeepsHome, GoesOn, follows, finishes}
+use Rattle.mx_chain.specs.Steps.{How, waits, asks, ends, how_of, IfEnded, IfGoing, SettlesHome, GoesOn, follows, finishes}
 use Rattle.mx_chain.specs.declared.chains.Stepped.{Stepped}
 use Rattle.mx_chain.specs.declared.chains.Stepped.TheVariants as stepped
 use Rattle.mx_chain.proofs.HopLemmas.{late_as, bytes_more}
@@ -95,17 +95,17 @@ module _ {L : Type 0} (t : ChainState L) (mid : ExchangeState L) (o : HopValue) 
 -- a transfer that was released ends
 pub finish : {L : Type 0} (t s new : ChainState L) (o : HopValue) (c : Code) → s ≡ record t { now = released t.now; link = left_of t.link t.now }
     → EndsWith t.request.settings.max_redirects (length t.hops) o c → new ≡ record s { hops = []; code = Some c; link = new.link; home = new.home }
-    → (((new.link ≡ s.link) × (new.link ≢ None → IsSome new.home × (new.home ≡ home_by None s.linked o.request s.hops None))) ⊎ ((new.link ≡ None) × (new.home ≡ None)))
+    → SettlesHome s s.link o.request new
     → GoesOn t t.now o new (ends (outcome_of t.hops o c))
 finish {L} t s new o c was why e home =
     finishes c why
     (e ∙ ap (λ (x : ChainState L). record x { hops = []; code = Some c; link = new.link; home = new.home }) was)
-    (subst (λ (x : ChainState L). ((new.link ≡ x.link) × (new.link ≢ None → IsSome new.home × (new.home ≡ home_by None x.linked o.request x.hops None))) ⊎ ((new.link ≡ None) × (new.home ≡ None))) was home)
+    (subst (λ (x : ChainState L). SettlesHome x x.link o.request new) was home)
 
 -- the same, told of what it was before its end
 pub finish_from : {L : Type 0} (t s new : ChainState L) (o : HopValue) (c : Code) → s ≡ record t { now = released t.now; link = left_of t.link t.now }
     → EndsWith s.request.settings.max_redirects (length s.hops) o c → new ≡ record s { hops = []; code = Some c; link = new.link; home = new.home }
-    → (((new.link ≡ s.link) × (new.link ≢ None → IsSome new.home × (new.home ≡ home_by None s.linked o.request s.hops None))) ⊎ ((new.link ≡ None) × (new.home ≡ None)))
+    → SettlesHome s s.link o.request new
     → GoesOn t t.now o new (ends (outcome_of s.hops o c))
 finish_from {L} t s new o c was why e home =
     subst (λ (x : ChainState L). GoesOn t t.now o new (ends (outcome_of x.hops o c))) (sym was)
@@ -152,10 +152,10 @@ goes_released {L} t s new o how was g = on how (subst (λ (x : ChainState L). Go
 -- a transfer with no link to hand out ends
 pub finish_unkept : {L : Type 0} (t s new : ChainState L) (o p : HopValue) (c : Code) → s ≡ t → p ≡ o → t.now.is_kept ≡ false
     → EndsWith s.request.settings.max_redirects (length s.hops) p c → new ≡ record s { hops = []; code = Some c; link = new.link; home = new.home }
-    → (((new.link ≡ s.link) × (new.link ≢ None → IsSome new.home × (new.home ≡ home_by None s.linked p.request s.hops None))) ⊎ ((new.link ≡ None) × (new.home ≡ None)))
+    → SettlesHome s s.link p.request new
     → GoesOn t t.now o new (ends (outcome_of s.hops p c))
 finish_unkept {L} t s new o p c same hop unkept why e home =
     subst (λ (x : HopValue). GoesOn t t.now o new (ends (outcome_of s.hops x c))) (sym hop)
     (finish_from t s new o c (same ∙ (λ i. record t { now = sym (released_same t.now unkept) i; link = sym (left_same t.now t.link unkept) i }))
     (subst (λ (x : HopValue). EndsWith s.request.settings.max_redirects (length s.hops) x c) hop why) e
-    (subst (λ (x : HopValue). ((new.link ≡ s.link) × (new.link ≢ None → IsSome new.home × (new.home ≡ home_by None s.linked x.request s.hops None))) ⊎ ((new.link ≡ None) × (new.home ≡ None))) hop home))
+    (subst (λ (x : HopValue). SettlesHome s s.link x.request new) hop home))

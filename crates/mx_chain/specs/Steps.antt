@@ -1,5 +1,5 @@
 -- What one turn of a transfer does.
-use Rattle.std.specs.Prelude.{◌≡◌, ◌≢◌, ◌<◌, true, List, length, Some, None, Ok, IsSome, ◌⊎◌}
+use Rattle.std.specs.Prelude.{◌≡◌, ◌≢◌, ◌<◌, true, List, length, Option, Some, None, Ok, IsSome, ◌⊎◌}
 use Rattle.mx_types.specs.declared.code.Code.{Code}
 use Rattle.mx_request.specs.Request.{RequestValue}
 use Rattle.mx_link.specs.declared.answers.Answer.{Answer}
@@ -33,10 +33,11 @@ abbrev pub IfGoing : Stepped → Type 0 → Type 0
 IfGoing (stepped.Ended o) P = Unit {0}
 IfGoing _ P = P
 
--- the link that is left stays, and there is a place where it goes; it is dropped where that could not be copied
-abbrev pub KeepsHome : {L : Type 0} → ChainState L → ExchangeState L → HopValue → ChainState L → Type 0
-KeepsHome t mid o new =
-    ((new.link ≡ left_of t.link mid) × (new.link ≢ None → IsSome new.home × (new.home ≡ home_by None t.linked o.request t.hops None)))
+-- At the end of a hop of the request, the link that is left stays, and there is a place where it goes; it is dropped where that could not
+-- be copied.
+abbrev pub SettlesHome : {L : Type 0} → ChainState L → Option L → RequestValue → ChainState L → Type 0
+SettlesHome t left request new =
+    ((new.link ≡ left) × (new.link ≢ None → IsSome new.home × (new.home ≡ home_by None t.linked request t.hops None)))
     ⊎ ((new.link ≡ None) × (new.home ≡ None))
 
 -- A transfer goes on from a hop that has ended. Where its response is a redirect, fewer were followed than may be, and the next request
@@ -46,7 +47,7 @@ pub data GoesOn {L : Type 0} (t : ChainState L) (mid : ExchangeState L) (o : Hop
       → length t.hops < t.request.settings.max_redirects → next_of o ≡ Ok next → new ≡ onward t mid o next
       → GoesOn t mid o new asks
   finishes : (c : Code) → EndsWith t.request.settings.max_redirects (length t.hops) o c
-      → new ≡ over t mid c new.link new.home → KeepsHome t mid o new → GoesOn t mid o new (ends (outcome_of t.hops o c))
+      → new ≡ over t mid c new.link new.home → SettlesHome t (left_of t.link mid) o.request new → GoesOn t mid o new (ends (outcome_of t.hops o c))
 
 -- A turn is one turn of the hop that is under way, and what comes of its end.
 pub data Steps {L : Type 0} (history : L → List Answer) (t new : ChainState L) : How → Type 0 where

@@ -101,7 +101,7 @@ impl<L: Link> Model for Chain<L> {
 }
 
 impl<L: Link> Chain<L> {
-    ghost use Rattle.mx_chain.specs.Steps.{how_of, IfEnded, IfGoing, Steps, GoesOn, KeepsHome};
+    ghost use Rattle.mx_chain.specs.Steps.{how_of, IfEnded, IfGoing, Steps, GoesOn, SettlesHome};
     ghost use Rattle.mx_chain.specs.Outcomes.{IsOutcome, outcome_of, first_of, hops_of};
     ghost use Rattle.mx_types.specs.declared.code.Code.TheVariants as code;
 
@@ -289,8 +289,7 @@ impl<L: Link> Chain<L> {
     fn settle_home(&mut self, hop: &Hop)
         requires { IsSome self.old.code }
         ensures same { self.new ≡ record self.old { link = self.new.link; home = self.new.home } }
-        ensures home { ((self.new.link ≡ self.old.link) × (self.new.link ≢ None → IsSome self.new.home × (self.new.home ≡ home_by None self.old.linked hop.now.request self.old.hops None)))
-            ⊎ ((self.new.link ≡ None) × (self.new.home ≡ None)) }
+        ensures home { SettlesHome self.old self.old.link hop.now.request self.new }
     {
         self.home = None;
         if self.idle.is_none() {
@@ -313,8 +312,7 @@ impl<L: Link> Chain<L> {
         ensures hop { IsExchange L.history L.asked L.token_of self.new.now }
         ensures request { first_of self.old.hops hop ≡ self.old.request }
         ensures new { self.new ≡ record self.old { hops = []; code = Some code; link = self.new.link; home = self.new.home } }
-        ensures home { ((self.new.link ≡ self.old.link) × (self.new.link ≢ None → IsSome self.new.home × (self.new.home ≡ home_by None self.old.linked hop.request self.old.hops None)))
-            ⊎ ((self.new.link ≡ None) × (self.new.home ≡ None)) }
+        ensures home { SettlesHome self.old self.old.link hop.request self.new }
     {
         hop.know();
         self.exchange.know();
