@@ -1,35 +1,55 @@
 //! Transfers of several hops: their deadline, their retries, their links and how they end. The lengths were counted by hand.
 
-use crate::replay::{Call, Ended, Seen, Waiting, Wanted, play_request};
-use mx_link::ScriptRead;
+use crate::replay::{Call, Ended, Waiting, Wanted, has_seen, links_of, play_request, serve};
+use futures::test::MockTask;
+use mx_link::{ScriptLink, ScriptRead};
 use mx_request::Request;
+use mx_transfer::Transfer;
 use mx_types::{Code, Method, Settings};
 use std::alloc::{AllocGlobal, Global};
 use std::process::Abort;
 use std::random::RandomSource;
 use std::test::Fail;
 
+/// What each chain begins with.
+pub(crate) const HERE: &str = "http://127.0.0.1:8080/a";
+
 /// 55 bytes.
-const FOUND: &[u8] = b"HTTP/1.1 302 Found\r\nLocation: /b\r\nContent-Length: 0\r\n\r\n";
+pub(crate) const FOUND: &[u8] = b"HTTP/1.1 302 Found\r\nLocation: /b\r\nContent-Length: 0\r\n\r\n";
 
 /// 68 bytes.
 const TEMPORARY: &[u8] =
     b"HTTP/1.1 307 Temporary Redirect\r\nLocation: /c\r\nContent-Length: 0\r\n\r\n";
 
 /// 43 bytes, of which the last five are the body.
-const HELLO: &[u8] = b"HTTP/1.1 200 OK\r\nContent-Length: 5\r\n\r\nhello";
+pub(crate) const HELLO: &[u8] = b"HTTP/1.1 200 OK\r\nContent-Length: 5\r\n\r\nhello";
 
 /// 38 bytes.
 const HEAD: &[u8] = b"HTTP/1.1 200 OK\r\nContent-Length: 5\r\n\r\n";
 
+/// A redirect to its own URL, of 55 bytes.
+const ITSELF: &[u8] = b"HTTP/1.1 302 Found\r\nLocation: /a\r\nContent-Length: 0\r\n\r\n";
+
+/// A link that gives `FOUND`.
+const GIVES_FOUND: Call<'static> = Call::Fresh(&[ScriptRead::Bytes(FOUND)], &[]);
+
+/// A link that gives `ITSELF`.
+const GIVES_ITSELF: Call<'static> = Call::Fresh(&[ScriptRead::Bytes(ITSELF)], &[]);
+
 /// A link that was in use before, and is lost before it gives a byte.
 const LOST: Call<'static> = Call::Reused(&[ScriptRead::WouldBlock, ScriptRead::End], &[]);
 
-fn request(alloc: Global, method: Method, limit: u8, timeout_ms: u32) -> Result<Request, Fail> {
+/// A request that follows so many redirects at most.
+pub(crate) fn request(
+    alloc: Global,
+    method: Method,
+    limit: u8,
+    timeout_ms: u32,
+) -> Result<Request, Fail> {
     let mut settings = Settings::new(alloc);
     settings.max_redirects = limit;
     settings.timeout_ms = timeout_ms;
-    Ok(Request::build(alloc, method, "http://127.0.0.1:8080/a", settings)?)
+    Ok(Request::build(alloc, method, HERE, settings)?)
 }
 
 /// A redirect was followed, and so many bytes came so far.
@@ -84,25 +104,36 @@ fn hello() -> Ended<'static> {
     }
 }
 
-/// Over these calls this is seen of a transfer that follows one redirect.
+/// Over these calls this is seen of the transfer of a request.
 fn sees<R: Abort + RandomSource + AllocGlobal>(
+    rt: &R,
+    request: Request,
+    calls: &[Call<'_>],
+    waits: &[Waiting],
+    ended: Ended<'_>,
+) -> Result<(), Fail> {
+    let played = play_request(rt, request, calls)?;
+    has_seen(rt, &played, waits, Some(ended));
+    Ok(())
+}
+
+/// Over these calls this is seen of a transfer that follows one redirect.
+fn sees_one<R: Abort + RandomSource + AllocGlobal>(
     rt: &R,
     method: Method,
     calls: &[Call<'_>],
     waits: &[Waiting],
     ended: Ended<'_>,
 ) -> Result<(), Fail> {
-    let played = play_request(rt, request(rt.alloc(), method, 1, 0)?, calls)?;
-    let ended = Some(ended);
-    assert_eq!(rt; played.seen(), Seen { waits, ended });
-    Ok(())
+    let request = request(rt.alloc(), method, 1, 0)?;
+    sees(rt, request, calls, waits, ended)
 }
 
 #[test]
 fn one_deadline_is_for_all_hops(rt: HostRuntime) -> Result<(), Fail> {
     let calls = [
         Call::Prepare(10, false),
-        Call::Fresh(&[ScriptRead::Bytes(FOUND)], &[]),
+        GIVES_FOUND,
         Call::Poll,
         Call::Prepare(109, false),
         Call::Fresh(&[ScriptRead::WouldBlock], &[]),
@@ -114,16 +145,9 @@ fn one_deadline_is_for_all_hops(rt: HostRuntime) -> Result<(), Fail> {
         followed(55, Some(110)),
         waiting(Wanted::Nothing, 55, Some(110)),
     ];
-    let played = play_request(&rt, request(rt.alloc(), Method::Get, 1, 100)?, &calls)?;
-    let ended = Some(failed(Code::OperationTimedout, 0, b"", 0));
-    assert_eq!(rt;
-        played.seen(),
-        Seen {
-            waits: &waits,
-            ended
-        }
-    );
-    Ok(())
+    let request = request(rt.alloc(), Method::Get, 1, 100)?;
+    let ended = failed(Code::OperationTimedout, 0, b"", 0);
+    sees(&rt, request, &calls, &waits, ended)
 }
 
 #[test]
@@ -131,7 +155,7 @@ fn each_hop_is_tried_again_once(rt: HostRuntime) -> Result<(), Fail> {
     let calls = [
         LOST,
         Call::Poll,
-        Call::Fresh(&[ScriptRead::Bytes(FOUND)], &[]),
+        GIVES_FOUND,
         Call::Poll,
         LOST,
         Call::Poll,
@@ -143,7 +167,7 @@ fn each_hop_is_tried_again_once(rt: HostRuntime) -> Result<(), Fail> {
         followed(55, None),
         waiting(Wanted::Fresh, 55, None),
     ];
-    sees(&rt, Method::Get, &calls, &waits, hello())
+    sees_one(&rt, Method::Get, &calls, &waits, hello())
 }
 
 #[test]
@@ -155,61 +179,194 @@ fn a_later_post_is_not_tried_again(rt: HostRuntime) -> Result<(), Fail> {
         Call::Poll,
     ];
     let ended = failed(Code::GotNothing, 0, b"", 0);
-    sees(&rt, Method::Post, &calls, &[followed(68, None)], ended)
+    sees_one(&rt, Method::Post, &calls, &[followed(68, None)], ended)
 }
 
 #[test]
 fn a_fault_of_the_last_hop_ends_it(rt: HostRuntime) -> Result<(), Fail> {
     let calls = [
-        Call::Fresh(&[ScriptRead::Bytes(FOUND)], &[]),
+        GIVES_FOUND,
         Call::Poll,
         Call::Fresh(&[ScriptRead::Bytes(HEAD), ScriptRead::Fault], &[]),
         Call::Poll,
     ];
     let ended = failed(Code::RecvError, 200, HEAD, 0);
-    sees(&rt, Method::Get, &calls, &[followed(55, None)], ended)
+    sees_one(&rt, Method::Get, &calls, &[followed(55, None)], ended)
 }
 
 // The link of the hop before is still there.
 #[test]
 fn no_link_for_the_last_hop_ends_it(rt: HostRuntime) -> Result<(), Fail> {
-    let calls = [
-        Call::Fresh(&[ScriptRead::Bytes(FOUND)], &[]),
-        Call::Poll,
-        Call::NoLink,
-        Call::Poll,
-    ];
+    let calls = [GIVES_FOUND, Call::Poll, Call::NoLink, Call::Poll];
     let ended = failed(Code::CouldntResolveHost, 0, b"", 1);
-    sees(&rt, Method::Get, &calls, &[followed(55, None)], ended)
+    sees_one(&rt, Method::Get, &calls, &[followed(55, None)], ended)
 }
 
 // A redirect to its own URL is followed as often as may be.
 #[test]
 fn a_redirect_to_itself_ends_with_47(rt: HostRuntime) -> Result<(), Fail> {
-    let itself = b"HTTP/1.1 302 Found\r\nLocation: /a\r\nContent-Length: 0\r\n\r\n";
-    let link = Call::Fresh(&[ScriptRead::Bytes(itself)], &[]);
     let calls = [
-        link,
+        GIVES_ITSELF,
         Call::Poll,
-        link,
+        GIVES_ITSELF,
         Call::Poll,
-        link,
+        GIVES_ITSELF,
         Call::Poll,
-        link,
+        GIVES_ITSELF,
         Call::Poll,
     ];
     let waits = [followed(55, None), followed(110, None), followed(165, None)];
-    let played = play_request(&rt, request(rt.alloc(), Method::Get, 3, 0)?, &calls)?;
-    let ended = Some(Ended {
+    let request = request(rt.alloc(), Method::Get, 3, 0)?;
+    let ended = Ended {
         hops: 4,
-        ..failed(Code::TooManyRedirects, 302, itself, 1)
-    });
-    assert_eq!(rt;
-        played.seen(),
-        Seen {
-            waits: &waits,
-            ended
+        ..failed(Code::TooManyRedirects, 302, ITSELF, 1)
+    };
+    sees(&rt, request, &calls, &waits, ended)
+}
+
+/// What is seen of the links of a transfer.
+#[derive(Clone, Copy, Debug, PartialEq, Eq)]
+struct Links {
+    /// The port where the link goes that was attached last.
+    home: Option<u16>,
+    /// The port where the link goes that is wanted.
+    wanted: Option<u16>,
+    received: u32,
+    code: Option<Code>,
+    /// How many links it gives, asked for twice.
+    given: u32,
+}
+
+fn home_of(transfer: &Transfer<ScriptLink>) -> Option<u16> {
+    match transfer.link_endpoint() {
+        Some(endpoint) => Some(endpoint.port),
+        None => None,
+    }
+}
+
+/// Nothing where a fresh link is wanted, or none.
+fn wanted_of(transfer: &Transfer<ScriptLink>) -> Option<u16> {
+    match transfer.wants() {
+        Some(want) => {
+            if want.fresh {
+                return None;
+            }
+            let endpoint = want.endpoint;
+            Some(endpoint.port)
         }
-    );
+        None => None,
+    }
+}
+
+/// Takes the links that it gives.
+fn take_links(transfer: &mut Transfer<ScriptLink>) -> Links {
+    Links {
+        home: home_of(transfer),
+        wanted: wanted_of(transfer),
+        received: transfer.received(),
+        code: transfer.code(),
+        given: links_of(transfer),
+    }
+}
+
+/// What is seen behind these replies, over one link each.
+fn serve_all(
+    alloc: Global,
+    task: &MockTask,
+    transfer: &mut Transfer<ScriptLink>,
+    replies: &[&[u8]],
+) -> Result<Links, Fail> {
+    for reply in replies {
+        // nothing is asked of it once it has ended
+        if !transfer.spent() {
+            let _outcome = serve(alloc, task, transfer, *reply)?;
+        }
+    }
+    Ok(take_links(transfer))
+}
+
+/// Replies to one hop after another, and what is seen of the links then.
+type Step<'a> = (&'a [&'a [u8]], Links);
+
+fn take_steps<R: Abort + AllocGlobal>(
+    rt: &R,
+    task: &MockTask,
+    transfer: &mut Transfer<ScriptLink>,
+    steps: &[Step<'_>],
+) -> Result<(), Fail> {
+    for step in steps {
+        let links = serve_all(rt.alloc(), task, transfer, step.0)?;
+        assert_eq!(rt; links, step.1);
+    }
     Ok(())
+}
+
+fn with_task<R: Abort + RandomSource + AllocGlobal>(
+    rt: &R,
+    transfer: &mut Transfer<ScriptLink>,
+    steps: &[Step<'_>],
+) -> Result<(), Fail> {
+    let task = MockTask::new(rt)?;
+    take_steps(rt, &task, transfer, steps)
+}
+
+/// A transfer that follows one redirect takes these steps.
+fn takes<R: Abort + RandomSource + AllocGlobal>(rt: &R, steps: &[Step<'_>]) -> Result<(), Fail> {
+    let mut transfer = Transfer::new(rt.alloc(), request(rt.alloc(), Method::Get, 1, 0)?);
+    with_task(rt, &mut transfer, steps)
+}
+
+/// It wants a link to that port.
+fn going(home: Option<u16>, wanted: u16, received: u32, given: u32) -> Links {
+    Links {
+        home,
+        wanted: Some(wanted),
+        received,
+        code: None,
+        given,
+    }
+}
+
+/// It has ended, and all went well.
+fn done(home: Option<u16>, received: u32, given: u32) -> Links {
+    Links {
+        home,
+        wanted: None,
+        received,
+        code: Some(Code::Ok),
+        given,
+    }
+}
+
+/// A redirect to another port, of 73 bytes.
+const AWAY: &[u8] =
+    b"HTTP/1.1 302 Found\r\nLocation: http://127.0.0.1:81/\r\nContent-Length: 0\r\n\r\n";
+
+/// A redirect over a link that closes, of 74 bytes.
+const FOUND_CLOSES: &[u8] =
+    b"HTTP/1.1 302 Found\r\nLocation: /b\r\nConnection: close\r\nContent-Length: 0\r\n\r\n";
+
+/// An empty body over a link that closes, of 57 bytes.
+const CLOSES: &[u8] = b"HTTP/1.1 200 OK\r\nConnection: close\r\nContent-Length: 0\r\n\r\n";
+
+#[test]
+fn a_link_is_handed_out_after_each_hop(rt: HostRuntime) -> Result<(), Fail> {
+    let steps: [Step<'_>; 3] = [
+        (&[], going(None, 8080, 0, 0)),
+        (&[AWAY], going(Some(8080), 81, 73, 1)),
+        (&[HELLO], done(Some(81), 116, 1)),
+    ];
+    takes(&rt, &steps)
+}
+
+#[test]
+fn a_link_that_is_not_taken_is_dropped_for_the_next(rt: HostRuntime) -> Result<(), Fail> {
+    let steps: [Step<'_>; 1] = [(&[AWAY, CLOSES], done(None, 130, 0))];
+    takes(&rt, &steps)
+}
+
+#[test]
+fn a_link_that_closes_is_not_handed_out_between_hops(rt: HostRuntime) -> Result<(), Fail> {
+    let steps: [Step<'_>; 1] = [(&[FOUND_CLOSES], going(Some(8080), 8080, 74, 0))];
+    takes(&rt, &steps)
 }

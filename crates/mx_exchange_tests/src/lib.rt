@@ -7,6 +7,8 @@ mod connecting;
 #[cfg(test)]
 mod hops;
 #[cfg(test)]
+mod redirects;
+#[cfg(test)]
 mod replay;
 #[cfg(test)]
 mod tests;

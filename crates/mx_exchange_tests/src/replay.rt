@@ -10,6 +10,7 @@ use mx_request::Request;
 use mx_transfer::{Outcome, Transfer};
 use mx_types::{Code, Ending as Ends, Method, OutOfMemory, Settings};
 use std::alloc::{AllocGlobal, Global};
+use std::process::Abort;
 use std::random::RandomSource;
 use std::test::Fail;
 
@@ -65,10 +66,10 @@ pub(crate) struct Ended<'a> {
 
 /// What is seen of a transfer.
 #[derive(Clone, Copy, Debug, PartialEq, Eq)]
-pub(crate) struct Seen<'a> {
+struct Seen<'a> {
     /// Of each poll that answered `Pending`.
-    pub(crate) waits: &'a [Waiting],
-    pub(crate) ended: Option<Ended<'a>>,
+    waits: &'a [Waiting],
+    ended: Option<Ended<'a>>,
 }
 
 #[derive(Drop)]
@@ -86,7 +87,7 @@ pub(crate) struct Played {
 }
 
 impl Played {
-    pub(crate) fn seen(&self) -> Seen<'_> {
+    fn seen(&self) -> Seen<'_> {
         Seen {
             waits: self.waits.as_slice(),
             ended: match &self.ending {
@@ -112,6 +113,16 @@ impl Ending {
             hops: outcome.hops(),
         }
     }
+}
+
+/// Compares what was seen.
+pub(crate) fn has_seen(
+    rt: &impl Abort,
+    played: &Played,
+    waits: &[Waiting],
+    ended: Option<Ended<'_>>,
+) {
+    assert_eq!(rt; played.seen(), Seen { waits, ended });
 }
 
 fn build(alloc: Global, method: Method, timeout_ms: u32) -> Result<Request, Fail> {
@@ -149,6 +160,18 @@ fn attach(transfer: &mut Transfer<ScriptLink>, link: ScriptLink, is_reused: bool
     fits
 }
 
+/// Hands over a link that answers so; false where no such link is wanted.
+fn attach_script(
+    alloc: Global,
+    transfer: &mut Transfer<ScriptLink>,
+    reads: &[ScriptRead<'_>],
+    writes: &[Write],
+    is_reused: bool,
+) -> Result<bool, OutOfMemory> {
+    let link = ScriptLink::new(alloc, reads, writes)?;
+    Ok(attach(transfer, link, is_reused))
+}
+
 /// False where no link is wanted.
 fn give_up(transfer: &mut Transfer<ScriptLink>) -> bool {
     let fits = transfer.wants().is_some();
@@ -158,7 +181,8 @@ fn give_up(transfer: &mut Transfer<ScriptLink>) -> bool {
     fits
 }
 
-fn links_of(transfer: &mut Transfer<ScriptLink>) -> u32 {
+/// How many links it gives, asked for twice.
+pub(crate) fn links_of(transfer: &mut Transfer<ScriptLink>) -> u32 {
     let first = transfer.take_link().is_some();
     let second = transfer.take_link().is_some();
     u32::from(first) + u32::from(second)
@@ -185,6 +209,36 @@ fn poll(task: &MockTask, transfer: &mut Transfer<ScriptLink>) -> Option<Outcome>
     }
 }
 
+/// What the poll answers that comes behind a fresh link which gives this reply; nothing where that is pending.
+pub(crate) fn serve(
+    alloc: Global,
+    task: &MockTask,
+    transfer: &mut Transfer<ScriptLink>,
+    reply: &[u8],
+) -> Result<Option<Outcome>, Fail> {
+    if attach_script(alloc, transfer, &[ScriptRead::Bytes(reply)], &[], false)? {
+        return Ok(poll(task, transfer));
+    }
+    Err(Fail::from("no link is wanted"))
+}
+
+/// Keeps what a transfer has ended with.
+fn keep(
+    alloc: Global,
+    transfer: &mut Transfer<ScriptLink>,
+    outcome: Outcome,
+    played: &mut Played,
+) -> Result<(), OutOfMemory> {
+    let body = outcome.copy_body(alloc)?;
+    let links = links_of(transfer);
+    played.ending = Some(Ending {
+        outcome,
+        body,
+        links,
+    });
+    Ok(())
+}
+
 /// Polls once; what is seen then goes to `played`.
 fn poll_into(
     alloc: Global,
@@ -192,18 +246,10 @@ fn poll_into(
     transfer: &mut Transfer<ScriptLink>,
     played: &mut Played,
 ) -> Result<(), OutOfMemory> {
-    let Some(outcome) = poll(task, transfer) else {
-        played.waits.push(waits(task, transfer))?;
-        return Ok(());
-    };
-    let links = links_of(transfer);
-    let body = outcome.copy_body(alloc)?;
-    played.ending = Some(Ending {
-        outcome,
-        body,
-        links,
-    });
-    Ok(())
+    match poll(task, transfer) {
+        Some(outcome) => keep(alloc, transfer, outcome, played),
+        None => Ok(played.waits.push(waits(task, transfer))?),
+    }
 }
 
 /// Makes the call; false where it can't be made now.
@@ -215,14 +261,8 @@ fn make(
     played: &mut Played,
 ) -> Result<bool, OutOfMemory> {
     match call {
-        Call::Fresh(reads, writes) => {
-            let link = ScriptLink::new(alloc, reads, writes)?;
-            Ok(attach(transfer, link, false))
-        }
-        Call::Reused(reads, writes) => {
-            let link = ScriptLink::new(alloc, reads, writes)?;
-            Ok(attach(transfer, link, true))
-        }
+        Call::Fresh(reads, writes) => attach_script(alloc, transfer, reads, writes, false),
+        Call::Reused(reads, writes) => attach_script(alloc, transfer, reads, writes, true),
         Call::NoLink => Ok(give_up(transfer)),
         Call::Prepare(now, is_paused) => {
             transfer.prepare(now, is_paused);
@@ -240,30 +280,38 @@ fn make_all(
     task: &MockTask,
     transfer: &mut Transfer<ScriptLink>,
     calls: &[Call<'_>],
-) -> Result<Played, Fail> {
-    let mut played = Played {
-        waits: Vec::new(alloc),
-        ending: None,
-    };
+    played: &mut Played,
+) -> Result<(), Fail> {
     for call in calls {
         // nothing is asked of it once it has ended
         if played.ending.is_some() {
-            return Ok(played);
+            return Ok(());
         }
-        if !make(alloc, task, transfer, *call, &mut played)? {
+        if !make(alloc, task, transfer, *call, played)? {
             return Err(Fail::from("a call that can't be made"));
         }
     }
-    Ok(played)
+    Ok(())
 }
 
 fn with_task<R: RandomSource + AllocGlobal>(
     rt: &R,
     transfer: &mut Transfer<ScriptLink>,
     calls: &[Call<'_>],
-) -> Result<Played, Fail> {
+    played: &mut Played,
+) -> Result<(), Fail> {
     let task = MockTask::new(rt)?;
-    make_all(rt.alloc(), &task, transfer, calls)
+    make_all(rt.alloc(), &task, transfer, calls, played)
+}
+
+fn play_into<R: RandomSource + AllocGlobal>(
+    rt: &R,
+    request: Request,
+    calls: &[Call<'_>],
+    played: &mut Played,
+) -> Result<(), Fail> {
+    let mut transfer = Transfer::new(rt.alloc(), request);
+    with_task(rt, &mut transfer, calls, played)
 }
 
 /// What is seen of a new transfer of the request over these calls, up to its end.
@@ -272,8 +320,12 @@ pub(crate) fn play_request<R: RandomSource + AllocGlobal>(
     request: Request,
     calls: &[Call<'_>],
 ) -> Result<Played, Fail> {
-    let mut transfer = Transfer::new(rt.alloc(), request);
-    with_task(rt, &mut transfer, calls)
+    let mut played = Played {
+        waits: Vec::new(rt.alloc()),
+        ending: None,
+    };
+    play_into(rt, request, calls, &mut played)?;
+    Ok(played)
 }
 
 /// What is seen of a new transfer, with that limit of time, over these calls, up to its end.

@@ -1,6 +1,6 @@
 //! What a caller sees of a transfer. The offsets and lengths were counted by hand.
 
-use crate::replay::{Call, Ended, Seen, Waiting, Wanted, play};
+use crate::replay::{Call, Ended, Waiting, Wanted, has_seen, play};
 use mx_link::{ScriptRead, Write};
 use mx_types::{Code, Method};
 use std::alloc::{AllocError, AllocGlobal, Global};
@@ -101,8 +101,7 @@ fn sees<R: Abort + RandomSource + AllocGlobal>(
     ended: Ended<'_>,
 ) -> Result<(), Fail> {
     let played = play(rt, method, 0, calls)?;
-    let ended = Some(ended);
-    assert_eq!(rt; played.seen(), Seen { waits, ended });
+    has_seen(rt, &played, waits, Some(ended));
     Ok(())
 }
 
@@ -115,7 +114,7 @@ fn sees_timed<R: Abort + RandomSource + AllocGlobal>(
     ended: Option<Ended<'_>>,
 ) -> Result<(), Fail> {
     let played = play(rt, Method::Get, timeout_ms, calls)?;
-    assert_eq!(rt; played.seen(), Seen { waits, ended });
+    has_seen(rt, &played, waits, ended);
     Ok(())
 }
 
