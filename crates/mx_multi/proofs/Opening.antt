@@ -3,6 +3,7 @@ use Rattle.std.proofs.Common.{◌≡◌, ℕ, zero, suc, ◌+◌, ◌-◌, ◌<�
 use Rattle.std.specs.Prelude.{slice_index_or}
 use Rattle.std.proofs.lemmas.Bool.{lt-ltb, le-ltb}
 use Rattle.logbook.specs.Pages.{Book}
+use Rattle.mx_types.specs.declared.names.Ticket.{Ticket}
 use Rattle.mx_types.specs.declared.event.Who.{Who}
 use Rattle.mx_types.specs.declared.event.Who.TheVariants as who
 use Rattle.mx_types.specs.declared.event.Event.{Event}
@@ -54,10 +55,10 @@ reader_is worker n m w j a b r got who none book same =
     got ∙ path
 
 -- a key and a reader make a new seat
-pub is_new : {Q O : Type 0} (m of : MultiView Q O) (v : KeyView) (r : ReaderState) (worker : Bool) (n k : ℕ) (t : ProgressState) (w : NoteState) (ties : List Origin) (mine : List Receipt) → of.table ≡ m.table → of.keys ≡ m.keys → of.engine ≡ engine_of v → of.words ≡ w.of → w ≡ new_seat t → t.id ≡ m.words → v ≡ child (founder_at m.engine k) → r ≡ caught_up (maker_of worker n) [] m.engine.book → ties ≡ [] → mine ≡ []
-    → IsNew m (maker_of worker n) (seat_of of v r 0 w ties mine)
-is_new {Q} {O} m of v r worker n k t w ties mine table keys engine words fresh of_words key got none no_receipt =
-    let same : of ≡ m = λ i. record { table = table i; keys = keys i; engine = (engine ∙ ap engine_of key) i; words = (words ∙ ap (λ (z : NoteState). z.of) fresh ∙ of_words) i } in
+pub is_new : {Q O : Type 0} (m of : MultiView Q O) (v : KeyView) (r : ReaderState) (worker : Bool) (n k : ℕ) (t : ProgressState) (w : NoteState) (ties : List Origin) (mine : List Receipt) (given : List Ticket) → of.table ≡ m.table → of.keys ≡ m.keys → of.engine ≡ engine_of v → of.words ≡ w.of → w ≡ new_seat t → t.id ≡ m.words → of.max_connects ≡ m.max_connects → v ≡ child (founder_at m.engine k) → r ≡ caught_up (maker_of worker n) [] m.engine.book → ties ≡ [] → mine ≡ [] → given ≡ []
+    → IsNew m (maker_of worker n) (seat_of of v r 0 w ties mine given)
+is_new {Q} {O} m of v r worker n k t w ties mine given table keys engine words fresh of_words connects key got none no_receipt none_given =
+    let same : of ≡ m = λ i. record { table = table i; keys = keys i; engine = (engine ∙ ap engine_of key) i; words = (words ∙ ap (λ (z : NoteState). z.of) fresh ∙ of_words) i; max_connects = connects i } in
     record {
       of = same;
       who = ap (λ (z : ReaderState). z.who) got;
@@ -67,6 +68,7 @@ is_new {Q} {O} m of v r worker n k t w ties mine table keys engine words fresh o
       claims = ap (λ (z : KeyView). z.claims) key;
       ties = none;
       mine = no_receipt;
+      given = none_given;
       noted = ap (λ (z : NoteState). z.noted) fresh;
       read = ap (λ (z : NoteState). z.read) fresh;
     }

@@ -23,7 +23,7 @@ use Rattle.mx_types.specs.declared.work.Ending as ending
 seat_inside : (Q O : RattleType) (g : work.Ghosts Q.Denot) (h : ending.Ghosts O.Denot) → IsSend Q → IsSend O → IsSend (SeatInside.the_field Q O g h).row
 seat_inside Q O g h q o =
     let s = shared_send Q O g h q o in
-    struct_send (shape (SeatInside.the_type Q O g h)) (search (chair_send, badge_send, key_send, doing_send, sendable, crosses) depth 40 fits 20000, (reader_send, (search (sendable, crosses) depth 40, (notes_send, (tie_send, (search (sendable, crosses) depth 40, tt))))))
+    struct_send (shape (SeatInside.the_type Q O g h)) (search (chair_send, badge_send, key_send, doing_send, sendable, crosses) depth 40 fits 20000, (reader_send, (search (sendable, crosses) depth 40, (notes_send, (search (sendable, crosses) depth 40, (tie_send, (search (sendable, crosses) depth 40, (search (sendable, crosses) depth 40, tt))))))))
 
 pub seat_send : (Q O : RattleType) (g : work.Ghosts Q.Denot) (h : ending.Ghosts O.Denot) → IsSend Q → IsSend O → IsSend (Seat.the_row Q O g h)
 seat_send Q O g h q o =

@@ -54,9 +54,9 @@ mark_more mine call reply n = fold-append (λ m (r : Receipt). cond (is_poll r.c
 
 module _ {Q O : Type 0} where
   pub stands_at : (s t : SeatView Q O) (j : List Event) (call : Call) (reply : Reply) → t.of ≡ s.of → t.who ≡ s.who → Finds s j → Answers s.of.engine.opening s.who call j reply t.seen → is_legal t.seen ≡ true
-      → Confirms s t → t.claims ≡ s.claims → t.words ≡ s.words → IsPrefix s.ties t.ties → t.polled ≡ polled_after call (length t.seen) s.polled → (is_poll call ≡ true → is_ready s.polled t.seen ≡ true)
+      → Confirms s t → t.claims ≡ s.claims → t.given ≡ s.given → t.words ≡ s.words → IsPrefix s.ties t.ties → t.polled ≡ polled_after call (length t.seen) s.polled → (is_poll call ≡ true → is_ready s.polled t.seen ≡ true)
       → t.mine ≡ s.mine ++ record { cut = length t.seen; call = call; reply = reply } ∷ [] → Stands s t call reply
-  stands_at s t j call reply same who f a legal confirmed claims words ties at ready mine =
+  stands_at s t j call reply same who f a legal confirmed claims given words ties at ready mine =
       let new : Receipt = record { cut = length t.seen; call = call; reply = reply } in
       record {
         of = same;
@@ -66,6 +66,7 @@ module _ {Q O : Type 0} where
         found = (j, f, a);
         confirmed = confirmed;
         claims = claims;
+        given = given;
         words = words;
         ties = ties;
         polled = at;
@@ -111,14 +112,14 @@ module _ {Q O : Type 0} where
   pub sees_from : (old s t : SeatView Q O) → old ≡ s → Sees old t → Sees s t
   sees_from old s t e h = subst (λ (z : SeatView Q O). Sees z t) e h
 
-  of_is : (a b : MultiView Q O) → a.table ≡ b.table → a.keys ≡ b.keys → a.engine ≡ b.engine → a.words ≡ b.words → a ≡ b
-  of_is a b p q r w i = record { table = p i; keys = q i; engine = r i; words = w i }
+  of_is : (a b : MultiView Q O) → a.table ≡ b.table → a.keys ≡ b.keys → a.engine ≡ b.engine → a.words ≡ b.words → a.max_connects ≡ b.max_connects → a ≡ b
+  of_is a b p q r w n i = record { table = p i; keys = q i; engine = r i; words = w i; max_connects = n i }
 
   -- a key that stays at its lock is of the same engine
-  pub same_of : (old new inner multi : MultiView Q O) (s : SeatView Q O) → s.of ≡ multi → inner ≡ multi → old ≡ s.of → new.table ≡ inner.table → new.keys ≡ inner.keys → new.engine ≡ old.engine → new.words ≡ old.words → new ≡ old
-  same_of old new inner multi s own in_ was t k e w =
+  pub same_of : (old new inner multi : MultiView Q O) (s : SeatView Q O) → s.of ≡ multi → inner ≡ multi → old ≡ s.of → new.table ≡ inner.table → new.keys ≡ inner.keys → new.engine ≡ old.engine → new.words ≡ old.words → new.max_connects ≡ old.max_connects → new ≡ old
+  same_of old new inner multi s own in_ was t k e w n =
       let all : inner ≡ old = in_ ∙ sym own ∙ sym was in
-      of_is new old (t ∙ ap (λ (m : MultiView Q O). m.table) all) (k ∙ ap (λ (m : MultiView Q O). m.keys) all) e w
+      of_is new old (t ∙ ap (λ (m : MultiView Q O). m.table) all) (k ∙ ap (λ (m : MultiView Q O). m.keys) all) e w n
 
 -- 2. A key and its reader.
 
@@ -130,8 +131,8 @@ all_confirmed j = (omega arith, omega arith)
 
 module _ {Q O : Type 0} where
   -- the seat of a key and a reader
-  abbrev pub seat_of : MultiView Q O → KeyView → ReaderState → ℕ → NoteState → List Origin → List Receipt → SeatView Q O
-  seat_of of v r p n k m = record { of = of; who = r.who; seen = r.seen; confirmed = r.confirmed; polled = p; claims = v.claims; words = n; ties = k; mine = m }
+  abbrev pub seat_of : MultiView Q O → KeyView → ReaderState → ℕ → NoteState → List Origin → List Receipt → List Ticket → SeatView Q O
+  seat_of of v r p n k m back = record { of = of; who = r.who; seen = r.seen; confirmed = r.confirmed; polled = p; claims = v.claims; given = back; words = n; ties = k; mine = m }
 
   -- a reader that has seen the whole journal
   abbrev pub at_end : Who → SharedState Q O → ReaderState
@@ -144,8 +145,8 @@ none_new before p (t ∷ after) h = ap (λ b. cond b (t ∷ filter p after) (fil
 -- the engine that a key took, before anything was done
 module _ {Q O : Type 0} (v w : KeyView) (r : ReaderState) (x : SharedState Q O) (seat : IsSeat v r) (took : Took content v x w) where
   -- the journal that was found
-  pub finds : (of : MultiView Q O) (p : ℕ) (n : NoteState) (k : List Origin) (m : List Receipt) → IsPrefix r.seen x.core.journal → Finds (seat_of of v r p n k m) x.core.journal
-  finds of p n k m pre =
+  pub finds : (of : MultiView Q O) (p : ℕ) (n : NoteState) (k : List Origin) (m : List Receipt) (back : List Ticket) → IsPrefix r.seen x.core.journal → Finds (seat_of of v r p n k m back) x.core.journal
+  finds of p n k m back pre =
       let own : made_by r.who x.core.journal ≡ made_by r.who v.seen = subst (λ w. made_by w x.core.journal ≡ made_by w v.seen) seat.who took.own in
       record { later = pre; own = own ∙ sym seat.own }
 
@@ -206,31 +207,31 @@ module _ {Q O : Type 0} (v w : KeyView) (r : ReaderState) (x : SharedState Q O) 
     claims_one ticket one = claims_are ∙ ap (λ l. v.claims ++ l) one
 
     -- all is confirmed then
-    confirms : (of of' : MultiView Q O) (p q : ℕ) (n : NoteState) (k l : List Origin) (ms mt : List Receipt) → IsPrefix r.seen y.core.journal → Confirms (seat_of of v r p n k ms) (seat_of of' u t q n l mt)
-    confirms of of' p q n k l ms mt pre =
+    confirms : (of of' : MultiView Q O) (p q : ℕ) (n : NoteState) (k l : List Origin) (ms : List Receipt) (back : List Ticket) (mt : List Receipt) → IsPrefix r.seen y.core.journal → Confirms (seat_of of v r p n k ms back) (seat_of of' u t q n l mt back)
+    confirms of of' p q n k l ms back mt pre =
         let at : t.confirmed ≡ length t.seen = ap (λ (z : ReaderState). z.confirmed) got ∙ ap length (sym (ap (λ (z : ReaderState). z.seen) got)) in
         let long = prefix_length r.seen y.core.journal pre in
         let seen : length t.seen ≡ length y.core.journal = ap (λ (z : ReaderState). length z.seen) got in
         let was = seat.but_last.0 in
         record { more = omega (arith, at, long, seen, was); within = omega (arith, at); but_last = omega (arith, at) }
 
-    pub lock_stands : (of of' : MultiView Q O) (p q : ℕ) (n : NoteState) (k l : List Origin) (ms mt : List Receipt) (by : Who) (call : Call) (reply : Reply) → IsPrefix k l → of.engine ≡ engine_of v → of' ≡ of → by ≡ r.who → IsPrefix r.seen x.core.journal → Leaves by call x reply y
+    pub lock_stands : (of of' : MultiView Q O) (p q : ℕ) (n : NoteState) (k l : List Origin) (ms : List Receipt) (back : List Ticket) (mt : List Receipt) (by : Who) (call : Call) (reply : Reply) → IsPrefix k l → of.engine ≡ engine_of v → of' ≡ of → by ≡ r.who → IsPrefix r.seen x.core.journal → Leaves by call x reply y
         → q ≡ polled_after call (length y.core.journal) p → (is_poll call ≡ true → is_ready p y.core.journal ≡ true) → mt ≡ ms ++ record { cut = length t.seen; call = call; reply = reply } ∷ []
-        → Stands (seat_of of v r p n k ms) (seat_of of' u t q n l mt) call reply
-    lock_stands of of' p q n k l ms mt by call reply ties engine same is pre leaves at ready mine =
+        → Stands (seat_of of v r p n k ms back) (seat_of of' u t q n l mt back) call reply
+    lock_stands of of' p q n k l ms back mt by call reply ties engine same is pre leaves at ready mine =
         let opening : x.core.opening ≡ of.engine.opening = ap (λ (e : Engine). e.opening) (sym (engine ∙ took.engine)) in
         let a = subst (λ o. Answers o by call x.core.journal reply y.core.journal) opening leaves.answers in
         let b = subst (λ m. Answers of.engine.opening m call x.core.journal reply y.core.journal) is a in
         let seen : t.seen ≡ y.core.journal = ap (λ (z : ReaderState). z.seen) got in
-        stands_at (seat_of of v r p n k ms) (seat_of of' u t q n l mt) x.core.journal call reply same (ap (λ (z : ReaderState). z.who) got) (finds of p n k ms pre)
+        stands_at (seat_of of v r p n k ms back) (seat_of of' u t q n l mt back) x.core.journal call reply same (ap (λ (z : ReaderState). z.who) got) (finds of p n k ms back pre)
         (subst (λ z. Answers of.engine.opening r.who call x.core.journal reply z) (sym seen) b) (ap is_legal seen ∙ leaves.legal)
-        (confirms of of' p q n k l ms mt (begins_by y by call reply leaves pre)) (claims_after leaves.claims) refl ties
+        (confirms of of' p q n k l ms back mt (begins_by y by call reply leaves pre)) (claims_after leaves.claims) refl refl ties
         (at ∙ ap (λ z. polled_after call (length z) p) (sym seen)) (λ poll. ap (is_ready p) seen ∙ ready poll) mine
 
-    pub lock_sees : (of of' : MultiView Q O) (p : ℕ) (n : NoteState) (k l : List Origin) (m : List Receipt) → IsPrefix k l → of' ≡ of → IsPrefix r.seen x.core.journal → IsLeft x y → Sees (seat_of of v r p n k m) (seat_of of' u t p n l m)
-    lock_sees of of' p n k l m ties same pre left =
+    pub lock_sees : (of of' : MultiView Q O) (p : ℕ) (n : NoteState) (k l : List Origin) (m : List Receipt) (back back' : List Ticket) → IsPrefix k l → of' ≡ of → IsPrefix r.seen x.core.journal → IsLeft x y → Sees (seat_of of v r p n k m back) (seat_of of' u t p n l m back')
+    lock_sees of of' p n k l m back back' ties same pre left =
         let seen : t.seen ≡ x.core.journal = ap (λ (z : ReaderState). z.seen) got ∙ left.journal in
-        sees_at (seat_of of v r p n k m) (seat_of of' u t p n l m) same (ap (λ (z : ReaderState). z.who) got) (subst (Finds (seat_of of v r p n k m)) (sym seen) (finds of p n k m pre)) (ap is_legal (ap (λ (z : ReaderState). z.seen) got) ∙ left.legal) refl
+        sees_at (seat_of of v r p n k m back) (seat_of of' u t p n l m back') same (ap (λ (z : ReaderState). z.who) got) (subst (Finds (seat_of of v r p n k m back)) (sym seen) (finds of p n k m back pre)) (ap is_legal (ap (λ (z : ReaderState). z.seen) got) ∙ left.legal) refl
         (ap (λ (z : ReaderState). z.confirmed) got ∙ ap length (sym (ap (λ (z : ReaderState). z.seen) got))) refl ties refl
 
   -- the state that was found, by a seat that has then seen its journal
@@ -281,11 +282,11 @@ seat_read v r t s h = record {
 }
 
 -- a read stands at what it has then seen
-pub stands_read : {Q O : Type 0} (of : MultiView Q O) (v : KeyView) (r t : ReaderState) (p : ℕ) (n : NoteState) (k : List Origin) (ms mt : List Receipt) (call : Call) (reply : Reply) → Reads r t → is_poll call ≡ false → Answers of.engine.opening r.who call t.seen reply t.seen
-    → mt ≡ ms ++ record { cut = length t.seen; call = call; reply = reply } ∷ [] → Stands (seat_of of v r p n k ms) (seat_of of v t p n k mt) call reply
-stands_read of v r t p n k ms mt call reply h quiet a mine =
-    stands_at (seat_of of v r p n k ms) (seat_of of v t p n k mt) t.seen call reply refl h.who (record { later = h.later; own = h.own }) a h.legal
-    (record { more = h.confirmed; within = h.but_last.0; but_last = h.but_last.1 }) refl refl (prefix_self k)
+pub stands_read : {Q O : Type 0} (of : MultiView Q O) (v : KeyView) (r t : ReaderState) (p : ℕ) (n : NoteState) (k : List Origin) (ms : List Receipt) (back : List Ticket) (mt : List Receipt) (call : Call) (reply : Reply) → Reads r t → is_poll call ≡ false → Answers of.engine.opening r.who call t.seen reply t.seen
+    → mt ≡ ms ++ record { cut = length t.seen; call = call; reply = reply } ∷ [] → Stands (seat_of of v r p n k ms back) (seat_of of v t p n k mt back) call reply
+stands_read of v r t p n k ms back mt call reply h quiet a mine =
+    stands_at (seat_of of v r p n k ms back) (seat_of of v t p n k mt back) t.seen call reply refl h.who (record { later = h.later; own = h.own }) a h.legal
+    (record { more = h.confirmed; within = h.but_last.0; but_last = h.but_last.1 }) refl refl refl (prefix_self k)
     (ap (λ b. cond b (length t.seen) p) (sym quiet)) (λ is. absurd (false≢true (sym quiet ∙ is))) mine
 
 -- 4. A seat that meets another.
@@ -303,12 +304,12 @@ seat_sees v r t x s pre own book got =
       but_last = all_confirmed x.core.journal;
     })
 
-pub other_sees : {Q O : Type 0} (of : MultiView Q O) (v : KeyView) (r t : ReaderState) (p : ℕ) (n : NoteState) (k l : List Origin) (m : List Receipt) (x : SharedState Q O) → IsPrefix k l → IsPrefix r.seen x.core.journal → made_by r.who x.core.journal ≡ made_by r.who r.seen → is_legal x.core.journal ≡ true → t ≡ at_end r.who x
-    → Sees (seat_of of v r p n k m) (seat_of of v t p n l m)
-other_sees of v r t p n k l m x ties pre own legal got =
+pub other_sees : {Q O : Type 0} (of : MultiView Q O) (v : KeyView) (r t : ReaderState) (p : ℕ) (n : NoteState) (k l : List Origin) (m : List Receipt) (back : List Ticket) (x : SharedState Q O) → IsPrefix k l → IsPrefix r.seen x.core.journal → made_by r.who x.core.journal ≡ made_by r.who r.seen → is_legal x.core.journal ≡ true → t ≡ at_end r.who x
+    → Sees (seat_of of v r p n k m back) (seat_of of v t p n l m back)
+other_sees of v r t p n k l m back x ties pre own legal got =
     let seen : t.seen ≡ x.core.journal = ap (λ (z : ReaderState). z.seen) got in
-    sees_at (seat_of of v r p n k m) (seat_of of v t p n l m) refl (ap (λ (z : ReaderState). z.who) got)
-    (subst (Finds (seat_of of v r p n k m)) (sym seen) (record { later = pre; own = own })) (ap is_legal seen ∙ legal) refl (ap (λ (z : ReaderState). z.confirmed) got ∙ ap length (sym seen)) refl ties refl
+    sees_at (seat_of of v r p n k m back) (seat_of of v t p n l m back) refl (ap (λ (z : ReaderState). z.who) got)
+    (subst (Finds (seat_of of v r p n k m back)) (sym seen) (record { later = pre; own = own })) (ap is_legal seen ∙ legal) refl (ap (λ (z : ReaderState). z.confirmed) got ∙ ap length (sym seen)) refl ties refl
 
 -- 5. How the engine is left.
 
@@ -333,8 +334,8 @@ pub quiet_mark : (c : Call) (n p : ℕ) → is_poll c ≡ false → p ≡ polled
 quiet_mark c n p quiet = ap (λ b. cond b n p) (sym quiet)
 
 -- a seat whose key put back what it took
-pub received_released : {Q O : Type 0} (v u : KeyView) (r : ReaderState) (of of' : MultiView Q O) (p : ℕ) (n : NoteState) (k : List Origin) (m : List Receipt) → of'.engine ≡ of.engine → HasReceipts (seat_of of v r p n k m) → HasReceipts (seat_of of' u r p n k m)
-received_released v u r of of' p n k m same h =
+pub received_released : {Q O : Type 0} (v u : KeyView) (r : ReaderState) (of of' : MultiView Q O) (p : ℕ) (n : NoteState) (k : List Origin) (m : List Receipt) (back : List Ticket) → of'.engine ≡ of.engine → HasReceipts (seat_of of v r p n k m back) → HasReceipts (seat_of of' u r p n k m back)
+received_released v u r of of' p n k m back same h =
     record { placed = subst (λ (e : Engine). IsPlaced e.opening r.who m r.seen) (sym same) h.placed; polled = h.polled }
 
 pub left_from : {Q O : Type 0} (code : O → Code) (size : O → ℕ) (old s t : SeatView Q O) (reply : Reply) → old ≡ s → LeavesState code size old t reply → LeavesState code size s t reply
@@ -354,12 +355,13 @@ told_alike xs ys (inr p) t a b h k = same_origin xs t a b h (has_more ys xs t b 
 
 -- 6. A version that was read, with no receipt.
 
-pub sees_version : {Q O : Type 0} (of of' : MultiView Q O) (v : KeyView) (r t : ReaderState) (p : ℕ) (n m : NoteState) (k : List Origin) (mine : List Receipt) → of' ≡ of → Reads r t → SeesVersion (seat_of of v r p n k mine) (seat_of of' v t p m k mine)
-sees_version {Q} {O} of of' v r t p n m k mine same h = record {
+pub sees_version : {Q O : Type 0} (of of' : MultiView Q O) (v : KeyView) (r t : ReaderState) (p : ℕ) (n m : NoteState) (k : List Origin) (mine : List Receipt) (back : List Ticket) → of' ≡ of → Reads r t → SeesVersion (seat_of of v r p n k mine back) (seat_of of' v t p m k mine back)
+sees_version {Q} {O} of of' v r t p n m k mine back same h = record {
   of = same;
   who = h.who;
   polled = refl;
   claims = refl;
+  given = refl;
   ties = refl;
   confirmed = record { more = h.confirmed; within = h.but_last.0; but_last = h.but_last.1 };
   found = record { later = h.later; own = h.own };

@@ -36,9 +36,10 @@ abbrev pub AreNew : {Q O : Type 0} → MultiView Q O → Bool → ℕ → List (
 AreNew m worker n [] = Unit {0}
 AreNew m worker n (s ∷ ss) = IsNew m (maker_of worker n) s × AreNew m worker (n + 1) ss
 
--- what was opened: the seats and the workers' seats, each with a maker of its own, have seen nothing
+-- what was opened, with these limits: the seats and the workers' seats, each with a maker of its own, have seen nothing
 pub record IsOpened {Q O : Type 0} (l : Limits) (m : MultiView Q O) (seats workers : List (SeatView Q O)) : Type 0 where
   pub history : m.engine.opening ≡ record { history = l.history }
+  pub max_connects : m.max_connects ≡ l.max_connects
   pub seats_new : AreNew m false 0 seats
   pub seats_all : length seats ≡ l.seats
   pub workers_new : AreNew m true 0 workers

@@ -25,16 +25,18 @@ use Rattle.mx_lock.specs.Shared.{SharedState, Engine, IsLocked, content}
 use Rattle.mx_lock.specs.Lock.{maker, engine_of}
 use Rattle.mx_lock.specs.declared.key_view.KeyView.{KeyView}
 
--- which engine it is: its lock, its journal, what it was opened with, and its progress words
+-- which engine it is: its lock, its journal, what it was opened with, its progress words, and how many idle connections a worker of
+-- it keeps at most
 pub record MultiView (Q O : Type 0) : Type 0 where
   pub table : TableId
   pub keys : Badge (Key (SharedState Q O))
   pub engine : Engine
   pub words : TableId
+  pub max_connects : ℕ
 
 -- a seat: of which engine it is, which maker, the events that it has seen, how many of these are confirmed by more than a
--- read, how many they were at its last poll, the tickets that it has claimed, the progress words that it has noted and read, of
--- which requests additions are, as it was told under the lock, and the receipts of its answered calls
+-- read, how many they were at its last poll, the tickets that it has claimed and those that it has given back, the progress words
+-- that it has noted and read, of which requests additions are, as it was told under the lock, and the receipts of its answered calls
 pub record SeatView (Q O : Type 0) : Type 0 where
   pub of : MultiView Q O
   pub who : Who
@@ -42,6 +44,7 @@ pub record SeatView (Q O : Type 0) : Type 0 where
   pub confirmed : ℕ
   pub polled : ℕ
   pub claims : List Ticket
+  pub given : List Ticket
   pub words : NoteState
   pub ties : List Origin
   pub mine : List Receipt
@@ -82,6 +85,7 @@ pub record Stands {Q O : Type 0} (s t : SeatView Q O) (call : Call) (reply : Rep
   pub found : (j : List Event) × Finds s j × Answers s.of.engine.opening s.who call j reply t.seen
   pub confirmed : Confirms s t
   pub claims : t.claims ≡ s.claims
+  pub given : t.given ≡ s.given
   pub words : t.words ≡ s.words
   pub ties : IsPrefix s.ties t.ties
   pub polled : t.polled ≡ (if is_poll call then length t.seen else s.polled)
@@ -108,6 +112,7 @@ pub record SeesVersion {Q O : Type 0} (s t : SeatView Q O) : Type 0 where
   pub who : t.who ≡ s.who
   pub polled : t.polled ≡ s.polled
   pub claims : t.claims ≡ s.claims
+  pub given : t.given ≡ s.given
   pub ties : t.ties ≡ s.ties
   pub confirmed : Confirms s t
   pub found : Finds s t.seen
@@ -155,6 +160,10 @@ pub record GivesBack {Q O : Type 0} (code : O → Code) (size : O → ℕ) (s : 
   pub queue : after.core.queue ≡ queue_given reply found.core.queue ticket work
   pub endings : after.core.endings ≡ found.core.endings
 
+-- the tickets that a seat has given back, once work of this one went back, or didn't
+abbrev pub given_with : {Q : Type 0} → GiveBackReply Q → Ticket → List Ticket → List Ticket
+given_with reply t given = if is_back reply then given ++ t ∷ [] else given
+
 -- the queue that was found there was empty
 pub record ClaimsNothing {Q O : Type 0} (code : O → Code) (size : O → ℕ) (s : SeatView Q O) : Type 0 where
   pub found : SharedState Q O
@@ -169,6 +178,7 @@ pub record IsNew {Q O : Type 0} (m : MultiView Q O) (w : Who) (s : SeatView Q O)
   pub confirmed : s.confirmed ≡ 0
   pub polled : s.polled ≡ 0
   pub claims : s.claims ≡ []
+  pub given : s.given ≡ []
   pub ties : s.ties ≡ []
   pub mine : s.mine ≡ []
   pub noted : s.words.noted ≡ []

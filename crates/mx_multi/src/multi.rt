@@ -9,9 +9,9 @@ ghost use Rattle.mx_journal.specs.Replies.{IsGivenBack, is_back, handed_back, wo
 ghost use Rattle.mx_board.specs.Board.{AreOfOneJournal, OneBeginsOther};
 ghost use Rattle.mx_lock.specs.Shared.{SharedState};
 ghost use Rattle.mx_lock.specs.Ties.{AreOfAdditions, Has, Tells, tie, tie_added, tie_read};
-ghost use Rattle.mx_multi.specs.Seats.{Stands, Sees, FoundState, GivesBack, ClaimsLeast, ClaimsNothing, LeavesState};
+ghost use Rattle.mx_multi.specs.Seats.{Stands, Sees, FoundState, GivesBack, ClaimsLeast, ClaimsNothing, LeavesState, given_with};
 
-use crate::seat::{Seat, WorkerSeat, note_receipt};
+use crate::seat::{Seat, WorkerSeat, note_given, note_receipt};
 use mx_board::{JournalMark, ProgressTable, are_of_one_journal};
 use mx_journal::{
     AddReply, FinishReply, GiveBackReply, InfoReply, PauseReply, RemoveReply, WakeupReply,
@@ -48,6 +48,7 @@ pub struct Multi<Q: Work + Drop, O: Ending + Drop> {
     /// How many bytes each transfer has received.
     pub(crate) words: ProgressTable,
     pub(crate) history: u32,
+    /// How many idle connections a worker keeps at most.
     pub(crate) max_connects: u8,
     /// How many wake-ups and ends there were, for those that wait.
     pub(crate) changes: Mutex<u64>,
@@ -59,7 +60,7 @@ impl<Q: Work + Drop, O: Ending + Drop> Model for Multi<Q, O> {
 
     ghost Value = { MultiView Q O };
 
-    ghost view = { λ m. record { table = m.lock.table; keys = m.lock.keys; engine = record { book = m.start.book; opening = record { history = m.history }; ties = m.no_ties.book }; words = m.words.id } };
+    ghost view = { λ m. record { table = m.lock.table; keys = m.lock.keys; engine = record { book = m.start.book; opening = record { history = m.history }; ties = m.no_ties.book }; words = m.words.id; max_connects = m.max_connects } };
 }
 
 impl<Q: Work + Drop, O: Ending + Drop> Multi<Q, O> {
@@ -314,6 +315,7 @@ impl<Q: Work + Drop, O: Ending + Drop> Multi<Q, O> {
         requires own { seat.old.of ≡ self.now }
         ensures sees { MatchOption result ((seat.new ≡ seat.old) ⊎ Sees seat.old seat.new) (λ r. Sees seat.old seat.new) }
         ensures claims { MatchOption result (seat.new.claims ≡ seat.old.claims) (λ r. seat.new.claims ≡ seat.old.claims ++ r.0.ticket ∷ []) }
+        ensures given { seat.new.given ≡ seat.old.given }
         ensures runs { IfSome result (λ r. has_ticket r.0.ticket (running seat.new.seen) ≡ true) }
         ensures origin { IfSome result (λ r. r.0.origin ≡ Q.origin r.1) }
         ensures own { IfSome result (λ r. r.0.of ≡ self.now.engine.ties) }
@@ -350,6 +352,7 @@ impl<Q: Work + Drop, O: Ending + Drop> Multi<Q, O> {
         ensures found { IfOk result (λ x. FoundState O.code_of O.size_of seat.new x.value) }
         ensures tied { IfOk result (λ x. AreOfAdditions Q.origin O.origin x.value.core x.value.ties.ties) }
         ensures claims { seat.new.claims ≡ seat.old.claims }
+        ensures given { seat.new.given ≡ seat.old.given }
     {
         let Some(taken) = self.lock.enter(rt, &mut seat.key, &seat.reader) else {
             return Err(WrongSeat(()));
@@ -366,6 +369,7 @@ impl<Q: Work + Drop, O: Ending + Drop> Multi<Q, O> {
         requires own { (one.old.of ≡ self.now) × (two.old.of ≡ self.now) }
         ensures meets { MatchBool result (Sees one.old one.new × Sees two.old two.new × (one.new.seen ≡ two.new.seen)) ((one.new ≡ one.old) × (two.new ≡ two.old)) }
         ensures claims { (one.new.claims ≡ one.old.claims) × (two.new.claims ≡ two.old.claims) }
+        ensures given { (one.new.given ≡ one.old.given) × (two.new.given ≡ two.old.given) }
     {
         let Some(mut taken) = self.lock.enter(rt, &mut one.key, &one.reader) else {
             return false;
@@ -396,6 +400,7 @@ impl<Q: Work + Drop, O: Ending + Drop> Multi<Q, O> {
         requires own { (one.old.of ≡ self.now) × (two.old.of ≡ self.now) }
         ensures meets { MatchResult result (λ n. Sees one.old one.new × Sees two.old two.new × (one.new.seen ≡ two.new.seen) × (n ≡ length one.new.seen)) (λ _. (one.new ≡ one.old) × (two.new ≡ two.old)) }
         ensures claims { (one.new.claims ≡ one.old.claims) × (two.new.claims ≡ two.old.claims) }
+        ensures given { (one.new.given ≡ one.old.given) × (two.new.given ≡ two.old.given) }
     {
         let met = self.try_meet(rt, one, two);
         if met {
@@ -431,6 +436,7 @@ impl<Q: Work + Drop, O: Ending + Drop> Multi<Q, O> {
         requires own { worker.old.of ≡ self.now }
         ensures sees { MatchOption result ((worker.new ≡ worker.old) ⊎ Sees worker.old worker.new) (λ r. Sees worker.old worker.new) }
         ensures claims { MatchOption result (worker.new.claims ≡ worker.old.claims) (λ r. worker.new.claims ≡ worker.old.claims ++ r.0.ticket ∷ []) }
+        ensures given { worker.new.given ≡ worker.old.given }
         ensures runs { IfSome result (λ r. has_ticket r.0.ticket (running worker.new.seen) ≡ true) }
         ensures origin { IfSome result (λ r. r.0.origin ≡ Q.origin r.1) }
         ensures own { IfSome result (λ r. r.0.of ≡ self.now.engine.ties) }
@@ -548,16 +554,19 @@ impl<Q: Work + Drop, O: Ending + Drop> Multi<Q, O> {
         ensures runs { IfOk result (λ r. is_back r ≡ true → has_ticket claim.ticket (running seat.new.seen) ≡ true) }
         ensures queue { IfOk result (λ r. GivesBack O.code_of O.size_of seat.new claim.ticket work r) }
         ensures claims { seat.new.claims ≡ seat.old.claims }
+        ensures given { IfOk result (λ r. seat.new.given ≡ given_with r claim.ticket seat.old.given) }
     {
         let Some(mut taken) = self.lock.enter(rt, &mut seat.key, &seat.reader) else {
             return Err(WrongSeat((claim, work)));
         };
         let _known = taken.know();
         let _cut = taken.len();
+        let ticket = claim.ticket();
         let reply = taken.give_back(claim, work);
         let _left = taken.know();
         self.lock
             .leave(rt, &mut seat.key, taken, &mut seat.reader, &mut seat.ties);
+        note_given(&mut seat.given, ticket, &reply);
         Ok(reply)
     }
 
@@ -578,6 +587,7 @@ impl<Q: Work + Drop, O: Ending + Drop> Multi<Q, O> {
         ensures runs { IfOk result (λ r. is_back r ≡ true → has_ticket claim.ticket (running worker.new.seen) ≡ true) }
         ensures queue { IfOk result (λ r. GivesBack O.code_of O.size_of worker.new claim.ticket work r) }
         ensures claims { worker.new.claims ≡ worker.old.claims }
+        ensures given { IfOk result (λ r. worker.new.given ≡ given_with r claim.ticket worker.old.given) }
     {
         self.give_back_at(rt, &mut worker.seat, claim, work)
     }

@@ -9,11 +9,12 @@ ghost use Rattle.mx_multi.specs.Opening.{are_within, first_of, open_number, make
 
 use crate::multi::Multi;
 use crate::seat::{Seat, WorkerSeat};
-use mx_board::{BoardReader, NoteSeat, ProgressTable};
+use mx_board::{BoardReader, JournalMark, NoteSeat, ProgressTable};
 use mx_lock::{Key, Lock, Shared, TieMark};
 use mx_types::{Ending, History, OutOfMemory, Who, Work};
 use std::alloc::Global;
 use std::collections::VecDeque;
+use std::snapshot::Snapshot;
 use std::sync::{Condvar, Mutex, Wait};
 use thiserror::Error;
 
@@ -121,6 +122,7 @@ fn seated<Q: Work + Drop, O: Ending + Drop>(
     ties: &TieMark,
     readers: VecDeque<BoardReader>,
     worker: bool,
+    max_connects: u8,
 ) -> Result<Vec<Seat<Q, O>>, OutOfMemory>
     requires few { deque_len readers ≤ 16 }
     requires own { IsKeyOf lock.now founder.old }
@@ -131,7 +133,7 @@ fn seated<Q: Work + Drop, O: Ending + Drop>(
     requires ties { (ties.now.ties ≡ []) × (ties.now.book ≡ (engine_of (view founder.old)).ties) }
     ensures kept { IsKeyOf lock.now founder.new }
     ensures next { IfOk result (λ v. view founder.new ≡ founder_at (engine_of (view founder.old)) (first_of worker + vec_len v)) }
-    ensures new { IfOk result (λ v. AreNew (record { table = lock.now.table; keys = lock.now.keys; engine = engine_of (view founder.old); words = words.now.id }) worker 0 v.items) }
+    ensures new { IfOk result (λ v. AreNew (record { table = lock.now.table; keys = lock.now.keys; engine = engine_of (view founder.old); words = words.now.id; max_connects = max_connects }) worker 0 v.items) }
     ensures notes { IfOk result (λ v. All (λ s. s ≡ new_seat words.now) notes.new.items × (vec_len notes.new + vec_len v ≡ vec_len notes.old)) }
     ensures all { IfOk result (λ v. vec_len v ≡ deque_len readers) }
 {
@@ -143,13 +145,16 @@ fn seated<Q: Work + Drop, O: Ending + Drop>(
         let Some(own_notes) = notes.pop() else {
             unreachable!()
         };
+        let given = History::new();
         seats.push(Seat {
             key,
             reader,
             polled: 0,
             notes: own_notes,
+            max_connects: Snapshot::of(&max_connects),
             ties: ties.again(),
             mine: History::new(),
+            given,
         })?;
     }
     Ok(seats)
@@ -196,17 +201,17 @@ fn seats_of_all<Q: Work + Drop, O: Ending + Drop>(
     notes: Vec<NoteSeat>,
     ties: &TieMark,
     all_readers: (VecDeque<BoardReader>, VecDeque<BoardReader>),
-    seats: u8,
+    limits: Limits,
 ) -> Result<(Vec<Seat<Q, O>>, Vec<WorkerSeat<Q, O>>), OutOfMemory>
     requires few { (deque_len all_readers.0 ≤ 16) × (deque_len all_readers.1 ≤ 16) }
     requires own { IsKeyOf lock.now founder }
     requires founder { view founder ≡ founder_at (engine_of (view founder)) 1 }
-    requires seats { AreReaders false 0 (engine_of (view founder)).book all_readers.0.items × (deque_len all_readers.0 ≡ seats) }
+    requires seats { AreReaders false 0 (engine_of (view founder)).book all_readers.0.items × (deque_len all_readers.0 ≡ limits.seats) }
     requires workers { AreReaders true 0 (engine_of (view founder)).book all_readers.1.items }
     requires notes { All (λ s. s ≡ new_seat words.now) notes.items × (vec_len notes ≡ deque_len all_readers.0 + deque_len all_readers.1) }
     requires ties { (ties.now.ties ≡ []) × (ties.now.book ≡ (engine_of (view founder)).ties) }
-    ensures seats { IfOk result (λ r. AreNew (record { table = lock.now.table; keys = lock.now.keys; engine = engine_of (view founder); words = words.now.id }) false 0 r.0.items × (length r.0.items ≡ deque_len all_readers.0)) }
-    ensures workers { IfOk result (λ r. AreNew (record { table = lock.now.table; keys = lock.now.keys; engine = engine_of (view founder); words = words.now.id }) true 0 r.1.items × (length r.1.items ≡ deque_len all_readers.1)) }
+    ensures seats { IfOk result (λ r. AreNew (record { table = lock.now.table; keys = lock.now.keys; engine = engine_of (view founder); words = words.now.id; max_connects = limits.max_connects }) false 0 r.0.items × (length r.0.items ≡ deque_len all_readers.0)) }
+    ensures workers { IfOk result (λ r. AreNew (record { table = lock.now.table; keys = lock.now.keys; engine = engine_of (view founder); words = words.now.id; max_connects = limits.max_connects }) true 0 r.1.items × (length r.1.items ≡ deque_len all_readers.1)) }
 {
     let (for_seats, for_workers) = all_readers;
     let mut founder = founder;
@@ -220,8 +225,9 @@ fn seats_of_all<Q: Work + Drop, O: Ending + Drop>(
         ties,
         for_seats,
         false,
+        limits.max_connects,
     )?;
-    skip(lock, &mut founder, seats);
+    skip(lock, &mut founder, limits.seats);
     let at_work = seated(
         alloc,
         lock,
@@ -231,6 +237,7 @@ fn seats_of_all<Q: Work + Drop, O: Ending + Drop>(
         ties,
         for_workers,
         true,
+        limits.max_connects,
     )?;
     let workers = WorkerSeat::all(alloc, at_work)?;
     Ok((for_callers, workers))
@@ -279,9 +286,23 @@ impl<Q: Work + Drop, O: Ending + Drop> Multi<Q, O> {
             notes,
             &no_ties,
             all_readers,
-            limits.seats,
+            limits,
         )?;
-        let multi = Multi {
+        let multi = Multi::of_parts(lock, start, no_ties, words, limits);
+        Ok((multi, seats, workers))
+    }
+
+    // A multi handle of these parts, with these limits.
+    fn of_parts(
+        lock: Lock<Q, O>,
+        start: JournalMark,
+        no_ties: TieMark,
+        words: ProgressTable,
+        limits: Limits,
+    ) -> Multi<Q, O>
+        ensures { result ≡ record { table = lock.table; keys = lock.keys; engine = record { book = start.book; opening = record { history = limits.history }; ties = no_ties.book }; words = words.id; max_connects = limits.max_connects } }
+    {
+        Multi {
             lock,
             start,
             no_ties,
@@ -290,8 +311,7 @@ impl<Q: Work + Drop, O: Ending + Drop> Multi<Q, O> {
             max_connects: limits.max_connects,
             changes: Mutex::new(0),
             changed: Condvar::new(),
-        };
-        Ok((multi, seats, workers))
+        }
     }
 
     /// The beginning of its list of ties, for contracts alone: it tells which claims are of this multi handle.
@@ -301,8 +321,10 @@ impl<Q: Work + Drop, O: Ending + Drop> Multi<Q, O> {
         self.no_ties.again()
     }
 
-    /// How many idle connections a worker keeps at most.
-    pub fn max_connects(&self) -> u8 {
+    /// How many idle connections a worker keeps at most: what it was opened with.
+    pub fn max_connects(&self) -> u8
+        ensures { result ≡ self.now.max_connects }
+    {
         self.max_connects
     }
 

@@ -1,7 +1,7 @@
 //! How far transfers are: words that workers note and seats read, without a lock.
-ghost use Rattle.std.specs.Prelude.{◌≡◌, MatchOption};
+ghost use Rattle.std.specs.Prelude.{◌≡◌, if◌then◌else◌, nat_lt, MatchOption};
 ghost use Rattle.mx_multi.specs.Seats.{SeesVersion};
-ghost use Rattle.mx_multi.specs.Progress.{IsProgress, ProgressNeverFalls, SaysWord, noted_by};
+ghost use Rattle.mx_multi.specs.Progress.{IsProgress, ProgressNeverFalls, SaysWord, noted_by, progress_of};
 
 use crate::multi::Multi;
 use crate::seat::{Seat, WorkerSeat};
@@ -25,12 +25,26 @@ fn read_word(words: &ProgressTable, notes: &mut NoteSeat, found: Found) -> Progr
     requires { notes.old.of ≡ words.now.id }
     ensures { SaysWord found.ticket found.slot notes.old notes.new result }
 {
-    let (ticket, count) = words.read(notes, found.slot);
-    if ticket.0 == found.ticket.0 {
-        return Progress::Bytes(found.ticket, count);
+    let (noted, count) = words.read(notes, found.slot);
+    progress_by(found.ticket, noted, count)
+}
+
+// What a word of the ticket `noted` and of so many bytes says of a ticket.
+fn progress_by(ticket: Ticket, noted: Ticket, count: u32) -> Progress
+    ensures { result ≡ progress_of ticket noted count }
+{
+    if noted.0 != ticket.0 {
+        return progress_by_another(ticket, noted);
     }
-    if ticket.0 < found.ticket.0 {
-        return Progress::Bytes(found.ticket, 0);
+    Progress::Bytes(ticket, count)
+}
+
+// What the word of another ticket says of a ticket: nothing was noted for it yet, or its slot is the other's by now.
+fn progress_by_another(ticket: Ticket, noted: Ticket) -> Progress
+    ensures { result ≡ (if nat_lt noted.0 ticket.0 then Progress.Bytes ticket 0 else Progress.Replaced) }
+{
+    if noted.0 < ticket.0 {
+        return Progress::Bytes(ticket, 0);
     }
     Progress::Replaced
 }

@@ -1,17 +1,19 @@
 //! A caller's seat at a multi handle.
 ghost use Rattle.std.specs.Prelude.{◌≡◌, ◌++◌, ◌∷◌, [], length, IfOk};
-ghost use Rattle.mx_multi.specs.Seats.{HasReceipts};
+ghost use Rattle.mx_multi.specs.Seats.{HasReceipts, given_with};
 
 use mx_board::{BoardReader, NoteSeat};
+use mx_journal::GiveBackReply;
 use mx_lock::{Key, TieMark};
-use mx_types::{Call, Ending, History, OutOfMemory, Receipt, Reply, Work};
+use mx_types::{Call, Ending, History, OutOfMemory, Receipt, Reply, Ticket, Work};
 use std::alloc::Global;
 use std::marker::Model;
+use std::snapshot::Snapshot;
 
 /// An application thread's seat: its key to the lock, and what it has seen. Contracts see of which multi handle it is, whose
 /// it is, the events that it has seen and how many of them are confirmed, how many they were at its last poll, the tickets
-/// that it has claimed, the progress words that it has noted and read, of which requests additions are, as it was told under the
-/// lock, and the receipts of all its calls that were answered.
+/// that it has claimed and those that it has given back, the progress words that it has noted and read, of which requests additions
+/// are, as it was told under the lock, and the receipts of all its calls that were answered.
 #[derive(Drop)]
 pub struct Seat<Q: Work + Drop, O: Ending + Drop> {
     pub(crate) key: Key<Q, O>,
@@ -20,10 +22,14 @@ pub struct Seat<Q: Work + Drop, O: Ending + Drop> {
     pub(crate) polled: u32,
     /// Its right to the progress words.
     pub(crate) notes: NoteSeat,
+    /// How many idle connections a worker of its multi handle keeps at most, for contracts alone: it has no size.
+    pub(crate) max_connects: Snapshot<u8>,
     /// Of which requests additions are, for contracts alone: it has no size.
     pub(crate) ties: TieMark,
     /// The receipts of its answered calls, for contracts alone: it has no size.
     pub(crate) mine: History<Receipt>,
+    /// The tickets that it has given back, for contracts alone: it has no size.
+    pub(crate) given: History<Ticket>,
 }
 
 impl<Q: Work + Drop, O: Ending + Drop> Model for Seat<Q, O> {
@@ -33,9 +39,9 @@ impl<Q: Work + Drop, O: Ending + Drop> Model for Seat<Q, O> {
 
     ghost Value = { SeatView Q O };
 
-    ghost view = { λ s. record { of = record { table = s.key.table_id; keys = s.key.me.0.of; engine = engine_of s.key.me.0.client; words = s.notes.of }; who = s.reader.who; seen = s.reader.seen; confirmed = s.reader.confirmed; polled = s.polled; claims = s.key.me.0.client.claims; words = s.notes; ties = s.ties.ties; mine = s.mine } };
+    ghost view = { λ s. record { of = record { table = s.key.table_id; keys = s.key.me.0.of; engine = engine_of s.key.me.0.client; words = s.notes.of; max_connects = s.max_connects.value }; who = s.reader.who; seen = s.reader.seen; confirmed = s.reader.confirmed; polled = s.polled; claims = s.key.me.0.client.claims; given = s.given; words = s.notes; ties = s.ties.ties; mine = s.mine } };
 
-    ghost invariant = { λ s. IsSeat s.key.me.0.client s.reader × (s.key.me.1 ≡ []) × HasReceipts (record { of = record { table = s.key.table_id; keys = s.key.me.0.of; engine = engine_of s.key.me.0.client; words = s.notes.of }; who = s.reader.who; seen = s.reader.seen; confirmed = s.reader.confirmed; polled = s.polled; claims = s.key.me.0.client.claims; words = s.notes; ties = s.ties.ties; mine = s.mine }) × (s.ties.book ≡ (engine_of s.key.me.0.client).ties) };
+    ghost invariant = { λ s. IsSeat s.key.me.0.client s.reader × (s.key.me.1 ≡ []) × HasReceipts (record { of = record { table = s.key.table_id; keys = s.key.me.0.of; engine = engine_of s.key.me.0.client; words = s.notes.of; max_connects = s.max_connects.value }; who = s.reader.who; seen = s.reader.seen; confirmed = s.reader.confirmed; polled = s.polled; claims = s.key.me.0.client.claims; given = s.given; words = s.notes; ties = s.ties.ties; mine = s.mine }) × (s.ties.book ≡ (engine_of s.key.me.0.client).ties) };
 }
 
 impl<Q: Work + Drop, O: Ending + Drop> Seat<Q, O> {
@@ -59,6 +65,20 @@ pub(crate) fn note_receipt(mine: &mut History<Receipt>, cut: u32, call: Call, re
     ensures { mine.new ≡ mine.old ++ record { cut = cut; call = call; reply = reply } ∷ [] }
 {
     mine.note(Receipt { cut, call, reply })
+}
+
+// Puts a ticket behind those that were given back, where its work went back. It is for contracts alone: nothing of it is kept.
+pub(crate) fn note_given<Q: Drop>(
+    given: &mut History<Ticket>,
+    ticket: Ticket,
+    reply: &GiveBackReply<Q>,
+)
+    ensures { given.new ≡ given_with reply.now ticket given.old }
+{
+    match reply {
+        GiveBackReply::Back => given.note(ticket),
+        GiveBackReply::Stale(_) => {}
+    }
 }
 
 /// A worker's seat: contracts see the same of it as of a `Seat`.

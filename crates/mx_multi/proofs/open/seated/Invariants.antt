@@ -12,7 +12,7 @@ abbrev pub invariant-loop-reader : goal.invariant-loop-reader
 invariant-loop-reader g l = record {
   own : IsKeyOf l.lock l.founder;
   founder : view l.founder ≡ founder_at (engine_of (view l.fn.founder)) (first_of l.worker + vec_len l.seats);
-  new : AreNew (record { table = l.lock.table; keys = l.lock.keys; engine = engine_of (view l.fn.founder); words = l.words.id }) l.worker 0 l.seats.items;
+  new : AreNew (record { table = l.lock.table; keys = l.lock.keys; engine = engine_of (view l.fn.founder); words = l.words.id; max_connects = l.max_connects }) l.worker 0 l.seats.items;
   readers : AreReaders l.worker (vec_len l.seats) (engine_of (view l.fn.founder)).book l.readers.items;
   made : length l.seats.items ≡ vec_len l.seats;
   notes : All (λ (s : NoteState). s ≡ new_seat l.words) l.notes.items;

@@ -17,7 +17,7 @@ pub returns-clause-workers : goal.returns-clause-workers
 returns-clause-workers g c =
     let at = c.args.lock.now in
     let later : engine_of (view c.skip.new.founder) ≡ engine_of (view c.args.founder) = ap engine_of c.skip.ensures.next ∙ ap engine_of c.in_ok-for_callers.ensures.next in
-    let new = subst (λ (e : Engine). AreNew {Q = g.row.Q.Denot} {O = g.row.O.Denot} (record { table = at.table; keys = at.keys; engine = e; words = c.args.words.now.id }) true 0 c.in_ok-at_work.at_work.items) later c.in_ok-at_work.ensures.new in (
-      subst (AreNew (record { table = at.table; keys = at.keys; engine = engine_of (view c.args.founder); words = c.args.words.now.id }) true 0) (sym c.in_ok-workers.ensures) new,
+    let new = subst (λ (e : Engine). AreNew {Q = g.row.Q.Denot} {O = g.row.O.Denot} (record { table = at.table; keys = at.keys; engine = e; words = c.args.words.now.id; max_connects = c.args.limits.max_connects }) true 0 c.in_ok-at_work.at_work.items) later c.in_ok-at_work.ensures.new in (
+      subst (AreNew (record { table = at.table; keys = at.keys; engine = engine_of (view c.args.founder); words = c.args.words.now.id; max_connects = c.args.limits.max_connects }) true 0) (sym c.in_ok-workers.ensures) new,
       ap length c.in_ok-workers.ensures ∙ omega (arith, c.in_ok-at_work.at_work.ok.0, c.in_ok-at_work.ensures.all),
     )

@@ -21,7 +21,7 @@ invariant_of-seat-in_default-claimed g c =
       seat_after _ _ c.seat.inside.reader x c.seat.invariant.0 took _ _ y c.leave.ensures.gave c.leave.ensures.reader left.book,
       k.2,
       received_same _ _
-          (lock_sees _ _ c.seat.inside.reader x c.seat.invariant.0 took _ c.leave.new.reader y c.leave.ensures.gave c.leave.ensures.reader _ _ c.seat.inside.polled c.seat.inside.notes c.seat.inside.ties.ties c.leave.new.ties.ties c.seat.inside.mine c.leave.ensures.told.1 (same_of _ _ _ c.args.self.now c.args.seat.now c.requires.own c.self.view_is (ap (λ (s : SeatView g.row.Q.Denot g.row.O.Denot). s.of) c.seat.view_is) k.0 k.1 (engine_kept _ _ c.seat.inside.reader x c.seat.invariant.0 took _ y c.leave.ensures.gave) refl) c.in-Some.ensures.entered.1 left)
+          (lock_sees _ _ c.seat.inside.reader x c.seat.invariant.0 took _ c.leave.new.reader y c.leave.ensures.gave c.leave.ensures.reader _ _ c.seat.inside.polled c.seat.inside.notes c.seat.inside.ties.ties c.leave.new.ties.ties c.seat.inside.mine c.seat.inside.given c.seat.inside.given c.leave.ensures.told.1 (same_of _ _ _ c.args.self.now c.args.seat.now c.requires.own c.self.view_is (ap (λ (s : SeatView g.row.Q.Denot g.row.O.Denot). s.of) c.seat.view_is) k.0 k.1 (engine_kept _ _ c.seat.inside.reader x c.seat.invariant.0 took _ y c.leave.ensures.gave) refl refl) c.in-Some.ensures.entered.1 left)
           c.seat.invariant.2,
       list_kept _ _ c.seat.inside.reader x c.seat.invariant.0 took _ y _ _ c.leave.ensures.gave c.leave.ensures.told.0 c.seat.invariant.3,
     )
@@ -37,7 +37,7 @@ invariant_of-seat-2 g c =
       seat_after _ _ c.seat.inside.reader x c.seat.invariant.0 took _ _ y c.leave.ensures.gave c.leave.ensures.reader left.book,
       k.2,
       received_same _ _
-          (lock_sees _ _ c.seat.inside.reader x c.seat.invariant.0 took _ c.leave.new.reader y c.leave.ensures.gave c.leave.ensures.reader _ _ c.seat.inside.polled c.seat.inside.notes c.seat.inside.ties.ties c.leave.new.ties.ties c.seat.inside.mine c.leave.ensures.told.1 (same_of _ _ _ c.args.self.now c.args.seat.now c.requires.own c.self.view_is (ap (λ (s : SeatView g.row.Q.Denot g.row.O.Denot). s.of) c.seat.view_is) k.0 k.1 (engine_kept _ _ c.seat.inside.reader x c.seat.invariant.0 took _ y c.leave.ensures.gave) refl) c.in-Some.ensures.entered.1 left)
+          (lock_sees _ _ c.seat.inside.reader x c.seat.invariant.0 took _ c.leave.new.reader y c.leave.ensures.gave c.leave.ensures.reader _ _ c.seat.inside.polled c.seat.inside.notes c.seat.inside.ties.ties c.leave.new.ties.ties c.seat.inside.mine c.seat.inside.given c.seat.inside.given c.leave.ensures.told.1 (same_of _ _ _ c.args.self.now c.args.seat.now c.requires.own c.self.view_is (ap (λ (s : SeatView g.row.Q.Denot g.row.O.Denot). s.of) c.seat.view_is) k.0 k.1 (engine_kept _ _ c.seat.inside.reader x c.seat.invariant.0 took _ y c.leave.ensures.gave) refl refl) c.in-Some.ensures.entered.1 left)
           c.seat.invariant.2,
       list_kept _ _ c.seat.inside.reader x c.seat.invariant.0 took _ y _ _ c.leave.ensures.gave c.leave.ensures.told.0 c.seat.invariant.3,
     )
@@ -51,7 +51,7 @@ returns-in_default-claimed-clause-sees g c =
     let j = c.claim-claimed.ensures.journal in
     let left : IsLeft x y = record { journal = j.0; opening = j.1; book = j.2; ties = ap (λ (z : TieState). z.book) c.claim-claimed.ensures.ties; legal = ap is_legal j.0 ∙ c.len-cut.ensures.legal } in
     inr (sees_from _ _ _ c.seat.view_is
-    (lock_sees _ _ c.seat.inside.reader x c.seat.invariant.0 took _ c.leave.new.reader y c.leave.ensures.gave c.leave.ensures.reader _ _ c.seat.inside.polled c.seat.inside.notes c.seat.inside.ties.ties c.leave.new.ties.ties c.seat.inside.mine c.leave.ensures.told.1 (same_of _ _ _ c.args.self.now c.args.seat.now c.requires.own c.self.view_is (ap (λ (s : SeatView g.row.Q.Denot g.row.O.Denot). s.of) c.seat.view_is) k.0 k.1 (engine_kept _ _ c.seat.inside.reader x c.seat.invariant.0 took _ y c.leave.ensures.gave) refl) c.in-Some.ensures.entered.1 left))
+    (lock_sees _ _ c.seat.inside.reader x c.seat.invariant.0 took _ c.leave.new.reader y c.leave.ensures.gave c.leave.ensures.reader _ _ c.seat.inside.polled c.seat.inside.notes c.seat.inside.ties.ties c.leave.new.ties.ties c.seat.inside.mine c.seat.inside.given c.seat.inside.given c.leave.ensures.told.1 (same_of _ _ _ c.args.self.now c.args.seat.now c.requires.own c.self.view_is (ap (λ (s : SeatView g.row.Q.Denot g.row.O.Denot). s.of) c.seat.view_is) k.0 k.1 (engine_kept _ _ c.seat.inside.reader x c.seat.invariant.0 took _ y c.leave.ensures.gave) refl refl) c.in-Some.ensures.entered.1 left))
 
 pub returns-clause-sees : goal.returns-clause-sees
 returns-clause-sees g c =
@@ -62,7 +62,7 @@ returns-clause-sees g c =
     let j = c.claim-claimed.ensures.journal in
     let left : IsLeft x y = record { journal = j.0; opening = j.1; book = j.2; ties = ap (λ (z : TieState). z.book) c.claim-claimed.ensures.ties; legal = ap is_legal j.0 ∙ c.len-cut.ensures.legal } in
     sees_from _ _ _ c.seat.view_is
-    (lock_sees _ _ c.seat.inside.reader x c.seat.invariant.0 took _ c.leave.new.reader y c.leave.ensures.gave c.leave.ensures.reader _ _ c.seat.inside.polled c.seat.inside.notes c.seat.inside.ties.ties c.leave.new.ties.ties c.seat.inside.mine c.leave.ensures.told.1 (same_of _ _ _ c.args.self.now c.args.seat.now c.requires.own c.self.view_is (ap (λ (s : SeatView g.row.Q.Denot g.row.O.Denot). s.of) c.seat.view_is) k.0 k.1 (engine_kept _ _ c.seat.inside.reader x c.seat.invariant.0 took _ y c.leave.ensures.gave) refl) c.in-Some.ensures.entered.1 left)
+    (lock_sees _ _ c.seat.inside.reader x c.seat.invariant.0 took _ c.leave.new.reader y c.leave.ensures.gave c.leave.ensures.reader _ _ c.seat.inside.polled c.seat.inside.notes c.seat.inside.ties.ties c.leave.new.ties.ties c.seat.inside.mine c.seat.inside.given c.seat.inside.given c.leave.ensures.told.1 (same_of _ _ _ c.args.self.now c.args.seat.now c.requires.own c.self.view_is (ap (λ (s : SeatView g.row.Q.Denot g.row.O.Denot). s.of) c.seat.view_is) k.0 k.1 (engine_kept _ _ c.seat.inside.reader x c.seat.invariant.0 took _ y c.leave.ensures.gave) refl refl) c.in-Some.ensures.entered.1 left)
 
 pub returns-in_default-claimed-clause-claims : goal.returns-in_default-claimed-clause-claims
 returns-in_default-claimed-clause-claims g c =
@@ -122,3 +122,9 @@ returns-clause-own g c =
     let took = c.in-Some.ensures.entered.0 in
     c.in-Some-claimed.ensures.own ∙ ap (λ (z : TieState). z.book) c.claim-claimed.ensures.ties
     ∙ list_of _ _ c.seat.inside.reader c.in-Some.taken c.seat.invariant.0 took c.args.self.now (ap (λ (s : SeatView g.row.Q.Denot g.row.O.Denot). s.of.engine) c.seat.view_is ∙ ap (λ (m : MultiView g.row.Q.Denot g.row.O.Denot). m.engine) c.requires.own)
+
+pub returns-in_default-claimed-clause-given : goal.returns-in_default-claimed-clause-given
+returns-in_default-claimed-clause-given g c = ap (λ (s : SeatView g.row.Q.Denot g.row.O.Denot). s.given) c.seat.view_is
+
+pub returns-clause-given : goal.returns-clause-given
+returns-clause-given g c = ap (λ (s : SeatView g.row.Q.Denot g.row.O.Denot). s.given) c.seat.view_is

@@ -1,10 +1,10 @@
-use Rattle.std.proofs.Common.{◌∙◌, sym, ap, refl}
+use Rattle.std.proofs.Common.{◌≡◌, ◌∙◌, sym, ap, refl}
 use Rattle.mx_journal.specs.History.{is_legal, has_ticket, running}
 use Rattle.mx_board.specs.Board.{ReaderState}
 use Rattle.mx_lock.specs.Lock.{IsKeyOf}
 use Rattle.mx_lock.specs.Shared.{IsLeft}
 use Rattle.mx_lock.specs.Ties.{TieState}
-use Rattle.mx_multi.specs.Seats.{MultiView, SeatView}
+use Rattle.mx_multi.specs.Seats.{MultiView, SeatView, given_with}
 use Rattle.mx_multi.proofs.Standing.{list_kept, list_of, seat_after, received_same, lock_sees, same_of, engine_kept, sees_from, claims_after, found_state, found_left}
 use Rattle.mx_multi.proofs.multi.Multi.give_back_at.Goals as goal
 
@@ -19,7 +19,7 @@ invariant_of-seat-2 g c =
       seat_after _ _ c.seat.inside.reader x c.seat.invariant.0 took _ _ y c.leave.ensures.gave c.leave.ensures.reader left.book,
       k.2,
       received_same _ _
-          (lock_sees _ _ c.seat.inside.reader x c.seat.invariant.0 took _ c.leave.new.reader y c.leave.ensures.gave c.leave.ensures.reader _ _ c.seat.inside.polled c.seat.inside.notes c.seat.inside.ties.ties c.leave.new.ties.ties c.seat.inside.mine c.leave.ensures.told.1 (same_of _ _ _ c.args.self.now c.args.seat.now c.requires.own c.self.view_is (ap (λ (s : SeatView g.row.Q.Denot g.row.O.Denot). s.of) c.seat.view_is) k.0 k.1 (engine_kept _ _ c.seat.inside.reader x c.seat.invariant.0 took _ y c.leave.ensures.gave) refl) c.in-Some.ensures.entered.1 left)
+          (lock_sees _ _ c.seat.inside.reader x c.seat.invariant.0 took _ c.leave.new.reader y c.leave.ensures.gave c.leave.ensures.reader _ _ c.seat.inside.polled c.seat.inside.notes c.seat.inside.ties.ties c.leave.new.ties.ties c.seat.inside.mine c.seat.inside.given c.note_given.new.given c.leave.ensures.told.1 (same_of _ _ _ c.args.self.now c.args.seat.now c.requires.own c.self.view_is (ap (λ (s : SeatView g.row.Q.Denot g.row.O.Denot). s.of) c.seat.view_is) k.0 k.1 (engine_kept _ _ c.seat.inside.reader x c.seat.invariant.0 took _ y c.leave.ensures.gave) refl refl) c.in-Some.ensures.entered.1 left)
           c.seat.invariant.2,
       list_kept _ _ c.seat.inside.reader x c.seat.invariant.0 took _ y _ _ c.leave.ensures.gave c.leave.ensures.told.0 c.seat.invariant.3,
     )
@@ -33,7 +33,7 @@ returns-clause-sees g c =
     let j = c.give_back-reply.ensures.journal in
     let left : IsLeft x y = record { journal = j.0; opening = j.1; book = j.2; ties = ap (λ (z : TieState). z.book) c.give_back-reply.ensures.ties; legal = ap is_legal j.0 ∙ c.len-cut.ensures.legal } in
     sees_from _ _ _ c.seat.view_is
-    (lock_sees _ _ c.seat.inside.reader x c.seat.invariant.0 took _ c.leave.new.reader y c.leave.ensures.gave c.leave.ensures.reader _ _ c.seat.inside.polled c.seat.inside.notes c.seat.inside.ties.ties c.leave.new.ties.ties c.seat.inside.mine c.leave.ensures.told.1 (same_of _ _ _ c.args.self.now c.args.seat.now c.requires.own c.self.view_is (ap (λ (s : SeatView g.row.Q.Denot g.row.O.Denot). s.of) c.seat.view_is) k.0 k.1 (engine_kept _ _ c.seat.inside.reader x c.seat.invariant.0 took _ y c.leave.ensures.gave) refl) c.in-Some.ensures.entered.1 left)
+    (lock_sees _ _ c.seat.inside.reader x c.seat.invariant.0 took _ c.leave.new.reader y c.leave.ensures.gave c.leave.ensures.reader _ _ c.seat.inside.polled c.seat.inside.notes c.seat.inside.ties.ties c.leave.new.ties.ties c.seat.inside.mine c.seat.inside.given c.note_given.new.given c.leave.ensures.told.1 (same_of _ _ _ c.args.self.now c.args.seat.now c.requires.own c.self.view_is (ap (λ (s : SeatView g.row.Q.Denot g.row.O.Denot). s.of) c.seat.view_is) k.0 k.1 (engine_kept _ _ c.seat.inside.reader x c.seat.invariant.0 took _ y c.leave.ensures.gave) refl refl) c.in-Some.ensures.entered.1 left)
 
 pub returns-clause-runs : goal.returns-clause-runs
 returns-clause-runs g c = λ back. ap (λ (t : ReaderState). has_ticket c.args.claim.ticket (running t.seen)) c.leave.ensures.reader ∙ ap (λ l. has_ticket c.args.claim.ticket (running l)) c.give_back-reply.ensures.journal.0 ∙ c.give_back-reply.ensures.runs back
@@ -67,3 +67,9 @@ pub give_back-reply-requires-clause-own : goal.give_back-reply-requires-clause-o
 give_back-reply-requires-clause-own g c =
     c.requires.claim
     ∙ sym (list_of _ _ c.seat.inside.reader c.in-Some.taken c.seat.invariant.0 c.in-Some.ensures.entered.0 c.args.self.now (ap (λ (s : SeatView g.row.Q.Denot g.row.O.Denot). s.of.engine) c.seat.view_is ∙ ap (λ (m : MultiView g.row.Q.Denot g.row.O.Denot). m.engine) c.requires.own))
+
+pub returns-clause-given : goal.returns-clause-given
+returns-clause-given g c =
+    let reply = c.give_back-reply.result in
+    let same : given_with reply c.ticket-ticket.result c.seat.inside.given ≡ given_with reply c.args.claim.ticket c.args.seat.now.given = λ i. given_with reply (c.ticket-ticket.ensures i) ((c.seat.view_is i).given) in
+    c.note_given.ensures ∙ same

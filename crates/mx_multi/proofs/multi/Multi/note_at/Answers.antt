@@ -10,5 +10,5 @@ use Rattle.mx_multi.proofs.multi.Multi.note_at.Goals as goal
 pub returns : goal.returns
 returns g c =
     let key = c.seat.inside.key in
-    ap (λ (n : NoteState). seat_of {Q = g.row.Q.Denot} {O = g.row.O.Denot} (record { table = key.table_id; keys = key.me.0.of; engine = engine_of (view key); words = n.of }) (view key) c.seat.inside.reader c.seat.inside.polled n c.seat.inside.ties.ties c.seat.inside.mine) c.note.ensures
+    ap (λ (n : NoteState). seat_of {Q = g.row.Q.Denot} {O = g.row.O.Denot} (record { table = key.table_id; keys = key.me.0.of; engine = engine_of (view key); words = n.of; max_connects = c.seat.inside.max_connects.value }) (view key) c.seat.inside.reader c.seat.inside.polled n c.seat.inside.ties.ties c.seat.inside.mine c.seat.inside.given) c.note.ensures
     ∙ ap (λ (s : SeatView g.row.Q.Denot g.row.O.Denot). noted_by s c.args.slot c.args.ticket c.args.count) c.seat.view_is
