@@ -2,8 +2,7 @@
 use denote.Ref.{NamedLft}
 use denote.Param.Send.{IsSend, IsSync, struct_send, shr_send, recorded_send, sendable}
 use denote.Struct.Declared.{shape}
-use Rattle.std.proofs.Crossing.{crosses, Vec-send}
-use Rattle.std.proofs.alloc.Global.TheSendSync as heap
+use Rattle.std.proofs.Crossing.{crosses}
 use Rattle.mx_lock.proofs.ties.TieMark.TheSendSync.{the_send as tie_send}
 use Rattle.mx_lock.specs.contracts.claim.TiedClaim as TiedClaim
 use Rattle.mx_lock.specs.contracts.claim.TiedClaim.TheInside as TiedInside
@@ -12,7 +11,7 @@ use Rattle.mx_multi.specs.contracts.multi.Multi as Multi
 use Rattle.mx_multi.specs.contracts.seat.Seat as Seat
 use Rattle.mx_multi.specs.contracts.seat.WorkerSeat as WorkerSeat
 use Rattle.mx_multi.specs.contracts.seat.WorkerSeat.TheInside as WorkerInside
-use Rattle.mx_multi_workload.proofs.entries.Entry.TheSendSync.{the_send as entry_send}
+use Rattle.mx_multi_workload.proofs.party.Notes.TheSendSync.{the_field_send as notes_field}
 use Rattle.mx_multi_workload.specs.contracts.sample.JobWork.TheImpl.{ghosts as job}
 use Rattle.mx_multi_workload.specs.contracts.sample.EndEnding.TheImpl.{ghosts as end}
 use Rattle.mx_multi_workload.specs.contracts.sample.Job as Job
@@ -80,13 +79,10 @@ worker_send x = recorded_send (Worker.the_field x).row _ _ (Worker.the_type x).t
 place_field : (x : NamedLft) → IsSend (Place.the_field x).row
 place_field x = struct_send (shape (Place.the_type x)) (client_field x, (search (sendable, crosses) depth 40, (search (sendable, crosses) depth 40, tt)))
 
-place_send : (x : NamedLft) → IsSend (Place.the_row x)
-place_send x = recorded_send (Place.the_field x).row _ _ (Place.the_type x).to_one (place_field x)
-
 party_field : (x : NamedLft) → IsSend (Party.the_field x).row
 party_field x = struct_send (shape (Party.the_type x)) (
-  heap.the_field_send,
-  (Vec-send _ (place_send x), (worker_field x, (search (sendable, crosses) depth 40, (search (sendable, crosses) depth 40, (search (sendable, crosses) depth 40, (search (sendable, crosses) depth 40, (Vec-send _ entry_send, (search (sendable, crosses) depth 40, tt)))))))),
+  place_field x,
+  (place_field x, (worker_field x, (search (sendable, crosses) depth 40, (search (sendable, crosses) depth 40, (search (sendable, crosses) depth 40, (notes_field, tt)))))),
 )
 
 pub party_send : (x : NamedLft) → IsSend (Party.the_row x)

@@ -2,7 +2,7 @@
 //! it stays.
 ghost use Rattle.std.specs.Prelude.{◌≡◌};
 
-use mx_multi::{HandleList, Multi, Progress, Seat};
+use mx_multi::{Multi, Progress, Seat};
 use mx_types::{Call, Ending, HandleId, Reply, Work};
 use std::sync::Wait;
 
@@ -110,18 +110,17 @@ fn poll<Q: Work + Drop, O: Ending + Drop, R: Wait>(
     }
 }
 
-/// The handles with their cut; None where no version can be read.
-pub fn handles<Q: Work + Drop, O: Ending + Drop>(
+fn handles<Q: Work + Drop, O: Ending + Drop>(
     multi: &Multi<Q, O>,
     seat: &mut Seat<Q, O>,
-) -> Option<HandleList>
+) -> Option<Reply>
     requires { seat.old.of ≡ multi.now }
     ensures { seat.new.of ≡ multi.now }
 {
-    let Some(list) = multi.handles(seat) else {
+    let Some(handles) = multi.handles(seat) else {
         return None;
     };
-    Some(list)
+    Some(Reply::Handles(handles.list))
 }
 
 fn running<Q: Work + Drop, O: Ending + Drop>(
@@ -161,10 +160,7 @@ pub fn read<Q: Work + Drop, O: Ending + Drop>(
     ensures { seat.new.of ≡ multi.now }
 {
     match call {
-        Call::Handles => match handles(multi, seat) {
-            Some(list) => Some(Reply::Handles(list.list)),
-            None => None,
-        },
+        Call::Handles => handles(multi, seat),
         Call::Running => running(multi, seat),
         Call::State(handle) => state(multi, seat, handle),
         _ => None,

@@ -5,7 +5,7 @@ use crate::calls;
 use crate::hand::Hand;
 use crate::sample::{Bench, Chair, End, Handle, Job};
 use mx_journal::{FinishReply, GiveBackReply};
-use mx_multi::{HandleList, Progress};
+use mx_multi::Progress;
 use mx_types::{Call, HandleId, Look, OutOfMemory, Reply, Ticket};
 use std::sync::Wait;
 
@@ -61,11 +61,6 @@ impl<'a> Client<'a> {
     /// Makes a call that reads what is published, and waits for nothing; None where it was answered None, or where it is another.
     pub fn read(&mut self, call: Call) -> Option<Reply> {
         calls::read(self.multi, &mut self.seat, call)
-    }
-
-    /// The handles with their cut.
-    pub fn list(&mut self) -> Option<HandleList> {
-        calls::handles(self.multi, &mut self.seat)
     }
 
     /// How far a handle's transfer is.

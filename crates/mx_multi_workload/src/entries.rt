@@ -48,6 +48,28 @@ pub fn text_of(alloc: Global, reply: &Reply) -> Result<String, OutOfMemory> {
     Ok(format!(in alloc; "{said}")?)
 }
 
+/// The entry of a call that was answered; `OutOfMemory` where memory was refused for the call, or is for the text.
+pub fn entry_of(
+    alloc: Global,
+    who: Who,
+    number: u32,
+    cut: u32,
+    call: Call,
+    reply: &Reply,
+) -> Result<Entry, OutOfMemory> {
+    if matches!(reply, Reply::OutOfMemory) {
+        return Err(OutOfMemory);
+    }
+    Ok(Entry {
+        who,
+        number,
+        cut,
+        makes_event: makes_event(reply),
+        call,
+        said: text_of(alloc, reply)?,
+    })
+}
+
 /// The calls of all makers in the order of their cuts; at one cut, the call that made the event is the first.
 pub fn put_in_order(entries: &mut Vec<Entry>) -> Result<(), OutOfMemory> {
     entries.sort_by_key(|entry| (entry.cut, !entry.makes_event))?;
@@ -61,19 +83,40 @@ struct Replay {
     calls: [u32; 32],
 }
 
+// Whether an answer has an entry's text.
+fn says(alloc: Global, reply: &Reply, entry: &Entry) -> Result<bool, OutOfMemory> {
+    let said = text_of(alloc, reply)?;
+    Ok(said == entry.said)
+}
+
 impl Replay {
-    // Whether the call, as the next one, is answered the same, at the same cut, and is the next one of its maker.
-    fn agrees(&mut self, alloc: Global, entry: &Entry) -> Result<bool, OutOfMemory> {
+    // Whether the call is the next one of its maker. It then counts.
+    fn is_next(&mut self, entry: &Entry) -> bool {
         let count = &mut self.calls[place_of(entry.who)];
-        if *count != entry.number {
-            return Ok(false);
-        }
+        let is_next = *count == entry.number;
         *count = count.wrapping_add(1);
+        is_next
+    }
+
+    // Whether the call, as the next one, is answered the same, at the same cut.
+    fn agrees(&mut self, alloc: Global, entry: &Entry) -> Result<bool, OutOfMemory> {
         let Some(reply) = self.one.answer(entry.who, entry.call)? else {
             return Ok(false);
         };
-        let said = text_of(alloc, &reply)?;
-        Ok(said == entry.said && self.one.len() == entry.cut)
+        Ok(says(alloc, &reply, entry)? && self.one.len() == entry.cut)
+    }
+
+    fn first_that_differs(
+        &mut self,
+        alloc: Global,
+        entries: &[Entry],
+    ) -> Result<Option<usize>, OutOfMemory> {
+        for (place, entry) in entries.iter().enumerate() {
+            if !self.is_next(entry) || !self.agrees(alloc, entry)? {
+                return Ok(Some(place));
+            }
+        }
+        Ok(None)
     }
 }
 
@@ -90,10 +133,5 @@ pub fn first_that_differs(
         one: OneThread::new(alloc, history)?,
         calls: [0; 32],
     };
-    for (place, entry) in entries.iter().enumerate() {
-        if !replay.agrees(alloc, entry)? {
-            return Ok(Some(place));
-        }
-    }
-    Ok(None)
+    replay.first_that_differs(alloc, entries)
 }

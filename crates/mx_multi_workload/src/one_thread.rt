@@ -4,7 +4,7 @@ ghost use Rattle.mx_types.specs.Origin.{no_request};
 ghost use Rattle.mx_journal.specs.History.{is_maker};
 
 use crate::sample::{End, Job};
-use mx_journal::{AddReply, Claim, Control, VecLog};
+use mx_journal::{Claim, Control, VecLog};
 use mx_types::{Call, Code, HandleId, OutOfMemory, Reply, Ticket, Who};
 use std::alloc::Global;
 
@@ -60,16 +60,25 @@ impl OneThread {
         self.control.len()
     }
 
+    // Claims the addition that waits, and holds the claim.
+    fn hold(&mut self) -> Result<(), OutOfMemory> {
+        if let Some((claim, _work)) = self.control.claim() {
+            self.held.push(Some(Held { claim }))?;
+        }
+        Ok(())
+    }
+
     fn add(&mut self, who: Who, handle: HandleId) -> Result<Reply, OutOfMemory>
         requires { is_maker who ≡ true }
     {
-        let reply = self.control.add(&mut self.log, who, handle, Job);
-        if let AddReply::Added(_) = reply {
-            if let Some((claim, _work)) = self.control.claim() {
-                self.held.push(Some(Held { claim }))?;
-            }
+        let reply = self
+            .control
+            .add(&mut self.log, who, handle, Job)
+            .reply();
+        if matches!(reply, Reply::Added(_)) {
+            self.hold()?;
         }
-        Ok(reply.reply())
+        Ok(reply)
     }
 
     fn finish(&mut self, who: Who, ticket: Ticket, code: Code, size: u32) -> Option<Reply>

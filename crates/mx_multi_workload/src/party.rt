@@ -1,12 +1,15 @@
-//! One of many threads: some seats and a worker's seat, and the calls that they make by chance.
+//! One of many threads: two seats and a worker's seat, and the calls that they make by chance.
 ghost use Rattle.std.specs.Prelude.{◌<◌};
 
 use crate::client::{Client, Worker};
-use crate::entries::{Entry, makes_event, text_of};
+use crate::entries::{Entry, entry_of};
 use crate::sample::End;
 use mx_types::{Call, Code, HandleId, Reply, Ticket, Who};
 use std::alloc::Global;
 use std::sync::Wait;
+
+/// How many handles there are.
+pub const HANDLES: u32 = 40;
 
 /// Numbers by chance (Marsaglia, Xorshift RNGs, 2003), the same again from the same seed.
 #[derive(Drop)]
@@ -55,10 +58,40 @@ impl Chance {
 }
 
 /// Why a thread stops: memory was refused, or a call was answered `WrongSeat` or None.
-#[derive(Clone, Copy, Debug, PartialEq, Eq)]
+#[derive(Clone, Copy)]
 pub enum Stop {
     Memory,
     NoAnswer,
+}
+
+/// What the calls of a thread were answered, and why it makes no more of them.
+#[derive(Drop)]
+pub struct Notes {
+    pub alloc: Global,
+    pub entries: Vec<Entry>,
+    pub stop: Option<Stop>,
+}
+
+impl Notes {
+    // Notes what a call of a maker was answered, or why the thread stops.
+    fn note(&mut self, who: Who, number: u32, cut: u32, call: Call, reply: Option<Reply>) {
+        let Some(reply) = reply else {
+            self.stop = self.stop.or(Some(Stop::NoAnswer));
+            return;
+        };
+        let noted = match entry_of(self.alloc, who, number, cut, call, &reply) {
+            Ok(entry) => self.entries.push(entry).is_ok(),
+            Err(_) => false,
+        };
+        self.need(noted);
+    }
+
+    // The thread stops where memory was refused.
+    fn need(&mut self, had: bool) {
+        if !had {
+            self.stop = self.stop.or(Some(Stop::Memory));
+        }
+    }
 }
 
 /// A seat with its number, and how many of its calls were answered.
@@ -69,153 +102,96 @@ pub struct Place<'a> {
     pub calls: u32,
 }
 
-/// The seats of a thread, its worker's seat, and all that was answered.
+// Makes a call at a place, and says whether it was a wake-up that woke.
+fn call_at<R: Wait>(rt: &R, place: &mut Place, notes: &mut Notes, call: Call) -> bool {
+    let reply = place.client.make(rt, call);
+    let woke = matches!(reply, Some(Reply::Ok));
+    let number = place.calls;
+    let cut = place.client.cut();
+    place.calls = number.wrapping_add(1);
+    notes.note(place.who, number, cut, call, reply);
+    woke
+}
+
+// Makes a call at a place. A poll comes behind a wake-up of its own seat, so that it needs no other thread.
+fn turn_at<R: Wait>(rt: &R, place: &mut Place, notes: &mut Notes, call: Call) {
+    if call != Call::Poll {
+        call_at(rt, place, notes, call);
+    } else if call_at(rt, place, notes, Call::Wakeup) {
+        call_at(rt, place, notes, Call::Poll);
+    }
+}
+
+/// Two seats of a thread, its worker's seat, and all that was answered.
 #[derive(Drop)]
 pub struct Party<'a> {
-    pub alloc: Global,
-    pub places: Vec<Place<'a>>,
+    pub one: Place<'a>,
+    pub two: Place<'a>,
     pub worker: Worker<'a>,
     pub who: Who,
     pub calls: u32,
     pub chance: Chance,
-    pub handles: u32,
-    pub entries: Vec<Entry>,
-    /// Why it makes no more calls.
-    pub stop: Option<Stop>,
-    pub ghost some: { 0 < handles },
+    pub notes: Notes,
 }
 
 impl<'a> Party<'a> {
-    // Notes what a call of a maker was answered.
-    fn note(
-        &mut self,
-        who: Who,
-        number: u32,
-        cut: u32,
-        call: Call,
-        reply: Reply,
-    ) -> Result<(), Stop> {
-        if matches!(reply, Reply::OutOfMemory) {
-            return Err(Stop::Memory);
-        }
-        let Ok(said) = text_of(self.alloc, &reply) else {
-            return Err(Stop::Memory);
-        };
-        let entry = Entry {
-            who,
-            number,
-            cut,
-            makes_event: makes_event(&reply),
-            call,
-            said,
-        };
-        match self.entries.push(entry) {
-            Ok(()) => Ok(()),
-            Err(_) => Err(Stop::Memory),
-        }
-    }
-
-    // Makes a call at a place, and says whether it was a wake-up that woke.
-    fn call_at<R: Wait>(&mut self, rt: &R, index: usize, call: Call) -> Result<bool, Stop> {
-        let Some(place) = self.places.get_mut(index) else {
-            return Ok(false);
-        };
-        let Some(reply) = place.client.make(rt, call) else {
-            return Err(Stop::NoAnswer);
-        };
-        let woke = matches!(reply, Reply::Ok);
-        let number = place.calls;
-        let cut = place.client.cut();
-        let who = place.who;
-        place.calls = number.wrapping_add(1);
-        self.note(who, number, cut, call, reply)?;
-        Ok(woke)
-    }
-
-    // One call by chance at a place. A poll comes behind a wake-up of its own seat, so that it needs no other thread.
-    fn turn_at<R: Wait>(&mut self, rt: &R, index: usize) -> Result<(), Stop> {
-        let call = self.chance.call(self.handles);
-        if call != Call::Poll {
-            self.call_at(rt, index, call)?;
-            return Ok(());
-        }
-        if self.call_at(rt, index, Call::Wakeup)? {
-            self.call_at(rt, index, Call::Poll)?;
-        }
-        Ok(())
-    }
-
-    fn note_worker(&mut self, call: Call, reply: Reply) -> Result<(), Stop> {
+    // Notes what a call of the worker was answered.
+    fn note_worker(&mut self, call: Call, reply: Option<Reply>) {
         let number = self.calls;
         let cut = self.worker.cut();
         self.calls = number.wrapping_add(1);
-        self.note(self.who, number, cut, call, reply)
+        self.notes.note(self.who, number, cut, call, reply);
     }
 
     // Claims, and looks at what was claimed first.
-    fn worker_claims<R: Wait>(
-        &mut self,
-        rt: &R,
-        held: &mut Vec<(usize, Ticket)>,
-    ) -> Result<(), Stop> {
-        let Ok(claimed) = self.worker.claim(rt) else {
-            return Err(Stop::Memory);
+    fn worker_claims<R: Wait>(&mut self, rt: &R, held: &mut Vec<(usize, Ticket)>) {
+        let had = match self.worker.claim(rt) {
+            Ok(Some(claimed)) => held.push(claimed).is_ok(),
+            Ok(None) => true,
+            Err(_) => false,
         };
-        if let Some(claimed) = claimed {
-            if held.push(claimed).is_err() {
-                return Err(Stop::Memory);
-            }
+        self.notes.need(had);
+        if let Some((_number, ticket)) = held.first().copied() {
+            let look = self.worker.look(ticket).map(Reply::Look);
+            self.note_worker(Call::Look(ticket), look);
         }
-        let Some(first) = held.first() else {
-            return Ok(());
-        };
-        let (_number, ticket) = *first;
-        let Some(look) = self.worker.look(ticket) else {
-            return Err(Stop::NoAnswer);
-        };
-        self.note_worker(Call::Look(ticket), Reply::Look(look))
     }
 
     // Ends one of the claimed transfers.
-    fn worker_finishes<R: Wait>(
-        &mut self,
-        rt: &R,
-        held: &mut Vec<(usize, Ticket)>,
-    ) -> Result<(), Stop> {
+    fn worker_finishes<R: Wait>(&mut self, rt: &R, held: &mut Vec<(usize, Ticket)>) {
         let size = self.chance.below(1000);
-        let Some((number, ticket)) = held.pop() else {
-            return Ok(());
-        };
         let code = if size < 800 {
             Code::Ok
         } else {
             Code::RecvError
         };
-        let Some(reply) = self.worker.finish(rt, number, End::new(code, size)) else {
-            return Err(Stop::NoAnswer);
-        };
-        self.note_worker(Call::Finish(ticket, code, size), reply)
+        if let Some((number, ticket)) = held.pop() {
+            let reply = self.worker.finish(rt, number, End::new(code, size));
+            self.note_worker(Call::Finish(ticket, code, size), reply);
+        }
     }
 
-    fn turns<R: Wait>(&mut self, rt: &R, held: &mut Vec<(usize, Ticket)>) -> Result<(), Stop> {
-        for index in 0..self.places.len() {
-            self.turn_at(rt, index)?;
-        }
+    // A call or two of each seat by chance, and one or two of the worker's.
+    fn turn<R: Wait>(&mut self, rt: &R, held: &mut Vec<(usize, Ticket)>) {
+        let call = self.chance.call(HANDLES);
+        turn_at(rt, &mut self.one, &mut self.notes, call);
+        let call = self.chance.call(HANDLES);
+        turn_at(rt, &mut self.two, &mut self.notes, call);
         if self.chance.below(2) == 0 {
-            self.worker_claims(rt, held)
+            self.worker_claims(rt, held);
         } else {
-            self.worker_finishes(rt, held)
+            self.worker_finishes(rt, held);
         }
     }
 
-    /// Makes so many turns: in each, a call or two of each seat, and one or two of the worker's.
+    /// Makes so many turns, or those until it stops: in each, a call or two of each seat, and one or two of the worker's.
     pub fn run<R: Wait>(&mut self, rt: &R, turns: u32) {
-        let mut held = Vec::new(self.alloc);
+        let mut held = Vec::new(self.notes.alloc);
         for _ in 0..turns {
-            if let Err(stop) = self.turns(rt, &mut held) {
-                self.stop = Some(stop);
-                return;
+            if self.notes.stop.is_some() {
+                break;
             }
+            self.turn(rt, &mut held);
         }
     }
 }

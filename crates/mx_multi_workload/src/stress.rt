@@ -1,17 +1,12 @@
 //! Many seats on many threads, over few handles.
-ghost use Rattle.std.specs.Prelude.{◌≡◌, ◌<◌, ◌≤◌};
-
 use crate::entries::{Entry, first_that_differs, put_in_order};
 use crate::opened::{Benches, Opened, Seats, open_within};
-use crate::party::{Chance, Party, Place, Stop};
+use crate::party::{Chance, Notes, Party, Place, Stop};
 use mx_multi::Limits;
 use mx_types::{OutOfMemory, Who};
 use std::alloc::Global;
 use std::sync::Wait;
 use std::thread::{Threads, for_each_mut};
-
-/// How many handles there are.
-pub const HANDLES: u32 = 40;
 
 /// How many threads there are, each with two seats and a worker's.
 pub const THREADS: usize = 8;
@@ -35,49 +30,52 @@ fn next_place<'a>(seats: &mut Seats<'a>) -> Option<Place<'a>> {
     })
 }
 
-// Two places, or those that are left.
-fn next_places<'a>(alloc: Global, seats: &mut Seats<'a>) -> Result<Vec<Place<'a>>, OutOfMemory> {
-    let mut places = Vec::new(alloc);
-    for _ in 0..2 {
-        if let Some(place) = next_place(seats) {
-            places.push(place)?;
-        }
-    }
-    Ok(places)
-}
-
-fn parties<'a>(
+// The next two places with the next worker's seat, whose number is how many are left.
+fn next_party<'a>(
     alloc: Global,
     seed: u64,
     seats: &mut Seats<'a>,
     benches: &mut Benches<'a>,
-) -> Result<Vec<Party<'a>>, OutOfMemory> {
-    let mut parties = Vec::new(alloc);
-    for _ in 0..benches.left.len() {
-        let Some(worker) = benches.take(alloc) else {
-            return Ok(parties);
-        };
-        let number = (benches.left.len() % 16) as u8;
-        parties.push(Party {
+) -> Option<Party<'a>> {
+    let places = next_place(seats).zip(next_place(seats));
+    let ((one, two), worker) = places.zip(benches.take(alloc))?;
+    let number = (benches.left.len() % 16) as u8;
+    Some(Party {
+        one,
+        two,
+        worker,
+        who: Who::Worker(number),
+        calls: 0,
+        chance: Chance::new(seed.wrapping_add(u64::from(number))),
+        notes: Notes {
             alloc,
-            places: next_places(alloc, seats)?,
-            worker,
-            who: Who::Worker(number),
-            calls: 0,
-            chance: Chance::new(seed.wrapping_add(u64::from(number))),
-            handles: HANDLES,
             entries: Vec::new(alloc),
             stop: None,
-        })?;
+        },
+    })
+}
+
+// Adds a party for each thread, where there are seats for it.
+fn add_parties<'a>(
+    alloc: Global,
+    seed: u64,
+    seats: &mut Seats<'a>,
+    benches: &mut Benches<'a>,
+    parties: &mut Vec<Party<'a>>,
+) -> Result<(), OutOfMemory> {
+    for _ in 0..THREADS {
+        if let Some(party) = next_party(alloc, seed, seats, benches) {
+            parties.push(party)?;
+        }
     }
-    Ok(parties)
+    Ok(())
 }
 
 // Why the first party that stopped did, if one did.
 fn first_stop(parties: &[Party]) -> Option<Stop> {
     for party in parties {
-        if party.stop.is_some() {
-            return party.stop;
+        if party.notes.stop.is_some() {
+            return party.notes.stop;
         }
     }
     None
@@ -92,9 +90,20 @@ fn all_entries(alloc: Global, parties: &mut [Party]) -> Result<Option<Vec<Entry>
     }
     let mut all = Vec::new(alloc);
     for party in parties {
-        all.append(&mut party.entries)?;
+        all.append(&mut party.notes.entries)?;
     }
     Ok(Some(all))
+}
+
+// Each party makes its turns, in a thread of its own; then all that was answered.
+fn run_parties<R: Threads + Wait + Sync>(
+    rt: &R,
+    alloc: Global,
+    parties: &mut [Party],
+    turns: u32,
+) -> Result<Option<Vec<Entry>>, OutOfMemory> {
+    for_each_mut(rt, parties, THREADS, &|_, party| party.run(rt, turns));
+    all_entries(alloc, parties)
 }
 
 /// So many turns of each thread, on a multi handle of its own. It answers what was answered, each maker's in its own order;
@@ -118,14 +127,12 @@ pub fn storm<R: Threads + Wait + Sync>(
         multi: &multi,
         left: workers,
     };
-    let mut parties = parties(alloc, seed, &mut seats, &mut benches)?;
-    run_parties(rt, parties.as_mut_slice(), turns);
-    all_entries(alloc, parties.as_mut_slice())
-}
-
-// Each party makes its turns, in a thread of its own.
-fn run_parties<R: Threads + Wait + Sync>(rt: &R, parties: &mut [Party], turns: u32) {
-    for_each_mut(rt, parties, THREADS, &|_, party| party.run(rt, turns));
+    let mut parties = Vec::new(alloc);
+    let told = match add_parties(alloc, seed, &mut seats, &mut benches, &mut parties) {
+        Ok(()) => run_parties(rt, alloc, parties.as_mut_slice(), turns),
+        Err(refused) => Err(refused),
+    };
+    told
 }
 
 /// The place of the first call that one thread answers otherwise, in the order of the cuts, into which the calls are put.

@@ -1,16 +1,16 @@
 //! What two threads do, with a seat each.
 ghost use Rattle.std.specs.Prelude.{◌≡◌};
 
+use crate::calls;
 use crate::client::{Client, Pair, Worker};
 use crate::hold::Hold;
 use crate::sample::{Chair, End, Handle, Job};
-use mx_journal::AddReply;
 use mx_types::{Call, HandleId, Reply, State};
 use std::sync::Wait;
 use std::thread::{Threads, join, join_mut};
 
 /// A list of handles: how many events the seat had then seen, how many handles there were, and the first.
-#[derive(Clone, Copy, Debug, PartialEq, Eq)]
+#[derive(Clone, Copy, PartialEq, Eq)]
 pub struct Glance {
     pub cut: u32,
     pub count: usize,
@@ -44,17 +44,17 @@ fn add_and_list<R: Wait>(
     ensures { seat.new.of ≡ multi.now }
 {
     let refused = matches!(
-        multi.add(rt, seat, handle, Job),
-        Ok(AddReply::OutOfMemory(_))
+        calls::add(rt, multi, seat, handle, Job),
+        Some(Reply::OutOfMemory)
     );
     if refused {
-        let _added = multi.add(rt, seat, handle, Job);
+        let _added = calls::add(rt, multi, seat, handle, Job);
     }
     (refused, glance_at(multi, seat))
 }
 
 /// What two seats listed, and whether memory was refused for the addition beside them.
-#[derive(Clone, Copy, Debug, PartialEq, Eq)]
+#[derive(Clone, Copy)]
 pub struct Listed {
     pub refused: bool,
     pub first: Option<Glance>,
