@@ -1,3 +1,4 @@
 pub mod Asked
+pub mod FetchError
 pub mod Places
 pub mod Run

@@ -1,15 +1,18 @@
 //! The one who adds what is to be fetched, and collects what came.
-ghost use Rattle.std.specs.Prelude.{◌≡◌, ◌⊎◌, ◌<◌, ◌++◌, [], ◌∷◌, length, map, slice_get, Some, Ok, Err, All, IsTrue, MatchResult, IfOk, OnOk};
+ghost use Rattle.std.specs.Prelude.{◌≡◌, ◌⊎◌, ◌<◌, ◌++◌, [], ◌∷◌, true, length, map, slice_get, Some, Ok, Err, All, IsTrue};
+ghost use Rattle.std.specs.Prelude.{MatchResult, IfOk, IfErr, OnOk};
 ghost use Rattle.mx_request.specs.RequestError.{refusal_code};
 ghost use Rattle.mx_request.specs.declared.error.RequestError.TheVariants as refusal;
 ghost use Rattle.mx_get.specs.Asked.{asked_for, asked_of, AreEndsOf, IsEnd};
+ghost use Rattle.mx_get.specs.FetchError.{is_of_run};
 ghost use Rattle.mx_get.specs.Places.{asked_at};
 
 use crate::crew::Crew;
 use crate::end::End;
+use crate::error::FetchError;
 use mx_journal::AddReply;
 use mx_link::Link;
-use mx_message::next_message;
+use mx_message::{NoMessage, next_message};
 use mx_multi::{Multi, Seat, WrongSeat};
 use mx_request::{Request, RequestError};
 use mx_run_get::Fetched;
@@ -62,15 +65,16 @@ fn awaits(places: &[Place], at: usize, request: &Request) -> bool
 
 // The ends, where each is known.
 #[tactic(auto, using(crate::proofs::Asking::ends_reversed))]
-fn ends_at(alloc: Global, places: Vec<Place>) -> Result<Vec<Fetched>, OutOfMemory>
+fn ends_at(alloc: Global, places: Vec<Place>) -> Result<Vec<Fetched>, FetchError>
     ensures asked { IfOk result (λ ends. map asked_of ends.items ≡ map asked_at places.items) }
     ensures outcomes { IfOk result (λ ends. All IsEnd ends.items) }
+    ensures cause { IfErr result (λ e. is_of_run e ≡ true) }
 {
     let mut places = places;
     let mut ends = Vec::with_capacity(alloc, places.len())?;
     while let Some(place) = places.pop() {
         let Place::Known(end) = place else {
-            return Err(OutOfMemory);
+            return Err(FetchError::NoMessage);
         };
         ends.push(end.into_fetched())?;
     }
@@ -78,9 +82,15 @@ fn ends_at(alloc: Global, places: Vec<Place>) -> Result<Vec<Fetched>, OutOfMemor
     Ok(ends)
 }
 
-// Whether an addition was made. It is of any work, so that what is handed back is let go as one value, whatever that is.
-fn is_added<Q: Drop>(answer: Result<AddReply<Q>, WrongSeat<Q>>) -> bool {
-    matches!(answer, Ok(AddReply::Added(_)))
+// That an addition was made, or why it wasn't. It is of any work, so that what is handed back is let go as one value, whatever that is.
+fn added<Q: Drop>(answer: Result<AddReply<Q>, WrongSeat<Q>>) -> Result<(), FetchError>
+    ensures cause { IfErr result (λ e. is_of_run e ≡ true) }
+{
+    match answer {
+        Ok(AddReply::Added(_)) => Ok(()),
+        Ok(AddReply::OutOfMemory(_)) => Err(FetchError::OutOfMemory),
+        _ => Err(FetchError::NotAdded),
+    }
 }
 
 /// The application's seat, and what came so far.
@@ -116,20 +126,18 @@ impl<L: Link> Desk<L> {
         rt: &R,
         multi: &Multi<Queued<L>, Outcome>,
         request: Request,
-    ) -> Result<(), OutOfMemory>
+    ) -> Result<(), FetchError>
         requires own { self.old.seat.of ≡ multi.now }
         ensures own { self.new.seat.of ≡ multi.now }
         ensures asked { OnOk result (map asked_at self.new.places.items ≡ map asked_at self.old.places.items ++ Ok request ∷ []) }
+        ensures cause { IfErr result (λ e. is_of_run e ≡ true) }
     {
         let Ok(handle) = u32::try_from(self.places.len()) else {
-            return Err(OutOfMemory);
+            return Err(FetchError::NotAdded);
         };
         let awaited = request.copy(rt.alloc())?;
         let work = Queued::new(rt.alloc(), request);
-        let answer = multi.add(rt, &mut self.seat, HandleId(handle), work);
-        if !is_added(answer) {
-            return Err(OutOfMemory);
-        }
+        added(multi.add(rt, &mut self.seat, HandleId(handle), work))?;
         self.waiting = self.waiting.saturating_add(1);
         self.places.push(Place::Awaited(awaited))?;
         Ok(())
@@ -143,14 +151,15 @@ impl<L: Link> Desk<L> {
         url: &str,
         timeout_ms: u32,
         max_redirects: u8,
-    ) -> Result<(), OutOfMemory>
+    ) -> Result<(), FetchError>
         requires own { self.old.seat.of ≡ multi.now }
         ensures own { self.new.seat.of ≡ multi.now }
         ensures asked { OnOk result (map asked_at self.new.places.items ≡ map asked_at self.old.places.items ++ asked_for timeout_ms max_redirects url.now ∷ []) }
+        ensures cause { IfErr result (λ e. is_of_run e ≡ true) }
     {
         match build(rt.alloc(), url, timeout_ms, max_redirects) {
             Ok(request) => self.add_request(rt, multi, request),
-            Err(RequestError::OutOfMemory) => Err(OutOfMemory),
+            Err(RequestError::OutOfMemory) => Err(FetchError::OutOfMemory),
             Err(error) => {
                 self.places.push(Place::Known(End::refused(error.code())))?;
                 Ok(())
@@ -175,13 +184,13 @@ impl<L: Link> Desk<L> {
         &mut self,
         rt: &R,
         multi: &Multi<Queued<L>, Outcome>,
-    ) -> Result<(), OutOfMemory>
+    ) -> Result<(), NoMessage>
         requires own { self.old.seat.of ≡ multi.now }
         ensures own { self.new.seat.of ≡ multi.now }
         ensures asked { map asked_at self.new.places.items ≡ map asked_at self.old.places.items }
     {
         let Ok(message) = next_message(rt, multi, &mut self.seat) else {
-            return Err(OutOfMemory);
+            return Err(NoMessage);
         };
         self.note(message.handle, message.outcome);
         Ok(())
@@ -192,7 +201,7 @@ impl<L: Link> Desk<L> {
         &mut self,
         rt: &R,
         multi: &Multi<Queued<L>, Outcome>,
-    ) -> Result<(), OutOfMemory>
+    ) -> Result<(), NoMessage>
         requires own { self.old.seat.of ≡ multi.now }
         ensures own { self.new.seat.of ≡ multi.now }
         ensures asked { map asked_at self.new.places.items ≡ map asked_at self.old.places.items }
@@ -212,11 +221,12 @@ impl<L: Link> Desk<L> {
         crew: &Crew,
         urls: &[&str],
         options: Options,
-    ) -> Result<(), OutOfMemory>
+    ) -> Result<(), FetchError>
         requires own { self.old.seat.of ≡ multi.now }
         ensures own { self.new.seat.of ≡ multi.now }
         ensures asked { OnOk result (map asked_at self.new.places.items ≡ map asked_at self.old.places.items
             ++ map (asked_for options.timeout_ms options.max_redirects) (map (λ u. u.now) urls.now)) }
+        ensures cause { IfErr result (λ e. is_of_run e ≡ true) }
     {
         for url in urls {
             self.add(rt, multi, *url, options.timeout_ms, options.max_redirects)?;
@@ -236,14 +246,16 @@ impl<L: Link> Desk<L> {
         crew: &Crew,
         urls: &[&str],
         options: Options,
-    ) -> Result<(), OutOfMemory>
+    ) -> Result<(), FetchError>
         requires own { self.old.seat.of ≡ multi.now }
         ensures asked { OnOk result (map asked_at self.new.places.items ≡ map asked_at self.old.places.items
             ++ map (asked_for options.timeout_ms options.max_redirects) (map (λ u. u.now) urls.now)) }
+        ensures cause { IfErr result (λ e. is_of_run e ≡ true) }
     {
         self.add_all(rt, multi, crew, urls, options)?;
         crew.ring();
-        self.await_all(rt, multi)
+        self.await_all(rt, multi)?;
+        Ok(())
     }
 
     /// Adds the URLs, with one worker each after the message of the one before, and waits for all messages.
@@ -254,10 +266,11 @@ impl<L: Link> Desk<L> {
         crew: &Crew,
         urls: &[&str],
         options: Options,
-    ) -> Result<Vec<Fetched>, OutOfMemory>
+    ) -> Result<Vec<Fetched>, FetchError>
         requires own { self.seat.of ≡ multi.now }
         requires none { self.places.items ≡ [] }
-        ensures { IfOk result (λ ends. AreEndsOf options.timeout_ms options.max_redirects (map (λ u. u.now) urls.now) ends.items) }
+        ensures ends { IfOk result (λ ends. AreEndsOf options.timeout_ms options.max_redirects (map (λ u. u.now) urls.now) ends.items) }
+        ensures cause { IfErr result (λ e. is_of_run e ≡ true) }
     {
         let mut desk = self;
         desk.fill(rt, multi, crew, urls, options)?;

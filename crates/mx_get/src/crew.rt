@@ -1,11 +1,15 @@
 //! The workers' seats and gates, and what wakes and stops them.
-ghost use Rattle.std.specs.Prelude.{◌≡◌, All, IfOk, IfSome, min, vec_len};
+ghost use Rattle.std.specs.Prelude.{◌≡◌, ◌↔◌, true, All, IfOk, IfErr, IfSome, min, vec_len};
+ghost use Rattle.mx_types.specs.declared.code.Code.TheVariants as codes;
+ghost use Rattle.mx_get.specs.FetchError.{is_of_run};
+ghost use Rattle.mx_get.specs.declared.error.FetchError.TheVariants as fetch_error;
 
+use crate::error::FetchError;
 use mx_gate::{Bell, Gate, SocketGate, Turn};
 use mx_link::Link;
 use mx_multi::{Multi, WorkerSeat};
 use mx_transfer::Outcome;
-use mx_types::OutOfMemory;
+use mx_types::{Code, OutOfMemory};
 use mx_worker::{Queued, run_worker};
 use std::alloc::{AllocGlobal, Global};
 use std::net::Net;
@@ -56,16 +60,30 @@ impl Crew {
     }
 }
 
+// Why there is no gate, by the code that says so.
+fn no_gate(code: Code) -> FetchError
+    ensures memory { (result ≡ fetch_error.OutOfMemory) ↔ (code ≡ codes.OutOfMemory) }
+    ensures cause { is_of_run result ≡ true }
+{
+    match code {
+        Code::OutOfMemory => FetchError::OutOfMemory,
+        _ => FetchError::NoPoll,
+    }
+}
+
 impl Crew {
     // A gate that this crew wakes and stops.
     fn gate<'r, R: Net + Clock + AllocGlobal>(
         &mut self,
         rt: &'r R,
         start: Instant,
-    ) -> Result<SocketGate<'r, R>, OutOfMemory> {
+    ) -> Result<SocketGate<'r, R>, FetchError>
+        ensures cause { IfErr result (λ e. is_of_run e ≡ true) }
+    {
         let stop = Arc::try_clone(&self.stop)?;
-        let Ok(gate) = SocketGate::starting_at(rt, stop, start) else {
-            return Err(OutOfMemory);
+        let gate = match SocketGate::starting_at(rt, stop, start) {
+            Ok(gate) => gate,
+            Err(code) => return Err(no_gate(code)),
         };
         self.bells.push(gate.bell()?)?;
         Ok(gate)
@@ -77,8 +95,9 @@ impl Crew {
         rt: &'r R,
         start: Instant,
         count: u8,
-    ) -> Result<Vec<SocketGate<'r, R>>, OutOfMemory>
-        ensures { IfOk result (λ gates. vec_len gates ≡ count) }
+    ) -> Result<Vec<SocketGate<'r, R>>, FetchError>
+        ensures count { IfOk result (λ gates. vec_len gates ≡ count) }
+        ensures cause { IfErr result (λ e. is_of_run e ≡ true) }
     {
         let mut gates = Vec::with_capacity(rt.alloc(), usize::from(count))?;
         for made in 0..count {

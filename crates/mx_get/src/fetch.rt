@@ -1,14 +1,18 @@
 //! A run of workers on threads.
-ghost use Rattle.std.specs.Prelude.{◌≡◌, ◌+◌, [], true, All, IfOk, IfSome, OnSome, map, vec_len};
+ghost use Rattle.std.specs.Prelude.{◌≡◌, ◌≢◌, ◌+◌, ◌<◌, [], true, Err, All, IfOk, IfErr, IfSome, OnSome, length, map, vec_len};
 ghost use Rattle.std.specs.Thread.{IsSync};
+ghost use Rattle.mx_multi.specs.Opening.{are_within as are_limits_within};
 ghost use Rattle.mx_run_io.specs.Options.{are_within};
 ghost use Rattle.mx_get.specs.Asked.{AreEndsOf};
+ghost use Rattle.mx_get.specs.FetchError.{is_of_run};
+ghost use Rattle.mx_get.specs.declared.error.FetchError.TheVariants as fetch_error;
 
 use crate::collect::Desk;
 use crate::crew::{Crew, Post, posts, work};
+use crate::error::FetchError;
 use mx_gate::Gate;
 use mx_link::Link;
-use mx_multi::{Limits, Multi, Seat, WorkerSeat};
+use mx_multi::{Limits, Multi, OpenError, Seat, WorkerSeat};
 use mx_run_get::Fetched;
 use mx_run_io::Options;
 use mx_transfer::Outcome;
@@ -22,6 +26,9 @@ use std::sync::Wait;
 use std::thread;
 use std::thread::Threads;
 use std::time::Instant;
+
+/// The most URLs of a run.
+pub const MOST_URLS: usize = 256;
 
 /// The events that the history has room for.
 const HISTORY: u32 = 2048;
@@ -54,19 +61,21 @@ fn run_all<
     desk: Desk<L>,
     urls: &[&str],
     options: Options,
-) -> Result<Vec<Fetched>, OutOfMemory>
+) -> Result<Vec<Fetched>, FetchError>
     requires seat { desk.seat.of ≡ multi.now }
     requires none { desk.places.items ≡ [] }
     requires posts { All (λ p. p.seat.of ≡ multi.now) posts.items }
     requires workers { vec_len posts ≡ options.workers }
-    ensures { IfOk result (λ ends. AreEndsOf options.timeout_ms options.max_redirects (map (λ u. u.now) urls.now) ends.items) }
+    ensures ends { IfOk result (λ ends. AreEndsOf options.timeout_ms options.max_redirects (map (λ u. u.now) urls.now) ends.items) }
+    ensures cause { IfErr result (λ e. is_of_run e ≡ true) }
 {
     thread::scope(
         thread::scope_env(),
         rt,
-        move |scope| -> Result<Vec<Fetched>, OutOfMemory>
+        move |scope| -> Result<Vec<Fetched>, FetchError>
             requires { IsSync R.row × (desk.seat.of ≡ multi.now) × (desk.places.items ≡ []) × All (λ p. p.seat.of ≡ multi.now) posts.items }
-            ensures { IfOk result (λ ends. AreEndsOf options.timeout_ms options.max_redirects (map (λ u. u.now) urls.entry.now) ends.items) }
+            ensures ends { IfOk result (λ ends. AreEndsOf options.timeout_ms options.max_redirects (map (λ u. u.now) urls.entry.now) ends.items) }
+            ensures cause { IfErr result (λ e. is_of_run e ≡ true) }
         {
             let mut posts = posts;
             while let Some(post) = next_post(multi, &mut posts) {
@@ -78,7 +87,7 @@ fn run_all<
                 );
                 if started.is_err() {
                     crew.dismiss();
-                    return Err(OutOfMemory);
+                    return Err(FetchError::NoThread);
                 }
             }
             let collected = desk.collect(rt, multi, crew, urls, options);
@@ -96,20 +105,32 @@ struct Opened<L: Link> {
     workers: Vec<WorkerSeat<Queued<L>, Outcome>>,
 }
 
+// What the options ask for, and one seat: a multi handle can be opened with it.
+fn limits(options: Options) -> Limits
+    requires { are_within options ≡ true }
+    ensures value { result ≡ record { seats = 1; workers = options.workers; history = 2048; max_connects = options.max_connects } }
+    ensures within { are_limits_within result ≡ true }
+{
+    Limits {
+        seats: 1,
+        workers: options.workers,
+        history: HISTORY,
+        max_connects: options.max_connects,
+    }
+}
+
+// Opens a multi handle with what the options ask for, which is within its limits: so it is refused for want of memory alone.
 fn open<L: Link, R: Wait + AllocGlobal>(rt: &R, options: Options) -> Result<Opened<L>, OutOfMemory>
+    requires { are_within options ≡ true }
     ensures seat { IfOk result (λ o. o.seat.of ≡ o.multi) }
     ensures workers { IfOk result (λ o. All (λ s. s.of ≡ o.multi) o.workers.items) }
     ensures count { IfOk result (λ o. vec_len o.workers ≡ options.workers) }
     ensures history { IfOk result (λ o. o.multi.engine.opening ≡ record { history = 2048 }) }
 {
-    let limits = Limits {
-        seats: 1,
-        workers: options.workers,
-        history: HISTORY,
-        max_connects: options.max_connects,
-    };
-    let Ok((multi, mut seats, workers)) = Multi::open(rt, rt.alloc(), limits) else {
-        return Err(OutOfMemory);
+    let (multi, mut seats, workers) = match Multi::open(rt, rt.alloc(), limits(options)) {
+        Ok(opened) => opened,
+        Err(OpenError::OutOfMemory) => return Err(OutOfMemory),
+        Err(OpenError::BadLimits) => unreachable!(),
     };
     match seats.pop() {
         Some(seat) => Ok(Opened {
@@ -117,7 +138,7 @@ fn open<L: Link, R: Wait + AllocGlobal>(rt: &R, options: Options) -> Result<Open
             seat,
             workers,
         }),
-        None => Err(OutOfMemory),
+        None => unreachable!(),
     }
 }
 
@@ -137,11 +158,12 @@ fn fetch_with<
     gates: Vec<G>,
     urls: &[&str],
     options: Options,
-) -> Result<Vec<Fetched>, OutOfMemory>
+) -> Result<Vec<Fetched>, FetchError>
     requires seat { seats.0.of ≡ multi.now }
     requires workers { All (λ s. s.of ≡ multi.now) seats.1.items }
     requires counts { (vec_len seats.1 ≡ options.workers) × (vec_len gates ≡ options.workers) }
-    ensures { IfOk result (λ ends. AreEndsOf options.timeout_ms options.max_redirects (map (λ u. u.now) urls.now) ends.items) }
+    ensures ends { IfOk result (λ ends. AreEndsOf options.timeout_ms options.max_redirects (map (λ u. u.now) urls.now) ends.items) }
+    ensures cause { IfErr result (λ e. is_of_run e ≡ true) }
 {
     let (seat, workers) = seats;
     let posts = posts(rt.alloc(), multi, workers, gates)?;
@@ -161,9 +183,11 @@ fn fetch_at<
     gates: Vec<G>,
     urls: &[&str],
     options: Options,
-) -> Result<Vec<Fetched>, OutOfMemory>
+) -> Result<Vec<Fetched>, FetchError>
+    requires within { are_within options ≡ true }
     requires gates { vec_len gates ≡ options.workers }
-    ensures { IfOk result (λ ends. AreEndsOf options.timeout_ms options.max_redirects (map (λ u. u.now) urls.now) ends.items) }
+    ensures ends { IfOk result (λ ends. AreEndsOf options.timeout_ms options.max_redirects (map (λ u. u.now) urls.now) ends.items) }
+    ensures cause { IfErr result (λ e. is_of_run e ≡ true) }
 {
     let Opened {
         multi,
@@ -173,10 +197,37 @@ fn fetch_at<
     fetch_with(rt, &multi, (seat, workers), crew, gates, urls, options)
 }
 
-/// What each URL ended with, in their order: the code of its refusal, or what a transfer of its request ended with.
+// Fetches with workers over sockets, whose clocks have one start.
+fn fetch_from<
+    R: Threads
+        + Wait
+        + Net<Listener = TcpListener, Stream = TcpStream>
+        + Clock
+        + RandomSource
+        + AllocGlobal
+        + Sync,
+>(rt: &R, urls: &[&str], options: Options, start: Instant) -> Result<Vec<Fetched>, FetchError>
+    requires { are_within options ≡ true }
+    ensures ends { IfOk result (λ ends. AreEndsOf options.timeout_ms options.max_redirects (map (λ u. u.now) urls.now) ends.items) }
+    ensures cause { IfErr result (λ e. is_of_run e ≡ true) }
+{
+    let mut crew = Crew::new(rt.alloc())?;
+    let gates = crew.gates(rt, start, options.workers)?;
+    fetch_at(rt, &crew, gates, urls, options)
+}
+
+/// Fetches the URLs by GET. What is answered is what each ended with, in their order: the code of its refusal, or what a
+/// transfer of its request ended with. It may wait.
 ///
-/// The one error is that memory, a thread, a poll of the system's or its clock can't be had, or that no message came of a
-/// transfer that was added. All workers have ended then.
+/// With one worker each URL is added after the message of the one before; with more all are added at once. All workers
+/// have ended when it returns. It answers
+///
+/// - `TooManyUrls` where there are more than `MOST_URLS`, and only there;
+/// - `NoClock`, `NoPoll`, `NoThread` where the system has none for the workers;
+/// - `OutOfMemory` where a growth was refused;
+/// - `NotAdded`, `NoMessage` where a transfer wasn't added, or no message came of it.
+///
+/// `Unwritten` is none of its answers.
 pub fn fetch_all<
     R: Threads
         + Wait
@@ -185,14 +236,18 @@ pub fn fetch_all<
         + RandomSource
         + AllocGlobal
         + Sync,
->(rt: &R, urls: &[&str], options: Options) -> Result<Vec<Fetched>, OutOfMemory>
+>(rt: &R, urls: &[&str], options: Options) -> Result<Vec<Fetched>, FetchError>
     requires { are_within options ≡ true }
-    ensures { IfOk result (λ ends. AreEndsOf options.timeout_ms options.max_redirects (map (λ u. u.now) urls.now) ends.items) }
+    ensures ends { IfOk result (λ ends. AreEndsOf options.timeout_ms options.max_redirects (map (λ u. u.now) urls.now) ends.items) }
+    ensures many { MOST_URLS < length urls.now → result ≡ Err fetch_error.TooManyUrls }
+    ensures few { IfErr result (λ e. e ≡ fetch_error.TooManyUrls → MOST_URLS < length urls.now) }
+    ensures written { IfErr result (λ e. e ≢ fetch_error.Unwritten) }
 {
-    let Ok(start) = Instant::now(rt) else {
-        return Err(OutOfMemory);
-    };
-    let mut crew = Crew::new(rt.alloc())?;
-    let gates = crew.gates(rt, start, options.workers)?;
-    fetch_at(rt, &crew, gates, urls, options)
+    if urls.len() > MOST_URLS {
+        return Err(FetchError::TooManyUrls);
+    }
+    match Instant::now(rt) {
+        Ok(start) => fetch_from(rt, urls, options, start),
+        Err(_) => Err(FetchError::NoClock),
+    }
 }

@@ -4,7 +4,10 @@
 mod collect;
 mod crew;
 mod end;
+mod error;
 mod fetch;
 mod run;
 
-pub use crate::run::{MOST_URLS, run_get};
+pub use crate::error::FetchError;
+pub use crate::fetch::{MOST_URLS, fetch_all};
+pub use crate::run::{run_get, try_get};

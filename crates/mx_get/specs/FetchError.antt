@@ -1,0 +1,21 @@
+-- Why `get` has no ends to print, or could not print them.
+use Rattle.std.specs.Prelude.{ℕ, Bool, true, false}
+use Rattle.mx_get.specs.declared.error.FetchError.{FetchError}
+use Rattle.mx_get.specs.declared.error.FetchError.TheVariants as cause
+
+-- the number of a cause
+abbrev pub fetch_number : FetchError → ℕ
+fetch_number cause.TooManyUrls = 1
+fetch_number cause.OutOfMemory = 2
+fetch_number cause.NoClock = 3
+fetch_number cause.NoPoll = 4
+fetch_number cause.NoThread = 5
+fetch_number cause.NotAdded = 6
+fetch_number cause.NoMessage = 7
+fetch_number cause.Unwritten = 8
+
+-- What a run that has begun can lack: it is not of the URLs that there are too many, nor of the output.
+abbrev pub is_of_run : FetchError → Bool
+is_of_run cause.TooManyUrls = false
+is_of_run cause.Unwritten = false
+is_of_run _ = true
