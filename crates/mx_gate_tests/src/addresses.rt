@@ -36,10 +36,15 @@ fn brackets_are_taken_in_pairs(rt: HostRuntime) {
 
 #[test]
 fn the_first_ipv4_address_is_chosen(rt: HostRuntime) {
-    assert_eq!(rt; choose(&[]), None);
-    assert_eq!(rt; choose(&[v6(1, 80), v6(2, 80)]), Some(v6(1, 80)));
-    assert_eq!(rt; choose(&[v6(1, 80), v4(2, 80), v4(3, 80)]), Some(v4(2, 80)));
-    assert_eq!(rt; choose(&[v4(1, 80), v6(2, 80)]), Some(v4(1, 80)));
+    let cases: [(&[SocketAddr], Option<SocketAddr>); 4] = [
+        (&[], None),
+        (&[v6(1, 80), v6(2, 80)], Some(v6(1, 80))),
+        (&[v6(1, 80), v4(2, 80), v4(3, 80)], Some(v4(2, 80))),
+        (&[v4(1, 80), v6(2, 80)], Some(v4(1, 80))),
+    ];
+    for (addresses, want) in cases {
+        assert_eq!(rt; choose(addresses), want);
+    }
 }
 
 // The address of a host's port, where lookups give these addresses, or are refused so.
@@ -93,12 +98,22 @@ fn a_failed_lookup_has_its_code(rt: HostRuntime) -> Result<(), Fail> {
     Ok(())
 }
 
+// The codes of a lookup and of a connection that fail so.
+fn codes_of(kind: ErrorKind) -> (Code, Code) {
+    let error = Error::from(kind);
+    (lookup_code(&error), connect_code(&error))
+}
+
 #[test]
 fn want_of_memory_has_its_own_code(rt: HostRuntime) {
-    let refused = Error::from(ErrorKind::ConnectionRefused);
-    let memory = Error::from(ErrorKind::OutOfMemory);
-    assert_eq!(rt; lookup_code(&refused), Code::CouldntResolveHost);
-    assert_eq!(rt; connect_code(&refused), Code::CouldntConnect);
-    assert_eq!(rt; lookup_code(&memory), Code::OutOfMemory);
-    assert_eq!(rt; connect_code(&memory), Code::OutOfMemory);
+    let cases = [
+        (
+            ErrorKind::ConnectionRefused,
+            (Code::CouldntResolveHost, Code::CouldntConnect),
+        ),
+        (ErrorKind::OutOfMemory, (Code::OutOfMemory, Code::OutOfMemory)),
+    ];
+    for (kind, want) in cases {
+        assert_eq!(rt; codes_of(kind), want);
+    }
 }

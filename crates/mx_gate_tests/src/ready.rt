@@ -1,8 +1,32 @@
 use mx_gate::{ReadyLink, Signals};
 use mx_link::{Link, Read, ScriptLink, ScriptRead, Write};
+use std::alloc::Global;
 use std::process::Abort;
 use std::sync::Arc;
 use std::test::Fail;
+
+/// A call of a link with what it is to answer, or what is told of connections.
+#[derive(Clone, Copy)]
+enum Step {
+    /// A read into two dashes, and what then stands there.
+    Read(Read, [u8; 2]),
+    /// A write of `abc`.
+    Write(Write),
+    /// A write of `c`.
+    WriteLast(Write),
+    /// It is told that the connections from one token to before another may be read.
+    TellReads(u64, u64),
+    /// It is told that the connection of a token may be written to.
+    TellWrite(u64),
+}
+
+const NOTHING: Step = Step::Read(Read::WouldBlock, [b'-'; 2]);
+
+const END: Step = Step::Read(Read::End, [b'-'; 2]);
+
+const TELL_READ: Step = Step::TellReads(0, 1);
+
+const NO_ROOM: Step = Step::Write(Write::WouldBlock);
 
 // Reads into a buffer of two bytes.
 fn read<L: Link>(link: &mut ReadyLink<L>) -> (Read, [u8; 2]) {
@@ -11,38 +35,54 @@ fn read<L: Link>(link: &mut ReadyLink<L>) -> (Read, [u8; 2]) {
     (read, buffer)
 }
 
-// The script of a link: what each of its reads and writes answers, where it is asked.
-fn link(
-    rt: &HostRuntime,
-    reads: &[ScriptRead<'_>],
-    writes: &[Write],
-) -> Result<(ReadyLink<ScriptLink>, Arc<Signals>), Fail> {
-    let signals = Arc::new(rt.alloc(), Signals::new(rt.alloc())?)?;
-    let script = ScriptLink::new(rt.alloc(), reads, writes)?;
-    Ok((ReadyLink::over(script, Arc::try_clone(&signals)?), signals))
+fn tell_reads(signals: &Signals, from: u64, to: u64) {
+    for token in from..to {
+        signals.tell_read(token);
+    }
 }
 
-// Reads what the script of the first test gives, telling now and then.
-fn read_all<R: Abort, L: Link>(rt: &R, link: &mut ReadyLink<L>, signals: &Signals) {
-    let unasked = [read(link).0, read(link).0, read(link).0];
-    signals.tell_write(0);
-    let (of_writes, _) = read(link);
-    signals.tell_read(0);
-    let told = read(link);
-    let waits = [read(link).0, read(link).0];
-    signals.tell_read(0);
-    let (last, _) = read(link);
-    let wait = Read::WouldBlock;
-    assert_eq!(rt;
-        (unasked, of_writes, told, waits, last),
-        (
-            [wait, wait, wait],
-            wait,
-            (Read::Bytes(2), *b"ab"),
-            [wait, wait],
-            Read::End
-        )
-    );
+fn take<R: Abort, L: Link>(
+    rt: &R,
+    link: &mut ReadyLink<L>,
+    signals: &Signals,
+    step: Step,
+    place: usize,
+) {
+    match step {
+        Step::Read(answer, bytes) => {
+            assert_eq!(rt; read(link), (answer, bytes), "step {place}");
+        }
+        Step::Write(answer) => assert_eq!(rt; link.try_write(b"abc"), answer, "step {place}"),
+        Step::WriteLast(answer) => assert_eq!(rt; link.try_write(b"c"), answer, "step {place}"),
+        Step::TellReads(from, to) => tell_reads(signals, from, to),
+        Step::TellWrite(token) => signals.tell_write(token),
+    }
+}
+
+fn take_all<R: Abort, L: Link>(
+    rt: &R,
+    link: &mut ReadyLink<L>,
+    signals: &Signals,
+    steps: &[Step],
+) -> u64 {
+    for (place, step) in steps.iter().enumerate() {
+        take(rt, link, signals, *step, place);
+    }
+    link.failures()
+}
+
+// Takes the steps at a link whose reads and writes answer so, where it is asked. It answers how many of its calls failed.
+fn play<R: Abort>(
+    rt: &R,
+    alloc: Global,
+    reads: &[ScriptRead<'_>],
+    writes: &[Write],
+    steps: &[Step],
+) -> Result<u64, Fail> {
+    let signals = Arc::new(alloc, Signals::new(alloc)?)?;
+    let script = ScriptLink::new(alloc, reads, writes)?;
+    let mut link = ReadyLink::over(script, Arc::try_clone(&signals)?);
+    Ok(take_all(rt, &mut link, &signals, steps))
 }
 
 #[test]
@@ -53,56 +93,47 @@ fn a_link_that_waits_to_read_is_asked_once(rt: HostRuntime) -> Result<(), Fail> 
         ScriptRead::WouldBlock,
         ScriptRead::End,
     ];
-    let (mut link, signals) = link(&rt, &reads, &[])?;
-    read_all(&rt, &mut link, &signals);
-    Ok(())
-}
-
-// Writes what the script of the second test takes, telling now and then.
-fn write_all<R: Abort, L: Link>(rt: &R, link: &mut ReadyLink<L>, signals: &Signals) {
-    let unasked = [
-        link.try_write(b"abc"),
-        link.try_write(b"abc"),
-        link.try_write(b"abc"),
+    let steps = [
+        NOTHING,
+        NOTHING,
+        NOTHING,
+        Step::TellWrite(0),
+        NOTHING,
+        TELL_READ,
+        Step::Read(Read::Bytes(2), *b"ab"),
+        NOTHING,
+        NOTHING,
+        TELL_READ,
+        END,
     ];
-    signals.tell_read(0);
-    let of_reads = link.try_write(b"abc");
-    signals.tell_write(0);
-    let told = [link.try_write(b"abc"), link.try_write(b"c")];
-    let wait = Write::WouldBlock;
-    assert_eq!(rt;
-        (unasked, of_reads, told, link.failures()),
-        ([wait, wait, wait], wait, [Write::Bytes(2), Write::Fault], 1)
-    );
+    let failures = play(&rt, rt.alloc(), &reads, &[], &steps)?;
+    assert_eq!(rt; failures, 0);
+    Ok(())
 }
 
 #[test]
 fn a_link_that_waits_to_write_is_asked_once(rt: HostRuntime) -> Result<(), Fail> {
     let writes = [Write::WouldBlock, Write::Bytes(2), Write::Fault];
-    let (mut link, signals) = link(&rt, &[], &writes)?;
-    write_all(&rt, &mut link, &signals);
+    let steps = [
+        NO_ROOM,
+        NO_ROOM,
+        NO_ROOM,
+        TELL_READ,
+        NO_ROOM,
+        Step::TellWrite(0),
+        Step::Write(Write::Bytes(2)),
+        Step::WriteLast(Write::Fault),
+    ];
+    let failures = play(&rt, rt.alloc(), &[], &writes, &steps)?;
+    assert_eq!(rt; failures, 1);
     Ok(())
-}
-
-// Reads what the script of the third test gives, telling of other connections first.
-fn read_untold<R: Abort, L: Link>(rt: &R, link: &mut ReadyLink<L>, signals: &Signals) {
-    let (early, _) = read(link);
-    for token in 1..256u64 {
-        signals.tell_read(token);
-    }
-    let (untold, _) = read(link);
-    signals.tell_read(0);
-    let (told, _) = read(link);
-    assert_eq!(rt;
-        [early, untold, told],
-        [Read::WouldBlock, Read::WouldBlock, Read::End]
-    );
 }
 
 #[test]
 fn what_is_told_of_another_connection_tells_nothing(rt: HostRuntime) -> Result<(), Fail> {
     let reads = [ScriptRead::WouldBlock, ScriptRead::End];
-    let (mut link, signals) = link(&rt, &reads, &[])?;
-    read_untold(&rt, &mut link, &signals);
+    let steps = [NOTHING, Step::TellReads(1, 256), NOTHING, TELL_READ, END];
+    let failures = play(&rt, rt.alloc(), &reads, &[], &steps)?;
+    assert_eq!(rt; failures, 0);
     Ok(())
 }

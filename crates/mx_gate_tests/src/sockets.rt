@@ -12,8 +12,8 @@ use std::sync::atomic::{AtomicBool, Ordering};
 use std::sync::{Arc, Wait};
 use std::test::Fail;
 use std::thread::{JoinHandle, Threads};
+use std::thread;
 use std::time::{Duration, Instant};
-use std::{io, thread};
 
 // How often a test waits for a link, ten milliseconds each time, before it gives up.
 const TURNS: u32 = 1000;
@@ -58,15 +58,20 @@ fn flag(alloc: Global) -> Result<Arc<AtomicBool>, AllocError> {
     Ok(Arc::new(alloc, AtomicBool::new(false))?)
 }
 
+// What a gate gives, or the number of the code with which it is refused.
+fn given<T>(given: Result<T, Code>) -> Result<T, Fail> {
+    match given {
+        Ok(value) => Ok(value),
+        Err(code) => Err(Fail::from(code.number())),
+    }
+}
+
 // A gate that this flag stops.
 fn gate_with<R: Net + Clock + AllocGlobal>(
     rt: &R,
     stop: Arc<AtomicBool>,
 ) -> Result<SocketGate<'_, R>, Fail> {
-    match SocketGate::new(rt, stop) {
-        Ok(gate) => Ok(gate),
-        Err(code) => Err(Fail::from(code.number())),
-    }
+    given(SocketGate::new(rt, stop))
 }
 
 fn gate<R: Net + Clock + AllocGlobal>(rt: &R) -> Result<SocketGate<'_, R>, Fail> {
@@ -78,10 +83,13 @@ fn gate_since<R: Net + Clock + AllocGlobal>(
     rt: &R,
     start: Instant,
 ) -> Result<SocketGate<'_, R>, Fail> {
-    match SocketGate::starting_at(rt, flag(rt.alloc())?, start) {
-        Ok(gate) => Ok(gate),
-        Err(code) => Err(Fail::from(code.number())),
-    }
+    given(SocketGate::starting_at(rt, flag(rt.alloc())?, start))
+}
+
+// A link that the gate opens to this port.
+fn link_to<G: Gate>(alloc: Global, gate: &mut G, port: u16) -> Result<G::Link, Fail> {
+    let there = endpoint(alloc, "127.0.0.1", port)?;
+    given(gate.open(&there))
 }
 
 // A gate, and a link that it opens to this port.
@@ -89,12 +97,9 @@ fn gate_and_link<R: Net + Clock + AllocGlobal>(
     rt: &R,
     port: u16,
 ) -> Result<(SocketGate<'_, R>, SocketLink), Fail> {
-    let there = endpoint(rt.alloc(), "127.0.0.1", port)?;
     let mut gate = gate(rt)?;
-    match gate.open(&there) {
-        Ok(link) => Ok((gate, link)),
-        Err(code) => Err(Fail::from(code.number())),
-    }
+    let link = link_to(rt.alloc(), &mut gate, port)?;
+    Ok((gate, link))
 }
 
 // Writes four bytes to a peer that sends them back, reads them and sees the end. It owns neither gate nor link, so that an assertion that
@@ -104,9 +109,17 @@ fn send_and_read<R: Abort, G: Gate>(rt: &R, gate: &mut G, link: &mut G::Link) {
     let written = link.try_write(b"ping");
     let came = read(gate, link);
     let (last, _) = read(gate, link);
-    assert_eq!(rt; (connected, written), (Connect::Done, Write::Bytes(4)));
-    assert_eq!(rt; (came, last), ((Read::Bytes(4), *b"ping----"), Read::End));
-    assert_eq!(rt; (link.token(), link.failures()), (1, 0));
+    assert_eq!(rt;
+        (connected, written, came, last, link.token(), link.failures()),
+        (
+            Connect::Done,
+            Write::Bytes(4),
+            (Read::Bytes(4), *b"ping----"),
+            Read::End,
+            1,
+            0
+        )
+    );
 }
 
 // The same, over a link of its own to the peer at this port.
@@ -116,12 +129,20 @@ fn send_to<R: Net + Clock + AllocGlobal + Abort>(rt: &R, port: u16) -> Result<()
     Ok(())
 }
 
+// A listener at a port that was free, and that port.
+fn listening<R: Net<Listener = TcpListener, Stream = TcpStream>>(
+    rt: &R,
+) -> Result<(TcpListener, u16), Fail> {
+    let listener = TcpListener::bind(rt, "127.0.0.1:0")?;
+    let port = listener.local_addr()?.port();
+    Ok((listener, port))
+}
+
 // A thread that serves one connection, and its port.
 fn one_server<R: Net<Listener = TcpListener, Stream = TcpStream> + Threads>(
     rt: &R,
 ) -> Result<(u16, JoinHandle<bool>), Fail> {
-    let listener = TcpListener::bind(rt, "127.0.0.1:0")?;
-    let port = listener.local_addr()?.port();
+    let (listener, port) = listening(rt)?;
     let server = thread::spawn(rt, move || serve_one(&listener))?;
     Ok((port, server))
 }
@@ -184,10 +205,14 @@ fn read_after_a_turn<R: Abort + Clock + Wait, G: Gate>(
     let before = link.try_read(&mut buffer);
     let after = read(gate, link);
     assert_eq!(rt;
-        (connected, early, before),
-        (Connect::Done, Read::WouldBlock, Read::WouldBlock)
+        (connected, early, before, after),
+        (
+            Connect::Done,
+            Read::WouldBlock,
+            Read::WouldBlock,
+            (Read::Bytes(2), *b"ab------")
+        )
     );
-    assert_eq!(rt; after, (Read::Bytes(2), *b"ab------"));
 }
 
 // The same, over a link of its own to the peer at this port.
@@ -212,8 +237,7 @@ fn late_sender<
         + Drop
         + 'static,
 >(rt: &R, told: Arc<Told>) -> Result<(u16, JoinHandle<bool>), Fail> {
-    let listener = TcpListener::bind(rt, "127.0.0.1:0")?;
-    let port = listener.local_addr()?.port();
+    let (listener, port) = listening(rt)?;
     let rt_there = *rt;
     let sender = thread::spawn(rt, move || send_late(&rt_there, &listener, &told))?;
     Ok((port, sender))
@@ -236,18 +260,26 @@ fn token<G: Gate>(gate: &mut G, there: &Endpoint) -> Result<u64, Code> {
     Ok(gate.open(there)?.token())
 }
 
+// The tokens of three links of a new gate to this port, each of which is let go before the next.
+fn tokens_at<R: Net + Clock + AllocGlobal>(
+    rt: &R,
+    port: u16,
+) -> Result<[Result<u64, Code>; 3], Fail> {
+    let there = endpoint(rt.alloc(), "127.0.0.1", port)?;
+    let mut gate = gate(rt)?;
+    Ok([
+        token(&mut gate, &there),
+        token(&mut gate, &there),
+        token(&mut gate, &there),
+    ])
+}
+
 #[test]
 fn tokens_rise_from_1(rt: HostRuntime) -> Result<(), Fail> {
-    let listener = TcpListener::bind(&rt, "127.0.0.1:0")?;
-    let there = endpoint(rt.alloc(), "127.0.0.1", listener.local_addr()?.port())?;
-    let mut gate = gate(&rt)?;
-    let tokens = [
-        token(&mut gate, &there),
-        token(&mut gate, &there),
-        token(&mut gate, &there),
-    ];
-    drop(gate);
-    assert_eq!(rt; tokens, [Ok(1), Ok(2), Ok(3)]);
+    let (listener, port) = listening(&rt)?;
+    let tokens = tokens_at(&rt, port);
+    drop(listener);
+    assert_eq!(rt; tokens?, [Ok(1), Ok(2), Ok(3)]);
     Ok(())
 }
 
@@ -271,7 +303,8 @@ fn connection_to<R: Net + Clock + AllocGlobal>(
 // The system may refuse at once, or once it was asked whether the connection stands.
 #[test]
 fn a_refused_connection_is_told(rt: HostRuntime) -> Result<(), Fail> {
-    let port = TcpListener::bind(&rt, "127.0.0.1:0")?.local_addr()?.port();
+    let (listener, port) = listening(&rt)?;
+    drop(listener);
     match connection_to(&rt, "127.0.0.1", port)? {
         Ok(connect) => assert_eq!(rt; connect, Connect::Fault),
         Err(code) => assert_eq!(rt; code, Code::CouldntConnect),
@@ -314,13 +347,18 @@ fn turn_until_rung<R: Clock + Wait + Threads + Copy + Send + Drop + 'static, G: 
     Ok((passed, turn, ringer.join(rt)))
 }
 
+// The same, of a new gate.
+fn turn_while_rung<R: Net + Clock + AllocGlobal + Wait + Threads + Copy + Send + Drop + 'static>(
+    rt: &R,
+) -> Result<(Duration, Turn, bool), Fail> {
+    let mut gate = gate(rt)?;
+    let bell = gate.bell()?;
+    turn_until_rung(rt, &mut gate, bell)
+}
+
 #[test]
 fn the_bell_ends_a_wait(rt: HostRuntime) -> Result<(), Fail> {
-    let mut gate = gate(&rt)?;
-    let bell = gate.bell()?;
-    let told = turn_until_rung(&rt, &mut gate, bell);
-    drop(gate);
-    let (passed, turn, is_rung) = told?;
+    let (passed, turn, is_rung) = turn_while_rung(&rt)?;
     assert_eq!(rt; (turn, is_rung), (Turn::Continue, true));
     assert!(rt; passed >= Duration::from_millis(40) && passed < Duration::from_secs(10));
     Ok(())
@@ -330,28 +368,31 @@ fn the_bell_ends_a_wait(rt: HostRuntime) -> Result<(), Fail> {
 fn time_after_rings<R: Clock, G: Gate>(
     rt: &R,
     gate: &mut G,
-    bells: (Bell, Bell),
-) -> io::Result<Duration> {
-    let (bell, other) = bells;
+    bells: &(Bell, Bell),
+) -> Result<Duration, Fail> {
     let start = Instant::now(rt)?;
-    bell.ring()?;
-    other.ring()?;
+    bells.0.ring()?;
+    bells.1.ring()?;
     gate.turn(20_000);
-    start.elapsed(rt)
+    Ok(start.elapsed(rt)?)
+}
+
+// The same, of a new gate.
+fn turn_after_rings<R: Net + Clock + AllocGlobal>(rt: &R) -> Result<Duration, Fail> {
+    let mut gate = gate(rt)?;
+    let bells = gate.bell().ok().zip(gate.bell().ok()).ok_or("no bell")?;
+    time_after_rings(rt, &mut gate, &bells)
 }
 
 #[test]
 fn a_ring_ends_the_next_wait(rt: HostRuntime) -> Result<(), Fail> {
-    let mut gate = gate(&rt)?;
-    let bells = (gate.bell()?, gate.bell()?);
-    let passed = time_after_rings(&rt, &mut gate, bells);
-    drop(gate);
-    assert!(rt; passed? < Duration::from_secs(10));
+    let passed = turn_after_rings(&rt)?;
+    assert!(rt; passed < Duration::from_secs(10));
     Ok(())
 }
 
 // How long a hundred turns take that don't wait, and how long together with one that waits 300 milliseconds.
-fn time_of_turns<R: Clock, G: Gate>(rt: &R, gate: &mut G) -> io::Result<(Duration, Duration)> {
+fn time_of_turns<R: Clock, G: Gate>(rt: &R, gate: &mut G) -> Result<(Duration, Duration), Fail> {
     let start = Instant::now(rt)?;
     for _ in 0..100 {
         gate.turn(0);
@@ -361,12 +402,15 @@ fn time_of_turns<R: Clock, G: Gate>(rt: &R, gate: &mut G) -> io::Result<(Duratio
     Ok((at_once, start.elapsed(rt)?))
 }
 
+// The same, of a new gate.
+fn turn_often<R: Net + Clock + AllocGlobal>(rt: &R) -> Result<(Duration, Duration), Fail> {
+    let mut gate = gate(rt)?;
+    time_of_turns(rt, &mut gate)
+}
+
 #[test]
 fn a_wait_takes_its_time(rt: HostRuntime) -> Result<(), Fail> {
-    let mut gate = gate(&rt)?;
-    let times = time_of_turns(&rt, &mut gate);
-    drop(gate);
-    let (at_once, waited) = times?;
+    let (at_once, waited) = turn_often(&rt)?;
     assert!(rt; at_once < Duration::from_millis(290));
     assert!(rt; waited >= Duration::from_millis(290) && waited < Duration::from_secs(10));
     Ok(())
