@@ -1,5 +1,5 @@
 -- What a worker's calls make of its seat and of its counts.
-use Rattle.std.proofs.Common.{◌≡◌, ◌⊎◌, inl, inr, ℕ, ◌+◌, ◌-◌, ◌^◌, Bool, List, [], ◌∷◌, ◌++◌, length, refl, sym, subst, arith}
+use Rattle.std.proofs.Common.{◌≡◌, ◌∙◌, ◌⊎◌, inl, inr, ℕ, ◌+◌, ◌-◌, ◌^◌, Bool, List, [], ◌∷◌, ◌++◌, append-nil, append_assoc, length, length-append, refl, ap, sym, subst, arith}
 use Rattle.std.specs.Prelude.{min, count_by}
 use Rattle.std.proofs.lemmas.List.Sums.{sum_by-append}
 use Rattle.mx_types.specs.declared.names.Ticket.{Ticket}
@@ -10,9 +10,12 @@ use Rattle.mx_types.specs.declared.reply.Reply.{Reply}
 use Rattle.mx_types.specs.declared.reply.Reply.TheVariants as reply
 use Rattle.mx_types.specs.declared.reply.Look.{Look}
 use Rattle.mx_multi.proofs.Runs.{later_none, later_more, later_sees}
-use Rattle.mx_multi.specs.Seats.{SeatView, Stands, Sees, Later}
+use Rattle.mx_journal.specs.declared.replies.GiveBackReply.{GiveBackReply}
+use Rattle.mx_journal.specs.declared.replies.GiveBackReply.TheVariants as giving
+use Rattle.mx_journal.specs.Replies.{is_back}
+use Rattle.mx_multi.specs.Seats.{SeatView, Stands, Sees, Later, given_with}
 use Rattle.mx_multi.specs.Progress.{noted_by}
-use Rattle.mx_worker.specs.Work.{Worked, tallied, is_recorded, is_stale}
+use Rattle.mx_worker.specs.Work.{GaveBack, Worked, tallied, is_recorded, is_stale, is_recorded_reply, is_stale_reply, one_more}
 
 count-append : (p : Receipt → Bool) (xs ys : List Receipt) → count_by p (xs ++ ys) ≡ count_by p xs + count_by p ys
 count-append p xs ys = sum_by-append _ xs ys
@@ -68,11 +71,31 @@ tallied-most p xs n h = omega arith
 pub worked_look : {Q O : Type 0} (s t u : SeatView Q O) (r k : ℕ) (ticket : Ticket) (look : Look) → Worked s t r k → Stands t u (call.Look ticket) (reply.Look look) → Worked s u r k
 worked_look s t u r k ticket look w h = worked_more s t u r k r k (call.Look ticket) (reply.Look look) w h (tallied-most is_recorded w.more r w.recorded_is) (tallied-most is_stale w.more k w.stale_is)
 
-pub worked_recorded : {Q O : Type 0} (s t u : SeatView Q O) (r k n : ℕ) (call : Call) (answer : Reply) → Worked s t r k → Stands t u call answer → answer ≡ reply.Recorded → n ≡ min (r + 1) (2 ^ 32 - 1) → Worked s u n k
-worked_recorded s t u r k n call answer w h is e = worked_more s t u r k n k call reply.Recorded w (subst (Stands t u call) is h) e (tallied-most is_stale w.more k w.stale_is)
+-- an end was answered
+pub worked_finish : {Q O : Type 0} (s t u : SeatView Q O) (r k r2 k2 : ℕ) (call : Call) (answer : Reply) → Worked s t r k → Stands t u call answer → r2 ≡ one_more r (is_recorded_reply answer) → k2 ≡ one_more k (is_stale_reply answer) → Worked s u r2 k2
+worked_finish s t u r k r2 k2 call answer w h er ek = worked_more s t u r k r2 k2 call answer w h (omega (arith, er)) (omega (arith, ek))
 
-pub worked_stale : {Q O : Type 0} (s t u : SeatView Q O) (r k n : ℕ) (call : Call) (answer : Reply) → Worked s t r k → Stands t u call answer → answer ≡ reply.Stale → n ≡ min (k + 1) (2 ^ 32 - 1) → Worked s u r n
-worked_stale s t u r k n call answer w h is e = worked_more s t u r k r n call reply.Stale w (subst (Stands t u call) is h) (tallied-most is_recorded w.more r w.recorded_is) e
+pub gave_none : {Q O : Type 0} (s : SeatView Q O) → GaveBack s s 0
+gave_none s = record { more = []; given = sym (append-nil s.given); count_is = refl }
 
-pub worked_lacking : {Q O : Type 0} (s t u : SeatView Q O) (r k : ℕ) (call : Call) (answer : Reply) → Worked s t r k → Stands t u call answer → answer ≡ reply.OutOfMemory → Worked s u r k
-worked_lacking s t u r k call answer w h is = worked_more s t u r k r k call reply.OutOfMemory w (subst (Stands t u call) is h) (tallied-most is_recorded w.more r w.recorded_is) (tallied-most is_stale w.more k w.stale_is)
+-- nothing was given back
+pub gave_same : {Q O : Type 0} (s t u : SeatView Q O) (n : ℕ) → GaveBack s t n → u.given ≡ t.given → GaveBack s u n
+gave_same s t u n g e = record { more = g.more; given = e ∙ g.given; count_is = g.count_is }
+
+pub gave_as : {Q O : Type 0} (s t u : SeatView Q O) (n : ℕ) → GaveBack s t n → u ≡ t → GaveBack s u n
+gave_as {Q} {O} s t u n g e = gave_same s t u n g (ap (λ (v : SeatView Q O). v.given) e)
+
+pub gave_stands : {Q O : Type 0} (s t u : SeatView Q O) (n : ℕ) (call : Call) (reply : Reply) → GaveBack s t n → Stands t u call reply → GaveBack s u n
+gave_stands s t u n call reply g h = gave_same s t u n g h.given
+
+pub gave_notes : {Q O : Type 0} (s t u : SeatView Q O) (n slot : ℕ) (ticket : Ticket) (count : ℕ) → GaveBack s t n → u ≡ noted_by t slot ticket count → GaveBack s u n
+gave_notes {Q} {O} s t u n slot ticket count g e = gave_same s t u n g (ap (λ (v : SeatView Q O). v.given) e)
+
+-- work was to be given back
+pub gave_back : {Q O : Type 0} (s t u : SeatView Q O) (n k : ℕ) (ticket : Ticket) (reply : GiveBackReply Q) → GaveBack s t n → u.given ≡ given_with reply ticket t.given → k ≡ one_more n (is_back reply) → GaveBack s u k
+gave_back s t u n k ticket giving.Back g given count = record {
+  more = g.more ++ ticket ∷ [];
+  given = given ∙ ap (λ l. l ++ ticket ∷ []) g.given ∙ append_assoc s.given g.more (ticket ∷ []);
+  count_is = omega (arith, count, g.count_is, length-append g.more (ticket ∷ []));
+}
+gave_back s t u n k ticket (giving.Stale work) g given count = record { more = g.more; given = given ∙ g.given; count_is = omega (arith, count, g.count_is) }

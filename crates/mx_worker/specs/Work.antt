@@ -1,5 +1,5 @@
 -- What a worker did with its seat.
-use Rattle.std.specs.Prelude.{◌≡◌, ℕ, ◌-◌, ◌^◌, min, count_by, Bool, true, false, List}
+use Rattle.std.specs.Prelude.{◌≡◌, ℕ, ◌+◌, ◌-◌, ◌^◌, min, count_by, if◌then◌else◌, Bool, true, false, List, ◌++◌, length}
 use Rattle.mx_types.specs.declared.code.Code.{Code}
 use Rattle.mx_types.specs.declared.names.Ticket.{Ticket}
 use Rattle.mx_types.specs.declared.call.Call.TheVariants as call
@@ -26,6 +26,10 @@ is_stale r = is_stale_reply r.reply
 abbrev pub tallied : (Receipt → Bool) → List Receipt → ℕ
 tallied p receipts = min (count_by p receipts) (2 ^ 32 - 1)
 
+-- one more where it is so, held at the greatest number of 32 bits
+abbrev pub one_more : ℕ → Bool → ℕ
+one_more n is_so = min (n + (if is_so then 1 else 0)) (2 ^ 32 - 1)
+
 -- The seat has these receipts behind those that it had, and no others, so there is one such list; so many of them are of ends that were
 -- recorded, and so many of ends that were stale.
 pub record Worked {Q O : Type 0} (s t : SeatView Q O) (recorded stale : ℕ) : Type 0 where
@@ -33,6 +37,12 @@ pub record Worked {Q O : Type 0} (s t : SeatView Q O) (recorded stale : ℕ) : T
   pub later : Later s t more
   pub recorded_is : recorded ≡ tallied is_recorded more
   pub stale_is : stale ≡ tallied is_stale more
+
+-- The seat has given these tickets back, behind those that it had given back, and no others, so there is one such list; so many they are.
+pub record GaveBack {Q O : Type 0} (s t : SeatView Q O) (count : ℕ) : Type 0 where
+  pub more : List Ticket
+  pub given : t.given ≡ s.given ++ more
+  pub count_is : count ≡ min (length more) (2 ^ 32 - 1)
 
 -- the end of a ticket found no memory
 pub record Lacks {Q O : Type 0} (s t : SeatView Q O) (ticket : Ticket) : Type 0 where
@@ -46,3 +56,4 @@ pub record TallyView (Q O : Type 0) : Type 0 where
   pub seat : SeatView Q O
   pub recorded : ℕ
   pub stale : ℕ
+  pub given_back : ℕ

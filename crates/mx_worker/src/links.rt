@@ -1,5 +1,5 @@
 //! Where a worker has its links from.
-ghost use Rattle.std.specs.Prelude.{◌≡◌, None};
+ghost use Rattle.std.specs.Prelude.{◌≡◌, None, [], IfOk};
 
 use mx_cache::IdleCache;
 use mx_gate::Gate;
@@ -7,17 +7,28 @@ use mx_link::Link;
 use mx_transfer::Transfer;
 use mx_types::OutOfMemory;
 use std::alloc::Global;
+use std::marker::Model;
 
-/// A worker's idle links.
+/// A worker's idle links. Contracts see them, each with its endpoint, and how many they are at most.
 #[derive(Drop)]
 pub(crate) struct Links<L: Link> {
     alloc: Global,
     idle: IdleCache<L>,
 }
 
+impl<L: Link> Model for Links<L> {
+    ghost use Rattle.mx_cache.specs.Idle.{Idle};
+
+    ghost Value = { Idle L };
+
+    ghost view = { λ l. l.idle };
+}
+
 impl<L: Link> Links<L> {
     /// No idle link yet, and room for as many as the limit.
-    pub fn new(alloc: Global, limit: u8) -> Result<Links<L>, OutOfMemory> {
+    pub fn new(alloc: Global, limit: u8) -> Result<Links<L>, OutOfMemory>
+        ensures { IfOk result (λ l. l ≡ record { links = []; limit = limit }) }
+    {
         Ok(Links {
             alloc,
             idle: IdleCache::with_limit(alloc, usize::from(limit))?,
@@ -30,6 +41,7 @@ impl<L: Link> Links<L> {
         requires running { transfer.old.chain.code ≡ None }
         ensures running { transfer.new.chain.code ≡ None }
         ensures request { transfer.new.chain.request ≡ transfer.old.chain.request }
+        ensures limit { self.new.limit ≡ self.old.limit }
     {
         let Some(want) = transfer.wants() else {
             return;
@@ -54,6 +66,7 @@ impl<L: Link> Links<L> {
     pub fn keep(&mut self, transfer: &mut Transfer<L>)
         ensures code { transfer.new.chain.code ≡ transfer.old.chain.code }
         ensures request { transfer.new.chain.request ≡ transfer.old.chain.request }
+        ensures limit { self.new.limit ≡ self.old.limit }
     {
         let Some(link) = transfer.take_link() else {
             return;

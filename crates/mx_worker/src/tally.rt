@@ -1,8 +1,9 @@
-//! A worker's calls on the multi handle, with the count of its recorded and stale ends.
+//! A worker's calls on the multi handle, with the count of its recorded and stale ends, and of what it gave back.
 ghost use Rattle.std.specs.Prelude.{◌≡◌, true, false, IfSome};
 ghost use Rattle.mx_journal.specs.History.{has_ticket, running};
+ghost use Rattle.mx_journal.specs.Replies.{is_back, reply_of_finish};
 ghost use Rattle.mx_multi.specs.Progress.{noted_by};
-ghost use Rattle.mx_worker.specs.Work.{Worked, Lacks};
+ghost use Rattle.mx_worker.specs.Work.{GaveBack, Worked, Lacks, is_recorded_reply, is_stale_reply, one_more};
 
 use crate::queued::Start;
 use mx_journal::{FinishReply, GiveBackReply};
@@ -21,20 +22,53 @@ pub(crate) struct Tally<Q: Work + Start + Drop, O: Ending + Drop> {
     seat: WorkerSeat<Q, O>,
     recorded: u32,
     stale: u32,
+    given_back: u32,
 }
 
 impl<Q: Work + Start + Drop, O: Ending + Drop> Model for Tally<Q, O> {
-    ghost use Rattle.mx_worker.specs.Work.{TallyView, Worked};
+    ghost use Rattle.mx_worker.specs.Work.{GaveBack, TallyView, Worked};
 
     ghost Value = { TallyView Q O };
 
-    ghost view = { λ t. record { start = t.start.value; seat = t.seat; recorded = t.recorded; stale = t.stale } };
+    ghost view = { λ t. record { start = t.start.value; seat = t.seat; recorded = t.recorded; stale = t.stale; given_back = t.given_back } };
 
-    ghost invariant = { λ t. Worked t.start.value t.seat t.recorded t.stale };
+    ghost invariant = { λ t. Worked t.start.value t.seat t.recorded t.stale × GaveBack t.start.value t.seat t.given_back };
+}
+
+// How many ends were recorded, after one more was answered.
+fn recorded_with<C: Drop, O: Drop>(recorded: u32, reply: &FinishReply<C, O>) -> u32
+    ensures { result ≡ one_more recorded (is_recorded_reply (reply_of_finish reply.now)) }
+{
+    match reply {
+        FinishReply::Recorded => recorded.saturating_add(1),
+        FinishReply::Stale(_) => recorded,
+        FinishReply::OutOfMemory(_, _) => recorded,
+    }
+}
+
+// How many ends were stale, after one more was answered.
+fn stale_with<C: Drop, O: Drop>(stale: u32, reply: &FinishReply<C, O>) -> u32
+    ensures { result ≡ one_more stale (is_stale_reply (reply_of_finish reply.now)) }
+{
+    match reply {
+        FinishReply::Recorded => stale,
+        FinishReply::Stale(_) => stale.saturating_add(1),
+        FinishReply::OutOfMemory(_, _) => stale,
+    }
+}
+
+// How many went back to the queue, after one more was answered.
+fn given_back_with<Q: Drop>(given_back: u32, reply: &GiveBackReply<Q>) -> u32
+    ensures { result ≡ one_more given_back (is_back reply.now) }
+{
+    match reply {
+        GiveBackReply::Back => given_back.saturating_add(1),
+        GiveBackReply::Stale(_) => given_back,
+    }
 }
 
 impl<Q: Work + Start + Drop, O: Ending + Drop> Tally<Q, O> {
-    #[tactic(auto, using(crate::proofs::Tallies::worked_none))]
+    #[tactic(auto, using(crate::proofs::Tallies::worked_none, crate::proofs::Tallies::gave_none))]
     pub fn new(seat: WorkerSeat<Q, O>) -> Tally<Q, O>
         ensures { result.start ≡ seat }
     {
@@ -43,11 +77,12 @@ impl<Q: Work + Start + Drop, O: Ending + Drop> Tally<Q, O> {
             seat,
             recorded: 0,
             stale: 0,
+            given_back: 0,
         }
     }
 
     /// Takes work out of the queue, if there is some.
-    #[tactic(auto, using(crate::proofs::Tallies::worked_sees))]
+    #[tactic(auto, using(crate::proofs::Tallies::worked_sees, crate::proofs::Tallies::gave_same))]
     pub fn claim<R: Wait>(&mut self, rt: &R, multi: &Multi<Q, O>) -> Option<(TiedClaim<Q>, Q)>
         requires own { self.old.start.of ≡ multi.now }
         ensures start { self.new.start ≡ self.old.start }
@@ -61,7 +96,7 @@ impl<Q: Work + Start + Drop, O: Ending + Drop> Tally<Q, O> {
     }
 
     /// What is told of a transfer. None where no version can be read.
-    #[tactic(auto, using(crate::proofs::Tallies::worked_same))]
+    #[tactic(auto, using(crate::proofs::Tallies::worked_same, crate::proofs::Tallies::gave_as))]
     pub fn look(&mut self, multi: &Multi<Q, O>, ticket: Ticket) -> Option<Look>
         requires own { self.old.start.of ≡ multi.now }
         ensures start { self.new.start ≡ self.old.start }
@@ -73,7 +108,7 @@ impl<Q: Work + Start + Drop, O: Ending + Drop> Tally<Q, O> {
     }
 
     /// Notes how many bytes of its response a claimed transfer has received.
-    #[tactic(auto, using(crate::proofs::Tallies::worked_notes))]
+    #[tactic(auto, using(crate::proofs::Tallies::worked_notes, crate::proofs::Tallies::gave_notes))]
     pub fn note(&mut self, multi: &Multi<Q, O>, claim: &TiedClaim<Q>, count: u32)
         requires own { self.old.start.of ≡ multi.now }
         ensures start { self.new.start ≡ self.old.start }
@@ -82,8 +117,9 @@ impl<Q: Work + Start + Drop, O: Ending + Drop> Tally<Q, O> {
         multi.note(&mut self.seat, claim, count);
     }
 
-    /// Gives claimed work that has not started back to the queue. False where it didn't go back, as it runs no more: it is then dropped.
-    #[tactic(auto, using(crate::proofs::Tallies::worked_saw, crate::proofs::Tallies::worked_same))]
+    /// Gives claimed work that has not started back to the queue, and counts it where it went back. False where it didn't, as it runs no
+    /// more: it is then dropped.
+    #[tactic(auto, using(crate::proofs::Tallies::worked_saw, crate::proofs::Tallies::worked_same, crate::proofs::Tallies::gave_as, crate::proofs::Tallies::gave_back))]
     pub fn give_back<R: Wait>(
         &mut self,
         rt: &R,
@@ -101,11 +137,12 @@ impl<Q: Work + Start + Drop, O: Ending + Drop> Tally<Q, O> {
         let Ok(reply) = multi.give_back(rt, &mut self.seat, claim, work) else {
             return false;
         };
+        self.given_back = given_back_with(self.given_back, &reply);
         matches!(reply, GiveBackReply::Back)
     }
 
     /// Records an end. One that found no memory comes back.
-    #[tactic(auto, using(crate::proofs::Tallies::worked_same))]
+    #[tactic(auto, using(crate::proofs::Tallies::worked_same, crate::proofs::Tallies::gave_as))]
     pub fn finish<R: Wait>(
         &mut self,
         rt: &R,
@@ -123,23 +160,20 @@ impl<Q: Work + Start + Drop, O: Ending + Drop> Tally<Q, O> {
         let Ok(reply) = multi.finish(rt, &mut self.seat, claim, ending) else {
             return None;
         };
+        self.recorded = recorded_with(self.recorded, &reply);
+        self.stale = stale_with(self.stale, &reply);
         match reply {
-            FinishReply::Recorded => {
-                self.recorded = self.recorded.saturating_add(1);
-                None
-            }
-            FinishReply::Stale(_) => {
-                self.stale = self.stale.saturating_add(1);
-                None
-            }
+            FinishReply::Recorded => None,
+            FinishReply::Stale(_ending) => None,
             FinishReply::OutOfMemory(claim, ending) => Some((claim, ending)),
         }
     }
 
-    /// The seat, and how many ends were recorded and how many were stale.
-    pub fn into_parts(self) -> (WorkerSeat<Q, O>, u32, u32)
-        ensures { Worked self.start result.0 result.1 result.2 }
+    /// The seat, how many ends were recorded and how many were stale, and how many transfers went back to the queue.
+    pub fn into_parts(self) -> (WorkerSeat<Q, O>, u32, u32, u32)
+        ensures ran { Worked self.start result.0 result.1 result.2 }
+        ensures given { GaveBack self.start result.0 result.3 }
     {
-        (self.seat, self.recorded, self.stale)
+        (self.seat, self.recorded, self.stale, self.given_back)
     }
 }

@@ -1,7 +1,7 @@
 //! The loop of a worker.
 ghost use Rattle.std.specs.Prelude.{◌≡◌, ◌<◌, ◌∷◌, ◌++◌, [], None, true, false, IfSome};
 ghost use Rattle.futures.specs.Poll.{IfReady, OnPending};
-ghost use Rattle.mx_worker.specs.Work.{Worked};
+ghost use Rattle.mx_worker.specs.Work.{GaveBack, Worked};
 ghost use Rattle.mx_worker.specs.Racks.{in_hand, started};
 
 use crate::links::Links;
@@ -53,18 +53,19 @@ struct Worker<L: Link> {
     links: Links<L>,
     deadlines: Deadlines,
     solo: Solo,
-    given_back: u32,
     is_stopping: bool,
     // A transfer that isn't paused asked to be polled again at once.
     asks: bool,
     ghost own: { rack.of ≡ tally.start.of.engine.ties },
+    ghost limit: { links.limit ≡ tally.start.of.max_connects },
 }
 
 fn make_tools<L: Link, R: RandomSource + AllocGlobal>(
     rt: &R,
     multi: &Multi<Queued<L>, Outcome>,
 ) -> Option<Tools<L>>
-    ensures { IfSome result (λ t. t.rack.of ≡ multi.now.engine.ties) }
+    ensures own { IfSome result (λ t. t.rack.of ≡ multi.now.engine.ties) }
+    ensures limit { IfSome result (λ t. t.links.limit ≡ multi.now.max_connects) }
 {
     let Ok(rack) = Rack::new(rt.alloc(), multi.first_ties()) else {
         return None;
@@ -130,6 +131,7 @@ fn set_deadline(deadlines: &mut Deadlines, ticket: Ticket, deadline: Option<u64>
 impl<L: Link> Worker<L> {
     fn new(tools: Tools<L>, seat: WorkerSeat<Queued<L>, Outcome>) -> Worker<L>
         requires own { tools.rack.of ≡ seat.of.engine.ties }
+        requires limit { tools.links.limit ≡ seat.of.max_connects }
         ensures { result.tally.start ≡ seat }
     {
         let Tools { rack, links, solo } = tools;
@@ -139,7 +141,6 @@ impl<L: Link> Worker<L> {
             links,
             deadlines: Deadlines::new(),
             solo,
-            given_back: 0,
             is_stopping: false,
             asks: false,
         }
@@ -147,14 +148,15 @@ impl<L: Link> Worker<L> {
 
     fn end(self) -> WorkerEnd<L>
         ensures ran { Worked self.tally.start result.seat result.recorded result.stale }
+        ensures given { GaveBack self.tally.start result.seat result.given_back }
         ensures served { result.refused ≡ false }
     {
-        let (seat, recorded, stale) = self.tally.into_parts();
+        let (seat, recorded, stale, given_back) = self.tally.into_parts();
         WorkerEnd {
             seat,
             recorded,
             stale,
-            given_back: self.given_back,
+            given_back,
             refused: false,
         }
     }
@@ -332,9 +334,7 @@ impl<L: Link> Worker<L> {
         }
         self.deadlines.clear(held.ticket());
         let Held { claim, transfer } = held;
-        if self.tally.give_back(rt, multi, claim, Queued::of(transfer)) {
-            self.given_back = self.given_back.saturating_add(1);
-        }
+        self.tally.give_back(rt, multi, claim, Queued::of(transfer));
     }
 
     // Claims nothing from now on, and gives back what has not started, in order of claim.
@@ -392,11 +392,12 @@ impl<L: Link> Worker<L> {
 /// records their ends. Once its gate answers `Stop` it claims nothing more, gives back what has not started, and goes on with the rest.
 ///
 /// The seat comes back: of the receipts that it has behind those that it had, so many as it tells are of ends that were recorded, and so
-/// many of ends that were stale. Where memory for the start is refused, nothing was claimed and the seat is as it was.
+/// many of ends that were stale; and so many tickets as it tells stand behind those that the seat had given back. Where memory for the
+/// start is refused, nothing was claimed and the seat is as it was.
 ///
-/// No clause says in which order it goes through what it holds, how long it has its gate wait, how many it gave back, or that it ends: one
-/// that has started and stays paused keeps it.
-#[tactic(auto, using(crate::proofs::Tallies::worked_none))]
+/// No clause says in which order it goes through what it holds, how long it has its gate wait, or that it ends: one that has started and
+/// stays paused keeps it.
+#[tactic(auto, using(crate::proofs::Tallies::worked_none, crate::proofs::Tallies::gave_none))]
 pub fn run_worker<L: Link, R: Wait + RandomSource + AllocGlobal, G: Gate<Link = L>>(
     rt: &R,
     multi: &Multi<Queued<L>, Outcome>,
@@ -405,6 +406,7 @@ pub fn run_worker<L: Link, R: Wait + RandomSource + AllocGlobal, G: Gate<Link = 
 ) -> WorkerEnd<L>
     requires own { seat.of ≡ multi.now }
     ensures ran { Worked seat result.seat result.recorded result.stale }
+    ensures given { GaveBack seat result.seat result.given_back }
     ensures refused { result.refused ≡ true → result.seat ≡ seat }
 {
     let Some(tools) = make_tools(rt, multi) else {

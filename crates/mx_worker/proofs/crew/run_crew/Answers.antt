@@ -1,4 +1,4 @@
-use denote.Param.Send.{param_send, sendable}
+use denote.Param.Send.{sendable}
 use Rattle.std.proofs.Crossing.{crosses}
 use Rattle.mx_multi.proofs.Sends.{multi_sync}
 use Rattle.mx_chain.proofs.Sends.{outcome_send}
@@ -10,3 +10,6 @@ map_vec-requires-sync-F g c κs within = search (multi_sync, queued_send, outcom
 
 pub map_vec-requires-send-X : goal.map_vec-requires-send-X
 map_vec-requires-send-X g c κs within = search (end_send, sendable) depth 40
+
+pub map_vec-requires-send-J : goal.map_vec-requires-send-J
+map_vec-requires-send-J g c κs within = search (queued_send, outcome_send, worker_send, sendable, crosses) depth 40 fits 20000
