@@ -1,4 +1,5 @@
 //! Requests that follow others: the bytes that they have to give by RFC 9110, sections 10.2.2 and 15.4, and which Locations are refused.
+use crate::request_tests::{Fields, field};
 use mx_request::{Request, RequestError, is_redirect};
 use mx_types::{Method, Settings};
 use std::alloc::{AllocError, Global};
@@ -63,11 +64,40 @@ const STEPS: [(u16, Method, &str); 30] = [
     (308, Method::Options, OPTIONS_C_HI),
 ];
 
-/// Settings with the body `hi`.
-fn with_hi(alloc: Global) -> Result<Settings, AllocError> {
-    let mut settings = Settings::new(alloc);
-    settings.body = Some(Vec::from_slice(alloc, b"hi")?);
-    Ok(settings)
+/// A request to the first URL with the body `hi`.
+fn with_hi(alloc: Global, method: Method) -> Result<Request, Fail> {
+    let body = Vec::from_slice(alloc, b"hi")?;
+    let settings = Settings {
+        user_agent: None,
+        fields: Vec::new(alloc),
+        body: Some(body),
+        timeout_ms: 0,
+        max_redirects: 0,
+    };
+    Ok(Request::build(alloc, method, FIRST, settings)?)
+}
+
+/// A GET of the first URL without settings.
+fn plain(alloc: Global) -> Result<Request, RequestError> {
+    Request::build(alloc, Method::Get, FIRST, Settings::new(alloc))
+}
+
+/// The request that follows.
+fn next_of(
+    alloc: Global,
+    request: &Request,
+    status: u16,
+    location: &[u8],
+) -> Result<Request, Fail> {
+    if is_redirect(status) {
+        return Ok(request.follow(alloc, status, location)?);
+    }
+    Err(Fail::from("a status that sends nobody on"))
+}
+
+/// Compares the bytes of a request.
+fn has_bytes(rt: &impl Abort, request: &Request, sent: &str) {
+    assert_eq!(rt; request.bytes(), sent.as_bytes(), "in place of {sent}");
 }
 
 /// Tests the bytes that follow a request.
@@ -79,22 +109,21 @@ fn leads_to(
     location: &[u8],
     sent: &str,
 ) -> Result<(), Fail> {
-    assert!(rt; is_redirect(status), "{status}");
-    let next = request.follow(alloc, status, location)?;
-    assert_eq!(rt;
-        next.bytes(),
-        sent.as_bytes(),
-        "for {status} to {location:?}"
-    );
+    let next = next_of(alloc, request, status, location)?;
+    has_bytes(rt, &next, sent);
     Ok(())
+}
+
+/// Tests the bytes that follow a request of this method.
+fn takes_step(rt: &impl Abort, alloc: Global, step: &(u16, Method, &str)) -> Result<(), Fail> {
+    let request = with_hi(alloc, step.1)?;
+    leads_to(rt, alloc, &request, step.0, b"/c", step.2)
 }
 
 #[test]
 fn methods_and_bodies(rt: HostRuntime) -> Result<(), Fail> {
-    let alloc = rt.alloc();
-    for (status, method, sent) in STEPS {
-        let request = Request::build(alloc, method, FIRST, with_hi(alloc)?)?;
-        leads_to(&rt, alloc, &request, status, b"/c", sent)?;
+    for step in &STEPS {
+        takes_step(&rt, rt.alloc(), step)?;
     }
     Ok(())
 }
@@ -157,20 +186,24 @@ fn leads_to_get(
     rt: &impl Abort,
     alloc: Global,
     request: &Request,
-    row: (&[u8], &str, &str),
+    row: &(&[u8], &str, &str),
 ) -> Result<(), Fail> {
     let sent = get_of(alloc, row.1, row.2)?;
     leads_to(rt, alloc, request, 302, row.0, sent.as_str())
 }
 
-#[test]
-fn forms_of_locations(rt: HostRuntime) -> Result<(), Fail> {
-    let alloc = rt.alloc();
-    let request = Request::build(alloc, Method::Get, FIRST, Settings::new(alloc))?;
-    for row in LOCATIONS {
-        leads_to_get(&rt, alloc, &request, row)?;
+/// Tests each of the Locations.
+fn leads_to_all(rt: &impl Abort, alloc: Global, request: &Request) -> Result<(), Fail> {
+    for row in &LOCATIONS {
+        leads_to_get(rt, alloc, request, row)?;
     }
     Ok(())
+}
+
+#[test]
+fn forms_of_locations(rt: HostRuntime) -> Result<(), Fail> {
+    let request = plain(rt.alloc())?;
+    leads_to_all(&rt, rt.alloc(), &request)
 }
 
 /// Locations that are refused, from the first URL.
@@ -202,14 +235,18 @@ fn refusal_of(alloc: Global, request: &Request, location: &[u8]) -> Option<Reque
     request.follow(alloc, 301, location).err()
 }
 
+/// Tests that each of these Locations is refused so.
+fn refuses_all(rt: &impl Abort, alloc: Global, request: &Request) {
+    for row in &REFUSED {
+        let refused = refusal_of(alloc, request, row.0);
+        assert_eq!(rt; refused, Some(row.1), "for {:?}", row.0);
+    }
+}
+
 #[test]
 fn refused_locations(rt: HostRuntime) -> Result<(), Fail> {
-    let alloc = rt.alloc();
-    let request = Request::build(alloc, Method::Get, FIRST, Settings::new(alloc))?;
-    for (location, refusal) in REFUSED {
-        let refused = refusal_of(alloc, &request, location);
-        assert_eq!(rt; refused, Some(refusal), "for {location:?}");
-    }
+    let request = plain(rt.alloc())?;
+    refuses_all(&rt, rt.alloc(), &request);
     Ok(())
 }
 
@@ -229,9 +266,11 @@ fn longer(
     Ok(long)
 }
 
-/// Locations by their beginning, a character so many times, and their end, and whether the joined URL is short enough. Before a path of
-/// the first endpoint stand 21 bytes, and a space is written as three.
-const LENGTHS: [(&str, char, usize, &str, Option<RequestError>); 9] = [
+/// A Location by its beginning, a character so many times, and its end, and what it is refused for.
+type Length<'a> = (&'a str, char, usize, &'a str, Option<RequestError>);
+
+/// Before a path of the first endpoint stand 21 bytes, and a space is written as three.
+const LENGTHS: [Length<'static>; 9] = [
     ("/", 'a', 65_514, "", None),
     ("/", 'a', 65_515, "", Some(RequestError::Malformed)),
     ("/", ' ', 21_837, "aaa", None),
@@ -245,20 +284,29 @@ const LENGTHS: [(&str, char, usize, &str, Option<RequestError>); 9] = [
     ("https://x/", 'a', 65_527, "", Some(RequestError::Malformed)),
 ];
 
-#[test]
-fn lengths_of_joined_urls(rt: HostRuntime) -> Result<(), Fail> {
-    let alloc = rt.alloc();
-    let request = Request::build(alloc, Method::Get, FIRST, Settings::new(alloc))?;
-    for (begin, more, count, last, refusal) in LENGTHS {
-        let location = longer(alloc, begin, more, count, last)?;
-        let refused = refusal_of(alloc, &request, location.as_bytes());
-        assert_eq!(rt;
-            refused,
-            refusal,
-            "for {count} times {more:?} after {begin}"
-        );
+/// What a request to a long Location is refused for.
+fn long_refusal(
+    alloc: Global,
+    request: &Request,
+    row: &Length<'_>,
+) -> Result<Option<RequestError>, AllocError> {
+    let location = longer(alloc, row.0, row.1, row.2, row.3)?;
+    Ok(refusal_of(alloc, request, location.as_bytes()))
+}
+
+/// Tests whether each of these joined URLs is short enough.
+fn refuses_long(rt: &impl Abort, alloc: Global, request: &Request) -> Result<(), Fail> {
+    for row in &LENGTHS {
+        let refused = long_refusal(alloc, request, row)?;
+        assert_eq!(rt; refused, row.4, "for {} times {:?}", row.2, row.1);
     }
     Ok(())
+}
+
+#[test]
+fn lengths_of_joined_urls(rt: HostRuntime) -> Result<(), Fail> {
+    let request = plain(rt.alloc())?;
+    refuses_long(&rt, rt.alloc(), &request)
 }
 
 /// The caller's fields of a chain. Two of them are private, in any letter case, and each of these stands twice.
@@ -272,20 +320,26 @@ const FIELDS: [(&str, &str); 7] = [
     ("Proxy-Authorization", "3"),
 ];
 
-/// A GET of these fields and a user agent, which may take 250 milliseconds and follow 9 redirects.
-fn with_fields(alloc: Global) -> Result<Settings, AllocError> {
-    let mut settings = Settings::new(alloc);
-    settings.user_agent = Some(String::from_str(alloc, "mx/1")?);
-    settings.timeout_ms = 250;
-    settings.max_redirects = 9;
-    for (name, value) in FIELDS {
-        let field = (
-            String::from_str(alloc, name)?,
-            String::from_str(alloc, value)?,
-        );
-        settings.fields.push(field)?;
+fn fields(alloc: Global) -> Result<Fields, AllocError> {
+    let mut fields = Vec::new(alloc);
+    for row in &FIELDS {
+        fields.push(field(alloc, row.0, row.1)?)?;
     }
-    Ok(settings)
+    Ok(fields)
+}
+
+/// A GET of these fields and a user agent, which may take 250 milliseconds and follow 9 redirects.
+fn with_fields(alloc: Global) -> Result<Request, Fail> {
+    let user_agent = String::from_str(alloc, "mx/1")?;
+    let settings = Settings {
+        user_agent: Some(user_agent),
+        fields: fields(alloc)?,
+        body: None,
+        timeout_ms: 250,
+        max_redirects: 9,
+    };
+    let url = "http://127.0.0.1:8080/a";
+    Ok(Request::build(alloc, Method::Get, url, settings)?)
 }
 
 /// A chain's Locations, one after another, with the bytes of each request.
@@ -335,7 +389,7 @@ const CHAIN: [(&[u8], &str); 7] = [
 
 /// Compares the bytes of a request, and what a chain keeps.
 fn is_in_chain(rt: &impl Abort, request: &Request, sent: &str) {
-    assert_eq!(rt; request.bytes(), sent.as_bytes());
+    has_bytes(rt, request, sent);
     assert_eq!(rt;
         (
             request.method(),
@@ -346,35 +400,47 @@ fn is_in_chain(rt: &impl Abort, request: &Request, sent: &str) {
     );
 }
 
+/// The next request of a chain, compared.
+fn next_in_chain(
+    rt: &impl Abort,
+    alloc: Global,
+    request: &Request,
+    row: &(&[u8], &str),
+) -> Result<Request, Fail> {
+    let next = next_of(alloc, request, 307, row.0)?;
+    is_in_chain(rt, &next, row.1);
+    Ok(next)
+}
+
 #[test]
 fn private_fields_go_to_the_first_endpoint_alone(rt: HostRuntime) -> Result<(), Fail> {
-    let alloc = rt.alloc();
-    let url = "http://127.0.0.1:8080/a";
-    let mut request = Request::build(alloc, Method::Get, url, with_fields(alloc)?)?;
-    for (location, sent) in CHAIN {
-        let next = request.follow(alloc, 307, location)?;
-        is_in_chain(&rt, &next, sent);
-        request = next;
+    let mut request = with_fields(rt.alloc())?;
+    for row in &CHAIN {
+        request = next_in_chain(&rt, rt.alloc(), &request, row)?;
     }
     Ok(())
 }
 
 /// Tests that what follows a request at 303 has no body, and what follows that has none either.
 fn loses_its_body(rt: &impl Abort, alloc: Global, request: &Request) -> Result<(), Fail> {
-    let next = request.follow(alloc, 303, b"/b")?;
+    let next = next_of(alloc, request, 303, b"/b")?;
     leads_to(rt, alloc, &next, 307, b"/c", GET_C)
 }
 
-/// Tests that what follows a request at 308 has its body, and loses it at 303.
+/// Tests that what follows a PUT at 307 has its body, and that it is lost at 303.
+fn has_its_body(rt: &impl Abort, alloc: Global, request: &Request) -> Result<(), Fail> {
+    leads_to(rt, alloc, request, 307, b"/c", PUT_C_HI)?;
+    loses_its_body(rt, alloc, request)
+}
+
+/// Tests that what follows a PUT at 308 has its body, and loses it at 303.
 fn keeps_its_body(rt: &impl Abort, alloc: Global, request: &Request) -> Result<(), Fail> {
-    let next = request.follow(alloc, 308, b"/b")?;
-    leads_to(rt, alloc, &next, 307, b"/c", PUT_C_HI)?;
-    loses_its_body(rt, alloc, &next)
+    let next = next_of(alloc, request, 308, b"/b")?;
+    has_its_body(rt, alloc, &next)
 }
 
 #[test]
 fn a_body_is_gone_for_good(rt: HostRuntime) -> Result<(), Fail> {
-    let alloc = rt.alloc();
-    let request = Request::build(alloc, Method::Put, FIRST, with_hi(alloc)?)?;
-    keeps_its_body(&rt, alloc, &request)
+    let request = with_hi(rt.alloc(), Method::Put)?;
+    keeps_its_body(&rt, rt.alloc(), &request)
 }

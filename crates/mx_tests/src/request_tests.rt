@@ -5,20 +5,45 @@ use std::alloc::{AllocError, Global};
 use std::process::Abort;
 use std::test::Fail;
 
-/// Settings with just this field.
-fn with_field(alloc: Global, name: &str, value: &str) -> Result<Settings, AllocError> {
-    let mut settings = Settings::new(alloc);
+/// Header fields, each a name and a value.
+pub(crate) type Fields = Vec<(String, String)>;
+
+/// Settings of these parts, and nothing else.
+fn with_parts(user_agent: Option<String>, fields: Fields, body: Option<Vec<u8>>) -> Settings {
+    Settings {
+        user_agent,
+        fields,
+        body,
+        timeout_ms: 0,
+        max_redirects: 0,
+    }
+}
+
+pub(crate) fn field(
+    alloc: Global,
+    name: &str,
+    value: &str,
+) -> Result<(String, String), AllocError> {
     let name = String::from_str(alloc, name)?;
     let value = String::from_str(alloc, value)?;
-    settings.fields.push((name, value))?;
-    Ok(settings)
+    Ok((name, value))
+}
+
+/// Just this field.
+fn one_field(alloc: Global, name: &str, value: &str) -> Result<Fields, AllocError> {
+    Ok(vec![in alloc; field(alloc, name, value)?]?)
+}
+
+/// Settings with just this field.
+fn with_field(alloc: Global, name: &str, value: &str) -> Result<Settings, AllocError> {
+    let fields = one_field(alloc, name, value)?;
+    Ok(with_parts(None, fields, None))
 }
 
 /// Settings with just a body of so many bytes.
 fn with_body(alloc: Global, len: usize) -> Result<Settings, AllocError> {
-    let mut settings = Settings::new(alloc);
-    settings.body = Some(vec![in alloc; b'b'; len]?);
-    Ok(settings)
+    let body = vec![in alloc; b'b'; len]?;
+    Ok(with_parts(None, Vec::new(alloc), Some(body)))
 }
 
 /// So many times the character, after the text.
@@ -91,13 +116,20 @@ fn has_all(rt: &impl Abort, request: &Request, sent: &str, method: Method, timeo
     );
 }
 
+/// Settings with a user agent, a field, the body `hi` and a limit of time.
+fn with_all(alloc: Global) -> Result<Settings, AllocError> {
+    let user_agent = String::from_str(alloc, "mx/1")?;
+    let fields = one_field(alloc, "X-A", "1")?;
+    let body = Vec::from_slice(alloc, b"hi")?;
+    let mut settings = with_parts(Some(user_agent), fields, Some(body));
+    settings.timeout_ms = 250;
+    Ok(settings)
+}
+
 #[test]
 fn all_that_settings_add(rt: HostRuntime) -> Result<(), Fail> {
     let alloc = rt.alloc();
-    let mut settings = with_field(alloc, "X-A", "1")?;
-    settings.user_agent = Some(String::from_str(alloc, "mx/1")?);
-    settings.body = Some(Vec::from_slice(alloc, b"hi")?);
-    settings.timeout_ms = 250;
+    let settings = with_all(alloc)?;
     let request = Request::build(alloc, Method::Post, "http://example.com/p", settings)?;
     let sent =
         "POST /p HTTP/1.1\r\nHost: example.com\r\nUser-Agent: mx/1\r\nAccept: */*\r\nX-A: 1\r\n\
@@ -141,16 +173,27 @@ fn is_copy(
     );
 }
 
-/// Tests the endpoint of a URL, that its copy equals it, and that another port doesn't.
-fn goes_to(rt: &impl Abort, alloc: Global, url: &str, host: &str, port: u16) -> Result<(), Fail> {
-    let request = Request::build(alloc, Method::Get, url, Settings::new(alloc))?;
-    let copy = request.endpoint().copy(alloc)?;
+/// Tests an endpoint, that its copy equals it, and that another port doesn't.
+fn is_endpoint(
+    rt: &impl Abort,
+    alloc: Global,
+    endpoint: &Endpoint,
+    host: &str,
+    port: u16,
+) -> Result<(), Fail> {
+    let copy = endpoint.copy(alloc)?;
     let other = Endpoint {
         host: String::from_str(alloc, host)?,
         port: 9,
     };
-    is_copy(rt, &copy, request.endpoint(), &other, host, port);
+    is_copy(rt, &copy, endpoint, &other, host, port);
     Ok(())
+}
+
+/// Tests the endpoint of a URL.
+fn goes_to(rt: &impl Abort, alloc: Global, url: &str, host: &str, port: u16) -> Result<(), Fail> {
+    let request = Request::build(alloc, Method::Get, url, Settings::new(alloc))?;
+    is_endpoint(rt, alloc, request.endpoint(), host, port)
 }
 
 #[test]
@@ -161,15 +204,21 @@ fn a_copied_endpoint_is_equal(rt: HostRuntime) -> Result<(), Fail> {
     goes_to(&rt, alloc, "http://[::1]:81/", "[::1]", 81)
 }
 
-/// Tests that a URL is refused so, whatever else is wrong: the user agent is refused and the body is too large.
+/// Settings with a user agent that is refused and a body that is too large.
+fn with_faults(alloc: Global) -> Result<Settings, AllocError> {
+    let user_agent = String::from_str(alloc, " ")?;
+    let body = vec![in alloc; b'b'; 1_048_577]?;
+    Ok(with_parts(Some(user_agent), Vec::new(alloc), Some(body)))
+}
+
+/// Tests that a URL is refused so, whatever else is wrong.
 fn refuses_url(
     rt: &impl Abort,
     alloc: Global,
     url: &str,
     refusal: RequestError,
 ) -> Result<(), Fail> {
-    let mut settings = with_body(alloc, 1_048_577)?;
-    settings.user_agent = Some(String::from_str(alloc, " ")?);
+    let settings = with_faults(alloc)?;
     let refused = Request::build(alloc, Method::Get, url, settings).err();
     assert_eq!(rt; refused, Some(refusal), "for {url}");
     Ok(())
@@ -202,9 +251,9 @@ fn refusal(alloc: Global, method: Method, url: &str, settings: Settings) -> Opti
 
 /// Settings with just this field and a body that is too large.
 fn with_field_and_body(alloc: Global, name: &str, value: &str) -> Result<Settings, AllocError> {
-    let mut settings = with_field(alloc, name, value)?;
-    settings.body = Some(vec![in alloc; b'b'; 1_048_577]?);
-    Ok(settings)
+    let fields = one_field(alloc, name, value)?;
+    let body = vec![in alloc; b'b'; 1_048_577]?;
+    Ok(with_parts(None, fields, Some(body)))
 }
 
 /// Tests that a field is refused, also with a body that is too large.
@@ -241,21 +290,25 @@ fn refused_fields(rt: HostRuntime) -> Result<(), Fail> {
     Ok(())
 }
 
+/// So many fields.
+fn fields_by(alloc: Global, count: usize) -> Result<Fields, AllocError> {
+    let mut fields = Vec::new(alloc);
+    for _ in 0..count {
+        fields.push(field(alloc, "X", "")?)?;
+    }
+    Ok(fields)
+}
+
 /// Settings with so many fields.
 fn with_count(alloc: Global, count: usize) -> Result<Settings, AllocError> {
-    let mut settings = Settings::new(alloc);
-    for _ in 0..count {
-        let name = String::from_str(alloc, "X")?;
-        settings.fields.push((name, String::new(alloc)))?;
-    }
-    Ok(settings)
+    let fields = fields_by(alloc, count)?;
+    Ok(with_parts(None, fields, None))
 }
 
 /// Settings with a user agent of so many bytes.
 fn with_agent(alloc: Global, len: usize) -> Result<Settings, AllocError> {
-    let mut settings = Settings::new(alloc);
-    settings.user_agent = Some(longer(alloc, "", 'v', len)?);
-    Ok(settings)
+    let user_agent = longer(alloc, "", 'v', len)?;
+    Ok(with_parts(Some(user_agent), Vec::new(alloc), None))
 }
 
 /// What a `POST` to a short URL is refused for.
