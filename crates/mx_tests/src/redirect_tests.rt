@@ -96,7 +96,7 @@ fn next_of(
 }
 
 /// Compares the bytes of a request.
-fn has_bytes(rt: &impl Abort, request: &Request, sent: &str) {
+pub(crate) fn has_bytes(rt: &impl Abort, request: &Request, sent: &str) {
     assert_eq!(rt; request.bytes(), sent.as_bytes(), "in place of {sent}");
 }
 
@@ -111,13 +111,16 @@ fn leads_to(
 ) -> Result<(), Fail> {
     let next = next_of(alloc, request, status, location)?;
     has_bytes(rt, &next, sent);
+    drop(next);
     Ok(())
 }
 
 /// Tests the bytes that follow a request of this method.
 fn takes_step(rt: &impl Abort, alloc: Global, step: &(u16, Method, &str)) -> Result<(), Fail> {
     let request = with_hi(alloc, step.1)?;
-    leads_to(rt, alloc, &request, step.0, b"/c", step.2)
+    let led = leads_to(rt, alloc, &request, step.0, b"/c", step.2);
+    drop(request);
+    led
 }
 
 #[test]
@@ -172,7 +175,7 @@ const LOCATIONS: [(&[u8], &str, &str); 22] = [
 ];
 
 /// The bytes of a GET without settings.
-fn get_of(alloc: Global, target: &str, host: &str) -> Result<String, AllocError> {
+pub(crate) fn get_of(alloc: Global, target: &str, host: &str) -> Result<String, AllocError> {
     let mut bytes = String::from_str(alloc, "GET ")?;
     bytes.push_str(target)?;
     bytes.push_str(" HTTP/1.1\r\nHost: ")?;
@@ -203,7 +206,9 @@ fn leads_to_all(rt: &impl Abort, alloc: Global, request: &Request) -> Result<(),
 #[test]
 fn forms_of_locations(rt: HostRuntime) -> Result<(), Fail> {
     let request = plain(rt.alloc())?;
-    leads_to_all(&rt, rt.alloc(), &request)
+    let led = leads_to_all(&rt, rt.alloc(), &request);
+    drop(request);
+    led
 }
 
 /// Locations that are refused, from the first URL.
@@ -247,6 +252,7 @@ fn refuses_all(rt: &impl Abort, alloc: Global, request: &Request) {
 fn refused_locations(rt: HostRuntime) -> Result<(), Fail> {
     let request = plain(rt.alloc())?;
     refuses_all(&rt, rt.alloc(), &request);
+    drop(request);
     Ok(())
 }
 
@@ -306,7 +312,9 @@ fn refuses_long(rt: &impl Abort, alloc: Global, request: &Request) -> Result<(),
 #[test]
 fn lengths_of_joined_urls(rt: HostRuntime) -> Result<(), Fail> {
     let request = plain(rt.alloc())?;
-    refuses_long(&rt, rt.alloc(), &request)
+    let refused = refuses_long(&rt, rt.alloc(), &request);
+    drop(request);
+    refused
 }
 
 /// The caller's fields of a chain. Two of them are private, in any letter case, and each of these stands twice.
@@ -424,7 +432,9 @@ fn private_fields_go_to_the_first_endpoint_alone(rt: HostRuntime) -> Result<(), 
 /// Tests that what follows a request at 303 has no body, and what follows that has none either.
 fn loses_its_body(rt: &impl Abort, alloc: Global, request: &Request) -> Result<(), Fail> {
     let next = next_of(alloc, request, 303, b"/b")?;
-    leads_to(rt, alloc, &next, 307, b"/c", GET_C)
+    let led = leads_to(rt, alloc, &next, 307, b"/c", GET_C);
+    drop(next);
+    led
 }
 
 /// Tests that what follows a PUT at 307 has its body, and that it is lost at 303.
@@ -436,11 +446,15 @@ fn has_its_body(rt: &impl Abort, alloc: Global, request: &Request) -> Result<(),
 /// Tests that what follows a PUT at 308 has its body, and loses it at 303.
 fn keeps_its_body(rt: &impl Abort, alloc: Global, request: &Request) -> Result<(), Fail> {
     let next = next_of(alloc, request, 308, b"/b")?;
-    has_its_body(rt, alloc, &next)
+    let had = has_its_body(rt, alloc, &next);
+    drop(next);
+    had
 }
 
 #[test]
 fn a_body_is_gone_for_good(rt: HostRuntime) -> Result<(), Fail> {
     let request = with_hi(rt.alloc(), Method::Put)?;
-    keeps_its_body(&rt, rt.alloc(), &request)
+    let kept = keeps_its_body(&rt, rt.alloc(), &request);
+    drop(request);
+    kept
 }

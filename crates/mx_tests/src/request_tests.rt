@@ -1,4 +1,6 @@
-//! Rows with the bytes that they have to give, the limits at their edges, and hostile texts.
+//! Rows with the bytes that they have to give, the limits at their edges, and hostile texts. Requests are dropped by a call, which keeps
+//! the proofs short.
+use crate::redirect_tests::{get_of, has_bytes};
 use mx_request::{Endpoint, Request, RequestError};
 use mx_types::{Code, Method, Settings};
 use std::alloc::{AllocError, Global};
@@ -64,7 +66,8 @@ fn sends(
     bytes: &str,
 ) -> Result<(), Fail> {
     let request = Request::build(alloc, method, url, Settings::new(alloc))?;
-    assert_eq!(rt; request.bytes(), bytes.as_bytes(), "for {url}");
+    has_bytes(rt, &request, bytes);
+    drop(request);
     Ok(())
 }
 
@@ -135,6 +138,7 @@ fn all_that_settings_add(rt: HostRuntime) -> Result<(), Fail> {
         "POST /p HTTP/1.1\r\nHost: example.com\r\nUser-Agent: mx/1\r\nAccept: */*\r\nX-A: 1\r\n\
         Content-Length: 2\r\n\r\nhi";
     has_all(&rt, &request, sent, Method::Post, 250);
+    drop(request);
     Ok(())
 }
 
@@ -144,6 +148,7 @@ fn a_callers_own_accept(rt: HostRuntime) -> Result<(), Fail> {
     let request = Request::build(rt.alloc(), Method::Get, "http://example.com/", settings)?;
     let sent = "GET / HTTP/1.1\r\nHost: example.com\r\naccept: text/plain\r\n\r\n";
     has_all(&rt, &request, sent, Method::Get, 0);
+    drop(request);
     Ok(())
 }
 
@@ -152,7 +157,8 @@ fn an_empty_body_has_its_length(rt: HostRuntime) -> Result<(), Fail> {
     let settings = with_body(rt.alloc(), 0)?;
     let request = Request::build(rt.alloc(), Method::Put, "http://h/", settings)?;
     let sent = "PUT / HTTP/1.1\r\nHost: h\r\nAccept: */*\r\nContent-Length: 0\r\n\r\n";
-    assert_eq!(rt; request.bytes(), sent.as_bytes());
+    has_bytes(&rt, &request, sent);
+    drop(request);
     Ok(())
 }
 
@@ -165,11 +171,11 @@ fn is_copy(
     host: &str,
     port: u16,
 ) {
-    assert_eq!(rt; (copy.host.as_str(), copy.port), (host, port));
+    let is_equal = *copy == *endpoint;
+    let is_another = *copy != *other;
     assert_eq!(rt;
-        (*copy == *endpoint, *copy != *other),
-        (true, true),
-        "for {host}"
+        (copy.host.as_str(), copy.port, is_equal, is_another),
+        (host, port, true, true)
     );
 }
 
@@ -193,7 +199,9 @@ fn is_endpoint(
 /// Tests the endpoint of a URL.
 fn goes_to(rt: &impl Abort, alloc: Global, url: &str, host: &str, port: u16) -> Result<(), Fail> {
     let request = Request::build(alloc, Method::Get, url, Settings::new(alloc))?;
-    is_endpoint(rt, alloc, request.endpoint(), host, port)
+    let fits = is_endpoint(rt, alloc, request.endpoint(), host, port);
+    drop(request);
+    fits
 }
 
 #[test]
@@ -385,11 +393,7 @@ fn aims_at(
     target: &str,
     host: &str,
 ) -> Result<(), Fail> {
-    let mut bytes = String::from_str(alloc, "GET ")?;
-    bytes.push_str(target)?;
-    bytes.push_str(" HTTP/1.1\r\nHost: ")?;
-    bytes.push_str(host)?;
-    bytes.push_str("\r\nAccept: */*\r\n\r\n")?;
+    let bytes = get_of(alloc, target, host)?;
     sends(rt, alloc, Method::Get, url, bytes.as_str())
 }
 
