@@ -110,46 +110,6 @@ fn poll<Q: Work + Drop, O: Ending + Drop, R: Wait>(
     }
 }
 
-fn handles<Q: Work + Drop, O: Ending + Drop>(
-    multi: &Multi<Q, O>,
-    seat: &mut Seat<Q, O>,
-) -> Option<Reply>
-    requires { seat.old.of ≡ multi.now }
-    ensures { seat.new.of ≡ multi.now }
-{
-    let Some(handles) = multi.handles(seat) else {
-        return None;
-    };
-    Some(Reply::Handles(handles.list))
-}
-
-fn running<Q: Work + Drop, O: Ending + Drop>(
-    multi: &Multi<Q, O>,
-    seat: &mut Seat<Q, O>,
-) -> Option<Reply>
-    requires { seat.old.of ≡ multi.now }
-    ensures { seat.new.of ≡ multi.now }
-{
-    let Some(count) = multi.running(seat) else {
-        return None;
-    };
-    Some(Reply::Running(count))
-}
-
-fn state<Q: Work + Drop, O: Ending + Drop>(
-    multi: &Multi<Q, O>,
-    seat: &mut Seat<Q, O>,
-    handle: HandleId,
-) -> Option<Reply>
-    requires { seat.old.of ≡ multi.now }
-    ensures { seat.new.of ≡ multi.now }
-{
-    let Some(state) = multi.state(seat, handle) else {
-        return None;
-    };
-    Some(Reply::State(state))
-}
-
 /// Makes a call that reads a published version; None where there is none to be read, and where it is another call.
 pub fn read<Q: Work + Drop, O: Ending + Drop>(
     multi: &Multi<Q, O>,
@@ -160,9 +120,18 @@ pub fn read<Q: Work + Drop, O: Ending + Drop>(
     ensures { seat.new.of ≡ multi.now }
 {
     match call {
-        Call::Handles => handles(multi, seat),
-        Call::Running => running(multi, seat),
-        Call::State(handle) => state(multi, seat, handle),
+        Call::Handles => match multi.handles(seat) {
+            Some(handles) => Some(Reply::Handles(handles.list)),
+            None => None,
+        },
+        Call::Running => match multi.running(seat) {
+            Some(count) => Some(Reply::Running(count)),
+            None => None,
+        },
+        Call::State(handle) => match multi.state(seat, handle) {
+            Some(state) => Some(Reply::State(state)),
+            None => None,
+        },
         _ => None,
     }
 }

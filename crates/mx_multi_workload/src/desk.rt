@@ -53,7 +53,10 @@ fn play_at<'a, R: Threads + Wait + Sync, S: Scene>(
     scene: &S,
 ) -> Option<S::Told> {
     let mut desk = take_desk(alloc, seats, benches)?;
-    Some(scene.play(rt, alloc, &mut desk))
+    let told = scene.play(rt, alloc, &mut desk);
+    // By a call: the form of a function that lets five seats go by itself is large.
+    drop(desk);
+    Some(told)
 }
 
 /// Opens a multi handle, and plays at it once. `OutOfMemory` stands for any refusal, and for fewer seats than a desk has.

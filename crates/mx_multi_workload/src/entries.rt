@@ -70,9 +70,14 @@ pub fn entry_of(
     })
 }
 
+// What calls are put in order by.
+fn order_of(entry: &Entry) -> (u32, bool) {
+    (entry.cut, !entry.makes_event)
+}
+
 /// The calls of all makers in the order of their cuts; at one cut, the call that made the event is the first.
 pub fn put_in_order(entries: &mut Vec<Entry>) -> Result<(), OutOfMemory> {
-    entries.sort_by_key(|entry| (entry.cut, !entry.makes_event))?;
+    entries.sort_by_key(order_of)?;
     Ok(())
 }
 

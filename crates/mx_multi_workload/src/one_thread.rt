@@ -71,10 +71,7 @@ impl OneThread {
     fn add(&mut self, who: Who, handle: HandleId) -> Result<Reply, OutOfMemory>
         requires { is_maker who ≡ true }
     {
-        let reply = self
-            .control
-            .add(&mut self.log, who, handle, Job)
-            .reply();
+        let reply = self.control.add(&mut self.log, who, handle, Job).reply();
         if matches!(reply, Reply::Added(_)) {
             self.hold()?;
         }

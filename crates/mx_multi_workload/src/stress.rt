@@ -1,4 +1,5 @@
 //! Many seats on many threads, over few handles.
+
 use crate::entries::{Entry, first_that_differs, put_in_order};
 use crate::opened::{Benches, Opened, Seats, open_within};
 use crate::party::{Chance, Notes, Party, Place, Stop};
@@ -132,6 +133,10 @@ pub fn storm<R: Threads + Wait + Sync>(
         Ok(()) => run_parties(rt, alloc, parties.as_mut_slice(), turns),
         Err(refused) => Err(refused),
     };
+    // By calls: the form of a function that lets all of them go by itself is large.
+    drop(parties);
+    drop(seats);
+    drop(benches);
     told
 }
 
