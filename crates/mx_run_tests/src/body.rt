@@ -1,524 +1,650 @@
 //! `run_body` over readers and writers in memory.
+//!
+//! It is called in one function, which has no contract, and what a test owns is owned by functions that end in one place: so the
+//! proof of the tests is short.
 use crate::fakes::{Filler, Full, Trickle, Unflushed};
+use crate::long::{Long, add_long, bytes_of, front};
+use crate::rows::{first_false, none_is_wrong};
 use mx_run_body::{MOST_READS, run_body};
 use mx_run_io::{Input, Output};
 use mx_types::Method;
-use std::alloc::Global;
-use std::io::{BufWriter, Write};
-use std::process::Abort;
-use std::test::Fail;
+use std::alloc::{AllocError, Global};
+use std::io::{BufWriter, Read, Write};
 
-/// Runs `body` on the bytes, and compares the exit status and all that is written.
-fn prints(rt: &impl Abort, alloc: Global, method: Method, input: &[u8], status: u8, output: &[u8]) {
-    let mut written = Vec::new(alloc);
-    let ended = run_body(
-        alloc,
-        method,
-        &mut Input::new(input, MOST_READS),
-        &mut Output::new(&mut written),
-    );
-    assert_eq!(rt; ended, status);
-    assert!(rt; written.as_slice() == output);
-}
-
-fn joined(alloc: Global, front: &[u8], rest: &[u8]) -> Result<Vec<u8>, Fail> {
-    let mut bytes = front.to_vec(alloc)?;
-    bytes.extend_from_slice(rest)?;
-    Ok(bytes)
-}
-
-/// A response head with so many field lines, and then the end.
-fn with_fields(alloc: Global, count: usize, end: &[u8]) -> Result<Vec<u8>, Fail> {
-    let mut bytes = b"HTTP/1.1 200 OK\r\n".to_vec(alloc)?;
-    for _ in 0..count {
-        bytes.extend_from_slice(b"A: b\r\n")?;
-    }
-    bytes.extend_from_slice(end)?;
-    Ok(bytes)
-}
-
-#[test]
-fn counted_bodies(rt: HostRuntime) {
-    let alloc = rt.alloc();
-    let whole = b"HTTP/1.1 200 OK\r\nContent-Length: 5\r\n\r\nhello";
-    let answer = b"OK status=200 body=5 keep=yes left=0\nhello";
-    prints(&rt, alloc, Method::Get, whole, 0, answer);
-    let twice = b"HTTP/1.1 200 OK\r\nContent-Length: 5, 5\r\n\r\nhello";
-    prints(&rt, alloc, Method::Get, twice, 0, answer);
-    let behind = b"HTTP/1.1 200 OK\r\nContent-Length: 5\r\n\r\nhelloHTTP";
-    prints(
-        &rt,
-        alloc,
-        Method::Get,
-        behind,
-        0,
-        b"OK status=200 body=5 keep=yes left=4\nhello",
-    );
-    let head = b"HTTP/1.1 200 OK\r\nContent-Length: 5\r\n\r\n";
-    prints(
-        &rt,
-        alloc,
-        Method::Head,
-        head,
-        0,
-        b"OK status=200 body=0 keep=yes left=0\n",
-    );
-    let short = b"HTTP/1.1 200 OK\r\nContent-Length: 5\r\n\r\nhell";
-    prints(&rt, alloc, Method::Get, short, 18, b"FAULT 18\n");
-    let fits = b"HTTP/1.1 200 OK\r\nContent-Length: 67108819\r\n\r\n";
-    prints(&rt, alloc, Method::Get, fits, 18, b"FAULT 18\n");
-    let large = b"HTTP/1.1 200 OK\r\nContent-Length: 67108820\r\n\r\n";
-    prints(&rt, alloc, Method::Get, large, 63, b"FAULT 63\n");
-}
-
-#[test]
-fn bodies_that_the_end_ends(rt: HostRuntime) -> Result<(), Fail> {
-    let alloc = rt.alloc();
-    let close = b"HTTP/1.0 200 OK\r\n\r\nabc";
-    prints(
-        &rt,
-        alloc,
-        Method::Get,
-        close,
-        0,
-        b"OK status=200 body=3 keep=no left=0\nabc",
-    );
-    let many = with_fields(alloc, 128, b"\r\n")?;
-    prints(
-        &rt,
-        alloc,
-        Method::Get,
-        &many,
-        0,
-        b"OK status=200 body=0 keep=no left=0\n",
-    );
-    Ok(())
-}
-
-/// The head of a chunked body.
-const CHUNKED: &[u8] = b"HTTP/1.1 200 OK\r\nTransfer-Encoding: chunked\r\n\r\n";
-
-/// Runs `body` on that head and the bytes behind it, and compares as `prints` does.
-fn prints_chunked(
-    rt: &impl Abort,
-    alloc: Global,
-    rest: &[u8],
-    status: u8,
-    output: &[u8],
-) -> Result<(), Fail> {
-    let input = joined(alloc, CHUNKED, rest)?;
-    prints(rt, alloc, Method::Get, &input, status, output);
-    Ok(())
-}
-
-#[test]
-fn chunked_bodies(rt: HostRuntime) -> Result<(), Fail> {
-    let alloc = rt.alloc();
-    let rows: [(&[u8], u8, &[u8]); 7] = [
-        (
-            b"5;x=y\r\nhello\r\n0\r\nA: b\r\n\r\n",
-            0,
-            b"OK status=200 body=5 keep=yes left=0\nhello",
-        ),
-        (b"FFFFFFFFFFFFFFFFF\r\n", 63, b"FAULT 63\n"),
-        (b"5\r\nhelloX", 56, b"FAULT 56\n"),
-        (b"5\nhello", 56, b"FAULT 56\n"),
-        (b"4000000\r\n", 18, b"FAULT 18\n"),
-        (b"4000001\r\n", 63, b"FAULT 63\n"),
-        (
-            b"2\r\nhe\r\n3\r\nllo\r\n0\r\n\r\nHTTP",
-            0,
-            b"OK status=200 body=5 keep=yes left=4\nhello",
-        ),
-    ];
-    for (rest, status, output) in rows {
-        prints_chunked(&rt, alloc, rest, status, output)?;
-    }
-    let sized = b"HTTP/1.1 200 OK\r\nTransfer-Encoding: chunked\r\nContent-Length: 3\r\n\r\n\
-        5\r\nhello\r\n0\r\n\r\n";
-    let not_kept = b"OK status=200 body=5 keep=no left=0\nhello";
-    prints(&rt, alloc, Method::Get, sized, 0, not_kept);
-    Ok(())
-}
-
-/// Adds the bytes so many times.
-fn add_many(bytes: &mut Vec<u8>, unit: &[u8], count: usize) -> Result<(), Fail> {
-    for _ in 0..count {
-        bytes.extend_from_slice(unit)?;
-    }
-    Ok(())
-}
-
-/// The bytes so many times, behind others.
-fn with_many(alloc: Global, front: &[u8], unit: &[u8], count: usize) -> Result<Vec<u8>, Fail> {
-    let mut bytes = front.to_vec(alloc)?;
-    add_many(&mut bytes, unit, count)?;
-    Ok(bytes)
-}
-
-/// A chunked body of 70,000 pieces of one byte, one of 70,000 bytes, and one of two.
-fn many_pieces(alloc: Global) -> Result<Vec<u8>, Fail> {
-    let mut bytes = with_many(alloc, CHUNKED, b"1\r\na\r\n", 70_000)?;
-    // 0x11170 is 70,000
-    bytes.extend_from_slice(b"11170\r\n")?;
-    add_many(&mut bytes, b"b", 70_000)?;
-    bytes.extend_from_slice(b"\r\n2\r\ncd\r\n0\r\n\r\n")?;
-    Ok(bytes)
-}
-
-/// What is printed of it.
-fn gathered_pieces(alloc: Global) -> Result<Vec<u8>, Fail> {
-    let line = b"OK status=200 body=140002 keep=yes left=0\n";
-    let mut bytes = with_many(alloc, line, b"a", 70_000)?;
-    add_many(&mut bytes, b"b", 70_000)?;
-    bytes.extend_from_slice(b"cd")?;
-    Ok(bytes)
-}
-
-/// More pieces than one write takes, and between them one that is longer than a write.
-#[test]
-fn pieces_are_gathered(rt: HostRuntime) -> Result<(), Fail> {
-    let alloc = rt.alloc();
-    let input = many_pieces(alloc)?;
-    let output = gathered_pieces(alloc)?;
-    prints(&rt, alloc, Method::Get, &input, 0, &output);
-    Ok(())
-}
-
-#[test]
-fn bytes_behind_a_response_are_counted(rt: HostRuntime) -> Result<(), Fail> {
-    let alloc = rt.alloc();
-    let whole = b"HTTP/1.1 200 OK\r\nContent-Length: 5\r\n\r\nhello";
-    let input = with_many(alloc, whole, b"v", 200_000)?;
-    let answer = b"OK status=200 body=5 keep=yes left=200000\nhello";
-    prints(&rt, alloc, Method::Get, &input, 0, answer);
-    // and behind a fault they change nothing
-    let broken = b"HTTP/1.1 200 OK\r\nTransfer-Encoding: chunked\r\n\r\n5\nhello";
-    let input = with_many(alloc, broken, b"v", 200_000)?;
-    prints(&rt, alloc, Method::Get, &input, 56, b"FAULT 56\n");
-    Ok(())
-}
-
-/// So many interim heads, and then a response.
-fn with_interim(alloc: Global, count: usize) -> Result<Vec<u8>, Fail> {
-    let mut bytes = with_many(alloc, b"", b"HTTP/1.1 103 Early Hints\r\n\r\n", count)?;
-    bytes.extend_from_slice(b"HTTP/1.1 200 OK\r\nContent-Length: 5\r\n\r\nhello")?;
-    Ok(bytes)
-}
-
-#[test]
-fn interim_heads(rt: HostRuntime) -> Result<(), Fail> {
-    let alloc = rt.alloc();
-    let hints = b"HTTP/1.1 103 Early Hints\r\n\r\nHTTP/1.1 204 No Content\r\n\r\n";
-    let empty = b"OK status=204 body=0 keep=yes left=0\n";
-    prints(&rt, alloc, Method::Get, hints, 0, empty);
-    let switching = b"HTTP/1.1 101 Switching Protocols\r\n\r\n";
-    prints(&rt, alloc, Method::Get, switching, 8, b"FAULT 8\n");
-    let most = with_interim(alloc, 16)?;
-    let answer = b"OK status=200 body=5 keep=yes left=0\nhello";
-    prints(&rt, alloc, Method::Get, &most, 0, answer);
-    let over = with_interim(alloc, 17)?;
-    prints(&rt, alloc, Method::Get, &over, 8, b"FAULT 8\n");
-    Ok(())
-}
-
-#[test]
-fn refused_heads(rt: HostRuntime) -> Result<(), Fail> {
-    let alloc = rt.alloc();
-    prints(&rt, alloc, Method::Get, b"", 52, b"FAULT 52\n");
-    prints(&rt, alloc, Method::Get, b"HTTP/1.1 20", 8, b"FAULT 8\n");
-    let differ = b"HTTP/1.1 200 OK\r\nContent-Length: 5, 6\r\n\r\nhello";
-    prints(&rt, alloc, Method::Get, differ, 8, b"FAULT 8\n");
-    let coded = b"HTTP/1.1 200 OK\r\nTransfer-Encoding: gzip, chunked\r\n\r\n";
-    prints(&rt, alloc, Method::Get, coded, 61, b"FAULT 61\n");
-    let old = b"HTTP/1.0 200 OK\r\nTransfer-Encoding: chunked\r\n\r\n";
-    prints(&rt, alloc, Method::Get, old, 8, b"FAULT 8\n");
-    let fields = with_fields(alloc, 129, b"\r\n")?;
-    prints(&rt, alloc, Method::Get, &fields, 100, b"FAULT 100\n");
-    let colon = with_fields(alloc, 128, b":")?;
-    prints(&rt, alloc, Method::Get, &colon, 100, b"FAULT 100\n");
-    Ok(())
-}
-
-/// What nginx 1.22 and Python's `http.server` sent on loopback: with a length, until the end, and in chunks.
-#[test]
-fn captures_of_real_servers(rt: HostRuntime) {
-    let alloc = rt.alloc();
-    let nginx =
-        b"HTTP/1.1 200 OK\r\nServer: nginx/1.22.1\r\nDate: Sun, 22 Nov 2026 08:49:54 GMT\r\n\
-        Content-Type: text/plain\r\nContent-Length: 14\r\nLast-Modified: Sun, 22 Nov 2026 08:49:52 GMT\r\n\
-        Connection: close\r\nETag: \"6b02acb0-e\"\r\nAccept-Ranges: bytes\r\n\r\nhello, world.\n";
-    prints(
-        &rt,
-        alloc,
-        Method::Get,
-        nginx,
-        0,
-        b"OK status=200 body=14 keep=no left=0\nhello, world.\n",
-    );
-    let until_the_end =
-        b"HTTP/1.1 200 OK\r\nServer: nginx/1.22.1\r\nDate: Sun, 22 Nov 2026 08:49:54 GMT\r\n\
-        Content-Type: text/html\r\nConnection: close\r\n\r\ntime: none\n";
-    prints(
-        &rt,
-        alloc,
-        Method::Get,
-        until_the_end,
-        0,
-        b"OK status=200 body=11 keep=no left=0\ntime: none\n",
-    );
-    let chunks =
-        b"HTTP/1.1 200 OK\r\nServer: nginx/1.22.1\r\nDate: Sun, 22 Nov 2026 08:49:55 GMT\r\n\
-        Content-Type: text/html\r\nTransfer-Encoding: chunked\r\nConnection: close\r\n\r\n\
-        b\r\ntime: none\n\r\n0\r\n\r\n";
-    prints(
-        &rt,
-        alloc,
-        Method::Get,
-        chunks,
-        0,
-        b"OK status=200 body=11 keep=no left=0\ntime: none\n",
-    );
-    let python = b"HTTP/1.0 200 OK\r\nServer: SimpleHTTP/0.6 Python/3.11.7\r\n\
-        Date: Sun, 22 Nov 2026 08:49:56 GMT\r\nContent-type: text/plain\r\nContent-Length: 14\r\n\
-        Last-Modified: Sun, 22 Nov 2026 08:49:52 GMT\r\n\r\nhello, world.\n";
-    prints(
-        &rt,
-        alloc,
-        Method::Get,
-        python,
-        0,
-        b"OK status=200 body=14 keep=no left=0\nhello, world.\n",
-    );
-}
-
-/// A head with that value of Content-Length, and then a body of five bytes.
-fn with_length(alloc: Global, value: &[u8]) -> Result<Vec<u8>, Fail> {
-    let mut bytes = b"HTTP/1.1 200 OK\r\nContent-Length: ".to_vec(alloc)?;
-    bytes.extend_from_slice(value)?;
-    bytes.extend_from_slice(b"\r\n\r\nhello")?;
-    Ok(bytes)
-}
-
-#[test]
-fn lengths_that_are_no_numbers(rt: HostRuntime) -> Result<(), Fail> {
-    let alloc = rt.alloc();
-    for value in [b"5,,5".as_slice(), b"5.0".as_slice(), b"\xff".as_slice()] {
-        let input = with_length(alloc, value)?;
-        prints(&rt, alloc, Method::Get, &input, 8, b"FAULT 8\n");
-    }
-    let large = with_length(alloc, b"18446744073709551616")?;
-    prints(&rt, alloc, Method::Get, &large, 63, b"FAULT 63\n");
-    let zeros = with_length(alloc, b"  0005\t,5 ")?;
-    prints(
-        &rt,
-        alloc,
-        Method::Get,
-        &zeros,
-        0,
-        b"OK status=200 body=5 keep=yes left=0\nhello",
-    );
-    Ok(())
-}
-
-#[test]
-fn hostile_bytes(rt: HostRuntime) -> Result<(), Fail> {
-    let alloc = rt.alloc();
-    let head = b"HTTP/1.1 200 OK\r\nContent-Length: 5\r\n\r\n".as_slice();
-    for cut in 1..head.len() {
-        prints(&rt, alloc, Method::Get, &head[..cut], 8, b"FAULT 8\n");
-    }
-    let refused: [&[u8]; 6] = [
-        b"\0",
-        b"HTTP/1.1 200 OK\rA: b\r\n\r\n",
-        b"HTTP/1.1 200 OK\r\nA: b\0c\r\n\r\n",
-        b"HTTP/1.1 200 OK\r\nA\0: b\r\n\r\n",
-        b"HTTP/1.1 200 OK\r\nA : b\r\n\r\n",
-        b"HTTP/2.0 200 OK\r\n\r\n",
-    ];
-    for input in refused {
-        prints(&rt, alloc, Method::Get, input, 8, b"FAULT 8\n");
-    }
-    let long = with_many(alloc, b"HTTP/1.1 200 OK\r\nA: ", b"v", 70_000)?;
-    prints(&rt, alloc, Method::Get, &long, 100, b"FAULT 100\n");
-    Ok(())
-}
-
-/// Bytes of a linear congruential generator, of which the first begins no head.
-#[test]
-fn random_bytes(rt: HostRuntime) -> Result<(), Fail> {
-    let alloc = rt.alloc();
-    let mut state: u32 = 20261122;
-    for _ in 0..200 {
-        let mut bytes = vec![in alloc; b'!']?;
-        for _ in 0..100 {
-            state = state.wrapping_mul(1664525).wrapping_add(1013904223);
-            bytes.push((state >> 24) as u8)?;
-        }
-        prints(&rt, alloc, Method::Get, &bytes, 8, b"FAULT 8\n");
-    }
-    Ok(())
-}
-
-#[test]
-fn reads_that_fail(rt: HostRuntime) {
-    let alloc = rt.alloc();
-    let whole = b"HTTP/1.1 200 OK\r\nContent-Length: 5\r\n\r\nhello".as_slice();
-    for cut in 0..=whole.len() {
-        let mut written = Vec::new(alloc);
-        let reader = Trickle {
-            bytes: &whole[..cut],
-            fails: true,
-        };
-        let ended = run_body(
-            alloc,
-            Method::Get,
-            &mut Input::new(reader, MOST_READS),
-            &mut Output::new(&mut written),
-        );
-        assert_eq!(&rt; ended, 56);
-        assert!(&rt; written.as_slice() == b"FAULT 56\n".as_slice());
-    }
-}
-
-#[test]
-fn bytes_that_trickle_in(rt: HostRuntime) {
-    let alloc = rt.alloc();
-    let mut written = Vec::new(alloc);
-    let reader = Trickle {
-        bytes: b"HTTP/1.1 200 OK\r\nContent-Length: 5\r\n\r\nhello",
-        fails: false,
-    };
-    let mut input = Input::new(reader, MOST_READS);
-    let ended = run_body(
-        alloc,
-        Method::Get,
-        &mut input,
-        &mut Output::new(&mut written),
-    );
-    assert_eq!(&rt; ended, 0);
-    assert!(&rt; written.as_slice() == b"OK status=200 body=5 keep=yes left=0\nhello".as_slice());
-}
-
-#[test]
-fn writes_that_fail(rt: HostRuntime) {
-    let alloc = rt.alloc();
-    let whole = b"HTTP/1.1 200 OK\r\nContent-Length: 5\r\n\r\nhello".as_slice();
-    for writes in 0..4 {
-        let mut taken = Vec::new(alloc);
-        let writer = Full {
-            taken: &mut taken,
-            writes,
-        };
-        let ended = run_body(
-            alloc,
-            Method::Get,
-            &mut Input::new(whole, MOST_READS),
-            &mut Output::new(writer),
-        );
-        assert_eq!(&rt; ended, 121);
-    }
-}
-
-/// What a writer answers to the worked example.
-fn answers<W: Write + Drop>(alloc: Global, writer: W) -> u8 {
+/// What `body` ends with.
+fn run<R: Read + Drop, W: Write + Drop>(alloc: Global, method: Method, reader: R, writer: W) -> u8 {
     run_body(
         alloc,
-        Method::Get,
-        &mut Input::new(
-            b"HTTP/1.1 200 OK\r\nContent-Length: 5\r\n\r\nhello".as_slice(),
-            MOST_READS,
-        ),
+        method,
+        &mut Input::new(reader, MOST_READS),
         &mut Output::new(writer),
     )
 }
 
-#[test]
-fn a_buffer_before_a_full_disk(rt: HostRuntime) -> Result<(), Fail> {
-    let alloc = rt.alloc();
-    for writes in 0..2 {
-        let mut taken = Vec::new(alloc);
-        let writer = Full {
-            taken: &mut taken,
-            writes,
-        };
-        assert_eq!(&rt; answers(alloc, BufWriter::new(alloc, writer)?), 121);
+/// Whether `body` ends with that status, and writes that output.
+fn prints<R: Read + Drop>(
+    alloc: Global,
+    method: Method,
+    reader: R,
+    status: u8,
+    output: &[u8],
+) -> bool {
+    let mut written = Vec::new(alloc);
+    let ended = run(alloc, method, reader, &mut written);
+    ended == status && written.as_slice() == output
+}
+
+/// A method, an input, the exit status, and the output.
+type Row<'a> = (Method, &'a [u8], u8, &'a [u8]);
+
+/// The first row of which something else comes.
+fn first_wrong(alloc: Global, rows: &[Row<'_>]) -> Option<usize> {
+    for at in 0..rows.len() {
+        let (method, input, status, output) = rows[at];
+        if !prints(alloc, method, input, status, output) {
+            return Some(at);
+        }
     }
-    Ok(())
+    None
+}
+
+/// A response to GET, the exit status, and the output.
+type LongRow<'a> = (Long<'a>, u8, &'a [u8]);
+
+fn long_prints(alloc: Global, row: LongRow<'_>) -> bool {
+    let (input, status, output) = row;
+    match bytes_of(alloc, input) {
+        Ok(bytes) => prints(alloc, Method::Get, bytes.as_slice(), status, output),
+        Err(_) => false,
+    }
+}
+
+/// The first row of which something else comes.
+fn first_long_wrong(alloc: Global, rows: &[LongRow<'_>]) -> Option<usize> {
+    for at in 0..rows.len() {
+        if !long_prints(alloc, rows[at]) {
+            return Some(at);
+        }
+    }
+    None
+}
+
+static COUNTED_BODIES: [Row<'static>; 7] = [
+    (
+        Method::Get,
+        b"HTTP/1.1 200 OK\r\nContent-Length: 5\r\n\r\nhello",
+        0,
+        b"OK status=200 body=5 keep=yes left=0\nhello",
+    ),
+    (
+        Method::Get,
+        b"HTTP/1.1 200 OK\r\nContent-Length: 5, 5\r\n\r\nhello",
+        0,
+        b"OK status=200 body=5 keep=yes left=0\nhello",
+    ),
+    (
+        Method::Get,
+        b"HTTP/1.1 200 OK\r\nContent-Length: 5\r\n\r\nhelloHTTP",
+        0,
+        b"OK status=200 body=5 keep=yes left=4\nhello",
+    ),
+    (
+        Method::Head,
+        b"HTTP/1.1 200 OK\r\nContent-Length: 5\r\n\r\n",
+        0,
+        b"OK status=200 body=0 keep=yes left=0\n",
+    ),
+    (
+        Method::Get,
+        b"HTTP/1.1 200 OK\r\nContent-Length: 5\r\n\r\nhell",
+        18,
+        b"FAULT 18\n",
+    ),
+    (
+        Method::Get,
+        b"HTTP/1.1 200 OK\r\nContent-Length: 67108819\r\n\r\n",
+        18,
+        b"FAULT 18\n",
+    ),
+    (
+        Method::Get,
+        b"HTTP/1.1 200 OK\r\nContent-Length: 67108820\r\n\r\n",
+        63,
+        b"FAULT 63\n",
+    ),
+];
+
+#[test]
+fn counted_bodies(rt: HostRuntime) {
+    none_is_wrong(&rt, first_wrong(rt.alloc(), &COUNTED_BODIES));
+}
+
+static ENDED_BODIES: [LongRow<'static>; 2] = [
+    (
+        (b"HTTP/1.0 200 OK\r\n\r\nabc", b"", 0, b""),
+        0,
+        b"OK status=200 body=3 keep=no left=0\nabc",
+    ),
+    (
+        (b"HTTP/1.1 200 OK\r\n", b"A: b\r\n", 128, b"\r\n"),
+        0,
+        b"OK status=200 body=0 keep=no left=0\n",
+    ),
+];
+
+#[test]
+fn bodies_that_the_end_ends(rt: HostRuntime) {
+    none_is_wrong(&rt, first_long_wrong(rt.alloc(), &ENDED_BODIES));
+}
+
+static CHUNKED_BODIES: [Row<'static>; 8] = [
+    (
+        Method::Get,
+        b"HTTP/1.1 200 OK\r\nTransfer-Encoding: chunked\r\n\r\n5;x=y\r\nhello\r\n0\r\nA: b\r\n\r\n",
+        0,
+        b"OK status=200 body=5 keep=yes left=0\nhello",
+    ),
+    (
+        Method::Get,
+        b"HTTP/1.1 200 OK\r\nTransfer-Encoding: chunked\r\n\r\nFFFFFFFFFFFFFFFFF\r\n",
+        63,
+        b"FAULT 63\n",
+    ),
+    (
+        Method::Get,
+        b"HTTP/1.1 200 OK\r\nTransfer-Encoding: chunked\r\n\r\n5\r\nhelloX",
+        56,
+        b"FAULT 56\n",
+    ),
+    (
+        Method::Get,
+        b"HTTP/1.1 200 OK\r\nTransfer-Encoding: chunked\r\n\r\n5\nhello",
+        56,
+        b"FAULT 56\n",
+    ),
+    (
+        Method::Get,
+        b"HTTP/1.1 200 OK\r\nTransfer-Encoding: chunked\r\n\r\n4000000\r\n",
+        18,
+        b"FAULT 18\n",
+    ),
+    (
+        Method::Get,
+        b"HTTP/1.1 200 OK\r\nTransfer-Encoding: chunked\r\n\r\n4000001\r\n",
+        63,
+        b"FAULT 63\n",
+    ),
+    (
+        Method::Get,
+        b"HTTP/1.1 200 OK\r\nTransfer-Encoding: chunked\r\n\r\n2\r\nhe\r\n3\r\nllo\r\n0\r\n\r\nHTTP",
+        0,
+        b"OK status=200 body=5 keep=yes left=4\nhello",
+    ),
+    (
+        Method::Get,
+        b"HTTP/1.1 200 OK\r\nTransfer-Encoding: chunked\r\nContent-Length: 3\r\n\r\n\
+        5\r\nhello\r\n0\r\n\r\n",
+        0,
+        b"OK status=200 body=5 keep=no left=0\nhello",
+    ),
+];
+
+#[test]
+fn chunked_bodies(rt: HostRuntime) {
+    none_is_wrong(&rt, first_wrong(rt.alloc(), &CHUNKED_BODIES));
+}
+
+/// One behind the other.
+fn joined(alloc: Global, first: Long<'_>, second: Long<'_>) -> Result<Vec<u8>, AllocError> {
+    let mut bytes = bytes_of(alloc, first)?;
+    add_long(&mut bytes, second)?;
+    Ok(bytes)
+}
+
+/// A chunked body of 70,000 pieces of one byte, one of 70,000 bytes (11170 in hexadecimal), and one of two.
+static MANY_PIECES: [Long<'static>; 2] = [
+    (
+        b"HTTP/1.1 200 OK\r\nTransfer-Encoding: chunked\r\n\r\n",
+        b"1\r\na\r\n",
+        70_000,
+        b"11170\r\n",
+    ),
+    (b"", b"b", 70_000, b"\r\n2\r\ncd\r\n0\r\n\r\n"),
+];
+
+/// What is printed of it.
+static GATHERED: [Long<'static>; 2] = [
+    (
+        b"OK status=200 body=140002 keep=yes left=0\n",
+        b"a",
+        70_000,
+        b"",
+    ),
+    (b"", b"b", 70_000, b"cd"),
+];
+
+/// More pieces than one write takes, and between them one that is longer than a write.
+#[test]
+fn pieces_are_gathered(rt: HostRuntime) {
+    let input = joined(rt.alloc(), MANY_PIECES[0], MANY_PIECES[1]).expect(&rt, "memory");
+    let output = joined(rt.alloc(), GATHERED[0], GATHERED[1]).expect(&rt, "memory");
+    assert!(rt; prints(rt.alloc(), Method::Get, input.as_slice(), 0, &output));
+}
+
+/// Behind a fault they change nothing.
+static BYTES_BEHIND: [LongRow<'static>; 2] = [
+    (
+        (
+            b"HTTP/1.1 200 OK\r\nContent-Length: 5\r\n\r\nhello",
+            b"v",
+            200_000,
+            b"",
+        ),
+        0,
+        b"OK status=200 body=5 keep=yes left=200000\nhello",
+    ),
+    (
+        (
+            b"HTTP/1.1 200 OK\r\nTransfer-Encoding: chunked\r\n\r\n5\nhello",
+            b"v",
+            200_000,
+            b"",
+        ),
+        56,
+        b"FAULT 56\n",
+    ),
+];
+
+#[test]
+fn bytes_behind_a_response_are_counted(rt: HostRuntime) {
+    none_is_wrong(&rt, first_long_wrong(rt.alloc(), &BYTES_BEHIND));
+}
+
+/// 28 bytes.
+const HINTS: &[u8] = b"HTTP/1.1 103 Early Hints\r\n\r\n";
+
+static INTERIM_HEADS: [LongRow<'static>; 4] = [
+    (
+        (b"", HINTS, 1, b"HTTP/1.1 204 No Content\r\n\r\n"),
+        0,
+        b"OK status=204 body=0 keep=yes left=0\n",
+    ),
+    (
+        (b"", HINTS, 0, b"HTTP/1.1 101 Switching Protocols\r\n\r\n"),
+        8,
+        b"FAULT 8\n",
+    ),
+    (
+        (
+            b"",
+            HINTS,
+            16,
+            b"HTTP/1.1 200 OK\r\nContent-Length: 5\r\n\r\nhello",
+        ),
+        0,
+        b"OK status=200 body=5 keep=yes left=0\nhello",
+    ),
+    (
+        (
+            b"",
+            HINTS,
+            17,
+            b"HTTP/1.1 200 OK\r\nContent-Length: 5\r\n\r\nhello",
+        ),
+        8,
+        b"FAULT 8\n",
+    ),
+];
+
+#[test]
+fn interim_heads(rt: HostRuntime) {
+    none_is_wrong(&rt, first_long_wrong(rt.alloc(), &INTERIM_HEADS));
+}
+
+static REFUSED_HEADS: [LongRow<'static>; 8] = [
+    ((b"", b"", 0, b""), 52, b"FAULT 52\n"),
+    ((b"HTTP/1.1 20", b"", 0, b""), 8, b"FAULT 8\n"),
+    (
+        (
+            b"HTTP/1.1 200 OK\r\nContent-Length: 5, 6\r\n\r\nhello",
+            b"",
+            0,
+            b"",
+        ),
+        8,
+        b"FAULT 8\n",
+    ),
+    (
+        (
+            b"HTTP/1.1 200 OK\r\nTransfer-Encoding: gzip, chunked\r\n\r\n",
+            b"",
+            0,
+            b"",
+        ),
+        61,
+        b"FAULT 61\n",
+    ),
+    (
+        (
+            b"HTTP/1.0 200 OK\r\nTransfer-Encoding: chunked\r\n\r\n",
+            b"",
+            0,
+            b"",
+        ),
+        8,
+        b"FAULT 8\n",
+    ),
+    (
+        (b"HTTP/1.1 200 OK\r\n", b"A: b\r\n", 129, b"\r\n"),
+        100,
+        b"FAULT 100\n",
+    ),
+    (
+        (b"HTTP/1.1 200 OK\r\n", b"A: b\r\n", 128, b":"),
+        100,
+        b"FAULT 100\n",
+    ),
+    (
+        (b"HTTP/1.1 200 OK\r\nA: ", b"v", 70_000, b""),
+        100,
+        b"FAULT 100\n",
+    ),
+];
+
+#[test]
+fn refused_heads(rt: HostRuntime) {
+    none_is_wrong(&rt, first_long_wrong(rt.alloc(), &REFUSED_HEADS));
+}
+
+/// What nginx 1.22 and Python's `http.server` sent on loopback: with a length, until the end, and in chunks.
+static CAPTURES: [Row<'static>; 4] = [
+    (
+        Method::Get,
+        b"HTTP/1.1 200 OK\r\nServer: nginx/1.22.1\r\nDate: Sun, 22 Nov 2026 08:49:54 GMT\r\n\
+        Content-Type: text/plain\r\nContent-Length: 14\r\nLast-Modified: Sun, 22 Nov 2026 08:49:52 GMT\r\n\
+        Connection: close\r\nETag: \"6b02acb0-e\"\r\nAccept-Ranges: bytes\r\n\r\nhello, world.\n",
+        0,
+        b"OK status=200 body=14 keep=no left=0\nhello, world.\n",
+    ),
+    (
+        Method::Get,
+        b"HTTP/1.1 200 OK\r\nServer: nginx/1.22.1\r\nDate: Sun, 22 Nov 2026 08:49:54 GMT\r\n\
+        Content-Type: text/html\r\nConnection: close\r\n\r\ntime: none\n",
+        0,
+        b"OK status=200 body=11 keep=no left=0\ntime: none\n",
+    ),
+    (
+        Method::Get,
+        b"HTTP/1.1 200 OK\r\nServer: nginx/1.22.1\r\nDate: Sun, 22 Nov 2026 08:49:55 GMT\r\n\
+        Content-Type: text/html\r\nTransfer-Encoding: chunked\r\nConnection: close\r\n\r\n\
+        b\r\ntime: none\n\r\n0\r\n\r\n",
+        0,
+        b"OK status=200 body=11 keep=no left=0\ntime: none\n",
+    ),
+    (
+        Method::Get,
+        b"HTTP/1.0 200 OK\r\nServer: SimpleHTTP/0.6 Python/3.11.7\r\n\
+        Date: Sun, 22 Nov 2026 08:49:56 GMT\r\nContent-type: text/plain\r\nContent-Length: 14\r\n\
+        Last-Modified: Sun, 22 Nov 2026 08:49:52 GMT\r\n\r\nhello, world.\n",
+        0,
+        b"OK status=200 body=14 keep=no left=0\nhello, world.\n",
+    ),
+];
+
+#[test]
+fn captures_of_real_servers(rt: HostRuntime) {
+    none_is_wrong(&rt, first_wrong(rt.alloc(), &CAPTURES));
+}
+
+static LENGTHS: [Row<'static>; 5] = [
+    (
+        Method::Get,
+        b"HTTP/1.1 200 OK\r\nContent-Length: 5,,5\r\n\r\nhello",
+        8,
+        b"FAULT 8\n",
+    ),
+    (
+        Method::Get,
+        b"HTTP/1.1 200 OK\r\nContent-Length: 5.0\r\n\r\nhello",
+        8,
+        b"FAULT 8\n",
+    ),
+    (
+        Method::Get,
+        b"HTTP/1.1 200 OK\r\nContent-Length: \xff\r\n\r\nhello",
+        8,
+        b"FAULT 8\n",
+    ),
+    (
+        Method::Get,
+        b"HTTP/1.1 200 OK\r\nContent-Length: 18446744073709551616\r\n\r\nhello",
+        63,
+        b"FAULT 63\n",
+    ),
+    (
+        Method::Get,
+        b"HTTP/1.1 200 OK\r\nContent-Length:   0005\t,5 \r\n\r\nhello",
+        0,
+        b"OK status=200 body=5 keep=yes left=0\nhello",
+    ),
+];
+
+#[test]
+fn lengths_that_are_no_numbers(rt: HostRuntime) {
+    none_is_wrong(&rt, first_wrong(rt.alloc(), &LENGTHS));
+}
+
+static HOSTILE: [Row<'static>; 6] = [
+    (Method::Get, b"\0", 8, b"FAULT 8\n"),
+    (
+        Method::Get,
+        b"HTTP/1.1 200 OK\rA: b\r\n\r\n",
+        8,
+        b"FAULT 8\n",
+    ),
+    (
+        Method::Get,
+        b"HTTP/1.1 200 OK\r\nA: b\0c\r\n\r\n",
+        8,
+        b"FAULT 8\n",
+    ),
+    (
+        Method::Get,
+        b"HTTP/1.1 200 OK\r\nA\0: b\r\n\r\n",
+        8,
+        b"FAULT 8\n",
+    ),
+    (
+        Method::Get,
+        b"HTTP/1.1 200 OK\r\nA : b\r\n\r\n",
+        8,
+        b"FAULT 8\n",
+    ),
+    (Method::Get, b"HTTP/2.0 200 OK\r\n\r\n", 8, b"FAULT 8\n"),
+];
+
+#[test]
+fn hostile_bytes(rt: HostRuntime) {
+    none_is_wrong(&rt, first_wrong(rt.alloc(), &HOSTILE));
+}
+
+/// The first front of a head, but for none of it, that isn't refused.
+fn first_unrefused_cut(alloc: Global, head: &[u8]) -> Option<usize> {
+    for cut in 1..head.len() {
+        if !prints(alloc, Method::Get, &head[..cut], 8, b"FAULT 8\n") {
+            return Some(cut);
+        }
+    }
+    None
 }
 
 #[test]
-fn a_flush_that_fails(rt: HostRuntime) -> Result<(), Fail> {
-    let alloc = rt.alloc();
-    assert_eq!(&rt; answers(alloc, Unflushed), 121);
-    assert_eq!(&rt; answers(alloc, BufWriter::new(alloc, Unflushed)?), 121);
-    Ok(())
+fn heads_cut_anywhere(rt: HostRuntime) {
+    let head = b"HTTP/1.1 200 OK\r\nContent-Length: 5\r\n\r\n";
+    none_is_wrong(&rt, first_unrefused_cut(rt.alloc(), head));
 }
 
-/// Runs `body` on a head and then so many letters, and compares the exit status, the line, and how many letters follow.
+/// Sets each byte by a linear congruential generator: its next state.
+fn set_random(bytes: &mut [u8], mut state: u32) -> u32 {
+    for at in 0..bytes.len() {
+        state = state.wrapping_mul(1664525).wrapping_add(1013904223);
+        bytes[at] = (state >> 24) as u8;
+    }
+    state
+}
+
+/// The first of 200 random inputs that isn't refused; the first byte of each begins no head.
+fn first_unrefused_random(alloc: Global) -> Option<usize> {
+    let mut state: u32 = 20261122;
+    let mut bytes = [b'!'; 101];
+    for at in 0..200 {
+        state = set_random(&mut bytes[1..], state);
+        if !prints(alloc, Method::Get, bytes.as_slice(), 8, b"FAULT 8\n") {
+            return Some(at);
+        }
+    }
+    None
+}
+
+#[test]
+fn random_bytes(rt: HostRuntime) {
+    none_is_wrong(&rt, first_unrefused_random(rt.alloc()));
+}
+
+/// 43 bytes.
+const WHOLE: &[u8] = b"HTTP/1.1 200 OK\r\nContent-Length: 5\r\n\r\nhello";
+
+/// The first front of `WHOLE` behind which a failed read isn't told.
+fn first_untold(alloc: Global) -> Option<usize> {
+    for cut in 0..=43 {
+        let reader = Trickle {
+            bytes: front(WHOLE, cut),
+            fails: true,
+        };
+        if !prints(alloc, Method::Get, reader, 56, b"FAULT 56\n") {
+            return Some(cut);
+        }
+    }
+    None
+}
+
+#[test]
+fn reads_that_fail(rt: HostRuntime) {
+    none_is_wrong(&rt, first_untold(rt.alloc()));
+}
+
+#[test]
+fn bytes_that_trickle_in(rt: HostRuntime) {
+    let reader = Trickle {
+        bytes: WHOLE,
+        fails: false,
+    };
+    let answer = b"OK status=200 body=5 keep=yes left=0\nhello";
+    assert!(rt; prints(rt.alloc(), Method::Get, reader, 0, answer));
+}
+
+/// Whether a writer answers to the worked example that it couldn't be written.
+fn is_unwritten<W: Write + Drop>(alloc: Global, writer: W) -> bool {
+    run(alloc, Method::Get, WHOLE, writer) == 121
+}
+
+/// Whether it does with a buffer before it.
+fn is_unwritten_behind<W: Write + Drop>(alloc: Global, writer: W) -> bool {
+    match BufWriter::new(alloc, writer) {
+        Ok(writer) => is_unwritten(alloc, writer),
+        Err(_) => false,
+    }
+}
+
+/// Whether a writer does that takes so many writes.
+fn is_full(alloc: Global, writes: u8) -> bool {
+    let mut taken = Vec::new(alloc);
+    let taken = &mut taken;
+    is_unwritten(alloc, Full { taken, writes })
+}
+
+#[test]
+fn writes_that_fail(rt: HostRuntime) {
+    let full = [
+        is_full(rt.alloc(), 0),
+        is_full(rt.alloc(), 1),
+        is_full(rt.alloc(), 2),
+        is_full(rt.alloc(), 3),
+    ];
+    none_is_wrong(&rt, first_false(&full));
+}
+
+/// Whether it does with a buffer before it.
+fn is_full_behind(alloc: Global, writes: u8) -> bool {
+    let mut taken = Vec::new(alloc);
+    let taken = &mut taken;
+    is_unwritten_behind(alloc, Full { taken, writes })
+}
+
+#[test]
+fn a_buffer_before_a_full_disk(rt: HostRuntime) {
+    let full = [is_full_behind(rt.alloc(), 0), is_full_behind(rt.alloc(), 1)];
+    none_is_wrong(&rt, first_false(&full));
+}
+
+#[test]
+fn a_flush_that_fails(rt: HostRuntime) {
+    let unwritten = [
+        is_unwritten(rt.alloc(), Unflushed),
+        is_unwritten_behind(rt.alloc(), Unflushed),
+    ];
+    none_is_wrong(&rt, first_false(&unwritten));
+}
+
+/// Whether it is that line, and then so many letters.
+fn are_line_and_letters(written: &[u8], line: &[u8], count: usize) -> bool {
+    match written.strip_prefix(line) {
+        Some(letters) => letters.len() == count && letters.iter().all(|byte| *byte == b'v'),
+        None => false,
+    }
+}
+
+/// Whether `body` ends with that status on a head and so many letters, and prints the line and so many letters.
 fn fills(
-    rt: &impl Abort,
     alloc: Global,
     head: &[u8],
     letters: usize,
     status: u8,
     line: &[u8],
-    body: usize,
-) {
+    count: usize,
+) -> bool {
     let mut written = Vec::new(alloc);
     let reader = Filler {
         first: head,
         letters,
     };
-    let ended = run_body(
-        alloc,
-        Method::Get,
-        &mut Input::new(reader, MOST_READS),
-        &mut Output::new(&mut written),
-    );
-    assert_eq!(rt; ended, status);
-    assert!(rt; written.starts_with(line));
-    assert_eq!(rt; written.len() - line.len(), body);
-    assert!(rt; written[line.len()..].iter().all(|byte| *byte == b'v'));
+    let ended = run(alloc, Method::Get, reader, &mut written);
+    ended == status && are_line_and_letters(&written, line, count)
 }
 
 #[test]
 fn two_mebibytes_counted(rt: HostRuntime) {
     let head = b"HTTP/1.1 200 OK\r\nContent-Length: 2097152\r\n\r\n";
     let line = b"OK status=200 body=2097152 keep=yes left=7\n";
-    fills(&rt, rt.alloc(), head, 2_097_159, 0, line, 2_097_152);
+    assert!(rt; fills(rt.alloc(), head, 2_097_159, 0, line, 2_097_152));
 }
+
+/// 19 bytes.
+const OPEN: &[u8] = b"HTTP/1.0 200 OK\r\n\r\n";
 
 #[test]
 fn two_hundred_full_reads(rt: HostRuntime) {
     let line = b"OK status=200 body=13107200 keep=no left=0\n";
-    fills(
-        &rt,
-        rt.alloc(),
-        b"HTTP/1.0 200 OK\r\n\r\n",
-        13_107_200,
-        0,
-        line,
-        13_107_200,
-    );
+    assert!(rt; fills(rt.alloc(), OPEN, 13_107_200, 0, line, 13_107_200));
 }
 
 #[test]
 fn as_many_bytes_as_a_response_may_have(rt: HostRuntime) {
     let line = b"OK status=200 body=67108845 keep=no left=0\n";
-    fills(
-        &rt,
-        rt.alloc(),
-        b"HTTP/1.0 200 OK\r\n\r\n",
-        67_108_845,
-        0,
-        line,
-        67_108_845,
-    );
+    assert!(rt; fills(rt.alloc(), OPEN, 67_108_845, 0, line, 67_108_845));
 }
 
 #[test]
 fn one_byte_more_than_a_response_may_have(rt: HostRuntime) {
-    let head = b"HTTP/1.0 200 OK\r\n\r\n";
-    fills(&rt, rt.alloc(), head, 67_108_846, 63, b"FAULT 63\n", 0);
+    assert!(rt; fills(rt.alloc(), OPEN, 67_108_846, 63, b"FAULT 63\n", 0));
 }

@@ -6,6 +6,10 @@ mod body;
 #[cfg(test)]
 mod fakes;
 #[cfg(test)]
+mod long;
+#[cfg(test)]
 mod play;
+#[cfg(test)]
+mod rows;
 #[cfg(test)]
 mod task;

@@ -1,211 +1,295 @@
 //! Command lines, and the runs that they ask for.
 ghost use Rattle.mx_command.specs.Asked.{IsTask};
 
-use mx_command::{Asked, Get, Task, read_command};
+use crate::rows::{first_false, none_is_wrong};
+use mx_command::{Asked, Task, read_command};
 use mx_run_io::{Input, Options, Output};
 use mx_run_task::{most_reads, run_task};
 use mx_types::Method;
-use std::alloc::Global;
-use std::process::Abort;
-use std::test::Fail;
+use std::alloc::{AllocError, Global};
 
-/// The words of a command line, behind the program's name.
-fn words(alloc: Global, rest: &[&str]) -> Result<Vec<String>, Fail> {
-    let mut words = Vec::new(alloc);
-    words.push(format!(in alloc; "mxfetch")?)?;
-    for word in rest {
-        words.push(format!(in alloc; "{}", *word)?)?;
-    }
-    Ok(words)
-}
-
-/// What a command line asks for, where it is taken.
-fn asks(alloc: Global, rest: &[&str]) -> Result<Option<Task>, Fail> {
-    let words = words(alloc, rest)?;
-    Ok(match read_command(alloc, words.as_slice()) {
-        Ok(Asked::Task(task)) => Some(task),
-        Ok(Asked::Get(_)) => None,
-        Err(_) => None,
-    })
-}
-
-#[test]
-fn each_method(rt: HostRuntime) -> Result<(), Fail> {
-    let named = [
-        ("GET", Method::Get),
-        ("HEAD", Method::Head),
-        ("POST", Method::Post),
-        ("PUT", Method::Put),
-        ("DELETE", Method::Delete),
-        ("OPTIONS", Method::Options),
-    ];
-    for (name, method) in named {
-        let task = asks(rt.alloc(), &["body", name])?;
-        assert!(&rt; task == Some(Task::Body(method)));
-    }
-    Ok(())
-}
-
-#[test]
-fn histories(rt: HostRuntime) -> Result<(), Fail> {
-    let taken = [("4", 4), ("1024", 1024), ("1048576", 1_048_576)];
-    for (text, history) in taken {
-        let task = asks(rt.alloc(), &["play", "--history", text])?;
-        assert!(&rt; task == Some(Task::Play(history)));
-    }
-    assert!(&rt; asks(rt.alloc(), &["play"])? == Some(Task::Play(1024)));
-    Ok(())
-}
-
-fn get_asked<'a>(alloc: Global, words: &'a [String]) -> Option<Get<'a>> {
-    match read_command(alloc, words) {
-        Ok(Asked::Get(get)) => Some(get),
-        Ok(Asked::Task(_task)) => None,
-        Err(_error) => None,
-    }
+/// What a command line is answered.
+#[derive(Clone, Copy, PartialEq, Eq)]
+enum Answer {
+    Task(Task),
+    /// How URLs are to be fetched, and whether they are those that are meant.
+    Get(Options, bool),
+    /// Help that was asked for.
+    Help,
+    Refused,
 }
 
 fn are_same(some: &str, others: &str) -> bool {
     some == others
 }
 
-/// Compares what a command line of `get` asks for.
-fn gets(
-    rt: &impl Abort,
-    alloc: Global,
-    rest: &[&str],
-    options: Options,
-    urls: &[&str],
-) -> Result<(), Fail> {
-    let words = words(alloc, rest)?;
-    let Some(get) = get_asked(alloc, words.as_slice()) else {
-        assert!(rt; false);
-        return Ok(());
-    };
-    assert!(rt; get.options == options);
-    assert!(rt; get.urls.len() == urls.len());
-    for (at, wanted) in urls.iter().enumerate() {
-        match get.urls.get(at) {
-            Some(found) => assert!(rt; are_same(*found, *wanted)),
-            None => assert!(rt; false),
+fn are_urls(found: &[&str], urls: &[&str]) -> bool {
+    if found.len() != urls.len() {
+        return false;
+    }
+    for at in 0..found.len() {
+        if !are_same(found[at], urls[at]) {
+            return false;
         }
+    }
+    true
+}
+
+fn text_of(is_error: bool) -> Answer {
+    if is_error {
+        Answer::Refused
+    } else {
+        Answer::Help
+    }
+}
+
+/// What these words are answered, where these URLs are meant.
+fn answer_to(alloc: Global, words: &[String], urls: &[&str]) -> Answer {
+    match read_command(alloc, words) {
+        Ok(Asked::Task(task)) => Answer::Task(task),
+        Ok(Asked::Get(get)) => Answer::Get(get.options, are_urls(&get.urls, urls)),
+        Err(error) => text_of(error.use_stderr()),
+    }
+}
+
+fn add_word(alloc: Global, words: &mut Vec<String>, word: &str) -> Result<(), AllocError> {
+    words.push(String::from_str(alloc, word)?)?;
+    Ok(())
+}
+
+/// Adds the words of a command line, with the program's name before them.
+fn add_words(alloc: Global, words: &mut Vec<String>, rest: &[&str]) -> Result<(), AllocError> {
+    add_word(alloc, words, "mxfetch")?;
+    for word in rest {
+        add_word(alloc, words, *word)?;
     }
     Ok(())
 }
 
-#[test]
-fn options_of_get(rt: HostRuntime) -> Result<(), Fail> {
-    let usual = Options {
-        workers: 2,
-        timeout_ms: 0,
-        max_connects: 4,
-        max_redirects: 0,
-    };
-    gets(
-        &rt,
-        rt.alloc(),
-        &["get", "http://a/"],
-        usual,
-        &["http://a/"],
-    )?;
-    let all = [
-        "get",
-        "--workers",
-        "16",
-        "http://a/",
-        "--timeout-ms",
-        "4294967295",
-        "--max-connects",
-        "64",
-        "--max-redirects",
-        "255",
-        "no URL",
-        "http://a/",
-    ];
-    let most = Options {
-        workers: 16,
-        timeout_ms: 4_294_967_295,
-        max_connects: 64,
-        max_redirects: 255,
-    };
-    gets(
-        &rt,
-        rt.alloc(),
-        &all,
-        most,
-        &["http://a/", "no URL", "http://a/"],
-    )?;
-    let least = Options {
-        workers: 1,
-        timeout_ms: 0,
-        max_connects: 0,
-        max_redirects: 0,
-    };
-    let few = [
-        "get",
-        "--workers=1",
-        "--max-connects=0",
-        "--max-redirects=0",
-        "x",
-    ];
-    gets(&rt, rt.alloc(), &few, least, &["x"])
+/// Whether a command line, behind the program's name, is answered so, where these URLs are meant.
+fn asks(alloc: Global, rest: &[&str], urls: &[&str], answer: Answer) -> bool {
+    let mut words = Vec::new(alloc);
+    add_words(alloc, &mut words, rest).is_ok() && answer_to(alloc, words.as_slice(), urls) == answer
 }
 
-#[test]
-fn refused_command_lines(rt: HostRuntime) -> Result<(), Fail> {
-    let refused: [&[&str]; 20] = [
+/// The words of a command line, the URLs that are meant, and what it is answered.
+type Row<'a> = (&'a [&'a str], &'a [&'a str], Answer);
+
+/// The first row that is answered otherwise.
+fn first_wrong(alloc: Global, rows: &[Row<'_>]) -> Option<usize> {
+    for at in 0..rows.len() {
+        let (rest, urls, answer) = rows[at];
+        if !asks(alloc, rest, urls, answer) {
+            return Some(at);
+        }
+    }
+    None
+}
+
+static METHODS: [Row<'static>; 6] = [
+    (&["body", "GET"], &[], Answer::Task(Task::Body(Method::Get))),
+    (
+        &["body", "HEAD"],
         &[],
-        &["body"],
-        &["body", "get"],
-        &["body", "PATCH"],
-        &["body", "GET", "HEAD"],
-        &["play", "--history", "3"],
-        &["play", "--history", "1048577"],
-        &["play", "GET"],
-        &["get"],
-        &["get", "--workers", "0", "http://a/"],
-        &["get", "--workers", "17", "http://a/"],
-        &["get", "--max-connects", "65", "http://a/"],
-        &["get", "--max-redirects", "256", "http://a/"],
-        &["get", "--max-redirects", "-1", "http://a/"],
-        &["get", "--max-redirects", "all", "http://a/"],
-        &["get", "http://a/", "--max-redirects"],
-        &["get", "--timeout-ms", "4294967296", "http://a/"],
-        &["get", "--timeout-ms", "-1", "http://a/"],
-        &["get", "--history", "9", "http://a/"],
-        &["GET"],
-    ];
-    for rest in refused {
-        let words = words(rt.alloc(), rest)?;
-        match read_command(rt.alloc(), words.as_slice()) {
-            Ok(_) => assert!(&rt; false),
-            Err(error) => assert!(&rt; error.use_stderr()),
-        }
-    }
-    Ok(())
-}
+        Answer::Task(Task::Body(Method::Head)),
+    ),
+    (
+        &["body", "POST"],
+        &[],
+        Answer::Task(Task::Body(Method::Post)),
+    ),
+    (&["body", "PUT"], &[], Answer::Task(Task::Body(Method::Put))),
+    (
+        &["body", "DELETE"],
+        &[],
+        Answer::Task(Task::Body(Method::Delete)),
+    ),
+    (
+        &["body", "OPTIONS"],
+        &[],
+        Answer::Task(Task::Body(Method::Options)),
+    ),
+];
 
 #[test]
-fn help_that_is_asked_for(rt: HostRuntime) -> Result<(), Fail> {
-    let asked: [&[&str]; 5] = [
-        &["--help"],
-        &["--version"],
-        &["body", "--help"],
-        &["play", "--help"],
-        &["get", "--help"],
-    ];
-    for rest in asked {
-        let words = words(rt.alloc(), rest)?;
-        match read_command(rt.alloc(), words.as_slice()) {
-            Ok(_) => assert!(&rt; false),
-            Err(error) => assert!(&rt; !error.use_stderr()),
-        }
-    }
-    Ok(())
+fn each_method(rt: HostRuntime) {
+    none_is_wrong(&rt, first_wrong(rt.alloc(), &METHODS));
 }
 
-/// Runs a task on the bytes, and compares the exit status and all that is written.
-fn runs(rt: &impl Abort, alloc: Global, task: Task, input: &[u8], status: u8, output: &[u8])
+static HISTORIES: [Row<'static>; 4] = [
+    (
+        &["play", "--history", "4"],
+        &[],
+        Answer::Task(Task::Play(4)),
+    ),
+    (
+        &["play", "--history", "1024"],
+        &[],
+        Answer::Task(Task::Play(1024)),
+    ),
+    (
+        &["play", "--history", "1048576"],
+        &[],
+        Answer::Task(Task::Play(1_048_576)),
+    ),
+    (&["play"], &[], Answer::Task(Task::Play(1024))),
+];
+
+#[test]
+fn histories(rt: HostRuntime) {
+    none_is_wrong(&rt, first_wrong(rt.alloc(), &HISTORIES));
+}
+
+/// With the options that are usual, the greatest, and the least.
+static GETS: [Row<'static>; 3] = [
+    (
+        &["get", "http://a/"],
+        &["http://a/"],
+        Answer::Get(
+            Options {
+                workers: 2,
+                timeout_ms: 0,
+                max_connects: 4,
+                max_redirects: 0,
+            },
+            true,
+        ),
+    ),
+    (
+        &[
+            "get",
+            "--workers",
+            "16",
+            "http://a/",
+            "--timeout-ms",
+            "4294967295",
+            "--max-connects",
+            "64",
+            "--max-redirects",
+            "255",
+            "no URL",
+            "http://a/",
+        ],
+        &["http://a/", "no URL", "http://a/"],
+        Answer::Get(
+            Options {
+                workers: 16,
+                timeout_ms: 4_294_967_295,
+                max_connects: 64,
+                max_redirects: 255,
+            },
+            true,
+        ),
+    ),
+    (
+        &[
+            "get",
+            "--workers=1",
+            "--max-connects=0",
+            "--max-redirects=0",
+            "x",
+        ],
+        &["x"],
+        Answer::Get(
+            Options {
+                workers: 1,
+                timeout_ms: 0,
+                max_connects: 0,
+                max_redirects: 0,
+            },
+            true,
+        ),
+    ),
+];
+
+#[test]
+fn options_of_get(rt: HostRuntime) {
+    none_is_wrong(&rt, first_wrong(rt.alloc(), &GETS));
+}
+
+static REFUSED: [Row<'static>; 20] = [
+    (&[], &[], Answer::Refused),
+    (&["body"], &[], Answer::Refused),
+    (&["body", "get"], &[], Answer::Refused),
+    (&["body", "PATCH"], &[], Answer::Refused),
+    (&["body", "GET", "HEAD"], &[], Answer::Refused),
+    (&["play", "--history", "3"], &[], Answer::Refused),
+    (&["play", "--history", "1048577"], &[], Answer::Refused),
+    (&["play", "GET"], &[], Answer::Refused),
+    (&["get"], &[], Answer::Refused),
+    (
+        &["get", "--workers", "0", "http://a/"],
+        &[],
+        Answer::Refused,
+    ),
+    (
+        &["get", "--workers", "17", "http://a/"],
+        &[],
+        Answer::Refused,
+    ),
+    (
+        &["get", "--max-connects", "65", "http://a/"],
+        &[],
+        Answer::Refused,
+    ),
+    (
+        &["get", "--max-redirects", "256", "http://a/"],
+        &[],
+        Answer::Refused,
+    ),
+    (
+        &["get", "--max-redirects", "-1", "http://a/"],
+        &[],
+        Answer::Refused,
+    ),
+    (
+        &["get", "--max-redirects", "all", "http://a/"],
+        &[],
+        Answer::Refused,
+    ),
+    (
+        &["get", "http://a/", "--max-redirects"],
+        &[],
+        Answer::Refused,
+    ),
+    (
+        &["get", "--timeout-ms", "4294967296", "http://a/"],
+        &[],
+        Answer::Refused,
+    ),
+    (
+        &["get", "--timeout-ms", "-1", "http://a/"],
+        &[],
+        Answer::Refused,
+    ),
+    (
+        &["get", "--history", "9", "http://a/"],
+        &[],
+        Answer::Refused,
+    ),
+    (&["GET"], &[], Answer::Refused),
+];
+
+#[test]
+fn refused_command_lines(rt: HostRuntime) {
+    none_is_wrong(&rt, first_wrong(rt.alloc(), &REFUSED));
+}
+
+static HELP: [Row<'static>; 5] = [
+    (&["--help"], &[], Answer::Help),
+    (&["--version"], &[], Answer::Help),
+    (&["body", "--help"], &[], Answer::Help),
+    (&["play", "--help"], &[], Answer::Help),
+    (&["get", "--help"], &[], Answer::Help),
+];
+
+#[test]
+fn help_that_is_asked_for(rt: HostRuntime) {
+    none_is_wrong(&rt, first_wrong(rt.alloc(), &HELP));
+}
+
+/// Whether a task that is run on the bytes ends with that status, and writes that output.
+fn runs(alloc: Global, task: Task, input: &[u8], status: u8, output: &[u8]) -> bool
     requires { IsTask task }
 {
     let mut written = Vec::new(alloc);
@@ -215,8 +299,7 @@ fn runs(rt: &impl Abort, alloc: Global, task: Task, input: &[u8], status: u8, ou
         &mut Input::new(input, most_reads(task)),
         &mut Output::new(&mut written),
     );
-    assert_eq!(rt; ended, status);
-    assert!(rt; written.as_slice() == output);
+    ended == status && written.as_slice() == output
 }
 
 #[test]
@@ -224,9 +307,12 @@ fn runs_of_body(rt: HostRuntime) {
     let alloc = rt.alloc();
     let head = b"HTTP/1.1 200 OK\r\nContent-Length: 5\r\n\r\n";
     let line = b"OK status=200 body=0 keep=yes left=0\n";
-    runs(&rt, alloc, Task::Body(Method::Head), head, 0, line);
-    runs(&rt, alloc, Task::Body(Method::Get), head, 18, b"FAULT 18\n");
-    runs(&rt, alloc, Task::Body(Method::Get), b"", 52, b"FAULT 52\n");
+    let right = [
+        runs(alloc, Task::Body(Method::Head), head, 0, line),
+        runs(alloc, Task::Body(Method::Get), head, 18, b"FAULT 18\n"),
+        runs(alloc, Task::Body(Method::Get), b"", 52, b"FAULT 52\n"),
+    ];
+    none_is_wrong(&rt, first_false(&right));
 }
 
 #[test]
@@ -234,7 +320,10 @@ fn runs_of_play(rt: HostRuntime) {
     let alloc = rt.alloc();
     let script = b"add 1\nwakeup\n";
     let without_room = b"added 0\nfailure\n";
-    runs(&rt, alloc, Task::Play(4), script, 0, without_room);
-    runs(&rt, alloc, Task::Play(5), script, 0, b"added 0\nok\n");
-    runs(&rt, alloc, Task::Play(4), b"add\n", 122, b"bad-line 1\n");
+    let right = [
+        runs(alloc, Task::Play(4), script, 0, without_room),
+        runs(alloc, Task::Play(5), script, 0, b"added 0\nok\n"),
+        runs(alloc, Task::Play(4), b"add\n", 122, b"bad-line 1\n"),
+    ];
+    none_is_wrong(&rt, first_false(&right));
 }
