@@ -6,9 +6,9 @@ use mx_link::{Called, Link, Stream, StreamLink};
 use mx_request::Request;
 use mx_transfer::Transfer;
 use mx_types::{Code, History, Method, Settings};
-use std::alloc::Global;
+use std::alloc::AllocGlobal;
 use std::io::ErrorKind;
-use std::process::Abort;
+use std::random::RandomSource;
 use std::test::Fail;
 
 /// 43 bytes, of which the last five are the body.
@@ -76,15 +76,6 @@ fn link(waits: u32, is_refused: bool) -> SlowLink {
     StreamLink::over(stream, 9)
 }
 
-/// Hands over the link; false where none is wanted.
-fn attach<L: Link>(transfer: &mut Transfer<L>, link: L) -> bool {
-    let fits = transfer.wants().is_some();
-    if fits {
-        transfer.attach(link, false);
-    }
-    fits
-}
-
 /// The code, or nothing where it is pending or has ended before.
 fn poll<L: Link>(task: &MockTask, transfer: &mut Transfer<L>) -> Option<Code> {
     if transfer.spent() {
@@ -96,61 +87,106 @@ fn poll<L: Link>(task: &MockTask, transfer: &mut Transfer<L>) -> Option<Code> {
     }
 }
 
-fn transfer(alloc: Global, waits: u32, is_refused: bool) -> Result<Transfer<SlowLink>, Fail> {
+/// What is seen of a transfer over three polls.
+#[derive(Clone, Copy, Debug, PartialEq, Eq)]
+struct Polls {
+    token: Option<u64>,
+    codes: [Option<Code>; 3],
+    /// The first poll leaves its task asleep.
+    asleep: bool,
+    /// Who hears of the link then wakes it.
+    woken: bool,
+    received: u32,
+    code: Option<Code>,
+}
+
+fn take_polls<L: Link>(task: &MockTask, transfer: &mut Transfer<L>) -> Polls {
+    let token = transfer.token();
+    let first = poll(task, transfer);
+    let asleep = !task.is_woken();
+    transfer.wake();
+    let woken = task.is_woken();
+    let codes = [first, poll(task, transfer), poll(task, transfer)];
+    Polls {
+        token,
+        codes,
+        asleep,
+        woken,
+        received: transfer.received(),
+        code: transfer.code(),
+    }
+}
+
+fn with_task<R: RandomSource + AllocGlobal, L: Link>(
+    rt: &R,
+    transfer: &mut Transfer<L>,
+) -> Result<Polls, Fail> {
+    let task = MockTask::new(rt)?;
+    Ok(take_polls(&task, transfer))
+}
+
+/// Hands over the link, and polls.
+fn with_link<R: RandomSource + AllocGlobal, L: Link>(
+    rt: &R,
+    transfer: &mut Transfer<L>,
+    link: L,
+) -> Result<Polls, Fail> {
+    if transfer.wants().is_some() {
+        transfer.attach(link, false);
+    }
+    with_task(rt, transfer)
+}
+
+fn with_request<R: RandomSource + AllocGlobal, L: Link>(
+    rt: &R,
+    request: Request,
+    link: L,
+) -> Result<Polls, Fail> {
+    let mut transfer = Transfer::new(rt.alloc(), request);
+    let polls = with_link(rt, &mut transfer, link);
+    drop(transfer);
+    polls
+}
+
+fn connect<R: RandomSource + AllocGlobal>(
+    rt: &R,
+    waits: u32,
+    is_refused: bool,
+) -> Result<Polls, Fail> {
+    let alloc = rt.alloc();
     let request = Request::build(
         alloc,
         Method::Get,
         "http://127.0.0.1/",
         Settings::new(alloc),
     )?;
-    let mut transfer = Transfer::new(alloc, request);
-    if !attach(&mut transfer, link(waits, is_refused)) {
-        return Err(Fail::from("a new transfer wants a link"));
-    }
-    Ok(transfer)
-}
-
-// What the polls of a transfer answer whose connection takes two of them.
-fn take_polls<L: Link, R: Abort>(
-    rt: &R,
-    task: &MockTask,
-    transfer: &mut Transfer<L>,
-) -> Result<(), Fail> {
-    let token = transfer.token();
-    let first = poll(task, transfer);
-    let asleep = !task.is_woken();
-    // who hears of the link wakes the task
-    transfer.wake();
-    let woken = task.is_woken();
-    let polls = [first, poll(task, transfer), poll(task, transfer)];
-    assert_eq!(rt; polls, [None, None, Some(Code::Ok)]);
-    assert!(rt; asleep && woken);
-    assert_eq!(rt; (token, transfer.received()), (Some(9), 43));
-    Ok(())
+    with_request(rt, request, link(waits, is_refused))
 }
 
 #[test]
 fn a_connection_takes_its_polls(rt: HostRuntime) -> Result<(), Fail> {
-    let task = MockTask::new(&rt)?;
-    let mut transfer = transfer(rt.alloc(), 2, false)?;
-    take_polls(&rt, &task, &mut transfer)
-}
-
-// What the polls of a transfer answer whose connection fails in the second.
-fn fail_to_connect<L: Link, R: Abort>(
-    rt: &R,
-    task: &MockTask,
-    transfer: &mut Transfer<L>,
-) -> Result<(), Fail> {
-    let polls = [poll(task, transfer), poll(task, transfer)];
-    assert_eq!(rt; polls, [None, Some(Code::CouldntConnect)]);
-    assert_eq!(rt; transfer.code(), Some(Code::CouldntConnect));
+    let seen = Polls {
+        token: Some(9),
+        codes: [None, None, Some(Code::Ok)],
+        asleep: true,
+        woken: true,
+        received: 43,
+        code: Some(Code::Ok),
+    };
+    assert_eq!(rt; connect(&rt, 2, false)?, seen);
     Ok(())
 }
 
 #[test]
 fn a_connection_that_fails_is_code_7(rt: HostRuntime) -> Result<(), Fail> {
-    let task = MockTask::new(&rt)?;
-    let mut transfer = transfer(rt.alloc(), 1, true)?;
-    fail_to_connect(&rt, &task, &mut transfer)
+    let seen = Polls {
+        token: Some(9),
+        codes: [None, Some(Code::CouldntConnect), None],
+        asleep: true,
+        woken: true,
+        received: 0,
+        code: Some(Code::CouldntConnect),
+    };
+    assert_eq!(rt; connect(&rt, 1, true)?, seen);
+    Ok(())
 }

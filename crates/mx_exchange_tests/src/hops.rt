@@ -114,6 +114,7 @@ fn sees<R: Abort + RandomSource + AllocGlobal>(
 ) -> Result<(), Fail> {
     let played = play_request(rt, request, calls)?;
     has_seen(rt, &played, waits, Some(ended));
+    drop(played);
     Ok(())
 }
 
@@ -313,7 +314,9 @@ fn with_task<R: Abort + RandomSource + AllocGlobal>(
 /// A transfer that follows one redirect takes these steps.
 fn takes<R: Abort + RandomSource + AllocGlobal>(rt: &R, steps: &[Step<'_>]) -> Result<(), Fail> {
     let mut transfer = Transfer::new(rt.alloc(), request(rt.alloc(), Method::Get, 1, 0)?);
-    with_task(rt, &mut transfer, steps)
+    let taken = with_task(rt, &mut transfer, steps);
+    drop(transfer);
+    taken
 }
 
 /// It wants a link to that port.

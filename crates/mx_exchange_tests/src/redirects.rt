@@ -67,7 +67,9 @@ fn fetch<R: RandomSource + AllocGlobal>(
     hops: &[Hop<'_>],
 ) -> Result<Outcome, Fail> {
     let mut transfer = Transfer::new(rt.alloc(), request);
-    with_task(rt, &mut transfer, hops)
+    let outcome = with_task(rt, &mut transfer, hops);
+    drop(transfer);
+    outcome
 }
 
 /// What is seen of a hop: the bytes of its request, of its response, and its status.
@@ -131,7 +133,9 @@ fn leads_on<R: Abort + RandomSource + AllocGlobal>(
     end: End<'_>,
 ) -> Result<(), Fail> {
     let outcome = fetch(rt, request, hops)?;
-    is_chain(rt, &outcome, hops, end)
+    let compared = is_chain(rt, &outcome, hops, end);
+    drop(outcome);
+    compared
 }
 
 /// The end with the body `hello`.

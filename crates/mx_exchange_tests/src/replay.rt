@@ -1,7 +1,7 @@
 //! A transfer over scripted links that is called by hand, and what is seen of it.
 //!
-//! The functions have no contracts, and at most one value that is dear to drop: so their proofs are short, and so are
-//! those of the tests, which have only plain values. Where a call of the transfer has a condition, it is tried first.
+//! The functions have no contracts, and at most one value that is dear to drop, which they drop by a call: so their proofs are short, and
+//! so are those of the tests, which have only plain values. Where a call of the transfer has a condition, it is tried first.
 
 use futures::task::Poll;
 use futures::test::MockTask;
@@ -311,7 +311,9 @@ fn play_into<R: RandomSource + AllocGlobal>(
     played: &mut Played,
 ) -> Result<(), Fail> {
     let mut transfer = Transfer::new(rt.alloc(), request);
-    with_task(rt, &mut transfer, calls, played)
+    let made = with_task(rt, &mut transfer, calls, played);
+    drop(transfer);
+    made
 }
 
 /// What is seen of a new transfer of the request over these calls, up to its end.

@@ -102,6 +102,7 @@ fn sees<R: Abort + RandomSource + AllocGlobal>(
 ) -> Result<(), Fail> {
     let played = play(rt, method, 0, calls)?;
     has_seen(rt, &played, waits, Some(ended));
+    drop(played);
     Ok(())
 }
 
@@ -115,6 +116,7 @@ fn sees_timed<R: Abort + RandomSource + AllocGlobal>(
 ) -> Result<(), Fail> {
     let played = play(rt, Method::Get, timeout_ms, calls)?;
     has_seen(rt, &played, waits, ended);
+    drop(played);
     Ok(())
 }
 
