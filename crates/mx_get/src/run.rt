@@ -66,12 +66,7 @@ pub fn try_get<
         + AllocGlobal
         + Sync,
     W: Write,
->(
-    rt: &R,
-    urls: &[&str],
-    options: Options,
-    output: &mut Output<W>,
-) -> Result<u8, FetchError>
+>(rt: &R, urls: &[&str], options: Options, output: &mut Output<W>) -> Result<u8, FetchError>
     requires { are_within options ≡ true }
     ensures printed { IfOk result (λ status. PrintsEnds options.timeout_ms options.max_redirects (map (λ u. u.now) urls.now)
         (W.contents (writer_of output.old)) (W.contents (writer_of output.new)) status) }
