@@ -1,8 +1,6 @@
 //! Workers on threads of their own, and one more thread that reads the messages.
 ghost use Rattle.std.specs.Prelude.{◌≡◌, All, IfOk};
 
-use crate::desk::{Desk, Parts};
-use crate::messages::{Answer, Message, is_answer};
 use crate::reader::Reader;
 use mx_gate::Gate;
 use mx_link::Link;
@@ -10,6 +8,8 @@ use mx_multi::{Multi, Seat, WorkerSeat};
 use mx_transfer::Outcome;
 use mx_types::{Ending, Work};
 use mx_worker::{Queued, run_crew};
+use mx_worker_workload::desk::{Desk, Parts};
+use mx_worker_workload::messages::{Message, is_answer};
 use std::alloc::{AllocError, AllocGlobal, Global};
 use std::random::RandomSource;
 use std::rt::Clock;
@@ -34,6 +34,14 @@ impl Flags {
     }
 }
 
+/// What a message is to be: of this ticket, with code 0, this request and this body.
+#[derive(Drop)]
+pub struct Answer<'a> {
+    pub ticket: u32,
+    pub request: &'a [u8],
+    pub body: &'a [u8],
+}
+
 /// What is to come: two answers, and the URL, if there is one, that is added between them.
 #[derive(Drop)]
 pub struct Plan<'a> {
@@ -55,7 +63,7 @@ pub struct Came {
 // Whether the message is there, and this answer.
 fn is_there(message: Option<Message>, answer: &Answer<'_>) -> bool {
     match message {
-        Some(message) => is_answer(&message, answer),
+        Some(message) => is_answer(&message, answer.ticket, answer.request, answer.body),
         None => false,
     }
 }

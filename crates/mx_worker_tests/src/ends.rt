@@ -1,50 +1,44 @@
 //! What becomes of transfers that one worker holds.
 
-use crate::desk::ScriptDesk;
-use crate::gates::{AT_ONCE, COUNTED, OTHER_AT_ONCE, SILENT, gate_with, refusing_gate};
-use crate::messages::Answer;
+use crate::responses::{AT_ONCE, COUNTED, OTHER_AT_ONCE, SILENT};
+use crate::script::{Run, Step, play};
 use mx_link::ScriptRead;
 use mx_multi::Progress;
 use mx_types::{Call, Code, HandleId, Ticket};
+use mx_worker_workload::desk::ScriptDesk;
+use mx_worker_workload::gates::{gate_with, refusing_gate};
 use std::alloc::AllocGlobal;
 use std::random::RandomSource;
 use std::sync::Wait;
 use std::test::Fail;
 
-/// What the transfer of `http://a.example/` is to end with (RFC 9112, section 3).
-const FROM_A: Answer<'static> = Answer {
-    ticket: 0,
-    request: b"GET / HTTP/1.1\r\nHost: a.example\r\nAccept: */*\r\n\r\n",
-    body: b"hello",
-};
+/// The request that the transfer of `http://a.example/` sends (RFC 9112, section 3).
+const FROM_A: &[u8] = b"GET / HTTP/1.1\r\nHost: a.example\r\nAccept: */*\r\n\r\n";
 
-/// What that of `http://b.example/` is to end with.
-const FROM_B: Answer<'static> = Answer {
-    ticket: 1,
-    request: b"GET / HTTP/1.1\r\nHost: b.example\r\nAccept: */*\r\n\r\n",
-    body: b"bye",
-};
+/// That of `http://b.example/`.
+const FROM_B: &[u8] = b"GET / HTTP/1.1\r\nHost: b.example\r\nAccept: */*\r\n\r\n";
 
-fn serve_two<R: Wait + RandomSource + AllocGlobal>(
-    rt: &R,
-    desk: &mut ScriptDesk,
-) -> Result<(), Fail> {
-    desk.add(rt, rt.alloc(), 1, "http://a.example/", 0)?;
-    desk.add(rt, rt.alloc(), 2, "http://b.example/", 0)?;
-    let links = [AT_ONCE, OTHER_AT_ONCE];
-    desk.run(rt, &mut gate_with(rt.alloc(), 3, &links, &[])?, 2, 0)?;
-    desk.expect_answer(rt, &FROM_A)?;
-    desk.expect_answer(rt, &FROM_B)?;
-    desk.expect_none(rt)
-}
+/// Two handles and one worker.
+const SERVE_TWO: &[Step<'static>] = &[
+    Step::Add(1, "http://a.example/", 0),
+    Step::Add(2, "http://b.example/", 0),
+    Step::Run(Run {
+        turns: 3,
+        links: &[AT_ONCE, OTHER_AT_ONCE],
+        moments: &[],
+        recorded: 2,
+        given_back: 0,
+    }),
+    Step::Answer(0, FROM_A, b"hello"),
+    Step::Answer(1, FROM_B, b"bye"),
+    Step::NoMessage,
+];
 
 /// Two handles and one worker: both messages have code 0, each the outcome of its own request.
 #[test]
 fn one_worker_serves_two(rt: HostRuntime) -> Result<(), Fail> {
-    let mut desk = ScriptDesk::open(&rt, rt.alloc(), 4)?;
-    let result = serve_two(&rt, &mut desk);
-    desk.close();
-    result
+    play(&rt, 4, SERVE_TWO)?;
+    Ok(())
 }
 
 // A transfer whose link can't be had for this code ends with it.
@@ -74,50 +68,48 @@ fn a_link_that_cannot_be_had_gives_its_code(rt: HostRuntime) -> Result<(), Fail>
     Ok(())
 }
 
-// A transfer whose link gives nothing. It answers the last wait of the gate.
-fn end_in_time<R: Wait + RandomSource + AllocGlobal>(
-    rt: &R,
-    desk: &mut ScriptDesk,
-) -> Result<Option<u32>, Fail> {
-    desk.add(rt, rt.alloc(), 1, "http://a.example/", 10)?;
-    let mut gate = gate_with(rt.alloc(), 1, &[SILENT], &[100, 107, 110])?;
-    desk.run(rt, &mut gate, 1, 0)?;
-    let last_wait = gate.last_wait();
-    drop(gate);
-    desk.expect(rt, 1, Code::OperationTimedout, b"")?;
-    Ok(last_wait)
-}
+/// A transfer whose link gives nothing.
+const END_IN_TIME: &[Step<'static>] = &[
+    Step::Add(1, "http://a.example/", 10),
+    Step::Run(Run {
+        turns: 1,
+        links: &[SILENT],
+        moments: &[100, 107, 110],
+        recorded: 1,
+        given_back: 0,
+    }),
+    Step::Message(1, Code::OperationTimedout, b""),
+];
 
 /// A transfer whose link gives nothing ends with 28 at its deadline, and the wait before is no longer than that: in the last turn nothing
 /// was held any more.
 #[test]
 fn a_deadline_ends_a_transfer(rt: HostRuntime) -> Result<(), Fail> {
-    let mut desk = ScriptDesk::open(&rt, rt.alloc(), 4)?;
-    let last_wait = end_in_time(&rt, &mut desk);
-    desk.close();
-    assert_eq!(rt; last_wait?, Some(20));
+    assert_eq!(rt; play(&rt, 4, END_IN_TIME)?.wait, Some(20));
     Ok(())
 }
 
-fn serve_the_other<R: Wait + RandomSource + AllocGlobal>(
-    rt: &R,
-    desk: &mut ScriptDesk,
-) -> Result<(), Fail> {
-    desk.add(rt, rt.alloc(), 1, "http://a.example/", 0)?;
-    desk.add(rt, rt.alloc(), 2, "http://b.example/", 0)?;
-    desk.make_all(rt, rt.alloc(), &[(Call::Remove(HandleId(1)), "removed")])?;
-    desk.run(rt, &mut gate_with(rt.alloc(), 3, &[AT_ONCE], &[])?, 1, 0)?;
-    desk.expect(rt, 2, Code::Ok, b"hello")?;
-    desk.expect_none(rt)
-}
+/// Two handles, of which one is removed before a worker comes.
+const SERVE_THE_OTHER: &[Step<'static>] = &[
+    Step::Add(1, "http://a.example/", 0),
+    Step::Add(2, "http://b.example/", 0),
+    Step::Make(Call::Remove(HandleId(1)), "removed"),
+    Step::Run(Run {
+        turns: 3,
+        links: &[AT_ONCE],
+        moments: &[],
+        recorded: 1,
+        given_back: 0,
+    }),
+    Step::Message(2, Code::Ok, b"hello"),
+    Step::NoMessage,
+];
 
 /// A worker never begins a transfer that was removed, and its handle gets no message.
 #[test]
 fn a_removed_handle_gets_no_message(rt: HostRuntime) -> Result<(), Fail> {
-    let mut desk = ScriptDesk::open(&rt, rt.alloc(), 4)?;
-    let result = serve_the_other(&rt, &mut desk);
-    desk.close();
-    result
+    play(&rt, 4, SERVE_THE_OTHER)?;
+    Ok(())
 }
 
 // Two transfers, of which the first ends within its response. It answers how far the second was before, and then the first and the second.

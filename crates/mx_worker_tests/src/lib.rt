@@ -4,23 +4,23 @@
 #[cfg(test)]
 mod beside;
 #[cfg(test)]
-mod desk;
-#[cfg(test)]
 mod ends;
 #[cfg(test)]
-mod gates;
+mod hops;
 #[cfg(test)]
 mod links;
-#[cfg(test)]
-mod messages;
 #[cfg(test)]
 mod paused;
 #[cfg(test)]
 mod reader;
 #[cfg(test)]
+mod refused;
+#[cfg(test)]
 mod removed;
 #[cfg(test)]
-mod runs;
+mod responses;
+#[cfg(test)]
+mod script;
 #[cfg(test)]
 mod sockets;
 #[cfg(test)]

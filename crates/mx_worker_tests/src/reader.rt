@@ -1,14 +1,14 @@
 //! A seat beside its multi handle, for a thread of its own.
 ghost use Rattle.std.specs.Prelude.{◌≡◌};
 
-use crate::messages::Message;
-use crate::{messages, runs};
 use mx_link::Link;
 use mx_multi::{Multi, Seat};
 use mx_multi_workload::calls;
 use mx_transfer::Outcome;
 use mx_types::HandleId;
 use mx_worker::Queued;
+use mx_worker_workload::messages::Message;
+use mx_worker_workload::{messages, runs};
 use std::alloc::AllocGlobal;
 use std::rt::Clock;
 use std::sync::Wait;

@@ -1,9 +1,8 @@
 //! Transfers whose handle is removed while a worker holds them.
 ghost use Rattle.std.specs.Prelude.{◌≡◌, All};
 
-use crate::desk::{Parts, ScriptDesk};
-use crate::gates::{AT_ONCE, SILENT};
-use crate::runs;
+use crate::responses::{AT_ONCE, SILENT};
+use crate::script::{Step, desk_after};
 use mx_gate::{Gate, Turn};
 use mx_link::{ScriptLink, ScriptRead};
 use mx_multi::{Multi, Seat};
@@ -12,6 +11,8 @@ use mx_request::Endpoint;
 use mx_transfer::Outcome;
 use mx_types::{Call, Code, HandleId};
 use mx_worker::Queued;
+use mx_worker_workload::desk::Parts;
+use mx_worker_workload::runs;
 use std::alloc::{AllocGlobal, Global};
 use std::random::RandomSource;
 use std::sync::Wait;
@@ -22,7 +23,7 @@ use std::test::Fail;
 enum Removal {
     /// As it opens a link, which gives a whole response at once.
     AtOpening,
-    /// In a turn, after a poll over a link that gives nothing.
+    /// In a turn, after a poll over a link that gives nothing. Each later link gives a whole response.
     InTurn,
 }
 
@@ -35,6 +36,8 @@ struct Remover<'a, R: Wait> {
     seat: Seat<Queued<ScriptLink>, Outcome>,
     removal: Removal,
     turns: u32,
+    /// How many links it has opened.
+    opened: u32,
     ghost own: { seat.of ≡ multi.now },
 }
 
@@ -55,11 +58,13 @@ impl<'a, R: Wait> Gate for Remover<'a, R> {
     }
 
     fn open(&mut self, _endpoint: &Endpoint) -> Result<ScriptLink, Code> {
-        let mut reads: &[ScriptRead<'static>] = SILENT;
+        let mut reads: &[ScriptRead<'static>] = AT_ONCE;
         if self.removal == Removal::AtOpening {
             self.remove();
-            reads = AT_ONCE;
+        } else if self.opened == 0 {
+            reads = SILENT;
         }
+        self.opened = self.opened.saturating_add(1);
         match ScriptLink::new(self.alloc, reads, &[]) {
             Ok(link) => Ok(link),
             Err(_) => Err(Code::OutOfMemory),
@@ -78,12 +83,13 @@ impl<'a, R: Wait> Gate for Remover<'a, R> {
     }
 }
 
-// What a worker counts of one transfer: the ends that were recorded, those that were stale, and what it gave back.
+// What a worker counts, with a gate that removes handle 1: the ends that were recorded, those that were stale, what it gave back, and how
+// many links its gate opened.
 fn count<R: Wait + RandomSource + AllocGlobal>(
     rt: &R,
     parts: Parts<Queued<ScriptLink>, Outcome>,
     removal: Removal,
-) -> Result<(u32, u32, u32), Fail>
+) -> Result<(u32, u32, u32, u32), Fail>
     requires seat { parts.seat.of ≡ parts.multi }
     requires workers { All (λ s. s.of ≡ parts.multi) parts.workers.items }
 {
@@ -102,38 +108,48 @@ fn count<R: Wait + RandomSource + AllocGlobal>(
         seat,
         removal,
         turns: 2,
+        opened: 0,
     };
     match runs::work(rt, &multi, worker, &mut gate) {
-        Some(ran) => Ok((ran.recorded, ran.stale, ran.given_back)),
+        Some(ran) => Ok((ran.recorded, ran.stale, ran.given_back, gate.opened)),
         None => Err("no memory".into()),
     }
 }
 
-// The counts of a transfer that was added under handle 1, which is removed.
-fn count_removed<R: Wait + RandomSource + AllocGlobal>(
+// The same, after these steps.
+fn count_after<R: Wait + RandomSource + AllocGlobal>(
     rt: &R,
+    steps: &[Step<'_>],
     removal: Removal,
-) -> Result<(u32, u32, u32), Fail> {
-    let mut desk = ScriptDesk::open(rt, rt.alloc(), 4)?;
-    match desk.add(rt, rt.alloc(), 1, "http://a.example/", 0) {
-        Ok(()) => count(rt, desk.into_parts(), removal),
-        Err(fail) => {
-            desk.close();
-            Err(fail)
-        }
-    }
+) -> Result<(u32, u32, u32, u32), Fail> {
+    let desk = desk_after(rt, 4, steps)?;
+    count(rt, desk.into_parts(), removal)
 }
+
+const ONE: Step<'static> = Step::Add(1, "http://a.example/one", 0);
+
+const TWO: Step<'static> = Step::Add(2, "http://a.example/two", 0);
 
 /// A transfer that ends after its handle was removed has a stale end, which is counted once.
 #[test]
 fn an_end_after_the_removal_is_stale(rt: HostRuntime) -> Result<(), Fail> {
-    assert_eq!(rt; count_removed(&rt, Removal::AtOpening)?, (0, 1, 0));
+    let counts = count_after(&rt, &[ONE], Removal::AtOpening)?;
+    assert_eq!(rt; counts, (0, 1, 0, 1));
     Ok(())
 }
 
 /// A transfer that a worker holds is let go as soon as its look says that its handle is gone.
 #[test]
 fn a_held_transfer_whose_handle_is_removed_is_let_go(rt: HostRuntime) -> Result<(), Fail> {
-    assert_eq!(rt; count_removed(&rt, Removal::InTurn)?, (0, 0, 0));
+    let counts = count_after(&rt, &[ONE], Removal::InTurn)?;
+    assert_eq!(rt; counts, (0, 0, 0, 1));
+    Ok(())
+}
+
+/// Its link is let go with it, though the worker keeps idle links: the next transfer to the same endpoint has the gate open another.
+#[test]
+fn the_link_of_a_removed_handle_serves_no_other(rt: HostRuntime) -> Result<(), Fail> {
+    let counts = count_after(&rt, &[ONE, TWO], Removal::InTurn)?;
+    assert_eq!(rt; counts, (1, 0, 0, 2));
     Ok(())
 }

@@ -1,7 +1,6 @@
 //! A worker over loopback connections to a server of the test's own.
 
-use crate::beside::{Came, Flags, Plan, run_plan};
-use crate::messages::Answer;
+use crate::beside::{Answer, Came, Flags, Plan, run_plan};
 use mx_gate::SocketGate;
 use std::alloc::{AllocGlobal, Global};
 use std::io::{Read as _, Write as _};

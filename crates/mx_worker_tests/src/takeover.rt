@@ -1,10 +1,12 @@
 //! A worker that is stopped, and another that takes over.
 
-use crate::desk::ScriptDesk;
-use crate::gates::{AT_ONCE, gate_of, gate_with};
+use crate::responses::AT_ONCE;
+use crate::script::{Run, Step, play};
 use mx_gate::ScriptGate;
 use mx_link::{ScriptLink, ScriptRead};
 use mx_types::{Call, Code, HandleId, OutOfMemory};
+use mx_worker_workload::desk::ScriptDesk;
+use mx_worker_workload::gates::gate_with;
 use std::alloc::{AllocGlobal, Global};
 use std::random::RandomSource;
 use std::sync::Wait;
@@ -12,26 +14,6 @@ use std::test::Fail;
 
 /// As many transfers as a run has.
 const TRANSFERS: u32 = 8;
-
-/// Pauses handle 1.
-const PAUSE_ONE: &[(Call, &str)] = &[(Call::Pause(HandleId(1)), "changed")];
-
-/// Resumes handle 1.
-const RESUME_ONE: &[(Call, &str)] = &[(Call::Unpause(HandleId(1)), "changed")];
-
-/// Pauses handles 0, 2 and 3.
-const PAUSE_THREE: &[(Call, &str)] = &[
-    (Call::Pause(HandleId(0)), "changed"),
-    (Call::Pause(HandleId(2)), "changed"),
-    (Call::Pause(HandleId(3)), "changed"),
-];
-
-/// Resumes them, the last one first.
-const RESUME_THREE: &[(Call, &str)] = &[
-    (Call::Unpause(HandleId(3)), "changed"),
-    (Call::Unpause(HandleId(2)), "changed"),
-    (Call::Unpause(HandleId(0)), "changed"),
-];
 
 /// A response that comes in three pieces, with waits between them.
 const SLOW: &[ScriptRead<'static>] = &[
@@ -97,57 +79,75 @@ fn another_worker_takes_over_at_any_turn(rt: HostRuntime) -> Result<(), Fail> {
     Ok(())
 }
 
-fn give_back_one<R: Wait + RandomSource + AllocGlobal>(
-    rt: &R,
-    desk: &mut ScriptDesk,
-) -> Result<(), Fail> {
-    desk.add(rt, rt.alloc(), 1, "http://a.example/", 0)?;
-    desk.make_all(rt, rt.alloc(), PAUSE_ONE)?;
-    desk.run(rt, &mut gate_of(rt.alloc(), 0), 0, 1)?;
-    desk.make_all(rt, rt.alloc(), RESUME_ONE)?;
-    desk.run(rt, &mut gate_with(rt.alloc(), 0, &[AT_ONCE], &[])?, 1, 0)?;
-    desk.expect(rt, 1, Code::Ok, b"hello")
-}
+/// A worker that is stopped before its transfer has a link, and another.
+const GIVE_BACK_ONE: &[Step<'static>] = &[
+    Step::Add(1, "http://a.example/", 0),
+    Step::Make(Call::Pause(HandleId(1)), "changed"),
+    Step::Run(Run {
+        turns: 0,
+        links: &[],
+        moments: &[],
+        recorded: 0,
+        given_back: 1,
+    }),
+    Step::Make(Call::Unpause(HandleId(1)), "changed"),
+    Step::Run(Run {
+        turns: 0,
+        links: &[AT_ONCE],
+        moments: &[],
+        recorded: 1,
+        given_back: 0,
+    }),
+    Step::Message(1, Code::Ok, b"hello"),
+];
 
 /// A worker that is stopped gives back a transfer that has no link yet, and another ends it.
 #[test]
 fn what_has_not_started_is_given_back(rt: HostRuntime) -> Result<(), Fail> {
-    let mut desk = ScriptDesk::open(&rt, rt.alloc(), 4)?;
-    let result = give_back_one(&rt, &mut desk);
-    desk.close();
-    result
-}
-
-// Adds handles 0 to 4, of which 0, 2 and 3 are paused.
-fn add_five<R: Wait>(rt: &R, alloc: Global, desk: &mut ScriptDesk) -> Result<(), Fail> {
-    for handle in 0..5 {
-        desk.add(rt, alloc, handle, "http://a.example/", 0)?;
-    }
-    desk.make_all(rt, alloc, PAUSE_THREE)
-}
-
-fn end_one_of_five<R: Wait + RandomSource + AllocGlobal>(
-    rt: &R,
-    desk: &mut ScriptDesk,
-) -> Result<(), Fail> {
-    add_five(rt, rt.alloc(), desk)?;
-    desk.run(rt, &mut gate_with(rt.alloc(), 3, &[SLOW], &[])?, 1, 3)?;
-    desk.make_all(rt, rt.alloc(), RESUME_THREE)?;
-    desk.run(rt, &mut gate_with(rt.alloc(), 3, &[AT_ONCE; 4], &[])?, 4, 0)?;
-    for handle in [1, 0, 2, 3, 4] {
-        desk.expect(rt, handle, Code::Ok, b"hello")?;
-    }
+    play(&rt, 4, GIVE_BACK_ONE)?;
     Ok(())
 }
+
+/// Handles 0 to 4, of which 0, 2 and 3 are paused; a worker that is stopped; they are resumed, the last one first; and another worker.
+const END_ONE_OF_FIVE: &[Step<'static>] = &[
+    Step::Add(0, "http://a.example/", 0),
+    Step::Add(1, "http://a.example/", 0),
+    Step::Add(2, "http://a.example/", 0),
+    Step::Add(3, "http://a.example/", 0),
+    Step::Add(4, "http://a.example/", 0),
+    Step::Make(Call::Pause(HandleId(0)), "changed"),
+    Step::Make(Call::Pause(HandleId(2)), "changed"),
+    Step::Make(Call::Pause(HandleId(3)), "changed"),
+    Step::Run(Run {
+        turns: 3,
+        links: &[SLOW],
+        moments: &[],
+        recorded: 1,
+        given_back: 3,
+    }),
+    Step::Make(Call::Unpause(HandleId(3)), "changed"),
+    Step::Make(Call::Unpause(HandleId(2)), "changed"),
+    Step::Make(Call::Unpause(HandleId(0)), "changed"),
+    Step::Run(Run {
+        turns: 3,
+        links: &[AT_ONCE; 4],
+        moments: &[],
+        recorded: 4,
+        given_back: 0,
+    }),
+    Step::Message(1, Code::Ok, b"hello"),
+    Step::Message(0, Code::Ok, b"hello"),
+    Step::Message(2, Code::Ok, b"hello"),
+    Step::Message(3, Code::Ok, b"hello"),
+    Step::Message(4, Code::Ok, b"hello"),
+];
 
 /// A worker that is stopped ends what has started, and gives back the others, before what no worker had claimed: the next worker claims
 /// them in the order of their tickets.
 #[test]
 fn what_has_started_is_ended(rt: HostRuntime) -> Result<(), Fail> {
-    let mut desk = ScriptDesk::open(&rt, rt.alloc(), 0)?;
-    let result = end_one_of_five(&rt, &mut desk);
-    desk.close();
-    result
+    play(&rt, 0, END_ONE_OF_FIVE)?;
+    Ok(())
 }
 
 fn hold_64<R: Wait + RandomSource + AllocGlobal>(
@@ -156,13 +156,9 @@ fn hold_64<R: Wait + RandomSource + AllocGlobal>(
 ) -> Result<(), Fail> {
     for handle in 0..70 {
         desk.add(rt, rt.alloc(), handle, "http://a.example/", 0)?;
-        desk.make_all(
-            rt,
-            rt.alloc(),
-            &[(Call::Pause(HandleId(handle)), "changed")],
-        )?;
+        desk.make(rt, rt.alloc(), Call::Pause(HandleId(handle)), "changed")?;
     }
-    desk.run(rt, &mut gate_of(rt.alloc(), 80), 0, 64)
+    desk.run(rt, &mut gate_with(rt.alloc(), 80, &[], &[])?, 0, 64)
 }
 
 /// A worker that could claim 70 transfers has claimed 64.
@@ -174,23 +170,31 @@ fn a_worker_holds_64_at_most(rt: HostRuntime) -> Result<(), Fail> {
     result
 }
 
-fn end_late<R: Wait + RandomSource + AllocGlobal>(
-    rt: &R,
-    desk: &mut ScriptDesk,
-) -> Result<(), Fail> {
-    desk.add(rt, rt.alloc(), 1, "http://a.example/", 10)?;
-    desk.make_all(rt, rt.alloc(), PAUSE_ONE)?;
-    desk.run(rt, &mut gate_with(rt.alloc(), 0, &[], &[100])?, 0, 1)?;
-    desk.make_all(rt, rt.alloc(), RESUME_ONE)?;
-    desk.run(rt, &mut gate_with(rt.alloc(), 0, &[AT_ONCE], &[110])?, 1, 0)?;
-    desk.expect(rt, 1, Code::OperationTimedout, b"")
-}
+/// A paused transfer of ten milliseconds, which a worker gives back at the moment 100 and another has at 110.
+const END_LATE: &[Step<'static>] = &[
+    Step::Add(1, "http://a.example/", 10),
+    Step::Make(Call::Pause(HandleId(1)), "changed"),
+    Step::Run(Run {
+        turns: 0,
+        links: &[],
+        moments: &[100],
+        recorded: 0,
+        given_back: 1,
+    }),
+    Step::Make(Call::Unpause(HandleId(1)), "changed"),
+    Step::Run(Run {
+        turns: 0,
+        links: &[AT_ONCE],
+        moments: &[110],
+        recorded: 1,
+        given_back: 0,
+    }),
+    Step::Message(1, Code::OperationTimedout, b""),
+];
 
 /// A transfer that was given back keeps its deadline: the next worker ends it there.
 #[test]
 fn what_is_given_back_keeps_its_deadline(rt: HostRuntime) -> Result<(), Fail> {
-    let mut desk = ScriptDesk::open(&rt, rt.alloc(), 4)?;
-    let result = end_late(&rt, &mut desk);
-    desk.close();
-    result
+    play(&rt, 4, END_LATE)?;
+    Ok(())
 }

@@ -2,10 +2,9 @@
 ghost use Rattle.std.specs.Prelude.{◌≡◌, ◌≤◌, true, [], IfOk, IfErr};
 ghost use Rattle.mx_exchange.specs.Endings.{is_link_code};
 
-use crate::beside::{Flags, Plan, run_plan};
-use crate::gates::COUNTED;
-use crate::messages::Answer;
+use crate::beside::{Answer, Flags, Plan, run_plan};
 use crate::reader::LOOKS;
+use crate::responses::COUNTED;
 use mx_gate::{Gate, Turn};
 use mx_link::{ScriptLink, ScriptRead};
 use mx_request::Endpoint;

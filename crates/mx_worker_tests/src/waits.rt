@@ -2,12 +2,13 @@
 ghost use Rattle.std.specs.Prelude.{◌≡◌, ◌≤◌, true, [], IfOk, IfErr};
 ghost use Rattle.mx_exchange.specs.Endings.{is_link_code};
 
-use crate::desk::ScriptDesk;
-use crate::gates::{COUNTED, gate_with, plan_link};
+use crate::responses::COUNTED;
 use mx_gate::{Gate, ScriptGate, Turn};
 use mx_link::{ScriptLink, ScriptRead};
 use mx_request::Endpoint;
 use mx_types::Code;
+use mx_worker_workload::desk::ScriptDesk;
+use mx_worker_workload::gates::gate_with;
 use std::alloc::AllocGlobal;
 use std::random::RandomSource;
 use std::sync::Wait;
@@ -50,16 +51,15 @@ impl Gate for FirstWait {
     }
 }
 
-// The first wait of a worker that serves one transfer, which begins at the moment 100, over a link that gives these pieces.
+// The first wait of a worker that serves one transfer, which begins at the moment 100, over the one link of these, which gives its pieces.
 fn wait_at<R: Wait + RandomSource + AllocGlobal>(
     rt: &R,
     desk: &mut ScriptDesk,
     timeout_ms: u32,
-    reads: &[ScriptRead<'_>],
+    links: &[&[ScriptRead<'_>]],
 ) -> Result<Option<u32>, Fail> {
     desk.add(rt, rt.alloc(), 1, "http://a.example/", timeout_ms)?;
-    let mut gate = gate_with(rt.alloc(), 2, &[], &[100])?;
-    plan_link(&mut gate, rt.alloc(), reads)?;
+    let gate = gate_with(rt.alloc(), 2, links, &[100])?;
     let mut first = FirstWait { gate, wait: None };
     desk.run(rt, &mut first, 1, 0)?;
     let wait = first.wait;
@@ -71,10 +71,10 @@ fn wait_at<R: Wait + RandomSource + AllocGlobal>(
 fn first_wait<R: Wait + RandomSource + AllocGlobal>(
     rt: &R,
     timeout_ms: u32,
-    reads: &[ScriptRead<'_>],
+    links: &[&[ScriptRead<'_>]],
 ) -> Result<Option<u32>, Fail> {
     let mut desk = ScriptDesk::open(rt, rt.alloc(), 4)?;
-    let wait = wait_at(rt, &mut desk, timeout_ms, reads);
+    let wait = wait_at(rt, &mut desk, timeout_ms, links);
     desk.close();
     wait
 }
@@ -85,7 +85,7 @@ fn a_turn_waits_until_the_next_deadline(rt: HostRuntime) -> Result<(), Fail> {
     let late = [ScriptRead::WouldBlock, ScriptRead::Bytes(COUNTED)];
     for (timeout_ms, wait) in [(7, 7), (21, 20), (0, 20)] {
         assert_eq!(rt;
-            first_wait(&rt, timeout_ms, &late)?,
+            first_wait(&rt, timeout_ms, &[&late])?,
             Some(wait),
             "of {timeout_ms}"
         );
@@ -114,6 +114,6 @@ fn a_transfer_that_asks_is_polled_at_once(rt: HostRuntime) -> Result<(), Fail> {
         }
     }
     assert!(rt; 64 < reads.len());
-    assert_eq!(rt; first_wait(&rt, 0, reads.as_slice())?, Some(0));
+    assert_eq!(rt; first_wait(&rt, 0, &[reads.as_slice()])?, Some(0));
     Ok(())
 }

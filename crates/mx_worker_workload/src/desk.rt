@@ -1,7 +1,7 @@
 //! A multi handle with one seat and two workers' seats, and what tests ask of them.
 ghost use Rattle.std.specs.Prelude.{◌≡◌, All, IfOk};
 
-use crate::messages::{Answer, Message};
+use crate::messages::Message;
 use crate::runs::Ran;
 use crate::{messages, runs};
 use mx_gate::Gate;
@@ -9,6 +9,7 @@ use mx_link::{Link, ScriptLink};
 use mx_multi::{Limits, Multi, Progress, Seat, WorkerSeat};
 use mx_multi_workload::calls;
 use mx_multi_workload::entries::text_of;
+use mx_request::Request;
 use mx_transfer::Outcome;
 use mx_types::{Call, Code, Ending, HandleId, OutOfMemory, Reply, Work};
 use mx_worker::Queued;
@@ -108,7 +109,7 @@ impl<L: Link> Desk<L> {
     /// Lets the multi handle and its seats go. Tests call it themselves, so that no test has to be proved to let go all that a desk has.
     pub fn close(self) {}
 
-    /// The multi handle, the seat and the workers' seats.
+    /// The multi handle, the seat and the workers' seats that were not at work.
     pub fn into_parts(self) -> Parts<Queued<L>, Outcome>
         ensures seat { result.seat.of ≡ result.multi }
         ensures workers { All (λ s. s.of ≡ result.multi) result.workers.items }
@@ -125,7 +126,23 @@ impl<L: Link> Desk<L> {
         }
     }
 
-    /// Adds a GET of the URL.
+    /// Adds a request under a handle.
+    pub fn add_request<R: Wait>(
+        &mut self,
+        rt: &R,
+        alloc: Global,
+        handle: u32,
+        request: Request,
+    ) -> Result<(), Fail> {
+        let work = Queued::new(alloc, request);
+        match calls::add(rt, &self.multi, &mut self.seat, HandleId(handle), work) {
+            Some(Reply::Added(_)) => Ok(()),
+            Some(Reply::OutOfMemory) => Err(OutOfMemory.into()),
+            _ => Err("it isn't added".into()),
+        }
+    }
+
+    /// Adds a GET of the URL under a handle. It has so many milliseconds, and no deadline where these are 0.
     pub fn add<R: Wait>(
         &mut self,
         rt: &R,
@@ -135,12 +152,7 @@ impl<L: Link> Desk<L> {
         timeout_ms: u32,
     ) -> Result<(), Fail> {
         let request = runs::request_of(alloc, url, timeout_ms)?;
-        let work = Queued::new(alloc, request);
-        match calls::add(rt, &self.multi, &mut self.seat, HandleId(handle), work) {
-            Some(Reply::Added(_)) => Ok(()),
-            Some(Reply::OutOfMemory) => Err(OutOfMemory.into()),
-            _ => Err("it isn't added".into()),
-        }
+        self.add_request(rt, alloc, handle, request)
     }
 
     /// Adds a GET of each URL, which has five seconds, by the handles from 1 on.
@@ -153,19 +165,16 @@ impl<L: Link> Desk<L> {
         Ok(())
     }
 
-    /// Makes calls, each of which is to have the answer of this text.
-    pub fn make_all<R: Wait>(
+    /// Makes a call, which is to have the answer of this text.
+    pub fn make<R: Wait>(
         &mut self,
         rt: &R,
         alloc: Global,
-        calls: &[(Call, &str)],
+        call: Call,
+        answer: &str,
     ) -> Result<(), Fail> {
-        for step in calls {
-            let (call, answer) = *step;
-            let reply = calls::make(rt, &self.multi, &mut self.seat, call);
-            check(alloc, reply, answer)?;
-        }
-        Ok(())
+        let reply = calls::make(rt, &self.multi, &mut self.seat, call);
+        check(alloc, reply, answer)
     }
 
     // The first message, which there is to be.
@@ -194,10 +203,17 @@ impl<L: Link> Desk<L> {
         Ok(handle)
     }
 
-    /// Reads the first message, which is to be this answer.
-    pub fn expect_answer<R: Wait>(&mut self, rt: &R, answer: &Answer<'_>) -> Result<(), Fail> {
+    /// Reads the first message, which is to be of this ticket, with code 0, this request and this body.
+    pub fn expect_answer<R: Wait>(
+        &mut self,
+        rt: &R,
+        ticket: u32,
+        request: &[u8],
+        body: &[u8],
+    ) -> Result<(), Fail> {
         let message = self.read(rt)?;
-        messages::judge(&message, messages::is_answer(&message, answer))
+        let is_own = messages::is_answer(&message, ticket, request, body);
+        messages::judge(&message, is_own)
     }
 
     /// Looks for a message, which there is not to be.

@@ -51,8 +51,8 @@ pub fn read<L: Link, R: Wait>(
     }
 }
 
-/// Whether an outcome has this code, and this body: in one part, or in none where it is empty.
-pub fn ends_with(outcome: &Outcome, code: Code, body: &[u8]) -> bool {
+// Whether an outcome has this code, and this body: in one part, or in none where it is empty.
+fn ends_with(outcome: &Outcome, code: Code, body: &[u8]) -> bool {
     if outcome.code() != code {
         return false;
     }
@@ -62,8 +62,8 @@ pub fn ends_with(outcome: &Outcome, code: Code, body: &[u8]) -> bool {
     outcome.part_count() == 1 && outcome.part(0) == Some(body)
 }
 
-/// Fails unless it is so: with the want of memory where that is the message's code.
-pub fn judge(message: &Message, is_expected: bool) -> Result<(), Fail> {
+// Fails unless it is so: with the want of memory where that is the message's code.
+pub(crate) fn judge(message: &Message, is_expected: bool) -> Result<(), Fail> {
     if is_expected {
         return Ok(());
     }
@@ -79,18 +79,10 @@ pub fn check(message: &Message, handle: u32, code: Code, body: &[u8]) -> Result<
     judge(message, is_own && ends_with(&message.outcome, code, body))
 }
 
-/// What a message is to be: of this ticket, with code 0, this request and this body.
-#[derive(Drop)]
-pub struct Answer<'a> {
-    pub ticket: u32,
-    pub request: &'a [u8],
-    pub body: &'a [u8],
-}
-
-/// Whether a message is this answer.
-pub fn is_answer(message: &Message, answer: &Answer<'_>) -> bool {
+/// Whether a message is of this ticket, with code 0, this request and this body.
+pub fn is_answer(message: &Message, ticket: u32, request: &[u8], body: &[u8]) -> bool {
     let outcome = &message.outcome;
-    message.ticket == Ticket(answer.ticket)
-        && outcome.request().bytes() == answer.request
-        && ends_with(outcome, Code::Ok, answer.body)
+    message.ticket == Ticket(ticket)
+        && outcome.request().bytes() == request
+        && ends_with(outcome, Code::Ok, body)
 }

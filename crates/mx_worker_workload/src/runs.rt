@@ -12,10 +12,21 @@ use std::alloc::{AllocGlobal, Global};
 use std::random::RandomSource;
 use std::sync::Wait;
 
-/// A GET of the URL.
+/// A GET of the URL, which has so many milliseconds; it has no deadline where these are 0.
 pub fn request_of(alloc: Global, url: &str, timeout_ms: u32) -> Result<Request, RequestError> {
     let mut settings = Settings::new(alloc);
     settings.timeout_ms = timeout_ms;
+    Request::build(alloc, Method::Get, url, settings)
+}
+
+/// A GET of the URL that follows so many redirects at most.
+pub fn request_following(
+    alloc: Global,
+    url: &str,
+    max_redirects: u8,
+) -> Result<Request, RequestError> {
+    let mut settings = Settings::new(alloc);
+    settings.max_redirects = max_redirects;
     Request::build(alloc, Method::Get, url, settings)
 }
 

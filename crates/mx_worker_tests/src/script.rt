@@ -1,0 +1,142 @@
+//! Scripts of what is done at a desk, each step with what is to come of it.
+
+use mx_link::ScriptRead;
+use mx_types::{Call, Code};
+use mx_worker_workload::desk::ScriptDesk;
+use mx_worker_workload::gates::gate_with;
+use mx_worker_workload::runs;
+use std::alloc::AllocGlobal;
+use std::random::RandomSource;
+use std::sync::Wait;
+use std::test::Fail;
+
+/// A worker's run over a gate of its own, on a seat that no worker had before.
+#[derive(Clone, Copy)]
+pub struct Run<'a> {
+    /// How many turns of the gate answer `Continue`.
+    pub turns: u32,
+    /// The links that it has to open, each by the pieces that it gives.
+    pub links: &'a [&'a [ScriptRead<'a>]],
+    /// The moments that it tells, in milliseconds; 0 where there is none.
+    pub moments: &'a [u64],
+    /// How many ends the worker is to record.
+    pub recorded: u32,
+    /// How many transfers it is to give back.
+    pub given_back: u32,
+}
+
+/// A step at a desk.
+#[derive(Clone, Copy)]
+pub enum Step<'a> {
+    /// Adds a GET of the URL under a handle. It has so many milliseconds, and no deadline where these are 0.
+    Add(u32, &'a str, u32),
+    /// Adds a GET of the URL under a handle, which follows so many redirects at most.
+    Follow(u32, &'a str, u8),
+    /// Makes a call, which is to have the answer of this text.
+    Make(Call, &'a str),
+    /// Runs a worker.
+    Run(Run<'a>),
+    /// Reads the first message, which is to be of this handle, with this code and body.
+    Message(u32, Code, &'a [u8]),
+    /// Reads the first message, which is to be of this ticket, with code 0, this request and this body.
+    Answer(u32, &'a [u8], &'a [u8]),
+    /// Looks for a message, which there is not to be.
+    NoMessage,
+}
+
+/// What the gate of the last run was left with; 0 and None where there was no run.
+#[derive(Clone, Copy)]
+pub struct Left {
+    /// How many of the links that it had to open.
+    pub links: usize,
+    /// The wait that its last turn was given, in milliseconds.
+    pub wait: Option<u32>,
+}
+
+// Adds a GET that follows so many redirects at most.
+fn follow<R: Wait + AllocGlobal>(
+    rt: &R,
+    desk: &mut ScriptDesk,
+    handle: u32,
+    url: &str,
+    max_redirects: u8,
+) -> Result<(), Fail> {
+    let request = runs::request_following(rt.alloc(), url, max_redirects)?;
+    desk.add_request(rt, rt.alloc(), handle, request)
+}
+
+// Runs a worker.
+fn run_worker<R: Wait + RandomSource + AllocGlobal>(
+    rt: &R,
+    desk: &mut ScriptDesk,
+    left: &mut Left,
+    planned: Run<'_>,
+) -> Result<(), Fail> {
+    let mut gate = gate_with(rt.alloc(), planned.turns, planned.links, planned.moments)?;
+    let ran = desk.run(rt, &mut gate, planned.recorded, planned.given_back);
+    left.links = gate.openings_left();
+    left.wait = gate.last_wait();
+    ran
+}
+
+// Takes a step.
+fn take_step<R: Wait + RandomSource + AllocGlobal>(
+    rt: &R,
+    desk: &mut ScriptDesk,
+    left: &mut Left,
+    step: Step<'_>,
+) -> Result<(), Fail> {
+    match step {
+        Step::Add(handle, url, timeout_ms) => desk.add(rt, rt.alloc(), handle, url, timeout_ms),
+        Step::Follow(handle, url, max_redirects) => follow(rt, desk, handle, url, max_redirects),
+        Step::Make(call, answer) => desk.make(rt, rt.alloc(), call, answer),
+        Step::Run(planned) => run_worker(rt, desk, left, planned),
+        Step::Message(handle, code, body) => desk.expect(rt, handle, code, body),
+        Step::Answer(ticket, request, body) => desk.expect_answer(rt, ticket, request, body),
+        Step::NoMessage => desk.expect_none(rt),
+    }
+}
+
+// Takes the steps. It answers what the gate of the last run was left with.
+fn take_steps<R: Wait + RandomSource + AllocGlobal>(
+    rt: &R,
+    desk: &mut ScriptDesk,
+    steps: &[Step<'_>],
+) -> Result<Left, Fail> {
+    let mut left = Left {
+        links: 0,
+        wait: None,
+    };
+    for step in steps {
+        take_step(rt, desk, &mut left, *step)?;
+    }
+    Ok(left)
+}
+
+/// A desk whose workers keep so many idle links, at which the steps were taken.
+pub fn desk_after<R: Wait + RandomSource + AllocGlobal>(
+    rt: &R,
+    max_connects: u8,
+    steps: &[Step<'_>],
+) -> Result<ScriptDesk, Fail> {
+    let mut desk = ScriptDesk::open(rt, rt.alloc(), max_connects)?;
+    match take_steps(rt, &mut desk, steps) {
+        Ok(_) => Ok(desk),
+        Err(fail) => {
+            desk.close();
+            Err(fail)
+        }
+    }
+}
+
+/// Takes the steps at a desk of their own, whose workers keep so many idle links. It answers what the gate of the last run was left with.
+pub fn play<R: Wait + RandomSource + AllocGlobal>(
+    rt: &R,
+    max_connects: u8,
+    steps: &[Step<'_>],
+) -> Result<Left, Fail> {
+    let mut desk = ScriptDesk::open(rt, rt.alloc(), max_connects)?;
+    let played = take_steps(rt, &mut desk, steps);
+    desk.close();
+    played
+}
