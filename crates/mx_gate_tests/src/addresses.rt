@@ -111,7 +111,10 @@ fn want_of_memory_has_its_own_code(rt: HostRuntime) {
             ErrorKind::ConnectionRefused,
             (Code::CouldntResolveHost, Code::CouldntConnect),
         ),
-        (ErrorKind::OutOfMemory, (Code::OutOfMemory, Code::OutOfMemory)),
+        (
+            ErrorKind::OutOfMemory,
+            (Code::OutOfMemory, Code::OutOfMemory),
+        ),
     ];
     for (kind, want) in cases {
         assert_eq!(rt; codes_of(kind), want);

@@ -11,8 +11,8 @@ use std::rt::Clock;
 use std::sync::atomic::{AtomicBool, Ordering};
 use std::sync::{Arc, Wait};
 use std::test::Fail;
-use std::thread::{JoinHandle, Threads};
 use std::thread;
+use std::thread::{JoinHandle, Threads};
 use std::time::{Duration, Instant};
 
 // How often a test waits for a link, ten milliseconds each time, before it gives up.
@@ -110,7 +110,14 @@ fn send_and_read<R: Abort, G: Gate>(rt: &R, gate: &mut G, link: &mut G::Link) {
     let came = read(gate, link);
     let (last, _) = read(gate, link);
     assert_eq!(rt;
-        (connected, written, came, last, link.token(), link.failures()),
+        (
+            connected,
+            written,
+            came,
+            last,
+            link.token(),
+            link.failures()
+        ),
         (
             Connect::Done,
             Write::Bytes(4),
