@@ -1,4 +1,5 @@
 pub mod Asked
 pub mod FetchError
+pub mod Opened
 pub mod Places
 pub mod Run

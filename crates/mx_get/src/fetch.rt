@@ -5,6 +5,7 @@ ghost use Rattle.mx_multi.specs.Opening.{are_within as are_limits_within};
 ghost use Rattle.mx_run_io.specs.Options.{are_within};
 ghost use Rattle.mx_get.specs.Asked.{AreEndsOf};
 ghost use Rattle.mx_get.specs.FetchError.{is_of_run};
+ghost use Rattle.mx_get.specs.Opened.{IsOpenedFor};
 ghost use Rattle.mx_get.specs.declared.error.FetchError.TheVariants as fetch_error;
 
 use crate::collect::Desk;
@@ -125,7 +126,7 @@ fn open<L: Link, R: Wait + AllocGlobal>(rt: &R, options: Options) -> Result<Open
     ensures seat { IfOk result (λ o. o.seat.of ≡ o.multi) }
     ensures workers { IfOk result (λ o. All (λ s. s.of ≡ o.multi) o.workers.items) }
     ensures count { IfOk result (λ o. vec_len o.workers ≡ options.workers) }
-    ensures history { IfOk result (λ o. o.multi.engine.opening ≡ record { history = 2048 }) }
+    ensures opened { IfOk result (λ o. IsOpenedFor options o.multi) }
 {
     let (multi, mut seats, workers) = match Multi::open(rt, rt.alloc(), limits(options)) {
         Ok(opened) => opened,
@@ -159,6 +160,7 @@ fn fetch_with<
     urls: &[&str],
     options: Options,
 ) -> Result<Vec<Fetched>, FetchError>
+    requires opened { IsOpenedFor options multi.now }
     requires seat { seats.0.of ≡ multi.now }
     requires workers { All (λ s. s.of ≡ multi.now) seats.1.items }
     requires counts { (vec_len seats.1 ≡ options.workers) × (vec_len gates ≡ options.workers) }
