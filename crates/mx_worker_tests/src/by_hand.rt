@@ -1,0 +1,155 @@
+//! A transfer that a worker's seat claims, and that is polled and ended by hand, with no worker.
+ghost use Rattle.std.specs.Prelude.{◌≡◌, All, None, IfSome, IfNone};
+
+use crate::script::{Step, desk_after};
+use futures::Future;
+use futures::task::{Doorbell, Poll, Solo};
+use mx_journal::FinishReply;
+use mx_link::ScriptLink;
+use mx_multi::{Multi, Seat, WorkerSeat};
+use mx_transfer::{Outcome, Transfer};
+use mx_types::{Call, Code, HandleId, Look};
+use mx_worker::Queued;
+use mx_worker_workload::desk::Parts;
+use mx_worker_workload::messages;
+use std::alloc::AllocGlobal;
+use std::random::RandomSource;
+use std::sync::Wait;
+use std::test::Fail;
+
+// Polls a transfer once, at this moment, without a link: its outcome, if it ends.
+fn poll_at(
+    solo: &Solo,
+    transfer: &mut Transfer<ScriptLink>,
+    moment: u64,
+    is_paused: bool,
+) -> Option<Outcome>
+    requires running { transfer.old.chain.code ≡ None }
+    ensures request { IfSome result (λ outcome. outcome.request ≡ transfer.old.chain.request) }
+    ensures again { IfNone result (transfer.new.chain.code ≡ None) }
+    ensures kept { IfNone result (transfer.new.chain.request ≡ transfer.old.chain.request) }
+{
+    transfer.prepare(moment, is_paused);
+    let mut cx = solo.begin();
+    let polled = transfer.poll(&mut cx);
+    let _again: Poll<()> = cx.yield_now();
+    cx.park();
+    match polled {
+        Poll::Ready(outcome) => Some(outcome),
+        Poll::Pending => None,
+    }
+}
+
+// Polls a transfer at the moments 0 and 1: the outcome, if it ends at the second.
+fn poll_twice(solo: &Solo, transfer: &mut Transfer<ScriptLink>, is_paused: bool) -> Option<Outcome>
+    requires running { transfer.old.chain.code ≡ None }
+    ensures request { IfSome result (λ outcome. outcome.request ≡ transfer.old.chain.request) }
+{
+    if poll_at(solo, transfer, 0, is_paused).is_some() {
+        return None;
+    }
+    poll_at(solo, transfer, 1, is_paused)
+}
+
+// The same, of a transfer that was claimed.
+fn outcome_of(solo: &Solo, queued: Queued<ScriptLink>, is_paused: bool) -> Option<Outcome>
+    ensures request { IfSome result (λ outcome. outcome.request ≡ queued.chain.request) }
+{
+    let mut transfer = queued.into_transfer();
+    match poll_twice(solo, &mut transfer, is_paused) {
+        Some(outcome) => Some(outcome),
+        None => None,
+    }
+}
+
+// Claims a transfer, polls it at the moments 0 and 1 as the look at it says, and records its end. It says whether it was paused; None where
+// any of this went otherwise.
+fn end_claimed<R: Wait>(
+    rt: &R,
+    multi: &Multi<Queued<ScriptLink>, Outcome>,
+    worker: &mut WorkerSeat<Queued<ScriptLink>, Outcome>,
+    solo: &Solo,
+) -> Option<bool>
+    requires own { worker.old.of ≡ multi.now }
+{
+    let Some((claim, queued)) = multi.claim(rt, worker) else {
+        return None;
+    };
+    let look = multi.look(worker, claim.ticket());
+    let is_paused = matches!(look, Some(Look::Paused));
+    let Some(outcome) = outcome_of(solo, queued, is_paused) else {
+        return None;
+    };
+    match multi.finish(rt, worker, claim, outcome) {
+        Ok(FinishReply::Recorded) => Some(is_paused),
+        _ => None,
+    }
+}
+
+// The same, by the last of these seats.
+fn end_by_hand<R: Wait + RandomSource + AllocGlobal>(
+    rt: &R,
+    multi: &Multi<Queued<ScriptLink>, Outcome>,
+    workers: Vec<WorkerSeat<Queued<ScriptLink>, Outcome>>,
+) -> Result<bool, Fail>
+    requires own { All (λ s. s.of ≡ multi.now) workers.items }
+{
+    let solo = Solo::new(rt, Doorbell::spinning())?;
+    let mut workers = workers;
+    let ended = match workers.pop() {
+        Some(mut worker) => end_claimed(rt, multi, &mut worker, &solo),
+        None => None,
+    };
+    Ok(ended.ok_or("it isn't ended by hand")?)
+}
+
+// Reads the first message, which is to be that of handle 1, ended at its deadline.
+fn expect_end<R: Wait>(
+    rt: &R,
+    multi: &Multi<Queued<ScriptLink>, Outcome>,
+    seat: &mut Seat<Queued<ScriptLink>, Outcome>,
+) -> Result<(), Fail>
+    requires own { seat.old.of ≡ multi.now }
+{
+    let read = messages::read(rt, multi, seat)?;
+    let message = read.ok_or("no message")?;
+    messages::check(&message, 1, Code::OperationTimedout, b"")
+}
+
+// Ends the one transfer of a desk by hand, and reads its message. It says whether the transfer was paused.
+fn end_one<R: Wait + RandomSource + AllocGlobal>(
+    rt: &R,
+    parts: Parts<Queued<ScriptLink>, Outcome>,
+) -> Result<bool, Fail>
+    requires seat { parts.seat.of ≡ parts.multi }
+    requires workers { All (λ s. s.of ≡ parts.multi) parts.workers.items }
+{
+    let Parts {
+        multi,
+        mut seat,
+        workers,
+    } = parts;
+    let was_paused = end_by_hand(rt, &multi, workers)?;
+    expect_end(rt, &multi, &mut seat)?;
+    Ok(was_paused)
+}
+
+// Ends a transfer of one millisecond by hand, after these steps.
+fn run<R: Wait + RandomSource + AllocGlobal>(rt: &R, steps: &[Step<'_>]) -> Result<bool, Fail> {
+    let desk = desk_after(rt, 4, steps)?;
+    end_one(rt, desk.into_parts())
+}
+
+const ADDITION: Step<'static> = Step::Add(1, "http://a.example/", 1);
+
+const PAUSE: Step<'static> = Step::Make(Call::Pause(HandleId(1)), "changed");
+
+const RESUME: Step<'static> = Step::Make(Call::Unpause(HandleId(1)), "changed");
+
+/// A seat that claims, looks, polls and finishes by itself ends a transfer at its deadline, whether it is paused or not.
+#[test]
+fn a_transfer_is_ended_by_hand(rt: HostRuntime) -> Result<(), Fail> {
+    assert_eq!(rt; run(&rt, &[ADDITION, PAUSE])?, true);
+    assert_eq!(rt; run(&rt, &[ADDITION, PAUSE, RESUME])?, false);
+    Ok(())
+}
