@@ -1,3 +1,4 @@
+pub mod Called
 pub mod Core
 pub mod Replies
 pub use Rattle.mx_history.specs.Answers
