@@ -1,5 +1,5 @@
 -- The numbers of the codes: those of libcurl-errors(3), and from 100 on this engine's own.
-use Rattle.std.specs.Prelude.{ℕ}
+use Rattle.std.specs.Prelude.{ℕ, Bool, true, false}
 use Rattle.mx_types.specs.declared.code.Code.{Code}
 use Rattle.mx_types.specs.declared.code.Code.TheVariants as codes
 
@@ -21,3 +21,10 @@ code_number codes.RecvError = 56
 code_number codes.BadContentEncoding = 61
 code_number codes.FilesizeExceeded = 63
 code_number codes.TooLarge = 100
+
+-- the codes of a link that can't be had: the host wasn't found, or not reached, or memory wasn't found
+abbrev pub is_link_code : Code → Bool
+is_link_code codes.CouldntResolveHost = true
+is_link_code codes.CouldntConnect = true
+is_link_code codes.OutOfMemory = true
+is_link_code _ = false

@@ -1,4 +1,5 @@
 pub mod Code
+pub mod Limits
 pub mod Method
 pub mod MultiCode
 pub mod Origin

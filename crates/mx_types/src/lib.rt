@@ -1,10 +1,11 @@
-//! The names that every layer speaks of: methods, codes, events, calls and replies, and the want of memory.
+//! The names that every layer speaks of: methods, codes, events, calls and replies, limits, and the want of memory.
 #![tactic(auto)]
 
 mod call;
 mod code;
 mod event;
 mod history;
+mod limits;
 mod memory;
 mod method;
 mod multi_code;
@@ -18,6 +19,7 @@ pub use crate::call::{Call, Receipt};
 pub use crate::code::Code;
 pub use crate::event::{Event, What, Who};
 pub use crate::history::History;
+pub use crate::limits::{LEAST_EVENTS, MOST_EVENTS, MOST_HANDLES, MOST_SEATS, MOST_TRANSFERS};
 pub use crate::memory::OutOfMemory;
 pub use crate::method::{Method, ParseMethodError};
 pub use crate::multi_code::MCode;

@@ -13,7 +13,7 @@ pub enum MCode {
     AddedAlready,
     /// 9: there is no room for a wakeup.
     WakeupFailure,
-    /// 100, this engine's own: 256 handles are added.
+    /// 100, this engine's own: as many handles are added as can be.
     TableFull,
     /// 101, this engine's own: the history has no room.
     HistoryFull,

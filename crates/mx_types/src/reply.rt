@@ -3,6 +3,7 @@ ghost use Rattle.std.specs.Prelude.{◌≡◌};
 ghost use Rattle.mx_types.specs.MultiCode.{reply_code};
 
 use crate::code::Code;
+use crate::limits::MOST_HANDLES;
 use crate::multi_code::MCode;
 use crate::names::{HandleId, Ticket};
 use arrayvec::ArrayVec;
@@ -31,11 +32,11 @@ pub enum Look {
     Gone,
 }
 
-/// The handles that are added, at most 256, in the order of their addition (curl_multi_get_handles(3)).
+/// The handles that are added, at most [`MOST_HANDLES`], in the order of their addition (curl_multi_get_handles(3)).
 /// Contracts see it as their list.
 #[derive(Drop)]
 pub struct AddedHandles {
-    list: ArrayVec<HandleId, 256>,
+    list: ArrayVec<HandleId, MOST_HANDLES>,
 }
 
 impl Model for AddedHandles {
@@ -48,7 +49,7 @@ impl Model for AddedHandles {
 }
 
 impl AddedHandles {
-    pub fn new(list: ArrayVec<HandleId, 256>) -> AddedHandles
+    pub fn new(list: ArrayVec<HandleId, MOST_HANDLES>) -> AddedHandles
         ensures { result ≡ list.items }
     {
         AddedHandles { list }

@@ -1,0 +1,29 @@
+-- The limits of a multi handle, in one place. libcurl has none of them; they are the engine's own.
+use Rattle.std.specs.Prelude.{ℕ, ◌≤◌, nat_le, Bool, ◌&&◌}
+
+-- the handles that are added at one time, and so the slots
+abbrev pub most_handles : ℕ
+most_handles = 256
+
+-- the events that a history has room for: one addition needs four
+abbrev pub least_events : ℕ
+least_events = 4
+
+abbrev pub most_events : ℕ
+most_events = 1048576
+
+-- the seats of a kind: of application threads, and of workers
+abbrev pub most_seats : ℕ
+most_seats = 16
+
+-- the transfers that a worker holds at one time
+abbrev pub most_transfers : ℕ
+most_transfers = 64
+
+-- a history may have room for so many events
+abbrev pub IsHistory : ℕ → Type 0
+IsHistory events = (least_events ≤ events) × (events ≤ most_events)
+
+-- the same, as a test
+abbrev pub is_history : ℕ → Bool
+is_history events = nat_le least_events events && nat_le events most_events
