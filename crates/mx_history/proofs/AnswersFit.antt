@@ -4,6 +4,7 @@ use Rattle.std.specs.Prelude.{take, slice_get, nat_le, not, ◌||◌, Option, So
 use Rattle.std.specs.Option.{is_some, IsSome, option_to_list}
 use Rattle.std.proofs.lemmas.Bool.{false≢true, true≢false}
 use Rattle.std.proofs.Math.Seq.{take-append_seam}
+use Rattle.mx_types.specs.Limits.{most_handles}
 use Rattle.mx_types.specs.declared.names.HandleId.{HandleId}
 use Rattle.mx_types.specs.declared.names.Ticket.{Ticket}
 use Rattle.mx_types.specs.declared.event.Who.{Who}
@@ -60,7 +61,7 @@ either_tells true r s e x y = x
 either_tells false r s e x y = y
 
 pub tells : (opening : Opening) (j : List Event) (c : Call) → Tells (answer opening j c)
-tells opening j (call.Add h) = add_tells (ticket_of h j) (nat_le 256 (length (added j))) (has_room opening.history j 4) h (next_ticket j)
+tells opening j (call.Add h) = add_tells (ticket_of h j) (nat_le most_handles (length (added j))) (has_room opening.history j 4) h (next_ticket j)
 tells opening j (call.Remove h) = remove_tells (ticket_of h j) h
 tells opening j (call.Pause h) = pause_tells opening j (ticket_of h j)
 tells opening j (call.Unpause h) = unpause_tells opening j (ticket_of h j)

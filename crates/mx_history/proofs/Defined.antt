@@ -6,6 +6,7 @@ use Rattle.std.specs.Option.{option_map, option_to_list}
 use Rattle.std.proofs.lemmas.Bool.{and_parts, and_from, false_from_ne_true, false≢true}
 use Rattle.std.proofs.lemmas.List.{length-map, take-append-drop, take_more}
 use Rattle.std.proofs.lemmas.List.Sums.{sum_by_push}
+use Rattle.mx_types.specs.Limits.{most_handles}
 use Rattle.mx_types.specs.declared.names.HandleId.{HandleId}
 use Rattle.mx_types.specs.declared.names.Ticket.{Ticket}
 use Rattle.mx_types.specs.declared.event.What.TheVariants as what
@@ -44,7 +45,7 @@ tickets_paired [] = refl
 tickets_paired (x ∷ xs) = ap (λ z. x.ticket ∷ z) (tickets_paired xs)
 
 pub may_add_by : (j : List Event) (h : HandleId) (t : Ticket) (list : List (HandleId × Ticket)) (made : ℕ) → list ≡ map addition_pair (added j) → made ≡ additions j
-    → (not (list_any (λ (a : HandleId × Ticket). same_handle h a.0) list) && nat_lt (length list) 256 && (t.0 == made)) ≡ may_follow j (what.Added h t)
+    → (not (list_any (λ (a : HandleId × Ticket). same_handle h a.0) list) && nat_lt (length list) most_handles && (t.0 == made)) ≡ may_follow j (what.Added h t)
 may_add_by j h t list made e n =
     rw (e, n, any_mapped (λ (a : HandleId × Ticket). same_handle h a.0) (added j), length-map (added j) addition_pair) refl
 

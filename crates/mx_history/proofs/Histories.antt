@@ -6,6 +6,7 @@ use Rattle.std.specs.Option.{is_some, option_or, option_to_list}
 use Rattle.std.proofs.lemmas.Bool.{eqb-true, ne_eqb, false≢true, or_left, or_right, and_parts, not-true, not-false, or_cases, not_from_false}
 use Rattle.std.proofs.lemmas.List.{map-append}
 use Rattle.std.proofs.lemmas.List.Sums.{sum_by-append}
+use Rattle.mx_types.specs.Limits.{most_handles}
 use Rattle.mx_types.specs.declared.code.Code.{Code}
 use Rattle.mx_types.specs.declared.names.HandleId.{HandleId}
 use Rattle.mx_types.specs.declared.names.Ticket.{Ticket}
@@ -232,7 +233,7 @@ has_addition t h (a ∷ xs) k =
 pub laws-then : (j : List Event) (w : Who) (e : What) → Laws j → may_follow j e ≡ true → Laws (then j w e)
 laws-then j w (what.Added h t) l m =
     let e = what.Added h t in
-    let k = and_parts (not (has_handle h (added j)) && nat_lt (length (added j)) 256) (t.0 == additions j) m in
+    let k = and_parts (not (has_handle h (added j)) && nat_lt (length (added j)) most_handles) (t.0 == additions j) m in
     let n : t.0 ≡ additions j = eqb-true t.0 (additions j) k.1 in
     let count : additions (then j w e) ≡ additions j + 1 = additions-then j w e in
     let us : tickets (then j w e) ≡ tickets j ++ t ∷ [] =

@@ -7,6 +7,7 @@ use Rattle.std.proofs.lemmas.Bool.{eqb-true, eqb-false, ne_eqb, and_parts, and_f
 use Rattle.std.proofs.lemmas.List.{map-append}
 use Rattle.std.proofs.lemmas.List.Folds.{list_any-append}
 use Rattle.std.proofs.lemmas.List.Sums.{sum_by_push, sum_by-cons}
+use Rattle.mx_types.specs.Limits.{most_handles}
 use Rattle.mx_types.specs.declared.code.Code.{Code}
 use Rattle.mx_types.specs.declared.names.HandleId.{HandleId}
 use Rattle.mx_types.specs.declared.names.Ticket.{Ticket}
@@ -100,7 +101,7 @@ once_push (x ∷ xs) h o off = (last_off o.0 (handle_flip h x (split off).0), on
 
 handles-then : (j : List Event) (w : Who) (e : What) → may_follow j e ≡ true → IsOnceEach (map (λ a. a.handle) (added j)) → IsOnceEach (map (λ a. a.handle) (added (then j w e)))
 handles-then j w (what.Added h t) m o =
-    let k = and_parts (not (has_handle h (added j))) (nat_lt (length (added j)) 256) (and_parts (not (has_handle h (added j)) && nat_lt (length (added j)) 256) (t.0 == additions j) m).0 in
+    let k = and_parts (not (has_handle h (added j))) (nat_lt (length (added j)) most_handles) (and_parts (not (has_handle h (added j)) && nat_lt (length (added j)) most_handles) (t.0 == additions j) m).0 in
     rw (added-then j w (what.Added h t), map-append (λ (a : Addition). a.handle) (filter (λ a. true) (added j)) (record { handle = h; ticket = t } ∷ []))
     (once_push (map (λ a. a.handle) (filter (λ a. true) (added j))) h (once_filter (λ a. true) (added j) o)
     (has_handles h (filter (λ a. true) (added j)) ∙ ap (has_handle h) (filter_all (added j)) ∙ not-true _ k.0))
@@ -225,7 +226,7 @@ adds_idle t f w e off none a =
 adds-then : (t : Ticket) (f : List Event) (w : Who) (e : What) → may_follow f e ≡ true → AddsBelow t f → AddsBelow t (then f w e)
 adds-then t f w (what.Added h u) m a =
     let e = what.Added h u in
-    let n : u.0 ≡ additions f = eqb-true u.0 (additions f) (and_parts (not (has_handle h (added f)) && nat_lt (length (added f)) 256) (u.0 == additions f) m).1 in
+    let n : u.0 ≡ additions f = eqb-true u.0 (additions f) (and_parts (not (has_handle h (added f)) && nat_lt (length (added f)) most_handles) (u.0 == additions f) m).1 in
     let more = additions-then f w e in
     let off : additions (then f w e) ≤ t.0 → occurs (adds t) (then f w e) ≡ false =
     λ le. occurs-snoc (adds t) f (record { who = w; what = e }) ∙ ap (λ b. b || same_ticket t u) (a.0 (omega (arith, more, le))) ∙ ne_eqb t.0 u.0 (λ q. omega (arith, more, le, n, q)) in (
@@ -271,7 +272,7 @@ other t u f g h = false_from_ne_true _ (λ s. false≢true (sym g.0 ∙ ap (λ v
 
 gone_off : (t : Ticket) (f : List Event) → Laws f → IsGone t f → (e : What) → may_follow f e ≡ true → is_of t e ≡ false
 gone_off t f l g (what.Added h u) m =
-    let n : u.0 ≡ additions f = eqb-true u.0 (additions f) (and_parts (not (has_handle h (added f)) && nat_lt (length (added f)) 256) (u.0 == additions f) m).1 in
+    let n : u.0 ≡ additions f = eqb-true u.0 (additions f) (and_parts (not (has_handle h (added f)) && nat_lt (length (added f)) most_handles) (u.0 == additions f) m).1 in
     let s : same_ticket t u ≡ false = ne_eqb t.0 u.0 (λ q. omega (arith, g.1, n, q)) in
     ap (λ b. b || false) s
 gone_off t f l g (what.Removed h u) m = ap (λ b. b || false) (other t u f g (has_addition u h (added f) m))
@@ -397,7 +398,7 @@ finishing opening j t c n e k true is x =
 
 pub answer_is_legal : AnswerIsLegal
 answer_is_legal opening j (call.Add h) e k x =
-    let p = add_parts (ticket_of h j) (nat_le 256 (length (added j))) (has_room opening.history j 4) h (next_ticket j) e x in
+    let p = add_parts (ticket_of h j) (nat_le most_handles (length (added j))) (has_room opening.history j 4) h (next_ticket j) e x in
     subst (Grants opening j) p.3 (grant opening j (what.Added h (next_ticket j)) k (may_add j h (next_ticket j) None refl p.0 p.1 refl) p.2)
 answer_is_legal opening j (call.Remove h) e k x = removal opening j h e k (ticket_of h j) refl (remove_parts (ticket_of h j) h e x)
 answer_is_legal opening j (call.Pause h) e k x = pausing opening j h e k (ticket_of h j) x

@@ -7,6 +7,7 @@ use Rattle.std.proofs.lemmas.Bool.{cases_eq, cases_Bool, eqb-true, eqb-false, ne
 use Rattle.std.proofs.lemmas.List.{map-append, length-map}
 use Rattle.std.proofs.lemmas.List.Folds.{list_any-append}
 use Rattle.std.proofs.lemmas.List.Sums.{length-filter, count_by-le-length}
+use Rattle.mx_types.specs.Limits.{most_handles}
 use Rattle.mx_types.specs.declared.names.HandleId.{HandleId}
 use Rattle.mx_types.specs.declared.names.Ticket.{Ticket}
 use Rattle.mx_types.specs.declared.event.Who.{Who}
@@ -82,10 +83,10 @@ all_taken (suc n) s h =
     let l = fewer_left (λ x. x.1 == n) s (h n (omega arith)) in
     omega (arith, k, l)
 
-pub lowest_is_least : (s : List (Ticket × ℕ)) → length s < 256 → IsLeastFree s (lowest_free s)
-lowest_is_least s few = subst (IsLeastFree s) (lowest_free-is s) (go (free_from 0 256 s) (searched 0 256 s)) where
-  go : (o : Option ℕ) → Searched 0 256 s o → IsLeastFree s (unwrap_or o 255)
-  go None a = absurd (let k = all_taken 256 s (λ k lt. a k (omega arith) (omega arith)) in omega (arith, k, few))
+pub lowest_is_least : (s : List (Ticket × ℕ)) → length s < most_handles → IsLeastFree s (lowest_free s)
+lowest_is_least s few = subst (IsLeastFree s) (lowest_free-is s) (go (free_from 0 most_handles s) (searched 0 most_handles s)) where
+  go : (o : Option ℕ) → Searched 0 most_handles s o → IsLeastFree s (unwrap_or o 255)
+  go None a = absurd (let k = all_taken most_handles s (λ k lt. a k (omega arith) (omega arith)) in omega (arith, k, few))
   go (Some m) a = let b = a.0 in record { below = omega arith; free = a.1; least = λ k lt. a.2 k (omega arith) lt }
 
 -- 2. The slots after an event.
@@ -132,10 +133,10 @@ slots_few : (j : List Event) → HasOwnSlots j → length (slots j) ≡ length (
 slots_few j o =
     sym (length-map (slots j) (λ (x : Ticket × ℕ). x.0)) ∙ ap length o.tickets ∙ length-map (added j) (λ (a : Addition). a.ticket)
 
-pub may_add_few : (j : List Event) (h : HandleId) (t : Ticket) → may_follow j (what.Added h t) ≡ true → (length (added j) < 256) × (t.0 ≡ additions j)
+pub may_add_few : (j : List Event) (h : HandleId) (t : Ticket) → may_follow j (what.Added h t) ≡ true → (length (added j) < most_handles) × (t.0 ≡ additions j)
 may_add_few j h t m =
-    let k = and_parts (not (has_handle h (added j)) && nat_lt (length (added j)) 256) (t.0 == additions j) m in
-    (ltb-true (length (added j)) 256 (and_parts (not (has_handle h (added j))) (nat_lt (length (added j)) 256) k.0).1, eqb-true t.0 (additions j) k.1)
+    let k = and_parts (not (has_handle h (added j)) && nat_lt (length (added j)) most_handles) (t.0 == additions j) m in
+    (ltb-true (length (added j)) most_handles (and_parts (not (has_handle h (added j))) (nat_lt (length (added j)) most_handles) k.0).1, eqb-true t.0 (additions j) k.1)
 
 -- an event that adds and removes nothing
 own_same : (j : List Event) (w : Who) (e : What) → slots_after (slots j) e ≡ slots j → tickets (then j w e) ≡ tickets j → HasOwnSlots j → HasOwnSlots (then j w e)
@@ -155,7 +156,7 @@ own-then j w (what.Added h t) m o =
     record {
       tickets = ap (map (λ (x : Ticket × ℕ). x.0)) (slots-then j w e) ∙ map-append (λ (x : Ticket × ℕ). x.0) (slots j) ((t, lowest_free (slots j)) ∷ [])
           ∙ ap (λ z. z ++ t ∷ []) o.tickets ∙ sym (tickets-then j w e ∙ ap (λ z. z ++ t ∷ []) (filter_true (tickets j)));
-      below = rw (slots-then j w e) (Each-append (λ (x : Ticket × ℕ). x.1 < 256) (slots j) ((t, lowest_free (slots j)) ∷ []) o.below (l.below, tt));
+      below = rw (slots-then j w e) (Each-append (λ (x : Ticket × ℕ). x.1 < most_handles) (slots j) ((t, lowest_free (slots j)) ∷ []) o.below (l.below, tt));
       differ = rw (slots-then j w e) (once_push (slots j) t (lowest_free (slots j)) o.differ l.free);
     }
 own-then j w (what.Removed h t) m o =
@@ -163,7 +164,7 @@ own-then j w (what.Removed h t) m o =
     record {
       tickets = ap (map (λ (x : Ticket × ℕ). x.0)) (slots-then j w e) ∙ queued-filter (λ u. not (same_ticket u t)) (slots j)
           ∙ ap (filter (λ u. not (same_ticket u t))) o.tickets ∙ sym (tickets-then j w e ∙ append-nil _);
-      below = rw (slots-then j w e) (Each-filter (λ (x : Ticket × ℕ). not (same_ticket x.0 t)) (λ x. x.1 < 256) (λ x. x.1 < 256) (λ _ _ lt. lt) (slots j) o.below);
+      below = rw (slots-then j w e) (Each-filter (λ (x : Ticket × ℕ). not (same_ticket x.0 t)) (λ x. x.1 < most_handles) (λ x. x.1 < most_handles) (λ _ _ lt. lt) (slots j) o.below);
       differ = rw (slots-then j w e) (once_filter (λ x. not (same_ticket x.0 t)) (slots j) o.differ);
     }
 own-then j w (what.Done t c n) m o = own_same j w (what.Done t c n) refl (tickets-then j w (what.Done t c n) ∙ filter_idle (tickets j)) o

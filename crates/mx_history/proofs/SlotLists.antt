@@ -6,6 +6,7 @@ use Rattle.std.specs.Option.{option_map, unwrap_or}
 use Rattle.std.proofs.lemmas.Bool.{eqb-true, eq-eqb, false≢true}
 use Rattle.std.proofs.lemmas.List.{map-append, take_more, get_or-set_same, get_or-set_other}
 use Rattle.std.proofs.lemmas.List.Folds.{list_any-append}
+use Rattle.mx_types.specs.Limits.{most_handles}
 use Rattle.mx_types.specs.declared.names.Ticket.{Ticket}
 use Rattle.mx_types.specs.declared.event.What.{What}
 use Rattle.mx_types.specs.declared.event.What.TheVariants as what
@@ -77,7 +78,7 @@ pub free_from-last : (s : List (Ticket × ℕ)) → unwrap_or (free_from 255 1 s
 unfolding free_from
 free_from-last s = last_by (has_slot 255 s)
 
-pub lowest_free-is : (s : List (Ticket × ℕ)) → unwrap_or (free_from 0 256 s) 255 ≡ lowest_free s
+pub lowest_free-is : (s : List (Ticket × ℕ)) → unwrap_or (free_from 0 most_handles s) 255 ≡ lowest_free s
 unfolding lowest_free
 lowest_free-is s = refl
 
@@ -90,7 +91,7 @@ unmarked true = refl
 unmarked false = refl
 
 -- the marks of some rows with one row more
-pub marks_next : (rows : List Row) (i : ℕ) (d : Row) (marks : List Bool) → i < length rows → length marks ≡ 256 → (get_or rows i d).slot < 256 → Marks marks (take i rows)
+pub marks_next : (rows : List Row) (i : ℕ) (d : Row) (marks : List Bool) → i < length rows → length marks ≡ most_handles → (get_or rows i d).slot < most_handles → Marks marks (take i rows)
     → Marks (slice_set marks (get_or rows i d).slot true) (take (i + 1) rows)
 marks_next rows i d marks lt len few m n small =
     let r : Row = get_or rows i d in
@@ -98,7 +99,7 @@ marks_next rows i d marks lt len few m n small =
     ap (λ x. has_slot n (slots_in x)) (take_more rows i d lt) ∙ ap (has_slot n) (map-append slot_in (take i rows) (r ∷ [])) ∙ list_any-append (λ (s : Ticket × ℕ). s.1 == n) (slots_in (take i rows)) (slot_in r ∷ []) in
     go r.slot (r.slot == n) refl few ∙ sym more
   where
-    go : (k : ℕ) (b : Bool) → (k == n) ≡ b → k < 256 → get_or (slice_set marks k true) n false ≡ (has_slot n (slots_in (take i rows)) || ((k == n) || false))
+    go : (k : ℕ) (b : Bool) → (k == n) ≡ b → k < most_handles → get_or (slice_set marks k true) n false ≡ (has_slot n (slots_in (take i rows)) || ((k == n) || false))
     go k true is below =
         let same : k ≡ n = eqb-true k n is in
         ap (λ x. get_or (slice_set marks k true) x false) (sym same) ∙ get_or-set_same marks k true false (omega (arith, len, below))

@@ -6,6 +6,7 @@ use Rattle.std.specs.Option.{is_some, is_none, option_map, option_to_list}
 use Rattle.std.proofs.lemmas.Bool.{ltb-true, ltb-false, and_parts, and_from, false_from_ne_true, false≢true, leb-true, or_right, or_cases, or_left}
 use Rattle.std.proofs.lemmas.List.{map-append}
 use Rattle.std.proofs.lemmas.List.Sums.{sum_by-cons, sum_by_push, length-filter, count_by-le-length}
+use Rattle.mx_types.specs.Limits.{most_handles}
 use Rattle.mx_types.specs.declared.code.Code.{Code}
 use Rattle.mx_types.specs.declared.names.HandleId.{HandleId}
 use Rattle.mx_types.specs.declared.names.Ticket.{Ticket}
@@ -40,10 +41,10 @@ pub tabled : (j : List Event) → is_legal j ≡ true → Tabled j (table_of j)
 tabled j h = tabled_from [] j [] laws_none (record { adds = refl; phases = tt }) h
 
 -- at most 256 are added
-few_then : (f : List Event) (w : Who) (e : What) → length (added f) ≤ 256 → may_follow f e ≡ true → length (added (then f w e)) ≤ 256
+few_then : (f : List Event) (w : Who) (e : What) → length (added f) ≤ most_handles → may_follow f e ≡ true → length (added (then f w e)) ≤ most_handles
 few_then f w (what.Added h t) few m =
-    let k = and_parts (not (has_handle h (added f))) (nat_lt (length (added f)) 256) (and_parts (not (has_handle h (added f)) && nat_lt (length (added f)) 256) (t.0 == additions f) m).0 in
-    let lt = ltb-true (length (added f)) 256 k.1 in
+    let k = and_parts (not (has_handle h (added f))) (nat_lt (length (added f)) most_handles) (and_parts (not (has_handle h (added f)) && nat_lt (length (added f)) most_handles) (t.0 == additions f) m).0 in
+    let lt = ltb-true (length (added f)) most_handles k.1 in
     rw (added-then f w (what.Added h t), filter_true (added f)) (omega (arith, length-append (added f) (record { handle = h; ticket = t } ∷ [])))
 few_then f w (what.Removed h t) few m =
     rw (added-then f w (what.Removed h t), append-nil (filter (λ a. not (same_ticket a.ticket t)) (added f)))
@@ -54,16 +55,16 @@ few_then f w (what.Paused t) few m = rw (added-then f w (what.Paused t), filter_
 few_then f w (what.Resumed t) few m = rw (added-then f w (what.Resumed t), filter_idle (added f)) few
 few_then f w what.Wake few m = rw (added-then f w what.Wake, filter_idle (added f)) few
 
-few_from : (f j : List Event) → length (added f) ≤ 256 → is_legal_after f j ≡ true → length (added (f ++ j)) ≤ 256
+few_from : (f j : List Event) → length (added f) ≤ most_handles → is_legal_after f j ≡ true → length (added (f ++ j)) ≤ most_handles
 few_from f [] few h = rw (append-nil f) few
 few_from f (e ∷ j) few h =
     let k = and_parts (may_follow f e.what) (is_legal_after (f ++ e ∷ []) j) h in
     rw (← append_assoc f (e ∷ []) j) (few_from (f ++ e ∷ []) j (few_then f e.who e.what few k.0) k.1)
 
-pub few : (j : List Event) → is_legal j ≡ true → length (added j) ≤ 256
+pub few : (j : List Event) → is_legal j ≡ true → length (added j) ≤ most_handles
 few j h = few_from [] j (omega arith) h
 
-pub few_rows : (j : List Event) → is_legal j ≡ true → length (table_of j) ≤ 256
+pub few_rows : (j : List Event) → is_legal j ≡ true → length (table_of j) ≤ most_handles
 few_rows j h = rw (← length-rows j (table_of j) (tabled j h)) (few j h)
 
 -- 2. A row.
@@ -381,10 +382,10 @@ table-of-then j w e t u x m rows waits adds events woken made = record {
 }
 
 -- an addition finds room in the table, and an event in the journal
-pub row_fits : (j : List Event) (h : HandleId) (t : Ticket) → is_legal j ≡ true → may_follow j (what.Added h t) ≡ true → length (table_of j) < 256
+pub row_fits : (j : List Event) (h : HandleId) (t : Ticket) → is_legal j ≡ true → may_follow j (what.Added h t) ≡ true → length (table_of j) < most_handles
 row_fits j h t l m =
-    let k = and_parts (not (has_handle h (added j))) (nat_lt (length (added j)) 256) (and_parts (not (has_handle h (added j)) && nat_lt (length (added j)) 256) (t.0 == additions j) m).0 in
-    let lt = ltb-true (length (added j)) 256 k.1 in
+    let k = and_parts (not (has_handle h (added j))) (nat_lt (length (added j)) most_handles) (and_parts (not (has_handle h (added j)) && nat_lt (length (added j)) most_handles) (t.0 == additions j) m).0 in
+    let lt = ltb-true (length (added j)) most_handles k.1 in
     omega (arith, length-rows j (table_of j) (tabled j l))
 
 pub event_fits : (history : ℕ) (j : List Event) (w : Who) (e : What) → HasRoomForDue history j → may_follow j e ≡ true → has_room history j (needs e) ≡ true → length j < history

@@ -6,6 +6,7 @@ use Rattle.std.specs.Option.{is_some, is_none, option_map, option_to_list}
 use Rattle.std.proofs.lemmas.Bool.{eqb-false, le-leb, false_from_ne_true, ne_eqb, cases_Bool, true≢false, and_from, eq-eqb, or_left, false≢true, not_from_false, eqb-true, and_parts}
 use Rattle.std.proofs.lemmas.List.{map-append, length-map}
 use Rattle.std.proofs.lemmas.List.Sums.{length-filter, count_by-le-length}
+use Rattle.mx_types.specs.Limits.{most_handles}
 use Rattle.mx_types.specs.declared.names.HandleId.{HandleId}
 use Rattle.mx_types.specs.declared.names.Ticket.{Ticket}
 use Rattle.mx_types.specs.declared.event.Who.{Who}
@@ -123,7 +124,7 @@ none_is p None xs h e = go (find p xs) refl e where
   go (Some a) is k = cc
 
 pub may_add : (j : List Event) (h : HandleId) (t : Ticket) (o : Option Row) → is_some o ≡ false → option_map (λ r. r.ticket) o ≡ ticket_of h j
-    → nat_le 256 (length (added j)) ≡ false → t ≡ next_ticket j → may_follow j (what.Added h t) ≡ true
+    → nat_le most_handles (length (added j)) ≡ false → t ≡ next_ticket j → may_follow j (what.Added h t) ≡ true
 may_add j h t o none is full new =
     and_from _ _ (and_from _ _ (not_from_false _ (none_is (λ a. same_handle h a.handle) o (added j) none is)) (grind (arith, nat_tests))) (eq-eqb t.0 (additions j) (ap (λ u. u.0) new))
 
@@ -243,7 +244,7 @@ waits_added j [] a = tt
 waits_added j (m ∷ ms) a = (a.0.1, waits_added j ms a.1)
 
 -- one more waiting ticket, and one more ending, has its space
-pub waits_short : (j : List Event) (t : Ticket) → is_legal j ≡ true → has_ticket t (running j) ≡ true → length (wait_tickets j) < 256
+pub waits_short : (j : List Event) (t : Ticket) → is_legal j ≡ true → has_ticket t (running j) ≡ true → length (wait_tickets j) < most_handles
 waits_short j t l r =
     let x = laws j l in
     let k = pigeons (t ∷ wait_tickets j) (tickets j) (runs_unread j x t r, once j l) ((running-has j t r).0, waits_added j (waiting j) x.waits) in

@@ -2,6 +2,7 @@
 use Rattle.std.specs.Prelude.{ℕ, nat_le, Bool, not, if◌then◌else◌, List, [], ◌∷◌, ◌++◌, length, map, drop, Option, Some, None, ◌≡◌}
 use Rattle.std.specs.List.{find}
 use Rattle.std.specs.Option.{unwrap_or, option_map, option_to_list, IsSome}
+use Rattle.mx_types.specs.Limits.{most_handles}
 use Rattle.mx_types.specs.declared.names.HandleId.{HandleId}
 use Rattle.mx_types.specs.declared.names.Ticket.{Ticket}
 use Rattle.mx_types.specs.declared.event.Who.{Who}
@@ -60,7 +61,7 @@ add_answer opening j h =
     elim (ticket_of h j) [
       | Some _ ↦ only reply.AddedAlready
       | None ↦
-          (if nat_le 256 (length (added j)) then only reply.TableFull
+          (if nat_le most_handles (length (added j)) then only reply.TableFull
           else if has_room opening.history j 4 then (reply.Added (next_ticket j), Some (what.Added h (next_ticket j)))
           else only reply.HistoryFull)
     ]

@@ -4,6 +4,7 @@
 use Rattle.std.specs.Prelude.{ℕ, ◌+◌, ◌<◌, ◌≤◌, ◌≡◌, ◌==◌, nat_lt, nat_le, Bool, true, false, not, ◌&&◌, ◌||◌, if◌then◌else◌, List, [], ◌∷◌, ◌++◌, length, map, Option, Some, None}
 use Rattle.std.specs.List.{AllByRecursion, filter, list_any, count_by, sum_by}
 use Rattle.std.specs.Option.{is_some, option_or, option_to_list}
+use Rattle.mx_types.specs.Limits.{most_history, most_handles, most_seats}
 use Rattle.mx_types.specs.declared.code.Code.{Code}
 use Rattle.mx_types.specs.declared.names.HandleId.{HandleId}
 use Rattle.mx_types.specs.declared.names.Ticket.{Ticket}
@@ -132,7 +133,7 @@ is_next_ticket t f = t.0 == additions f
 
 -- the event is allowed after the events f
 abbrev pub may_follow : List Event → What → Bool
-may_follow f (what.Added h t) = not (has_handle h (added f)) && nat_lt (length (added f)) 256 && is_next_ticket t f
+may_follow f (what.Added h t) = not (has_handle h (added f)) && nat_lt (length (added f)) most_handles && is_next_ticket t f
 may_follow f (what.Removed h t) = list_any (λ a. same_handle h a.handle && same_ticket t a.ticket) (added f)
 may_follow f (what.Done t _ _) = has_ticket t (running f)
 may_follow f (what.Read t) = is_first t (waiting f)
@@ -178,7 +179,7 @@ needs _ = 0
 pub record HasRoomForDue (history : ℕ) (j : List Event) : Type 0 where
   pub legal : is_legal j ≡ true
   pub room : length j + due j ≤ history
-  pub limit : history ≤ 1048576
+  pub limit : history ≤ most_history
 
 -- 5. How far one addition is, and where a poll may return.
 
@@ -202,8 +203,8 @@ phase_of t j = phase_by (end_of t j) (last_is_pause t j)
 
 -- seats and workers are numbered from 0 to 15
 abbrev pub is_maker : Who → Bool
-is_maker (maker.Seat n) = nat_lt n 16
-is_maker (maker.Worker n) = nat_lt n 16
+is_maker (maker.Seat n) = nat_lt n most_seats
+is_maker (maker.Worker n) = nat_lt n most_seats
 
 abbrev pub same_maker : Who → Who → Bool
 same_maker (maker.Seat m) (maker.Seat n) = m == n

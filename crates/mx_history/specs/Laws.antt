@@ -3,6 +3,7 @@ use mathlib.Core.List.{IsPrefix}
 use Rattle.std.specs.Prelude.{◌⊎◌, ℕ, ◌<◌, ◌≤◌, ◌≡◌, ◌||◌, Bool, true, false, Some, None, Option, List, [], ◌∷◌, ◌++◌, length, map, take, not, ◌&&◌}
 use Rattle.std.specs.List.{AllByRecursion, count_by, filter, find, flat_map, list_any}
 use Rattle.std.specs.Option.{is_some, option_map, option_to_list, IsSomeAnd}
+use Rattle.mx_types.specs.Limits.{most_handles}
 use Rattle.mx_types.specs.declared.code.Code.{Code}
 use Rattle.mx_types.specs.declared.names.HandleId.{HandleId}
 use Rattle.mx_types.specs.declared.names.Ticket.{Ticket}
@@ -82,7 +83,7 @@ IsOncePerTicket (t ∷ ts) = (has_ticket t ts ≡ false) × IsOncePerTicket ts
 
 -- the added handles: at most 256, each once, by rising tickets
 pub record IsTidy (j : List Event) : Type 0 where
-  pub few : length (added j) ≤ 256
+  pub few : length (added j) ≤ most_handles
   pub handles : IsOnceEach (map (λ a. a.handle) (added j))
   pub rising : IsInOrder (map (λ a. a.ticket) (added j))
   pub waiting_once : IsOncePerTicket (map (λ m. m.ticket) (waiting j))
@@ -171,7 +172,7 @@ IsOncePerSlot (s ∷ slots) = (has_slot s.1 slots ≡ false) × IsOncePerSlot sl
 -- the added tickets, in order, have slots of their own below 256
 pub record HasOwnSlots (j : List Event) : Type 0 where
   pub tickets : map (λ s. s.0) (slots j) ≡ map (λ a. a.ticket) (added j)
-  pub below : AllByRecursion (λ s. s.1 < 256) (slots j)
+  pub below : AllByRecursion (λ s. s.1 < most_handles) (slots j)
   pub differ : IsOncePerSlot (slots j)
 
 abbrev pub SlotsDiffer : Type 0
@@ -183,7 +184,7 @@ SlotStays = (j more : List Event) (t : Ticket) (n m : ℕ) → is_legal (j ++ mo
 
 -- the least slot that no ticket has
 pub record IsLeastFree (slots : List (Ticket × ℕ)) (n : ℕ) : Type 0 where
-  pub below : n < 256
+  pub below : n < most_handles
   pub free : has_slot n slots ≡ false
   pub least : (k : ℕ) → k < n → has_slot k slots ≡ true
 

@@ -1,6 +1,7 @@
 -- The rows of the table, one for each addition, in order, and its waiting tickets, kept event by event.
 use Rattle.std.specs.Prelude.{ℕ, ◌<◌, ◌≡◌, slice_index_or, Bool, true, false, not, if◌then◌else◌, ◌||◌, List, [], ◌∷◌, ◌++◌, map}
 use Rattle.std.specs.List.{filter, sum_by}
+use Rattle.mx_types.specs.Limits.{most_handles}
 use Rattle.mx_types.specs.declared.names.Ticket.{Ticket}
 use Rattle.mx_types.specs.declared.event.What.{What}
 use Rattle.mx_types.specs.declared.event.What.TheVariants as what
@@ -56,7 +57,7 @@ slots_in rows = map (λ r. (r.ticket, r.slot)) rows
 
 -- the marks say which of the slots 0 to 255 the rows have
 abbrev pub Marks : List Bool → List Row → Type 0
-Marks marks rows = (n : ℕ) → n < 256 → slice_index_or marks n false ≡ has_slot n (slots_in rows)
+Marks marks rows = (n : ℕ) → n < most_handles → slice_index_or marks n false ≡ has_slot n (slots_in rows)
 
 -- the row after an event that adds and removes nothing
 abbrev pub turned : What → Row → Row

@@ -2,6 +2,7 @@
 use Rattle.std.specs.Prelude.{ℕ, ◌==◌, Bool, not, List, [], ◌∷◌, ◌++◌, Option}
 use Rattle.std.specs.List.{filter, list_any, find, range_with_len}
 use Rattle.std.specs.Option.{option_map, unwrap_or}
+use Rattle.mx_types.specs.Limits.{most_handles}
 use Rattle.mx_types.specs.declared.names.Ticket.{Ticket}
 use Rattle.mx_types.specs.declared.event.What.{What}
 use Rattle.mx_types.specs.declared.event.What.TheVariants as what
@@ -18,7 +19,7 @@ free_from start n slots = find (λ k. not (has_slot k slots)) (range_with_len st
 
 -- the lowest free slot; where fewer than 256 tickets have slots, there is one
 unfoldable pub lowest_free : List (Ticket × ℕ) → ℕ
-lowest_free slots = unwrap_or (free_from 0 256 slots) 255
+lowest_free slots = unwrap_or (free_from 0 most_handles slots) 255
 
 abbrev pub slots_after : List (Ticket × ℕ) → What → List (Ticket × ℕ)
 slots_after slots (what.Added h t) = slots ++ (t, lowest_free slots) ∷ []

@@ -1,6 +1,7 @@
 -- What a table has, and of which events it is the table.
-use Rattle.std.specs.Prelude.{ℕ, ◌+◌, ◌≡◌, ◌&&◌, nat_lt, if◌then◌else◌, Bool, List, [], ◌∷◌, length, map, true, slice_index, slice_set}
+use Rattle.std.specs.Prelude.{ℕ, ◌+◌, ◌≡◌, ◌&&◌, nat_lt, if◌then◌else◌, Bool, List, [], length, map, replicate, true, slice_index, slice_set}
 use Rattle.std.specs.Option.{is_some}
+use Rattle.mx_types.specs.Limits.{most_handles, most_seats}
 use Rattle.mx_types.specs.declared.event.What.{What}
 use Rattle.mx_types.specs.declared.event.What.TheVariants as what
 use Rattle.mx_types.specs.declared.names.Ticket.{Ticket}
@@ -49,14 +50,14 @@ pub record IsRow (j : List Event) (r : Row) : Type 0 where
 
 -- one more in a count, where there is such a count that can still rise
 abbrev pub count_one : ℕ → List ℕ → List ℕ
-count_one n counts = (if nat_lt n 16 && nat_lt (slice_index counts n) 4294967295 then slice_set counts n (slice_index counts n + 1) else counts)
+count_one n counts = (if nat_lt n most_seats && nat_lt (slice_index counts n) 4294967295 then slice_set counts n (slice_index counts n + 1) else counts)
 
 abbrev pub counts_after : Who → Counts → Counts
 counts_after (maker.Seat n) c = record { seats = count_one n c.seats; workers = c.workers }
 counts_after (maker.Worker n) c = record { seats = c.seats; workers = count_one n c.workers }
 
 abbrev pub zeros : List ℕ
-zeros = 0 ∷ 0 ∷ 0 ∷ 0 ∷ 0 ∷ 0 ∷ 0 ∷ 0 ∷ 0 ∷ 0 ∷ 0 ∷ 0 ∷ 0 ∷ 0 ∷ 0 ∷ 0 ∷ []
+zeros = replicate most_seats 0
 
 abbrev pub no_counts : Counts
 no_counts = record { seats = zeros; workers = zeros }
@@ -67,12 +68,12 @@ empty_table = record { rows = []; waiting = []; added = 0; events = 0; woken = 0
 
 -- there is a count for each seat and each worker
 abbrev pub HasCounters : Counts → Type 0
-HasCounters c = (length c.seats ≡ 16) × (length c.workers ≡ 16)
+HasCounters c = (length c.seats ≡ most_seats) × (length c.workers ≡ most_seats)
 
 -- the table has space for the event
 abbrev pub has_space_for : TableView → What → Bool
-has_space_for t (what.Added _ _) = nat_lt (length t.rows) 256
-has_space_for t (what.Done _ _ _) = nat_lt (length t.waiting) 256
+has_space_for t (what.Added _ _) = nat_lt (length t.rows) most_handles
+has_space_for t (what.Done _ _ _) = nat_lt (length t.waiting) most_handles
 has_space_for t _ = true
 
 abbrev pub has_space : TableView → What → Bool

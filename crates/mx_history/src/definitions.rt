@@ -13,7 +13,7 @@ ghost use Rattle.mx_history.specs.Slots.{has_slot, lowest_free, slot_of, slots, 
 ghost use Rattle.mx_history.specs.Definitions.{addition_pair, message_parts};
 
 use crate::row::Phase;
-use mx_types::{Code, Event, HandleId, Look, OutOfMemory, State, Ticket, What, Who};
+use mx_types::{Code, Event, HandleId, Look, MOST_HANDLES, OutOfMemory, State, Ticket, What, Who};
 use std::alloc::Global;
 
 fn removes(ticket: Ticket, what: &What) -> bool
@@ -222,12 +222,12 @@ fn has_handle(list: &[(HandleId, Ticket)], handle: HandleId) -> bool
 
 // Whether a handle may be added under the ticket, where these are added and so many additions were made.
 fn may_be_added(list: &[(HandleId, Ticket)], made: usize, handle: HandleId, ticket: Ticket) -> bool
-    ensures { result ≡ (not (list_any (λ a. same_handle handle a.0) list.now) && nat_lt (length list.now) 256 && (ticket.0 == made)) }
+    ensures { result ≡ (not (list_any (λ a. same_handle handle a.0) list.now) && nat_lt (length list.now) MOST_HANDLES && (ticket.0 == made)) }
 {
     if has_handle(list, handle) {
         return false;
     }
-    if list.len() >= 256 {
+    if list.len() >= MOST_HANDLES {
         return false;
     }
     ticket.0 as usize == made

@@ -4,14 +4,14 @@ ghost use Rattle.mx_history.specs.History.{is_maker, same_maker};
 ghost use Rattle.mx_history.specs.Table.{count_of, count_one, counts_after, no_counts};
 ghost use Rattle.mx_types.specs.declared.event.Who.{Who};
 
-use mx_types::Who;
+use mx_types::{MOST_SEATS, Who};
 use std::marker::Model;
 
 /// How many events each seat and each worker made.
 #[derive(Drop)]
 pub struct MakerCounts {
-    seats: [u32; 16],
-    workers: [u32; 16],
+    seats: [u32; MOST_SEATS],
+    workers: [u32; MOST_SEATS],
 }
 
 impl Model for MakerCounts {
@@ -28,8 +28,8 @@ impl MakerCounts {
         ensures none { result ≡ no_counts }
     {
         MakerCounts {
-            seats: [0; 16],
-            workers: [0; 16],
+            seats: [0; MOST_SEATS],
+            workers: [0; MOST_SEATS],
         }
     }
 
@@ -54,11 +54,11 @@ impl MakerCounts {
     }
 }
 
-fn count_one(counts: &mut [u32; 16], n: u8)
+fn count_one(counts: &mut [u32; MOST_SEATS], n: u8)
     ensures { counts.new ≡ count_one n counts.old }
 {
     let at = n as usize;
-    if at < 16 {
+    if at < MOST_SEATS {
         if counts[at] < u32::MAX {
             counts[at] += 1;
         }

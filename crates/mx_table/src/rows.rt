@@ -10,7 +10,7 @@ ghost use Rattle.mx_types.specs.declared.names.Ticket.{Ticket};
 use arrayvec::ArrayVec;
 use mx_history::definitions::wakes;
 use mx_history::{Phase, Row};
-use mx_types::{HandleId, Ticket, What};
+use mx_types::{HandleId, MOST_HANDLES, Ticket, What};
 
 /// The row of a handle.
 pub fn row_of_handle(rows: &[Row], handle: HandleId) -> Option<Row>
@@ -34,8 +34,8 @@ pub fn woken_after(what: &What, woken: u32, events: u32) -> u32
 }
 
 /// The handles of the rows.
-pub fn handles(rows: &[Row]) -> ArrayVec<HandleId, 256>
-    requires { length rows.now ≤ 256 }
+pub fn handles(rows: &[Row]) -> ArrayVec<HandleId, MOST_HANDLES>
+    requires { length rows.now ≤ MOST_HANDLES }
     ensures { result.items ≡ map (λ r. r.handle) rows.now }
 {
     let mut list = ArrayVec::new();
@@ -54,17 +54,17 @@ pub fn running(rows: &[Row]) -> usize
 
 /// How many events the additions have to come.
 pub fn places(rows: &[Row]) -> u32
-    requires { length rows.now ≤ 256 }
+    requires { length rows.now ≤ MOST_HANDLES }
     ensures { result ≡ places rows.now }
 {
     rows.iter().map(|r| r.phase.places()).sum()
 }
 
-// Which of the slots 0 to 255 the rows have.
-fn taken_slots(rows: &[Row]) -> [bool; 256]
+// Which of the slots the rows have.
+fn taken_slots(rows: &[Row]) -> [bool; MOST_HANDLES]
     ensures { Marks result rows.now }
 {
-    let mut taken = [false; 256];
+    let mut taken = [false; MOST_HANDLES];
     for row in rows {
         taken[row.slot as usize] = true;
     }

@@ -11,7 +11,9 @@ use crate::makers::MakerCounts;
 use crate::{rows, waits};
 use mx_history::Row;
 use mx_history::definitions::additions_by;
-use mx_types::{AddedHandles, Event, HandleId, Look, OutOfMemory, State, Ticket, What, Who};
+use mx_types::{
+    AddedHandles, Event, HandleId, Look, MOST_HANDLES, OutOfMemory, State, Ticket, What, Who,
+};
 use std::alloc::Global;
 use std::marker::Model;
 
@@ -30,13 +32,14 @@ pub struct Table {
 
 impl Model for Table {
     ghost use Rattle.std.specs.Prelude.{◌≤◌, length, vec_capacity};
+    ghost use Rattle.mx_types.specs.Limits.{most_handles};
     ghost use Rattle.mx_history.specs.Table.{TableView};
 
     ghost Value = { TableView };
 
     ghost view = { λ t. record { rows = t.rows.items; waiting = t.waiting.items; added = t.added; events = t.events; woken = t.woken; makers = t.makers } };
 
-    ghost invariant = { λ t. (length t.rows.items ≤ 256) × (256 ≤ vec_capacity t.rows) × (256 ≤ vec_capacity t.waiting) };
+    ghost invariant = { λ t. (length t.rows.items ≤ most_handles) × (most_handles ≤ vec_capacity t.rows) × (most_handles ≤ vec_capacity t.waiting) };
 }
 
 impl Table {
@@ -46,8 +49,8 @@ impl Table {
         ensures fresh { IfOk result (λ t. t ≡ empty_table) }
     {
         Ok(Table {
-            rows: Vec::with_capacity(alloc, 256)?,
-            waiting: Vec::with_capacity(alloc, 256)?,
+            rows: Vec::with_capacity(alloc, MOST_HANDLES)?,
+            waiting: Vec::with_capacity(alloc, MOST_HANDLES)?,
             added: 0,
             events: 0,
             woken: 0,
@@ -104,7 +107,7 @@ impl Table {
         AddedHandles::new(rows::handles(&self.rows))
     }
 
-    /// The tickets whose message waits to be read, in the order of their ends: at most 256, each once.
+    /// The tickets whose message waits to be read, in the order of their ends: at most [`MOST_HANDLES`], each once.
     pub fn waiting(&self) -> &[Ticket]
         ensures { (j : List Event) → IsTableOf j self.now → result.now ≡ map (λ m. m.ticket) (waiting j) }
     {
@@ -118,11 +121,11 @@ impl Table {
         rows::running(&self.rows) as u32
     }
 
-    /// Whether 256 handles are added.
+    /// Whether as many handles are added as can be.
     pub fn is_full(&self) -> bool
-        ensures { (j : List Event) → IsTableOf j self.now → result ≡ nat_le 256 (length (added j)) }
+        ensures { (j : List Event) → IsTableOf j self.now → result ≡ nat_le MOST_HANDLES (length (added j)) }
     {
-        self.rows.len() >= 256
+        self.rows.len() >= MOST_HANDLES
     }
 
     /// How many events the added handles have to come.
@@ -166,8 +169,8 @@ impl Table {
         ensures { result ≡ has_space_for self.now what.now }
     {
         match what {
-            What::Added(..) => self.rows.len() < 256,
-            What::Done(..) => self.waiting.len() < 256,
+            What::Added(..) => self.rows.len() < MOST_HANDLES,
+            What::Done(..) => self.waiting.len() < MOST_HANDLES,
             _ => true,
         }
     }

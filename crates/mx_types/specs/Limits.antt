@@ -6,11 +6,11 @@ abbrev pub most_handles : ℕ
 most_handles = 256
 
 -- the events that a history has room for: one addition needs four
-abbrev pub least_events : ℕ
-least_events = 4
+abbrev pub least_history : ℕ
+least_history = 4
 
-abbrev pub most_events : ℕ
-most_events = 1048576
+abbrev pub most_history : ℕ
+most_history = 1048576
 
 -- the seats of a kind: of application threads, and of workers
 abbrev pub most_seats : ℕ
@@ -22,8 +22,8 @@ most_transfers = 64
 
 -- a history may have room for so many events
 abbrev pub IsHistory : ℕ → Type 0
-IsHistory events = (least_events ≤ events) × (events ≤ most_events)
+IsHistory history = (least_history ≤ history) × (history ≤ most_history)
 
 -- the same, as a test
 abbrev pub is_history : ℕ → Bool
-is_history events = nat_le least_events events && nat_le events most_events
+is_history history = nat_le least_history history && nat_le history most_history

@@ -4,10 +4,10 @@
 pub const MOST_HANDLES: usize = 256;
 
 /// The fewest events that a history may have room for: one addition needs four.
-pub const LEAST_EVENTS: u32 = 4;
+pub const LEAST_HISTORY: u32 = 4;
 
 /// The most events that a history may have room for.
-pub const MOST_EVENTS: u32 = 1_048_576;
+pub const MOST_HISTORY: u32 = 1_048_576;
 
 /// The most seats of a kind: of application threads, and of workers.
 pub const MOST_SEATS: usize = 16;

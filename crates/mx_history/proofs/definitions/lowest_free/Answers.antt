@@ -1,6 +1,7 @@
 use Rattle.std.proofs.Common.{◌≡◌, ◌+◌, ◌-◌, ◌∙◌, arith, sym, ap}
 use Rattle.std.specs.Prelude.{suc}
 use Rattle.std.specs.Option.{unwrap_or}
+use Rattle.mx_types.specs.Limits.{most_handles}
 use Rattle.mx_history.specs.Slots.{free_from}
 use Rattle.mx_history.proofs.SlotLists.{free_from-taken, free_from-free, free_from-last, lowest_free-is}
 use Rattle.mx_history.proofs.definitions.lowest_free.Goals as goal
@@ -13,9 +14,9 @@ loop-slot-preserved c =
     let n = c.loop-slot.slot in
     let s = c.args.slots.now in
     let below = c.loop-slot.invariant.within in
-    let e : 256 - n ≡ suc (256 - (n + 1)) = omega arith in
+    let e : most_handles - n ≡ suc (most_handles - (n + 1)) = omega arith in
     record {
-      same = ap (λ o. unwrap_or o 255) (sym (free_from-taken n (256 - (n + 1)) s (sym c.has_slot.ensures ∙ c.if-has_slot.true)) ∙ ap (λ k. free_from n k s) (sym e)) ∙ c.loop-slot.invariant.same;
+      same = ap (λ o. unwrap_or o 255) (sym (free_from-taken n (most_handles - (n + 1)) s (sym c.has_slot.ensures ∙ c.if-has_slot.true)) ∙ ap (λ k. free_from n k s) (sym e)) ∙ c.loop-slot.invariant.same;
       within = omega arith;
     }
 
@@ -24,8 +25,8 @@ returns-else-has_slot c =
     let n = c.loop-slot.slot in
     let s = c.args.slots.now in
     let below = c.loop-slot.invariant.within in
-    let e : 256 - n ≡ suc (256 - (n + 1)) = omega arith in
-    ap (λ o. unwrap_or o 255) (sym (free_from-free n (256 - (n + 1)) s (sym c.has_slot.ensures ∙ c.if-has_slot.false)) ∙ ap (λ k. free_from n k s) (sym e)) ∙ c.loop-slot.invariant.same
+    let e : most_handles - n ≡ suc (most_handles - (n + 1)) = omega arith in
+    ap (λ o. unwrap_or o 255) (sym (free_from-free n (most_handles - (n + 1)) s (sym c.has_slot.ensures ∙ c.if-has_slot.false)) ∙ ap (λ k. free_from n k s) (sym e)) ∙ c.loop-slot.invariant.same
 
 pub returns-after-loop-slot : goal.returns-after-loop-slot
 returns-after-loop-slot c =
@@ -33,4 +34,4 @@ returns-after-loop-slot c =
     let s = c.args.slots.now in
     let below = c.loop-slot.invariant.within in
     let at : n ≡ 255 = omega arith in
-    at ∙ sym (free_from-last s) ∙ ap (λ m. unwrap_or (free_from m (256 - m) s) 255) (sym at) ∙ c.loop-slot.invariant.same
+    at ∙ sym (free_from-last s) ∙ ap (λ m. unwrap_or (free_from m (most_handles - m) s) 255) (sym at) ∙ c.loop-slot.invariant.same

@@ -1,6 +1,7 @@
 use Rattle.std.proofs.Common.{◌≡◌, ◌+◌, ◌-◌, ◌∙◌, arith, sym, ap, true, false}
 use Rattle.std.specs.Prelude.{suc}
 use Rattle.std.specs.Option.{unwrap_or}
+use Rattle.mx_types.specs.Limits.{most_handles}
 use Rattle.mx_history.specs.Slots.{free_from, has_slot}
 use Rattle.mx_history.specs.Rows.{slots_in}
 use Rattle.mx_history.proofs.SlotLists.{free_from-taken, free_from-free, free_from-last, lowest_free-is}
@@ -15,9 +16,9 @@ loop-slot-preserved c =
     let s = slots_in c.args.rows.now in
     let below = c.loop-slot.invariant.within in
     let taken : has_slot n s ≡ true = sym (c.taken_slots-taken.ensures n (omega (arith, below))) ∙ c.if-taken-slot.true in
-    let e : 256 - n ≡ suc (256 - (n + 1)) = omega arith in
+    let e : most_handles - n ≡ suc (most_handles - (n + 1)) = omega arith in
     record {
-      same = ap (λ o. unwrap_or o 255) (sym (free_from-taken n (256 - (n + 1)) s taken) ∙ ap (λ k. free_from n k s) (sym e)) ∙ c.loop-slot.invariant.same;
+      same = ap (λ o. unwrap_or o 255) (sym (free_from-taken n (most_handles - (n + 1)) s taken) ∙ ap (λ k. free_from n k s) (sym e)) ∙ c.loop-slot.invariant.same;
       within = omega arith;
     }
 
@@ -27,8 +28,8 @@ returns-else-taken-slot c =
     let s = slots_in c.args.rows.now in
     let below = c.loop-slot.invariant.within in
     let free : has_slot n s ≡ false = sym (c.taken_slots-taken.ensures n (omega (arith, below))) ∙ c.if-taken-slot.false in
-    let e : 256 - n ≡ suc (256 - (n + 1)) = omega arith in
-    ap (λ o. unwrap_or o 255) (sym (free_from-free n (256 - (n + 1)) s free) ∙ ap (λ k. free_from n k s) (sym e)) ∙ c.loop-slot.invariant.same
+    let e : most_handles - n ≡ suc (most_handles - (n + 1)) = omega arith in
+    ap (λ o. unwrap_or o 255) (sym (free_from-free n (most_handles - (n + 1)) s free) ∙ ap (λ k. free_from n k s) (sym e)) ∙ c.loop-slot.invariant.same
 
 pub returns-after-loop-slot : goal.returns-after-loop-slot
 returns-after-loop-slot c =
@@ -36,4 +37,4 @@ returns-after-loop-slot c =
     let s = slots_in c.args.rows.now in
     let below = c.loop-slot.invariant.within in
     let at : n ≡ 255 = omega arith in
-    at ∙ sym (free_from-last s) ∙ ap (λ m. unwrap_or (free_from m (256 - m) s) 255) (sym at) ∙ c.loop-slot.invariant.same
+    at ∙ sym (free_from-last s) ∙ ap (λ m. unwrap_or (free_from m (most_handles - m) s) 255) (sym at) ∙ c.loop-slot.invariant.same
