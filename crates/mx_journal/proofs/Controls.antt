@@ -6,6 +6,7 @@ use Rattle.mx_journal.specs.Replies.{is_pausing}
 use Rattle.std.specs.Option.{is_some, option_map, option_to_list}
 use Rattle.std.proofs.lemmas.Bool.{ne_eqb, or_left, or_right, false≢true, not-true, eqb-true, and_parts}
 use Rattle.std.proofs.lemmas.List.{map-append, length-map}
+use Rattle.mx_types.specs.Limits.{most_handles}
 use Rattle.mx_types.specs.declared.code.Code.{Code}
 use Rattle.mx_types.specs.declared.names.HandleId.{HandleId}
 use Rattle.mx_types.specs.declared.names.Ticket.{Ticket}
@@ -135,7 +136,7 @@ control-removed code size history j w h t queue endings cq ce c m =
 -- 4. An end.
 
 pub endings_short : {O : Type 0} (code : O → Code) (size : O → ℕ) (j : List Event) (endings : List (Ticket × O)) (t : Ticket) → is_legal j ≡ true
-    → map (message code size) endings ≡ waiting j → has_ticket t (running j) ≡ true → length endings < 256
+    → map (message code size) endings ≡ waiting j → has_ticket t (running j) ≡ true → length endings < most_handles
 endings_short code size j endings t l w r =
     let k = waits_short j t l r in
     omega (arith, k, length-map (waiting j) (λ m. m.ticket), length-map endings (message code size), ap length w)
@@ -202,7 +203,7 @@ control-read_first {Q} {O} code size history j w t (x ∷ xs) queue cq ce c firs
     let P : Ticket → Type 0 = λ u. IsControl {Q = Q} {O = O} code size history (then j w (what.Read u)) queue xs cq ce in
     subst P (ap (ticket_or t) first) (control-read code size history j w x xs queue cq ce c)
 
-pub endings_few : {O : Type 0} (code : O → Code) (size : O → ℕ) (j : List Event) (endings : List (Ticket × O)) → is_legal j ≡ true → map (message code size) endings ≡ waiting j → length endings ≤ 256
+pub endings_few : {O : Type 0} (code : O → Code) (size : O → ℕ) (j : List Event) (endings : List (Ticket × O)) → is_legal j ≡ true → map (message code size) endings ≡ waiting j → length endings ≤ most_handles
 endings_few code size j endings l w =
     let x = laws j l in
     let k = pigeons (wait_tickets j) (tickets j) (once j l) (waits_added j (waiting j) x.waits) in

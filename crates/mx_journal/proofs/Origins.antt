@@ -5,6 +5,7 @@ use Rattle.std.specs.List.{filter}
 use Rattle.std.specs.Option.{is_some}
 use Rattle.std.proofs.lemmas.Bool.{eqb-true, and_parts, false≢true}
 use Rattle.std.proofs.lemmas.List.{map-append}
+use Rattle.mx_types.specs.Limits.{most_handles}
 use Rattle.mx_types.specs.declared.names.HandleId.{HandleId}
 use Rattle.mx_types.specs.declared.names.Ticket.{Ticket}
 use Rattle.mx_types.specs.declared.event.Who.{Who}
@@ -43,7 +44,7 @@ pub origins-added : {Q : Type 0} (origin : Q → Origin) (history : ℕ) (j : Li
     → KeepsOrigins origin history j origins queue space → may_follow j (what.Added h t) ≡ true
     → KeepsOrigins origin history (then j w (what.Added h t)) (origins ++ origin work ∷ []) (queue ++ (t, work) ∷ []) space
 origins-added origin history j w h t origins queue work space k m =
-    let new : t.0 ≡ additions j = eqb-true t.0 (additions j) (and_parts (not (has_handle h (added j)) && nat_lt (length (added j)) 256) (t.0 == additions j) m).1 in
+    let new : t.0 ≡ additions j = eqb-true t.0 (additions j) (and_parts (not (has_handle h (added j)) && nat_lt (length (added j)) most_handles) (t.0 == additions j) m).1 in
     let last : slice_get (origins ++ origin work ∷ []) t.0 ≡ Some (origin work) =
     ap (slice_get (origins ++ origin work ∷ [])) (new ∙ sym k.each) ∙ stands_last origins (origin work) in
     record {

@@ -5,6 +5,7 @@ use Rattle.std.specs.List.{AllByRecursion, insert, list_any}
 use Rattle.std.proofs.lemmas.Bool.{ltb-true, ltb-false, eqb-false, false_from_ne_true, false≢true, not-true}
 use Rattle.std.proofs.lemmas.List.{length-set}
 use Rattle.std.proofs.lemmas.List.Sums.{sum_by-cons}
+use Rattle.mx_types.specs.Limits.{most_handles}
 use Rattle.mx_types.specs.declared.code.Code.{Code}
 use Rattle.mx_types.specs.declared.names.Ticket.{Ticket}
 use Rattle.mx_types.specs.declared.event.Event.{Event}
@@ -125,7 +126,7 @@ control-given code size history j t work queue endings cq ce c h =
 
 -- its place was kept
 pub queue_short : {Q O : Type 0} (code : O → Code) (size : O → ℕ) (history : ℕ) (j : List Event) (t : Ticket) (work : Q) (queue : List (Ticket × Q)) (endings : List (Ticket × O)) (cq ce : ℕ)
-    → IsControl code size history j queue endings cq ce → has_ticket t (claimed j queue) ≡ true → length queue < 256
+    → IsControl code size history j queue endings cq ce → has_ticket t (claimed j queue) ≡ true → length queue < most_handles
 queue_short code size history j t work queue endings cq ce c h =
     let s = (control-given code size history j t work queue endings cq ce c h).sound in
     let n = queue_length j (in_place t work queue) s.kept.legal s.ordered s.runs in

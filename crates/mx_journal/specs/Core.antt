@@ -1,6 +1,7 @@
 -- What the core's state is, for contracts, and when it is sound.
 use Rattle.std.specs.Prelude.{ℕ, ◌≤◌, ◌≡◌, List, length, map, true, not, Option, Some, slice_get}
 use Rattle.std.specs.List.{AllByRecursion, filter, list_any}
+use Rattle.mx_types.specs.Limits.{most_handles}
 use Rattle.mx_types.specs.declared.code.Code.{Code}
 use Rattle.mx_types.specs.declared.names.HandleId.{HandleId}
 use Rattle.mx_types.specs.declared.names.Ticket.{Ticket}
@@ -61,8 +62,8 @@ pub record IsTabled (history : ℕ) (j : List Event) (t : TableView) (space : �
 -- the core's state with the space that it has reserved
 pub record IsControl {Q O : Type 0} (code : O → Code) (size : O → ℕ) (history : ℕ) (journal : List Event) (queue : List (Ticket × Q)) (endings : List (Ticket × O)) (for_queue for_endings : ℕ) : Type 0 where
   pub sound : IsSound code size history journal queue endings
-  pub queue_fits : 256 ≤ for_queue
-  pub endings_fit : 256 ≤ for_endings
+  pub queue_fits : most_handles ≤ for_queue
+  pub endings_fit : most_handles ≤ for_endings
 
 -- there is an origin for each addition, and space for those to come; queued work is of its addition's
 pub record KeepsOrigins {Q : Type 0} (origin : Q → Origin) (history : ℕ) (journal : List Event) (origins : List Origin) (queue : List (Ticket × Q)) (space : ℕ) : Type 0 where

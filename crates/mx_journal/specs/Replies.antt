@@ -6,12 +6,12 @@ use Rattle.mx_types.specs.declared.call.Call.{Call}
 use Rattle.mx_types.specs.declared.call.Call.TheVariants as call
 use Rattle.mx_types.specs.declared.event.What.{What}
 use Rattle.mx_types.specs.declared.event.What.TheVariants as what
-use Rattle.mx_types.specs.declared.event.Event.{Event}
 use Rattle.mx_journal.specs.declared.replies.InfoReply.{InfoReply}
 use Rattle.mx_journal.specs.declared.replies.InfoReply.TheVariants as info
 use Rattle.mx_journal.specs.declared.replies.FinishReply.{FinishReply}
 use Rattle.mx_journal.specs.declared.replies.FinishReply.TheVariants as finish
 use Rattle.mx_journal.specs.Core.{queued}
+use Rattle.mx_history.specs.Answers.{Answer, only}
 use Rattle.mx_history.specs.History.{IsInOrder}
 use Rattle.mx_journal.specs.declared.replies.GiveBackReply.{GiveBackReply}
 use Rattle.mx_journal.specs.declared.replies.GiveBackReply.TheVariants as giving
@@ -141,16 +141,7 @@ is_pausing (what.Paused _) = true
 is_pausing (what.Resumed _) = true
 is_pausing _ = false
 
--- the journal after a pause or a resumption that may follow
-abbrev pub journal_after_pausing : PauseReply → List Event → Event → List Event
-journal_after_pausing pausing.Changed j e = j ++ e ∷ []
-journal_after_pausing _ j e = j
-
--- which answers a pause or a resumption that may follow gives, with room and without
-abbrev pub IsPausingAnswer : PauseReply → Bool → Type 0
-IsPausingAnswer pausing.Changed room = room ≡ true
-IsPausingAnswer pausing.OutOfMemory room = room ≡ true
-IsPausingAnswer pausing.HistoryFull room = room ≡ false
-IsPausingAnswer pausing.NotAdded room = ⊥
-IsPausingAnswer pausing.NotRunning room = ⊥
-IsPausingAnswer pausing.NoChange room = ⊥
+-- the answer that is a pause or a resumption that may follow, with room and without
+abbrev pub answer_with_room : Bool → What → Answer
+answer_with_room true event = (reply.Changed, Some event)
+answer_with_room false event = only reply.HistoryFull

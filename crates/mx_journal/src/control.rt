@@ -1,12 +1,13 @@
 //! The control state of a multi handle.
-ghost use Rattle.std.specs.Prelude.{map, ◌≡◌, ◌≤◌, ◌++◌, ◌∷◌, [], List, length, true, false, drop, OnOk, OnErr, IfOk, IfSome, IfNone, slice_get, vec_capacity};
+ghost use Rattle.std.specs.Prelude.{map, ◌≡◌, ◌≤◌, ◌++◌, ◌∷◌, [], List, length, true, false, IfOk, IfSome, IfNone, slice_get, vec_capacity};
 ghost use Rattle.std.specs.List.{AllByRecursion};
+ghost use Rattle.mx_types.specs.Limits.{IsHistory};
 ghost use Rattle.mx_types.specs.declared.call.Call.{Call};
 ghost use Rattle.mx_history.specs.History.{HasRoomForDue, additions, may_follow, has_room, needs, has_ticket, is_maker, made_by, running, added, waiting};
-ghost use Rattle.mx_history.specs.Answers.{handle_of, Answers, is_ready, look_of, state_of};
+ghost use Rattle.mx_history.specs.Answers.{answer, handle_of, is_ready, look_of, state_of};
+ghost use Rattle.mx_journal.specs.Called.{Called};
 ghost use Rattle.mx_journal.specs.Core.{claimed, queued, still_running, still_waiting, origin_of, AreOwn, IsSound, IsTabled};
-ghost use Rattle.mx_journal.specs.Replies.{pausing_call, is_back, queue_given, origins_given, IsGivenBack, GiveBackUndoesClaim, is_pausing, journal_after_pausing, IsPausingAnswer, reply_of_info, ending_read, ending_recorded, IsHandedBack, reply_of_finish, origins_added, queue_added, handed_back, work_back, reply_of_add, reply_of_remove, reply_of_pause, reply_of_wakeup};
-ghost use Rattle.mx_history.specs.Receipts.{comes_with_event, lacks_memory};
+ghost use Rattle.mx_journal.specs.Replies.{pausing_call, is_back, queue_given, origins_given, IsGivenBack, GiveBackUndoesClaim, is_pausing, answer_with_room, reply_of_info, ending_read, ending_recorded, IsHandedBack, reply_of_finish, origins_added, queue_added, handed_back, work_back, reply_of_add, reply_of_remove, reply_of_pause, reply_of_wakeup};
 ghost use Rattle.mx_history.specs.Slots.{slot_of};
 
 use crate::claim::Claim;
@@ -17,7 +18,8 @@ use crate::replies::{
 use mx_history::{Log, Row};
 use mx_table::Table;
 use mx_types::{
-    AddedHandles, Ending, Event, HandleId, Look, OutOfMemory, State, Ticket, What, Who, Work,
+    AddedHandles, Ending, Event, HandleId, Look, MOST_HANDLES, OutOfMemory, State, Ticket, What,
+    Who, Work,
 };
 use std::alloc::Global;
 use std::marker::Model;
@@ -52,13 +54,14 @@ impl<Q: Work, O: Ending> Model for Control<Q, O> {
 }
 
 impl<Q: Work + Drop, O: Ending + Drop> Control<Q, O> {
-    /// An empty control state, with the space for so many events: from 4, which one addition needs, to 1,048,576.
+    /// An empty control state, with the space for so many events: from `mx_types::LEAST_HISTORY`, which one addition
+    /// needs, to `mx_types::MOST_HISTORY`.
     ///
     /// # Errors
     ///
     /// `OutOfMemory` where that space is refused.
     pub fn new(alloc: Global, history: u32) -> Result<Control<Q, O>, OutOfMemory>
-        requires { (4 ≤ history) × (history ≤ 1048576) }
+        requires { IsHistory history }
         ensures { IfOk result (λ c. c ≡ record { opening = record { history = history }; journal = []; origins = []; queue = []; endings = [] }) }
     {
         Ok(Control {
@@ -66,8 +69,8 @@ impl<Q: Work + Drop, O: Ending + Drop> Control<Q, O> {
             journal: Vec::with_capacity(alloc, history as usize)?,
             table: Table::new(alloc)?,
             origins: Vec::with_capacity(alloc, history as usize)?,
-            queue: Vec::with_capacity(alloc, 256)?,
-            endings: Vec::with_capacity(alloc, 256)?,
+            queue: Vec::with_capacity(alloc, MOST_HANDLES)?,
+            endings: Vec::with_capacity(alloc, MOST_HANDLES)?,
         })
     }
 
@@ -89,18 +92,13 @@ impl<Q: Work + Drop, O: Ending + Drop> Control<Q, O> {
     /// The first that applies, in this order; each hands the work back and changes nothing, here and in the log:
     ///
     /// - `AddedAlready`: the handle is added;
-    /// - `TableFull`: 256 handles are added;
+    /// - `TableFull`: as many handles are added as can be;
     /// - `HistoryFull`: beside the events so far and those that are due there is no room for 4 more, the addition and
     ///   its end, reading and removal;
     /// - `OutOfMemory`: the log refused the event.
     pub fn add<L: Log>(&mut self, log: &mut L, who: Who, handle: HandleId, work: Q) -> AddReply<Q>
         requires { is_maker who ≡ true }
-        ensures answers { Answers self.old.opening who (Call.Add handle) self.old.journal (reply_of_add result) self.new.journal }
-        ensures logged { L.events log.new ≡ L.events log.old ++ drop (length self.old.journal) self.new.journal }
-        ensures same_log { L.name log.new ≡ L.name log.old }
-        ensures memory { lacks_memory (reply_of_add result) ≡ true → L.may_refuse log.old }
-        ensures unchanged { comes_with_event (reply_of_add result) ≡ false → self.new ≡ self.old }
-        ensures opening { self.new.opening ≡ self.old.opening }
+        ensures called { Called L.events L.name L.may_refuse who (Call.Add handle) self.old self.new log.old log.new (reply_of_add result) }
         ensures origins { self.new.origins ≡ origins_added result self.old.origins (Q.origin work) }
         ensures endings { self.new.endings ≡ self.old.endings }
         ensures queue { self.new.queue ≡ queue_added result self.old.queue work }
@@ -142,12 +140,7 @@ impl<Q: Work + Drop, O: Ending + Drop> Control<Q, O> {
     /// - `OutOfMemory`: the log refused the event.
     pub fn remove<L: Log>(&mut self, log: &mut L, who: Who, handle: HandleId) -> RemoveReply
         requires { is_maker who ≡ true }
-        ensures answers { Answers self.old.opening who (Call.Remove handle) self.old.journal (reply_of_remove result) self.new.journal }
-        ensures logged { L.events log.new ≡ L.events log.old ++ drop (length self.old.journal) self.new.journal }
-        ensures same_log { L.name log.new ≡ L.name log.old }
-        ensures memory { lacks_memory (reply_of_remove result) ≡ true → L.may_refuse log.old }
-        ensures unchanged { comes_with_event (reply_of_remove result) ≡ false → self.new ≡ self.old }
-        ensures opening { self.new.opening ≡ self.old.opening }
+        ensures called { Called L.events L.name L.may_refuse who (Call.Remove handle) self.old self.new log.old log.new (reply_of_remove result) }
         ensures origins { self.new.origins ≡ self.old.origins }
         ensures queue { self.new.queue ≡ still_running self.new.journal self.old.queue }
         ensures endings { self.new.endings ≡ still_waiting self.new.journal self.old.endings }
@@ -182,12 +175,7 @@ impl<Q: Work + Drop, O: Ending + Drop> Control<Q, O> {
     /// - `OutOfMemory`: the log refused the event.
     pub fn pause<L: Log>(&mut self, log: &mut L, who: Who, handle: HandleId) -> PauseReply
         requires { is_maker who ≡ true }
-        ensures answers { Answers self.old.opening who (Call.Pause handle) self.old.journal (reply_of_pause result) self.new.journal }
-        ensures logged { L.events log.new ≡ L.events log.old ++ drop (length self.old.journal) self.new.journal }
-        ensures same_log { L.name log.new ≡ L.name log.old }
-        ensures memory { lacks_memory (reply_of_pause result) ≡ true → L.may_refuse log.old }
-        ensures unchanged { comes_with_event (reply_of_pause result) ≡ false → self.new ≡ self.old }
-        ensures opening { self.new.opening ≡ self.old.opening }
+        ensures called { Called L.events L.name L.may_refuse who (Call.Pause handle) self.old self.new log.old log.new (reply_of_pause result) }
         ensures origins { self.new.origins ≡ self.old.origins }
         ensures queue { self.new.queue ≡ self.old.queue }
         ensures endings { self.new.endings ≡ self.old.endings }
@@ -208,12 +196,7 @@ impl<Q: Work + Drop, O: Ending + Drop> Control<Q, O> {
     /// - `OutOfMemory`: the log refused the event.
     pub fn unpause<L: Log>(&mut self, log: &mut L, who: Who, handle: HandleId) -> PauseReply
         requires { is_maker who ≡ true }
-        ensures answers { Answers self.old.opening who (Call.Unpause handle) self.old.journal (reply_of_pause result) self.new.journal }
-        ensures logged { L.events log.new ≡ L.events log.old ++ drop (length self.old.journal) self.new.journal }
-        ensures same_log { L.name log.new ≡ L.name log.old }
-        ensures memory { lacks_memory (reply_of_pause result) ≡ true → L.may_refuse log.old }
-        ensures unchanged { comes_with_event (reply_of_pause result) ≡ false → self.new ≡ self.old }
-        ensures opening { self.new.opening ≡ self.old.opening }
+        ensures called { Called L.events L.name L.may_refuse who (Call.Unpause handle) self.old self.new log.old log.new (reply_of_pause result) }
         ensures origins { self.new.origins ≡ self.old.origins }
         ensures queue { self.new.queue ≡ self.old.queue }
         ensures endings { self.new.endings ≡ self.old.endings }
@@ -224,12 +207,7 @@ impl<Q: Work + Drop, O: Ending + Drop> Control<Q, O> {
     // Pauses a handle's transfer, or resumes it.
     fn turn<L: Log>(&mut self, log: &mut L, who: Who, handle: HandleId, pauses: bool) -> PauseReply
         requires { is_maker who ≡ true }
-        ensures answers { Answers self.old.opening who (pausing_call pauses handle) self.old.journal (reply_of_pause result) self.new.journal }
-        ensures logged { L.events log.new ≡ L.events log.old ++ drop (length self.old.journal) self.new.journal }
-        ensures same_log { L.name log.new ≡ L.name log.old }
-        ensures memory { lacks_memory (reply_of_pause result) ≡ true → L.may_refuse log.old }
-        ensures unchanged { comes_with_event (reply_of_pause result) ≡ false → self.new ≡ self.old }
-        ensures opening { self.new.opening ≡ self.old.opening }
+        ensures called { Called L.events L.name L.may_refuse who (pausing_call pauses handle) self.old self.new log.old log.new (reply_of_pause result) }
         ensures origins { self.new.origins ≡ self.old.origins }
         ensures queue { self.new.queue ≡ self.old.queue }
         ensures endings { self.new.endings ≡ self.old.endings }
@@ -259,18 +237,12 @@ impl<Q: Work + Drop, O: Ending + Drop> Control<Q, O> {
         self.journal.len() as u32 + self.table.due() + more <= self.history
     }
 
-    // Writes a pause or a resumption that may follow, where it has room.
+    // Writes a pause or a resumption that may follow, where it has room: for each call whose answer that is.
     fn append_pausing<L: Log>(&mut self, log: &mut L, event: Event) -> PauseReply
         requires maker { is_maker event.who ≡ true }
         requires may { may_follow self.old.journal event.what ≡ true }
         requires kind { is_pausing event.what ≡ true }
-        ensures journal { self.new.journal ≡ journal_after_pausing result self.old.journal event }
-        ensures room { IsPausingAnswer result (has_room self.old.opening.history self.old.journal 1) }
-        ensures logged { L.events log.new ≡ L.events log.old ++ drop (length self.old.journal) self.new.journal }
-        ensures same_log { L.name log.new ≡ L.name log.old }
-        ensures memory { lacks_memory (reply_of_pause result) ≡ true → L.may_refuse log.old }
-        ensures unchanged { comes_with_event (reply_of_pause result) ≡ false → self.new ≡ self.old }
-        ensures opening { self.new.opening ≡ self.old.opening }
+        ensures called { (call : Call) → answer self.old.opening self.old.journal call ≡ answer_with_room (has_room self.old.opening.history self.old.journal 1) event.what → Called L.events L.name L.may_refuse event.who call self.old self.new log.old log.new (reply_of_pause result) }
         ensures origins { self.new.origins ≡ self.old.origins }
         ensures queue { self.new.queue ≡ self.old.queue }
         ensures endings { self.new.endings ≡ self.old.endings }
@@ -296,12 +268,7 @@ impl<Q: Work + Drop, O: Ending + Drop> Control<Q, O> {
     /// - `OutOfMemory`: the log refused the event; the message waits on.
     pub fn info_read<L: Log>(&mut self, log: &mut L, who: Who) -> InfoReply<O>
         requires { is_maker who ≡ true }
-        ensures answers { Answers self.old.opening who Call.InfoRead self.old.journal (reply_of_info O.code_of O.size_of result) self.new.journal }
-        ensures logged { L.events log.new ≡ L.events log.old ++ drop (length self.old.journal) self.new.journal }
-        ensures same_log { L.name log.new ≡ L.name log.old }
-        ensures memory { lacks_memory (reply_of_info O.code_of O.size_of result) ≡ true → L.may_refuse log.old }
-        ensures unchanged { comes_with_event (reply_of_info O.code_of O.size_of result) ≡ false → self.new ≡ self.old }
-        ensures opening { self.new.opening ≡ self.old.opening }
+        ensures called { Called L.events L.name L.may_refuse who Call.InfoRead self.old self.new log.old log.new (reply_of_info O.code_of O.size_of result) }
         ensures origins { self.new.origins ≡ self.old.origins }
         ensures queue { self.new.queue ≡ self.old.queue }
         ensures endings { self.old.endings ≡ ending_read result ++ self.new.endings }
@@ -348,12 +315,7 @@ impl<Q: Work + Drop, O: Ending + Drop> Control<Q, O> {
     /// - `OutOfMemory`: the log refused the event.
     pub fn wakeup<L: Log>(&mut self, log: &mut L, who: Who) -> WakeupReply
         requires { is_maker who ≡ true }
-        ensures answers { Answers self.old.opening who Call.Wakeup self.old.journal (reply_of_wakeup result) self.new.journal }
-        ensures logged { L.events log.new ≡ L.events log.old ++ drop (length self.old.journal) self.new.journal }
-        ensures same_log { L.name log.new ≡ L.name log.old }
-        ensures memory { lacks_memory (reply_of_wakeup result) ≡ true → L.may_refuse log.old }
-        ensures unchanged { comes_with_event (reply_of_wakeup result) ≡ false → self.new ≡ self.old }
-        ensures opening { self.new.opening ≡ self.old.opening }
+        ensures called { Called L.events L.name L.may_refuse who Call.Wakeup self.old self.new log.old log.new (reply_of_wakeup result) }
         ensures origins { self.new.origins ≡ self.old.origins }
         ensures queue { self.new.queue ≡ self.old.queue }
         ensures endings { self.new.endings ≡ self.old.endings }
@@ -390,12 +352,7 @@ impl<Q: Work + Drop, O: Ending + Drop> Control<Q, O> {
     ) -> FinishReply<Claim<Q>, O>
         requires maker { is_maker who ≡ true }
         requires origin { O.origin ending ≡ claim.origin }
-        ensures answers { Answers self.old.opening who (Call.Finish claim.ticket (O.code_of ending) (O.size_of ending)) self.old.journal (reply_of_finish result) self.new.journal }
-        ensures logged { L.events log.new ≡ L.events log.old ++ drop (length self.old.journal) self.new.journal }
-        ensures same_log { L.name log.new ≡ L.name log.old }
-        ensures memory { lacks_memory (reply_of_finish result) ≡ true → L.may_refuse log.old }
-        ensures unchanged { comes_with_event (reply_of_finish result) ≡ false → self.new ≡ self.old }
-        ensures opening { self.new.opening ≡ self.old.opening }
+        ensures called { Called L.events L.name L.may_refuse who (Call.Finish claim.ticket (O.code_of ending) (O.size_of ending)) self.old self.new log.old log.new (reply_of_finish result) }
         ensures origins { self.new.origins ≡ self.old.origins }
         ensures queue { self.new.queue ≡ still_running self.new.journal self.old.queue }
         ensures endings { self.new.endings ≡ still_waiting self.new.journal self.old.endings ++ ending_recorded result claim.ticket ending }

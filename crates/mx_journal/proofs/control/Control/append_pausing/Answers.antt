@@ -18,11 +18,5 @@ invariant_of-self g c =
           c.self.invariant.origins (pausing_adds_none c.args.event.what c.requires.kind) c.self.invariant.origins.own);
     }
 
-pub returns-then-is_err-clause-room : goal.returns-then-is_err-clause-room
-returns-then-is_err-clause-room g c = search rules
-
 pub enter-requires-clause-room : goal.enter-requires-clause-room
 enter-requires-clause-room g c = search rules
-
-pub returns-clause-room : goal.returns-clause-room
-returns-clause-room g c = search rules

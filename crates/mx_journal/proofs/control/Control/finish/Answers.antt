@@ -1,9 +1,9 @@
 use Rattle.std.proofs.Common.{◌≡◌, ◌<◌, ◌∙◌, ap, append-nil, map, refl, sym, true, arith, length, rules}
-use Rattle.std.proofs.lemmas.Grind.{common_steps}
 use Rattle.mx_history.specs.History.{has_ticket, running, same_ticket}
 use Rattle.mx_journal.proofs.Controls.{control-finished, endings_short}
 use Rattle.mx_journal.proofs.Remains.{queue_stays, queue_ended, endings_stay, endings_ended}
 use Rattle.std.specs.Prelude.{not, Some}
+use Rattle.mx_types.specs.Limits.{most_handles}
 use Rattle.mx_types.specs.declared.event.What.TheVariants as what
 use Rattle.mx_journal.proofs.Origins.{origins-then, own_filter, own_pushed}
 use Rattle.std.specs.declared.snapshot.Snapshot.{Snapshot}
@@ -17,7 +17,7 @@ push_reserved-requires g c =
     let yes : c.runs.result ≡ true = search rules in
     let may : has_ticket c.ticket-ticket.result (running j) ≡ true =
     sym (rw (← c.self.view_is, ← c.ticket-ticket.ensures) at c.runs.ensures) ∙ yes in
-    let short : length c.self.inside.endings.items < 256 =
+    let short : length c.self.inside.endings.items < most_handles =
     endings_short g.O.Ending.code_of g.O.Ending.size_of j c.self.inside.endings.items c.ticket-ticket.result s.kept.legal s.waits may in
     omega (arith, short, c.self.inside.endings.ok.0, c.self.invariant.kept.endings_fit)
 
@@ -70,14 +70,5 @@ returns-clause-own g c own is =
     (own_pushed g.O.Ending.origin origins c.self.inside.endings.items c.ticket-ticket.result c.args.ending (rw (← c.self.view_is) at own)
     (ap (λ t. origin_of t origins) c.ticket-ticket.ensures ∙ (rw (← c.self.view_is) at is) ∙ ap Some (sym c.requires.origin)))
 
-pub returns-then-not-runs-clause-answers : goal.returns-then-not-runs-clause-answers
-returns-then-not-runs-clause-answers g c = grind (arith, common_steps)
-
-pub returns-then-is_err-clause-answers : goal.returns-then-is_err-clause-answers
-returns-then-is_err-clause-answers g c = search rules
-
 pub enter-requires-clause-may : goal.enter-requires-clause-may
 enter-requires-clause-may g c = search rules
-
-pub returns-clause-answers : goal.returns-clause-answers
-returns-clause-answers g c = grind (arith, common_steps)

@@ -2,6 +2,7 @@ use Rattle.std.proofs.Common.{◌≡◌, ◌<◌, ◌∙◌, ap, sym, rules, tru
 use Rattle.std.specs.Prelude.{slice_get, slice_set, Some}
 use Rattle.std.specs.declared.snapshot.Snapshot.{Snapshot}
 use Rattle.std.proofs.lemmas.List.{length-map, map-set}
+use Rattle.mx_types.specs.Limits.{most_handles}
 use Rattle.mx_types.specs.declared.names.Ticket.{Ticket}
 use Rattle.mx_history.specs.History.{has_ticket}
 use Rattle.mx_journal.specs.Core.{claimed, origin_of}
@@ -26,7 +27,7 @@ insert_ticket-requires g c =
     let t = c.ticket-ticket.result in
     let yes : c.is_claimed.result ≡ true = search rules in
     let h : has_ticket t (claimed j queue) ≡ true = sym (rw (← c.self.view_is, ← c.ticket-ticket.ensures) at c.is_claimed.ensures) ∙ yes in
-    let short : length queue < 256 =
+    let short : length queue < most_handles =
     queue_short g.O.Ending.code_of g.O.Ending.size_of c.self.inside.history j t c.args.work queue c.self.inside.endings.items _ _ c.self.invariant.kept h in
     omega (arith, short, c.self.inside.queue.ok.0, c.self.invariant.kept.queue_fits)
 

@@ -1,5 +1,4 @@
 use Rattle.std.proofs.Common.{refl, arith, rules}
-use Rattle.std.proofs.lemmas.Grind.{common_steps}
 use Rattle.mx_journal.proofs.Controls.{control-read_first, may_read_first, endings_few}
 use Rattle.mx_types.specs.declared.event.What.TheVariants as what
 use Rattle.mx_journal.proofs.Origins.{origins-then}
@@ -22,9 +21,6 @@ invariant_of-self g c =
           (origins-then g.Q.Work.origin c.self.inside.history c.self.inside.journal.items c.args.who (what.Read c.in-Some.row.ticket) _ c.self.inside.queue.items c.self.inside.queue.items _
           c.self.invariant.origins refl c.self.invariant.origins.own);
     }
-
-pub returns-clause-answers : goal.returns-clause-answers
-returns-clause-answers g c = grind (arith, common_steps)
 
 pub enter-requires-clause-may : goal.enter-requires-clause-may
 enter-requires-clause-may g c =

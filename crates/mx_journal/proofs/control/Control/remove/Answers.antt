@@ -1,11 +1,17 @@
-use Rattle.std.proofs.Common.{◌∙◌, refl, sym}
+use Rattle.std.proofs.Common.{◌≡◌, ◌∙◌, ap, arith, refl, sym, rules}
+use Rattle.std.proofs.lemmas.Grind.{common_steps}
 use Rattle.mx_journal.proofs.Controls.{control-removed}
 use Rattle.mx_history.proofs.Tickets.{may_remove}
 use Rattle.mx_journal.proofs.Remains.{queue_stays, queue_removed, endings_stay, endings_removed}
-use Rattle.std.specs.Prelude.{not}
+use Rattle.std.specs.Prelude.{not, Some}
 use Rattle.mx_types.specs.declared.event.What.TheVariants as what
 use Rattle.mx_history.specs.History.{same_ticket}
 use Rattle.mx_journal.proofs.Origins.{origins-then, own_filter}
+use Rattle.mx_types.specs.declared.call.Call.TheVariants as call
+use Rattle.mx_types.specs.declared.reply.Reply.TheVariants as reply
+use Rattle.mx_history.specs.Answers.{answer}
+use Rattle.mx_journal.specs.Core.{Core}
+use Rattle.mx_journal.proofs.Calling.{answers_with, called_refused, called_with}
 use Rattle.mx_journal.proofs.control.Control.remove.Goals as goal
 
 pub enter-requires-clause-may : goal.enter-requires-clause-may
@@ -54,3 +60,15 @@ pub returns-clause-own : goal.returns-clause-own
 returns-clause-own g c own =
     rw c.drop_ticket-2.ensures.items
     (own_filter g.O.Ending.origin _ (λ x. not (same_ticket x.0 c.in-Some.row.ticket)) c.self.inside.endings.items (rw (← c.self.view_is) at own))
+
+pub returns-then-is_err-clause-called : goal.returns-then-is_err-clause-called
+returns-then-is_err-clause-called g c =
+    called_refused g.L.Log.events g.L.Log.name g.L.Log.may_refuse c.args.who (call.Remove c.args.handle) c.args.self.now c.args.log.now c.append.new.self (search rules) (search rules) c.append.ensures.same (search rules)
+
+pub returns-clause-called : goal.returns-clause-called
+returns-clause-called g c =
+    let t = c.in-Some.row.ticket in
+    let is : answer c.args.self.now.opening c.args.self.now.journal (call.Remove c.args.handle) ≡ (reply.Removed, Some (what.Removed c.args.handle t)) = grind (arith, common_steps) in
+    called_with g.L.Log.events g.L.Log.name g.L.Log.may_refuse c.args.who (call.Remove c.args.handle) c.args.self.now _ c.args.log.now c.append.new.self (what.Removed c.args.handle t) reply.Removed
+    (answers_with c.args.self.now.opening c.args.who (call.Remove c.args.handle) c.args.self.now.journal c.enter.new.journal.items (what.Removed c.args.handle t) reply.Removed is (rw (← c.self.view_is) c.enter.ensures.items))
+    refl refl (rw (← c.self.view_is) c.enter.ensures.items) (search rules) c.append.ensures.same (ap (λ (x : Core _ _). x.opening) c.self.view_is)

@@ -1,5 +1,4 @@
-use Rattle.std.proofs.Common.{◌≡◌, ◌∙◌, refl, sym, rules, true, arith}
-use Rattle.std.proofs.lemmas.Grind.{common_steps}
+use Rattle.std.proofs.Common.{◌≡◌, ◌∙◌, refl, sym, rules, true}
 use Rattle.mx_types.specs.declared.event.What.TheVariants as what
 use Rattle.mx_journal.proofs.Controls.{control-quiet}
 use Rattle.mx_journal.proofs.Origins.{origins-then}
@@ -17,18 +16,3 @@ invariant_of-self g c =
           (origins-then g.Q.Work.origin c.self.inside.history c.self.inside.journal.items c.args.who what.Wake _ c.self.inside.queue.items c.self.inside.queue.items _
           c.self.invariant.origins refl c.self.invariant.origins.own);
     }
-
-pub returns-then-is_err-clause-answers : goal.returns-then-is_err-clause-answers
-returns-then-is_err-clause-answers g c = search rules
-
-pub returns-then-is_err-clause-logged : goal.returns-then-is_err-clause-logged
-returns-then-is_err-clause-logged g c = grind (arith, common_steps)
-
-pub returns-then-is_err-clause-unchanged : goal.returns-then-is_err-clause-unchanged
-returns-then-is_err-clause-unchanged g c = search rules
-
-pub returns-then-not-has_room-clause-answers : goal.returns-then-not-has_room-clause-answers
-returns-then-not-has_room-clause-answers g c = search rules
-
-pub returns-then-not-has_room-clause-memory : goal.returns-then-not-has_room-clause-memory
-returns-then-not-has_room-clause-memory g c = search rules

@@ -1,0 +1,86 @@
+-- What a call leaves by one of its exits: without an event, with one that found no memory, and with one.
+use Rattle.std.proofs.Common.{◌≡◌, ◌∙◌, ℕ, List, [], ◌∷◌, ◌++◌, ap, append-nil, false, length, map, refl, sym, true}
+use Rattle.std.specs.Prelude.{Bool, drop, if◌then◌else◌, not, None, Some}
+use Rattle.std.specs.Option.{IsSome, option_to_list}
+use Rattle.std.proofs.Math.Seq.{drop-append_seam, drop-length}
+use Rattle.std.proofs.lemmas.Bool.{false≢true}
+use Rattle.mx_types.specs.declared.call.Call.{Call}
+use Rattle.mx_types.specs.declared.event.Event.{Event}
+use Rattle.mx_types.specs.declared.event.What.{What}
+use Rattle.mx_types.specs.declared.event.What.TheVariants as what
+use Rattle.mx_types.specs.declared.event.Who.{Who}
+use Rattle.mx_types.specs.declared.names.HandleId.{HandleId}
+use Rattle.mx_types.specs.declared.names.Ticket.{Ticket}
+use Rattle.mx_types.specs.declared.reply.Reply.{Reply}
+use Rattle.mx_types.specs.declared.reply.Reply.TheVariants as reply
+use Rattle.mx_history.specs.Answers.{Answer, Answers, answer, only, pausing_answer, ticket_of}
+use Rattle.mx_history.specs.History.{Opening, has_room, has_ticket, paused, running}
+use Rattle.mx_history.specs.Receipts.{comes_with_event, lacks_memory}
+use Rattle.mx_journal.specs.Called.{Called}
+use Rattle.mx_journal.specs.Core.{Core}
+use Rattle.mx_journal.specs.Replies.{answer_with_room, pausing_call}
+
+idle : (before j : List Event) → before ≡ before ++ drop (length j) j
+idle before j = sym (ap (λ z. before ++ z) (drop-length j) ∙ append-nil before)
+
+grown : (before after j k : List Event) (e : Event) → k ≡ j ++ e ∷ [] → after ≡ before ++ e ∷ [] → after ≡ before ++ drop (length j) k
+grown before after j k e is more = more ∙ ap (λ z. before ++ z) (sym (ap (drop (length j)) is ∙ drop-append_seam j (e ∷ [])))
+
+pub called_none : {L Q O : Type 0} (events : L → List Event) (name : L → List ℕ) (may_refuse : L → Type 0) (who : Who) (call : Call) (x : Core Q O) (log : L) (r : Reply)
+    → Answers x.opening who call x.journal r x.journal → lacks_memory r ≡ false → Called events name may_refuse who call x x log log r
+called_none events name may_refuse who call x log r answers had = record {
+  answers = answers;
+  logged = idle (events log) x.journal;
+  same_log = refl;
+  memory = λ lacks. absurd (false≢true (sym had ∙ lacks));
+  unchanged = λ _. refl;
+  opening = refl;
+}
+
+pub called_refused : {L Q O : Type 0} (events : L → List Event) (name : L → List ℕ) (may_refuse : L → Type 0) (who : Who) (call : Call) (x : Core Q O) (before after : L)
+    → IsSome (answer x.opening x.journal call).1 → events after ≡ events before → name after ≡ name before → may_refuse before
+    → Called events name may_refuse who call x x before after reply.OutOfMemory
+called_refused events name may_refuse who call x before after some same named may = record {
+  answers = (some, refl);
+  logged = same ∙ idle (events before) x.journal;
+  same_log = named;
+  memory = λ _. may;
+  unchanged = λ _. refl;
+  opening = refl;
+}
+
+pub called_with : {L Q O : Type 0} (events : L → List Event) (name : L → List ℕ) (may_refuse : L → Type 0) (who : Who) (call : Call) (x y : Core Q O) (before after : L) (e : What) (r : Reply)
+    → Answers x.opening who call x.journal r y.journal → comes_with_event r ≡ true → lacks_memory r ≡ false → y.journal ≡ x.journal ++ record { who = who; what = e } ∷ []
+    → events after ≡ events before ++ record { who = who; what = e } ∷ [] → name after ≡ name before → y.opening ≡ x.opening → Called events name may_refuse who call x y before after r
+called_with events name may_refuse who call x y before after e r answers comes had journal more named opening = record {
+  answers = answers;
+  logged = grown (events before) (events after) x.journal y.journal (record { who = who; what = e }) journal more;
+  same_log = named;
+  memory = λ lacks. absurd (false≢true (sym had ∙ lacks));
+  unchanged = λ idle. absurd (false≢true (sym idle ∙ comes));
+  opening = opening;
+}
+
+-- the answer with an event is the reply and the journal with that event
+pub answers_with : (opening : Opening) (who : Who) (call : Call) (j k : List Event) (e : What) (r : Reply) → answer opening j call ≡ (r, Some e) → k ≡ j ++ record { who = who; what = e } ∷ []
+    → (r ≡ (answer opening j call).0) × (k ≡ j ++ map (λ w. record { who = who; what = w }) (option_to_list (answer opening j call).1))
+answers_with opening who call j k e r is more =
+    (sym (ap (λ (a : Answer). a.0) is), more ∙ ap (λ (a : Answer). j ++ map (λ w. record { who = who; what = w }) (option_to_list a.1)) (sym is))
+
+with_room : (b : Bool) (e : What) → (if b then (reply.Changed, Some e) else only reply.HistoryFull) ≡ answer_with_room b e
+with_room true e = refl
+with_room false e = refl
+
+-- what pauses or resumes a ticket
+abbrev pub pausing : Bool → Ticket → What
+pausing pauses t = if pauses then what.Paused t else what.Resumed t
+
+-- a ticket that runs is paused where it isn't, and resumed where it is
+pub pausing_answers : (opening : Opening) (j : List Event) (h : HandleId) (t : Ticket) (pauses : Bool) (e : What) → ticket_of h j ≡ Some t → has_ticket t (running j) ≡ true → has_ticket t (paused j) ≡ not pauses
+    → e ≡ pausing pauses t → answer opening j (pausing_call pauses h) ≡ answer_with_room (has_room opening.history j 1) e
+pausing_answers opening j h t true e added runs held is =
+    ap (λ o. elim o [ None ↦ only reply.NotAdded | Some u ↦ pausing_answer opening j u (has_ticket u (paused j)) (what.Paused u) ]) added
+    ∙ rw (runs, held, is) (with_room (has_room opening.history j 1) (what.Paused t))
+pausing_answers opening j h t false e added runs held is =
+    ap (λ o. elim o [ None ↦ only reply.NotAdded | Some u ↦ pausing_answer opening j u (not (has_ticket u (paused j))) (what.Resumed u) ]) added
+    ∙ rw (runs, held, is) (with_room (has_room opening.history j 1) (what.Resumed t))
