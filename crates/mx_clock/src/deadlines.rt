@@ -1,12 +1,9 @@
-//! At most 64 deadlines, one for a ticket.
+//! Deadlines of the transfers that a worker holds, one for a ticket.
 ghost use Rattle.std.specs.Prelude.{◌≡◌, ◌<◌, ◌≤◌, ◌↔◌, ℕ, List, [], length, map, count_by, IsTrue, IsNone, IfSome, All, Any};
 
 use arrayvec::ArrayVec;
-use mx_types::Ticket;
+use mx_types::{MOST_TRANSFERS, Ticket};
 use std::marker::Model;
-
-/// The most tickets that can have a deadline at once.
-pub const MOST: usize = 64;
 
 /// A moment that is set for a ticket. Moments are milliseconds on whatever clock the caller reads.
 #[derive(Clone, Copy, Debug, Default, PartialEq, Eq)]
@@ -27,15 +24,16 @@ impl Deadline {
     }
 }
 
-/// The deadlines that are set, at most one for a ticket and at most [`MOST`]. Contracts see them as a list, by
+/// The deadlines that are set, at most one for a ticket and at most [`MOST_TRANSFERS`]. Contracts see them as a list, by
 /// moment and then by ticket.
 #[derive(Drop)]
 pub struct Deadlines {
-    set: ArrayVec<Deadline, MOST>,
+    set: ArrayVec<Deadline, MOST_TRANSFERS>,
 }
 
 impl Model for Deadlines {
     ghost use Rattle.std.specs.Prelude.{List, length, ◌≤◌};
+    ghost use Rattle.mx_types.specs.Limits.{most_transfers};
     ghost use Rattle.mx_clock.specs.declared.deadlines.Deadline.{Deadline as OneDeadline};
     ghost use Rattle.mx_clock.specs.InOrder.{IsInOrder};
 
@@ -43,7 +41,7 @@ impl Model for Deadlines {
 
     ghost view = { λ d. d.set.items };
 
-    ghost invariant = { λ d. IsInOrder d.set.items × (length d.set.items ≤ 64) };
+    ghost invariant = { λ d. IsInOrder d.set.items × (length d.set.items ≤ most_transfers) };
 }
 
 impl Deadlines {
@@ -58,13 +56,13 @@ impl Deadlines {
         }
     }
 
-    /// Whether `ticket` can be set: fewer than [`MOST`] other tickets are.
+    /// Whether `ticket` can be set: fewer than [`MOST_TRANSFERS`] other tickets are.
     pub fn has_room_for(&self, ticket: Ticket) -> bool
-        ensures room { IsTrue result ↔ (count_by (is_other ticket) self.now < MOST) }
+        ensures room { IsTrue result ↔ (count_by (is_other ticket) self.now < MOST_TRANSFERS) }
         ensures ordered { IsInOrder self.now }
     {
         let others = self.count_others(ticket);
-        others < MOST
+        others < MOST_TRANSFERS
     }
 
     fn count_others(&self, ticket: Ticket) -> usize
@@ -81,9 +79,9 @@ impl Deadlines {
         self.set.iter().filter(|d| d.is_before(&deadline)).count()
     }
 
-    /// Sets the ticket's deadline, in place of one that it had. Fewer than [`MOST`] other tickets may be set.
+    /// Sets the ticket's deadline, in place of one that it had. Fewer than [`MOST_TRANSFERS`] other tickets may be set.
     pub fn set(&mut self, ticket: Ticket, moment: u64)
-        requires { count_by (is_other ticket) self.old < MOST }
+        requires { count_by (is_other ticket) self.old < MOST_TRANSFERS }
         ensures set { Sets self.old self.new (record { moment = moment; ticket = ticket }) }
         ensures ordered { IsInOrder self.new }
     {
@@ -110,7 +108,7 @@ impl Deadlines {
     }
 
     /// The tickets whose moment isn't after `now`, by moment and then by ticket. They are cleared.
-    pub fn due(&mut self, now: u64) -> ArrayVec<Ticket, MOST>
+    pub fn due(&mut self, now: u64) -> ArrayVec<Ticket, MOST_TRANSFERS>
         ensures due { result.items ≡ map (λ d. d.ticket) (due_at self.old now) }
         ensures kept { self.new ≡ not_due_at self.old now }
         ensures ordered { IsInOrder (due_at self.old now) }

@@ -3,4 +3,4 @@
 
 mod deadlines;
 
-pub use crate::deadlines::{Deadline, Deadlines, MOST};
+pub use crate::deadlines::{Deadline, Deadlines};
