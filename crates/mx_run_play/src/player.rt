@@ -1,5 +1,6 @@
 //! The one who plays a script: seat 0 of a control core of its own.
-ghost use Rattle.std.specs.Prelude.{◌≡◌, ◌≤◌, [], IfOk};
+ghost use Rattle.std.specs.Prelude.{◌≡◌, [], IfOk};
+ghost use Rattle.mx_types.specs.Limits.{IsHistory};
 ghost use Rattle.mx_types.specs.declared.call.Call.{Call};
 ghost use Rattle.mx_run_play.specs.Turns.{says, player_past};
 ghost use Rattle.mx_run_play.specs.Players.{Passes, IsAnswered};
@@ -93,7 +94,7 @@ impl Model for Player {
 
 impl Player {
     pub fn new(alloc: Global, history: u32) -> Result<Player, OutOfMemory>
-        requires { (4 ≤ history) × (history ≤ 1048576) }
+        requires { IsHistory history }
         ensures { IfOk result (λ p. p ≡ record { opening = record { history = history }; journal = []; claims = []; mark = 0 }) }
     {
         Ok(Player {

@@ -1,5 +1,6 @@
 //! The command `play`.
 ghost use Rattle.std.specs.Prelude.{◌≡◌, ◌≢◌, ◌+◌, ◌≤◌, ◌↔◌, true, false, IsErr, IfOk};
+ghost use Rattle.mx_types.specs.Limits.{IsHistory};
 ghost use Rattle.mx_run_io.specs.Ends.{reader_of, reads_of, most_reads_of, has_failed_read, writer_of, has_failed_write, is_pending};
 ghost use Rattle.mx_run_play.specs.Run.{PrintsUnread, AnswersScript, WasAsked};
 
@@ -20,7 +21,7 @@ fn play_script<R: Read, W: Write>(
     input: &mut Input<R>,
     output: &mut Output<W>,
 ) -> Result<u8, WriteFailed>
-    requires history { (4 ≤ history) × (history ≤ 1048576) }
+    requires history { IsHistory history }
     requires allowed { most_reads_of input.old ≤ 4294967295 }
     ensures reads { reads_of input.new ≤ reads_of input.old + 4294967295 }
     ensures asked { has_failed_read input.new ≡ true → WasAsked (has_failed_read input.old)
@@ -62,7 +63,7 @@ pub fn run_play<R: Read, W: Write>(
     input: &mut Input<R>,
     output: &mut Output<W>,
 ) -> u8
-    requires history { (4 ≤ history) × (history ≤ 1048576) }
+    requires history { IsHistory history }
     requires allowed { most_reads_of input.old ≤ 4294967295 }
     ensures reads { reads_of input.new ≤ reads_of input.old + 4294967295 }
     ensures asked { has_failed_read input.new ≡ true → WasAsked (has_failed_read input.old)
