@@ -23,10 +23,10 @@ const RESERVED: [&str; 9] = [
 ];
 
 /// The most fields that a caller may add.
-const MAX_FIELDS: usize = 64;
+const MOST_FIELDS: usize = 64;
 
 /// The most bytes of a field's value.
-const MAX_VALUE: usize = 8_192;
+const MOST_VALUE: usize = 8_192;
 
 /// Whether two names are the same, in any letter case.
 pub fn is_same_name(one: &str, other: &str) -> bool
@@ -118,7 +118,7 @@ fn is_field_value(value: &str) -> bool
     ensures { result ≡ spec.is_field_value value.now }
 {
     let bytes = value.as_bytes();
-    bytes.len() <= MAX_VALUE
+    bytes.len() <= MOST_VALUE
         && are_value_bytes(bytes)
         && !is_some_blank(bytes.first())
         && !is_some_blank(bytes.last())
@@ -143,7 +143,7 @@ fn are_extra_fields(fields: &[(String, String)]) -> bool
     ensures { result ≡ (nat_le (length fields.now) 64
         && list_all (λ pair. spec.is_field (field_of pair)) fields.now) }
 {
-    fields.len() <= MAX_FIELDS && are_all_fields(fields)
+    fields.len() <= MOST_FIELDS && are_all_fields(fields)
 }
 
 fn is_user_agent(agent: &Option<String>) -> bool

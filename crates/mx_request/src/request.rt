@@ -19,10 +19,10 @@ use url::{ParseError, Url};
 mod same;
 
 /// The most bytes of a URL's text.
-const MAX_TEXT: usize = 65_536;
+const MOST_TEXT: usize = 65_536;
 
 /// The most bytes of a body.
-const MAX_BODY: usize = 1_048_576;
+const MOST_BODY: usize = 1_048_576;
 
 /// A request: its method, its URL, where it goes, the bytes that go there, and how long it may take; and what a request that follows
 /// it is made from: its settings, and the endpoint of the first request of its chain. Contracts see it as these.
@@ -137,7 +137,7 @@ fn parse_url(alloc: Global, text: &str) -> Result<Url, RequestError>
         (λ e. (url_of text.now ≡ Err e) ⊎ (e ≡ refusal.OutOfMemory)) }
     ensures too_long { 65536 < length text.now → result ≡ Err refusal.Malformed }
 {
-    if text.len() > MAX_TEXT {
+    if text.len() > MOST_TEXT {
         return Err(RequestError::Malformed);
     }
     match Url::parse(alloc, text) {
@@ -152,7 +152,7 @@ fn is_body_too_large(body: &Option<Vec<u8>>) -> bool
     ensures { result ≡ spec.is_body_too_large (option_map (λ bytes. bytes.items) body.now) }
 {
     match body {
-        Some(body) => body.len() > MAX_BODY,
+        Some(body) => body.len() > MOST_BODY,
         None => false,
     }
 }
@@ -206,7 +206,7 @@ fn request_in_chain(
 fn check_joined(url: Url) -> Result<Url, RequestError>
     ensures { result ≡ short_url (Ok url) }
 {
-    if url.as_str().len() > MAX_TEXT {
+    if url.as_str().len() > MOST_TEXT {
         return Err(RequestError::Malformed);
     }
     check_url(url)
