@@ -1,6 +1,6 @@
 -- What a scripted gate answers.
 use Rattle.std.specs.Prelude.{◌≡◌, ℕ, max, true, List, [], ◌∷◌, Option, Result, Ok, Err}
-use Rattle.mx_exchange.specs.Endings.{is_link_code}
+use Rattle.mx_types.specs.Code.{is_link_code}
 use Rattle.mx_link.specs.declared.answers.Answer.{Answer}
 use Rattle.mx_types.specs.declared.code.Code.{Code}
 use Rattle.mx_types.specs.declared.code.Code.TheVariants as code

@@ -1,6 +1,6 @@
 //! The trait that every gate has.
 ghost use Rattle.std.specs.Prelude.{◌≡◌, ◌≤◌, ℕ, true, [], IfOk, IfErr};
-ghost use Rattle.mx_exchange.specs.Endings.{is_link_code};
+ghost use Rattle.mx_types.specs.Code.{is_link_code};
 
 use mx_link::Link;
 use mx_request::Endpoint;

@@ -26,8 +26,7 @@ pub struct ReadyLink<L: Link> {
 
 impl<L: Link> Model for ReadyLink<L> {
     ghost use Rattle.std.specs.Prelude.{◌≡◌, true, false};
-    ghost use Rattle.mx_link.specs.Answers.{faults, is_read, is_write};
-    ghost use Rattle.mx_exchange.specs.Order.{is_connect};
+    ghost use Rattle.mx_link.specs.Answers.{is_connect, faults, is_read, is_write};
     ghost use Rattle.mx_gate.specs.Ready.{ReadyState, telling, waits};
 
     ghost Value = { ReadyState L };
@@ -105,8 +104,7 @@ impl<L: Link> ReadyLink<L> {
 }
 
 impl<L: Link> Link for ReadyLink<L> {
-    ghost use Rattle.mx_link.specs.Answers.{is_read, is_write};
-    ghost use Rattle.mx_exchange.specs.Order.{is_connect};
+    ghost use Rattle.mx_link.specs.Answers.{is_connect, is_read, is_write};
     ghost use Rattle.mx_gate.specs.Ready.{IsAnswered};
 
     ghost history = { λ link. link.history };

@@ -1,6 +1,6 @@
 //! A gate that answers from a script.
 ghost use Rattle.std.specs.Prelude.{◌≡◌, ◌≤◌, ◌-◌, ◌==◌, ◌∷◌, ◌++◌, true, false, [], length, Some, None, IfOk, IfErr, OnOk, OnErr};
-ghost use Rattle.mx_exchange.specs.Endings.{is_link_code};
+ghost use Rattle.mx_types.specs.Code.{is_link_code};
 ghost use Rattle.mx_gate.specs.Gates.{turn_of};
 ghost use Rattle.mx_gate.specs.Script.{IsOpening, next_opening, next_moment};
 

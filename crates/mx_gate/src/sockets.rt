@@ -1,7 +1,7 @@
 //! A gate to the network.
 ghost use Rattle.std.specs.Prelude.{◌≡◌, ◌≤◌, ◌/◌, ◌-◌, ◌^◌, true, false, [], min, max, IfOk, IfErr, OnErr};
 ghost use Rattle.std.specs.Duration.{as_nanos};
-ghost use Rattle.mx_exchange.specs.Endings.{is_link_code};
+ghost use Rattle.mx_types.specs.Code.{is_link_code};
 ghost use Rattle.mx_gate.specs.Gates.{moment_after, next_token, turn_of, is_start_code};
 
 use crate::addresses::address_of;

@@ -28,6 +28,13 @@ is_blocked answers.ReadBlocked = true
 is_blocked answers.WriteBlocked = true
 is_blocked _ = false
 
+-- the answer to the question whether the connection stands
+abbrev pub is_connect : Answer → Bool
+is_connect answers.Connected = true
+is_connect answers.ConnectBlocked = true
+is_connect answers.ConnectFailed = true
+is_connect _ = false
+
 -- the answer to a read
 abbrev pub is_read : Answer → Bool
 is_read (answers.Gave bytes) = true
