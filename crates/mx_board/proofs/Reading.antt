@@ -8,11 +8,11 @@ use Rattle.logbook.specs.Pages.{Book}
 use Rattle.mx_types.specs.declared.event.Who.{Who}
 use Rattle.mx_types.specs.declared.event.Event.{Event}
 use Rattle.mx_history.specs.History.{is_legal, made_by}
-use Rattle.mx_board.specs.Journal.{Mark}
+use Rattle.mx_append_log.specs.Log.{Mark}
 use Rattle.mx_board.specs.declared.view.ReaderView.{ReaderView}
 use Rattle.mx_board.specs.Board.{mark_of, ReaderState, ConfirmsAllButLast, Reads, BeginsButLast, AreOfOneJournal, OneBeginsOther}
 use Rattle.mx_board.specs.Published.{Shown, HasSeen, CaughtUp}
-use Rattle.mx_board.proofs.Prefixes.{prefix_self, prefix_trans}
+use Rattle.mx_append_log.proofs.Prefixes.{prefix_self, prefix_trans}
 
 -- a reader with a mark, and perhaps an event behind it
 abbrev pub reader_at : Who → List Event → Option Event → Book → ReaderState
@@ -23,18 +23,18 @@ but_last w xs None b = let all = ap length (append-nil xs) in (omega (arith, all
 but_last w xs (Some e) b = let all = length-append xs (e ∷ []) in (omega (arith, all), omega (arith, all))
 
 -- what an enter tells of a version whose journal is j: it begins with what was seen, is legal, and the place has then seen it
-pub record Shows (m : Mark) (j : List Event) (b : Book) (w : ReaderView) : Type 0 where
-  pub later : IsPrefix m.events j
+pub record Shows (m : Mark Event) (j : List Event) (b : Book) (w : ReaderView) : Type 0 where
+  pub later : IsPrefix m.entries j
   pub legal : is_legal j ≡ true
   pub book : b ≡ m.book
   pub seen : HasSeen (mark_of j b) w
 
-pub shows : (m : Mark) (v w : ReaderView) (x : Shown) (j : List Event) (b : Book) → HasSeen m v → CaughtUp v x w → x.1 ≡ mark_of j b → Shows m j b w
+pub shows : (m : Mark Event) (v w : ReaderView) (x : Shown) (j : List Event) (b : Book) → HasSeen m v → CaughtUp v x w → x.1 ≡ mark_of j b → Shows m j b w
 shows m v w x j b h s is =
-    let later = prefix_trans m.events v.seen x.1.events h.later s.0.later in
+    let later = prefix_trans m.entries v.seen x.1.entries h.later s.0.later in
     let book = sym (s.0.book h.knows) ∙ h.book in
-    let seen = subst (HasSeen x.1) (sym s.2) (record { knows = refl; book = refl; later = prefix_self x.1.events }) in
-    subst (λ (n : Mark). Shows m n.events n.book w) is (record { later = later; legal = s.1.table.legal; book = book; seen = seen })
+    let seen = subst (HasSeen x.1) (sym s.2) (record { knows = refl; book = refl; later = prefix_self x.1.entries }) in
+    subst (λ (n : Mark Event). Shows m n.entries n.book w) is (record { later = later; legal = s.1.table.legal; book = book; seen = seen })
 
 -- a read that shows nothing new
 pub reads_same : (w : Who) (xs : List Event) (o : Option Event) (b : Book) → is_legal (xs ++ option_to_list o) ≡ true → Reads (reader_at w xs o b) (reader_at w xs o b)

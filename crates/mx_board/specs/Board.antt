@@ -3,13 +3,13 @@ use Rattle.std.specs.Prelude.{◌≡◌, ◌⊎◌, ℕ, ◌+◌, ◌≤◌, Lis
 use Rattle.std.specs.Option.{MatchOption}
 use mathlib.Core.List.{IsPrefix}
 use Rattle.logbook.specs.Pages.{Book}
+use Rattle.mx_append_log.specs.Log.{Mark}
 use Rattle.mx_types.specs.declared.names.HandleId.{HandleId}
 use Rattle.mx_types.specs.declared.event.Who.{Who}
 use Rattle.mx_types.specs.declared.event.Event.{Event}
 use Rattle.mx_history.specs.History.{is_legal, made_by}
 use Rattle.mx_history.specs.Answers.{ticket_of}
 use Rattle.mx_history.specs.Slots.{slot_of}
-use Rattle.mx_board.specs.Journal.{Mark}
 use Rattle.mx_board.specs.declared.queries.Found.{Found}
 
 -- the events that were appended, those that are published, and which journal it is
@@ -25,8 +25,8 @@ pub record ReaderState : Type 0 where
   pub book : Book
   pub confirmed : ℕ
 
-abbrev pub mark_of : List Event → Book → Mark
-mark_of j b = record { events = j; book = b }
+abbrev pub mark_of : List Event → Book → Mark Event
+mark_of j b = record { entries = j; book = b }
 
 -- the reader has seen all these events, and they are confirmed
 abbrev pub caught_up : Who → List Event → Book → ReaderState

@@ -44,9 +44,9 @@ impl Model for BoardReader {
 
     ghost Value = { ReaderState };
 
-    ghost view = { λ r. record { who = r.who; seen = r.mark.events ++ option_to_list r.unconfirmed; book = r.mark.book; confirmed = length r.mark.events } };
+    ghost view = { λ r. record { who = r.who; seen = r.mark.entries ++ option_to_list r.unconfirmed; book = r.mark.book; confirmed = length r.mark.entries } };
 
-    ghost invariant = { λ r. IfSome r.place (λ x. HasSeen (mark_of (r.mark.events ++ option_to_list r.unconfirmed) r.mark.book) x.place.me.0.client) × (r.made ≡ made_by r.who (r.mark.events ++ option_to_list r.unconfirmed)) × (is_maker r.who ≡ true) × (r.cut ≡ length (r.mark.events ++ option_to_list r.unconfirmed)) };
+    ghost invariant = { λ r. IfSome r.place (λ x. HasSeen (mark_of (r.mark.entries ++ option_to_list r.unconfirmed) r.mark.book) x.place.me.0.client) × (r.made ≡ made_by r.who (r.mark.entries ++ option_to_list r.unconfirmed)) × (is_maker r.who ≡ true) × (r.cut ≡ length (r.mark.entries ++ option_to_list r.unconfirmed)) };
 }
 
 /// What a version shows: the answer, how many events the reader's maker made, how many there are, and the journal.
@@ -66,7 +66,7 @@ fn look<Q: Query>(
     who: Who,
 ) -> (VersionReader, Option<Reading<Q::Answer>>)
     requires { is_maker who ≡ true }
-    ensures { MatchOption result.1 (view result.0.place ≡ view place.place) (λ f. (x : Shown) × (x.1 ≡ mark_of (f.mark.events ++ option_to_list f.last) f.mark.book) × CaughtUp (view place.place) x (view result.0.place) × Q.is_answer query.now x.1.events f.answer × (f.made ≡ made_by who x.1.events) × (f.cut ≡ length x.1.events)) }
+    ensures { MatchOption result.1 (view result.0.place ≡ view place.place) (λ f. (x : Shown) × (x.1 ≡ mark_of (f.mark.entries ++ option_to_list f.last) f.mark.book) × CaughtUp (view place.place) x (view result.0.place) × Q.is_answer query.now x.1.entries f.answer × (f.made ≡ made_by who x.1.entries) × (f.cut ≡ length x.1.entries)) }
 {
     match place.enter_as::<CatchesUp>() {
         Ok(entered) => {
@@ -90,9 +90,9 @@ fn look<Q: Query>(
 
 // Whether the event stands behind the mark in the journal.
 fn stands_next(event: Event, next: Option<Event>, mark: &JournalMark, all: &JournalMark) -> bool
-    requires next { next ≡ slice_get all.now.events (length mark.now.events) }
-    requires begins { IsPrefix mark.now.events all.now.events }
-    ensures { OnTrue result (IsPrefix (mark.now.events ++ event ∷ []) all.now.events) }
+    requires next { next ≡ slice_get all.now.entries (length mark.now.entries) }
+    requires begins { IsPrefix mark.now.entries all.now.entries }
+    ensures { OnTrue result (IsPrefix (mark.now.entries ++ event ∷ []) all.now.entries) }
 {
     let _ = mark;
     let _ = all;
@@ -144,8 +144,8 @@ impl BoardReader {
     /// confirmed.
     pub fn is_behind(&self, all: &JournalMark, next: Option<Event>) -> bool
         requires book { self.now.book ≡ all.now.book }
-        requires next { next ≡ slice_get all.now.events self.now.confirmed }
-        ensures { OnTrue result (IsPrefix self.now.seen all.now.events) }
+        requires next { next ≡ slice_get all.now.entries self.now.confirmed }
+        ensures { OnTrue result (IsPrefix self.now.seen all.now.entries) }
     {
         if all.reaches(&self.mark) {
             return match self.unconfirmed {

@@ -34,7 +34,7 @@ impl Model for Version {
 
     ghost Value = { Shown };
 
-    ghost view = { λ v. (v.table, mark_of (v.before.events ++ option_to_list v.last) v.before.book) };
+    ghost view = { λ v. (v.table, mark_of (v.before.entries ++ option_to_list v.last) v.before.book) };
 }
 
 impl Version {
@@ -51,7 +51,7 @@ impl Version {
 
     /// A mark, and the event behind it: together the version's journal.
     pub fn journal(&self) -> (JournalMark, Option<Event>)
-        ensures { mark_of (result.0.events ++ option_to_list result.1) result.0.book ≡ self.now.1 }
+        ensures { mark_of (result.0.entries ++ option_to_list result.1) result.0.book ≡ self.now.1 }
     {
         (self.before.again(), self.last)
     }

@@ -7,10 +7,11 @@ ghost use Rattle.mx_history.specs.Table.{IsTableOf};
 ghost use Rattle.mx_board.specs.Board.{mark_of};
 ghost use Rattle.mx_board.specs.Published.{CaughtUp, IsSound, IsWaiting, shown_by, view_of};
 
-use crate::journal::{JournalMark, JournalWord, begin_journal};
+use crate::journal::JournalMark;
 use crate::operation::Operation;
 use crate::version::{CatchesUp, Tells, Version, VersionReader, VersionWriter};
 use left_right::writer::Writer;
+use mx_append_log::{AppendLog, Itself};
 use mx_history::Log;
 use mx_table::Table;
 use mx_types::{Event, OutOfMemory, Who};
@@ -27,8 +28,7 @@ use std::sync::Wait;
 #[derive(Drop)]
 pub struct BoardWriter {
     writer: ManuallyDrop<VersionWriter>,
-    mark: JournalMark,
-    word: JournalWord,
+    journal: AppendLog<Event>,
     /// An event was refused once its operation waited, which doesn't happen: none is taken any more.
     broken: bool,
 }
@@ -41,9 +41,9 @@ impl Model for BoardWriter {
 
     ghost Value = { BoardState };
 
-    ghost view = { λ w. record { events = w.mark.events; published = (manually_drop_value w.writer).desk.shown.value.1.events; book = w.mark.book } };
+    ghost view = { λ w. record { events = w.journal.entries; published = (manually_drop_value w.writer).desk.shown.value.1.entries; book = w.journal.book } };
 
-    ghost invariant = { λ w. IsBoard (manually_drop_value w.writer).desk.shown.value (manually_drop_value w.writer).desk.place.me.0.client (drop (manually_drop_value w.writer).behind (manually_drop_value w.writer).log.items) w.mark w.word w.broken };
+    ghost invariant = { λ w. IsBoard (manually_drop_value w.writer).desk.shown.value (manually_drop_value w.writer).desk.place.me.0.client (drop (manually_drop_value w.writer).behind (manually_drop_value w.writer).log.items) w.journal w.broken };
 }
 
 // A writer of two copies isn't `Drop`: it ends by `take`, which waits.
@@ -57,12 +57,12 @@ fn hold(writer: VersionWriter) -> ManuallyDrop<VersionWriter>
 fn publish_all<R: Wait>(
     rt: &R,
     writer: VersionWriter,
-    events: &Snapshot<JournalMark>,
+    events: &Snapshot<AppendLog<Event>>,
 ) -> VersionWriter
     requires sound { IsSound writer.desk.shown.value }
-    requires waits { IsWaiting (drop writer.behind writer.log.items) writer.desk.shown.value.1 events.now.value.events }
-    requires legal { is_legal events.now.value.events ≡ true }
-    requires few { length events.now.value.events < 4294967295 }
+    requires waits { IsWaiting (drop writer.behind writer.log.items) writer.desk.shown.value.1 events.now.value.entries }
+    requires legal { is_legal events.now.value.entries ≡ true }
+    requires few { length events.now.value.entries < 4294967295 }
     ensures shown { result.desk.shown.value ≡ shown_by writer.desk.shown.value (drop writer.behind writer.log.items) }
     ensures none { drop result.behind result.log.items ≡ [] }
     ensures caught_up { CaughtUp (view writer.desk.place) result.desk.shown.value (view result.desk.place) }
@@ -76,19 +76,18 @@ pub fn board<R: Wait>(rt: &R, alloc: Global, readers: usize) -> Result<BoardWrit
     requires { (0 < readers) × (readers < 65) }
     ensures { IfOk result (λ w. (w.events ≡ []) × (w.published ≡ [])) }
 {
-    let (word, mark) = begin_journal();
-    let first = Version::new(alloc, mark.again())?;
-    let second = Version::new(alloc, mark.again())?;
+    let journal = AppendLog::new();
+    let first = Version::new(alloc, journal.counted())?;
+    let second = Version::new(alloc, journal.counted())?;
     let Ok(writer) = VersionWriter::new(alloc, first, second, readers) else {
         return Err(OutOfMemory);
     };
     // The writer's own place is told of the empty journal.
-    let events = Snapshot::of(&mark);
+    let events = Snapshot::of(&journal);
     let writer = publish_all(rt, writer, &events);
     Ok(BoardWriter {
         writer: hold(writer),
-        mark,
-        word,
+        journal,
         broken: false,
     })
 }
@@ -108,19 +107,17 @@ impl Log for BoardWriter {
         if self.broken || self.writer.has_pending_operations() {
             return Err(OutOfMemory);
         }
-        if self.mark.len() >= MOST_EVENTS {
+        if self.journal.len() >= MOST_EVENTS {
             return Err(OutOfMemory);
         }
         let operation = Operation {
             event,
-            before: self.mark.again(),
+            before: self.journal.counted(),
         };
         if self.writer.append(operation).is_err() {
             return Err(OutOfMemory);
         }
-        let mut mark = self.mark.again();
-        if mark.add(&self.word, event) {
-            self.mark = mark;
+        if self.journal.try_add::<Event, Itself>(&event) {
             return Ok(());
         }
         self.broken = true;
@@ -140,16 +137,14 @@ impl BoardWriter {
         }
         let BoardWriter {
             writer,
-            mark,
-            word,
+            journal,
             broken,
         } = self;
-        let events = Snapshot::of(&mark);
+        let events = Snapshot::of(&journal);
         let writer = publish_all(rt, ManuallyDrop::into_inner(writer), &events);
         BoardWriter {
             writer: hold(writer),
-            mark,
-            word,
+            journal,
             broken,
         }
     }
@@ -165,7 +160,7 @@ impl BoardWriter {
     pub fn mark(&self) -> JournalMark
         ensures { result ≡ mark_of self.now.events self.now.book }
     {
-        self.mark.again()
+        self.journal.counted()
     }
 
     /// Ends the board: it waits for the readers that read, gives its memory back, and hands out the table that was

@@ -1,4 +1,3 @@
-pub mod Joining
 pub mod Keys
 pub mod Leaving
 pub mod Claims

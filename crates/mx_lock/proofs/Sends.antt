@@ -23,11 +23,12 @@ use Rattle.atomic_table.proofs.shared.Seat.TheSendSync.{the_send as chair_send}
 use Rattle.atomic_table.proofs.shared.Shared.TheSendSync.{the_send as words_send, the_sync as words_sync}
 use Rattle.crossbeam_channel.proofs.bells.Bell.TheSendSync.{the_send as bell_send, the_sync as bell_sync}
 use Rattle.mx_board.proofs.writer.BoardWriter.TheSendSync.{the_send as board_send}
-use Rattle.mx_lock.proofs.ties.TieLog.TheSendSync.{the_send as ties_send}
+use Rattle.mx_append_log.proofs.log.AppendLog.TheSendSync.{the_send as ties_send}
 use Rattle.mx_lock.specs.contracts.shared.Shared as Shared
 use Rattle.mx_lock.specs.contracts.shared.Shared.TheInside as SharedInside
 use Rattle.mx_lock.specs.contracts.lock.Lock as Lock
 use Rattle.mx_lock.specs.contracts.lock.Lock.TheInside as LockInside
+use Rattle.mx_types.specs.contracts.origin.Origin as Origin
 use Rattle.mx_types.specs.declared.work.Work as work
 use Rattle.mx_types.specs.declared.work.Ending as ending
 
@@ -43,7 +44,7 @@ control_send Q O g h q o =
     search (sendable) depth 40 fits 20000
 
 shared_inside : (Q O : RattleType) (g : work.Ghosts Q.Denot) (h : ending.Ghosts O.Denot) → IsSend Q → IsSend O → IsSend (SharedInside.the_field Q O g h).row
-shared_inside Q O g h q o = struct_send (shape (SharedInside.the_type Q O g h)) (control_send Q O g h q o, (board_send, (ties_send, tt)))
+shared_inside Q O g h q o = struct_send (shape (SharedInside.the_type Q O g h)) (control_send Q O g h q o, (board_send, (ties_send Origin.the_row, tt)))
 
 pub shared_send : (Q O : RattleType) (g : work.Ghosts Q.Denot) (h : ending.Ghosts O.Denot) → IsSend Q → IsSend O → IsSend (Shared.the_row Q O g h)
 shared_send Q O g h q o =

@@ -1,7 +1,8 @@
 -- The ties go along with the control state.
 use Rattle.std.proofs.Common.{◌≡◌, ◌⊎◌, inl, inr, ℕ, ◌<◌, ◌∙◌, sym, refl, ap, subst, List, [], ◌∷◌, ◌++◌, append-nil, Bool, true, false, arith}
-use Rattle.std.specs.Prelude.{zero, suc, nat_le, slice_get, length, MatchBool, Option, Some, None}
+use Rattle.std.specs.Prelude.{zero, suc, slice_get, length, Option, Some, None}
 use mathlib.Core.List.{IsPrefix}
+use Rattle.mx_append_log.specs.Log.{AreOfOneList}
 use Rattle.mx_types.specs.declared.names.HandleId.{HandleId}
 use Rattle.mx_types.specs.declared.names.Ticket.{Ticket}
 use Rattle.mx_types.specs.declared.code.Code.{Code}
@@ -26,8 +27,7 @@ use Rattle.mx_journal.specs.Core.{AreOwn, Core, claimed, origin_of}
 use Rattle.mx_journal.specs.Replies.{ending_read, is_back, origins_added, origins_given, reply_of_add, reply_of_finish}
 use Rattle.mx_history.proofs.Lists.{has-filter}
 use Rattle.mx_history.proofs.Histories.{below, laws}
-use Rattle.mx_board.proofs.Prefixes.{one_begins}
-use Rattle.mx_lock.specs.Ties.{AreOfAdditions, AreOfOneList, Has, IsTied, Tells, tie, tie_added, tie_read}
+use Rattle.mx_lock.specs.Ties.{AreOfAdditions, Has, IsTied, Tells, tie, tie_added, tie_read}
 use Rattle.mx_lock.proofs.Claims.{claimed_runs}
 use Rattle.mx_lock.proofs.Made.{added_as, recorded_runs}
 
@@ -49,13 +49,6 @@ gets_last (y ∷ xs) x = gets_last xs x
 
 pub has_more : (xs ys : List Origin) (t : Ticket) (origin : Origin) → IsPrefix xs ys → Has xs (tie t origin) → Has ys (tie t origin)
 has_more xs ys t origin p h = subst (λ l. slice_get l t.0 ≡ Some origin) p.1 (gets_more xs p.0 t.0 origin h)
-
-either : {A B : Type 0} (b : Bool) → MatchBool b A B → A ⊎ B
-either true a = inl a
-either false b = inr b
-
-pub of_one_list : (xs ys zs : List Origin) → IsPrefix xs zs → IsPrefix ys zs → AreOfOneList xs ys
-of_one_list xs ys zs p q = either (nat_le (length xs) (length ys)) (one_begins xs ys zs p q (length xs) (length ys) refl refl)
 
 -- what a mark knows of a ticket that is in the list, the list has
 had : (origins marked : List Origin) (t : Ticket) (origin : Origin) → AreOfOneList origins marked → t.0 < length origins → origin_of t marked ≡ Some origin → origin_of t origins ≡ Some origin

@@ -1,8 +1,8 @@
 -- Of which request each addition is: a list that only grows, beside the journal. Tickets number the additions, so the request of a ticket
 -- stands at its number.
-use Rattle.std.specs.Prelude.{ℕ, ◌≡◌, ◌⊎◌, ◌==◌, true, List, [], ◌∷◌, ◌++◌, length, MatchBool, Option, Some, None}
-use mathlib.Core.List.{IsPrefix}
-use Rattle.logbook.specs.Pages.{Cell, Step, View, Book, Named}
+use Rattle.std.specs.Prelude.{ℕ, ◌≡◌, List, length, Option, Some, None}
+use Rattle.logbook.specs.Pages.{Book}
+use Rattle.mx_append_log.specs.Log.{Mark}
 use Rattle.mx_types.specs.declared.names.HandleId.{HandleId}
 use Rattle.mx_types.specs.declared.names.Ticket.{Ticket}
 use Rattle.mx_types.specs.declared.origin.Origin.{Origin}
@@ -14,24 +14,8 @@ use Rattle.mx_journal.specs.declared.replies.InfoReply.{InfoReply}
 use Rattle.mx_journal.specs.declared.replies.InfoReply.TheVariants as info
 
 -- the requests of the additions so far, in their order, and which list it is
-pub record TieState : Type 0 where
-  pub ties : List Origin
-  pub book : Book
-
--- the list's first word is its length; the second is not used
-pub record IsKept (cells : List Cell) (ties : List Origin) : Type 0 where
-  pub words : cells ≡ (length ties, true) ∷ (0, true) ∷ []
-
-abbrev pub first_word : Book → Named
-first_word b = record { tracked = true; key = 0; book = b }
-
--- where the length found is the one expected, the tie now stands behind all that had been seen; else the whole list was seen
-abbrev pub Joins : Step Origin → View Origin ℕ → ℕ → View Origin ℕ → Type 0
-Joins asked before found after = MatchBool (found == asked.old) (after.0 ≡ before.0 ++ asked.ask ∷ []) (length after.0 ≡ found)
-
--- two beginnings of one list: one begins the other
-abbrev pub AreOfOneList : List Origin → List Origin → Type 0
-AreOfOneList xs ys = IsPrefix xs ys ⊎ IsPrefix ys xs
+abbrev pub TieState : Type 0
+TieState = Mark Origin
 
 -- the addition under the ticket is of this request
 pub record Tie : Type 0 where

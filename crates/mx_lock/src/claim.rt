@@ -28,12 +28,12 @@ impl<Q: Work> Model for TiedClaim<Q> {
 
     ghost view = { λ c. tied c.claim c.mark.book };
 
-    ghost invariant = { λ c. origin_of c.claim.ticket c.mark.ties ≡ Some c.claim.origin };
+    ghost invariant = { λ c. origin_of c.claim.ticket c.mark.entries ≡ Some c.claim.origin };
 }
 
 impl<Q: Work> TiedClaim<Q> {
     pub(crate) fn of(claim: Claim<Q>, mark: TieMark) -> TiedClaim<Q>
-        requires { origin_of claim.ticket mark.ties ≡ Some claim.origin }
+        requires { origin_of claim.ticket mark.entries ≡ Some claim.origin }
         ensures { result ≡ tied claim mark.book }
     {
         TiedClaim { claim, mark }
@@ -44,7 +44,7 @@ impl<Q: Work> TiedClaim<Q> {
         ensures ticket { result.0.ticket ≡ self.ticket }
         ensures origin { result.0.origin ≡ self.origin }
         ensures of { result.1.book ≡ self.of }
-        ensures known { origin_of result.0.ticket result.1.ties ≡ Some result.0.origin }
+        ensures known { origin_of result.0.ticket result.1.entries ≡ Some result.0.origin }
     {
         (self.claim, self.mark)
     }
@@ -75,7 +75,7 @@ pub(crate) fn tied_again<Q: Work, O>(
     claim: Snapshot<Claim<Q>>,
     ending: Snapshot<O>,
 ) -> FinishReply<TiedClaim<Q>, O>
-    requires known { origin_of claim.value.ticket mark.ties ≡ Some claim.value.origin }
+    requires known { origin_of claim.value.ticket mark.entries ≡ Some claim.value.origin }
     requires back { IsHandedBack claim.value ending.value reply }
     ensures same { reply_of_finish result ≡ reply_of_finish reply }
     ensures back { IsHandedBack (tied claim.value mark.book) ending.value result }

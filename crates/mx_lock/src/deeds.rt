@@ -12,6 +12,7 @@ ghost use Rattle.mx_lock.specs.Ties.{Tells, Tie, tie_added, tie_read};
 
 use crate::claim::{TiedClaim, tied_again};
 use crate::shared::Shared;
+use crate::ties::tie_addition;
 use mx_journal::{AddReply, FinishReply, InfoReply, PauseReply, RemoveReply, WakeupReply};
 use mx_types::{Call, Ending, HandleId, Reply, Who, Work};
 use std::snapshot::Snapshot;
@@ -41,7 +42,7 @@ pub trait Deed<E, Q, O> {
         requires own { own self (state engine).ties.book }
         ensures leaves { Leaves who (call self) (state engine) (reply result.1) (state result.0) }
         ensures back { back self result.1 }
-        ensures tells { Tells (tie self result.1) (state result.0).ties.ties }
+        ensures tells { Tells (tie self result.1) (state result.0).ties.entries }
         ensures quiet { is_poll (call self) ≡ false };
 
     /// Whether those that poll are to be told.
@@ -88,7 +89,7 @@ impl<Q: Work + Drop, O: Ending + Drop> Deed<Shared<Q, O>, Q, O> for Addition<Q> 
         requires own { Unit {0} }
         ensures leaves { Leaves who (Call.Add self.handle) engine (reply_of_add result.1) result.0 }
         ensures back { handed_back result.1 ≡ work_back result.1 self.work }
-        ensures tells { Tells (tie_added result.1 (Q.origin self.work)) result.0.ties.ties }
+        ensures tells { Tells (tie_added result.1 (Q.origin self.work)) result.0.ties.entries }
         ensures quiet { is_poll (Call.Add self.handle) ≡ false }
     {
         let Shared {
@@ -99,7 +100,7 @@ impl<Q: Work + Drop, O: Ending + Drop> Deed<Shared<Q, O>, Q, O> for Addition<Q> 
         control.sound();
         let added = Snapshot::of(&self.work);
         let reply = control.add(&mut board, who, self.handle, self.work);
-        ties.tie_addition(rt, &reply, added);
+        tie_addition(rt, &mut ties, &reply, &added);
         (Shared::publish(rt, control, board, ties), reply)
     }
 
@@ -319,7 +320,7 @@ impl<Q: Work + Drop, O: Ending + Drop> Deed<Shared<Q, O>, Q, O> for Reading {
         requires own { Unit {0} }
         ensures leaves { Leaves who Call.InfoRead engine (reply_of_info O.code_of O.size_of result.1) result.0 }
         ensures back { Unit {0} }
-        ensures tells { Tells (tie_read O.origin result.1) result.0.ties.ties }
+        ensures tells { Tells (tie_read O.origin result.1) result.0.ties.entries }
         ensures quiet { is_poll Call.InfoRead ≡ false }
     {
         let Shared {

@@ -180,7 +180,7 @@ impl<Q: Work + Drop, O: Ending + Drop> Lock<Q, O> {
         requires book { reader.old.book ≡ taken.book }
         requires ties { taken.ties.book ≡ ties.old.book }
         ensures kept { IsKeyOf self.now key.new }
-        ensures told { (ties.new.book ≡ ties.old.book) × IsPrefix ties.old.ties ties.new.ties × IsPrefix taken.ties.ties ties.new.ties }
+        ensures told { (ties.new.book ≡ ties.old.book) × IsPrefix ties.old.entries ties.new.entries × IsPrefix taken.ties.entries ties.new.entries }
         ensures gave { view key.new ≡ given (view key.old) (content taken) }
         ensures reader { reader.new ≡ caught_up reader.old.who taken.core.journal taken.book }
     {

@@ -40,7 +40,7 @@ impl<Q: Work + Drop, O: Ending + Drop> Model for Shared<Q, O> {
 
     ghost view = { λ s. record { core = s.control; published = s.board.published; book = s.board.book; ties = s.ties } };
 
-    ghost invariant = { λ s. (s.board.events ≡ s.control.journal) × (s.board.published ≡ s.control.journal) × IsTied O.origin s.control s.ties.ties };
+    ghost invariant = { λ s. (s.board.events ≡ s.control.journal) × (s.board.published ≡ s.control.journal) × IsTied O.origin s.control s.ties.entries };
 }
 
 impl<Q: Work + Drop, O: Ending + Drop> Shared<Q, O> {
@@ -53,7 +53,7 @@ impl<Q: Work + Drop, O: Ending + Drop> Shared<Q, O> {
     ) -> Result<Shared<Q, O>, OutOfMemory>
         requires history { (4 ≤ history) × (history ≤ 1048576) }
         requires readers { (0 < readers) × (readers < 65) }
-        ensures { IfOk result (λ s. (s.core.journal ≡ []) × (s.core.opening ≡ record { history = history }) × (s.ties.ties ≡ [])) }
+        ensures { IfOk result (λ s. (s.core.journal ≡ []) × (s.core.opening ≡ record { history = history }) × (s.ties.entries ≡ [])) }
     {
         let control = Control::new(alloc, history)?;
         let board = board(rt, alloc, readers)?;
@@ -71,7 +71,7 @@ impl<Q: Work + Drop, O: Ending + Drop> Shared<Q, O> {
         board: BoardWriter,
         ties: TieLog,
     ) -> Shared<Q, O>
-        requires { (board.events ≡ control.journal) × IsTied O.origin control ties.ties }
+        requires { (board.events ≡ control.journal) × IsTied O.origin control ties.entries }
         ensures is { result ≡ record { core = control; published = control.journal; book = board.book; ties = ties } }
         ensures legal { is_legal result.core.journal ≡ true }
     {
@@ -87,7 +87,7 @@ impl<Q: Work + Drop, O: Ending + Drop> Shared<Q, O> {
     /// of its journal; there is a tie for each addition, and queued work and endings are of their tickets' additions.
     pub fn sound(&self)
         ensures locked { IsLocked O.code_of O.size_of self.now }
-        ensures tied { AreOfAdditions Q.origin O.origin self.now.core self.now.ties.ties }
+        ensures tied { AreOfAdditions Q.origin O.origin self.now.core self.now.ties.entries }
     {
         self.control.sound()
     }
@@ -120,11 +120,11 @@ impl<Q: Work + Drop, O: Ending + Drop> Shared<Q, O> {
     pub fn tell(&self, mark: &mut TieMark)
         requires { self.now.ties.book ≡ mark.old.book }
         ensures book { mark.new.book ≡ mark.old.book }
-        ensures grown { IsPrefix mark.old.ties mark.new.ties }
-        ensures all { IsPrefix self.now.ties.ties mark.new.ties }
+        ensures grown { IsPrefix mark.old.entries mark.new.entries }
+        ensures all { IsPrefix self.now.ties.entries mark.new.entries }
     {
         let _ = &self.control;
-        mark.learn(&self.ties)
+        mark.learn(&self.ties.mark())
     }
 
     /// The event at a place of the journal.
@@ -212,7 +212,7 @@ impl<Q: Work + Drop, O: Ending + Drop> Shared<Q, O> {
         ensures ties { self.new.ties ≡ self.old.ties }
         ensures origin { IfSome result (λ r. r.0.origin ≡ Q.origin r.1) }
         ensures own { IfSome result (λ r. r.0.of ≡ self.new.ties.book) }
-        ensures request { IfSome result (λ r. Has self.new.ties.ties (tie r.0.ticket r.0.origin)) }
+        ensures request { IfSome result (λ r. Has self.new.ties.entries (tie r.0.ticket r.0.origin)) }
         ensures endings { self.new.core.endings ≡ self.old.core.endings }
         ensures none { IfNone result ((self.old.core.queue ≡ []) × (self.new.core.queue ≡ [])) }
         ensures some { IfSome result (λ r. self.old.core.queue ≡ (r.0.ticket, r.1) ∷ self.new.core.queue) }

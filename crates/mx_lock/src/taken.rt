@@ -64,7 +64,7 @@ impl<Q: Work + Drop, O: Ending + Drop> Taken<Q, O> {
         requires own { D.own deed self.ties.book }
         ensures leaves { Leaves who (D.call deed) self (D.reply result.1) result.0 }
         ensures back { D.back deed result.1 }
-        ensures tells { Tells (D.tie deed result.1) result.0.ties.ties }
+        ensures tells { Tells (D.tie deed result.1) result.0.ties.entries }
         ensures quiet { is_poll (D.call deed) ≡ false }
     {
         let Taken { shared } = self;
@@ -77,7 +77,7 @@ impl<Q: Work + Drop, O: Ending + Drop> Taken<Q, O> {
     pub fn know(&self) -> Snapshot<Shared<Q, O>>
         ensures is { result.value ≡ self.now }
         ensures locked { IsLocked O.code_of O.size_of self.now }
-        ensures tied { AreOfAdditions Q.origin O.origin self.now.core self.now.ties.ties }
+        ensures tied { AreOfAdditions Q.origin O.origin self.now.core self.now.ties.entries }
     {
         self.shared.sound();
         Snapshot::of(&self.shared)
@@ -128,8 +128,8 @@ impl<Q: Work + Drop, O: Ending + Drop> Taken<Q, O> {
     pub fn tell(&self, mark: &mut TieMark)
         requires { self.now.ties.book ≡ mark.old.book }
         ensures book { mark.new.book ≡ mark.old.book }
-        ensures grown { IsPrefix mark.old.ties mark.new.ties }
-        ensures all { IsPrefix self.now.ties.ties mark.new.ties }
+        ensures grown { IsPrefix mark.old.entries mark.new.entries }
+        ensures all { IsPrefix self.now.ties.entries mark.new.entries }
     {
         self.shared.tell(mark)
     }
@@ -140,7 +140,7 @@ impl<Q: Work + Drop, O: Ending + Drop> Taken<Q, O> {
         ensures ties { self.new.ties ≡ self.old.ties }
         ensures origin { IfSome result (λ r. r.0.origin ≡ Q.origin r.1) }
         ensures own { IfSome result (λ r. r.0.of ≡ self.new.ties.book) }
-        ensures request { IfSome result (λ r. Has self.new.ties.ties (tie r.0.ticket r.0.origin)) }
+        ensures request { IfSome result (λ r. Has self.new.ties.entries (tie r.0.ticket r.0.origin)) }
         ensures endings { self.new.core.endings ≡ self.old.core.endings }
         ensures none { IfNone result ((self.old.core.queue ≡ []) × (self.new.core.queue ≡ [])) }
         ensures some { IfSome result (λ r. self.old.core.queue ≡ (r.0.ticket, r.1) ∷ self.new.core.queue) }

@@ -22,7 +22,7 @@ use Rattle.mx_journal.specs.declared.replies.InfoReply.TheVariants as info
 use Rattle.mx_history.proofs.LegalLaws.{each_at_most_once, nothing_after_removal}
 use Rattle.mx_history.proofs.Messages.{first_in_first_out}
 use Rattle.mx_lock.specs.Ties.{Tells, tie_read}
-use Rattle.mx_board.proofs.Prefixes.{prefix_trans}
+use Rattle.mx_append_log.proofs.Prefixes.{prefix_trans}
 use Rattle.mx_multi.specs.Seats.{Later, SeatView, Stands}
 use Rattle.mx_multi.proofs.Runs.{later_none, later_more}
 use Rattle.mx_multi.proofs.Standing.{told_alike}

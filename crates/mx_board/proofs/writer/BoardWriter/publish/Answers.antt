@@ -8,12 +8,12 @@ use Rattle.mx_board.proofs.writer.BoardWriter.publish.Goals as goal
 pub returns : goal.returns
 returns g c =
     let i = c.self.invariant in
-    let journal = c.self.inside.mark.events in
+    let journal = c.self.inside.journal.entries in
     let legal = rw (← c.self.view_is) at c.requires in
     let all = follows _ _ journal i.sound (i.waits c.if-self.false) legal i.few in
-    let published : (manually_drop_value c.hold.result).desk.shown.value.1.events ≡ journal =
+    let published : (manually_drop_value c.hold.result).desk.shown.value.1.entries ≡ journal =
     rw (c.hold.ensures, c.publish_all-writer.ensures.shown, c.into_inner.ensures) all.whole in
-    let state : List Event → BoardState = λ l. record { events = journal; published = l; book = c.self.inside.mark.book } in
+    let state : List Event → BoardState = λ l. record { events = journal; published = l; book = c.self.inside.journal.book } in
     rw (← c.self.view_is) (ap state published)
 
 pub returns-then-self : goal.returns-then-self

@@ -19,11 +19,11 @@ publish-requires g c =
     let answer = reply_of_add c.add-reply.result in
     let other : HasNoOther (claimed x.journal x.queue) (claimed y.journal y.queue) =
     subst (λ (q : List (Ticket × g.row.Q.Denot)). HasNoOther (claimed x.journal x.queue) (claimed y.journal q)) (sym e.queue) (claims_added x.opening _ _ x.journal c.add-reply.result y.journal x.queue c.args.self.work e.answers) in
-    let ties : c.tie_addition.new.self.ties ≡ origins_added c.add-reply.result c.engine.inside.ties.ties (g.Q.Work.origin c.args.self.work) =
-    c.tie_addition.ensures.ties ∙ ap (λ (w : g.row.Q.Denot). origins_added c.add-reply.result c.engine.inside.ties.ties (g.Q.Work.origin w)) c.of-added.ensures in (
+    let ties : c.tie_addition.new.ties.entries ≡ origins_added c.add-reply.result c.engine.inside.ties.entries (g.Q.Work.origin c.args.self.work) =
+    c.tie_addition.ensures.ties ∙ ap (λ (w : g.row.Q.Denot). origins_added c.add-reply.result c.engine.inside.ties.entries (g.Q.Work.origin w)) c.of-added.ensures in (
       log_is x.opening _ (call.Add _) answer x.journal y.journal c.engine.inside.board.events c.add-reply.new.log.events e.answers c.engine.invariant.0 e.logged,
       subst (λ (l : List Origin). IsTied g.O.Ending.origin y l) (sym ties)
-          (tied_added g.O.Ending.origin x y c.engine.inside.ties.ties c.add-reply.result (g.Q.Work.origin c.args.self.work) c.engine.invariant.2 e.origins e.own),
+          (tied_added g.O.Ending.origin x y c.engine.inside.ties.entries c.add-reply.result (g.Q.Work.origin c.args.self.work) c.engine.invariant.2 e.origins e.own),
     )
 
 pub returns-clause-leaves : goal.returns-clause-leaves
@@ -42,7 +42,7 @@ returns-clause-tells g c =
     let y = c.add-reply.new.self in
     let other : HasNoOther (claimed x.journal x.queue) (claimed y.journal y.queue) =
     subst (λ (q : List (Ticket × g.row.Q.Denot)). HasNoOther (claimed x.journal x.queue) (claimed y.journal q)) (sym e.queue) (claims_added x.opening _ _ x.journal c.add-reply.result y.journal x.queue c.args.self.work e.answers) in
-    let ties : c.tie_addition.new.self.ties ≡ origins_added c.add-reply.result c.engine.inside.ties.ties (g.Q.Work.origin c.args.self.work) =
-    c.tie_addition.ensures.ties ∙ ap (λ (w : g.row.Q.Denot). origins_added c.add-reply.result c.engine.inside.ties.ties (g.Q.Work.origin w)) c.of-added.ensures in
-    subst (Tells (tie_added c.add-reply.result (g.Q.Work.origin c.args.self.work))) (sym (ap (λ (z : SharedState g.row.Q.Denot g.row.O.Denot). z.ties.ties) c.publish.ensures.is ∙ ties))
-    (added_tells g.O.Ending.origin x.opening _ _ x y.journal c.engine.inside.ties.ties c.add-reply.result (g.Q.Work.origin c.args.self.work) c.engine.invariant.2 c.sound.ensures.origins.0 e.answers)
+    let ties : c.tie_addition.new.ties.entries ≡ origins_added c.add-reply.result c.engine.inside.ties.entries (g.Q.Work.origin c.args.self.work) =
+    c.tie_addition.ensures.ties ∙ ap (λ (w : g.row.Q.Denot). origins_added c.add-reply.result c.engine.inside.ties.entries (g.Q.Work.origin w)) c.of-added.ensures in
+    subst (Tells (tie_added c.add-reply.result (g.Q.Work.origin c.args.self.work))) (sym (ap (λ (z : SharedState g.row.Q.Denot g.row.O.Denot). z.ties.entries) c.publish.ensures.is ∙ ties))
+    (added_tells g.O.Ending.origin x.opening _ _ x y.journal c.engine.inside.ties.entries c.add-reply.result (g.Q.Work.origin c.args.self.work) c.engine.invariant.2 c.sound.ensures.origins.0 e.answers)

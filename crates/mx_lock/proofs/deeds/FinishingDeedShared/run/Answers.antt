@@ -2,7 +2,8 @@ use Rattle.std.proofs.Common.{◌≡◌, ◌∙◌, ap, refl, subst, sym}
 use Rattle.mx_types.specs.declared.call.Call.TheVariants as call
 use Rattle.mx_journal.specs.Replies.{reply_of_finish}
 use Rattle.mx_lock.specs.Shared.{Leaves}
-use Rattle.mx_lock.specs.Ties.{AreOfOneList, TieState}
+use Rattle.mx_append_log.specs.Log.{AreOfOneList}
+use Rattle.mx_lock.specs.Ties.{TieState}
 use Rattle.mx_lock.proofs.Claims.{claims_running}
 use Rattle.mx_lock.proofs.Leaving.{log_is, leaves_by}
 use Rattle.mx_lock.proofs.Tying.{tied_finished}
@@ -16,11 +17,11 @@ publish-shared-requires g c =
     let code = g.O.Ending.code_of c.args.self.ending in
     let size = g.O.Ending.size_of c.args.self.ending in
     let claim = c.into_parts-claim.result.0 in
-    let marked = c.into_parts-claim.result.1.ties in
+    let marked = c.into_parts-claim.result.1.entries in
     let answer = reply_of_finish c.finish-reply.result in
-    let one : AreOfOneList c.engine.inside.ties.ties marked = subst (λ (s : TieState). AreOfOneList s.ties marked) c.mark-all.ensures c.are_of_one_list.ensures in (
+    let one : AreOfOneList c.engine.inside.ties.entries marked = subst (λ (s : TieState). AreOfOneList s.entries marked) c.mark-all.ensures c.are_of_one_list.ensures in (
       log_is x.opening c.args.who (call.Finish claim.ticket code size) answer x.journal y.journal c.engine.inside.board.events c.finish-reply.new.log.events e.answers c.engine.invariant.0 e.logged,
-      tied_finished g.O.Ending.origin x.opening c.args.who claim.ticket code size c.finish-reply.result x y c.engine.inside.ties.ties marked claim.origin c.engine.invariant.2 c.sound.ensures.sound.kept.legal c.sound.ensures.origins.0
+      tied_finished g.O.Ending.origin x.opening c.args.who claim.ticket code size c.finish-reply.result x y c.engine.inside.ties.entries marked claim.origin c.engine.invariant.2 c.sound.ensures.sound.kept.legal c.sound.ensures.origins.0
           one c.into_parts-claim.ensures.known e.answers e.origins e.unchanged e.own,
     )
 

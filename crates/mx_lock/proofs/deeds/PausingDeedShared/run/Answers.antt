@@ -14,7 +14,7 @@ publish-requires g c =
     let answer = reply_of_pause c.pause-reply.result in
     let other = claims_same x.opening c.args.who (call.Pause c.args.self.0) x.journal answer y.journal x.queue y.queue e.answers refl e.queue in (
       log_is x.opening c.args.who (call.Pause c.args.self.0) answer x.journal y.journal c.engine.inside.board.events c.pause-reply.new.log.events e.answers c.engine.invariant.0 e.logged,
-      tied_same g.O.Ending.origin x y c.engine.inside.ties.ties c.engine.invariant.2 e.origins e.endings,
+      tied_same g.O.Ending.origin x y c.engine.inside.ties.entries c.engine.invariant.2 e.origins e.endings,
     )
 
 pub returns-clause-leaves : goal.returns-clause-leaves

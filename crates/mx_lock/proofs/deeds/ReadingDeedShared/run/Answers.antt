@@ -17,7 +17,7 @@ publish-requires g c =
     let answer = reply_of_info g.O.Ending.code_of g.O.Ending.size_of c.info_read-reply.result in
     let other = claims_same x.opening c.args.who call.InfoRead x.journal answer y.journal x.queue y.queue e.answers refl e.queue in (
       log_is x.opening c.args.who call.InfoRead answer x.journal y.journal c.engine.inside.board.events c.info_read-reply.new.log.events e.answers c.engine.invariant.0 e.logged,
-      tied_on g.O.Ending.origin x y c.engine.inside.ties.ties c.engine.invariant.2 e.origins (λ own. (e.own own).0),
+      tied_on g.O.Ending.origin x y c.engine.inside.ties.entries c.engine.invariant.2 e.origins (λ own. (e.own own).0),
     )
 
 pub returns-clause-leaves : goal.returns-clause-leaves
@@ -35,5 +35,5 @@ returns-clause-tells g c =
     let e = c.info_read-reply.ensures in
     let x = c.engine.inside.control in
     let t = c.engine.invariant.2 in
-    subst (λ (z : SharedState g.row.Q.Denot g.row.O.Denot). Tells (tie_read g.O.Ending.origin c.info_read-reply.result) z.ties.ties) (sym c.publish.ensures.is)
-    (read_tells g.O.Ending.origin x c.engine.inside.ties.ties c.info_read-reply.result t (e.own (subst (λ l. AreOwn g.O.Ending.origin l x.endings) (sym t.same) t.endings)).1)
+    subst (λ (z : SharedState g.row.Q.Denot g.row.O.Denot). Tells (tie_read g.O.Ending.origin c.info_read-reply.result) z.ties.entries) (sym c.publish.ensures.is)
+    (read_tells g.O.Ending.origin x c.engine.inside.ties.entries c.info_read-reply.result t (e.own (subst (λ l. AreOwn g.O.Ending.origin l x.endings) (sym t.same) t.endings)).1)

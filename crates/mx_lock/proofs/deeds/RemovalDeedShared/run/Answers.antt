@@ -14,7 +14,7 @@ publish-requires g c =
     let answer = reply_of_remove c.remove-reply.result in
     let other = claims_running x.opening c.args.who (call.Remove c.args.self.0) x.journal answer y.journal x.queue y.queue e.answers refl e.queue in (
       log_is x.opening c.args.who (call.Remove c.args.self.0) answer x.journal y.journal c.engine.inside.board.events c.remove-reply.new.log.events e.answers c.engine.invariant.0 e.logged,
-      tied_on g.O.Ending.origin x y c.engine.inside.ties.ties c.engine.invariant.2 e.origins e.own,
+      tied_on g.O.Ending.origin x y c.engine.inside.ties.entries c.engine.invariant.2 e.origins e.own,
     )
 
 pub returns-clause-leaves : goal.returns-clause-leaves

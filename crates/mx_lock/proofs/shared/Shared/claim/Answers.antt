@@ -7,5 +7,5 @@ invariant_of-self g c =
     let e = c.claim.ensures in (
       c.self.invariant.0 ∙ sym e.journal,
       c.self.invariant.1 ∙ sym e.journal,
-      tied_same g.O.Ending.origin c.self.inside.control c.claim.new.self c.self.inside.ties.ties c.self.invariant.2 e.origins e.endings,
+      tied_same g.O.Ending.origin c.self.inside.control c.claim.new.self c.self.inside.ties.entries c.self.invariant.2 e.origins e.endings,
     )

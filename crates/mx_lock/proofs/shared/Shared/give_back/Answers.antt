@@ -2,7 +2,8 @@ use Rattle.std.proofs.Common.{◌≡◌, ◌∙◌, sym, subst, true}
 use Rattle.mx_journal.specs.History.{has_ticket, running}
 use Rattle.mx_journal.specs.Core.{claimed}
 use Rattle.mx_lock.specs.Shared.{SharedState, HasNoOther, content}
-use Rattle.mx_lock.specs.Ties.{AreOfOneList, TieState}
+use Rattle.mx_append_log.specs.Log.{AreOfOneList}
+use Rattle.mx_lock.specs.Ties.{TieState}
 use Rattle.mx_lock.proofs.Claims.{claimed_runs, claims_back}
 use Rattle.mx_lock.proofs.Tying.{tied_given}
 use Rattle.mx_lock.proofs.shared.Shared.give_back.Goals as goal
@@ -13,11 +14,11 @@ invariant_of-self g c =
     let e = c.give_back.ensures in
     let y = c.give_back.new.self in
     let claim = c.into_parts-claim.result.0 in
-    let marked = c.into_parts-claim.result.1.ties in
-    let one : AreOfOneList c.self.inside.ties.ties marked = subst (λ (s : TieState). AreOfOneList s.ties marked) c.mark-all.ensures c.are_of_one_list.ensures in (
+    let marked = c.into_parts-claim.result.1.entries in
+    let one : AreOfOneList c.self.inside.ties.entries marked = subst (λ (s : TieState). AreOfOneList s.entries marked) c.mark-all.ensures c.are_of_one_list.ensures in (
       c.self.invariant.0 ∙ sym e.journal,
       c.self.invariant.1 ∙ sym e.journal,
-      tied_given g.O.Ending.origin c.give_back.result x y c.self.inside.ties.ties marked claim.ticket claim.origin c.self.invariant.2 c.sound.ensures.sound.kept.legal c.sound.ensures.origins.0 one c.into_parts-claim.ensures.known e.back e.endings e.origins e.same,
+      tied_given g.O.Ending.origin c.give_back.result x y c.self.inside.ties.entries marked claim.ticket claim.origin c.self.invariant.2 c.sound.ensures.sound.kept.legal c.sound.ensures.origins.0 one c.into_parts-claim.ensures.known e.back e.endings e.origins e.same,
     )
 
 pub returns-clause-runs : goal.returns-clause-runs

@@ -6,5 +6,5 @@ use Rattle.mx_lock.proofs.shared.Shared.sound.Goals as goal
 
 pub returns-clause-tied : goal.returns-clause-tied
 returns-clause-tied g c =
-    subst (λ (x : SharedState g.row.Q.Denot g.row.O.Denot). AreOfAdditions g.Q.Work.origin g.O.Ending.origin x.core x.ties.ties) c.self.view_is
-    (of_additions g.O.Ending.origin g.Q.Work.origin c.self.inside.control c.self.inside.ties.ties c.self.invariant.2 c.sound.ensures.origins.0 c.sound.ensures.origins.1)
+    subst (λ (x : SharedState g.row.Q.Denot g.row.O.Denot). AreOfAdditions g.Q.Work.origin g.O.Ending.origin x.core x.ties.entries) c.self.view_is
+    (of_additions g.O.Ending.origin g.Q.Work.origin c.self.inside.control c.self.inside.ties.entries c.self.invariant.2 c.sound.ensures.origins.0 c.sound.ensures.origins.1)

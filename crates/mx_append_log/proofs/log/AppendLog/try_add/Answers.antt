@@ -1,7 +1,7 @@
 use Rattle.std.proofs.Common.{◌≡◌, ◌∙◌, ap, length, sym}
 use Rattle.logbook.specs.Pages.{Named}
-use Rattle.mx_lock.proofs.Joining.{exchange_keeps}
-use Rattle.mx_lock.proofs.ties.TieLog.try_add.Goals as goal
+use Rattle.mx_append_log.proofs.Appending.{exchange_keeps}
+use Rattle.mx_append_log.proofs.log.AppendLog.try_add.Goals as goal
 
 pub compare_exchange-found-requires : goal.compare_exchange-found-requires
 compare_exchange-found-requires g c =

@@ -1,10 +1,11 @@
 -- Lists that begin other lists, by their first elements.
-use Rattle.std.proofs.Common.{◌≡◌, ◌+◌, ◌≤◌, ℕ, List, [], ◌∷◌, ◌++◌, append-nil, append_assoc, length, take, drop, get_or, sym, refl, ap, subst, ◌∙◌, Bool, true, false, MatchBool, arith}
+use Rattle.std.proofs.Common.{◌≡◌, ◌+◌, ◌≤◌, ◌<◌, ℕ, List, [], ◌∷◌, ◌++◌, append-nil, append_assoc, length, take, drop, get_or, sym, refl, ap, subst, ◌∙◌, ⊎_elim, inl, inr, Bool, true, false, MatchBool, arith}
 use Rattle.std.specs.Prelude.{Some, slice_get, nat_le}
 use Rattle.std.proofs.lemmas.List.{take_at, take_all, take-take, take_more, take-append-drop}
 use Rattle.std.proofs.lemmas.Option.{slice_get_within, get_or_from_slice_get}
-use Rattle.std.proofs.lemmas.Bool.{leb-true, leb-false}
+use Rattle.std.proofs.lemmas.Bool.{cases_lt, leb-true, leb-false}
 use mathlib.Core.List.{IsPrefix}
+use Rattle.mx_append_log.specs.Log.{AreOfOneList}
 
 pub prefix_self : {X : Type 0} (xs : List X) → IsPrefix xs xs
 prefix_self xs = ([], append-nil xs)
@@ -37,11 +38,16 @@ prefix_next xs ys x p next =
     let more = take_more ys n x (slice_get_within ys n x next) in
     takes_prefix (n + 1) (xs ++ x ∷ []) ys (more ∙ ap (λ l. l ++ get_or ys n x ∷ []) (prefix_takes xs ys p) ∙ ap (λ y. xs ++ y ∷ []) (get_or_from_slice_get ys n x x next))
 
--- of two beginnings of one list, told by their lengths, one begins the other
-pub one_begins : {X : Type 0} (xs ys zs : List X) → IsPrefix xs zs → IsPrefix ys zs → (m n : ℕ) → m ≡ length xs → n ≡ length ys
-    → MatchBool (nat_le m n) (IsPrefix xs ys) (IsPrefix ys xs)
-one_begins xs ys zs p q m n em en = go (nat_le m n) refl
+-- two beginnings of one list: one begins the other
+pub of_one_list : {X : Type 0} (xs ys zs : List X) → IsPrefix xs zs → IsPrefix ys zs → AreOfOneList xs ys
+of_one_list xs ys zs p q = ⊎_elim (λ (lt : length xs < length ys). inl (prefix_shorter xs ys zs p q (omega (arith, lt)))) (λ (le : length ys ≤ length xs). inr (prefix_shorter ys xs zs q p le)) (cases_lt (length xs) (length ys))
+
+-- and told by their lengths: the shorter begins the longer
+pub one_begins : {X : Type 0} (xs ys : List X) (m n : ℕ) → AreOfOneList xs ys → m ≡ length xs → n ≡ length ys → MatchBool (nat_le m n) (IsPrefix xs ys) (IsPrefix ys xs)
+one_begins xs ys m n one em en = go (nat_le m n) refl one
   where
-    go : (b : Bool) → nat_le m n ≡ b → MatchBool b (IsPrefix xs ys) (IsPrefix ys xs)
-    go true is = prefix_shorter xs ys zs p q (omega (arith, em, en, leb-true m n is))
-    go false is = prefix_shorter ys xs zs q p (omega (arith, em, en, leb-false m n is))
+    go : (b : Bool) → nat_le m n ≡ b → AreOfOneList xs ys → MatchBool b (IsPrefix xs ys) (IsPrefix ys xs)
+    go true is (inl p) = p
+    go true is (inr p) = subst (λ l. IsPrefix l ys) (prefix_whole ys xs p (omega (arith, em, en, leb-true m n is))) (prefix_self ys)
+    go false is (inl p) = subst (λ l. IsPrefix l xs) (prefix_whole xs ys p (omega (arith, em, en, leb-false m n is))) (prefix_self xs)
+    go false is (inr p) = p
