@@ -29,7 +29,7 @@ use Rattle.mx_history.proofs.Lists.{has-filter, has-stays}
 use Rattle.mx_history.proofs.Snoc.{occurs-snoc}
 use Rattle.mx_history.proofs.Histories.{tickets}
 use Rattle.mx_history.proofs.Tickets.{queued-filter, tickets-then}
-use Rattle.mx_lock.specs.Shared.{HasNoOther}
+use Rattle.mx_lock.specs.Engine.{HasNoOther}
 
 or_split : (a b : Bool) → (a || b) ≡ true → (a ≡ true) ⊎ (b ≡ true)
 or_split true b h = inl refl

@@ -18,7 +18,7 @@ use Rattle.mx_journal.specs.History.{same_maker, same_ticket, has_ticket, made_b
 use Rattle.mx_journal.specs.Laws.{then, HasAtMostOneMore}
 use Rattle.mx_history.proofs.Lists.{has-stays, has-append_left}
 use Rattle.mx_append_log.proofs.Prefixes.{prefix_self, prefix_trans}
-use Rattle.mx_lock.specs.Shared.{Content}
+use Rattle.mx_lock.specs.Engine.{Content}
 use Rattle.mx_lock.specs.declared.key_view.KeyView.{KeyView}
 use Rattle.mx_lock.specs.Lock.{maker, engine_of, first_key, newly, Agrees, IsOwned, Lies, Keeps, Took, given, released, founded, parent, child}
 

@@ -1,7 +1,7 @@
 -- What the answer of an addition, and of an end, says of the journal.
 use Rattle.std.proofs.Common.{◌≡◌, ℕ, ◌+◌, ◌∙◌, sym, refl, ap, List, ◌++◌, Bool, true, false, cond}
-use Rattle.std.specs.Prelude.{not, ◌||◌, Option, Some, None}
-use Rattle.std.proofs.lemmas.Bool.{false≢true, not-true}
+use Rattle.std.specs.Prelude.{Option, Some, None}
+use Rattle.std.proofs.lemmas.Bool.{false≢true}
 use Rattle.mx_types.specs.declared.names.HandleId.{HandleId}
 use Rattle.mx_types.specs.declared.names.Ticket.{Ticket}
 use Rattle.mx_types.specs.declared.code.Code.{Code}
@@ -11,12 +11,10 @@ use Rattle.mx_types.specs.declared.event.Event.{Event}
 use Rattle.mx_types.specs.declared.call.Call.TheVariants as call
 use Rattle.mx_types.specs.declared.reply.Reply.{Reply}
 use Rattle.mx_types.specs.declared.reply.Reply.TheVariants as reply
-use Rattle.mx_journal.specs.History.{Opening, additions, ends, occurs, has_ticket, same_ticket, running}
+use Rattle.mx_journal.specs.History.{Opening, additions, has_ticket, running}
 use Rattle.mx_journal.specs.Answers.{Answers, next_ticket, only, ticket_of}
 use Rattle.mx_journal.specs.Laws.{then}
-use Rattle.mx_history.proofs.Lists.{has-filter}
-use Rattle.mx_history.proofs.Snoc.{occurs-snoc}
-use Rattle.mx_history.proofs.Histories.{additions-then, tickets}
+use Rattle.mx_history.proofs.Histories.{additions-then}
 use Rattle.mx_lock.proofs.Claims.{MadeBy, adding, is_added, its_event}
 
 its_ticket : (h : HandleId) (n : Ticket) (o : Option Ticket) (full room : Bool) (t : Ticket) → reply.Added t ≡ (adding h n o full room).0 → t ≡ n

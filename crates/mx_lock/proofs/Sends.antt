@@ -8,24 +8,14 @@ use Rattle.mx_types.proofs.event.Event.TheSendSync.{the_send as event_send}
 use Rattle.mx_table.proofs.table.Table.TheSendSync.{the_send as table_send}
 use Rattle.mx_journal.specs.contracts.control.Control as Control
 use Rattle.mx_journal.specs.contracts.control.Control.TheInside as Inside
-use Rattle.crossbeam_channel.proofs.flavors.array.ruled.Sending.TheSendSync.{the_send as sending_send, the_sync as sending_sync}
-use Rattle.crossbeam_channel.proofs.flavors.array.ruled.Receiving.TheSendSync.{the_send as receiving_send, the_sync as receiving_sync}
 use Rattle.crossbeam_channel.proofs.flavors.array.ruled.Both.TheSendSync.{the_send as both_send, the_sync as both_sync}
-use Rattle.crossbeam_channel.proofs.flavors.array.calls.Array.TheSendSync.{the_send as array_send, the_sync as array_sync}
-use Rattle.crossbeam_channel.proofs.flavors.array.Stamps.TheSendSync.{the_send as stamps_send, the_sync as stamps_sync}
-use Rattle.crossbeam_channel.proofs.flavors.array.Key.TheSendSync.{the_send as key_send, the_sync as key_sync}
-use Rattle.crossbeam_channel.proofs.flavors.array.Doing.TheSendSync.{the_send as doing_send}
-use Rattle.crossbeam_channel.proofs.flavors.array.Whole.TheSendSync.{the_send as whole_send, the_sync as whole_sync}
-use Rattle.crossbeam_channel.proofs.flavors.array.Rounds.TheSendSync.{the_send as rounds_send, the_sync as rounds_sync}
 use Rattle.crossbeam_channel.proofs.flavors.array.Rows.TheSendSync.{the_send as rows_send, the_sync as rows_sync}
 use Rattle.atomic_table.proofs.badge.Badge.TheSendSync.{the_send as badge_send}
-use Rattle.atomic_table.proofs.shared.Seat.TheSendSync.{the_send as chair_send}
 use Rattle.atomic_table.proofs.shared.Shared.TheSendSync.{the_send as words_send, the_sync as words_sync}
-use Rattle.crossbeam_channel.proofs.bells.Bell.TheSendSync.{the_send as bell_send, the_sync as bell_sync}
 use Rattle.mx_board.proofs.writer.BoardWriter.TheSendSync.{the_send as board_send}
 use Rattle.mx_append_log.proofs.log.AppendLog.TheSendSync.{the_send as ties_send}
-use Rattle.mx_lock.specs.contracts.shared.Shared as Shared
-use Rattle.mx_lock.specs.contracts.shared.Shared.TheInside as SharedInside
+use Rattle.mx_lock.specs.contracts.engine.Engine as Engine
+use Rattle.mx_lock.specs.contracts.engine.Engine.TheInside as EngineInside
 use Rattle.mx_lock.specs.contracts.lock.Lock as Lock
 use Rattle.mx_lock.specs.contracts.lock.Lock.TheInside as LockInside
 use Rattle.mx_types.specs.contracts.origin.Origin as Origin
@@ -43,20 +33,20 @@ control_send Q O g h q o =
     let a = inside_send Q O g h q o in
     search (sendable) depth 40 fits 20000
 
-shared_inside : (Q O : RattleType) (g : work.Ghosts Q.Denot) (h : ending.Ghosts O.Denot) → IsSend Q → IsSend O → IsSend (SharedInside.the_field Q O g h).row
-shared_inside Q O g h q o = struct_send (shape (SharedInside.the_type Q O g h)) (control_send Q O g h q o, (board_send, (ties_send Origin.the_row, tt)))
+engine_inside : (Q O : RattleType) (g : work.Ghosts Q.Denot) (h : ending.Ghosts O.Denot) → IsSend Q → IsSend O → IsSend (EngineInside.the_field Q O g h).row
+engine_inside Q O g h q o = struct_send (shape (EngineInside.the_type Q O g h)) (control_send Q O g h q o, (board_send, (ties_send Origin.the_row, tt)))
 
-pub shared_send : (Q O : RattleType) (g : work.Ghosts Q.Denot) (h : ending.Ghosts O.Denot) → IsSend Q → IsSend O → IsSend (Shared.the_row Q O g h)
-shared_send Q O g h q o =
-    let a = shared_inside Q O g h q o in
+pub engine_send : (Q O : RattleType) (g : work.Ghosts Q.Denot) (h : ending.Ghosts O.Denot) → IsSend Q → IsSend O → IsSend (Engine.the_row Q O g h)
+engine_send Q O g h q o =
+    let a = engine_inside Q O g h q o in
     search (sendable) depth 40 fits 20000
 
 lock_inside : (Q O : RattleType) (g : work.Ghosts Q.Denot) (h : ending.Ghosts O.Denot) → IsSend Q → IsSend O → IsSync (LockInside.the_field Q O g h).row
 lock_inside Q O g h q o =
-    let s = shared_send Q O g h q o in
+    let s = engine_send Q O g h q o in
     struct_sync (shape (LockInside.the_type Q O g h)) (
-      search (sending_send, sending_sync, receiving_send, receiving_sync, both_send, both_sync, array_send, array_sync, stamps_send, stamps_sync, key_send, key_sync, doing_send, whole_send, whole_sync, rounds_send, rounds_sync, rows_send, rows_sync, badge_send, chair_send, words_send, words_sync, bell_send, bell_sync, sendable, crosses) depth 40 fits 20000,
-      (search (sending_send, sending_sync, receiving_send, receiving_sync, both_send, both_sync, array_send, array_sync, stamps_send, stamps_sync, key_send, key_sync, doing_send, whole_send, whole_sync, rounds_send, rounds_sync, rows_send, rows_sync, badge_send, chair_send, words_send, words_sync, bell_send, bell_sync, sendable, crosses) depth 40 fits 20000, tt),
+      search (both_send, both_sync, rows_send, rows_sync, badge_send, words_send, words_sync, sendable, crosses) depth 40 fits 20000,
+      (search (both_send, both_sync, rows_send, rows_sync, badge_send, words_send, words_sync, sendable, crosses) depth 40 fits 20000, tt),
     )
 
 pub lock_sync : (Q O : RattleType) (g : work.Ghosts Q.Denot) (h : ending.Ghosts O.Denot) → IsSend Q → IsSend O → IsSync (Lock.the_row Q O g h)

@@ -1,6 +1,6 @@
 -- The ties go along with the control state.
-use Rattle.std.proofs.Common.{◌≡◌, ◌⊎◌, inl, inr, ℕ, ◌<◌, ◌∙◌, sym, refl, ap, subst, List, [], ◌∷◌, ◌++◌, append-nil, Bool, true, false, arith}
-use Rattle.std.specs.Prelude.{zero, suc, slice_get, length, Option, Some, None}
+use Rattle.std.proofs.Common.{◌≡◌, inl, inr, ℕ, ◌<◌, ◌∙◌, sym, refl, ap, subst, List, [], ◌∷◌, ◌++◌, true, false, arith}
+use Rattle.std.specs.Prelude.{zero, suc, slice_get, length, Some}
 use mathlib.Core.List.{IsPrefix}
 use Rattle.mx_append_log.specs.Log.{AreOfOneList}
 use Rattle.mx_types.specs.declared.names.HandleId.{HandleId}
@@ -8,9 +8,7 @@ use Rattle.mx_types.specs.declared.names.Ticket.{Ticket}
 use Rattle.mx_types.specs.declared.code.Code.{Code}
 use Rattle.mx_types.specs.declared.event.Who.{Who}
 use Rattle.mx_types.specs.declared.event.Event.{Event}
-use Rattle.mx_types.specs.declared.call.Call.{Call}
 use Rattle.mx_types.specs.declared.call.Call.TheVariants as call
-use Rattle.mx_types.specs.declared.reply.Reply.TheVariants as reply
 use Rattle.mx_types.specs.declared.origin.Origin.{Origin}
 use Rattle.mx_journal.specs.declared.replies.AddReply.{AddReply}
 use Rattle.mx_journal.specs.declared.replies.AddReply.TheVariants as add

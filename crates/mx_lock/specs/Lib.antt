@@ -1,3 +1,3 @@
 pub mod Lock
-pub mod Shared
+pub mod Engine
 pub mod Ties

@@ -13,7 +13,7 @@ use Rattle.mx_types.specs.declared.event.Who.{Who}
 use Rattle.mx_types.specs.declared.event.Who.TheVariants as who
 use Rattle.mx_types.specs.declared.names.Ticket.{Ticket}
 use Rattle.mx_journal.specs.History.{has_ticket, made_by}
-use Rattle.mx_lock.specs.Shared.{Engine, Content}
+use Rattle.mx_lock.specs.Engine.{EngineId, Content}
 use Rattle.mx_lock.specs.declared.key_view.KeyView.{KeyView}
 use Rattle.mx_lock.specs.declared.key_view.BookName.{BookName}
 use Rattle.mx_lock.specs.declared.key_view.EngineName.{EngineName}
@@ -41,13 +41,13 @@ book_named n = record { number = n.number; log_name = n.log_name; cells_name = n
 abbrev pub no_book : BookName
 no_book = record { number = 0; log_name = 0; cells_name = 0 }
 
-abbrev pub name_of : Engine → EngineName
+abbrev pub name_of : EngineId → EngineName
 name_of e = record { journal = book_name e.book; ties = book_name e.ties; history = e.opening.history }
 
-abbrev pub named : EngineName → Engine
+abbrev pub named : EngineName → EngineId
 named n = record { book = book_named n.journal; opening = record { history = n.history }; ties = book_named n.ties }
 
-abbrev pub engine_of : KeyView → Engine
+abbrev pub engine_of : KeyView → EngineId
 engine_of v = named v.engine
 
 abbrev pub no_name : EngineName
@@ -99,10 +99,10 @@ abbrev pub released : KeyView → KeyView
 released v = record v { holding = false; held = []; found = [] }
 
 -- the founder's key, which makes the others, once it has put the engine in; the next key gets the number n
-abbrev pub founder_at : Engine → ℕ → KeyView
+abbrev pub founder_at : EngineId → ℕ → KeyView
 founder_at e n = record { number = 0; next = n; told = true; engine = name_of e; holding = false; held = []; found = []; seen = []; claims = [] }
 
-abbrev pub founded : Engine → KeyView
+abbrev pub founded : EngineId → KeyView
 founded e = founder_at e 1
 
 abbrev pub parent : KeyView → KeyView

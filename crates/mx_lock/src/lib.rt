@@ -4,17 +4,17 @@
 
 mod claim;
 mod deeds;
+mod engine;
 mod key_view;
 mod lock;
 mod rule;
-mod shared;
 mod taken;
 mod ties;
 
 pub use crate::claim::TiedClaim;
 pub use crate::deeds::{Addition, Deed, Finishing, Pausing, Reading, Removal, Unpausing, Waking};
+pub use crate::engine::Engine;
 pub use crate::key_view::{BookName, EngineName, KeyView};
 pub use crate::lock::{Key, Lock};
-pub use crate::shared::Shared;
 pub use crate::taken::Taken;
 pub use crate::ties::{TieLog, TieMark};

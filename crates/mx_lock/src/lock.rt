@@ -4,12 +4,12 @@ ghost use mathlib.Core.List.{IsPrefix};
 ghost use Rattle.crossbeam_channel.specs.Claims.{view};
 ghost use Rattle.mx_journal.specs.Laws.{HasAtMostOneMore};
 ghost use Rattle.mx_board.specs.Board.{caught_up};
-ghost use Rattle.mx_lock.specs.Shared.{content};
+ghost use Rattle.mx_lock.specs.Engine.{content};
 ghost use Rattle.mx_lock.specs.Lock.{maker, engine_of, IsKeyOf, Took, given, released, founded, parent, child};
 
+use crate::engine::Engine;
 use crate::key_view::KeyView;
 use crate::rule::{Founds, Gives, LockRule, NewKey, PutsBack, Takes};
-use crate::shared::Shared;
 use crate::taken::Taken;
 use crate::ties::TieMark;
 use crossbeam_channel::{Pass, RuledReceiver, RuledSender, bounded_with};
@@ -20,23 +20,23 @@ use std::marker::Model;
 use std::sync::Wait;
 
 /// The right to take the engine out of a lock, one a maker. Contracts see what it knows.
-pub type Key<Q, O> = Pass<Shared<Q, O>, KeyView>;
+pub type Key<Q, O> = Pass<Engine<Q, O>, KeyView>;
 
 /// The engine's place. Contracts see which lock it is.
 #[derive(Drop)]
 pub struct Lock<Q: Work + Drop, O: Ending + Drop> {
-    into: RuledSender<Shared<Q, O>, KeyView, LockRule>,
-    from: RuledReceiver<Shared<Q, O>, KeyView, LockRule>,
+    into: RuledSender<Engine<Q, O>, KeyView, LockRule>,
+    from: RuledReceiver<Engine<Q, O>, KeyView, LockRule>,
 }
 
 impl<Q: Work + Drop, O: Ending + Drop> Model for Lock<Q, O> {
     ghost use Rattle.std.specs.Prelude.{◌≡◌};
     ghost use Rattle.crossbeam_channel.specs.Claims.{IsKeyed};
     ghost use Rattle.crossbeam_channel.specs.Ends.{sends_on, receives_on};
-    ghost use Rattle.mx_lock.specs.Shared.{SharedState};
+    ghost use Rattle.mx_lock.specs.Engine.{EngineState};
     ghost use Rattle.mx_lock.specs.Lock.{LockView};
 
-    ghost Value = { LockView (SharedState Q O) };
+    ghost Value = { LockView (EngineState Q O) };
 
     ghost view = { λ l. record { table = (sends_on l.into).stamps.shared.table_id; keys = (sends_on l.into).stamps.shared.key } };
 
@@ -48,17 +48,17 @@ impl<Q: Work + Drop, O: Ending + Drop> Lock<Q, O> {
     pub fn new<R: Wait>(
         rt: &R,
         alloc: Global,
-        shared: Shared<Q, O>,
+        engine: Engine<Q, O>,
     ) -> Result<(Lock<Q, O>, Key<Q, O>), OutOfMemory>
-        requires { shared.core.journal ≡ [] }
-        ensures { IfOk result (λ r. IsKeyOf r.0 r.1 × (view r.1 ≡ founded (content shared).engine)) }
+        requires { engine.core.journal ≡ [] }
+        ensures { IfOk result (λ r. IsKeyOf r.0 r.1 × (view r.1 ≡ founded (content engine).engine)) }
     {
-        let Ok((into, from, mut key)) = bounded_with::<Shared<Q, O>, KeyView, LockRule, Global>(
+        let Ok((into, from, mut key)) = bounded_with::<Engine<Q, O>, KeyView, LockRule, Global>(
             alloc, 1,
         ) else {
             return Err(OutOfMemory);
         };
-        match into.send_as::<Founds, R>(rt, &mut key, shared) {
+        match into.send_as::<Founds, R>(rt, &mut key, engine) {
             Ok(()) => Ok((Lock { into, from }, key)),
             Err(_) => Err(OutOfMemory),
         }
@@ -82,47 +82,27 @@ impl<Q: Work + Drop, O: Ending + Drop> Lock<Q, O> {
         ensures took { Took content (view key.old) result (view key.new) }
     {
         for _ in rt.forever() {
-            if let Ok(shared) = self.from.recv_as::<Takes, R>(rt, key) {
-                return Taken::of(shared);
+            if let Ok(engine) = self.from.recv_as::<Takes, R>(rt, key) {
+                return Taken::of(engine);
             }
         }
         unreachable!()
     }
 
     // Puts the engine in, with the journal that was found or with one event of the key's maker more.
-    fn give<R: Wait>(&self, rt: &R, key: &mut Key<Q, O>, shared: Shared<Q, O>)
+    fn give<R: Wait>(&self, rt: &R, key: &mut Key<Q, O>, engine: Engine<Q, O>)
         requires own { IsKeyOf self.now key.old }
         requires held { ((view key.old).holding ≡ true) × ((view key.old).told ≡ true) }
-        requires engine { engine_of (view key.old) ≡ (content shared).engine }
-        requires grows { HasAtMostOneMore (maker (view key.old).number) (view key.old).held (content shared).journal }
+        requires engine { engine_of (view key.old) ≡ (content engine).engine }
+        requires grows { HasAtMostOneMore (maker (view key.old).number) (view key.old).held (content engine).journal }
         ensures kept { IsKeyOf self.now key.new }
-        ensures gave { view key.new ≡ given (view key.old) (content shared) }
+        ensures gave { view key.new ≡ given (view key.old) (content engine) }
     {
-        let mut shared = shared;
+        let mut engine = engine;
         for _ in rt.forever() {
-            match self.into.send_as::<Gives, R>(rt, key, shared) {
+            match self.into.send_as::<Gives, R>(rt, key, engine) {
                 Ok(()) => return,
-                Err(refused) => shared = refused.into_inner(),
-            }
-        }
-        unreachable!()
-    }
-
-    // Puts the engine in as it was found.
-    fn restore<R: Wait>(&self, rt: &R, key: &mut Key<Q, O>, shared: Shared<Q, O>)
-        requires own { IsKeyOf self.now key.old }
-        requires held { ((view key.old).holding ≡ true) × ((view key.old).told ≡ true) }
-        requires engine { engine_of (view key.old) ≡ (content shared).engine }
-        requires same { (content shared).journal ≡ (view key.old).held }
-        requires queue { (content shared).claimed ≡ (view key.old).found }
-        ensures kept { IsKeyOf self.now key.new }
-        ensures gave { view key.new ≡ released (view key.old) }
-    {
-        let mut shared = shared;
-        for _ in rt.forever() {
-            match self.into.send_as::<PutsBack, R>(rt, key, shared) {
-                Ok(()) => return,
-                Err(refused) => shared = refused.into_inner(),
+                Err(refused) => engine = refused.into_inner(),
             }
         }
         unreachable!()
@@ -138,7 +118,14 @@ impl<Q: Work + Drop, O: Ending + Drop> Lock<Q, O> {
         ensures kept { IsKeyOf self.now key.new }
         ensures gave { view key.new ≡ released (view key.old) }
     {
-        self.restore(rt, key, taken.into_shared())
+        let mut engine = taken.into_engine();
+        for _ in rt.forever() {
+            match self.into.send_as::<PutsBack, R>(rt, key, engine) {
+                Ok(()) => return,
+                Err(refused) => engine = refused.into_inner(),
+            }
+        }
+        unreachable!()
     }
 
     /// Takes the engine for a reader, where the journal begins with what the reader has seen. Else the engine is put back
@@ -156,7 +143,7 @@ impl<Q: Work + Drop, O: Ending + Drop> Lock<Q, O> {
         ensures entered { MatchOption result (view key.new ≡ released (view key.old)) (λ t. Took content (view key.old) t (view key.new) × IsPrefix reader.now.seen t.core.journal) }
     {
         let taken = self.take(rt, key);
-        if taken.begins_with(reader) {
+        if taken.engine().begins_with(reader) {
             return Some(taken);
         }
         self.put_back(rt, key, taken);
@@ -184,10 +171,10 @@ impl<Q: Work + Drop, O: Ending + Drop> Lock<Q, O> {
         ensures gave { view key.new ≡ given (view key.old) (content taken) }
         ensures reader { reader.new ≡ caught_up reader.old.who taken.core.journal taken.book }
     {
-        let mut shared = taken.into_shared();
-        shared.refresh(reader);
-        shared.tell(ties);
-        self.give(rt, key, shared);
+        let mut taken = taken;
+        taken.refresh(reader);
+        taken.engine().tell(ties);
+        self.give(rt, key, taken.into_engine());
     }
 
     /// Takes the engine, and ends it.
@@ -196,6 +183,6 @@ impl<Q: Work + Drop, O: Ending + Drop> Lock<Q, O> {
         requires free { ((view key.old).holding ≡ false) × ((view key.old).told ≡ true) }
     {
         let last = self.take(rt, key);
-        last.into_shared().close(rt);
+        last.into_engine().close(rt);
     }
 }

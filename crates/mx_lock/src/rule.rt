@@ -1,15 +1,15 @@
 //! The rule of the lock, and what its steps tell.
 
+use crate::engine::Engine;
 use crate::key_view::KeyView;
-use crate::shared::Shared;
 use crossbeam_channel::protocol::{Lesson, Outcome, Protocol, Split};
 use mx_types::{Ending, Work};
 
 /// The rule of the lock.
 pub struct LockRule;
 
-impl<Q: Work + Drop, O: Ending + Drop> Protocol<Shared<Q, O>, KeyView> for LockRule {
-    ghost use Rattle.mx_lock.specs.Shared.{content};
+impl<Q: Work + Drop, O: Ending + Drop> Protocol<Engine<Q, O>, KeyView> for LockRule {
+    ghost use Rattle.mx_lock.specs.Engine.{content};
     ghost use Rattle.mx_lock.specs.Lock.{Keeps, first_key};
 
     ghost holds = { Keeps content };
@@ -20,58 +20,58 @@ impl<Q: Work + Drop, O: Ending + Drop> Protocol<Shared<Q, O>, KeyView> for LockR
 /// What a taking tells.
 pub struct Takes;
 
-impl<Q: Work + Drop, O: Ending + Drop> Outcome<Shared<Q, O>, KeyView> for Takes {
-    ghost use Rattle.mx_lock.specs.Shared.{content};
+impl<Q: Work + Drop, O: Ending + Drop> Outcome<Engine<Q, O>, KeyView> for Takes {
+    ghost use Rattle.mx_lock.specs.Engine.{content};
     ghost use Rattle.mx_lock.specs.Lock.{Took};
 
     ghost then = { λ v x w. Took content v x w };
 }
 
-impl<Q: Work + Drop, O: Ending + Drop> Lesson<Shared<Q, O>, KeyView> for Takes {
+impl<Q: Work + Drop, O: Ending + Drop> Lesson<Engine<Q, O>, KeyView> for Takes {
     ghost fact = { λ v items. Unit {0} };
 }
 
 /// What a giving back tells: the key has seen the journal.
 pub struct Gives;
 
-impl<Q: Work + Drop, O: Ending + Drop> Outcome<Shared<Q, O>, KeyView> for Gives {
+impl<Q: Work + Drop, O: Ending + Drop> Outcome<Engine<Q, O>, KeyView> for Gives {
     ghost use Rattle.std.specs.Prelude.{◌≡◌};
-    ghost use Rattle.mx_lock.specs.Shared.{content};
+    ghost use Rattle.mx_lock.specs.Engine.{content};
     ghost use Rattle.mx_lock.specs.Lock.{given};
 
     ghost then = { λ v x w. w ≡ given v (content x) };
 }
 
-impl<Q: Work + Drop, O: Ending + Drop> Lesson<Shared<Q, O>, KeyView> for Gives {
+impl<Q: Work + Drop, O: Ending + Drop> Lesson<Engine<Q, O>, KeyView> for Gives {
     ghost fact = { λ v items. Unit {0} };
 }
 
 /// What a putting back tells: the journal is as it was found, and the key has seen no more than before.
 pub struct PutsBack;
 
-impl<Q: Work + Drop, O: Ending + Drop> Outcome<Shared<Q, O>, KeyView> for PutsBack {
+impl<Q: Work + Drop, O: Ending + Drop> Outcome<Engine<Q, O>, KeyView> for PutsBack {
     ghost use Rattle.std.specs.Prelude.{◌≡◌};
     ghost use Rattle.mx_lock.specs.Lock.{released};
 
     ghost then = { λ v x w. w ≡ released v };
 }
 
-impl<Q: Work + Drop, O: Ending + Drop> Lesson<Shared<Q, O>, KeyView> for PutsBack {
+impl<Q: Work + Drop, O: Ending + Drop> Lesson<Engine<Q, O>, KeyView> for PutsBack {
     ghost fact = { λ v items. Unit {0} };
 }
 
 /// What the first giving tells.
 pub struct Founds;
 
-impl<Q: Work + Drop, O: Ending + Drop> Outcome<Shared<Q, O>, KeyView> for Founds {
+impl<Q: Work + Drop, O: Ending + Drop> Outcome<Engine<Q, O>, KeyView> for Founds {
     ghost use Rattle.std.specs.Prelude.{◌≡◌};
-    ghost use Rattle.mx_lock.specs.Shared.{content};
+    ghost use Rattle.mx_lock.specs.Engine.{content};
     ghost use Rattle.mx_lock.specs.Lock.{founded};
 
     ghost then = { λ v x w. w ≡ founded (content x).engine };
 }
 
-impl<Q: Work + Drop, O: Ending + Drop> Lesson<Shared<Q, O>, KeyView> for Founds {
+impl<Q: Work + Drop, O: Ending + Drop> Lesson<Engine<Q, O>, KeyView> for Founds {
     ghost fact = { λ v items. Unit {0} };
 }
 

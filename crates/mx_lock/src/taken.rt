@@ -1,117 +1,79 @@
 //! The engine, taken out of the lock.
-ghost use Rattle.std.specs.Prelude.{◌≡◌, ◌≤◌, ◌∷◌, [], length, false, true, Some, IfNone, IfSome};
-ghost use Rattle.std.specs.Bool.{OnTrue};
+ghost use Rattle.std.specs.Prelude.{◌≡◌, ◌≤◌, ◌∷◌, [], false, true, Some, IfNone, IfSome};
 ghost use Rattle.std.specs.List.{AllByRecursion};
 ghost use mathlib.Core.List.{IsPrefix};
-ghost use Rattle.mx_journal.specs.History.{has_ticket, is_legal, is_maker, made_by, running};
-ghost use Rattle.mx_journal.specs.Answers.{handle_of, is_ready};
+ghost use Rattle.mx_journal.specs.History.{has_ticket, is_maker, running};
+ghost use Rattle.mx_journal.specs.Answers.{handle_of};
 ghost use Rattle.mx_journal.specs.Core.{claimed, queued};
 ghost use Rattle.mx_journal.specs.Replies.{IsGivenBack, is_back, queue_given};
 ghost use Rattle.mx_journal.specs.Receipts.{is_poll};
 ghost use Rattle.mx_journal.specs.Slots.{slot_of};
 ghost use Rattle.mx_board.specs.Board.{caught_up};
-ghost use Rattle.mx_lock.specs.Shared.{HasNoOther, IsLocked, Leaves, SharedState, content};
-ghost use Rattle.mx_lock.specs.Ties.{AreOfAdditions, Has, Tells, tie};
+ghost use Rattle.mx_lock.specs.Engine.{HasNoOther, Leaves, content};
+ghost use Rattle.mx_lock.specs.Ties.{Has, Tells, tie};
 
 use crate::claim::TiedClaim;
 use crate::deeds::Deed;
-use crate::shared::Shared;
-use crate::ties::TieMark;
+use crate::engine::Engine;
 use mx_board::BoardReader;
 use mx_journal::GiveBackReply;
 use mx_types::{Ending, Who, Work};
 use std::marker::Model;
-use std::snapshot::Snapshot;
 use std::sync::Wait;
 
 /// The engine, taken out of the lock. It has no `Drop`, and ends by being given back or put back alone.
-/// Contracts see what `Shared` has.
+/// Contracts see what `Engine` has.
 pub struct Taken<Q: Work + Drop, O: Ending + Drop> {
-    shared: Shared<Q, O>,
+    engine: Engine<Q, O>,
 }
 
 impl<Q: Work + Drop, O: Ending + Drop> Model for Taken<Q, O> {
-    ghost use Rattle.mx_lock.specs.Shared.{SharedState};
+    ghost use Rattle.mx_lock.specs.Engine.{EngineState};
 
-    ghost Value = { SharedState Q O };
+    ghost Value = { EngineState Q O };
 
-    ghost view = { λ t. t.shared };
+    ghost view = { λ t. t.engine };
 }
 
 impl<Q: Work + Drop, O: Ending + Drop> Taken<Q, O> {
-    pub(crate) fn of(shared: Shared<Q, O>) -> Taken<Q, O>
-        ensures { result ≡ shared }
+    pub(crate) fn of(engine: Engine<Q, O>) -> Taken<Q, O>
+        ensures { result ≡ engine }
     {
-        Taken { shared }
+        Taken { engine }
     }
 
-    pub(crate) fn into_shared(self) -> Shared<Q, O>
+    pub(crate) fn into_engine(self) -> Engine<Q, O>
         ensures { result ≡ self }
     {
-        let Taken { shared } = self;
-        shared
+        let Taken { engine } = self;
+        engine
     }
 
-    /// Makes a call for a maker.
-    pub fn run<D: Deed<Shared<Q, O>, Q, O>, R: Wait>(
-        self,
-        rt: &R,
-        deed: D,
-        who: Who,
-    ) -> (Taken<Q, O>, D::Reply)
+    /// What lies in the lock, to look at.
+    pub fn engine(&self) -> &Engine<Q, O>
+        ensures { result.now ≡ self.now }
+    {
+        &self.engine
+    }
+
+    /// Makes a call for a maker, and publishes what it left.
+    pub fn run<D: Deed<Q, O>, R: Wait>(self, rt: &R, deed: D, who: Who) -> (Taken<Q, O>, D::Reply)
         requires maker { is_maker who ≡ true }
-        requires state { (x : SharedState Q O) → D.state x ≡ x }
         requires own { D.own deed self.ties.book }
         ensures leaves { Leaves who (D.call deed) self (D.reply result.1) result.0 }
         ensures back { D.back deed result.1 }
         ensures tells { Tells (D.tie deed result.1) result.0.ties.entries }
         ensures quiet { is_poll (D.call deed) ≡ false }
     {
-        let Taken { shared } = self;
-        let (shared, reply) = deed.run(rt, shared, who);
-        (Taken { shared }, reply)
-    }
-
-    /// What lies in the lock, for contracts alone: its control state is sound, and the version that is published is that of
-    /// its journal.
-    pub fn know(&self) -> Snapshot<Shared<Q, O>>
-        ensures is { result.value ≡ self.now }
-        ensures locked { IsLocked O.code_of O.size_of self.now }
-        ensures tied { AreOfAdditions Q.origin O.origin self.now.core self.now.ties.entries }
-    {
-        self.shared.sound();
-        Snapshot::of(&self.shared)
-    }
-
-    /// Whether the journal begins with what a reader has seen.
-    pub fn begins_with(&self, reader: &BoardReader) -> bool
-        requires { reader.now.book ≡ self.now.book }
-        ensures { OnTrue result (IsPrefix reader.now.seen self.now.core.journal) }
-    {
-        self.shared.begins_with(reader)
-    }
-
-    /// How many events the journal has.
-    pub fn len(&self) -> u32
-        ensures length { result ≡ length self.now.core.journal }
-        ensures legal { is_legal self.now.core.journal ≡ true }
-    {
-        self.shared.len()
-    }
-
-    /// Whether an event at or after the mark lets a poll return.
-    pub fn is_ready(&self, since: u32) -> bool
-        ensures { result ≡ is_ready since self.now.core.journal }
-    {
-        self.shared.is_ready(since)
-    }
-
-    /// How many events the maker made.
-    pub fn made(&self, who: Who) -> u32
-        requires { is_maker who ≡ true }
-        ensures { result ≡ made_by who self.now.core.journal }
-    {
-        self.shared.made(who)
+        let Taken { engine } = self;
+        let Engine {
+            mut control,
+            mut board,
+            mut ties,
+        } = engine;
+        let reply = deed.make(rt, who, &mut control, &mut board, &mut ties);
+        let engine = Engine::publish(rt, control, board, ties);
+        (Taken { engine }, reply)
     }
 
     /// Brings a reader up to the journal.
@@ -121,17 +83,7 @@ impl<Q: Work + Drop, O: Ending + Drop> Taken<Q, O> {
         ensures same { self.new ≡ self.old }
         ensures reader { reader.new ≡ caught_up reader.old.who self.old.core.journal self.old.book }
     {
-        self.shared.refresh(reader)
-    }
-
-    /// Tells a mark all ties.
-    pub fn tell(&self, mark: &mut TieMark)
-        requires { self.now.ties.book ≡ mark.old.book }
-        ensures book { mark.new.book ≡ mark.old.book }
-        ensures grown { IsPrefix mark.old.entries mark.new.entries }
-        ensures all { IsPrefix self.now.ties.entries mark.new.entries }
-    {
-        self.shared.tell(mark)
+        reader.catch_up(&mut self.engine.board)
     }
 
     /// Takes the work of the lowest ticket in the queue.
@@ -149,7 +101,10 @@ impl<Q: Work + Drop, O: Ending + Drop> Taken<Q, O> {
         ensures handle { IfSome result (λ r. handle_of r.0.ticket self.old.core.journal ≡ Some r.0.handle) }
         ensures slot { IfSome result (λ r. slot_of r.0.ticket self.old.core.journal ≡ Some r.0.slot) }
     {
-        self.shared.claim()
+        let Some((claim, work)) = self.engine.control.claim() else {
+            return None;
+        };
+        Some((TiedClaim::of(claim, self.engine.ties.mark()), work))
     }
 
     /// Puts claimed work back into the queue, to the place of its ticket; `Stale` hands it back, and changes nothing.
@@ -165,6 +120,10 @@ impl<Q: Work + Drop, O: Ending + Drop> Taken<Q, O> {
         ensures handed { IsGivenBack work result }
         ensures claims { HasNoOther (content self.old).claimed (content self.new).claimed }
     {
-        self.shared.give_back(claim, work)
+        let (claim, mark) = claim.into_parts();
+        let all = self.engine.ties.mark();
+        all.are_of_one_list(&mark);
+        self.engine.control.sound();
+        self.engine.control.give_back(claim, work)
     }
 }

@@ -1,4 +1,4 @@
-use Rattle.mx_lock.specs.Shared.{content}
+use Rattle.mx_lock.specs.Engine.{content}
 use Rattle.mx_lock.proofs.Keys.{forks}
 use Rattle.mx_lock.proofs.lock.Lock.another.Goals as goal
 

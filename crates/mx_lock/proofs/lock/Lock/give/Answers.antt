@@ -3,7 +3,7 @@ use Rattle.crossbeam_channel.specs.Claims.{view}
 use Rattle.crossbeam_channel.specs.Ends.{sends_on, ruled_capacity}
 use Rattle.crossbeam_channel.specs.Fifo.{Pushes}
 use Rattle.mx_lock.specs.declared.key_view.KeyView.{KeyView}
-use Rattle.mx_lock.specs.Shared.{content}
+use Rattle.mx_lock.specs.Engine.{content}
 use Rattle.mx_lock.specs.Lock.{Keeps, given}
 use Rattle.mx_lock.proofs.Keys.{pushes}
 use Rattle.mx_lock.proofs.lock.Lock.give.Goals as goal
@@ -13,7 +13,7 @@ send_as-requires-clause-rule g c =
     let inv = c.loop.invariant in
     let n = ruled_capacity (sends_on c.self.inside.into) in (
       subst (λ x. Pushes (Keeps content) n c.loop.key.id (view c.loop.key) x (λ w. w ≡ given (view c.loop.key) (content x))) (sym inv.2)
-          (subst (λ (v : KeyView). Pushes (Keeps content) n c.loop.key.id v c.args.shared (λ w. w ≡ given v (content c.args.shared))) (sym inv.1)
-          (pushes content c.loop.key.id _ n c.args.shared c.requires.held.0 c.requires.held.1 c.requires.engine c.requires.grows)),
+          (subst (λ (v : KeyView). Pushes (Keeps content) n c.loop.key.id v c.args.engine (λ w. w ≡ given v (content c.args.engine))) (sym inv.1)
+          (pushes content c.loop.key.id _ n c.args.engine c.requires.held.0 c.requires.held.1 c.requires.engine c.requires.grows)),
       λ items views h at. tt,
     )

@@ -4,4 +4,4 @@ use Rattle.mx_lock.specs.Lock.{IsKeyOf}
 use Rattle.mx_lock.proofs.lock.Lock.give.Given as goal
 
 abbrev pub invariant-loop : goal.invariant-loop
-invariant-loop g l = IsKeyOf l.self l.key × (view l.key ≡ view l.fn.key) × (l.shared ≡ l.fn.shared)
+invariant-loop g l = IsKeyOf l.self l.key × (view l.key ≡ view l.fn.key) × (l.engine ≡ l.fn.engine)

@@ -1,7 +1,7 @@
 use Rattle.std.proofs.Common.{◌∙◌, ap}
 use Rattle.crossbeam_channel.specs.Claims.{view}
 use Rattle.mx_lock.specs.declared.key_view.KeyView.{KeyView}
-use Rattle.mx_lock.specs.Shared.{content}
+use Rattle.mx_lock.specs.Engine.{content}
 use Rattle.mx_lock.proofs.Keys.{pops}
 use Rattle.mx_lock.proofs.lock.Lock.take.Goals as goal
 

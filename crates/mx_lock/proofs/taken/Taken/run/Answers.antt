@@ -1,13 +1,16 @@
-use Rattle.std.proofs.Common.{subst}
-use Rattle.mx_lock.specs.Shared.{SharedState, Leaves}
+use Rattle.std.proofs.Common.{◌∙◌, subst, sym}
+use Rattle.mx_lock.specs.Engine.{EngineState}
+use Rattle.mx_lock.proofs.Leaving.{leaves_by, log_is}
 use Rattle.mx_lock.proofs.taken.Taken.run.Goals as goal
 
+pub make-reply-requires-clause-own : goal.make-reply-requires-clause-own
+make-reply-requires-clause-own g c =
+    subst (λ (x : EngineState g.row.Q.Denot g.row.O.Denot). g.D.Deed.own c.args.deed x.ties.book) (sym (c.engine.view_is ∙ c.self.view_is)) c.requires.own
+
+pub publish-engine-requires : goal.publish-engine-requires
+publish-engine-requires g c =
+    let m = c.make-reply.ensures.makes in
+    (log_is _ c.args.who _ _ c.engine.inside.control.journal _ c.engine.inside.board.events _ m.called.answers c.engine.invariant.0 m.called.logged, m.tied)
+
 pub returns-clause-leaves : goal.returns-clause-leaves
-returns-clause-leaves g c =
-    let x = c.self.inside.shared in
-    let y = c.run-shared.result.0 in
-    let call = g.D.Deed.call c.args.deed in
-    let reply = g.D.Deed.reply c.run-shared.result.1 in
-    subst (λ (z : SharedState g.row.Q.Denot g.row.O.Denot). Leaves c.args.who call z reply y) c.self.view_is
-    (subst (λ (z : SharedState g.row.Q.Denot g.row.O.Denot). Leaves c.args.who call x reply z) (c.requires.state y)
-    (subst (λ (z : SharedState g.row.Q.Denot g.row.O.Denot). Leaves c.args.who call z reply (g.D.Deed.state y)) (c.requires.state x) c.run-shared.ensures.leaves))
+returns-clause-leaves g c = leaves_by g.O.Ending.origin c.args.who _ _ c.args.self _ _ _ _ _ _ _ (c.engine.view_is ∙ c.self.view_is) c.publish-engine.ensures.is c.make-reply.ensures.makes c.publish-engine.ensures.legal

@@ -1,0 +1,12 @@
+use Rattle.std.proofs.Common.{refl}
+use Rattle.mx_types.specs.declared.call.Call.TheVariants as call
+use Rattle.mx_journal.specs.Replies.{reply_of_pause}
+use Rattle.mx_lock.proofs.Leaving.{makes_same}
+use Rattle.mx_lock.proofs.Tying.{tied_same}
+use Rattle.mx_lock.proofs.deeds.UnpausingDeed.make.Goals as goal
+
+pub returns-clause-makes : goal.returns-clause-makes
+returns-clause-makes g c =
+    let e = c.unpause.ensures in
+    makes_same g.O.Ending.origin _ (call.Unpause c.args.self.0) _ _ _ _ _ (reply_of_pause c.unpause.result) e.called refl e.queue
+    (tied_same g.O.Ending.origin _ _ c.args._ties.now.entries c.requires.tied e.origins e.endings)

@@ -1,7 +1,0 @@
-use Rattle.std.proofs.Common.{◌≡◌}
-use Rattle.crossbeam_channel.specs.Claims.{view}
-use Rattle.mx_lock.specs.Lock.{IsKeyOf}
-use Rattle.mx_lock.proofs.lock.Lock.restore.Given as goal
-
-abbrev pub invariant-loop : goal.invariant-loop
-invariant-loop g l = IsKeyOf l.self l.key × (view l.key ≡ view l.fn.key) × (l.shared ≡ l.fn.shared)

@@ -1,5 +1,0 @@
-use Rattle.std.proofs.Common.{rules}
-use Rattle.mx_lock.proofs.taken.Taken.is_ready.Goals as goal
-
-pub returns : goal.returns
-returns g c = search rules

@@ -1,0 +1,189 @@
+//! What the lock keeps: the control state, and the board that is published of it.
+ghost use Rattle.std.specs.Prelude.{◌≡◌, ◌≤◌, ◌<◌, [], length, true, IfOk, IfSome};
+ghost use Rattle.std.specs.Bool.{OnTrue};
+ghost use mathlib.Core.List.{IsPrefix};
+ghost use Rattle.mx_journal.specs.History.{is_legal, is_maker, made_by};
+ghost use Rattle.mx_journal.specs.Answers.{is_ready};
+ghost use Rattle.mx_journal.specs.Table.{IsTableOf};
+ghost use Rattle.mx_board.specs.Board.{caught_up, mark_of};
+ghost use Rattle.mx_lock.specs.Engine.{IsLocked};
+ghost use Rattle.mx_lock.specs.Ties.{AreOfAdditions, IsTied};
+
+use crate::ties::{TieLog, TieMark};
+use mx_board::{BoardReader, BoardWriter, JournalMark, board};
+use mx_journal::{Control, Table};
+use mx_types::{Ending, OutOfMemory, Who, Work};
+use std::alloc::Global;
+use std::marker::Model;
+use std::snapshot::Snapshot;
+use std::sync::Wait;
+
+/// The control state, and the board. The published version is always that of the control state's journal. Beside the journal
+/// stands of which request each addition is, for contracts alone.
+#[derive(Drop)]
+pub struct Engine<Q: Work + Drop, O: Ending + Drop> {
+    pub(crate) control: Control<Q, O>,
+    pub(crate) board: BoardWriter,
+    pub(crate) ties: TieLog,
+}
+
+impl<Q: Work + Drop, O: Ending + Drop> Model for Engine<Q, O> {
+    ghost use Rattle.std.specs.Prelude.{◌≡◌};
+    ghost use Rattle.mx_lock.specs.Engine.{EngineState};
+    ghost use Rattle.mx_lock.specs.Ties.{IsTied};
+
+    ghost Value = { EngineState Q O };
+
+    ghost view = { λ s. record { core = s.control; published = s.board.published; book = s.board.book; ties = s.ties } };
+
+    ghost invariant = { λ s. (s.board.events ≡ s.control.journal) × (s.board.published ≡ s.control.journal) × IsTied O.origin s.control s.ties.entries };
+}
+
+impl<Q: Work + Drop, O: Ending + Drop> Engine<Q, O> {
+    /// With no events, and so many places for readers.
+    pub fn new<R: Wait>(
+        rt: &R,
+        alloc: Global,
+        history: u32,
+        readers: usize,
+    ) -> Result<Engine<Q, O>, OutOfMemory>
+        requires history { (4 ≤ history) × (history ≤ 1048576) }
+        requires readers { (0 < readers) × (readers < 65) }
+        ensures { IfOk result (λ s. (s.core.journal ≡ []) × (s.core.opening ≡ record { history = history }) × (s.ties.entries ≡ [])) }
+    {
+        let control = Control::new(alloc, history)?;
+        let board = board(rt, alloc, readers)?;
+        Ok(Engine {
+            control,
+            board,
+            ties: TieLog::new(),
+        })
+    }
+
+    // Publishes what a call has left.
+    pub(crate) fn publish<R: Wait>(
+        rt: &R,
+        control: Control<Q, O>,
+        board: BoardWriter,
+        ties: TieLog,
+    ) -> Engine<Q, O>
+        requires { (board.events ≡ control.journal) × IsTied O.origin control ties.entries }
+        ensures is { result ≡ record { core = control; published = control.journal; book = board.book; ties = ties } }
+        ensures legal { is_legal result.core.journal ≡ true }
+    {
+        control.sound();
+        Engine {
+            board: board.publish(rt),
+            control,
+            ties,
+        }
+    }
+
+    /// What holds of everything that lies in a lock, for contracts alone: the control state is sound, and the version that is
+    /// published is that of its journal; there is a tie for each addition, and queued work and endings are of their tickets'
+    /// additions.
+    pub fn know(&self) -> Snapshot<Engine<Q, O>>
+        ensures is { result.value ≡ self.now }
+        ensures locked { IsLocked O.code_of O.size_of self.now }
+        ensures tied { AreOfAdditions Q.origin O.origin self.now.core self.now.ties.entries }
+    {
+        self.control.sound();
+        Snapshot::of(self)
+    }
+
+    /// The published version: the table of the journal.
+    pub fn published(&self) -> &Table
+        ensures { IsTableOf self.now.core.journal result.now }
+    {
+        let _ = &self.control;
+        self.board.table()
+    }
+
+    /// A mark of the whole journal.
+    pub fn mark(&self) -> JournalMark
+        ensures { result ≡ mark_of self.now.core.journal self.now.book }
+    {
+        let _ = &self.control;
+        self.board.mark()
+    }
+
+    /// A mark of all ties.
+    pub fn tie_mark(&self) -> TieMark
+        ensures { result ≡ self.now.ties }
+    {
+        let _ = &self.control;
+        self.ties.mark()
+    }
+
+    /// Tells a mark all ties.
+    pub fn tell(&self, mark: &mut TieMark)
+        requires { self.now.ties.book ≡ mark.old.book }
+        ensures book { mark.new.book ≡ mark.old.book }
+        ensures grown { IsPrefix mark.old.entries mark.new.entries }
+        ensures all { IsPrefix self.now.ties.entries mark.new.entries }
+    {
+        let _ = &self.control;
+        mark.learn(&self.ties.mark())
+    }
+
+    /// How many events the journal has.
+    pub fn len(&self) -> u32
+        ensures length { result ≡ length self.now.core.journal }
+        ensures legal { is_legal self.now.core.journal ≡ true }
+    {
+        self.control.sound();
+        self.control.len()
+    }
+
+    /// Whether an event at or after the mark lets a poll return.
+    pub fn is_ready(&self, since: u32) -> bool
+        ensures { result ≡ is_ready since self.now.core.journal }
+    {
+        self.control.poll_ready(since)
+    }
+
+    /// How many events the maker made.
+    pub fn made(&self, who: Who) -> u32
+        requires { is_maker who ≡ true }
+        ensures { result ≡ made_by who self.now.core.journal }
+    {
+        self.control.made(who)
+    }
+
+    /// Whether the journal begins with what a reader has seen.
+    pub fn begins_with(&self, reader: &BoardReader) -> bool
+        requires { reader.now.book ≡ self.now.book }
+        ensures { OnTrue result (IsPrefix reader.now.seen self.now.core.journal) }
+    {
+        let confirmed = reader.confirmed();
+        if confirmed <= self.len() as u64 {
+            let next = self.control.event(confirmed as u32);
+            if reader.is_behind(&self.mark(), next) {
+                return true;
+            }
+        }
+        false
+    }
+
+    /// A reader for a maker, which has seen the whole journal. None where every place for a reader is in use.
+    pub fn reader(&mut self, who: Who) -> Option<BoardReader>
+        requires { is_maker who ≡ true }
+        ensures same { self.new ≡ self.old }
+        ensures is { IfSome result (λ r. r ≡ caught_up who self.old.core.journal self.old.book) }
+    {
+        let _ = &self.control;
+        self.board.reader(who)
+    }
+
+    /// Ends the board: it waits for the readers that read, and gives the memory of both copies back. The control state goes
+    /// with its queue and its endings.
+    pub fn close<R: Wait>(self, rt: &R) {
+        let Engine {
+            control,
+            board,
+            ties: _ties,
+        } = self;
+        let _table = board.close(rt);
+        let _control = control;
+    }
+}
