@@ -1,18 +1,16 @@
 //! A transfer whose connection takes some polls, over a stream that is made up.
 
-use futures::task::Poll;
 use futures::test::MockTask;
 use mx_link::{Called, Link, Stream, StreamLink};
 use mx_request::Request;
 use mx_transfer::Transfer;
-use mx_types::{Code, History, Method, Settings};
+use mx_transfer_tests_base::replay::{poll, request};
+use mx_transfer_tests_base::responses::COUNTED;
+use mx_types::{Code, History, Method};
 use std::alloc::AllocGlobal;
 use std::io::ErrorKind;
 use std::random::RandomSource;
 use std::test::Fail;
-
-/// 43 bytes, of which the last five are the body.
-const COUNTED: &[u8] = b"HTTP/1.1 200 OK\r\nContent-Length: 5\r\n\r\nhello";
 
 /// A stream that has no peer for some questions, and then one, or an error. It takes what is written, and answers with `COUNTED`.
 #[derive(Drop)]
@@ -76,14 +74,11 @@ fn link(waits: u32, is_refused: bool) -> SlowLink {
     StreamLink::over(stream, 9)
 }
 
-/// The code, or nothing where it is pending or has ended before.
-fn poll<L: Link>(task: &MockTask, transfer: &mut Transfer<L>) -> Option<Code> {
-    if transfer.spent() {
-        return None;
-    }
-    match task.poll(transfer) {
-        Poll::Ready(outcome) => Some(outcome.code()),
-        Poll::Pending => None,
+/// Polls once: the code, or nothing where it is pending or has ended before.
+fn poll_code<L: Link>(task: &MockTask, transfer: &mut Transfer<L>) -> Option<Code> {
+    match poll(task, transfer) {
+        Some(outcome) => Some(outcome.code()),
+        None => None,
     }
 }
 
@@ -102,11 +97,11 @@ struct Polls {
 
 fn take_polls<L: Link>(task: &MockTask, transfer: &mut Transfer<L>) -> Polls {
     let token = transfer.token();
-    let first = poll(task, transfer);
+    let first = poll_code(task, transfer);
     let asleep = !task.is_woken();
     transfer.wake();
     let woken = task.is_woken();
-    let codes = [first, poll(task, transfer), poll(task, transfer)];
+    let codes = [first, poll_code(task, transfer), poll_code(task, transfer)];
     Polls {
         token,
         codes,
@@ -117,7 +112,7 @@ fn take_polls<L: Link>(task: &MockTask, transfer: &mut Transfer<L>) -> Polls {
     }
 }
 
-fn with_task<R: RandomSource + AllocGlobal, L: Link>(
+fn polls_of<R: RandomSource + AllocGlobal, L: Link>(
     rt: &R,
     transfer: &mut Transfer<L>,
 ) -> Result<Polls, Fail> {
@@ -134,7 +129,7 @@ fn with_link<R: RandomSource + AllocGlobal, L: Link>(
     if transfer.wants().is_some() {
         transfer.attach(link, false);
     }
-    with_task(rt, transfer)
+    polls_of(rt, transfer)
 }
 
 fn with_request<R: RandomSource + AllocGlobal, L: Link>(
@@ -153,13 +148,7 @@ fn connect<R: RandomSource + AllocGlobal>(
     waits: u32,
     is_refused: bool,
 ) -> Result<Polls, Fail> {
-    let alloc = rt.alloc();
-    let request = Request::build(
-        alloc,
-        Method::Get,
-        "http://127.0.0.1/",
-        Settings::new(alloc),
-    )?;
+    let request = request(rt.alloc(), Method::Get, "http://127.0.0.1/", 0, 0)?;
     with_request(rt, request, link(waits, is_refused))
 }
 

@@ -1,18 +1,18 @@
 //! What a caller sees of a transfer. The offsets and lengths were counted by hand.
 
-use crate::replay::{Call, Ended, Waiting, Wanted, has_seen, play};
 use mx_link::{ScriptRead, Write};
+use mx_transfer_tests_base::replay::{
+    Call, Ended, Waiting, Wanted, failed, hello, is_seen, request,
+};
+use mx_transfer_tests_base::responses::{COUNTED, HEAD};
 use mx_types::{Code, Method};
 use std::alloc::{AllocError, AllocGlobal, Global};
 use std::process::Abort;
 use std::random::RandomSource;
 use std::test::Fail;
 
-/// 43 bytes, of which the last five are the body.
-const COUNTED: &[u8] = b"HTTP/1.1 200 OK\r\nContent-Length: 5\r\n\r\nhello";
-
-/// 38 bytes.
-const HEAD: &[u8] = b"HTTP/1.1 200 OK\r\nContent-Length: 5\r\n\r\n";
+/// What is asked for: the request has more than 64 bytes.
+const HERE: &str = "http://127.0.0.1:8080/a/longer/path?b";
 
 /// 72 bytes, with the body at 54.
 const CHUNKED: &[u8] =
@@ -53,36 +53,6 @@ fn unserved(asks: bool, deadline: Option<u64>) -> Waiting {
     }
 }
 
-/// A response with the body `hello` in one part.
-fn hello(wire: &[u8], links: u32) -> Ended<'_> {
-    Ended {
-        code: Code::Ok,
-        status: 200,
-        wire,
-        part_count: 1,
-        part: Some(b"hello"),
-        body: b"hello",
-        size: 5,
-        links,
-        hops: 1,
-    }
-}
-
-/// It has no body, and no link to keep.
-fn failed(code: Code, status: u16, wire: &[u8]) -> Ended<'_> {
-    Ended {
-        code,
-        status,
-        wire,
-        part_count: 0,
-        part: None,
-        body: b"",
-        size: 0,
-        links: 0,
-        hops: 1,
-    }
-}
-
 /// Reads of one byte each.
 fn one_by_one(alloc: Global, bytes: &[u8]) -> Result<Vec<ScriptRead<'_>>, AllocError> {
     let mut reads = Vec::new(alloc);
@@ -100,10 +70,8 @@ fn sees<R: Abort + RandomSource + AllocGlobal>(
     waits: &[Waiting],
     ended: Ended<'_>,
 ) -> Result<(), Fail> {
-    let played = play(rt, method, 0, calls)?;
-    has_seen(rt, &played, waits, Some(ended));
-    drop(played);
-    Ok(())
+    let request = request(rt.alloc(), method, HERE, 0, 0)?;
+    is_seen(rt, request, calls, waits, Some(ended))
 }
 
 /// This is seen of a transfer with that limit of time.
@@ -114,10 +82,8 @@ fn sees_timed<R: Abort + RandomSource + AllocGlobal>(
     waits: &[Waiting],
     ended: Option<Ended<'_>>,
 ) -> Result<(), Fail> {
-    let played = play(rt, Method::Get, timeout_ms, calls)?;
-    has_seen(rt, &played, waits, ended);
-    drop(played);
-    Ok(())
+    let request = request(rt.alloc(), Method::Get, HERE, 0, timeout_ms)?;
+    is_seen(rt, request, calls, waits, ended)
 }
 
 #[test]

@@ -2,12 +2,12 @@
 //!
 //! A chain that ends for want of memory fails its test by that name, so that all others are compared where growths are refused, too.
 
-use crate::hops::{FOUND, HELLO, HERE, request};
-use crate::replay::serve;
-use futures::test::MockTask;
+use crate::hops::{FOUND, HERE, TEMPORARY};
 use mx_link::ScriptLink;
 use mx_request::Request;
 use mx_transfer::{Outcome, Transfer};
+use mx_transfer_tests_base::replay::{request, serve};
+use mx_transfer_tests_base::responses::COUNTED;
 use mx_types::{Code, Method, OutOfMemory, Settings};
 use std::alloc::{AllocError, AllocGlobal, Global};
 use std::process::Abort;
@@ -37,27 +37,17 @@ fn sends<'a>(sent: &'a [u8], reply: &'a [u8], status: u16) -> Hop<'a> {
 }
 
 /// Serves the hops with their replies, up to its end.
-fn serve_all(
-    alloc: Global,
-    task: &MockTask,
-    transfer: &mut Transfer<ScriptLink>,
-    hops: &[Hop<'_>],
-) -> Result<Outcome, Fail> {
-    for hop in hops {
-        if let Some(outcome) = serve(alloc, task, transfer, hop.reply)? {
-            return Ok(outcome);
-        }
-    }
-    Err(Fail::from("it did not end"))
-}
-
-fn with_task<R: RandomSource + AllocGlobal>(
+fn serve_hops<R: RandomSource + AllocGlobal>(
     rt: &R,
     transfer: &mut Transfer<ScriptLink>,
     hops: &[Hop<'_>],
 ) -> Result<Outcome, Fail> {
-    let task = MockTask::new(rt)?;
-    serve_all(rt.alloc(), &task, transfer, hops)
+    for hop in hops {
+        if let Some(outcome) = serve(rt, transfer, hop.reply)? {
+            return Ok(outcome);
+        }
+    }
+    Err(Fail::from("it did not end"))
 }
 
 /// What the transfer of a request ends with whose links give the replies of these hops, one each.
@@ -67,7 +57,7 @@ fn fetch<R: RandomSource + AllocGlobal>(
     hops: &[Hop<'_>],
 ) -> Result<Outcome, Fail> {
     let mut transfer = Transfer::new(rt.alloc(), request);
-    let outcome = with_task(rt, &mut transfer, hops);
+    let outcome = serve_hops(rt, &mut transfer, hops);
     drop(transfer);
     outcome
 }
@@ -139,7 +129,7 @@ fn leads_on<R: Abort + RandomSource + AllocGlobal>(
 }
 
 /// The end with the body `hello`.
-fn hello(hops: usize) -> End<'static> {
+fn whole(hops: usize) -> End<'static> {
     (Code::Ok, hops, 200, 1, Some(b"hello"))
 }
 
@@ -149,13 +139,13 @@ fn found(code: Code, hops: usize) -> End<'static> {
 }
 
 fn get(alloc: Global, limit: u8) -> Result<Request, Fail> {
-    request(alloc, Method::Get, limit, 0)
+    request(alloc, Method::Get, HERE, limit, 0)
 }
 
 #[test]
 fn a_redirect_is_followed(rt: HostRuntime) -> Result<(), Fail> {
-    let hops = [sends(GET_A, FOUND, 302), sends(GET_B, HELLO, 200)];
-    leads_on(&rt, get(rt.alloc(), 2)?, &hops, hello(2))
+    let hops = [sends(GET_A, FOUND, 302), sends(GET_B, COUNTED, 200)];
+    leads_on(&rt, get(rt.alloc(), 2)?, &hops, whole(2))
 }
 
 #[test]
@@ -182,7 +172,7 @@ fn without_a_limit_none_is_followed(rt: HostRuntime) -> Result<(), Fail> {
 }
 
 /// Responses with a Location that is refused.
-const REFUSED: [(&[u8], Code); 4] = [
+static REFUSED: [(&'static [u8], Code); 4] = [
     (
         b"HTTP/1.1 302 Found\r\nLocation: https://x/\r\nContent-Length: 0\r\n\r\n",
         Code::UnsupportedProtocol,
@@ -210,7 +200,7 @@ fn a_refused_location_ends_it(rt: HostRuntime) -> Result<(), Fail> {
 }
 
 /// Responses whose final head has no Location, or an empty one first.
-const UNLOCATED: [&[u8]; 3] = [
+static UNLOCATED: [&'static [u8]; 3] = [
     b"HTTP/1.1 302 Found\r\nContent-Length: 0\r\n\r\n",
     b"HTTP/1.1 302 Found\r\nLocation: \r\nLocation: /b\r\nContent-Length: 0\r\n\r\n",
     b"HTTP/1.1 103 Early Hints\r\nLocation: /b\r\n\r\nHTTP/1.1 302 Found\r\nContent-Length: 0\r\n\r\n",
@@ -253,13 +243,10 @@ const MOVED: &[u8] = b"HTTP/1.1 301 Moved Permanently\r\nLocation: /c\r\nContent
 
 const SEE_OTHER: &[u8] = b"HTTP/1.1 303 See Other\r\nLocation: /c\r\nContent-Length: 0\r\n\r\n";
 
-const TEMPORARY: &[u8] =
-    b"HTTP/1.1 307 Temporary Redirect\r\nLocation: /c\r\nContent-Length: 0\r\n\r\n";
-
 /// A method, the bytes of its request, those that its link gives, their status, and the bytes of the next request.
 type Step<'a> = (Method, &'a [u8], &'a [u8], u16, &'a [u8]);
 
-const STEPS: [Step<'static>; 5] = [
+static STEPS: [Step<'static>; 5] = [
     (Method::Post, POST_A, SEE_OTHER, 303, GET_C),
     (Method::Post, POST_A, TEMPORARY, 307, POST_C),
     (Method::Post, POST_A, MOVED, 301, GET_C),
@@ -269,8 +256,8 @@ const STEPS: [Step<'static>; 5] = [
 
 /// A request with a body takes this step.
 fn takes<R: Abort + RandomSource + AllocGlobal>(rt: &R, step: &Step<'_>) -> Result<(), Fail> {
-    let hops = [sends(step.1, step.2, step.3), sends(step.4, HELLO, 200)];
-    leads_on(rt, with_hi(rt.alloc(), step.0)?, &hops, hello(2))
+    let hops = [sends(step.1, step.2, step.3), sends(step.4, COUNTED, 200)];
+    leads_on(rt, with_hi(rt.alloc(), step.0)?, &hops, whole(2))
 }
 
 #[test]
@@ -301,7 +288,7 @@ fn with_cookie(alloc: Global) -> Result<Request, Fail> {
 }
 
 /// The first redirect leads to another port, and the second one back.
-const WITH_COOKIE: [Hop<'static>; 3] = [
+static WITH_COOKIE: [Hop<'static>; 3] = [
     Hop {
         sent: b"GET /a HTTP/1.1\r\nHost: 127.0.0.1:8080\r\nAccept: */*\r\ncookie: a=1\r\n\r\n",
         reply: b"HTTP/1.1 302 Found\r\nLocation: http://127.0.0.1:8081/\r\nContent-Length: 0\r\n\r\n",
@@ -314,7 +301,7 @@ const WITH_COOKIE: [Hop<'static>; 3] = [
     },
     Hop {
         sent: b"GET /d HTTP/1.1\r\nHost: 127.0.0.1:8080\r\nAccept: */*\r\ncookie: a=1\r\n\r\n",
-        reply: HELLO,
+        reply: COUNTED,
         status: 200,
     },
 ];
@@ -322,5 +309,5 @@ const WITH_COOKIE: [Hop<'static>; 3] = [
 #[test]
 fn a_cookie_goes_to_the_first_endpoint_alone(rt: HostRuntime) -> Result<(), Fail> {
     let request = with_cookie(rt.alloc())?;
-    leads_on(&rt, request, &WITH_COOKIE, hello(3))
+    leads_on(&rt, request, &WITH_COOKIE, whole(3))
 }

@@ -1,12 +1,13 @@
 //! Transfers of several hops: their deadline, their retries, their links and how they end. The lengths were counted by hand.
 
-use crate::replay::{Call, Ended, Waiting, Wanted, has_seen, links_of, play_request, serve};
-use futures::test::MockTask;
 use mx_link::{ScriptLink, ScriptRead};
-use mx_request::Request;
 use mx_transfer::Transfer;
-use mx_types::{Code, Method, Settings};
-use std::alloc::{AllocGlobal, Global};
+use mx_transfer_tests_base::replay::{
+    Call, Ended, Waiting, Wanted, failed, hello, is_seen, links_of, request, serve,
+};
+use mx_transfer_tests_base::responses::{COUNTED, HEAD};
+use mx_types::{Code, Method};
+use std::alloc::AllocGlobal;
 use std::process::Abort;
 use std::random::RandomSource;
 use std::test::Fail;
@@ -18,14 +19,8 @@ pub(crate) const HERE: &str = "http://127.0.0.1:8080/a";
 pub(crate) const FOUND: &[u8] = b"HTTP/1.1 302 Found\r\nLocation: /b\r\nContent-Length: 0\r\n\r\n";
 
 /// 68 bytes.
-const TEMPORARY: &[u8] =
+pub(crate) const TEMPORARY: &[u8] =
     b"HTTP/1.1 307 Temporary Redirect\r\nLocation: /c\r\nContent-Length: 0\r\n\r\n";
-
-/// 43 bytes, of which the last five are the body.
-pub(crate) const HELLO: &[u8] = b"HTTP/1.1 200 OK\r\nContent-Length: 5\r\n\r\nhello";
-
-/// 38 bytes.
-const HEAD: &[u8] = b"HTTP/1.1 200 OK\r\nContent-Length: 5\r\n\r\n";
 
 /// A redirect to its own URL, of 55 bytes.
 const ITSELF: &[u8] = b"HTTP/1.1 302 Found\r\nLocation: /a\r\nContent-Length: 0\r\n\r\n";
@@ -38,19 +33,6 @@ const GIVES_ITSELF: Call<'static> = Call::Fresh(&[ScriptRead::Bytes(ITSELF)], &[
 
 /// A link that was in use before, and is lost before it gives a byte.
 const LOST: Call<'static> = Call::Reused(&[ScriptRead::WouldBlock, ScriptRead::End], &[]);
-
-/// A request that follows so many redirects at most.
-pub(crate) fn request(
-    alloc: Global,
-    method: Method,
-    limit: u8,
-    timeout_ms: u32,
-) -> Result<Request, Fail> {
-    let mut settings = Settings::new(alloc);
-    settings.max_redirects = limit;
-    settings.timeout_ms = timeout_ms;
-    Ok(Request::build(alloc, method, HERE, settings)?)
-}
 
 /// A redirect was followed, and so many bytes came so far.
 fn followed(received: u32, deadline: Option<u64>) -> Waiting {
@@ -74,60 +56,21 @@ fn waiting(wants: Wanted, received: u32, deadline: Option<u64>) -> Waiting {
     }
 }
 
-/// A second hop that is no whole response.
-fn failed(code: Code, status: u16, wire: &[u8], links: u32) -> Ended<'_> {
-    Ended {
-        code,
-        status,
-        wire,
-        part_count: 0,
-        part: None,
-        body: b"",
-        size: 0,
-        links,
-        hops: 2,
-    }
+/// The same end, at a second hop.
+fn second(ended: Ended<'_>) -> Ended<'_> {
+    Ended { hops: 2, ..ended }
 }
 
-/// A second hop with the body `hello`.
-fn hello() -> Ended<'static> {
-    Ended {
-        code: Code::Ok,
-        status: 200,
-        wire: HELLO,
-        part_count: 1,
-        part: Some(b"hello"),
-        body: b"hello",
-        size: 5,
-        links: 1,
-        hops: 2,
-    }
-}
-
-/// Over these calls this is seen of the transfer of a request.
+/// Over these calls this is seen of a transfer that follows one redirect, and ends so at its second hop.
 fn sees<R: Abort + RandomSource + AllocGlobal>(
-    rt: &R,
-    request: Request,
-    calls: &[Call<'_>],
-    waits: &[Waiting],
-    ended: Ended<'_>,
-) -> Result<(), Fail> {
-    let played = play_request(rt, request, calls)?;
-    has_seen(rt, &played, waits, Some(ended));
-    drop(played);
-    Ok(())
-}
-
-/// Over these calls this is seen of a transfer that follows one redirect.
-fn sees_one<R: Abort + RandomSource + AllocGlobal>(
     rt: &R,
     method: Method,
     calls: &[Call<'_>],
     waits: &[Waiting],
     ended: Ended<'_>,
 ) -> Result<(), Fail> {
-    let request = request(rt.alloc(), method, 1, 0)?;
-    sees(rt, request, calls, waits, ended)
+    let request = request(rt.alloc(), method, HERE, 1, 0)?;
+    is_seen(rt, request, calls, waits, Some(second(ended)))
 }
 
 #[test]
@@ -146,9 +89,9 @@ fn one_deadline_is_for_all_hops(rt: HostRuntime) -> Result<(), Fail> {
         followed(55, Some(110)),
         waiting(Wanted::Nothing, 55, Some(110)),
     ];
-    let request = request(rt.alloc(), Method::Get, 1, 100)?;
-    let ended = failed(Code::OperationTimedout, 0, b"", 0);
-    sees(&rt, request, &calls, &waits, ended)
+    let request = request(rt.alloc(), Method::Get, HERE, 1, 100)?;
+    let ended = second(failed(Code::OperationTimedout, 0, b""));
+    is_seen(&rt, request, &calls, &waits, Some(ended))
 }
 
 #[test]
@@ -160,7 +103,7 @@ fn each_hop_is_tried_again_once(rt: HostRuntime) -> Result<(), Fail> {
         Call::Poll,
         LOST,
         Call::Poll,
-        Call::Fresh(&[ScriptRead::Bytes(HELLO)], &[]),
+        Call::Fresh(&[ScriptRead::Bytes(COUNTED)], &[]),
         Call::Poll,
     ];
     let waits = [
@@ -168,7 +111,7 @@ fn each_hop_is_tried_again_once(rt: HostRuntime) -> Result<(), Fail> {
         followed(55, None),
         waiting(Wanted::Fresh, 55, None),
     ];
-    sees_one(&rt, Method::Get, &calls, &waits, hello())
+    sees(&rt, Method::Get, &calls, &waits, hello(COUNTED, 1))
 }
 
 #[test]
@@ -179,8 +122,8 @@ fn a_later_post_is_not_tried_again(rt: HostRuntime) -> Result<(), Fail> {
         LOST,
         Call::Poll,
     ];
-    let ended = failed(Code::GotNothing, 0, b"", 0);
-    sees_one(&rt, Method::Post, &calls, &[followed(68, None)], ended)
+    let ended = failed(Code::GotNothing, 0, b"");
+    sees(&rt, Method::Post, &calls, &[followed(68, None)], ended)
 }
 
 #[test]
@@ -191,16 +134,19 @@ fn a_fault_of_the_last_hop_ends_it(rt: HostRuntime) -> Result<(), Fail> {
         Call::Fresh(&[ScriptRead::Bytes(HEAD), ScriptRead::Fault], &[]),
         Call::Poll,
     ];
-    let ended = failed(Code::RecvError, 200, HEAD, 0);
-    sees_one(&rt, Method::Get, &calls, &[followed(55, None)], ended)
+    let ended = failed(Code::RecvError, 200, HEAD);
+    sees(&rt, Method::Get, &calls, &[followed(55, None)], ended)
 }
 
 // The link of the hop before is still there.
 #[test]
 fn no_link_for_the_last_hop_ends_it(rt: HostRuntime) -> Result<(), Fail> {
     let calls = [GIVES_FOUND, Call::Poll, Call::NoLink, Call::Poll];
-    let ended = failed(Code::CouldntResolveHost, 0, b"", 1);
-    sees_one(&rt, Method::Get, &calls, &[followed(55, None)], ended)
+    let ended = Ended {
+        links: 1,
+        ..failed(Code::CouldntResolveHost, 0, b"")
+    };
+    sees(&rt, Method::Get, &calls, &[followed(55, None)], ended)
 }
 
 // A redirect to its own URL is followed as often as may be.
@@ -217,12 +163,13 @@ fn a_redirect_to_itself_ends_with_47(rt: HostRuntime) -> Result<(), Fail> {
         Call::Poll,
     ];
     let waits = [followed(55, None), followed(110, None), followed(165, None)];
-    let request = request(rt.alloc(), Method::Get, 3, 0)?;
+    let request = request(rt.alloc(), Method::Get, HERE, 3, 0)?;
     let ended = Ended {
+        links: 1,
         hops: 4,
-        ..failed(Code::TooManyRedirects, 302, ITSELF, 1)
+        ..failed(Code::TooManyRedirects, 302, ITSELF)
     };
-    sees(&rt, request, &calls, &waits, ended)
+    is_seen(&rt, request, &calls, &waits, Some(ended))
 }
 
 /// What is seen of the links of a transfer.
@@ -270,17 +217,16 @@ fn take_links(transfer: &mut Transfer<ScriptLink>) -> Links {
     }
 }
 
-/// What is seen behind these replies, over one link each.
-fn serve_all(
-    alloc: Global,
-    task: &MockTask,
+/// What is seen of the links behind these replies, over one link each.
+fn links_after<R: RandomSource + AllocGlobal>(
+    rt: &R,
     transfer: &mut Transfer<ScriptLink>,
     replies: &[&[u8]],
 ) -> Result<Links, Fail> {
     for reply in replies {
         // nothing is asked of it once it has ended
         if !transfer.spent() {
-            let _outcome = serve(alloc, task, transfer, *reply)?;
+            drop(serve(rt, transfer, *reply)?);
         }
     }
     Ok(take_links(transfer))
@@ -289,32 +235,23 @@ fn serve_all(
 /// Replies to one hop after another, and what is seen of the links then.
 type Step<'a> = (&'a [&'a [u8]], Links);
 
-fn take_steps<R: Abort + AllocGlobal>(
+fn take_steps<R: Abort + RandomSource + AllocGlobal>(
     rt: &R,
-    task: &MockTask,
     transfer: &mut Transfer<ScriptLink>,
     steps: &[Step<'_>],
 ) -> Result<(), Fail> {
     for step in steps {
-        let links = serve_all(rt.alloc(), task, transfer, step.0)?;
+        let links = links_after(rt, transfer, step.0)?;
         assert_eq!(rt; links, step.1);
     }
     Ok(())
 }
 
-fn with_task<R: Abort + RandomSource + AllocGlobal>(
-    rt: &R,
-    transfer: &mut Transfer<ScriptLink>,
-    steps: &[Step<'_>],
-) -> Result<(), Fail> {
-    let task = MockTask::new(rt)?;
-    take_steps(rt, &task, transfer, steps)
-}
-
 /// A transfer that follows one redirect takes these steps.
-fn takes<R: Abort + RandomSource + AllocGlobal>(rt: &R, steps: &[Step<'_>]) -> Result<(), Fail> {
-    let mut transfer = Transfer::new(rt.alloc(), request(rt.alloc(), Method::Get, 1, 0)?);
-    let taken = with_task(rt, &mut transfer, steps);
+fn goes<R: Abort + RandomSource + AllocGlobal>(rt: &R, steps: &[Step<'_>]) -> Result<(), Fail> {
+    let request = request(rt.alloc(), Method::Get, HERE, 1, 0)?;
+    let mut transfer = Transfer::new(rt.alloc(), request);
+    let taken = take_steps(rt, &mut transfer, steps);
     drop(transfer);
     taken
 }
@@ -357,19 +294,19 @@ fn a_link_is_handed_out_after_each_hop(rt: HostRuntime) -> Result<(), Fail> {
     let steps: [Step<'_>; 3] = [
         (&[], going(None, 8080, 0, 0)),
         (&[AWAY], going(Some(8080), 81, 73, 1)),
-        (&[HELLO], done(Some(81), 116, 1)),
+        (&[COUNTED], done(Some(81), 116, 1)),
     ];
-    takes(&rt, &steps)
+    goes(&rt, &steps)
 }
 
 #[test]
 fn a_link_that_is_not_taken_is_dropped_for_the_next(rt: HostRuntime) -> Result<(), Fail> {
     let steps: [Step<'_>; 1] = [(&[AWAY, CLOSES], done(None, 130, 0))];
-    takes(&rt, &steps)
+    goes(&rt, &steps)
 }
 
 #[test]
 fn a_link_that_closes_is_not_handed_out_between_hops(rt: HostRuntime) -> Result<(), Fail> {
     let steps: [Step<'_>; 1] = [(&[FOUND_CLOSES], going(Some(8080), 8080, 74, 0))];
-    takes(&rt, &steps)
+    goes(&rt, &steps)
 }

@@ -5,7 +5,7 @@
 
 use futures::task::Poll;
 use futures::test::MockTask;
-use mx_link::{ScriptLink, ScriptRead, Write};
+use mx_link::{Link, ScriptLink, ScriptRead, Write};
 use mx_request::Request;
 use mx_transfer::{Outcome, Transfer};
 use mx_types::{Code, Ending as Ends, Method, OutOfMemory, Settings};
@@ -16,52 +16,96 @@ use std::test::Fail;
 
 /// A call on a transfer.
 #[derive(Clone, Copy)]
-pub(crate) enum Call<'a> {
+pub enum Call<'a> {
     /// Hands over a link that was never in use, and that answers so.
     Fresh(&'a [ScriptRead<'a>], &'a [Write]),
     /// Hands over a link that was in use before, and that answers so.
     Reused(&'a [ScriptRead<'a>], &'a [Write]),
     /// Says that no link can be had, as the lookup of the host failed.
     NoLink,
-    /// Sets the moment, and whether the transfer is paused.
+    /// Sets the moment in milliseconds, and whether the transfer is paused.
     Prepare(u64, bool),
+    /// Polls once.
     Poll,
 }
 
 /// Which link a transfer wants.
 #[derive(Clone, Copy, Debug, PartialEq, Eq)]
-pub(crate) enum Wanted {
+pub enum Wanted {
+    /// None.
     Nothing,
+    /// One to its endpoint, which may have been in use before.
     Any,
+    /// One that was never in use.
     Fresh,
 }
 
 /// What is seen of a transfer that has answered `Pending`.
 #[derive(Clone, Copy, Debug, PartialEq, Eq)]
-pub(crate) struct Waiting {
+pub struct Waiting {
     /// It has asked to be polled again.
-    pub(crate) asks: bool,
-    pub(crate) wants: Wanted,
-    pub(crate) started: bool,
-    pub(crate) received: u32,
-    pub(crate) deadline: Option<u64>,
+    pub asks: bool,
+    /// The link that it wants.
+    pub wants: Wanted,
+    /// A link was attached once.
+    pub started: bool,
+    /// How many bytes its links gave.
+    pub received: u32,
+    /// The moment in milliseconds at which it ends unless it has ended before.
+    pub deadline: Option<u64>,
 }
 
 /// What a transfer has ended with.
 #[derive(Clone, Copy, Debug, PartialEq, Eq)]
-pub(crate) struct Ended<'a> {
-    pub(crate) code: Code,
-    pub(crate) status: u16,
-    pub(crate) wire: &'a [u8],
-    pub(crate) part_count: usize,
+pub struct Ended<'a> {
+    /// That of its outcome.
+    pub code: Code,
+    /// The status of the last hop's final head, 0 where none was read.
+    pub status: u16,
+    /// The bytes that the link of the last hop gave.
+    pub wire: &'a [u8],
+    /// How many parts its body has.
+    pub part_count: usize,
     /// The first part.
-    pub(crate) part: Option<&'a [u8]>,
+    pub part: Option<&'a [u8]>,
     /// The copy of all parts.
-    pub(crate) body: &'a [u8],
-    pub(crate) size: u32,
+    pub body: &'a [u8],
+    /// How many bytes the parts have.
+    pub size: u32,
     /// How many links it gives, asked for twice.
-    pub(crate) links: u32,
-    pub(crate) hops: usize,
+    pub links: u32,
+    /// One more than redirects were followed.
+    pub hops: usize,
+}
+
+/// A transfer of one hop that ends with this response, whose body is `hello` in one part.
+pub fn hello(wire: &[u8], links: u32) -> Ended<'_> {
+    Ended {
+        code: Code::Ok,
+        status: 200,
+        wire,
+        part_count: 1,
+        part: Some(b"hello"),
+        body: b"hello",
+        size: 5,
+        links,
+        hops: 1,
+    }
+}
+
+/// A transfer of one hop that ends without a body, and without a link to keep.
+pub fn failed(code: Code, status: u16, wire: &[u8]) -> Ended<'_> {
+    Ended {
+        code,
+        status,
+        wire,
+        part_count: 0,
+        part: None,
+        body: b"",
+        size: 0,
+        links: 0,
+        hops: 1,
+    }
 }
 
 /// What is seen of a transfer.
@@ -81,7 +125,7 @@ struct Ending {
 
 /// What was seen of a transfer.
 #[derive(Drop)]
-pub(crate) struct Played {
+struct Played {
     waits: Vec<Waiting>,
     ending: Option<Ending>,
 }
@@ -116,24 +160,22 @@ impl Ending {
 }
 
 /// Compares what was seen.
-pub(crate) fn has_seen(
-    rt: &impl Abort,
-    played: &Played,
-    waits: &[Waiting],
-    ended: Option<Ended<'_>>,
-) {
+fn has_seen(rt: &impl Abort, played: &Played, waits: &[Waiting], ended: Option<Ended<'_>>) {
     assert_eq!(rt; played.seen(), Seen { waits, ended });
 }
 
-fn build(alloc: Global, method: Method, timeout_ms: u32) -> Result<Request, Fail> {
+/// A request without a body that follows so many redirects at most, and has so many milliseconds: no deadline where these are 0.
+pub fn request(
+    alloc: Global,
+    method: Method,
+    url: &str,
+    max_redirects: u8,
+    timeout_ms: u32,
+) -> Result<Request, Fail> {
     let mut settings = Settings::new(alloc);
+    settings.max_redirects = max_redirects;
     settings.timeout_ms = timeout_ms;
-    Ok(Request::build(
-        alloc,
-        method,
-        "http://127.0.0.1:8080/a/longer/path?b",
-        settings,
-    )?)
+    Ok(Request::build(alloc, method, url, settings)?)
 }
 
 fn wants_of(transfer: &Transfer<ScriptLink>) -> Wanted {
@@ -182,7 +224,7 @@ fn give_up(transfer: &mut Transfer<ScriptLink>) -> bool {
 }
 
 /// How many links it gives, asked for twice.
-pub(crate) fn links_of(transfer: &mut Transfer<ScriptLink>) -> u32 {
+pub fn links_of(transfer: &mut Transfer<ScriptLink>) -> u32 {
     let first = transfer.take_link().is_some();
     let second = transfer.take_link().is_some();
     u32::from(first) + u32::from(second)
@@ -198,8 +240,8 @@ fn waits(task: &MockTask, transfer: &Transfer<ScriptLink>) -> Waiting {
     }
 }
 
-/// The outcome, or nothing where it is pending.
-fn poll(task: &MockTask, transfer: &mut Transfer<ScriptLink>) -> Option<Outcome> {
+/// The outcome, or nothing where it is pending or has ended before.
+pub fn poll<L: Link>(task: &MockTask, transfer: &mut Transfer<L>) -> Option<Outcome> {
     if transfer.spent() {
         return None;
     }
@@ -207,19 +249,6 @@ fn poll(task: &MockTask, transfer: &mut Transfer<ScriptLink>) -> Option<Outcome>
         Poll::Ready(outcome) => Some(outcome),
         Poll::Pending => None,
     }
-}
-
-/// What the poll answers that comes behind a fresh link which gives this reply; nothing where that is pending.
-pub(crate) fn serve(
-    alloc: Global,
-    task: &MockTask,
-    transfer: &mut Transfer<ScriptLink>,
-    reply: &[u8],
-) -> Result<Option<Outcome>, Fail> {
-    if attach_script(alloc, transfer, &[ScriptRead::Bytes(reply)], &[], false)? {
-        return Ok(poll(task, transfer));
-    }
-    Err(Fail::from("no link is wanted"))
 }
 
 /// Keeps what a transfer has ended with.
@@ -304,7 +333,8 @@ fn with_task<R: RandomSource + AllocGlobal>(
     make_all(rt.alloc(), &task, transfer, calls, played)
 }
 
-fn play_into<R: RandomSource + AllocGlobal>(
+/// What is seen of a new transfer of the request over these calls, up to its end.
+fn play<R: RandomSource + AllocGlobal>(
     rt: &R,
     request: Request,
     calls: &[Call<'_>],
@@ -316,27 +346,47 @@ fn play_into<R: RandomSource + AllocGlobal>(
     made
 }
 
-/// What is seen of a new transfer of the request over these calls, up to its end.
-pub(crate) fn play_request<R: RandomSource + AllocGlobal>(
+/// Compares what is seen of a new transfer of the request over these calls, up to its end: each poll that answers `Pending`, and what it
+/// has ended with, if it has.
+pub fn is_seen<R: Abort + RandomSource + AllocGlobal>(
     rt: &R,
     request: Request,
     calls: &[Call<'_>],
-) -> Result<Played, Fail> {
+    waits: &[Waiting],
+    ended: Option<Ended<'_>>,
+) -> Result<(), Fail> {
     let mut played = Played {
         waits: Vec::new(rt.alloc()),
         ending: None,
     };
-    play_into(rt, request, calls, &mut played)?;
-    Ok(played)
+    let made = play(rt, request, calls, &mut played);
+    if made.is_ok() {
+        has_seen(rt, &played, waits, ended);
+    }
+    drop(played);
+    made
 }
 
-/// What is seen of a new transfer, with that limit of time, over these calls, up to its end.
-pub(crate) fn play<R: RandomSource + AllocGlobal>(
+/// What the poll answers that comes behind a fresh link which gives this reply; nothing where that is pending.
+fn serve_by(
+    alloc: Global,
+    task: &MockTask,
+    transfer: &mut Transfer<ScriptLink>,
+    reply: &[u8],
+) -> Result<Option<Outcome>, Fail> {
+    if attach_script(alloc, transfer, &[ScriptRead::Bytes(reply)], &[], false)? {
+        return Ok(poll(task, transfer));
+    }
+    Err(Fail::from("no link is wanted"))
+}
+
+/// What the poll answers that comes behind a fresh link which gives this reply; nothing where that is pending. The poll is by a task of its
+/// own. It fails where no link is wanted.
+pub fn serve<R: RandomSource + AllocGlobal>(
     rt: &R,
-    method: Method,
-    timeout_ms: u32,
-    calls: &[Call<'_>],
-) -> Result<Played, Fail> {
-    let request = build(rt.alloc(), method, timeout_ms)?;
-    play_request(rt, request, calls)
+    transfer: &mut Transfer<ScriptLink>,
+    reply: &[u8],
+) -> Result<Option<Outcome>, Fail> {
+    let task = MockTask::new(rt)?;
+    serve_by(rt.alloc(), &task, transfer, reply)
 }
