@@ -11,7 +11,7 @@ use mx_chain::Outcome;
 use mx_journal::AddReply;
 use mx_lock::TiedClaim;
 use mx_message::next_message;
-use mx_multi::{Multi, Seat, WorkerSeat};
+use mx_multi::{Application, AtWork, Seated};
 use mx_types::{HandleId, Work};
 use std::sync::Wait;
 
@@ -20,20 +20,18 @@ use std::sync::Wait;
 /// the last request of the chain.
 pub fn add_and_read<Q: Work + Drop, R: Wait>(
     rt: &R,
-    multi: &Multi<Q, Outcome>,
-    seat: &mut Seat<Q, Outcome>,
+    seat: &mut Seated<'_, Application, Q, Outcome>,
     handle: HandleId,
     work: Q,
 ) -> Option<Outcome>
-    requires own { seat.old.of ≡ multi.now }
     ensures request { IfSome result (λ o. request_origin o.request ≡ Q.origin work) }
     ensures outcome { IfSome result (λ o. IsOutcome o) }
     ensures body { IfSome result (λ o. o.code ≡ code.Ok → HasContent o.last) }
 {
-    let Ok(AddReply::Added(ticket)) = multi.add(rt, seat, handle, work) else {
+    let Ok(AddReply::Added(ticket)) = seat.add(rt, handle, work) else {
         return None;
     };
-    let Ok(message) = next_message(rt, multi, seat) else {
+    let Ok(message) = next_message(rt, seat) else {
         return None;
     };
     if message.ticket != ticket {
@@ -42,59 +40,50 @@ pub fn add_and_read<Q: Work + Drop, R: Wait>(
     Some(message.outcome)
 }
 
-/// Ends a claimed transfer at the multi handle that gave the claim. The other one, whose seat it has too, would refuse that claim.
+/// Ends a claimed transfer through a seat of the multi handle that gave the claim. The other seat, which may be of another multi handle, would
+/// refuse that claim.
 pub fn finish_claimed<Q: Work + Drop, R: Wait>(
     rt: &R,
-    one: &Multi<Q, Outcome>,
-    other: &Multi<Q, Outcome>,
-    worker: &mut WorkerSeat<Q, Outcome>,
-    other_worker: &mut WorkerSeat<Q, Outcome>,
+    worker: &mut Seated<'_, AtWork, Q, Outcome>,
+    other: &mut Seated<'_, AtWork, Q, Outcome>,
     claim: TiedClaim<Q>,
     outcome: Outcome,
 ) -> bool
-    requires own { (worker.old.of ≡ one.now) × (other_worker.old.of ≡ other.now) }
-    requires claim { claim.of ≡ one.now.engine.ties }
+    requires claim { claim.of ≡ worker.old.of.engine.ties }
     requires origin { request_origin outcome.request ≡ claim.origin }
 {
-    let _connects = other.max_connects();
-    let _cut = other_worker.cut();
-    one.finish(rt, worker, claim, outcome).is_ok()
+    let _cut = other.cut();
+    worker.finish(rt, claim, outcome).is_ok()
 }
 
 /// Ends two claimed transfers, each with the outcome of its request.
 pub fn finish_both<Q: Work + Drop, R: Wait>(
     rt: &R,
-    multi: &Multi<Q, Outcome>,
-    worker: &mut WorkerSeat<Q, Outcome>,
+    worker: &mut Seated<'_, AtWork, Q, Outcome>,
     claims: (TiedClaim<Q>, TiedClaim<Q>),
     outcomes: (Outcome, Outcome),
 ) -> bool
-    requires own { worker.old.of ≡ multi.now }
-    requires claims { (claims.0.of ≡ multi.now.engine.ties) × (claims.1.of ≡ multi.now.engine.ties) }
+    requires claims { (claims.0.of ≡ worker.old.of.engine.ties) × (claims.1.of ≡ worker.old.of.engine.ties) }
     requires origins { (request_origin outcomes.0.request ≡ claims.0.origin) × (request_origin outcomes.1.request ≡ claims.1.origin) }
 {
     let (one, two) = claims;
     let (first, second) = outcomes;
-    let Ok(_reply) = multi.finish(rt, worker, one, first) else {
+    let Ok(_reply) = worker.finish(rt, one, first) else {
         return false;
     };
-    multi.finish(rt, worker, two, second).is_ok()
+    worker.finish(rt, two, second).is_ok()
 }
 
-/// Claims work, and gives it back to the multi handle that gave the claim. The other one, whose seat it has too, would refuse that claim.
+/// Claims work, and gives it back to the multi handle that gave the claim. The other seat, which may be of another one, would refuse that
+/// claim.
 pub fn claim_and_give_back<Q: Work + Drop, R: Wait>(
     rt: &R,
-    one: &Multi<Q, Outcome>,
-    other: &Multi<Q, Outcome>,
-    worker: &mut WorkerSeat<Q, Outcome>,
-    other_worker: &mut WorkerSeat<Q, Outcome>,
-) -> bool
-    requires own { (worker.old.of ≡ one.now) × (other_worker.old.of ≡ other.now) }
-{
-    let _connects = other.max_connects();
-    let _cut = other_worker.cut();
-    let Some((claim, work)) = one.claim(rt, worker) else {
+    worker: &mut Seated<'_, AtWork, Q, Outcome>,
+    other: &mut Seated<'_, AtWork, Q, Outcome>,
+) -> bool {
+    let _cut = other.cut();
+    let Some((claim, work)) = worker.claim(rt) else {
         return false;
     };
-    one.give_back(rt, worker, claim, work).is_ok()
+    worker.give_back(rt, claim, work).is_ok()
 }

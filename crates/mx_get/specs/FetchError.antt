@@ -1,5 +1,7 @@
 -- Why `get` has no ends to print, or could not print them.
 use Rattle.std.specs.Prelude.{ℕ, Bool, true, false}
+use Rattle.mx_crew.specs.declared.error.CrewError.{CrewError}
+use Rattle.mx_crew.specs.declared.error.CrewError.TheVariants as crew
 use Rattle.mx_get.specs.declared.error.FetchError.{FetchError}
 use Rattle.mx_get.specs.declared.error.FetchError.TheVariants as cause
 
@@ -19,3 +21,9 @@ abbrev pub is_of_run : FetchError → Bool
 is_of_run cause.TooManyUrls = false
 is_of_run cause.Unwritten = false
 is_of_run _ = true
+
+-- why there is no crew, as the cause of a run
+abbrev pub cause_of_crew : CrewError → FetchError
+cause_of_crew crew.OutOfMemory = cause.OutOfMemory
+cause_of_crew crew.NoPoll = cause.NoPoll
+cause_of_crew crew.NoThread = cause.NoThread

@@ -7,13 +7,13 @@ ghost use Rattle.mx_get.specs.Asked.{asked_for, asked_of, AreEndsOf, IsEnd};
 ghost use Rattle.mx_get.specs.FetchError.{is_of_run};
 ghost use Rattle.mx_get.specs.Places.{asked_at};
 
-use crate::crew::Crew;
 use crate::end::End;
 use crate::error::FetchError;
+use mx_crew::Crew;
 use mx_journal::AddReply;
 use mx_link::Link;
 use mx_message::{NoMessage, next_message};
-use mx_multi::{Multi, Seat, WrongSeat};
+use mx_multi::{Application, Seated, WrongSeat};
 use mx_request::{Request, RequestError};
 use mx_run_get::Fetched;
 use mx_run_io::Options;
@@ -95,22 +95,22 @@ fn added<Q: Drop>(answer: Result<AddReply<Q>, WrongSeat<Q>>) -> Result<(), Fetch
 
 /// The application's seat, and what came so far.
 #[derive(Drop)]
-pub struct Desk<L: Link> {
-    pub seat: Seat<Queued<L>, Outcome>,
+pub struct Desk<'m, L: Link> {
+    pub seat: Seated<'m, Application, Queued<L>, Outcome>,
     /// A place for each URL that was added or refused, in their order: the number of its place is its handle.
     pub places: Vec<Place>,
     // How many messages are to come.
     waiting: u32,
 }
 
-impl<L: Link> Desk<L> {
+impl<'m, L: Link> Desk<'m, L> {
     /// No URL yet, and room for so many.
     pub fn new(
         alloc: Global,
-        seat: Seat<Queued<L>, Outcome>,
+        seat: Seated<'m, Application, Queued<L>, Outcome>,
         count: usize,
-    ) -> Result<Desk<L>, OutOfMemory>
-        ensures seat { IfOk result (λ desk. desk.seat ≡ seat) }
+    ) -> Result<Desk<'m, L>, OutOfMemory>
+        ensures seat { IfOk result (λ desk. desk.seat ≡ seat.entry) }
         ensures none { IfOk result (λ desk. desk.places.items ≡ []) }
     {
         Ok(Desk {
@@ -124,11 +124,8 @@ impl<L: Link> Desk<L> {
     fn add_request<R: Wait + AllocGlobal>(
         &mut self,
         rt: &R,
-        multi: &Multi<Queued<L>, Outcome>,
         request: Request,
     ) -> Result<(), FetchError>
-        requires own { self.old.seat.of ≡ multi.now }
-        ensures own { self.new.seat.of ≡ multi.now }
         ensures asked { OnOk result (map asked_at self.new.places.items ≡ map asked_at self.old.places.items ++ Ok request ∷ []) }
         ensures cause { IfErr result (λ e. is_of_run e ≡ true) }
     {
@@ -137,7 +134,7 @@ impl<L: Link> Desk<L> {
         };
         let awaited = request.copy(rt.alloc())?;
         let work = Queued::new(rt.alloc(), request);
-        added(multi.add(rt, &mut self.seat, HandleId(handle), work))?;
+        added(self.seat.add(rt, HandleId(handle), work))?;
         self.waiting = self.waiting.saturating_add(1);
         self.places.push(Place::Awaited(awaited))?;
         Ok(())
@@ -147,18 +144,15 @@ impl<L: Link> Desk<L> {
     fn add<R: Wait + AllocGlobal>(
         &mut self,
         rt: &R,
-        multi: &Multi<Queued<L>, Outcome>,
         url: &str,
         timeout_ms: u32,
         max_redirects: u8,
     ) -> Result<(), FetchError>
-        requires own { self.old.seat.of ≡ multi.now }
-        ensures own { self.new.seat.of ≡ multi.now }
         ensures asked { OnOk result (map asked_at self.new.places.items ≡ map asked_at self.old.places.items ++ asked_for timeout_ms max_redirects url.now ∷ []) }
         ensures cause { IfErr result (λ e. is_of_run e ≡ true) }
     {
         match build(rt.alloc(), url, timeout_ms, max_redirects) {
-            Ok(request) => self.add_request(rt, multi, request),
+            Ok(request) => self.add_request(rt, request),
             Err(RequestError::OutOfMemory) => Err(FetchError::OutOfMemory),
             Err(error) => {
                 self.places.push(Place::Known(End::refused(error.code())))?;
@@ -183,13 +177,10 @@ impl<L: Link> Desk<L> {
     fn await_one<R: Wait>(
         &mut self,
         rt: &R,
-        multi: &Multi<Queued<L>, Outcome>,
     ) -> Result<(), NoMessage>
-        requires own { self.old.seat.of ≡ multi.now }
-        ensures own { self.new.seat.of ≡ multi.now }
         ensures asked { map asked_at self.new.places.items ≡ map asked_at self.old.places.items }
     {
-        let Ok(message) = next_message(rt, multi, &mut self.seat) else {
+        let Ok(message) = next_message(rt, &mut self.seat) else {
             return Err(NoMessage);
         };
         self.note(message.handle, message.outcome);
@@ -200,14 +191,11 @@ impl<L: Link> Desk<L> {
     fn await_all<R: Wait>(
         &mut self,
         rt: &R,
-        multi: &Multi<Queued<L>, Outcome>,
     ) -> Result<(), NoMessage>
-        requires own { self.old.seat.of ≡ multi.now }
-        ensures own { self.new.seat.of ≡ multi.now }
         ensures asked { map asked_at self.new.places.items ≡ map asked_at self.old.places.items }
     {
         for _ in 0..self.waiting {
-            self.await_one(rt, multi)?;
+            self.await_one(rt)?;
         }
         self.waiting = 0;
         Ok(())
@@ -217,22 +205,19 @@ impl<L: Link> Desk<L> {
     fn add_all<R: Wait + AllocGlobal>(
         &mut self,
         rt: &R,
-        multi: &Multi<Queued<L>, Outcome>,
         crew: &Crew,
         urls: &[&str],
         options: Options,
     ) -> Result<(), FetchError>
-        requires own { self.old.seat.of ≡ multi.now }
-        ensures own { self.new.seat.of ≡ multi.now }
         ensures asked { OnOk result (map asked_at self.new.places.items ≡ map asked_at self.old.places.items
             ++ map (asked_for options.timeout_ms options.max_redirects) (map (λ u. u.now) urls.now)) }
         ensures cause { IfErr result (λ e. is_of_run e ≡ true) }
     {
         for url in urls {
-            self.add(rt, multi, *url, options.timeout_ms, options.max_redirects)?;
+            self.add(rt, *url, options.timeout_ms, options.max_redirects)?;
             if options.workers == 1 {
                 crew.ring();
-                self.await_all(rt, multi)?;
+                self.await_all(rt)?;
             }
         }
         Ok(())
@@ -242,19 +227,17 @@ impl<L: Link> Desk<L> {
     fn fill<R: Wait + AllocGlobal>(
         &mut self,
         rt: &R,
-        multi: &Multi<Queued<L>, Outcome>,
         crew: &Crew,
         urls: &[&str],
         options: Options,
     ) -> Result<(), FetchError>
-        requires own { self.old.seat.of ≡ multi.now }
         ensures asked { OnOk result (map asked_at self.new.places.items ≡ map asked_at self.old.places.items
             ++ map (asked_for options.timeout_ms options.max_redirects) (map (λ u. u.now) urls.now)) }
         ensures cause { IfErr result (λ e. is_of_run e ≡ true) }
     {
-        self.add_all(rt, multi, crew, urls, options)?;
+        self.add_all(rt, crew, urls, options)?;
         crew.ring();
-        self.await_all(rt, multi)?;
+        self.await_all(rt)?;
         Ok(())
     }
 
@@ -262,18 +245,16 @@ impl<L: Link> Desk<L> {
     pub fn collect<R: Wait + AllocGlobal>(
         self,
         rt: &R,
-        multi: &Multi<Queued<L>, Outcome>,
         crew: &Crew,
         urls: &[&str],
         options: Options,
     ) -> Result<Vec<Fetched>, FetchError>
-        requires own { self.seat.of ≡ multi.now }
         requires none { self.places.items ≡ [] }
         ensures ends { IfOk result (λ ends. AreEndsOf options.timeout_ms options.max_redirects (map (λ u. u.now) urls.now) ends.items) }
         ensures cause { IfErr result (λ e. is_of_run e ≡ true) }
     {
         let mut desk = self;
-        desk.fill(rt, multi, crew, urls, options)?;
+        desk.fill(rt, crew, urls, options)?;
         ends_at(rt.alloc(), desk.places)
     }
 }

@@ -2,6 +2,7 @@
 ghost use Rattle.std.specs.Prelude.{◌≡◌};
 ghost use Rattle.mx_get.specs.declared.error.FetchError.TheVariants as fetch_error;
 
+use mx_crew::CrewError;
 use mx_message::NoMessage;
 use mx_types::OutOfMemory;
 use std::alloc::{AllocError, AllocFailed};
@@ -87,5 +88,19 @@ impl From<NoMessage> for FetchError {
 
     fn from(_error: NoMessage) -> FetchError {
         FetchError::NoMessage
+    }
+}
+
+impl From<CrewError> for FetchError {
+    ghost use Rattle.mx_get.specs.FetchError.{cause_of_crew};
+
+    ghost from_gives = { λ error e. e ≡ cause_of_crew error };
+
+    fn from(error: CrewError) -> FetchError {
+        match error {
+            CrewError::OutOfMemory => FetchError::OutOfMemory,
+            CrewError::NoPoll => FetchError::NoPoll,
+            CrewError::NoThread => FetchError::NoThread,
+        }
     }
 }

@@ -1,6 +1,5 @@
 //! A run of workers on threads.
-ghost use Rattle.std.specs.Prelude.{◌≡◌, ◌≢◌, ◌+◌, ◌<◌, [], true, Err, All, IfOk, IfErr, IfSome, OnSome, length, map, vec_len};
-ghost use Rattle.std.specs.Thread.{IsSync};
+ghost use Rattle.std.specs.Prelude.{◌≡◌, ◌≢◌, ◌<◌, [], true, Err, All, IfOk, IfErr, length, map, vec_len};
 ghost use Rattle.mx_multi.specs.Opening.{are_within as are_limits_within};
 ghost use Rattle.mx_run_io.specs.Options.{are_within};
 ghost use Rattle.mx_get.specs.Asked.{AreEndsOf};
@@ -9,8 +8,8 @@ ghost use Rattle.mx_get.specs.Opened.{IsOpenedFor};
 ghost use Rattle.mx_get.specs.declared.error.FetchError.TheVariants as fetch_error;
 
 use crate::collect::Desk;
-use crate::crew::{Crew, Post, posts, work};
 use crate::error::FetchError;
+use mx_crew::{Crew, posts, run_beside};
 use mx_gate::Gate;
 use mx_link::Link;
 use mx_multi::{Limits, Multi, OpenError, Seat, WorkerSeat};
@@ -24,7 +23,6 @@ use std::net::{Net, TcpListener, TcpStream};
 use std::random::RandomSource;
 use std::rt::Clock;
 use std::sync::Wait;
-use std::thread;
 use std::thread::Threads;
 use std::time::Instant;
 
@@ -33,70 +31,6 @@ pub const MOST_URLS: usize = 256;
 
 /// The events that the history has room for.
 const HISTORY: u32 = 2048;
-
-// Takes a post, if there is one.
-fn next_post<L: Link, G>(
-    multi: &Multi<Queued<L>, Outcome>,
-    posts: &mut Vec<Post<L, G>>,
-) -> Option<Post<L, G>>
-    requires { All (λ p. p.seat.of ≡ multi.now) posts.old.items }
-    ensures rest { All (λ p. p.seat.of ≡ multi.now) posts.new.items }
-    ensures own { IfSome result (λ p. p.seat.of ≡ multi.now) }
-    ensures fewer { OnSome result (vec_len posts.new + 1 ≡ vec_len posts.old) }
-{
-    let _ = multi;
-    posts.pop()
-}
-
-// Runs a worker at each post on a thread of its own, which are as many as the options ask for, while the desk collects. All workers have
-// ended when it returns.
-fn run_all<
-    L: Link + Send,
-    R: Threads + Wait + RandomSource + AllocGlobal + Sync,
-    G: Gate<Link = L> + Send + Drop,
->(
-    rt: &R,
-    multi: &Multi<Queued<L>, Outcome>,
-    crew: &Crew,
-    posts: Vec<Post<L, G>>,
-    desk: Desk<L>,
-    urls: &[&str],
-    options: Options,
-) -> Result<Vec<Fetched>, FetchError>
-    requires seat { desk.seat.of ≡ multi.now }
-    requires none { desk.places.items ≡ [] }
-    requires posts { All (λ p. p.seat.of ≡ multi.now) posts.items }
-    requires workers { vec_len posts ≡ options.workers }
-    ensures ends { IfOk result (λ ends. AreEndsOf options.timeout_ms options.max_redirects (map (λ u. u.now) urls.now) ends.items) }
-    ensures cause { IfErr result (λ e. is_of_run e ≡ true) }
-{
-    thread::scope(
-        thread::scope_env(),
-        rt,
-        move |scope| -> Result<Vec<Fetched>, FetchError>
-            requires { IsSync R.row × (desk.seat.of ≡ multi.now) × (desk.places.items ≡ []) × All (λ p. p.seat.of ≡ multi.now) posts.items }
-            ensures ends { IfOk result (λ ends. AreEndsOf options.timeout_ms options.max_redirects (map (λ u. u.now) urls.entry.now) ends.items) }
-            ensures cause { IfErr result (λ e. is_of_run e ≡ true) }
-        {
-            let mut posts = posts;
-            while let Some(post) = next_post(multi, &mut posts) {
-                let Post { seat, gate } = post;
-                let started = scope.spawn(
-                    move || -> ()
-                        requires { IsSync R.row × (seat.of ≡ multi.now) }
-                    { work(rt, multi, seat, gate) },
-                );
-                if started.is_err() {
-                    crew.dismiss();
-                    return Err(FetchError::NoThread);
-                }
-            }
-            let collected = desk.collect(rt, multi, crew, urls, options);
-            crew.dismiss();
-            collected
-        },
-    )
-}
 
 // A multi handle with a seat and the workers' seats.
 #[derive(Drop)]
@@ -143,7 +77,8 @@ fn open<L: Link, R: Wait + AllocGlobal>(rt: &R, options: Options) -> Result<Open
     }
 }
 
-// Fetches at a multi handle that is open. What is let go where memory is wanting is here, and not where the handle is owned.
+// Fetches at a multi handle that is open, with a worker at each gate. What is let go where memory is wanting is here, and not where the
+// handle is owned.
 fn fetch_with<
     L: Link + Send,
     R: Threads + Wait + RandomSource + AllocGlobal + Sync,
@@ -169,8 +104,18 @@ fn fetch_with<
 {
     let (seat, workers) = seats;
     let posts = posts(rt.alloc(), multi, workers, gates)?;
-    let desk = Desk::new(rt.alloc(), seat, urls.len())?;
-    run_all(rt, multi, crew, posts, desk, urls, options)
+    let desk = Desk::new(rt.alloc(), multi.at(seat), urls.len())?;
+    let (collected, _counts) = run_beside(
+        rt,
+        crew,
+        posts,
+        move || -> Result<Vec<Fetched>, FetchError>
+            requires { desk.places.items ≡ [] }
+            ensures ends { IfOk result (λ ends. AreEndsOf options.timeout_ms options.max_redirects (map (λ u. u.now) urls.entry.now) ends.items) }
+            ensures cause { IfErr result (λ e. is_of_run e ≡ true) }
+        { desk.collect(rt, crew, urls, options) },
+    )?;
+    collected
 }
 
 // Fetches with a worker at each gate, which are as many as the options ask for. It knows nothing of sockets: what it lets go, in each of

@@ -2,7 +2,6 @@
 #![tactic(auto)]
 
 mod collect;
-mod crew;
 mod end;
 mod error;
 mod fetch;

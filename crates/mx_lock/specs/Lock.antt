@@ -9,6 +9,7 @@ use Rattle.logbook.specs.Pages.{Book}
 use Rattle.atomic_table.specs.declared.badge.Badge.{Badge}
 use Rattle.crossbeam_channel.specs.declared.flavors.array.Key.{Key}
 use Rattle.crossbeam_channel.specs.Claims.{Pass}
+use Rattle.mx_types.specs.Limits.{most_seats}
 use Rattle.mx_types.specs.declared.event.Who.{Who}
 use Rattle.mx_types.specs.declared.event.Who.TheVariants as who
 use Rattle.mx_types.specs.declared.names.Ticket.{Ticket}
@@ -29,8 +30,8 @@ IsKeyOf l k = (k.table_id ≡ l.table) × (k.me.0.of ≡ l.keys) × (k.me.1 ≡ 
 
 -- the maker whose key has the number: of the founder's key no seat's, then the seats, then the workers
 abbrev pub maker : ℕ → Who
-maker zero = who.Seat 16
-maker (suc k) = if nat_lt k 16 then who.Seat k else who.Worker (k - 16)
+maker zero = who.Seat most_seats
+maker (suc k) = if nat_lt k most_seats then who.Seat k else who.Worker (k - most_seats)
 
 abbrev pub book_name : Book → BookName
 book_name b = record { number = b.number; log_name = b.log_name; cells_name = b.cells_name }

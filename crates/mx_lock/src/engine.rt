@@ -8,6 +8,7 @@ ghost use Rattle.mx_journal.specs.Table.{IsTableOf};
 ghost use Rattle.mx_board.specs.Board.{caught_up, mark_of};
 ghost use Rattle.mx_lock.specs.Engine.{IsLocked};
 ghost use Rattle.mx_lock.specs.Ties.{AreOfAdditions, IsTied};
+ghost use Rattle.mx_types.specs.Limits.{IsHistory};
 
 use crate::ties::{TieLog, TieMark};
 use mx_board::{BoardReader, BoardWriter, JournalMark, board};
@@ -47,7 +48,7 @@ impl<Q: Work + Drop, O: Ending + Drop> Engine<Q, O> {
         history: u32,
         readers: usize,
     ) -> Result<Engine<Q, O>, OutOfMemory>
-        requires history { (4 ≤ history) × (history ≤ 1048576) }
+        requires history { IsHistory history }
         requires readers { (0 < readers) × (readers < 65) }
         ensures { IfOk result (λ s. (s.core.journal ≡ []) × (s.core.opening ≡ record { history = history }) × (s.ties.entries ≡ [])) }
     {

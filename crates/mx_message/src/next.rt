@@ -6,7 +6,7 @@ ghost use Rattle.mx_message.specs.Message.{CarriesBody, IsNextMessage, IsRead, W
 
 use mx_chain::Outcome;
 use mx_journal::InfoReply;
-use mx_multi::{Multi, Seat};
+use mx_multi::{Application, Seated};
 use mx_types::{Code, HandleId, Ticket, Work};
 use std::sync::Wait;
 
@@ -39,14 +39,12 @@ fn know(outcome: &Outcome)
 // Reads the first message. Where none waits it polls, and answers None.
 fn read_once<Q: Work + Drop, R: Wait>(
     rt: &R,
-    multi: &Multi<Q, Outcome>,
-    seat: &mut Seat<Q, Outcome>,
+    seat: &mut Seated<'_, Application, Q, Outcome>,
 ) -> Result<Option<Message>, NoMessage>
-    requires own { seat.old.of ≡ multi.now }
-    ensures own { seat.new.of ≡ multi.now }
+    ensures of { seat.new.of ≡ seat.old.of }
     ensures read { IfOk result (λ o. MatchOption o (Waited seat.old seat.new) (λ m. (m.code ≡ m.outcome.code) × IsRead seat.old seat.new m.handle m.ticket m.outcome m.left)) }
 {
-    let Ok(reply) = multi.info_read(rt, seat) else {
+    let Ok(reply) = seat.info_read(rt) else {
         return Err(NoMessage);
     };
     match reply {
@@ -67,7 +65,7 @@ fn read_once<Q: Work + Drop, R: Wait>(
             }))
         }
         InfoReply::Empty => {
-            let Ok(_) = multi.poll(rt, seat) else {
+            let Ok(_) = seat.poll(rt) else {
                 return Err(NoMessage);
             };
             Ok(None)
@@ -87,16 +85,14 @@ fn read_once<Q: Work + Drop, R: Wait>(
 #[tactic(auto, using(crate::proofs::Messages::waited_none, crate::proofs::Messages::waited_on))]
 pub fn next_message<Q: Work + Drop, R: Wait>(
     rt: &R,
-    multi: &Multi<Q, Outcome>,
-    seat: &mut Seat<Q, Outcome>,
+    seat: &mut Seated<'_, Application, Q, Outcome>,
 ) -> Result<Message, NoMessage>
-    requires own { seat.old.of ≡ multi.now }
-    ensures own { seat.new.of ≡ multi.now }
+    ensures of { seat.new.of ≡ seat.old.of }
     ensures code { IfOk result (λ m. m.code ≡ m.outcome.code) }
     ensures message { IfOk result (λ m. IsNextMessage seat.old seat.new m.handle m.ticket m.outcome m.left) }
 {
     for _ in rt.forever() {
-        if let Some(message) = read_once(rt, multi, seat)? {
+        if let Some(message) = read_once(rt, seat)? {
             return Ok(message);
         }
     }

@@ -12,7 +12,7 @@ use Rattle.mx_types.specs.declared.call.Receipt.{Receipt}
 use Rattle.mx_journal.specs.Receipts.{IsPlaced, mark}
 use Rattle.mx_board.specs.Board.{ReaderState, caught_up}
 use Rattle.mx_board.specs.Progress.{NoteState, ProgressState, new_seat}
-use Rattle.mx_lock.specs.Shared.{Engine}
+use Rattle.mx_lock.specs.Engine.{EngineId}
 use Rattle.mx_lock.specs.Lock.{maker, engine_of, founder_at, child}
 use Rattle.mx_multi.specs.Seats.{MultiView, SeatView, IsSeat, HasReceipts, IsNew}
 use Rattle.mx_multi.specs.Opening.{maker_of, first_of, AreReaders, AreNew}
@@ -28,7 +28,7 @@ key_maker true n lt =
     let back : 16 + n - 16 ≡ n = omega arith in
     ap maker e ∙ ap (λ b. cond b (who.Seat (16 + n)) (who.Worker (16 + n - 16))) (le-ltb (16 + n) 16 (omega arith)) ∙ ap who.Worker back
 
-pub seat_is_new : (e : Engine) (n : ℕ) (v : KeyView) (r : ReaderState) (w : Who) → v ≡ child (founder_at e n) → maker n ≡ w → r ≡ caught_up w [] e.book → IsSeat v r
+pub seat_is_new : (e : EngineId) (n : ℕ) (v : KeyView) (r : ReaderState) (w : Who) → v ≡ child (founder_at e n) → maker n ≡ w → r ≡ caught_up w [] e.book → IsSeat v r
 seat_is_new e n v r w key who got =
     subst (λ (k : KeyView). IsSeat k r) (sym key)
     (subst (λ (z : ReaderState). IsSeat (child (founder_at e n)) z) (sym got) (record { free = refl; told = refl; who = who; book = refl; later = ([], refl); own = refl; but_last = (omega arith, omega arith) }))

@@ -6,10 +6,9 @@ use Rattle.mx_types.specs.declared.call.Call.{Call}
 use Rattle.mx_types.specs.declared.call.Receipt.{Receipt}
 use Rattle.mx_types.specs.declared.reply.Reply.{Reply}
 use Rattle.mx_journal.specs.Receipts.{IsPlaced}
-use Rattle.mx_board.proofs.Prefixes.{prefix_self, prefix_trans}
-use Rattle.mx_multi.specs.declared.laws.Step.{Step}
+use Rattle.mx_append_log.proofs.Prefixes.{prefix_self, prefix_trans}
 use Rattle.mx_multi.specs.Seats.{MultiView, SeatView, Stands, Sees, IsNew, Later, Ran}
-use Rattle.mx_multi.specs.Laws.{call_of, RanScript}
+use Rattle.mx_multi.specs.Laws.{RanScript}
 use Rattle.mx_multi.proofs.Opening.{new_received}
 
 pub later_none : {Q O : Type 0} (s : SeatView Q O) → Later s s []
@@ -47,30 +46,25 @@ ran_more s t u more call reply r h = record { run = later_more s t u more call r
 pub script_none : {Q O : Type 0} (s : SeatView Q O) → RanScript s s []
 script_none s = record { more = []; ran = record { run = later_none s; claims = refl }; calls = refl }
 
--- one step more
-pub script_more : {Q O : Type 0} (s t u : SeatView Q O) (script : List Step) (n i : ℕ) (d : Step) → n ≡ i → i < length script → RanScript s t (take n script) → (reply : Reply) × Stands t u (call_of (get_or script i d)) reply → RanScript s u (take (n + 1) script)
-script_more s t u script n i d e lt r h =
-    let step = get_or script i d in
-    let new : Receipt = record { cut = length u.seen; call = call_of step; reply = h.0 } in
+-- one call more
+pub script_more : {Q O : Type 0} (s t u : SeatView Q O) (script : List Call) (n i : ℕ) (d : Call) (reply : Reply) → n ≡ i → i < length script → RanScript s t (take n script) → Stands t u (get_or script i d) reply → RanScript s u (take (n + 1) script)
+script_more s t u script n i d reply e lt r h =
+    let call = get_or script i d in
+    let new : Receipt = record { cut = length u.seen; call = call; reply = reply } in
     let called = map-append (λ (x : Receipt). x.call) r.more (new ∷ []) in
-    let named = map-append call_of (take i script) (step ∷ []) in
     record {
       more = r.more ++ new ∷ [];
-      ran = ran_more s t u r.more (call_of step) h.0 r.ran h.1;
-      calls = called ∙ ap (λ l. l ++ call_of step ∷ []) (r.calls ∙ ap (λ k. map call_of (take k script)) e) ∙ sym named ∙ ap (map call_of) (sym (take_more script i d lt)) ∙ ap (λ k. map call_of (take (k + 1) script)) (sym e);
+      ran = ran_more s t u r.more call reply r.ran h;
+      calls = called ∙ ap (λ l. l ++ call ∷ []) (r.calls ∙ ap (λ k. take k script) e) ∙ sym (take_more script i d lt) ∙ ap (λ k. take (k + 1) script) (sym e);
     }
 
 -- a seat that then met another
-pub script_met : {Q O : Type 0} (s t u : SeatView Q O) (script : List Step) → RanScript s t script → Sees t u → u.claims ≡ t.claims → RanScript s u script
+pub script_met : {Q O : Type 0} (s t u : SeatView Q O) (script : List Call) → RanScript s t script → Sees t u → u.claims ≡ t.claims → RanScript s u script
 script_met s t u script r h claims = record {
   more = r.more;
   ran = record { run = later_sees s t u r.more r.ran.run h; claims = claims ∙ r.ran.claims };
   calls = r.calls;
 }
-
--- a step's call was answered
-pub step_by : {Q O : Type 0} (s t : SeatView Q O) (a b : Call) (reply : Reply) → a ≡ b → Stands s t b reply → (r : Reply) × Stands s t a r
-step_by {Q} {O} s t a b reply e h = (reply, subst (λ k. Stands s t k reply) (sym e) h)
 
 -- a new seat has no receipts, so its first call is placed alone
 pub first_is_placed : {Q O : Type 0} (m : MultiView Q O) (w : Who) (s t : SeatView Q O) (call : Call) (reply : Reply) → IsNew m w s → Stands s t call reply

@@ -25,8 +25,8 @@ use Rattle.mx_history.proofs.Lists.{same-is, same-refl}
 use Rattle.mx_history.proofs.Placing.{call_adds_at_most_one, call_is_placed, placed_stays}
 use Rattle.mx_board.specs.Board.{ReaderState, Reads, caught_up}
 use Rattle.mx_board.specs.Progress.{NoteState}
-use Rattle.mx_board.proofs.Prefixes.{prefix_self, prefix_trans}
-use Rattle.mx_lock.specs.Shared.{SharedState, Engine, content, HasNoOther, IsLocked, Leaves, IsLeft}
+use Rattle.mx_append_log.proofs.Prefixes.{prefix_self, prefix_trans}
+use Rattle.mx_lock.specs.Engine.{EngineState, EngineId, content, HasNoOther, IsLocked, Leaves, IsLeft}
 use Rattle.mx_lock.specs.Lock.{maker, engine_of, newly, Took, given, released}
 use Rattle.mx_multi.specs.Seats.{MultiView, SeatView, IsSeat, HasReceipts, Finds, Confirms, Stands, Sees, SeesVersion, FoundState, LeavesState}
 use Rattle.mx_multi.specs.declared.progress.Progress.{Progress}
@@ -34,7 +34,8 @@ use Rattle.mx_multi.specs.Progress.{IsProgress}
 use Rattle.mx_types.specs.declared.names.HandleId.{HandleId}
 use Rattle.mx_types.specs.declared.origin.Origin.{Origin}
 use Rattle.mx_lock.specs.declared.key_view.KeyView.{KeyView}
-use Rattle.mx_lock.specs.Ties.{AreOfOneList, Tie, tie, Has, Tells}
+use Rattle.mx_append_log.specs.Log.{AreOfOneList}
+use Rattle.mx_lock.specs.Ties.{Tie, tie, Has, Tells}
 use Rattle.mx_multi.specs.Laws.{AreToldAlike}
 use Rattle.mx_lock.proofs.Tying.{has_more}
 use Rattle.mx_lock.proofs.Keys.{longer}
@@ -135,7 +136,7 @@ module _ {Q O : Type 0} where
   seat_of of v r p n k m back = record { of = of; who = r.who; seen = r.seen; confirmed = r.confirmed; polled = p; claims = v.claims; given = back; words = n; ties = k; mine = m }
 
   -- a reader that has seen the whole journal
-  abbrev pub at_end : Who → SharedState Q O → ReaderState
+  abbrev pub at_end : Who → EngineState Q O → ReaderState
   at_end who y = caught_up who y.core.journal y.book
 
 none_new : (before : List Ticket) (p : Ticket → Bool) (after : List Ticket) → ((t : Ticket) → has_ticket t after ≡ true → p t ≡ false) → filter p after ≡ []
@@ -143,7 +144,7 @@ none_new before p [] h = refl
 none_new before p (t ∷ after) h = ap (λ b. cond b (t ∷ filter p after) (filter p after)) (h t (or_left _ _ (same-refl t))) ∙ none_new before p after (λ u k. h u (or_right _ _ k))
 
 -- the engine that a key took, before anything was done
-module _ {Q O : Type 0} (v w : KeyView) (r : ReaderState) (x : SharedState Q O) (seat : IsSeat v r) (took : Took content v x w) where
+module _ {Q O : Type 0} (v w : KeyView) (r : ReaderState) (x : EngineState Q O) (seat : IsSeat v r) (took : Took content v x w) where
   -- the journal that was found
   pub finds : (of : MultiView Q O) (p : ℕ) (n : NoteState) (k : List Origin) (m : List Receipt) (back : List Ticket) → IsPrefix r.seen x.core.journal → Finds (seat_of of v r p n k m back) x.core.journal
   finds of p n k m back pre =
@@ -151,23 +152,23 @@ module _ {Q O : Type 0} (v w : KeyView) (r : ReaderState) (x : SharedState Q O) 
       record { later = pre; own = own ∙ sym seat.own }
 
   pub book_found : r.book ≡ x.book
-  book_found = seat.book ∙ ap (λ (e : Engine). e.book) took.engine
+  book_found = seat.book ∙ ap (λ (e : EngineId). e.book) took.engine
 
-  pub engine_found : (y : SharedState Q O) → y.book ≡ x.book → y.core.opening ≡ x.core.opening → y.ties.book ≡ x.ties.book → engine_of w ≡ (content y).engine
+  pub engine_found : (y : EngineState Q O) → y.book ≡ x.book → y.core.opening ≡ x.core.opening → y.ties.book ≡ x.ties.book → engine_of w ≡ (content y).engine
   engine_found y book opening ties = ap engine_of took.is ∙ took.engine ∙ sym (engine_is y book opening ties)
     where
-      engine_is : (y : SharedState Q O) → y.book ≡ x.book → y.core.opening ≡ x.core.opening → y.ties.book ≡ x.ties.book → (content y).engine ≡ (content x).engine
+      engine_is : (y : EngineState Q O) → y.book ≡ x.book → y.core.opening ≡ x.core.opening → y.ties.book ≡ x.ties.book → (content y).engine ≡ (content x).engine
       engine_is y b o t i = record { book = b i; opening = o i; ties = t i }
 
-  pub grows_by : (y : SharedState Q O) (by : Who) (call : Call) (reply : Reply) → by ≡ r.who → Leaves by call x reply y → HasAtMostOneMore (maker w.number) w.held y.core.journal
+  pub grows_by : (y : EngineState Q O) (by : Who) (call : Call) (reply : Reply) → by ≡ r.who → Leaves by call x reply y → HasAtMostOneMore (maker w.number) w.held y.core.journal
   grows_by y by call reply is leaves =
       subst (λ (k : KeyView). HasAtMostOneMore (maker k.number) k.held y.core.journal) (sym took.is)
       (subst (λ m. HasAtMostOneMore m x.core.journal y.core.journal) (is ∙ sym seat.who) (call_adds_at_most_one x.core.opening by call reply x.core.journal y.core.journal leaves.answers))
 
-  pub grows_none : (y : SharedState Q O) → y.core.journal ≡ x.core.journal → HasAtMostOneMore (maker w.number) w.held y.core.journal
+  pub grows_none : (y : EngineState Q O) → y.core.journal ≡ x.core.journal → HasAtMostOneMore (maker w.number) w.held y.core.journal
   grows_none y same = inl (same ∙ ap (λ (k : KeyView). k.held) (sym took.is))
 
-  pub begins_by : (y : SharedState Q O) (by : Who) (call : Call) (reply : Reply) → Leaves by call x reply y → IsPrefix r.seen x.core.journal → IsPrefix r.seen y.core.journal
+  pub begins_by : (y : EngineState Q O) (by : Who) (call : Call) (reply : Reply) → Leaves by call x reply y → IsPrefix r.seen x.core.journal → IsPrefix r.seen y.core.journal
   begins_by y by call reply leaves pre =
       prefix_trans r.seen x.core.journal y.core.journal pre (longer by x.core.journal y.core.journal (call_adds_at_most_one x.core.opening by call reply x.core.journal y.core.journal leaves.answers))
 
@@ -178,7 +179,7 @@ module _ {Q O : Type 0} (v w : KeyView) (r : ReaderState) (x : SharedState Q O) 
       subst (λ (k : KeyView). IsSeat k r) (sym is) (record { free = refl; told = seat.told; who = seat.who; book = seat.book; later = seat.later; own = seat.own; but_last = seat.but_last })
 
   -- after the engine was given back, and the reader brought up to it
-  module _ (u : KeyView) (t : ReaderState) (y : SharedState Q O) (gave : u ≡ given w (content y)) (got : t ≡ at_end r.who y) where
+  module _ (u : KeyView) (t : ReaderState) (y : EngineState Q O) (gave : u ≡ given w (content y)) (got : t ≡ at_end r.who y) where
     is_given : u ≡ given (record v { holding = true; held = x.core.journal; found = (content x).claimed }) (content y)
     is_given = gave ∙ ap (λ (k : KeyView). given k (content y)) took.is
 
@@ -190,7 +191,7 @@ module _ {Q O : Type 0} (v w : KeyView) (r : ReaderState) (x : SharedState Q O) 
           free = refl;
           told = seat.told;
           who = seat.who;
-          book = book ∙ ap (λ (e : Engine). e.book) (sym took.engine);
+          book = book ∙ ap (λ (e : EngineId). e.book) (sym took.engine);
           later = prefix_self y.core.journal;
           own = refl;
           but_last = all_confirmed y.core.journal;
@@ -219,7 +220,7 @@ module _ {Q O : Type 0} (v w : KeyView) (r : ReaderState) (x : SharedState Q O) 
         → q ≡ polled_after call (length y.core.journal) p → (is_poll call ≡ true → is_ready p y.core.journal ≡ true) → mt ≡ ms ++ record { cut = length t.seen; call = call; reply = reply } ∷ []
         → Stands (seat_of of v r p n k ms back) (seat_of of' u t q n l mt back) call reply
     lock_stands of of' p q n k l ms back mt by call reply ties engine same is pre leaves at ready mine =
-        let opening : x.core.opening ≡ of.engine.opening = ap (λ (e : Engine). e.opening) (sym (engine ∙ took.engine)) in
+        let opening : x.core.opening ≡ of.engine.opening = ap (λ (e : EngineId). e.opening) (sym (engine ∙ took.engine)) in
         let a = subst (λ o. Answers o by call x.core.journal reply y.core.journal) opening leaves.answers in
         let b = subst (λ m. Answers of.engine.opening m call x.core.journal reply y.core.journal) is a in
         let seen : t.seen ≡ y.core.journal = ap (λ (z : ReaderState). z.seen) got in
@@ -235,34 +236,34 @@ module _ {Q O : Type 0} (v w : KeyView) (r : ReaderState) (x : SharedState Q O) 
         (ap (λ (z : ReaderState). z.confirmed) got ∙ ap length (sym (ap (λ (z : ReaderState). z.seen) got))) refl ties refl
 
   -- the state that was found, by a seat that has then seen its journal
-  pub found_state : (code : O → Code) (size : O → ℕ) (s : SeatView Q O) (y : SharedState Q O) → y ≡ x → s.seen ≡ x.core.journal → s.of.engine ≡ engine_of v → IsLocked code size x → FoundState code size s y
+  pub found_state : (code : O → Code) (size : O → ℕ) (s : SeatView Q O) (y : EngineState Q O) → y ≡ x → s.seen ≡ x.core.journal → s.of.engine ≡ engine_of v → IsLocked code size x → FoundState code size s y
   found_state code size s y same seen engine locked = subst (FoundState code size s) (sym same) (record { journal = sym seen; engine = sym took.engine ∙ sym engine; locked = locked })
 
   -- the state that was left, by a seat that has then seen its journal
-  pub found_left : (code : O → Code) (size : O → ℕ) (s : SeatView Q O) (y : SharedState Q O) → y.book ≡ x.book → y.core.opening ≡ x.core.opening → y.ties.book ≡ x.ties.book → y.core.journal ≡ s.seen → s.of.engine ≡ engine_of v → IsLocked code size y → FoundState code size s y
+  pub found_left : (code : O → Code) (size : O → ℕ) (s : SeatView Q O) (y : EngineState Q O) → y.book ≡ x.book → y.core.opening ≡ x.core.opening → y.ties.book ≡ x.ties.book → y.core.journal ≡ s.seen → s.of.engine ≡ engine_of v → IsLocked code size y → FoundState code size s y
   found_left code size s y book opening ties seen engine locked =
       record { journal = seen; engine = sym (engine_found y book opening ties) ∙ ap engine_of took.is ∙ sym engine; locked = locked }
 
   -- the key's engine stays
-  pub engine_kept : (u : KeyView) (c : SharedState Q O) → u ≡ given w (content c) → engine_of u ≡ engine_of v
+  pub engine_kept : (u : KeyView) (c : EngineState Q O) → u ≡ given w (content c) → engine_of u ≡ engine_of v
   engine_kept u c gave = ap engine_of gave ∙ ap engine_of took.is
 
   -- its list of ties is that of the multi handle of which the seat is
   pub list_of : (of : MultiView Q O) → engine_of v ≡ of.engine → x.ties.book ≡ of.engine.ties
-  list_of of is = ap (λ (e : Engine). e.ties) (sym took.engine ∙ is)
+  list_of of is = ap (λ (e : EngineId). e.ties) (sym took.engine ∙ is)
 
   -- its list of ties is that of the seat's mark
-  pub list_found : (y : SharedState Q O) (a : Book) → a ≡ (engine_of v).ties → y.ties.book ≡ x.ties.book → y.ties.book ≡ a
-  list_found y a own same = same ∙ sym (ap (λ (e : Engine). e.ties) took.engine) ∙ sym own
+  pub list_found : (y : EngineState Q O) (a : Book) → a ≡ (engine_of v).ties → y.ties.book ≡ x.ties.book → y.ties.book ≡ a
+  list_found y a own same = same ∙ sym (ap (λ (e : EngineId). e.ties) took.engine) ∙ sym own
 
-  pub list_kept : (u : KeyView) (c : SharedState Q O) (a b : Book) → u ≡ given w (content c) → b ≡ a → a ≡ (engine_of v).ties → b ≡ (engine_of u).ties
-  list_kept u c a b gave same own = same ∙ own ∙ sym (ap (λ (e : Engine). e.ties) (engine_kept u c gave))
+  pub list_kept : (u : KeyView) (c : EngineState Q O) (a b : Book) → u ≡ given w (content c) → b ≡ a → a ≡ (engine_of v).ties → b ≡ (engine_of u).ties
+  list_kept u c a b gave same own = same ∙ own ∙ sym (ap (λ (e : EngineId). e.ties) (engine_kept u c gave))
 
   pub engine_released : (u : KeyView) → u ≡ released w → engine_of u ≡ engine_of v
   engine_released u back = ap engine_of back ∙ ap engine_of took.is
 
   pub list_released : (u : KeyView) (a : Book) → u ≡ released w → a ≡ (engine_of v).ties → a ≡ (engine_of u).ties
-  list_released u a back own = own ∙ sym (ap (λ (e : Engine). e.ties) (engine_released u back))
+  list_released u a back own = own ∙ sym (ap (λ (e : EngineId). e.ties) (engine_released u back))
 
   pub claims_released : (u : KeyView) → u ≡ released w → u.claims ≡ v.claims
   claims_released u back = ap (λ (k : KeyView). k.claims) back ∙ ap (λ (k : KeyView). k.claims) took.is
@@ -292,7 +293,7 @@ stands_read of v r t p n k ms back mt call reply h quiet a mine =
 -- 4. A seat that meets another.
 
 -- a key whose reader sees more
-pub seat_sees : {Q O : Type 0} (v : KeyView) (r t : ReaderState) (x : SharedState Q O) → IsSeat v r → IsPrefix r.seen x.core.journal → made_by r.who x.core.journal ≡ made_by r.who r.seen → r.book ≡ x.book → t ≡ at_end r.who x → IsSeat v t
+pub seat_sees : {Q O : Type 0} (v : KeyView) (r t : ReaderState) (x : EngineState Q O) → IsSeat v r → IsPrefix r.seen x.core.journal → made_by r.who x.core.journal ≡ made_by r.who r.seen → r.book ≡ x.book → t ≡ at_end r.who x → IsSeat v t
 seat_sees v r t x s pre own book got =
     subst (IsSeat v) (sym got) (record {
       free = s.free;
@@ -304,7 +305,7 @@ seat_sees v r t x s pre own book got =
       but_last = all_confirmed x.core.journal;
     })
 
-pub other_sees : {Q O : Type 0} (of : MultiView Q O) (v : KeyView) (r t : ReaderState) (p : ℕ) (n : NoteState) (k l : List Origin) (m : List Receipt) (back : List Ticket) (x : SharedState Q O) → IsPrefix k l → IsPrefix r.seen x.core.journal → made_by r.who x.core.journal ≡ made_by r.who r.seen → is_legal x.core.journal ≡ true → t ≡ at_end r.who x
+pub other_sees : {Q O : Type 0} (of : MultiView Q O) (v : KeyView) (r t : ReaderState) (p : ℕ) (n : NoteState) (k l : List Origin) (m : List Receipt) (back : List Ticket) (x : EngineState Q O) → IsPrefix k l → IsPrefix r.seen x.core.journal → made_by r.who x.core.journal ≡ made_by r.who r.seen → is_legal x.core.journal ≡ true → t ≡ at_end r.who x
     → Sees (seat_of of v r p n k m back) (seat_of of v t p n l m back)
 other_sees of v r t p n k l m back x ties pre own legal got =
     let seen : t.seen ≡ x.core.journal = ap (λ (z : ReaderState). z.seen) got in
@@ -313,21 +314,21 @@ other_sees of v r t p n k l m back x ties pre own legal got =
 
 -- 5. How the engine is left.
 
-pub left_same : {Q O : Type 0} (x y : SharedState Q O) → y ≡ x → is_legal x.core.journal ≡ true → IsLeft x y
+pub left_same : {Q O : Type 0} (x y : EngineState Q O) → y ≡ x → is_legal x.core.journal ≡ true → IsLeft x y
 left_same {Q} {O} x y e legal = subst (IsLeft x) (sym e) (record { journal = refl; opening = refl; book = refl; ties = refl; legal = legal })
 
-pub no_other : {Q O : Type 0} (x y : SharedState Q O) → y ≡ x → HasNoOther (content x).claimed (content y).claimed
-no_other {Q} {O} x y e = subst (λ (z : SharedState Q O). HasNoOther (content x).claimed (content z).claimed) (sym e) (λ t h. h)
+pub no_other : {Q O : Type 0} (x y : EngineState Q O) → y ≡ x → HasNoOther (content x).claimed (content y).claimed
+no_other {Q} {O} x y e = subst (λ (z : EngineState Q O). HasNoOther (content x).claimed (content z).claimed) (sym e) (λ t h. h)
 
 pub none_claimed : {Q : Type 0} (j k : List Event) (q r : List (Ticket × Q)) → k ≡ j → q ≡ [] → r ≡ [] → HasNoOther (claimed j q) (claimed k r)
 none_claimed {Q} j k q r e none still = λ t h.
     sym (ap (λ l. has_ticket t (claimed l r)) e ∙ ap (λ (z : List (Ticket × Q)). has_ticket t (claimed j z)) (still ∙ sym none)) ∙ h
 
 -- a poll that may return
-pub woken : {Q O : Type 0} (who : Who) (x : SharedState Q O) → is_legal x.core.journal ≡ true → Leaves who call.Poll x reply.Woken x
+pub woken : {Q O : Type 0} (who : Who) (x : EngineState Q O) → is_legal x.core.journal ≡ true → Leaves who call.Poll x reply.Woken x
 woken who x legal = record { answers = (refl, sym (append-nil x.core.journal)); opening = refl; book = refl; ties = refl; legal = legal; claims = λ t h. h; unchanged = λ none. refl }
 
-pub caught_confirmed : {Q O : Type 0} (who : Who) (t : ReaderState) (y : SharedState Q O) → t ≡ at_end who y → t.confirmed ≡ length t.seen
+pub caught_confirmed : {Q O : Type 0} (who : Who) (t : ReaderState) (y : EngineState Q O) → t ≡ at_end who y → t.confirmed ≡ length t.seen
 caught_confirmed who t y got = ap (λ (z : ReaderState). z.confirmed) got ∙ ap length (sym (ap (λ (z : ReaderState). z.seen) got))
 
 pub quiet_mark : (c : Call) (n p : ℕ) → is_poll c ≡ false → p ≡ polled_after c n p
@@ -336,7 +337,7 @@ quiet_mark c n p quiet = ap (λ b. cond b n p) (sym quiet)
 -- a seat whose key put back what it took
 pub received_released : {Q O : Type 0} (v u : KeyView) (r : ReaderState) (of of' : MultiView Q O) (p : ℕ) (n : NoteState) (k : List Origin) (m : List Receipt) (back : List Ticket) → of'.engine ≡ of.engine → HasReceipts (seat_of of v r p n k m back) → HasReceipts (seat_of of' u r p n k m back)
 received_released v u r of of' p n k m back same h =
-    record { placed = subst (λ (e : Engine). IsPlaced e.opening r.who m r.seen) (sym same) h.placed; polled = h.polled }
+    record { placed = subst (λ (e : EngineId). IsPlaced e.opening r.who m r.seen) (sym same) h.placed; polled = h.polled }
 
 pub left_from : {Q O : Type 0} (code : O → Code) (size : O → ℕ) (old s t : SeatView Q O) (reply : Reply) → old ≡ s → LeavesState code size old t reply → LeavesState code size s t reply
 left_from {Q} {O} code size old s t reply e h = subst (λ (z : SeatView Q O). LeavesState code size z t reply) e h

@@ -1,6 +1,7 @@
 -- Opening a multi handle.
 use Rattle.std.specs.Prelude.{◌≡◌, ℕ, ◌+◌, nat_le, ◌&&◌, Bool, true, false, if◌then◌else◌, List, [], ◌∷◌, length, All}
 use Rattle.logbook.specs.Pages.{Book}
+use Rattle.mx_types.specs.Limits.{least_events, most_events, most_seats}
 use Rattle.mx_types.specs.declared.event.Who.{Who}
 use Rattle.mx_types.specs.declared.event.Who.TheVariants as who
 use Rattle.mx_board.specs.Board.{ReaderState, caught_up}
@@ -9,9 +10,13 @@ use Rattle.mx_multi.specs.declared.open.OpenError.{OpenError}
 use Rattle.mx_multi.specs.declared.open.OpenError.TheVariants as refusal
 use Rattle.mx_multi.specs.Seats.{MultiView, SeatView, IsNew}
 
--- 1 to 16 seats and workers, a history of 4 to 1,048,576 events, at most 64 idle connections a worker
+-- the most idle connections that a worker may be let keep
+abbrev pub most_connects : ℕ
+most_connects = 64
+
+-- at least one seat and one worker, and each number within its limits
 abbrev pub are_within : Limits → Bool
-are_within l = nat_le 1 l.seats && nat_le l.seats 16 && nat_le 1 l.workers && nat_le l.workers 16 && nat_le 4 l.history && nat_le l.history 1048576 && nat_le l.max_connects 64
+are_within l = nat_le 1 l.seats && nat_le l.seats most_seats && nat_le 1 l.workers && nat_le l.workers most_seats && nat_le least_events l.history && nat_le l.history most_events && nat_le l.max_connects most_connects
 
 -- the number of a refusal
 abbrev pub open_number : OpenError → ℕ

@@ -21,7 +21,7 @@ use Rattle.mx_journal.specs.Replies.{is_back, queue_given}
 use Rattle.mx_journal.specs.Core.{claimed, queued}
 use Rattle.mx_board.specs.Board.{ReaderState, ConfirmsAllButLast}
 use Rattle.mx_board.specs.Progress.{NoteState}
-use Rattle.mx_lock.specs.Shared.{SharedState, Engine, IsLocked, content}
+use Rattle.mx_lock.specs.Engine.{EngineState, EngineId, IsLocked, content}
 use Rattle.mx_lock.specs.Lock.{maker, engine_of}
 use Rattle.mx_lock.specs.declared.key_view.KeyView.{KeyView}
 
@@ -29,8 +29,8 @@ use Rattle.mx_lock.specs.declared.key_view.KeyView.{KeyView}
 -- it keeps at most
 pub record MultiView (Q O : Type 0) : Type 0 where
   pub table : TableId
-  pub keys : Badge (Key (SharedState Q O))
-  pub engine : Engine
+  pub keys : Badge (Key (EngineState Q O))
+  pub engine : EngineId
   pub words : TableId
   pub max_connects : ℕ
 
@@ -121,7 +121,7 @@ pub record SeesVersion {Q O : Type 0} (s t : SeatView Q O) : Type 0 where
   pub placed : HasReceipts s → HasReceipts t
 
 -- a state of what lies in the lock of the seat's engine, with the journal that the seat has seen
-pub record FoundState {Q O : Type 0} (code : O → Code) (size : O → ℕ) (s : SeatView Q O) (x : SharedState Q O) : Type 0 where
+pub record FoundState {Q O : Type 0} (code : O → Code) (size : O → ℕ) (s : SeatView Q O) (x : EngineState Q O) : Type 0 where
   pub journal : x.core.journal ≡ s.seen
   pub engine : (content x).engine ≡ s.of.engine
   pub locked : IsLocked code size x
@@ -129,21 +129,21 @@ pub record FoundState {Q O : Type 0} (code : O → Code) (size : O → ℕ) (s :
 -- A call of a seat left the engine so, with this reply: it found a state whose journal begins with what the seat had seen, and left one with the
 -- journal that the seat has then seen. Where the call came with no event, queue and endings are as they were.
 pub record LeavesState {Q O : Type 0} (code : O → Code) (size : O → ℕ) (s t : SeatView Q O) (reply : Reply) : Type 0 where
-  pub found : SharedState Q O
+  pub found : EngineState Q O
   pub engine : (content found).engine ≡ s.of.engine
   pub begins : Finds s found.core.journal
   pub locked : IsLocked code size found
-  pub after : SharedState Q O
+  pub after : EngineState Q O
   pub left : FoundState code size t after
   pub unchanged : comes_with_event reply ≡ false → after.core ≡ found.core
 
 -- What was claimed came first in the queue that was found there, under the least ticket. The queue that was left is the rest, the ticket is then
 -- claimed, and the endings are as they were.
 pub record ClaimsLeast {Q O : Type 0} (code : O → Code) (size : O → ℕ) (s : SeatView Q O) (ticket : Ticket) (work : Q) : Type 0 where
-  pub found : SharedState Q O
+  pub found : EngineState Q O
   pub is : FoundState code size s found
   pub least : AllByRecursion (λ u. ticket.0 ≤ u.0) (queued found.core.queue)
-  pub after : SharedState Q O
+  pub after : EngineState Q O
   pub left : FoundState code size s after
   pub first : found.core.queue ≡ (ticket, work) ∷ after.core.queue
   pub claimed : has_ticket ticket (claimed after.core.journal after.core.queue) ≡ true
@@ -152,10 +152,10 @@ pub record ClaimsLeast {Q O : Type 0} (code : O → Code) (size : O → ℕ) (s 
 -- Work was given back: where its ticket ran and wasn't queued, it stands at its place by ticket in the queue that was left.
 -- Else the queue was left as it was found
 pub record GivesBack {Q O : Type 0} (code : O → Code) (size : O → ℕ) (s : SeatView Q O) (ticket : Ticket) (work : Q) (reply : GiveBackReply Q) : Type 0 where
-  pub found : SharedState Q O
+  pub found : EngineState Q O
   pub is : FoundState code size s found
   pub back : is_back reply ≡ has_ticket ticket (claimed found.core.journal found.core.queue)
-  pub after : SharedState Q O
+  pub after : EngineState Q O
   pub left : FoundState code size s after
   pub queue : after.core.queue ≡ queue_given reply found.core.queue ticket work
   pub endings : after.core.endings ≡ found.core.endings
@@ -166,7 +166,7 @@ given_with reply t given = if is_back reply then given ++ t ∷ [] else given
 
 -- the queue that was found there was empty
 pub record ClaimsNothing {Q O : Type 0} (code : O → Code) (size : O → ℕ) (s : SeatView Q O) : Type 0 where
-  pub found : SharedState Q O
+  pub found : EngineState Q O
   pub is : FoundState code size s found
   pub none : found.core.queue ≡ []
 

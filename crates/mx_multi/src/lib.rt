@@ -7,9 +7,11 @@ mod multi;
 mod open;
 mod progress;
 mod seat;
+mod seated;
 
-pub use crate::laws::{Step, run_two};
+pub use crate::laws::run_two;
 pub use crate::multi::{HandleList, Multi, WrongSeat};
-pub use crate::open::{Limits, OpenError};
+pub use crate::open::{Limits, MOST_CONNECTS, OpenError};
 pub use crate::progress::{Progress, progress_never_falls};
-pub use crate::seat::{Seat, WorkerSeat};
+pub use crate::seat::{Application, AtWork, Seat, SeatOf, WorkerSeat};
+pub use crate::seated::Seated;

@@ -7,17 +7,17 @@ ghost use Rattle.mx_journal.specs.Answers.{handle_of};
 ghost use Rattle.mx_journal.specs.Slots.{slot_of};
 ghost use Rattle.mx_journal.specs.Replies.{IsGivenBack, is_back, handed_back, work_back, IsHandedBack, reply_of_add, reply_of_finish, reply_of_info, reply_of_pause, reply_of_remove, reply_of_wakeup};
 ghost use Rattle.mx_board.specs.Board.{AreOfOneJournal, OneBeginsOther};
-ghost use Rattle.mx_lock.specs.Shared.{SharedState};
+ghost use Rattle.mx_lock.specs.Engine.{EngineState};
 ghost use Rattle.mx_lock.specs.Ties.{AreOfAdditions, Has, Tells, tie, tie_added, tie_read};
 ghost use Rattle.mx_multi.specs.Seats.{Stands, Sees, FoundState, GivesBack, ClaimsLeast, ClaimsNothing, LeavesState, given_with};
 
-use crate::seat::{Seat, WorkerSeat, note_given, note_receipt};
+use crate::seat::{Seat, SeatOf, WorkerSeat, note_given, note_receipt};
 use mx_board::{JournalMark, ProgressTable, are_of_one_journal};
 use mx_journal::{
     AddReply, FinishReply, GiveBackReply, InfoReply, PauseReply, RemoveReply, WakeupReply,
 };
 use mx_lock::{
-    Addition, Deed, Finishing, Lock, Pausing, Reading, Removal, Shared, TieMark, TiedClaim,
+    Addition, Deed, Engine, Finishing, Lock, Pausing, Reading, Removal, TieMark, TiedClaim,
     Unpausing, Waking,
 };
 use mx_types::{AddedHandles, Call, Ending, HandleId, Look, Receipt, Reply, State, Ticket, Work};
@@ -72,14 +72,13 @@ impl<Q: Work + Drop, O: Ending + Drop> Multi<Q, O> {
     }
 
     // Makes a call under the lock.
-    fn act<D: Deed<Shared<Q, O>, Q, O>, R: Wait>(
+    fn act<K, D: Deed<Q, O>, R: Wait>(
         &self,
         rt: &R,
-        seat: &mut Seat<Q, O>,
+        seat: &mut SeatOf<K, Q, O>,
         deed: D,
     ) -> Result<D::Reply, WrongSeat<D>>
         requires own { seat.old.of ≡ self.now }
-        requires state { (x : SharedState Q O) → D.state x ≡ x }
         requires claim { D.own deed self.now.engine.ties }
         ensures stands { MatchResult result (λ r. Stands seat.old seat.new (D.call deed) (D.reply r)) (λ w. (seat.new ≡ seat.old) × (w.0 ≡ deed)) }
         ensures back { IfOk result (λ r. D.back deed r) }
@@ -90,11 +89,11 @@ impl<Q: Work + Drop, O: Ending + Drop> Multi<Q, O> {
         let Some(taken) = self.lock.enter(rt, &mut seat.key, &seat.reader) else {
             return Err(WrongSeat(deed));
         };
-        let _known = taken.know();
+        let _known = taken.engine().know();
         let who = seat.reader.who();
         let call = deed.as_call();
         let (taken, reply) = taken.run(rt, deed, who);
-        let _left = taken.know();
+        let _left = taken.engine().know();
         self.lock
             .leave(rt, &mut seat.key, taken, &mut seat.reader, &mut seat.ties);
         let cut = seat.reader.cut();
@@ -217,11 +216,11 @@ impl<Q: Work + Drop, O: Ending + Drop> Multi<Q, O> {
         }
     }
 
-    // Records the end of a claimed transfer.
-    pub(crate) fn finish_at<R: Wait>(
+    /// Records the end of a claimed transfer, with a claim that this multi handle gave. What isn't recorded comes back.
+    pub fn finish<R: Wait>(
         &self,
         rt: &R,
-        seat: &mut Seat<Q, O>,
+        seat: &mut WorkerSeat<Q, O>,
         claim: TiedClaim<Q>,
         ending: O,
     ) -> Result<FinishReply<TiedClaim<Q>, O>, WrongSeat<(TiedClaim<Q>, O)>>
@@ -239,17 +238,19 @@ impl<Q: Work + Drop, O: Ending + Drop> Multi<Q, O> {
         }
     }
 
-    /// The handles that are added, in order, by the version that was published last (curl_multi_get_handles(3)). It takes no
-    /// lock and no memory. None, and nothing changes, where there is no version to be had.
-    pub(crate) fn added(&self, seat: &mut Seat<Q, O>) -> Option<AddedHandles>
+    /// The handles that are added, in order, by the version that was published last (curl_multi_get_handles(3)), with the
+    /// number of events that the seat has then seen. It takes no lock and no memory. None, and nothing changes, where there
+    /// is no version to be had.
+    pub fn handles(&self, seat: &mut Seat<Q, O>) -> Option<HandleList>
         requires own { seat.old.of ≡ self.now }
-        ensures { MatchOption result (seat.new ≡ seat.old) (λ r. Stands seat.old seat.new Call.Handles (Reply.Handles r)) }
+        ensures { MatchOption result (seat.new ≡ seat.old) (λ r. Stands seat.old seat.new Call.Handles (Reply.Handles r.list) × (r.cut ≡ length seat.new.seen)) }
     {
         let Some(answer) = seat.reader.handles() else {
             return None;
         };
+        let cut = seat.reader.cut();
         let receipt = Receipt {
-            cut: seat.reader.cut(),
+            cut,
             call: Call::Handles,
             reply: Reply::Handles(answer),
         };
@@ -257,7 +258,7 @@ impl<Q: Work + Drop, O: Ending + Drop> Multi<Q, O> {
         let Reply::Handles(list) = receipt.reply else {
             unreachable!()
         };
-        Some(list)
+        Some(HandleList { cut, list })
     }
 
     /// How many transfers run, paused ones too, by the version that was published last. It takes no lock and no memory.
@@ -293,8 +294,9 @@ impl<Q: Work + Drop, O: Ending + Drop> Multi<Q, O> {
         Some(answer)
     }
 
-    // What a worker is told of a ticket, by the version that was published last.
-    pub(crate) fn look_at(&self, seat: &mut Seat<Q, O>, ticket: Ticket) -> Option<Look>
+    /// What a worker is told of a ticket, by the version that was published last. It takes no lock and no memory. None, and
+    /// nothing changes, where there is no version to be had.
+    pub fn look(&self, seat: &mut WorkerSeat<Q, O>, ticket: Ticket) -> Option<Look>
         requires own { seat.old.of ≡ self.now }
         ensures { MatchOption result (seat.new ≡ seat.old) (λ r. Stands seat.old seat.new (Call.Look ticket) (Reply.Look r)) }
     {
@@ -306,12 +308,10 @@ impl<Q: Work + Drop, O: Ending + Drop> Multi<Q, O> {
         Some(answer)
     }
 
-    // Takes the work of the lowest ticket in the queue.
-    pub(crate) fn claim_at<R: Wait>(
-        &self,
-        rt: &R,
-        seat: &mut Seat<Q, O>,
-    ) -> Option<(TiedClaim<Q>, Q)>
+    /// Takes the work of the lowest ticket in the queue, which then runs as this worker's seat has seen; its claim has the
+    /// handle and the slot of that addition, and is of its request. None where the queue is empty, which the seat has then seen
+    /// too, or where the seat isn't one of this multi handle's, and nothing changes.
+    pub fn claim<R: Wait>(&self, rt: &R, seat: &mut WorkerSeat<Q, O>) -> Option<(TiedClaim<Q>, Q)>
         requires own { seat.old.of ≡ self.now }
         ensures sees { MatchOption result ((seat.new ≡ seat.old) ⊎ Sees seat.old seat.new) (λ r. Sees seat.old seat.new) }
         ensures claims { MatchOption result (seat.new.claims ≡ seat.old.claims) (λ r. seat.new.claims ≡ seat.old.claims ++ r.0.ticket ∷ []) }
@@ -327,10 +327,10 @@ impl<Q: Work + Drop, O: Ending + Drop> Multi<Q, O> {
         let Some(mut taken) = self.lock.enter(rt, &mut seat.key, &seat.reader) else {
             return None;
         };
-        let _known = taken.know();
-        let _cut = taken.len();
+        let _known = taken.engine().know();
+        let _cut = taken.engine().len();
         let claimed = taken.claim();
-        let _left = taken.know();
+        let _left = taken.engine().know();
         self.lock
             .leave(rt, &mut seat.key, taken, &mut seat.reader, &mut seat.ties);
         let Some(claimed) = claimed else {
@@ -346,19 +346,19 @@ impl<Q: Work + Drop, O: Ending + Drop> Multi<Q, O> {
         &self,
         rt: &R,
         seat: &mut Seat<Q, O>,
-    ) -> Result<Snapshot<Shared<Q, O>>, WrongSeat<()>>
+    ) -> Result<Snapshot<Engine<Q, O>>, WrongSeat<()>>
         requires own { seat.old.of ≡ self.now }
         ensures sees { MatchResult result (λ x. Sees seat.old seat.new) (λ _. seat.new ≡ seat.old) }
         ensures found { IfOk result (λ x. FoundState O.code_of O.size_of seat.new x.value) }
-        ensures tied { IfOk result (λ x. AreOfAdditions Q.origin O.origin x.value.core x.value.ties.ties) }
+        ensures tied { IfOk result (λ x. AreOfAdditions Q.origin O.origin x.value.core x.value.ties.entries) }
         ensures claims { seat.new.claims ≡ seat.old.claims }
         ensures given { seat.new.given ≡ seat.old.given }
     {
         let Some(taken) = self.lock.enter(rt, &mut seat.key, &seat.reader) else {
             return Err(WrongSeat(()));
         };
-        let known = taken.know();
-        let _cut = taken.len();
+        let known = taken.engine().know();
+        let _cut = taken.engine().len();
         self.lock
             .leave(rt, &mut seat.key, taken, &mut seat.reader, &mut seat.ties);
         Ok(known)
@@ -374,12 +374,12 @@ impl<Q: Work + Drop, O: Ending + Drop> Multi<Q, O> {
         let Some(mut taken) = self.lock.enter(rt, &mut one.key, &one.reader) else {
             return false;
         };
-        if taken.begins_with(&two.reader) {
+        if taken.engine().begins_with(&two.reader) {
             let other = two.reader.who();
-            if taken.made(other) == two.reader.made() {
-                let _cut = taken.len();
+            if taken.engine().made(other) == two.reader.made() {
+                let _cut = taken.engine().len();
                 taken.refresh(&mut two.reader);
-                taken.tell(&mut two.ties);
+                taken.engine().tell(&mut two.ties);
                 self.lock
                     .leave(rt, &mut one.key, taken, &mut one.reader, &mut one.ties);
                 return true;
@@ -409,73 +409,9 @@ impl<Q: Work + Drop, O: Ending + Drop> Multi<Q, O> {
         Err(WrongSeat(()))
     }
 
-    /// Records the end of a claimed transfer, by a worker's seat, with a claim that this multi handle gave. What isn't recorded comes
-    /// back.
-    pub fn finish<R: Wait>(
-        &self,
-        rt: &R,
-        worker: &mut WorkerSeat<Q, O>,
-        claim: TiedClaim<Q>,
-        ending: O,
-    ) -> Result<FinishReply<TiedClaim<Q>, O>, WrongSeat<(TiedClaim<Q>, O)>>
-        requires own { worker.old.of ≡ self.now }
-        requires claim { claim.of ≡ self.now.engine.ties }
-        requires origin { O.origin ending ≡ claim.origin }
-        ensures stands { MatchResult result (λ r. Stands worker.old worker.new (Call.Finish claim.ticket (O.code_of ending) (O.size_of ending)) (reply_of_finish r)) (λ w. (worker.new ≡ worker.old) × (w.0 ≡ (claim, ending))) }
-        ensures back { IfOk result (λ r. IsHandedBack claim ending r) }
-        ensures left { IfOk result (λ r. LeavesState O.code_of O.size_of worker.old worker.new (reply_of_finish r)) }
-        ensures confirmed { OnOk result (worker.new.confirmed ≡ length worker.new.seen) }
-    {
-        self.finish_at(rt, &mut worker.seat, claim, ending)
-    }
-
-    /// Takes the work of the lowest ticket in the queue, which then runs as this worker's seat has seen; its claim has the
-    /// handle and the slot of that addition, and is of its request. None where the queue is empty, which the seat has then seen
-    /// too, or where the seat isn't one of this multi handle's, and nothing changes.
-    pub fn claim<R: Wait>(&self, rt: &R, worker: &mut WorkerSeat<Q, O>) -> Option<(TiedClaim<Q>, Q)>
-        requires own { worker.old.of ≡ self.now }
-        ensures sees { MatchOption result ((worker.new ≡ worker.old) ⊎ Sees worker.old worker.new) (λ r. Sees worker.old worker.new) }
-        ensures claims { MatchOption result (worker.new.claims ≡ worker.old.claims) (λ r. worker.new.claims ≡ worker.old.claims ++ r.0.ticket ∷ []) }
-        ensures given { worker.new.given ≡ worker.old.given }
-        ensures runs { IfSome result (λ r. has_ticket r.0.ticket (running worker.new.seen) ≡ true) }
-        ensures origin { IfSome result (λ r. r.0.origin ≡ Q.origin r.1) }
-        ensures own { IfSome result (λ r. r.0.of ≡ self.now.engine.ties) }
-        ensures request { IfSome result (λ r. Has worker.new.ties (tie r.0.ticket r.0.origin)) }
-        ensures handle { IfSome result (λ r. handle_of r.0.ticket worker.new.seen ≡ Some r.0.handle) }
-        ensures slot { IfSome result (λ r. slot_of r.0.ticket worker.new.seen ≡ Some r.0.slot) }
-        ensures queue { MatchOption result ((worker.new ≡ worker.old) ⊎ ClaimsNothing O.code_of O.size_of worker.new) (λ r. ClaimsLeast O.code_of O.size_of worker.new r.0.ticket r.1) }
-    {
-        self.claim_at(rt, &mut worker.seat)
-    }
-
-    /// What a worker is told of a ticket, by the version that was published last. It takes no lock and no memory. None, and
-    /// nothing changes, where there is no version to be had.
-    pub fn look(&self, worker: &mut WorkerSeat<Q, O>, ticket: Ticket) -> Option<Look>
-        requires own { worker.old.of ≡ self.now }
-        ensures { MatchOption result (worker.new ≡ worker.old) (λ r. Stands worker.old worker.new (Call.Look ticket) (Reply.Look r)) }
-    {
-        self.look_at(&mut worker.seat, ticket)
-    }
-
-    /// The handles that are added, in order, by the version that was published last (curl_multi_get_handles(3)), with the
-    /// number of events that the seat has then seen. It takes no lock and no memory. None, and nothing changes, where there
-    /// is no version to be had.
-    pub fn handles(&self, seat: &mut Seat<Q, O>) -> Option<HandleList>
-        requires own { seat.old.of ≡ self.now }
-        ensures { MatchOption result (seat.new ≡ seat.old) (λ r. Stands seat.old seat.new Call.Handles (Reply.Handles r.list) × (r.cut ≡ length seat.new.seen)) }
-    {
-        let Some(list) = self.added(seat) else {
-            return None;
-        };
-        Some(HandleList {
-            cut: seat.cut(),
-            list,
-        })
-    }
-
     /// What two seats have seen are beginnings of one journal, but for the last event of each, which a read alone may have
     /// shown; and of what is confirmed of them one begins the other.
-    pub fn are_of_one_journal(&self, one: &Seat<Q, O>, two: &Seat<Q, O>)
+    pub fn are_of_one_journal<J, K>(&self, one: &SeatOf<J, Q, O>, two: &SeatOf<K, Q, O>)
         requires own { (one.now.of ≡ self.now) × (two.now.of ≡ self.now) }
         ensures seen { AreOfOneJournal one.now.seen two.now.seen }
         ensures confirmed { OneBeginsOther (take one.now.confirmed one.now.seen) (take two.now.confirmed two.now.seen) }
@@ -506,8 +442,8 @@ impl<Q: Work + Drop, O: Ending + Drop> Multi<Q, O> {
         let Some(taken) = self.lock.enter(rt, &mut seat.key, &seat.reader) else {
             return Err(WrongSeat(()));
         };
-        if taken.is_ready(seat.polled) {
-            let cut = taken.len();
+        if taken.engine().is_ready(seat.polled) {
+            let cut = taken.engine().len();
             self.lock
                 .leave(rt, &mut seat.key, taken, &mut seat.reader, &mut seat.ties);
             seat.polled = cut;
@@ -538,11 +474,12 @@ impl<Q: Work + Drop, O: Ending + Drop> Multi<Q, O> {
         unreachable!()
     }
 
-    // Puts claimed work back.
-    pub(crate) fn give_back_at<R: Wait>(
+    /// Gives claimed work back: to its place by ticket in the queue. `Stale` hands the work back, where the ticket doesn't run
+    /// any more, or is queued. `WrongSeat` hands back claim and work, and nothing changes.
+    pub fn give_back<R: Wait>(
         &self,
         rt: &R,
-        seat: &mut Seat<Q, O>,
+        seat: &mut WorkerSeat<Q, O>,
         claim: TiedClaim<Q>,
         work: Q,
     ) -> Result<GiveBackReply<Q>, WrongSeat<(TiedClaim<Q>, Q)>>
@@ -559,36 +496,72 @@ impl<Q: Work + Drop, O: Ending + Drop> Multi<Q, O> {
         let Some(mut taken) = self.lock.enter(rt, &mut seat.key, &seat.reader) else {
             return Err(WrongSeat((claim, work)));
         };
-        let _known = taken.know();
-        let _cut = taken.len();
+        let _known = taken.engine().know();
+        let _cut = taken.engine().len();
         let ticket = claim.ticket();
         let reply = taken.give_back(claim, work);
-        let _left = taken.know();
+        let _left = taken.engine().know();
         self.lock
             .leave(rt, &mut seat.key, taken, &mut seat.reader, &mut seat.ties);
         note_given(&mut seat.given, ticket, &reply);
         Ok(reply)
     }
 
-    /// Gives claimed work back, by a worker's seat: to its place by ticket in the queue. `Stale` hands the work back, where the
-    /// ticket doesn't run any more, or is queued. `WrongSeat` hands back claim and work, and nothing changes.
-    pub fn give_back<R: Wait>(
-        &self,
-        rt: &R,
-        worker: &mut WorkerSeat<Q, O>,
-        claim: TiedClaim<Q>,
-        work: Q,
-    ) -> Result<GiveBackReply<Q>, WrongSeat<(TiedClaim<Q>, Q)>>
-        requires own { worker.old.of ≡ self.now }
-        requires claim { claim.of ≡ self.now.engine.ties }
-        requires origin { Q.origin work ≡ claim.origin }
-        ensures sees { MatchResult result (λ r. Sees worker.old worker.new) (λ w. (worker.new ≡ worker.old) × (w.0 ≡ (claim, work))) }
-        ensures back { IfOk result (λ r. IsGivenBack work r) }
-        ensures runs { IfOk result (λ r. is_back r ≡ true → has_ticket claim.ticket (running worker.new.seen) ≡ true) }
-        ensures queue { IfOk result (λ r. GivesBack O.code_of O.size_of worker.new claim.ticket work r) }
-        ensures claims { worker.new.claims ≡ worker.old.claims }
-        ensures given { IfOk result (λ r. worker.new.given ≡ given_with r claim.ticket worker.old.given) }
+    /// Makes a call that needs no work. None, and nothing changes, where it was answered `WrongSeat` or None, and where it is an
+    /// addition or a worker's call. Of a message that is read the ending is dropped.
+    pub fn make<R: Wait>(&self, rt: &R, seat: &mut Seat<Q, O>, call: Call) -> Option<Reply>
+        requires own { seat.old.of ≡ self.now }
+        ensures { MatchOption result (seat.new ≡ seat.old) (λ r. Stands seat.old seat.new call r) }
     {
-        self.give_back_at(rt, &mut worker.seat, claim, work)
+        match call {
+            Call::Remove(handle) => match self.remove(rt, seat, handle) {
+                Ok(reply) => Some(reply.reply()),
+                Err(_) => None,
+            },
+            Call::Pause(handle) => match self.pause(rt, seat, handle) {
+                Ok(reply) => Some(reply.reply()),
+                Err(_) => None,
+            },
+            Call::Unpause(handle) => match self.unpause(rt, seat, handle) {
+                Ok(reply) => Some(reply.reply()),
+                Err(_) => None,
+            },
+            Call::InfoRead => match self.info_read(rt, seat) {
+                Ok(reply) => Some(reply.reply()),
+                Err(_) => None,
+            },
+            Call::Wakeup => match self.wakeup(rt, seat) {
+                Ok(reply) => Some(reply.reply()),
+                Err(_) => None,
+            },
+            Call::Poll => match self.poll(rt, seat) {
+                Ok(()) => Some(Reply::Woken),
+                Err(_) => None,
+            },
+            _ => self.read(seat, call),
+        }
+    }
+
+    /// Makes a call that reads a published version, and waits for nothing. None, and nothing changes, where there is none to be had,
+    /// and where it is another call.
+    pub fn read(&self, seat: &mut Seat<Q, O>, call: Call) -> Option<Reply>
+        requires own { seat.old.of ≡ self.now }
+        ensures { MatchOption result (seat.new ≡ seat.old) (λ r. Stands seat.old seat.new call r) }
+    {
+        match call {
+            Call::Handles => match self.handles(seat) {
+                Some(handles) => Some(Reply::Handles(handles.list)),
+                None => None,
+            },
+            Call::Running => match self.running(seat) {
+                Some(count) => Some(Reply::Running(count)),
+                None => None,
+            },
+            Call::State(handle) => match self.state(seat, handle) {
+                Some(state) => Some(Reply::State(state)),
+                None => None,
+            },
+            _ => None,
+        }
     }
 }

@@ -6,28 +6,33 @@ ghost use Rattle.crossbeam_channel.specs.Claims.{view};
 ghost use Rattle.mx_board.specs.Progress.{new_seat};
 ghost use Rattle.mx_lock.specs.Lock.{engine_of, founder_at, IsKeyOf};
 ghost use Rattle.mx_multi.specs.Opening.{are_within, first_of, open_number, maker_of, AreNew, AreReaders, IsOpened};
+ghost use Rattle.mx_types.specs.Limits.{is_history, most_seats};
 
 use crate::multi::Multi;
-use crate::seat::{Seat, WorkerSeat};
+use crate::seat::{Application, AtWork, Seat, SeatOf, WorkerSeat};
 use mx_board::{BoardReader, JournalMark, NoteSeat, ProgressTable};
-use mx_lock::{Key, Lock, Shared, TieMark};
-use mx_types::{Ending, History, OutOfMemory, Who, Work};
+use mx_lock::{Engine, Key, Lock, TieMark};
+use mx_types::{Ending, History, LEAST_EVENTS, MOST_EVENTS, MOST_SEATS, OutOfMemory, Who, Work};
 use std::alloc::Global;
 use std::collections::VecDeque;
+use std::marker::PhantomData;
 use std::snapshot::Snapshot;
 use std::sync::{Condvar, Mutex, Wait};
 use thiserror::Error;
 
+/// The most idle connections that a worker may be let keep.
+pub const MOST_CONNECTS: u8 = 64;
+
 /// What a multi handle is opened with.
 #[derive(Clone, Copy, Debug, PartialEq, Eq)]
 pub struct Limits {
-    /// Seats for application threads, 1 to 16.
+    /// Seats for application threads, 1 to [`MOST_SEATS`].
     pub seats: u8,
-    /// Seats for workers, 1 to 16.
+    /// Seats for workers, 1 to [`MOST_SEATS`].
     pub workers: u8,
-    /// The greatest number of events of its history, 4 to 1,048,576.
+    /// The greatest number of events of its history, [`LEAST_EVENTS`] to [`MOST_EVENTS`].
     pub history: u32,
-    /// The greatest number of idle connections that a worker keeps, 0 to 64.
+    /// The greatest number of idle connections that a worker keeps, 0 to [`MOST_CONNECTS`].
     pub max_connects: u8,
 }
 
@@ -39,22 +44,22 @@ impl Limits {
         is_seat_count(self.seats)
             && is_seat_count(self.workers)
             && is_history(self.history)
-            && self.max_connects <= 64
+            && self.max_connects <= MOST_CONNECTS
     }
 }
 
 // Whether there can be so many seats of a kind.
 fn is_seat_count(count: u8) -> bool
-    ensures { result ≡ (nat_le 1 count && nat_le count 16) }
+    ensures { result ≡ (nat_le 1 count && nat_le count most_seats) }
 {
-    (1..=16).contains(&count)
+    1 <= count && usize::from(count) <= MOST_SEATS
 }
 
 // Whether a history can have so many events.
 fn is_history(events: u32) -> bool
-    ensures { result ≡ (nat_le 4 events && nat_le events 1048576) }
+    ensures { result ≡ is_history events }
 {
-    (4..=1048576).contains(&events)
+    LEAST_EVENTS <= events && events <= MOST_EVENTS
 }
 
 /// Why a multi handle was not opened.
@@ -92,15 +97,15 @@ fn maker(worker: bool, number: u8) -> Who
 // Readers for seats or workers, which have seen the empty journal.
 fn readers<Q: Work + Drop, O: Ending + Drop>(
     alloc: Global,
-    shared: &mut Shared<Q, O>,
+    shared: &mut Engine<Q, O>,
     count: u8,
     worker: bool,
 ) -> Result<VecDeque<BoardReader>, OutOfMemory>
-    requires few { count ≤ 16 }
+    requires few { count ≤ most_seats }
     requires none { shared.old.core.journal ≡ [] }
     ensures same { shared.new ≡ shared.old }
     ensures readers { IfOk result (λ v. AreReaders worker 0 shared.old.book v.items × (deque_len v ≡ count)) }
-    ensures few { IfOk result (λ v. deque_len v ≤ 16) }
+    ensures few { IfOk result (λ v. deque_len v ≤ most_seats) }
 {
     let mut readers = VecDeque::new(alloc);
     for number in 0..count {
@@ -113,7 +118,7 @@ fn readers<Q: Work + Drop, O: Ending + Drop>(
 }
 
 // A seat for each reader, with the next keys.
-fn seated<Q: Work + Drop, O: Ending + Drop>(
+fn seated<K, Q: Work + Drop, O: Ending + Drop>(
     alloc: Global,
     lock: &Lock<Q, O>,
     founder: &mut Key<Q, O>,
@@ -123,14 +128,14 @@ fn seated<Q: Work + Drop, O: Ending + Drop>(
     readers: VecDeque<BoardReader>,
     worker: bool,
     max_connects: u8,
-) -> Result<Vec<Seat<Q, O>>, OutOfMemory>
-    requires few { deque_len readers ≤ 16 }
+) -> Result<Vec<SeatOf<K, Q, O>>, OutOfMemory>
+    requires few { deque_len readers ≤ most_seats }
     requires own { IsKeyOf lock.now founder.old }
     requires founder { view founder.old ≡ founder_at (engine_of (view founder.old)) (first_of worker) }
     requires readers { AreReaders worker 0 (engine_of (view founder.old)).book readers.items }
     requires notes { All (λ s. s ≡ new_seat words.now) notes.old.items }
     requires enough { deque_len readers ≤ vec_len notes.old }
-    requires ties { (ties.now.ties ≡ []) × (ties.now.book ≡ (engine_of (view founder.old)).ties) }
+    requires ties { (ties.now.entries ≡ []) × (ties.now.book ≡ (engine_of (view founder.old)).ties) }
     ensures kept { IsKeyOf lock.now founder.new }
     ensures next { IfOk result (λ v. view founder.new ≡ founder_at (engine_of (view founder.old)) (first_of worker + vec_len v)) }
     ensures new { IfOk result (λ v. AreNew (record { table = lock.now.table; keys = lock.now.keys; engine = engine_of (view founder.old); words = words.now.id; max_connects = max_connects }) worker 0 v.items) }
@@ -146,7 +151,8 @@ fn seated<Q: Work + Drop, O: Ending + Drop>(
             unreachable!()
         };
         let given = History::new();
-        seats.push(Seat {
+        seats.push(SeatOf {
+            role: PhantomData,
             key,
             reader,
             polled: 0,
@@ -162,13 +168,13 @@ fn seated<Q: Work + Drop, O: Ending + Drop>(
 
 // Lets keys go, so that those of the workers come next.
 fn skip<Q: Work + Drop, O: Ending + Drop>(lock: &Lock<Q, O>, founder: &mut Key<Q, O>, seats: u8)
-    requires few { seats ≤ 16 }
+    requires few { seats ≤ most_seats }
     requires own { IsKeyOf lock.now founder.old }
     requires founder { view founder.old ≡ founder_at (engine_of (view founder.old)) (1 + seats) }
     ensures kept { IsKeyOf lock.now founder.new }
     ensures next { view founder.new ≡ founder_at (engine_of (view founder.old)) 17 }
 {
-    for spare in seats..16 {
+    for spare in seats..MOST_SEATS as u8 {
         let _ = spare;
         let _key = lock.another(founder);
     }
@@ -177,7 +183,7 @@ fn skip<Q: Work + Drop, O: Ending + Drop>(lock: &Lock<Q, O>, founder: &mut Key<Q
 // Readers for the seats, and for the workers.
 fn readers_of_all<Q: Work + Drop, O: Ending + Drop>(
     alloc: Global,
-    shared: &mut Shared<Q, O>,
+    shared: &mut Engine<Q, O>,
     limits: Limits,
 ) -> Result<(VecDeque<BoardReader>, VecDeque<BoardReader>), OutOfMemory>
     requires within { are_within limits ≡ true }
@@ -185,7 +191,7 @@ fn readers_of_all<Q: Work + Drop, O: Ending + Drop>(
     ensures same { shared.new ≡ shared.old }
     ensures seats { IfOk result (λ v. AreReaders false 0 shared.old.book v.0.items × (deque_len v.0 ≡ limits.seats)) }
     ensures workers { IfOk result (λ v. AreReaders true 0 shared.old.book v.1.items × (deque_len v.1 ≡ limits.workers)) }
-    ensures few { IfOk result (λ v. (deque_len v.0 ≤ 16) × (deque_len v.1 ≤ 16)) }
+    ensures few { IfOk result (λ v. (deque_len v.0 ≤ most_seats) × (deque_len v.1 ≤ most_seats)) }
 {
     let for_seats = readers(alloc, shared, limits.seats, false)?;
     let for_workers = readers(alloc, shared, limits.workers, true)?;
@@ -203,20 +209,20 @@ fn seats_of_all<Q: Work + Drop, O: Ending + Drop>(
     all_readers: (VecDeque<BoardReader>, VecDeque<BoardReader>),
     limits: Limits,
 ) -> Result<(Vec<Seat<Q, O>>, Vec<WorkerSeat<Q, O>>), OutOfMemory>
-    requires few { (deque_len all_readers.0 ≤ 16) × (deque_len all_readers.1 ≤ 16) }
+    requires few { (deque_len all_readers.0 ≤ most_seats) × (deque_len all_readers.1 ≤ most_seats) }
     requires own { IsKeyOf lock.now founder }
     requires founder { view founder ≡ founder_at (engine_of (view founder)) 1 }
     requires seats { AreReaders false 0 (engine_of (view founder)).book all_readers.0.items × (deque_len all_readers.0 ≡ limits.seats) }
     requires workers { AreReaders true 0 (engine_of (view founder)).book all_readers.1.items }
     requires notes { All (λ s. s ≡ new_seat words.now) notes.items × (vec_len notes ≡ deque_len all_readers.0 + deque_len all_readers.1) }
-    requires ties { (ties.now.ties ≡ []) × (ties.now.book ≡ (engine_of (view founder)).ties) }
+    requires ties { (ties.now.entries ≡ []) × (ties.now.book ≡ (engine_of (view founder)).ties) }
     ensures seats { IfOk result (λ r. AreNew (record { table = lock.now.table; keys = lock.now.keys; engine = engine_of (view founder); words = words.now.id; max_connects = limits.max_connects }) false 0 r.0.items × (length r.0.items ≡ deque_len all_readers.0)) }
     ensures workers { IfOk result (λ r. AreNew (record { table = lock.now.table; keys = lock.now.keys; engine = engine_of (view founder); words = words.now.id; max_connects = limits.max_connects }) true 0 r.1.items × (length r.1.items ≡ deque_len all_readers.1)) }
 {
     let (for_seats, for_workers) = all_readers;
     let mut founder = founder;
     let mut notes = notes;
-    let for_callers = seated(
+    let for_callers = seated::<Application, Q, O>(
         alloc,
         lock,
         &mut founder,
@@ -228,7 +234,7 @@ fn seats_of_all<Q: Work + Drop, O: Ending + Drop>(
         limits.max_connects,
     )?;
     skip(lock, &mut founder, limits.seats);
-    let at_work = seated(
+    let at_work = seated::<AtWork, Q, O>(
         alloc,
         lock,
         &mut founder,
@@ -239,8 +245,7 @@ fn seats_of_all<Q: Work + Drop, O: Ending + Drop>(
         true,
         limits.max_connects,
     )?;
-    let workers = WorkerSeat::all(alloc, at_work)?;
-    Ok((for_callers, workers))
+    Ok((for_callers, at_work))
 }
 
 impl<Q: Work + Drop, O: Ending + Drop> Multi<Q, O> {
@@ -273,7 +278,7 @@ impl<Q: Work + Drop, O: Ending + Drop> Multi<Q, O> {
     {
         let (words, notes) = ProgressTable::new(alloc, limits.seats + limits.workers)?;
         let places = usize::from(limits.seats) + usize::from(limits.workers);
-        let mut shared = Shared::new(rt, alloc, limits.history, places)?;
+        let mut shared = Engine::new(rt, alloc, limits.history, places)?;
         let start = shared.mark();
         let no_ties = shared.tie_mark();
         let all_readers = readers_of_all(alloc, &mut shared, limits)?;

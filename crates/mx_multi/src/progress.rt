@@ -74,17 +74,11 @@ impl<Q: Work + Drop, O: Ending + Drop> Multi<Q, O> {
 
     /// Notes that a claimed transfer has received so many bytes of its response. Where a greater word was noted for its slot,
     /// of a newer ticket or a greater count, that stays. It takes no lock and no memory.
-    pub fn note(&self, worker: &mut WorkerSeat<Q, O>, claim: &TiedClaim<Q>, count: u32)
-        requires own { worker.old.of ≡ self.now }
-        ensures { worker.new ≡ noted_by worker.old claim.now.slot claim.now.ticket count }
-    {
-        self.note_at(&mut worker.seat, claim.slot(), claim.ticket(), count)
-    }
-
-    fn note_at(&self, seat: &mut Seat<Q, O>, slot: u8, ticket: Ticket, count: u32)
+    pub fn note(&self, seat: &mut WorkerSeat<Q, O>, claim: &TiedClaim<Q>, count: u32)
         requires own { seat.old.of ≡ self.now }
-        ensures { seat.new ≡ noted_by seat.old slot ticket count }
+        ensures { seat.new ≡ noted_by seat.old claim.now.slot claim.now.ticket count }
     {
-        self.words.note(&mut seat.notes, slot, ticket, count)
+        self.words
+            .note(&mut seat.notes, claim.slot(), claim.ticket(), count)
     }
 }

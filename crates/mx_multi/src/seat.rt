@@ -1,21 +1,33 @@
 //! A caller's seat at a multi handle.
-ghost use Rattle.std.specs.Prelude.{◌≡◌, ◌++◌, ◌∷◌, [], length, IfOk};
+ghost use Rattle.std.specs.Prelude.{◌≡◌, ◌++◌, ◌∷◌, [], length};
 ghost use Rattle.mx_multi.specs.Seats.{HasReceipts, given_with};
 
 use mx_board::{BoardReader, NoteSeat};
 use mx_journal::GiveBackReply;
 use mx_lock::{Key, TieMark};
-use mx_types::{Call, Ending, History, OutOfMemory, Receipt, Reply, Ticket, Work};
-use std::alloc::Global;
-use std::marker::Model;
+use mx_types::{Call, Ending, History, Receipt, Reply, Ticket, Work};
+use std::marker::{Model, PhantomData};
 use std::snapshot::Snapshot;
 
-/// An application thread's seat: its key to the lock, and what it has seen. Contracts see of which multi handle it is, whose
+/// The role of an application's thread: it adds, removes, pauses and reads.
+pub struct Application;
+
+/// The role of a worker: it claims what was added, and ends it.
+pub struct AtWork;
+
+/// An application thread's seat.
+pub type Seat<Q, O> = SeatOf<Application, Q, O>;
+
+/// A worker's seat.
+pub type WorkerSeat<Q, O> = SeatOf<AtWork, Q, O>;
+
+/// A thread's seat, in a role: its key to the lock, and what it has seen. Contracts see of which multi handle it is, whose
 /// it is, the events that it has seen and how many of them are confirmed, how many they were at its last poll, the tickets
 /// that it has claimed and those that it has given back, the progress words that it has noted and read, of which requests additions
 /// are, as it was told under the lock, and the receipts of all its calls that were answered.
 #[derive(Drop)]
-pub struct Seat<Q: Work + Drop, O: Ending + Drop> {
+pub struct SeatOf<K, Q: Work + Drop, O: Ending + Drop> {
+    pub(crate) role: PhantomData<K>,
     pub(crate) key: Key<Q, O>,
     pub(crate) reader: BoardReader,
     /// How many events it had seen at its last poll.
@@ -32,19 +44,19 @@ pub struct Seat<Q: Work + Drop, O: Ending + Drop> {
     pub(crate) given: History<Ticket>,
 }
 
-impl<Q: Work + Drop, O: Ending + Drop> Model for Seat<Q, O> {
+impl<K, Q: Work + Drop, O: Ending + Drop> Model for SeatOf<K, Q, O> {
     ghost use Rattle.std.specs.Prelude.{◌≡◌, []};
     ghost use Rattle.mx_lock.specs.Lock.{engine_of};
     ghost use Rattle.mx_multi.specs.Seats.{SeatView, HasReceipts, IsSeat};
 
     ghost Value = { SeatView Q O };
 
-    ghost view = { λ s. record { of = record { table = s.key.table_id; keys = s.key.me.0.of; engine = engine_of s.key.me.0.client; words = s.notes.of; max_connects = s.max_connects.value }; who = s.reader.who; seen = s.reader.seen; confirmed = s.reader.confirmed; polled = s.polled; claims = s.key.me.0.client.claims; given = s.given; words = s.notes; ties = s.ties.ties; mine = s.mine } };
+    ghost view = { λ s. record { of = record { table = s.key.table_id; keys = s.key.me.0.of; engine = engine_of s.key.me.0.client; words = s.notes.of; max_connects = s.max_connects.value }; who = s.reader.who; seen = s.reader.seen; confirmed = s.reader.confirmed; polled = s.polled; claims = s.key.me.0.client.claims; given = s.given; words = s.notes; ties = s.ties.entries; mine = s.mine } };
 
-    ghost invariant = { λ s. IsSeat s.key.me.0.client s.reader × (s.key.me.1 ≡ []) × HasReceipts (record { of = record { table = s.key.table_id; keys = s.key.me.0.of; engine = engine_of s.key.me.0.client; words = s.notes.of; max_connects = s.max_connects.value }; who = s.reader.who; seen = s.reader.seen; confirmed = s.reader.confirmed; polled = s.polled; claims = s.key.me.0.client.claims; given = s.given; words = s.notes; ties = s.ties.ties; mine = s.mine }) × (s.ties.book ≡ (engine_of s.key.me.0.client).ties) };
+    ghost invariant = { λ s. IsSeat s.key.me.0.client s.reader × (s.key.me.1 ≡ []) × HasReceipts (record { of = record { table = s.key.table_id; keys = s.key.me.0.of; engine = engine_of s.key.me.0.client; words = s.notes.of; max_connects = s.max_connects.value }; who = s.reader.who; seen = s.reader.seen; confirmed = s.reader.confirmed; polled = s.polled; claims = s.key.me.0.client.claims; given = s.given; words = s.notes; ties = s.ties.entries; mine = s.mine }) × (s.ties.book ≡ (engine_of s.key.me.0.client).ties) };
 }
 
-impl<Q: Work + Drop, O: Ending + Drop> Seat<Q, O> {
+impl<K, Q: Work + Drop, O: Ending + Drop> SeatOf<K, Q, O> {
     /// How many events the seat has seen.
     pub fn cut(&self) -> u32
         ensures { result ≡ length self.now.seen }
@@ -78,57 +90,5 @@ pub(crate) fn note_given<Q: Drop>(
     match reply {
         GiveBackReply::Back => given.note(ticket),
         GiveBackReply::Stale(_) => {}
-    }
-}
-
-/// A worker's seat: contracts see the same of it as of a `Seat`.
-#[derive(Drop)]
-pub struct WorkerSeat<Q: Work + Drop, O: Ending + Drop> {
-    pub(crate) seat: Seat<Q, O>,
-}
-
-impl<Q: Work + Drop, O: Ending + Drop> Model for WorkerSeat<Q, O> {
-    ghost use Rattle.mx_multi.specs.Seats.{SeatView};
-
-    ghost Value = { SeatView Q O };
-
-    ghost view = { λ s. s.seat };
-}
-
-impl<Q: Work + Drop, O: Ending + Drop> WorkerSeat<Q, O> {
-    /// The worker's seat as a seat, for the laws of seats.
-    pub fn as_seat(&self) -> &Seat<Q, O>
-        ensures { result.now ≡ self.now }
-    {
-        &self.seat
-    }
-
-    // Seats for workers.
-    pub(crate) fn all(
-        alloc: Global,
-        seats: Vec<Seat<Q, O>>,
-    ) -> Result<Vec<WorkerSeat<Q, O>>, OutOfMemory>
-        ensures { IfOk result (λ v. v.items ≡ seats.items) }
-    {
-        Ok(
-            seats
-                .into_iter()
-                .map(|seat| WorkerSeat { seat })
-                .collect(alloc)?,
-        )
-    }
-
-    /// How many events the seat has seen.
-    pub fn cut(&self) -> u32
-        ensures { result ≡ length self.now.seen }
-    {
-        self.seat.cut()
-    }
-
-    /// Each seat is placed: the receipts of all its calls stand in what it has seen.
-    pub fn is_placed(&self)
-        ensures { HasReceipts self.now }
-    {
-        self.seat.is_placed()
     }
 }

@@ -3,6 +3,7 @@
 
 use crate::checks::{check, compare};
 use mx_multi::Progress;
+use mx_multi_workload::client;
 use mx_multi_workload::client::Worker;
 use mx_multi_workload::desk::{Desk, Scene, at_desk};
 use mx_multi_workload::sample::{End, FOUR_SEATS};
@@ -53,19 +54,19 @@ struct Kept {
 fn made<R: Wait>(rt: &R, desk: &mut Desk, by: By, call: Call) -> (Option<Reply>, u32) {
     match by {
         By::First => {
-            let reply = desk.pair.first(rt, call);
+            let reply = client::make(rt, &mut desk.pair.one, call);
             (reply, desk.pair.cuts().0)
         }
         By::Second => {
-            let reply = desk.pair.second(rt, call);
+            let reply = client::make(rt, &mut desk.pair.two, call);
             (reply, desk.pair.cuts().1)
         }
         By::Third => {
-            let reply = desk.third.make(rt, call);
+            let reply = client::make(rt, &mut desk.third, call);
             (reply, desk.third.cut())
         }
         By::Fourth => {
-            let reply = desk.fourth.make(rt, call);
+            let reply = client::make(rt, &mut desk.fourth, call);
             (reply, desk.fourth.cut())
         }
     }

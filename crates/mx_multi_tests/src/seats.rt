@@ -3,7 +3,7 @@
 use crate::checks::{answered, check};
 use crate::script::at_four_seats;
 use mx_multi::{Limits, OpenError};
-use mx_multi_workload::client::Client;
+use mx_multi_workload::client::{Client, make};
 use mx_multi_workload::desk::{Desk, Scene};
 use mx_multi_workload::opened::open;
 use mx_multi_workload::sample::FOUR_SEATS;
@@ -62,13 +62,13 @@ fn bad_limits_are_refused(rt: HostRuntime) -> Result<(), Fail> {
 // Adds 256 handles, and then one more.
 fn fill<R: Wait>(rt: &R, client: &mut Client) -> Result<(), Fail> {
     for number in 0..256u32 {
-        let reply = answered(client.make(rt, Call::Add(HandleId(number))))?;
+        let reply = answered(make(rt, client, Call::Add(HandleId(number))))?;
         let Reply::Added(ticket) = reply else {
             return Err("not added".into());
         };
         check(ticket.0 == number, "another ticket")?;
     }
-    let reply = answered(client.make(rt, Call::Add(HandleId(256))))?;
+    let reply = answered(make(rt, client, Call::Add(HandleId(256))))?;
     check(matches!(reply, Reply::TableFull), "not full")?;
     check(client.cut() == 256, "other events")
 }

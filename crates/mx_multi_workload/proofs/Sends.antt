@@ -3,7 +3,8 @@ use denote.Ref.{NamedLft}
 use denote.Param.Send.{IsSend, IsSync, struct_send, shr_send, recorded_send, sendable}
 use denote.Struct.Declared.{shape}
 use Rattle.std.proofs.Crossing.{crosses}
-use Rattle.mx_lock.proofs.ties.TieMark.TheSendSync.{the_send as tie_send}
+use Rattle.mx_append_log.proofs.mark.LogMark.TheSendSync.{the_send as tie_send}
+use Rattle.mx_types.specs.contracts.origin.Origin as Origin
 use Rattle.mx_lock.specs.contracts.claim.TiedClaim as TiedClaim
 use Rattle.mx_lock.specs.contracts.claim.TiedClaim.TheInside as TiedInside
 use Rattle.mx_multi.proofs.Sends.{multi_sync, seat_send}
@@ -35,7 +36,7 @@ end_field = search (sendable, crosses) depth 40
 tied_inside : IsSend (TiedInside.the_field Job.the_row job).row
 tied_inside =
     let j = job_send in
-    struct_send (shape (TiedInside.the_type Job.the_row job)) (search (sendable, crosses) depth 40 fits 20000, (tie_send, tt))
+    struct_send (shape (TiedInside.the_type Job.the_row job)) (search (sendable, crosses) depth 40 fits 20000, (tie_send Origin.the_row, tt))
 
 tied_send : IsSend (TiedClaim.the_row Job.the_row job)
 tied_send =
@@ -43,7 +44,7 @@ tied_send =
     search (sendable) depth 40 fits 20000
 
 hand_inside : IsSend HandInside.the_field.row
-hand_inside = struct_send (shape HandInside.the_type) (tie_send, (search (tied_send, sendable, crosses) depth 40 fits 20000, tt))
+hand_inside = struct_send (shape HandInside.the_type) (tie_send Origin.the_row, (search (tied_send, sendable, crosses) depth 40 fits 20000, tt))
 
 hand_send : IsSend Hand.the_row
 hand_send =

@@ -1,5 +1,6 @@
 //! What calls were answered, and whether one thread answers the same.
 ghost use Rattle.std.specs.Prelude.{◌≤◌};
+ghost use Rattle.mx_types.specs.Limits.{IsHistory};
 
 use crate::one_thread::{OneThread, place_of};
 use crate::texts::{Asked, Maker, Said};
@@ -132,7 +133,7 @@ pub fn first_that_differs(
     history: u32,
     entries: &[Entry],
 ) -> Result<Option<usize>, OutOfMemory>
-    requires { (4 ≤ history) × (history ≤ 1048576) }
+    requires { IsHistory history }
 {
     let mut replay = Replay {
         one: OneThread::new(alloc, history)?,

@@ -2,7 +2,6 @@
 //! that gave them, calls by chance, the texts of calls and of their answers. Tests and the programs of `bench` stand on it.
 #![tactic(auto)]
 
-pub mod calls;
 pub mod client;
 pub mod desk;
 pub mod entries;

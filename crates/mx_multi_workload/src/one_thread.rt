@@ -1,5 +1,6 @@
 //! The calls of many makers, one after another, on one thread: the control state alone, with no lock and no versions.
 ghost use Rattle.std.specs.Prelude.{◌≡◌, ◌<◌, ◌≤◌, true};
+ghost use Rattle.mx_types.specs.Limits.{IsHistory};
 ghost use Rattle.mx_types.specs.Origin.{no_request};
 ghost use Rattle.mx_journal.specs.History.{is_maker};
 
@@ -45,7 +46,7 @@ pub struct OneThread {
 
 impl OneThread {
     pub fn new(alloc: Global, history: u32) -> Result<OneThread, OutOfMemory>
-        requires { (4 ≤ history) × (history ≤ 1048576) }
+        requires { IsHistory history }
     {
         Ok(OneThread {
             control: Control::new(alloc, history)?,

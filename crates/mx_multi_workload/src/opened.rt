@@ -59,10 +59,7 @@ impl<'a> Seats<'a> {
     /// The last of them.
     pub fn take(&mut self) -> Option<Client<'a>> {
         let seat = self.pop()?;
-        Some(Client {
-            multi: self.multi,
-            seat,
-        })
+        Some(self.multi.at(seat))
     }
 
     /// The last two of them, the last one first.
@@ -70,9 +67,8 @@ impl<'a> Seats<'a> {
         let one = self.pop()?;
         let two = self.pop()?;
         Some(Pair {
-            multi: self.multi,
-            one,
-            two,
+            one: self.multi.at(one),
+            two: self.multi.at(two),
         })
     }
 }
@@ -90,8 +86,7 @@ impl<'a> Benches<'a> {
     pub fn take(&mut self, alloc: Global) -> Option<Worker<'a>> {
         let seat = self.left.pop()?;
         Some(Worker {
-            multi: self.multi,
-            seat,
+            seat: self.multi.at(seat),
             hand: Hand::new(alloc, self.multi.first_ties()),
         })
     }

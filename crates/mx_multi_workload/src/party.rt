@@ -1,7 +1,7 @@
 //! One of many threads: two seats and a worker's seat, and the calls that they make by chance.
 ghost use Rattle.std.specs.Prelude.{◌<◌};
 
-use crate::client::{Client, Worker};
+use crate::client::{Client, Worker, make};
 use crate::entries::{Entry, entry_of};
 use crate::sample::End;
 use mx_types::{Call, Code, HandleId, Reply, Ticket, Who};
@@ -104,7 +104,7 @@ pub struct Place<'a> {
 
 // Makes a call at a place, and says whether it was a wake-up that woke.
 fn call_at<R: Wait>(rt: &R, place: &mut Place, notes: &mut Notes, call: Call) -> bool {
-    let reply = place.client.make(rt, call);
+    let reply = make(rt, &mut place.client, call);
     let woke = matches!(reply, Some(Reply::Ok));
     let number = place.calls;
     let cut = place.client.cut();

@@ -1,10 +1,9 @@
 //! What two threads do, with a seat each.
 ghost use Rattle.std.specs.Prelude.{◌≡◌};
 
-use crate::calls;
-use crate::client::{Client, Pair, Worker};
+use crate::client::{Client, Pair, Worker, make};
 use crate::hold::Hold;
-use crate::sample::{Chair, End, Handle, Job};
+use crate::sample::End;
 use mx_types::{Call, HandleId, Reply, State};
 use std::sync::Wait;
 use std::thread::{Threads, join, join_mut};
@@ -18,11 +17,10 @@ pub struct Glance {
 }
 
 // A list of the handles through a seat, where it was answered.
-fn glance_at(multi: &Handle, seat: &mut Chair) -> Option<Glance>
-    requires { seat.old.of ≡ multi.now }
-    ensures { seat.new.of ≡ multi.now }
+fn glance_at(client: &mut Client) -> Option<Glance>
+    ensures { client.new.of ≡ client.old.of }
 {
-    let Some(list) = multi.handles(seat) else {
+    let Some(list) = client.handles() else {
         return None;
     };
     let handles = list.list.as_slice();
@@ -34,23 +32,17 @@ fn glance_at(multi: &Handle, seat: &mut Chair) -> Option<Glance>
 }
 
 // Adds a handle, once more where memory was refused, and lists all at once.
-fn add_and_list<R: Wait>(
-    rt: &R,
-    multi: &Handle,
-    seat: &mut Chair,
-    handle: HandleId,
-) -> (bool, Option<Glance>)
-    requires { seat.old.of ≡ multi.now }
-    ensures { seat.new.of ≡ multi.now }
+fn add_and_list<R: Wait>(rt: &R, client: &mut Client, handle: HandleId) -> (bool, Option<Glance>)
+    ensures { client.new.of ≡ client.old.of }
 {
     let refused = matches!(
-        calls::add(rt, multi, seat, handle, Job),
+        make(rt, client, Call::Add(handle)),
         Some(Reply::OutOfMemory)
     );
     if refused {
-        let _added = calls::add(rt, multi, seat, handle, Job);
+        let _added = make(rt, client, Call::Add(handle));
     }
-    (refused, glance_at(multi, seat))
+    (refused, glance_at(client))
 }
 
 /// What two seats listed, and whether memory was refused for the addition beside them.
@@ -64,13 +56,12 @@ pub struct Listed {
 /// The first seat adds a handle, once more where memory was refused, and lists all at once; the second lists all meanwhile, in a
 /// thread of its own.
 pub fn list_beside<R: Threads + Wait + Sync>(rt: &R, pair: &mut Pair, handle: HandleId) -> Listed {
-    let multi = pair.multi;
     let one = &mut pair.one;
     let two = &mut pair.two;
     let ((refused, first), second) = join_mut(
         rt,
-        &mut || add_and_list(rt, multi, one, handle),
-        &mut || glance_at(multi, two),
+        &mut || add_and_list(rt, one, handle),
+        &mut || glance_at(two),
     );
     Listed {
         refused,
@@ -121,7 +112,7 @@ pub fn read_meanwhile<R: Threads + Wait + Sync>(
 
 // Whether it is a client's turn at a handle, which it resumes or pauses; None where the handle can't be read.
 fn is_next<R: Wait>(rt: &R, client: &mut Client, handle: HandleId, resumes: bool) -> Option<bool> {
-    match client.make(rt, Call::State(handle))? {
+    match client.read(Call::State(handle))? {
         Reply::State(State::Paused(_)) => Some(resumes),
         Reply::State(State::Running(_)) => Some(!resumes),
         _ => None,
@@ -135,7 +126,7 @@ fn take_turn<R: Wait>(rt: &R, client: &mut Client, handle: HandleId, resumes: bo
     } else {
         Call::Pause(handle)
     };
-    let _changed = client.make(rt, call);
+    let _changed = make(rt, client, call);
     let _woke = client.make(rt, Call::Wakeup);
 }
 

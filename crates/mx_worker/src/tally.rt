@@ -8,7 +8,7 @@ ghost use Rattle.mx_worker.specs.Work.{GaveBack, Worked, Lacks, is_recorded_repl
 use crate::queued::Start;
 use mx_journal::{FinishReply, GiveBackReply};
 use mx_lock::TiedClaim;
-use mx_multi::{Multi, WorkerSeat};
+use mx_multi::{AtWork, Seated};
 use mx_types::{Ending, Look, Ticket, Work};
 use std::marker::Model;
 use std::snapshot::Snapshot;
@@ -17,15 +17,15 @@ use std::sync::Wait;
 /// The seat of a running worker, beside the seat as the worker began. Only the calls here touch it. It knows of transfers and of outcomes
 /// no more than a multi handle does, so that no goal of its calls has to look into one.
 #[derive(Drop)]
-pub(crate) struct Tally<Q: Work + Start + Drop, O: Ending + Drop> {
-    start: Snapshot<WorkerSeat<Q, O>>,
-    seat: WorkerSeat<Q, O>,
+pub(crate) struct Tally<'m, Q: Work + Start + Drop, O: Ending + Drop> {
+    start: Snapshot<Seated<'m, AtWork, Q, O>>,
+    seat: Seated<'m, AtWork, Q, O>,
     recorded: u32,
     stale: u32,
     given_back: u32,
 }
 
-impl<Q: Work + Start + Drop, O: Ending + Drop> Model for Tally<Q, O> {
+impl<'m, Q: Work + Start + Drop, O: Ending + Drop> Model for Tally<'m, Q, O> {
     ghost use Rattle.mx_worker.specs.Work.{GaveBack, TallyView, Worked};
 
     ghost Value = { TallyView Q O };
@@ -67,10 +67,10 @@ fn given_back_with<Q: Drop>(given_back: u32, reply: &GiveBackReply<Q>) -> u32
     }
 }
 
-impl<Q: Work + Start + Drop, O: Ending + Drop> Tally<Q, O> {
+impl<'m, Q: Work + Start + Drop, O: Ending + Drop> Tally<'m, Q, O> {
     #[tactic(auto, using(crate::proofs::Tallies::worked_none, crate::proofs::Tallies::gave_none))]
-    pub fn new(seat: WorkerSeat<Q, O>) -> Tally<Q, O>
-        ensures { result.start ≡ seat }
+    pub fn new(seat: Seated<'m, AtWork, Q, O>) -> Tally<'m, Q, O>
+        ensures { result.start ≡ seat.entry }
     {
         Tally {
             start: Snapshot::of(&seat),
@@ -83,13 +83,12 @@ impl<Q: Work + Start + Drop, O: Ending + Drop> Tally<Q, O> {
 
     /// Takes work out of the queue, if there is some.
     #[tactic(auto, using(crate::proofs::Tallies::worked_sees, crate::proofs::Tallies::gave_same))]
-    pub fn claim<R: Wait>(&mut self, rt: &R, multi: &Multi<Q, O>) -> Option<(TiedClaim<Q>, Q)>
-        requires own { self.old.start.of ≡ multi.now }
+    pub fn claim<R: Wait>(&mut self, rt: &R) -> Option<(TiedClaim<Q>, Q)>
         ensures start { self.new.start ≡ self.old.start }
         ensures origin { IfSome result (λ r. Q.origin r.1 ≡ r.0.origin) }
-        ensures claim { IfSome result (λ r. r.0.of ≡ multi.now.engine.ties) }
+        ensures claim { IfSome result (λ r. r.0.of ≡ self.old.start.of.engine.ties) }
     {
-        let Some((claim, work)) = multi.claim(rt, &mut self.seat) else {
+        let Some((claim, work)) = self.seat.claim(rt) else {
             return None;
         };
         Some((claim, work))
@@ -97,11 +96,10 @@ impl<Q: Work + Start + Drop, O: Ending + Drop> Tally<Q, O> {
 
     /// What is told of a transfer. None where no version can be read.
     #[tactic(auto, using(crate::proofs::Tallies::worked_same, crate::proofs::Tallies::gave_as))]
-    pub fn look(&mut self, multi: &Multi<Q, O>, ticket: Ticket) -> Option<Look>
-        requires own { self.old.start.of ≡ multi.now }
+    pub fn look(&mut self, ticket: Ticket) -> Option<Look>
         ensures start { self.new.start ≡ self.old.start }
     {
-        let Some(look) = multi.look(&mut self.seat, ticket) else {
+        let Some(look) = self.seat.look(ticket) else {
             return None;
         };
         Some(look)
@@ -109,32 +107,24 @@ impl<Q: Work + Start + Drop, O: Ending + Drop> Tally<Q, O> {
 
     /// Notes how many bytes of its response a claimed transfer has received.
     #[tactic(auto, using(crate::proofs::Tallies::worked_notes, crate::proofs::Tallies::gave_notes))]
-    pub fn note(&mut self, multi: &Multi<Q, O>, claim: &TiedClaim<Q>, count: u32)
-        requires own { self.old.start.of ≡ multi.now }
+    pub fn note(&mut self, claim: &TiedClaim<Q>, count: u32)
         ensures start { self.new.start ≡ self.old.start }
         ensures noted { self.new.seat ≡ noted_by self.old.seat claim.now.slot claim.now.ticket count }
     {
-        multi.note(&mut self.seat, claim, count);
+        self.seat.note(claim, count);
     }
 
     /// Gives claimed work that has not started back to the queue, and counts it where it went back. False where it didn't, as it runs no
     /// more: it is then dropped.
     #[tactic(auto, using(crate::proofs::Tallies::worked_saw, crate::proofs::Tallies::worked_same, crate::proofs::Tallies::gave_as, crate::proofs::Tallies::gave_back))]
-    pub fn give_back<R: Wait>(
-        &mut self,
-        rt: &R,
-        multi: &Multi<Q, O>,
-        claim: TiedClaim<Q>,
-        work: Q,
-    ) -> bool
-        requires own { self.old.start.of ≡ multi.now }
-        requires claim { claim.of ≡ multi.now.engine.ties }
+    pub fn give_back<R: Wait>(&mut self, rt: &R, claim: TiedClaim<Q>, work: Q) -> bool
+        requires claim { claim.of ≡ self.old.start.of.engine.ties }
         requires origin { Q.origin work ≡ claim.origin }
         requires unstarted { Q.is_started work ≡ false }
         ensures start { self.new.start ≡ self.old.start }
         ensures back { result ≡ true → has_ticket claim.ticket (running self.new.seat.seen) ≡ true }
     {
-        let Ok(reply) = multi.give_back(rt, &mut self.seat, claim, work) else {
+        let Ok(reply) = self.seat.give_back(rt, claim, work) else {
             return false;
         };
         self.given_back = given_back_with(self.given_back, &reply);
@@ -146,18 +136,16 @@ impl<Q: Work + Start + Drop, O: Ending + Drop> Tally<Q, O> {
     pub fn finish<R: Wait>(
         &mut self,
         rt: &R,
-        multi: &Multi<Q, O>,
         claim: TiedClaim<Q>,
         ending: O,
     ) -> Option<(TiedClaim<Q>, O)>
-        requires own { self.old.start.of ≡ multi.now }
-        requires claim { claim.of ≡ multi.now.engine.ties }
+        requires claim { claim.of ≡ self.old.start.of.engine.ties }
         requires origin { O.origin ending ≡ claim.origin }
         ensures start { self.new.start ≡ self.old.start }
         ensures lacking { IfSome result (λ r. Lacks self.old.seat self.new.seat r.0.ticket) }
         ensures back { IfSome result (λ r. (r.0 ≡ claim) × (r.1 ≡ ending)) }
     {
-        let Ok(reply) = multi.finish(rt, &mut self.seat, claim, ending) else {
+        let Ok(reply) = self.seat.finish(rt, claim, ending) else {
             return None;
         };
         self.recorded = recorded_with(self.recorded, &reply);
@@ -170,9 +158,9 @@ impl<Q: Work + Start + Drop, O: Ending + Drop> Tally<Q, O> {
     }
 
     /// The seat, how many ends were recorded and how many were stale, and how many transfers went back to the queue.
-    pub fn into_parts(self) -> (WorkerSeat<Q, O>, u32, u32, u32)
-        ensures ran { Worked self.start result.0 result.1 result.2 }
-        ensures given { GaveBack self.start result.0 result.3 }
+    pub fn into_parts(self) -> (Seated<'m, AtWork, Q, O>, u32, u32, u32)
+        ensures ran { Worked self.entry.start result.0 result.1 result.2 }
+        ensures given { GaveBack self.entry.start result.0 result.3 }
     {
         (self.seat, self.recorded, self.stale, self.given_back)
     }

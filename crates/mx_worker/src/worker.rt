@@ -2,6 +2,7 @@
 ghost use Rattle.std.specs.Prelude.{◌≡◌, ◌<◌, ◌∷◌, ◌++◌, [], None, true, false, IfSome};
 ghost use Rattle.futures.specs.Poll.{IfReady, OnPending};
 ghost use Rattle.mx_worker.specs.Work.{GaveBack, Worked};
+ghost use Rattle.mx_types.specs.Limits.{most_transfers};
 ghost use Rattle.mx_worker.specs.Racks.{in_hand, started};
 
 use crate::links::Links;
@@ -14,7 +15,7 @@ use futures::task::{Doorbell, Poll, Solo};
 use mx_clock::{Deadlines, MOST};
 use mx_gate::{Gate, Turn};
 use mx_link::Link;
-use mx_multi::{Multi, WorkerSeat};
+use mx_multi::{AtWork, Multi, Seated};
 use mx_transfer::{Outcome, Transfer};
 use mx_types::{Look, Ticket};
 use std::alloc::AllocGlobal;
@@ -26,8 +27,8 @@ const LONGEST_WAIT: u64 = 20;
 
 /// What a worker ends with. The counts stay at the greatest number of 32 bits.
 #[derive(Drop)]
-pub struct WorkerEnd<L: Link> {
-    pub seat: WorkerSeat<Queued<L>, Outcome>,
+pub struct WorkerEnd<'m, L: Link> {
+    pub seat: Seated<'m, AtWork, Queued<L>, Outcome>,
     /// How many ends were recorded.
     pub recorded: u32,
     /// How many ends were not recorded, as the transfer didn't run any more.
@@ -47,8 +48,8 @@ struct Tools<L: Link> {
 }
 
 #[derive(Drop)]
-struct Worker<L: Link> {
-    tally: Tally<Queued<L>, Outcome>,
+struct Worker<'m, L: Link> {
+    tally: Tally<'m, Queued<L>, Outcome>,
     rack: Rack<Held<L>, Finished<L>>,
     links: Links<L>,
     deadlines: Deadlines,
@@ -128,11 +129,11 @@ fn set_deadline(deadlines: &mut Deadlines, ticket: Ticket, deadline: Option<u64>
     }
 }
 
-impl<L: Link> Worker<L> {
-    fn new(tools: Tools<L>, seat: WorkerSeat<Queued<L>, Outcome>) -> Worker<L>
+impl<'m, L: Link> Worker<'m, L> {
+    fn new(tools: Tools<L>, seat: Seated<'m, AtWork, Queued<L>, Outcome>) -> Worker<'m, L>
         requires own { tools.rack.of ≡ seat.of.engine.ties }
         requires limit { tools.links.limit ≡ seat.of.max_connects }
-        ensures { result.tally.start ≡ seat }
+        ensures { result.tally.start ≡ seat.entry }
     {
         let Tools { rack, links, solo } = tools;
         Worker {
@@ -146,9 +147,9 @@ impl<L: Link> Worker<L> {
         }
     }
 
-    fn end(self) -> WorkerEnd<L>
-        ensures ran { Worked self.tally.start result.seat result.recorded result.stale }
-        ensures given { GaveBack self.tally.start result.seat result.given_back }
+    fn end(self) -> WorkerEnd<'m, L>
+        ensures ran { Worked self.entry.tally.start result.seat result.recorded result.stale }
+        ensures given { GaveBack self.entry.tally.start result.seat result.given_back }
         ensures served { result.refused ≡ false }
     {
         let (seat, recorded, stale, given_back) = self.tally.into_parts();
@@ -162,14 +163,13 @@ impl<L: Link> Worker<L> {
     }
 
     // Claims a transfer, if there is one and it has room for it.
-    fn claim<R: Wait>(&mut self, rt: &R, multi: &Multi<Queued<L>, Outcome>)
-        requires own { self.old.tally.start.of ≡ multi.now }
+    fn claim<R: Wait>(&mut self, rt: &R)
         ensures start { self.new.tally.start ≡ self.old.tally.start }
     {
         if self.is_stopping || !self.rack.has_room() {
             return;
         }
-        let Some((claim, queued)) = self.tally.claim(rt, multi) else {
+        let Some((claim, queued)) = self.tally.claim(rt) else {
             return;
         };
         let held = Held {
@@ -182,50 +182,42 @@ impl<L: Link> Worker<L> {
     }
 
     // Records an end. One that found no memory is tried again in the next turn.
-    fn record<R: Wait>(&mut self, rt: &R, multi: &Multi<Queued<L>, Outcome>, finished: Finished<L>)
-        requires own { self.old.tally.start.of ≡ multi.now }
-        requires room { in_hand self.old.rack < 64 }
-        requires claim { finished.claim.of ≡ multi.now.engine.ties }
+    fn record<R: Wait>(&mut self, rt: &R, finished: Finished<L>)
+        requires room { in_hand self.old.rack < most_transfers }
+        requires claim { finished.claim.of ≡ self.old.tally.start.of.engine.ties }
         ensures start { self.new.tally.start ≡ self.old.tally.start }
     {
         let Finished { claim, outcome } = finished;
-        if let Some((claim, outcome)) = self.tally.finish(rt, multi, claim, outcome) {
+        if let Some((claim, outcome)) = self.tally.finish(rt, claim, outcome) {
             self.rack.set_aside(Finished { claim, outcome });
         }
     }
 
     // Tries the ends again that found no memory.
-    fn record_again<R: Wait>(&mut self, rt: &R, multi: &Multi<Queued<L>, Outcome>)
-        requires own { self.old.tally.start.of ≡ multi.now }
+    fn record_again<R: Wait>(&mut self, rt: &R)
         ensures start { self.new.tally.start ≡ self.old.tally.start }
     {
         for _ in 0..self.rack.unrecorded() {
             let Some(finished) = self.rack.next_unrecorded() else {
                 return;
             };
-            self.record(rt, multi, finished);
+            self.record(rt, finished);
         }
     }
 
     // Ends a transfer: its end is recorded.
-    fn conclude<R: Wait>(
-        &mut self,
-        rt: &R,
-        multi: &Multi<Queued<L>, Outcome>,
-        finished: Finished<L>,
-    )
-        requires own { self.old.tally.start.of ≡ multi.now }
-        requires room { in_hand self.old.rack < 64 }
-        requires claim { finished.claim.of ≡ multi.now.engine.ties }
+    fn conclude<R: Wait>(&mut self, rt: &R, finished: Finished<L>)
+        requires room { in_hand self.old.rack < most_transfers }
+        requires claim { finished.claim.of ≡ self.old.tally.start.of.engine.ties }
         ensures start { self.new.tally.start ≡ self.old.tally.start }
     {
         self.deadlines.clear(finished.claim.ticket());
-        self.record(rt, multi, finished);
+        self.record(rt, finished);
     }
 
     // Puts a transfer back among those that it holds, after a poll that didn't end it.
     fn resume(&mut self, held: Held<L>, is_paused: bool, had_deadline: bool)
-        requires room { in_hand self.old.rack < 64 }
+        requires room { in_hand self.old.rack < most_transfers }
         requires claim { held.claim.of ≡ self.old.rack.of }
         ensures start { self.new.tally.start ≡ self.old.tally.start }
     {
@@ -242,15 +234,13 @@ impl<L: Link> Worker<L> {
     fn advance<R: Wait, G: Gate<Link = L>>(
         &mut self,
         rt: &R,
-        multi: &Multi<Queued<L>, Outcome>,
         gate: &mut G,
         now: u64,
         held: Held<L>,
         is_paused: bool,
     )
-        requires own { self.old.tally.start.of ≡ multi.now }
-        requires room { in_hand self.old.rack < 64 }
-        requires claim { held.claim.of ≡ multi.now.engine.ties }
+        requires room { in_hand self.old.rack < most_transfers }
+        requires claim { held.claim.of ≡ self.old.tally.start.of.engine.ties }
         ensures start { self.new.tally.start ≡ self.old.tally.start }
     {
         let Held {
@@ -263,34 +253,26 @@ impl<L: Link> Worker<L> {
             self.links.supply(gate, &mut transfer);
         }
         let polled = poll_once(&self.solo, &mut transfer);
-        self.tally.note(multi, &claim, transfer.received());
+        self.tally.note(&claim, transfer.received());
         self.links.keep(&mut transfer);
         match polled {
-            Poll::Ready(outcome) => self.conclude(rt, multi, Finished { claim, outcome }),
+            Poll::Ready(outcome) => self.conclude(rt, Finished { claim, outcome }),
             Poll::Pending => self.resume(Held { claim, transfer }, is_paused, had_deadline),
         }
     }
 
     // Looks at a transfer, and polls it unless it runs no more: then it is dropped with its link.
-    fn serve<R: Wait, G: Gate<Link = L>>(
-        &mut self,
-        rt: &R,
-        multi: &Multi<Queued<L>, Outcome>,
-        gate: &mut G,
-        now: u64,
-        held: Held<L>,
-    )
-        requires own { self.old.tally.start.of ≡ multi.now }
-        requires room { in_hand self.old.rack < 64 }
-        requires claim { held.claim.of ≡ multi.now.engine.ties }
+    fn serve<R: Wait, G: Gate<Link = L>>(&mut self, rt: &R, gate: &mut G, now: u64, held: Held<L>)
+        requires room { in_hand self.old.rack < most_transfers }
+        requires claim { held.claim.of ≡ self.old.tally.start.of.engine.ties }
         ensures start { self.new.tally.start ≡ self.old.tally.start }
     {
         let ticket = held.ticket();
-        match self.tally.look(multi, ticket) {
+        match self.tally.look(ticket) {
             Some(Look::Gone) => self.deadlines.clear(ticket),
-            Some(Look::Go) => self.advance(rt, multi, gate, now, held, false),
-            Some(Look::Paused) => self.advance(rt, multi, gate, now, held, true),
-            None => self.advance(rt, multi, gate, now, held, true),
+            Some(Look::Go) => self.advance(rt, gate, now, held, false),
+            Some(Look::Paused) => self.advance(rt, gate, now, held, true),
+            None => self.advance(rt, gate, now, held, true),
         }
     }
 
@@ -298,13 +280,11 @@ impl<L: Link> Worker<L> {
     fn serve_those<R: Wait, G: Gate<Link = L>>(
         &mut self,
         rt: &R,
-        multi: &Multi<Queued<L>, Outcome>,
         gate: &mut G,
         now: u64,
         due: &ArrayVec<Ticket, MOST>,
         is_due: bool,
     )
-        requires own { self.old.tally.start.of ≡ multi.now }
         ensures start { self.new.tally.start ≡ self.old.tally.start }
     {
         for _ in 0..self.rack.held() {
@@ -312,7 +292,7 @@ impl<L: Link> Worker<L> {
                 return;
             };
             if due.as_slice().contains(&held.ticket()) == is_due {
-                self.serve(rt, multi, gate, now, held);
+                self.serve(rt, gate, now, held);
             } else {
                 self.rack.hold(held);
             }
@@ -320,10 +300,9 @@ impl<L: Link> Worker<L> {
     }
 
     // Gives a transfer back that has not started. One that has is held on.
-    fn hand_back<R: Wait>(&mut self, rt: &R, multi: &Multi<Queued<L>, Outcome>, held: Held<L>)
-        requires own { self.old.tally.start.of ≡ multi.now }
-        requires room { in_hand self.old.rack < 64 }
-        requires claim { held.claim.of ≡ multi.now.engine.ties }
+    fn hand_back<R: Wait>(&mut self, rt: &R, held: Held<L>)
+        requires room { in_hand self.old.rack < most_transfers }
+        requires claim { held.claim.of ≡ self.old.tally.start.of.engine.ties }
         ensures start { self.new.tally.start ≡ self.old.tally.start }
         ensures held { self.new.rack.held ≡ self.old.rack.held ++ started (held.transfer.chain.now.is_started ∷ []) }
         ensures stopping { self.new.is_stopping ≡ self.old.is_stopping }
@@ -334,13 +313,12 @@ impl<L: Link> Worker<L> {
         }
         self.deadlines.clear(held.ticket());
         let Held { claim, transfer } = held;
-        self.tally.give_back(rt, multi, claim, Queued::of(transfer));
+        self.tally.give_back(rt, claim, Queued::of(transfer));
     }
 
     // Claims nothing from now on, and gives back what has not started, in order of claim.
     #[tactic(auto, using(crate::proofs::Racks::rotates_on))]
-    fn stop<R: Wait>(&mut self, rt: &R, multi: &Multi<Queued<L>, Outcome>)
-        requires own { self.old.tally.start.of ≡ multi.now }
+    fn stop<R: Wait>(&mut self, rt: &R)
         ensures start { self.new.tally.start ≡ self.old.tally.start }
         ensures held { self.new.rack.held ≡ started self.old.rack.held }
         ensures stopping { self.new.is_stopping ≡ true }
@@ -350,36 +328,30 @@ impl<L: Link> Worker<L> {
             let Some(held) = self.rack.next() else {
                 unreachable!()
             };
-            self.hand_back(rt, multi, held);
+            self.hand_back(rt, held);
         }
     }
 
     // One turn.
-    fn turn<R: Wait, G: Gate<Link = L>>(
-        &mut self,
-        rt: &R,
-        multi: &Multi<Queued<L>, Outcome>,
-        gate: &mut G,
-    )
-        requires own { self.old.tally.start.of ≡ multi.now }
+    fn turn<R: Wait, G: Gate<Link = L>>(&mut self, rt: &R, gate: &mut G)
         ensures start { self.new.tally.start ≡ self.old.tally.start }
     {
         let now = gate.now();
         self.asks = false;
-        self.claim(rt, multi);
-        self.record_again(rt, multi);
+        self.claim(rt);
+        self.record_again(rt);
         let due = self.deadlines.due(now);
         if !due.is_empty() {
-            self.serve_those(rt, multi, gate, now, &due, true);
+            self.serve_those(rt, gate, now, &due, true);
         }
-        self.serve_those(rt, multi, gate, now, &due, false);
+        self.serve_those(rt, gate, now, &due, false);
         let wait = if self.asks {
             0
         } else {
             wait_ms(&self.deadlines, now)
         };
         if matches!(gate.turn(wait), Turn::Stop) && !self.is_stopping {
-            self.stop(rt, multi);
+            self.stop(rt);
         }
     }
 
@@ -398,18 +370,16 @@ impl<L: Link> Worker<L> {
 /// No clause says in which order it goes through what it holds, how long it has its gate wait, or that it ends: one that has started and
 /// stays paused keeps it.
 #[tactic(auto, using(crate::proofs::Tallies::worked_none, crate::proofs::Tallies::gave_none))]
-pub fn run_worker<L: Link, R: Wait + RandomSource + AllocGlobal, G: Gate<Link = L>>(
+pub fn run_worker<'m, L: Link, R: Wait + RandomSource + AllocGlobal, G: Gate<Link = L>>(
     rt: &R,
-    multi: &Multi<Queued<L>, Outcome>,
-    seat: WorkerSeat<Queued<L>, Outcome>,
+    seat: Seated<'m, AtWork, Queued<L>, Outcome>,
     gate: &mut G,
-) -> WorkerEnd<L>
-    requires own { seat.of ≡ multi.now }
-    ensures ran { Worked seat result.seat result.recorded result.stale }
-    ensures given { GaveBack seat result.seat result.given_back }
-    ensures refused { result.refused ≡ true → result.seat ≡ seat }
+) -> WorkerEnd<'m, L>
+    ensures ran { Worked seat.entry result.seat result.recorded result.stale }
+    ensures given { GaveBack seat.entry result.seat result.given_back }
+    ensures refused { result.refused ≡ true → result.seat ≡ seat.entry }
 {
-    let Some(tools) = make_tools(rt, multi) else {
+    let Some(tools) = make_tools(rt, seat.multi()) else {
         return WorkerEnd {
             seat,
             recorded: 0,
@@ -420,7 +390,7 @@ pub fn run_worker<L: Link, R: Wait + RandomSource + AllocGlobal, G: Gate<Link = 
     };
     let mut worker = Worker::new(tools, seat);
     for _ in rt.forever() {
-        worker.turn(rt, multi, gate);
+        worker.turn(rt, gate);
         if worker.is_over() {
             return worker.end();
         }

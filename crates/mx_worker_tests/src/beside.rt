@@ -1,35 +1,36 @@
 //! Workers on threads of their own, and one more thread that reads the messages.
-ghost use Rattle.std.specs.Prelude.{◌≡◌, All, IfOk};
+ghost use Rattle.std.specs.Prelude.{◌≡◌, All};
 
 use crate::reader::Reader;
+use mx_crew::{Counts, Crew, Post, posts, run_beside};
 use mx_gate::Gate;
 use mx_link::Link;
-use mx_multi::{Multi, Seat, WorkerSeat};
+use mx_multi::{Application, Multi, Seat, Seated, WorkerSeat};
 use mx_transfer::Outcome;
-use mx_types::{Ending, Work};
-use mx_worker::{Queued, run_crew};
+use mx_types::OutOfMemory;
+use mx_worker::Queued;
 use mx_worker_workload::desk::{Desk, Parts};
 use mx_worker_workload::messages::{Message, is_answer};
-use std::alloc::{AllocError, AllocGlobal, Global};
+use std::alloc::{AllocGlobal, Global};
 use std::random::RandomSource;
 use std::rt::Clock;
 use std::sync::atomic::{AtomicBool, Ordering};
-use std::sync::{Arc, Wait};
+use std::sync::Wait;
 use std::test::Fail;
-use std::thread::{Threads, join};
+use std::thread::Threads;
 
 /// What the threads tell each other: that a message was read, and that both were.
 #[derive(Drop)]
 pub struct Flags {
     pub is_read: AtomicBool,
-    pub stop: Arc<AtomicBool>,
+    pub crew: Crew,
 }
 
 impl Flags {
-    pub fn new(alloc: Global) -> Result<Flags, AllocError> {
+    pub fn new(alloc: Global) -> Result<Flags, OutOfMemory> {
         Ok(Flags {
             is_read: AtomicBool::new(false),
-            stop: Arc::new(alloc, AtomicBool::new(false))?,
+            crew: Crew::new(alloc)?,
         })
     }
 }
@@ -71,93 +72,58 @@ fn is_there(message: Option<Message>, answer: &Answer<'_>) -> bool {
 // Whether the two answers come. The workers are told of each; where a URL is to come later it is added between them.
 fn read_both<L: Link, R: Wait + Clock + AllocGlobal>(
     rt: &R,
-    multi: &Multi<Queued<L>, Outcome>,
-    seat: Seat<Queued<L>, Outcome>,
+    seat: Seated<'_, Application, Queued<L>, Outcome>,
     flags: &Flags,
     plan: &Plan<'_>,
-) -> (bool, bool)
-    requires own { seat.of ≡ multi.now }
-{
-    let mut reader = Reader::of(multi, seat);
+) -> (bool, bool) {
+    let mut reader = Reader::of(seat);
     let first = is_there(reader.await_message(rt), &plan.first);
     flags.is_read.store(true, Ordering::SeqCst);
     if let Some(url) = plan.later {
         reader.add(rt, 2, url);
     }
     let second = is_there(reader.await_message(rt), &plan.second);
-    flags.stop.store(true, Ordering::SeqCst);
     (first, second)
 }
 
-// Runs a crew. It answers how many ends its workers recorded together, and how many the one that recorded most.
-fn work_all<
-    L: Link + Send,
-    R: Threads + Wait + RandomSource + AllocGlobal + Sync,
-    G: Gate<Link = L> + Send + Drop,
->(
-    rt: &R,
-    multi: &Multi<Queued<L>, Outcome>,
-    crew: Vec<(WorkerSeat<Queued<L>, Outcome>, G)>,
-) -> Option<(u32, u32)>
-    requires own { All (λ m. m.0.of ≡ multi.now) crew.items }
-{
-    let Ok(ends) = run_crew(rt, multi, crew) else {
-        return None;
-    };
+// How many ends the workers recorded together, and how many the one that recorded most.
+fn recorded(counts: &[Counts]) -> (u32, u32) {
     let (mut all, mut most) = (0u32, 0u32);
-    for end in ends {
-        all = all.saturating_add(end.recorded);
-        most = most.max(end.recorded);
+    for count in counts {
+        all = all.saturating_add(count.recorded);
+        most = most.max(count.recorded);
     }
-    Some((all, most))
+    (all, most)
 }
 
-// Runs a crew, and reads beside it.
-fn run_beside<
+// Runs a worker at each post, and reads beside them.
+fn read_beside<
+    'm,
     L: Link + Send,
     R: Threads + Wait + RandomSource + AllocGlobal + Clock + Sync,
     G: Gate<Link = L> + Send + Drop,
 >(
     rt: &R,
-    multi: &Multi<Queued<L>, Outcome>,
-    seat: Seat<Queued<L>, Outcome>,
-    crew: Vec<(WorkerSeat<Queued<L>, Outcome>, G)>,
+    seat: Seated<'m, Application, Queued<L>, Outcome>,
+    posts: Vec<Post<'m, L, G>>,
     flags: &Flags,
     plan: &Plan<'_>,
-) -> Came
-    requires seat { seat.of ≡ multi.now }
-    requires crew { All (λ m. m.0.of ≡ multi.now) crew.items }
-{
-    let (recorded, answers) = join(
+) -> Came {
+    match run_beside(
         rt,
-        move ||
-            requires { All (λ m. m.0.of ≡ multi.now) crew.items }
-        { work_all(rt, multi, crew) },
-        move || read_both(rt, multi, seat, flags, plan),
-    );
-    Came { recorded, answers }
-}
-
-// A worker's seat with each gate, as far as there are seats.
-fn crew_of<Q: Work + Drop, O: Ending + Drop, G: Drop>(
-    alloc: Global,
-    multi: &Multi<Q, O>,
-    workers: Vec<WorkerSeat<Q, O>>,
-    gates: Vec<G>,
-) -> Result<Vec<(WorkerSeat<Q, O>, G)>, AllocError>
-    requires { All (λ s. s.of ≡ multi.now) workers.items }
-    ensures { IfOk result (λ crew. All (λ m. m.0.of ≡ multi.now) crew.items) }
-{
-    let _ = multi;
-    let (mut workers, mut gates) = (workers, gates);
-    let mut crew = Vec::new(alloc);
-    while let Some(seat) = workers.pop() {
-        let Some(gate) = gates.pop() else {
-            return Ok(crew);
-        };
-        crew.push((seat, gate))?;
+        &flags.crew,
+        posts,
+        move || read_both(rt, seat, flags, plan),
+    ) {
+        Ok((answers, counts)) => Came {
+            recorded: Some(recorded(counts.as_slice())),
+            answers,
+        },
+        Err(_) => Came {
+            recorded: None,
+            answers: (false, false),
+        },
     }
-    Ok(crew)
 }
 
 // Runs a worker for each gate, of at most two, each in a thread of its own, and reads two messages beside them.
@@ -177,8 +143,8 @@ fn run_gates<
     requires seat { seat.of ≡ multi.now }
     requires workers { All (λ s. s.of ≡ multi.now) workers.items }
 {
-    let crew = crew_of(rt.alloc(), multi, workers, gates)?;
-    Ok(run_beside(rt, multi, seat, crew, flags, plan))
+    let posts = posts(rt.alloc(), multi, workers, gates)?;
+    Ok(read_beside(rt, multi.at(seat), posts, flags, plan))
 }
 
 // The same, at the multi handle of a desk.

@@ -66,21 +66,18 @@ fn outcome_of(solo: &Solo, queued: Queued<ScriptLink>, is_paused: bool) -> Optio
 // any of this went otherwise.
 fn end_claimed<R: Wait>(
     rt: &R,
-    multi: &Multi<Queued<ScriptLink>, Outcome>,
-    worker: &mut WorkerSeat<Queued<ScriptLink>, Outcome>,
+    worker: &mut Seated<'_, AtWork, Queued<ScriptLink>, Outcome>,
     solo: &Solo,
-) -> Option<bool>
-    requires own { worker.old.of ≡ multi.now }
-{
-    let Some((claim, queued)) = multi.claim(rt, worker) else {
+) -> Option<bool> {
+    let Some((claim, queued)) = worker.claim(rt) else {
         return None;
     };
-    let look = multi.look(worker, claim.ticket());
+    let look = worker.look(claim.ticket());
     let is_paused = matches!(look, Some(Look::Paused));
     let Some(outcome) = outcome_of(solo, queued, is_paused) else {
         return None;
     };
-    match multi.finish(rt, worker, claim, outcome) {
+    match worker.finish(rt, claim, outcome) {
         Ok(FinishReply::Recorded) => Some(is_paused),
         _ => None,
     }
@@ -97,7 +94,7 @@ fn end_by_hand<R: Wait + RandomSource + AllocGlobal>(
     let solo = Solo::new(rt, Doorbell::spinning())?;
     let mut workers = workers;
     let ended = match workers.pop() {
-        Some(mut worker) => end_claimed(rt, multi, &mut worker, &solo),
+        Some(worker) => end_claimed(rt, &mut multi.at(worker), &solo),
         None => None,
     };
     Ok(ended.ok_or("it isn't ended by hand")?)

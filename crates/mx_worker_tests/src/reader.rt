@@ -1,9 +1,6 @@
-//! A seat beside its multi handle, for a thread of its own.
-ghost use Rattle.std.specs.Prelude.{◌≡◌};
-
+//! A seat with its multi handle, for a thread of its own.
 use mx_link::Link;
-use mx_multi::{Multi, Seat};
-use mx_multi_workload::calls;
+use mx_multi::{Application, Seated};
 use mx_transfer::Outcome;
 use mx_types::HandleId;
 use mx_worker::Queued;
@@ -21,16 +18,12 @@ pub const LOOKS: u32 = 60_000;
 /// A seat that reads messages.
 #[derive(Drop)]
 pub struct Reader<'m, L: Link> {
-    multi: &'m Multi<Queued<L>, Outcome>,
-    seat: Seat<Queued<L>, Outcome>,
-    ghost own: { seat.of ≡ multi.now },
+    seat: Seated<'m, Application, Queued<L>, Outcome>,
 }
 
 impl<'m, L: Link> Reader<'m, L> {
-    pub fn of(multi: &'m Multi<Queued<L>, Outcome>, seat: Seat<Queued<L>, Outcome>) -> Reader<'m, L>
-        requires { seat.of ≡ multi.now }
-    {
-        Reader { multi, seat }
+    pub fn of(seat: Seated<'m, Application, Queued<L>, Outcome>) -> Reader<'m, L> {
+        Reader { seat }
     }
 
     /// Adds a GET of the URL, which has five seconds, where there is memory for its request.
@@ -39,12 +32,12 @@ impl<'m, L: Link> Reader<'m, L> {
             return;
         };
         let work = Queued::new(rt.alloc(), request);
-        let _reply = calls::add(rt, self.multi, &mut self.seat, HandleId(handle), work);
+        let _reply = self.seat.add(rt, HandleId(handle), work);
     }
 
     // The first message, if there is one.
     fn read<R: Wait>(&mut self, rt: &R) -> Option<Message> {
-        messages::read(rt, self.multi, &mut self.seat).unwrap_or(None)
+        messages::read_at(rt, &mut self.seat).unwrap_or(None)
     }
 
     /// The first message, once it is there; None where it doesn't come.

@@ -5,7 +5,7 @@ use crate::responses::AT_ONCE;
 use crate::script::{Step, desk_after};
 use mx_gate::ScriptGate;
 use mx_link::ScriptLink;
-use mx_multi::{Multi, WorkerSeat};
+use mx_multi::{AtWork, Multi, Seated, WorkerSeat};
 use mx_transfer::Outcome;
 use mx_worker::{Queued, run_worker};
 use mx_worker_workload::desk::Parts;
@@ -44,19 +44,16 @@ impl<'a, R> RandomSource for Unlucky<'a, R> {
 // not, and transfers it gave back, all together, and how many ends the second recorded; None where one of them was refused otherwise.
 fn start_twice<R: Wait + RandomSource + AllocGlobal>(
     rt: &R,
-    multi: &Multi<Queued<ScriptLink>, Outcome>,
-    worker: WorkerSeat<Queued<ScriptLink>, Outcome>,
+    worker: Seated<'_, AtWork, Queued<ScriptLink>, Outcome>,
     gate: &mut ScriptGate<ScriptLink>,
-) -> Option<(u32, u32)>
-    requires own { worker.of ≡ multi.now }
-{
-    let end = run_worker(&Unlucky { rt }, multi, worker, gate);
+) -> Option<(u32, u32)> {
+    let end = run_worker(&Unlucky { rt }, worker, gate);
     if !end.refused {
         return None;
     }
     let ended = end.recorded.saturating_add(end.stale);
     let done = ended.saturating_add(end.given_back);
-    match runs::work(rt, multi, end.seat, gate) {
+    match runs::work(rt, end.seat, gate) {
         Some(ran) => Some((done, ran.recorded)),
         None => None,
     }
@@ -73,7 +70,7 @@ fn start_at<R: Wait + RandomSource + AllocGlobal>(
     let mut gate = gate_with(rt.alloc(), 1, &[AT_ONCE], &[])?;
     let mut workers = workers;
     let told = match workers.pop() {
-        Some(worker) => start_twice(rt, multi, worker, &mut gate),
+        Some(worker) => start_twice(rt, multi.at(worker), &mut gate),
         None => None,
     };
     Ok(told.ok_or("the starts went otherwise")?)

@@ -5,8 +5,7 @@ use crate::responses::{AT_ONCE, SILENT};
 use crate::script::{Step, desk_after};
 use mx_gate::{Gate, Turn};
 use mx_link::{ScriptLink, ScriptRead};
-use mx_multi::{Multi, Seat};
-use mx_multi_workload::calls;
+use mx_multi::{Application, Seated};
 use mx_request::Endpoint;
 use mx_transfer::Outcome;
 use mx_types::{Call, Code, HandleId};
@@ -32,19 +31,17 @@ enum Removal {
 struct Remover<'a, R: Wait> {
     rt: &'a R,
     alloc: Global,
-    multi: &'a Multi<Queued<ScriptLink>, Outcome>,
-    seat: Seat<Queued<ScriptLink>, Outcome>,
+    seat: Seated<'a, Application, Queued<ScriptLink>, Outcome>,
     removal: Removal,
     turns: u32,
     /// How many links it has opened.
     opened: u32,
-    ghost own: { seat.of ≡ multi.now },
 }
 
 impl<'a, R: Wait> Remover<'a, R> {
     fn remove(&mut self) {
         let call = Call::Remove(HandleId(1));
-        let _removed = calls::make(self.rt, self.multi, &mut self.seat, call);
+        let _removed = self.seat.make(self.rt, call);
     }
 }
 
@@ -104,13 +101,12 @@ fn count<R: Wait + RandomSource + AllocGlobal>(
     let mut gate = Remover {
         rt,
         alloc: rt.alloc(),
-        multi: &multi,
-        seat,
+        seat: multi.at(seat),
         removal,
         turns: 2,
         opened: 0,
     };
-    match runs::work(rt, &multi, worker, &mut gate) {
+    match runs::work(rt, multi.at(worker), &mut gate) {
         Some(ran) => Ok((ran.recorded, ran.stale, ran.given_back, gate.opened)),
         None => Err("no memory".into()),
     }

@@ -129,7 +129,7 @@ fn fetch<
         + Sync,
 >(rt: &R, one: &Asked, two: &Asked, max_connects: u8) -> Result<Came, Fail> {
     let flags = Flags::new(rt.alloc())?;
-    let gates = one_gate(rt, Arc::try_clone(&flags.stop)?)?;
+    let gates = one_gate(rt, flags.crew.stop()?)?;
     let plan = plan_of(one, two);
     run_plan(rt, max_connects, &[one.url.as_str()], gates, &flags, &plan)
 }

@@ -75,7 +75,7 @@ impl<'a, R: Clock + AllocGlobal> Gate for HoldingGate<'a, R> {
         ensures moment { self.new.moment ≡ self.old.moment }
     {
         thread::sleep(self.rt, Duration::from_millis(u64::from(wait_ms.min(1))));
-        if self.flags.stop.load(Ordering::SeqCst) {
+        if self.flags.crew.is_dismissed() {
             Turn::Stop
         } else {
             Turn::Continue

@@ -5,9 +5,9 @@ use crate::messages::Message;
 use crate::runs::Ran;
 use crate::{messages, runs};
 use mx_gate::Gate;
+use mx_journal::AddReply;
 use mx_link::{Link, ScriptLink};
 use mx_multi::{Limits, Multi, Progress, Seat, WorkerSeat};
-use mx_multi_workload::calls;
 use mx_multi_workload::entries::text_of;
 use mx_request::Request;
 use mx_transfer::Outcome;
@@ -135,9 +135,9 @@ impl<L: Link> Desk<L> {
         request: Request,
     ) -> Result<(), Fail> {
         let work = Queued::new(alloc, request);
-        match calls::add(rt, &self.multi, &mut self.seat, HandleId(handle), work) {
-            Some(Reply::Added(_)) => Ok(()),
-            Some(Reply::OutOfMemory) => Err(OutOfMemory.into()),
+        match self.multi.add(rt, &mut self.seat, HandleId(handle), work) {
+            Ok(AddReply::Added(_)) => Ok(()),
+            Ok(AddReply::OutOfMemory(_)) => Err(OutOfMemory.into()),
             _ => Err("it isn't added".into()),
         }
     }
@@ -173,7 +173,7 @@ impl<L: Link> Desk<L> {
         call: Call,
         answer: &str,
     ) -> Result<(), Fail> {
-        let reply = calls::make(rt, &self.multi, &mut self.seat, call);
+        let reply = self.multi.make(rt, &mut self.seat, call);
         check(alloc, reply, answer)
     }
 
@@ -226,7 +226,7 @@ impl<L: Link> Desk<L> {
 
     /// How far the handle's transfer is.
     pub fn progress(&mut self, handle: u32) -> Option<Progress> {
-        calls::progress(&self.multi, &mut self.seat, HandleId(handle))
+        self.multi.progress(&mut self.seat, HandleId(handle))
     }
 
     /// Runs a worker over the gate, on a seat that no worker had before. `OutOfMemory` comes where its start found no memory, and where
@@ -239,7 +239,7 @@ impl<L: Link> Desk<L> {
         let Some(seat) = self.workers.pop() else {
             return Err(OutOfMemory);
         };
-        runs::work(rt, &self.multi, seat, gate).ok_or(OutOfMemory)
+        runs::work(rt, self.multi.at(seat), gate).ok_or(OutOfMemory)
     }
 
     /// Runs a worker over the gate, which is to record so many ends and to give back so many transfers.

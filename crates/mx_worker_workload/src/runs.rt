@@ -1,9 +1,7 @@
 //! Requests, and a worker's run.
-ghost use Rattle.std.specs.Prelude.{◌≡◌};
-
 use mx_gate::Gate;
 use mx_link::Link;
-use mx_multi::{Multi, WorkerSeat};
+use mx_multi::{AtWork, Seated};
 use mx_request::{Request, RequestError};
 use mx_transfer::Outcome;
 use mx_types::{Method, Settings};
@@ -41,15 +39,12 @@ pub struct Ran {
 /// Runs a worker, once more where memory for its start was refused; None where it was refused again.
 pub fn work<L: Link, R: Wait + RandomSource + AllocGlobal, G: Gate<Link = L>>(
     rt: &R,
-    multi: &Multi<Queued<L>, Outcome>,
-    seat: WorkerSeat<Queued<L>, Outcome>,
+    seat: Seated<'_, AtWork, Queued<L>, Outcome>,
     gate: &mut G,
-) -> Option<Ran>
-    requires { seat.of ≡ multi.now }
-{
+) -> Option<Ran> {
     let mut seat = seat;
     for _ in 0..2 {
-        let end = run_worker(rt, multi, seat, gate);
+        let end = run_worker(rt, seat, gate);
         if !end.refused {
             return Some(Ran {
                 recorded: end.recorded,

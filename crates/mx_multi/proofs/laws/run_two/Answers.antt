@@ -1,7 +1,7 @@
 use Rattle.std.proofs.Crossing.{crosses}
-use Rattle.mx_multi.proofs.laws.Step.TheSendSync.{the_send as step_send, the_sync as step_sync}
 use denote.Param.Send.{sendable}
-use Rattle.mx_multi.proofs.Sends.{multi_sync, seat_send}
+use Rattle.mx_types.proofs.call.Call.TheSendSync.{the_send as call_send, the_sync as call_sync}
+use Rattle.mx_multi.proofs.Sends.{application_send, multi_sync, seat_send}
 use Rattle.std.proofs.Common.{rules, take}
 use Rattle.mx_multi.specs.Laws.{RanScript}
 use Rattle.mx_multi.proofs.Runs.{script_met}
@@ -16,4 +16,4 @@ returns-in-Ok g c =
     (record { seen = met.2; legal = met.0.legal }, script_met _ _ _ _ one met.0 claims.0, script_met _ _ _ _ two met.1 claims.1)
 
 pub join-first-requires-send-F : goal.join-first-requires-send-F
-join-first-requires-send-F g c κs within = search (multi_sync, seat_send, step_sync, step_send, sendable, crosses) depth 40 fits 20000
+join-first-requires-send-F g c κs within = search (multi_sync, seat_send, application_send, call_sync, call_send, sendable, crosses) depth 40 fits 20000

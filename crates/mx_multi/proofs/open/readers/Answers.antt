@@ -1,5 +1,5 @@
 use Rattle.std.proofs.Common.{◌∙◌, ◌+◌, ◌∷◌, [], ap, sym, subst, length, length-append, arith}
-use Rattle.mx_lock.specs.Shared.{SharedState}
+use Rattle.mx_lock.specs.Engine.{EngineState}
 use Rattle.mx_multi.specs.Opening.{AreReaders}
 use Rattle.mx_multi.proofs.Opening.{readers_more, reader_is}
 use Rattle.mx_multi.proofs.open.readers.Goals as goal
@@ -11,8 +11,8 @@ loop-number-preserved g c =
     let was = c.loop-number.readers.items in
     let start = c.args.shared.now in
     let r = c.in-Some.reader in
-    let journal = ap (λ (z : SharedState g.row.Q.Denot g.row.O.Denot). z.core.journal) inv.0 ∙ c.requires.none in
-    let book = ap (λ (z : SharedState g.row.Q.Denot g.row.O.Denot). z.book) inv.0 in (
+    let journal = ap (λ (z : EngineState g.row.Q.Denot g.row.O.Denot). z.core.journal) inv.0 ∙ c.requires.none in
+    let book = ap (λ (z : EngineState g.row.Q.Denot g.row.O.Denot). z.book) inv.0 in (
       c.reader.ensures.same ∙ inv.0,
       subst (AreReaders c.args.worker 0 start.book) (sym items)
           (readers_more c.args.worker 0 start.book was r inv.1 (reader_is c.args.worker c.loop-number.number (0 + length was) _ _ _ start.book r c.in-Some.ensures.is c.maker.ensures journal book (omega (arith, inv.2)))),

@@ -27,7 +27,7 @@ loop-reader-preserved g c =
     let key = c.another-key.result in
     let of : MultiView g.row.Q.Denot g.row.O.Denot = record { table = key.table_id; keys = key.me.0.of; engine = engine_of (view key); words = c.in-Some-pop.own_notes.of; max_connects = c.of.result.value } in
     let at : n ≡ 0 + length was = omega (arith, inv.made) in
-    let none = ap (λ (z : TieState). z.ties) c.again.ensures ∙ c.requires.ties.0 in
+    let none = ap (λ (z : TieState). z.entries) c.again.ensures ∙ c.requires.ties.0 in
     record {
       own = c.another-key.ensures.kept.0;
       founder = c.another-key.ensures.kept.1 ∙ ap parent inv.founder ∙ ap (founder_at e) next;

@@ -25,7 +25,7 @@ invariant_of-seat-2 g c =
       seat_after _ _ c.seat.inside.reader x c.seat.invariant.0 took _ _ y c.leave.ensures.gave c.leave.ensures.reader leaves.book,
       k.2,
       received_more _ _ _ _
-          (lock_stands _ _ c.seat.inside.reader x c.seat.invariant.0 took _ c.leave.new.reader y c.leave.ensures.gave c.leave.ensures.reader _ _ c.seat.inside.polled c.seat.inside.polled c.seat.inside.notes c.seat.inside.ties.ties c.leave.new.ties.ties c.seat.inside.mine c.seat.inside.given c.note_receipt.new.mine _ _ _ c.leave.ensures.told.1 refl (same_of _ _ _ c.args.self.now c.args.seat.now c.requires.own c.self.view_is (ap (λ (s : SeatView g.row.Q.Denot g.row.O.Denot). s.of) c.seat.view_is) k.0 k.1 (engine_kept _ _ c.seat.inside.reader x c.seat.invariant.0 took _ y c.leave.ensures.gave) refl refl)
+          (lock_stands _ _ c.seat.inside.reader x c.seat.invariant.0 took _ c.leave.new.reader y c.leave.ensures.gave c.leave.ensures.reader _ _ c.seat.inside.polled c.seat.inside.polled c.seat.inside.notes c.seat.inside.ties.entries c.leave.new.ties.entries c.seat.inside.mine c.seat.inside.given c.note_receipt.new.mine _ _ _ c.leave.ensures.told.1 refl (same_of _ _ _ c.args.self.now c.args.seat.now c.requires.own c.self.view_is (ap (λ (s : SeatView g.row.Q.Denot g.row.O.Denot). s.of) c.seat.view_is) k.0 k.1 (engine_kept _ _ c.seat.inside.reader x c.seat.invariant.0 took _ y c.leave.ensures.gave) refl refl)
           c.who-who.ensures.is c.in-Some.ensures.entered.1 leaves (quiet_mark _ _ _ quiet) (λ is. absurd (false≢true (sym quiet ∙ is)))
           (receipt_is _ _ _ _ _ _ _ _ c.note_receipt.ensures c.cut-cut.ensures c.as_call-call.ensures c.as_reply.ensures))
           c.seat.invariant.2,
@@ -41,7 +41,7 @@ returns-clause-stands g c =
     let leaves = c.run-taken.ensures.leaves in
     let quiet = c.run-taken.ensures.quiet in
     stands_from _ _ _ _ _ c.seat.view_is
-    (lock_stands _ _ c.seat.inside.reader x c.seat.invariant.0 took _ c.leave.new.reader y c.leave.ensures.gave c.leave.ensures.reader _ _ c.seat.inside.polled c.seat.inside.polled c.seat.inside.notes c.seat.inside.ties.ties c.leave.new.ties.ties c.seat.inside.mine c.seat.inside.given c.note_receipt.new.mine _ _ _ c.leave.ensures.told.1 refl (same_of _ _ _ c.args.self.now c.args.seat.now c.requires.own c.self.view_is (ap (λ (s : SeatView g.row.Q.Denot g.row.O.Denot). s.of) c.seat.view_is) k.0 k.1 (engine_kept _ _ c.seat.inside.reader x c.seat.invariant.0 took _ y c.leave.ensures.gave) refl refl)
+    (lock_stands _ _ c.seat.inside.reader x c.seat.invariant.0 took _ c.leave.new.reader y c.leave.ensures.gave c.leave.ensures.reader _ _ c.seat.inside.polled c.seat.inside.polled c.seat.inside.notes c.seat.inside.ties.entries c.leave.new.ties.entries c.seat.inside.mine c.seat.inside.given c.note_receipt.new.mine _ _ _ c.leave.ensures.told.1 refl (same_of _ _ _ c.args.self.now c.args.seat.now c.requires.own c.self.view_is (ap (λ (s : SeatView g.row.Q.Denot g.row.O.Denot). s.of) c.seat.view_is) k.0 k.1 (engine_kept _ _ c.seat.inside.reader x c.seat.invariant.0 took _ y c.leave.ensures.gave) refl refl)
     c.who-who.ensures.is c.in-Some.ensures.entered.1 leaves (quiet_mark _ _ _ quiet) (λ is. absurd (false≢true (sym quiet ∙ is)))
     (receipt_is _ _ _ _ _ _ _ _ c.note_receipt.ensures c.cut-cut.ensures c.as_call-call.ensures c.as_reply.ensures))
 
@@ -68,7 +68,7 @@ returns-clause-left g c =
     (record {
       found = x;
       engine = sym took.engine;
-      begins = finds _ _ c.seat.inside.reader x c.seat.invariant.0 took _ c.seat.inside.polled c.seat.inside.notes c.seat.inside.ties.ties c.seat.inside.mine c.seat.inside.given c.in-Some.ensures.entered.1;
+      begins = finds _ _ c.seat.inside.reader x c.seat.invariant.0 took _ c.seat.inside.polled c.seat.inside.notes c.seat.inside.ties.entries c.seat.inside.mine c.seat.inside.given c.in-Some.ensures.entered.1;
       locked = c.know-known.ensures.locked;
       after = y;
       left = found_left _ _ c.seat.inside.reader x c.seat.invariant.0 took g.O.Ending.code_of g.O.Ending.size_of _ y leaves.book leaves.opening leaves.ties (sym (ap (λ (t : ReaderState). t.seen) c.leave.ensures.reader))

@@ -1,5 +1,23 @@
-use Rattle.std.proofs.Common.{rules}
+use Rattle.std.proofs.Common.{ap, sym, refl, append-nil}
+use Rattle.mx_types.specs.declared.call.Call.TheVariants as call
+use Rattle.mx_types.specs.declared.reply.Reply.TheVariants as reply
+use Rattle.crossbeam_channel.specs.Claims.{view}
+use Rattle.mx_multi.proofs.Standing.{seat_read, receipt_is, received_more, stands_read, stands_from}
 use Rattle.mx_multi.proofs.multi.Multi.handles.Goals as goal
 
+pub invariant_of-seat-2 : goal.invariant_of-seat-2
+invariant_of-seat-2 g c = (
+  seat_read _ c.seat.inside.reader _ c.seat.invariant.0 c.in-Some.ensures.0,
+  c.seat.invariant.1,
+  received_more _ _ _ _
+      (stands_read _ (view c.seat.inside.key) c.seat.inside.reader c.handles.new.self c.seat.inside.polled c.seat.inside.notes c.seat.inside.ties.entries c.seat.inside.mine c.seat.inside.given c.show.new.self call.Handles (reply.Handles c.in-Some.answer) c.in-Some.ensures.0 refl (ap reply.Handles c.in-Some.ensures.1, sym (append-nil c.handles.new.self.seen)) (receipt_is _ _ _ _ _ _ _ _ c.show.ensures c.cut-cut.ensures refl refl))
+      c.seat.invariant.2,
+  c.seat.invariant.3,
+)
+
 pub returns : goal.returns
-returns g c = search rules
+returns g c = (
+  stands_from _ _ _ _ _ c.seat.view_is
+      (stands_read _ (view c.seat.inside.key) c.seat.inside.reader c.handles.new.self c.seat.inside.polled c.seat.inside.notes c.seat.inside.ties.entries c.seat.inside.mine c.seat.inside.given c.show.new.self call.Handles (reply.Handles c.in-Some.answer) c.in-Some.ensures.0 refl (ap reply.Handles c.in-Some.ensures.1, sym (append-nil c.handles.new.self.seen)) (receipt_is _ _ _ _ _ _ _ _ c.show.ensures c.cut-cut.ensures refl refl)),
+  c.cut-cut.ensures,
+)

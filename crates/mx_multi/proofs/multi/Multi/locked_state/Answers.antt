@@ -1,6 +1,6 @@
 use Rattle.std.proofs.Common.{◌∙◌, ap, refl}
 use Rattle.mx_lock.specs.Lock.{IsKeyOf}
-use Rattle.mx_lock.specs.Shared.{IsLeft}
+use Rattle.mx_lock.specs.Engine.{IsLeft}
 use Rattle.mx_board.specs.Board.{ReaderState}
 use Rattle.mx_multi.specs.Seats.{SeatView}
 use Rattle.mx_multi.proofs.Standing.{list_kept, seat_after, received_same, lock_sees, same_of, engine_kept, sees_from, claims_after, left_same, no_other, found_state}
@@ -15,7 +15,7 @@ invariant_of-seat-2 g c =
       seat_after _ _ c.seat.inside.reader x c.seat.invariant.0 took _ _ x c.leave.ensures.gave c.leave.ensures.reader refl,
       k.2,
       received_same _ _
-          (lock_sees _ _ c.seat.inside.reader x c.seat.invariant.0 took _ c.leave.new.reader x c.leave.ensures.gave c.leave.ensures.reader _ _ c.seat.inside.polled c.seat.inside.notes c.seat.inside.ties.ties c.leave.new.ties.ties c.seat.inside.mine c.seat.inside.given c.seat.inside.given c.leave.ensures.told.1 (same_of _ _ _ c.args.self.now c.args.seat.now c.requires.own c.self.view_is (ap (λ (s : SeatView g.row.Q.Denot g.row.O.Denot). s.of) c.seat.view_is) k.0 k.1 (engine_kept _ _ c.seat.inside.reader x c.seat.invariant.0 took _ x c.leave.ensures.gave) refl refl) c.in-Some.ensures.entered.1 left)
+          (lock_sees _ _ c.seat.inside.reader x c.seat.invariant.0 took _ c.leave.new.reader x c.leave.ensures.gave c.leave.ensures.reader _ _ c.seat.inside.polled c.seat.inside.notes c.seat.inside.ties.entries c.leave.new.ties.entries c.seat.inside.mine c.seat.inside.given c.seat.inside.given c.leave.ensures.told.1 (same_of _ _ _ c.args.self.now c.args.seat.now c.requires.own c.self.view_is (ap (λ (s : SeatView g.row.Q.Denot g.row.O.Denot). s.of) c.seat.view_is) k.0 k.1 (engine_kept _ _ c.seat.inside.reader x c.seat.invariant.0 took _ x c.leave.ensures.gave) refl refl) c.in-Some.ensures.entered.1 left)
           c.seat.invariant.2,
       list_kept _ _ c.seat.inside.reader x c.seat.invariant.0 took _ x _ _ c.leave.ensures.gave c.leave.ensures.told.0 c.seat.invariant.3,
     )
@@ -27,7 +27,7 @@ returns-clause-sees g c =
     let x = c.in-Some.taken in
     let left : IsLeft x x = left_same x x refl c.len-cut.ensures.legal in
     sees_from _ _ _ c.seat.view_is
-    (lock_sees _ _ c.seat.inside.reader x c.seat.invariant.0 took _ c.leave.new.reader x c.leave.ensures.gave c.leave.ensures.reader _ _ c.seat.inside.polled c.seat.inside.notes c.seat.inside.ties.ties c.leave.new.ties.ties c.seat.inside.mine c.seat.inside.given c.seat.inside.given c.leave.ensures.told.1 (same_of _ _ _ c.args.self.now c.args.seat.now c.requires.own c.self.view_is (ap (λ (s : SeatView g.row.Q.Denot g.row.O.Denot). s.of) c.seat.view_is) k.0 k.1 (engine_kept _ _ c.seat.inside.reader x c.seat.invariant.0 took _ x c.leave.ensures.gave) refl refl) c.in-Some.ensures.entered.1 left)
+    (lock_sees _ _ c.seat.inside.reader x c.seat.invariant.0 took _ c.leave.new.reader x c.leave.ensures.gave c.leave.ensures.reader _ _ c.seat.inside.polled c.seat.inside.notes c.seat.inside.ties.entries c.leave.new.ties.entries c.seat.inside.mine c.seat.inside.given c.seat.inside.given c.leave.ensures.told.1 (same_of _ _ _ c.args.self.now c.args.seat.now c.requires.own c.self.view_is (ap (λ (s : SeatView g.row.Q.Denot g.row.O.Denot). s.of) c.seat.view_is) k.0 k.1 (engine_kept _ _ c.seat.inside.reader x c.seat.invariant.0 took _ x c.leave.ensures.gave) refl refl) c.in-Some.ensures.entered.1 left)
 
 pub returns-clause-found : goal.returns-clause-found
 returns-clause-found g c =

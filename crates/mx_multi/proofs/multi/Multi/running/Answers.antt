@@ -10,7 +10,7 @@ invariant_of-seat-2 g c = (
   seat_read _ c.seat.inside.reader _ c.seat.invariant.0 c.in-Some.ensures.0,
   c.seat.invariant.1,
   received_more _ _ _ _
-      (stands_read _ (view c.seat.inside.key) c.seat.inside.reader c.running.new.self c.seat.inside.polled c.seat.inside.notes c.seat.inside.ties.ties c.seat.inside.mine c.seat.inside.given c.note_receipt.new.mine call.Running (reply.Running c.in-Some.answer) c.in-Some.ensures.0 refl (ap reply.Running c.in-Some.ensures.1, sym (append-nil c.running.new.self.seen)) (receipt_is _ _ _ _ _ _ _ _ c.note_receipt.ensures c.cut-cut.ensures refl refl))
+      (stands_read _ (view c.seat.inside.key) c.seat.inside.reader c.running.new.self c.seat.inside.polled c.seat.inside.notes c.seat.inside.ties.entries c.seat.inside.mine c.seat.inside.given c.note_receipt.new.mine call.Running (reply.Running c.in-Some.answer) c.in-Some.ensures.0 refl (ap reply.Running c.in-Some.ensures.1, sym (append-nil c.running.new.self.seen)) (receipt_is _ _ _ _ _ _ _ _ c.note_receipt.ensures c.cut-cut.ensures refl refl))
       c.seat.invariant.2,
   c.seat.invariant.3,
 )
@@ -18,4 +18,4 @@ invariant_of-seat-2 g c = (
 pub returns : goal.returns
 returns g c =
     stands_from _ _ _ _ _ c.seat.view_is
-    (stands_read _ (view c.seat.inside.key) c.seat.inside.reader c.running.new.self c.seat.inside.polled c.seat.inside.notes c.seat.inside.ties.ties c.seat.inside.mine c.seat.inside.given c.note_receipt.new.mine call.Running (reply.Running c.in-Some.answer) c.in-Some.ensures.0 refl (ap reply.Running c.in-Some.ensures.1, sym (append-nil c.running.new.self.seen)) (receipt_is _ _ _ _ _ _ _ _ c.note_receipt.ensures c.cut-cut.ensures refl refl))
+    (stands_read _ (view c.seat.inside.key) c.seat.inside.reader c.running.new.self c.seat.inside.polled c.seat.inside.notes c.seat.inside.ties.entries c.seat.inside.mine c.seat.inside.given c.note_receipt.new.mine call.Running (reply.Running c.in-Some.answer) c.in-Some.ensures.0 refl (ap reply.Running c.in-Some.ensures.1, sym (append-nil c.running.new.self.seen)) (receipt_is _ _ _ _ _ _ _ _ c.note_receipt.ensures c.cut-cut.ensures refl refl))

@@ -1,0 +1,15 @@
+use Rattle.std.proofs.Common.{◌≡◌, arith}
+use Rattle.std.specs.Prelude.{Some}
+use Rattle.std.proofs.lemmas.List.Elements.{All-pop}
+use Rattle.mx_multi.specs.Seats.{SeatView}
+use Rattle.mx_crew.proofs.post.posts.Goals as goal
+
+pub loop-seat-preserved : goal.loop-seat-preserved
+loop-seat-preserved g c =
+    let was = c.loop-seat.invariant in
+    let rest = All-pop (λ (s : SeatView _ _). s.of ≡ c.args.multi.now) _ _ (Some c.in-Some.seat) c.in-Some.ensures.items was.seats in
+    record {
+      seats = rest.0;
+      seats_left = omega (arith, c.in-Some.ensures.len, c.in_ok-push.ensures.len, was.seats_left);
+      gates_left = omega (arith, c.in-Some-pop.ensures.len, c.in_ok-push.ensures.len, was.gates_left);
+    }

@@ -1,0 +1,13 @@
+use Rattle.std.proofs.Common.{◌≡◌, ◌+◌}
+use Rattle.std.specs.Prelude.{All, vec_len}
+use Rattle.mx_crew.proofs.post.posts.Given as goal
+
+abbrev pub invariant-loop-seat : goal.invariant-loop-seat
+invariant-loop-seat g l = record {
+  seats : All (λ s. s.of ≡ l.multi) l.seats.items;
+  seats_left : vec_len l.posts + vec_len l.seats ≡ vec_len l.fn.seats;
+  gates_left : vec_len l.posts + vec_len l.gates ≡ vec_len l.fn.gates;
+}
+
+abbrev pub decreases-loop-seat : goal.decreases-loop-seat
+decreases-loop-seat g l = vec_len l.seats

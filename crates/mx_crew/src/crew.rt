@@ -1,0 +1,96 @@
+//! What wakes workers, and what stops them.
+ghost use Rattle.std.specs.Prelude.{◌≡◌, ◌↔◌, IfOk, vec_len};
+ghost use Rattle.mx_types.specs.declared.code.Code.TheVariants as codes;
+ghost use Rattle.mx_crew.specs.declared.error.CrewError.TheVariants as crew_error;
+
+use crate::error::CrewError;
+use mx_gate::{Bell, SocketGate};
+use mx_types::{Code, OutOfMemory};
+use std::alloc::{AllocError, AllocGlobal, Global};
+use std::net::Net;
+use std::rt::Clock;
+use std::sync::Arc;
+use std::sync::atomic::{AtomicBool, Ordering};
+use std::time::Instant;
+
+/// What wakes workers, and what stops them.
+#[derive(Drop)]
+pub struct Crew {
+    bells: Vec<Bell>,
+    stop: Arc<AtomicBool>,
+}
+
+// Why there is no gate, by the code that says so.
+fn no_gate(code: Code) -> CrewError
+    ensures { (result ≡ crew_error.OutOfMemory) ↔ (code ≡ codes.OutOfMemory) }
+{
+    match code {
+        Code::OutOfMemory => CrewError::OutOfMemory,
+        _ => CrewError::NoPoll,
+    }
+}
+
+impl Crew {
+    /// A crew without workers.
+    pub fn new(alloc: Global) -> Result<Crew, OutOfMemory> {
+        Ok(Crew {
+            bells: Vec::new(alloc),
+            stop: Arc::new(alloc, AtomicBool::new(false))?,
+        })
+    }
+
+    /// Wakes all workers whose gates it made.
+    pub fn ring(&self) {
+        for bell in &self.bells {
+            // A bell that can't be rung leaves its worker to the end of its wait.
+            let _ = bell.ring();
+        }
+    }
+
+    /// Stops all workers: each ends once what it holds has ended.
+    pub fn dismiss(&self) {
+        self.stop.store(true, Ordering::SeqCst);
+        self.ring();
+    }
+
+    /// Whether it is dismissed.
+    pub fn is_dismissed(&self) -> bool {
+        self.stop.load(Ordering::SeqCst)
+    }
+
+    /// The flag that stops its workers, for a gate of one's own: true once it is dismissed.
+    pub fn stop(&self) -> Result<Arc<AtomicBool>, AllocError> {
+        Arc::try_clone(&self.stop)
+    }
+
+    // A gate that this crew wakes and stops.
+    fn gate<'r, R: Net + Clock + AllocGlobal>(
+        &mut self,
+        rt: &'r R,
+        start: Instant,
+    ) -> Result<SocketGate<'r, R>, CrewError> {
+        let gate = match SocketGate::starting_at(rt, self.stop()?, start) {
+            Ok(gate) => gate,
+            Err(code) => return Err(no_gate(code)),
+        };
+        self.bells.push(gate.bell()?)?;
+        Ok(gate)
+    }
+
+    /// So many gates, which this crew wakes and stops. Their clocks have one start.
+    pub fn gates<'r, R: Net + Clock + AllocGlobal>(
+        &mut self,
+        rt: &'r R,
+        start: Instant,
+        count: u8,
+    ) -> Result<Vec<SocketGate<'r, R>>, CrewError>
+        ensures { IfOk result (λ gates. vec_len gates ≡ count) }
+    {
+        let mut gates = Vec::with_capacity(rt.alloc(), usize::from(count))?;
+        for made in 0..count {
+            let _ = made;
+            gates.push(self.gate(rt, start)?)?;
+        }
+        Ok(gates)
+    }
+}

@@ -1,0 +1,12 @@
+//! A crew: workers on threads of their own, each with a seat and a gate, beside an application's thread.
+#![tactic(auto)]
+
+mod beside;
+mod crew;
+mod error;
+mod post;
+
+pub use crate::beside::run_beside;
+pub use crate::crew::Crew;
+pub use crate::error::CrewError;
+pub use crate::post::{Counts, Post, posts};

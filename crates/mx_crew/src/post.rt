@@ -1,0 +1,89 @@
+//! A worker's post.
+ghost use Rattle.std.specs.Prelude.{◌≡◌, All, IfOk, min, vec_len};
+
+use mx_gate::{Gate, Turn};
+use mx_link::Link;
+use mx_multi::{AtWork, Multi, Seated, WorkerSeat};
+use mx_transfer::Outcome;
+use mx_types::OutOfMemory;
+use mx_worker::{Queued, run_worker};
+use std::alloc::{AllocGlobal, Global};
+use std::random::RandomSource;
+use std::sync::Wait;
+
+/// How long a worker waits that found no memory for its start, in milliseconds.
+const START_AGAIN: u32 = 20;
+
+/// A worker's seat and its gate.
+#[derive(Drop)]
+pub struct Post<'m, L: Link, G> {
+    pub seat: Seated<'m, AtWork, Queued<L>, Outcome>,
+    pub gate: G,
+}
+
+/// What a worker did: how many ends it recorded, how many were stale, and how many transfers went back to the queue.
+#[derive(Clone, Copy, Debug, PartialEq, Eq)]
+pub struct Counts {
+    pub recorded: u32,
+    pub stale: u32,
+    pub given_back: u32,
+}
+
+/// A post for each seat, as far as there are gates.
+pub fn posts<'m, L: Link, G: Gate<Link = L> + Drop>(
+    alloc: Global,
+    multi: &'m Multi<Queued<L>, Outcome>,
+    seats: Vec<WorkerSeat<Queued<L>, Outcome>>,
+    gates: Vec<G>,
+) -> Result<Vec<Post<'m, L, G>>, OutOfMemory>
+    requires { All (λ s. s.of ≡ multi.now) seats.items }
+    ensures { IfOk result (λ posts. vec_len posts ≡ min (vec_len seats) (vec_len gates)) }
+{
+    let (mut seats, mut gates) = (seats, gates);
+    let mut posts = Vec::with_capacity(alloc, seats.len())?;
+    while let Some(seat) = seats.pop() {
+        let Some(gate) = gates.pop() else {
+            return Ok(posts);
+        };
+        posts.push(Post {
+            seat: multi.at(seat),
+            gate,
+        })?;
+    }
+    Ok(posts)
+}
+
+// Works until the gate stops it, and says what it did. The seat comes back where there was no memory for the start, and the gate doesn't
+// stop it.
+fn work_once<'m, L: Link, R: Wait + RandomSource + AllocGlobal, G: Gate<Link = L>>(
+    rt: &R,
+    seat: Seated<'m, AtWork, Queued<L>, Outcome>,
+    gate: &mut G,
+) -> Result<Counts, Seated<'m, AtWork, Queued<L>, Outcome>> {
+    let end = run_worker(rt, seat, gate);
+    if end.refused && matches!(gate.turn(START_AGAIN), Turn::Continue) {
+        return Err(end.seat);
+    }
+    Ok(Counts {
+        recorded: end.recorded,
+        stale: end.stale,
+        given_back: end.given_back,
+    })
+}
+
+// Works with a seat and a gate until the gate stops it, and says what it did. Where there is no memory for its start it tries again after
+// a while.
+pub(crate) fn work<'m, L: Link, R: Wait + RandomSource + AllocGlobal, G: Gate<Link = L> + Drop>(
+    rt: &R,
+    seat: Seated<'m, AtWork, Queued<L>, Outcome>,
+    gate: G,
+) -> Counts {
+    let (mut seat, mut gate) = (seat, gate);
+    for _ in rt.forever() {
+        match work_once(rt, seat, &mut gate) {
+            Ok(counts) => return counts,
+            Err(again) => seat = again,
+        }
+    }
+    unreachable!()
+}
