@@ -14,7 +14,11 @@ use std::thread;
 use std::thread::{JoinHandle, Threads};
 
 // What each worker did, for whom there is room.
-fn join_all<R: Threads>(rt: &R, handles: Vec<JoinHandle<Counts>>, mut counts: Vec<Counts>) -> Vec<Counts> {
+fn join_all<R: Threads>(
+    rt: &R,
+    handles: Vec<JoinHandle<Counts>>,
+    mut counts: Vec<Counts>,
+) -> Vec<Counts> {
     for handle in handles {
         let count = handle.join(rt);
         if counts.len() < counts.capacity() {

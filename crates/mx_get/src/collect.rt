@@ -174,10 +174,7 @@ impl<'m, L: Link> Desk<'m, L> {
     }
 
     // Waits for the next message and notes it.
-    fn await_one<R: Wait>(
-        &mut self,
-        rt: &R,
-    ) -> Result<(), NoMessage>
+    fn await_one<R: Wait>(&mut self, rt: &R) -> Result<(), NoMessage>
         ensures asked { map asked_at self.new.places.items ≡ map asked_at self.old.places.items }
     {
         let Ok(message) = next_message(rt, &mut self.seat) else {
@@ -188,10 +185,7 @@ impl<'m, L: Link> Desk<'m, L> {
     }
 
     // Waits for all messages that are to come.
-    fn await_all<R: Wait>(
-        &mut self,
-        rt: &R,
-    ) -> Result<(), NoMessage>
+    fn await_all<R: Wait>(&mut self, rt: &R) -> Result<(), NoMessage>
         ensures asked { map asked_at self.new.places.items ≡ map asked_at self.old.places.items }
     {
         for _ in 0..self.waiting {

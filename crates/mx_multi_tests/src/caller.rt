@@ -4,7 +4,7 @@ ghost use Rattle.mx_types.specs.Origin.{no_request};
 
 use mx_journal::{FinishReply, InfoReply};
 use mx_multi::{Application, AtWork, Seated};
-use mx_multi_workload::sample::{Bench, Chair, End, FOUR_SEATS, Handle, Job};
+use mx_multi_tests_base::sample::{Bench, Chair, End, FOUR_SEATS, Handle, Job};
 use mx_types::{Code, HandleId, OutOfMemory};
 use std::alloc::Global;
 use std::sync::Wait;

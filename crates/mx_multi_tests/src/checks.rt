@@ -1,7 +1,7 @@
 //! What was answered beside what is expected.
 
-use mx_multi_workload::entries::text_of;
-use mx_multi_workload::texts::Asked;
+use mx_multi_tests_base::entries::text_of;
+use mx_multi_tests_base::texts::Asked;
 use mx_types::{Call, OutOfMemory, Reply};
 use std::alloc::Global;
 use std::test::Fail;

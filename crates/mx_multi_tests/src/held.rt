@@ -2,10 +2,10 @@
 
 use crate::checks::{answered, check, compare};
 use crate::script::{By, Step, at_four_seats, take_steps};
-use mx_multi_workload::desk::{Desk, Scene};
-use mx_multi_workload::hold::Hold;
-use mx_multi_workload::sample::End;
-use mx_multi_workload::threads::{Told, read_meanwhile};
+use mx_multi_tests_base::desk::{Desk, Scene};
+use mx_multi_tests_base::hold::Hold;
+use mx_multi_tests_base::sample::End;
+use mx_multi_tests_base::threads::{Told, read_meanwhile};
 use mx_types::{Call, Code, HandleId, Reply};
 use std::alloc::Global;
 use std::sync::{Arc, Wait};

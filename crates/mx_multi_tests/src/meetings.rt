@@ -2,8 +2,8 @@
 
 use crate::checks::check;
 use crate::script::{By, Step, at_four_seats, take_steps};
-use mx_multi_workload::desk::{Desk, Scene};
-use mx_multi_workload::threads::{Glance, Listed, list_beside};
+use mx_multi_tests_base::desk::{Desk, Scene};
+use mx_multi_tests_base::threads::{Glance, Listed, list_beside};
 use mx_types::{Call, HandleId, OutOfMemory, Ticket};
 use std::alloc::Global;
 use std::sync::Wait;

@@ -3,10 +3,10 @@
 
 use crate::checks::{check, compare};
 use mx_multi::Progress;
-use mx_multi_workload::client;
-use mx_multi_workload::client::Worker;
-use mx_multi_workload::desk::{Desk, Scene, at_desk};
-use mx_multi_workload::sample::{End, FOUR_SEATS};
+use mx_multi_tests_base::client;
+use mx_multi_tests_base::client::Worker;
+use mx_multi_tests_base::desk::{Desk, Scene, at_desk};
+use mx_multi_tests_base::sample::{End, FOUR_SEATS};
 use mx_types::{Call, Code, HandleId, OutOfMemory, Reply, Ticket};
 use std::alloc::Global;
 use std::sync::Wait;

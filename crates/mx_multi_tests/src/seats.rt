@@ -3,10 +3,10 @@
 use crate::checks::{answered, check};
 use crate::script::at_four_seats;
 use mx_multi::{Limits, OpenError};
-use mx_multi_workload::client::{Client, make};
-use mx_multi_workload::desk::{Desk, Scene};
-use mx_multi_workload::opened::open;
-use mx_multi_workload::sample::FOUR_SEATS;
+use mx_multi_tests_base::client::{Client, make};
+use mx_multi_tests_base::desk::{Desk, Scene};
+use mx_multi_tests_base::opened::open;
+use mx_multi_tests_base::sample::FOUR_SEATS;
 use mx_types::{Call, HandleId, Reply};
 use std::alloc::Global;
 use std::sync::Wait;

@@ -1,8 +1,8 @@
 //! Calls of many threads, played again on one.
 
 use crate::checks::check;
-use mx_multi_workload::entries::Entry;
-use mx_multi_workload::stress::{differs, storm};
+use mx_multi_tests_base::entries::Entry;
+use mx_multi_tests_base::stress::{differs, storm};
 use std::alloc::Global;
 use std::sync::Wait;
 use std::test::Fail;

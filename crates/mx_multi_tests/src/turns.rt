@@ -3,9 +3,9 @@
 use crate::checks::check;
 use crate::script::{By, Step, take_steps};
 use mx_multi::Limits;
-use mx_multi_workload::desk::{Desk, Scene, at_desk};
-use mx_multi_workload::sample::FOUR_SEATS;
-use mx_multi_workload::threads::take_turns;
+use mx_multi_tests_base::desk::{Desk, Scene, at_desk};
+use mx_multi_tests_base::sample::FOUR_SEATS;
+use mx_multi_tests_base::threads::take_turns;
 use mx_types::{Call, HandleId};
 use std::alloc::Global;
 use std::sync::Wait;

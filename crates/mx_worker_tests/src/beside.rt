@@ -9,13 +9,13 @@ use mx_multi::{Application, Multi, Seat, Seated, WorkerSeat};
 use mx_transfer::Outcome;
 use mx_types::OutOfMemory;
 use mx_worker::Queued;
-use mx_worker_workload::desk::{Desk, Parts};
-use mx_worker_workload::messages::{Message, is_answer};
+use mx_worker_tests_base::desk::{Desk, Parts};
+use mx_worker_tests_base::messages::{Message, is_answer};
 use std::alloc::{AllocGlobal, Global};
 use std::random::RandomSource;
 use std::rt::Clock;
-use std::sync::atomic::{AtomicBool, Ordering};
 use std::sync::Wait;
+use std::sync::atomic::{AtomicBool, Ordering};
 use std::test::Fail;
 use std::thread::Threads;
 

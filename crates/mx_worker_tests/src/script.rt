@@ -2,9 +2,9 @@
 
 use mx_link::ScriptRead;
 use mx_types::{Call, Code};
-use mx_worker_workload::desk::ScriptDesk;
-use mx_worker_workload::gates::gate_with;
-use mx_worker_workload::runs;
+use mx_worker_tests_base::desk::ScriptDesk;
+use mx_worker_tests_base::gates::gate_with;
+use mx_worker_tests_base::runs;
 use std::alloc::AllocGlobal;
 use std::random::RandomSource;
 use std::sync::Wait;

@@ -6,7 +6,7 @@ use Rattle.std.proofs.lemmas.List.Elements.{All-get_or, All-push, All-set}
 use Rattle.logbook.specs.Pages.{Book}
 use Rattle.mx_types.specs.Origin.{no_request}
 use Rattle.mx_lock.specs.Ties.{TiedClaimed}
-use Rattle.mx_multi_workload.specs.Hands.{IsOf}
+use Rattle.mx_multi_tests_base.specs.Hands.{IsOf}
 
 pub kept_more : (b : Book) (xs : List (Option TiedClaimed)) (c : TiedClaimed) → All (IsOf b) xs → c.of ≡ b → c.origin ≡ no_request → All (IsOf b) (xs ++ Some c ∷ [])
 kept_more b xs c all of origin = All-push (IsOf b) xs (Some c) all (of, origin)

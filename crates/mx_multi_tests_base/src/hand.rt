@@ -21,7 +21,7 @@ pub struct Hand {
 impl Model for Hand {
     ghost use Rattle.std.specs.List.{All};
     ghost use Rattle.logbook.specs.Pages.{Book};
-    ghost use Rattle.mx_multi_workload.specs.Hands.{IsOf};
+    ghost use Rattle.mx_multi_tests_base.specs.Hands.{IsOf};
 
     ghost Value = { Book };
 

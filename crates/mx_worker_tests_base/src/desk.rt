@@ -8,7 +8,7 @@ use mx_gate::Gate;
 use mx_journal::AddReply;
 use mx_link::{Link, ScriptLink};
 use mx_multi::{Limits, Multi, Progress, Seat, WorkerSeat};
-use mx_multi_workload::entries::text_of;
+use mx_multi_tests_base::entries::text_of;
 use mx_request::Request;
 use mx_transfer::Outcome;
 use mx_types::{Call, Code, Ending, HandleId, OutOfMemory, Reply, Work};
