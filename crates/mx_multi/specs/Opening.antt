@@ -1,7 +1,7 @@
 -- Opening a multi handle.
 use Rattle.std.specs.Prelude.{◌≡◌, ℕ, ◌+◌, nat_le, ◌&&◌, Bool, true, false, if◌then◌else◌, List, [], ◌∷◌, length, All}
 use Rattle.logbook.specs.Pages.{Book}
-use Rattle.mx_types.specs.Limits.{least_events, most_events, most_seats}
+use Rattle.mx_types.specs.Limits.{least_history, most_history, most_seats}
 use Rattle.mx_types.specs.declared.event.Who.{Who}
 use Rattle.mx_types.specs.declared.event.Who.TheVariants as who
 use Rattle.mx_board.specs.Board.{ReaderState, caught_up}
@@ -16,7 +16,7 @@ most_connects = 64
 
 -- at least one seat and one worker, and each number within its limits
 abbrev pub are_within : Limits → Bool
-are_within l = nat_le 1 l.seats && nat_le l.seats most_seats && nat_le 1 l.workers && nat_le l.workers most_seats && nat_le least_events l.history && nat_le l.history most_events && nat_le l.max_connects most_connects
+are_within l = nat_le 1 l.seats && nat_le l.seats most_seats && nat_le 1 l.workers && nat_le l.workers most_seats && nat_le least_history l.history && nat_le l.history most_history && nat_le l.max_connects most_connects
 
 -- the number of a refusal
 abbrev pub open_number : OpenError → ℕ

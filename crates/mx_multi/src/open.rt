@@ -12,7 +12,7 @@ use crate::multi::Multi;
 use crate::seat::{Application, AtWork, Seat, SeatOf, WorkerSeat};
 use mx_board::{BoardReader, JournalMark, NoteSeat, ProgressTable};
 use mx_lock::{Engine, Key, Lock, TieMark};
-use mx_types::{Ending, History, LEAST_EVENTS, MOST_EVENTS, MOST_SEATS, OutOfMemory, Who, Work};
+use mx_types::{Ending, History, LEAST_HISTORY, MOST_HISTORY, MOST_SEATS, OutOfMemory, Who, Work};
 use std::alloc::Global;
 use std::collections::VecDeque;
 use std::marker::PhantomData;
@@ -30,7 +30,7 @@ pub struct Limits {
     pub seats: u8,
     /// Seats for workers, 1 to [`MOST_SEATS`].
     pub workers: u8,
-    /// The greatest number of events of its history, [`LEAST_EVENTS`] to [`MOST_EVENTS`].
+    /// The greatest number of events of its history, [`LEAST_HISTORY`] to [`MOST_HISTORY`].
     pub history: u32,
     /// The greatest number of idle connections that a worker keeps, 0 to [`MOST_CONNECTS`].
     pub max_connects: u8,
@@ -59,7 +59,7 @@ fn is_seat_count(count: u8) -> bool
 fn is_history(events: u32) -> bool
     ensures { result ≡ is_history events }
 {
-    LEAST_EVENTS <= events && events <= MOST_EVENTS
+    LEAST_HISTORY <= events && events <= MOST_HISTORY
 }
 
 /// Why a multi handle was not opened.
