@@ -53,12 +53,12 @@ use denote.Ref.{NamedLft}
 use denote.Param.Send.{IsSend, struct_send, recorded_send, sendable}
 use denote.Struct.Declared.{shape}
 use Rattle.std.proofs.Crossing.{crosses}
-use Rattle.mx_multi_tests_base.proofs.Sends.{client_field}
+use Rattle.mx_multi_tests_base.proofs.Sends.{client_send}
 use Rattle.multi_program.specs.contracts.Meter as Meter
 
 pub meter_field : (x : NamedLft) → IsSend (Meter.the_field x).row
 meter_field x = struct_send (shape (Meter.the_type x)) (
-  client_field x,
+  client_send x,
   (search (sendable, crosses) depth 40, (search (sendable, crosses) depth 40, (search (sendable, crosses) depth 40,
   (search (sendable, crosses) depth 40, (search (sendable, crosses) depth 40, (search (sendable, crosses) depth 40,
   (search (sendable, crosses) depth 40, (search (sendable, crosses) depth 40, tt)))))))),
@@ -78,11 +78,11 @@ for_each_mut-requires-send-T g c κs within = search (meter_send, sendable) dept
 ANTT
 cat > "$work/crates/multi_program/proofs/repeat_kept/Answers.antt" <<'ANTT'
 use denote.Param.Send.{sendable}
-use Rattle.mx_multi_tests_base.proofs.Sends.{worker_field, worker_send, held_field, held_send, end_field, end_send}
+use Rattle.mx_multi_tests_base.proofs.Sends.{worker_field, worker_send, end_field, end_send}
 use Rattle.multi_program.proofs.repeat_kept.Goals as goal
 
 pub join-meters-requires-send-F : goal.join-meters-requires-send-F
-join-meters-requires-send-F g c κs within = search (worker_field, worker_send, held_field, held_send, end_field, end_send, sendable) depth 40
+join-meters-requires-send-F g c κs within = search (worker_field, worker_send, end_field, end_send, sendable) depth 40
 ANTT
 
 cat > "$work/calls.c" <<'C'
