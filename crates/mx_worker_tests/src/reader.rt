@@ -37,7 +37,10 @@ impl<'m, L: Link> Reader<'m, L> {
 
     // The first message, if there is one.
     fn read<R: Wait>(&mut self, rt: &R) -> Option<Message> {
-        messages::read_at(rt, &mut self.seat).unwrap_or(None)
+        match self.seat.info_read(rt) {
+            Ok(reply) => messages::message_of(reply).unwrap_or(None),
+            Err(_) => None,
+        }
     }
 
     /// The first message, once it is there; None where it doesn't come.

@@ -3,7 +3,7 @@ ghost use Rattle.std.specs.Prelude.{◌≡◌};
 
 use mx_journal::InfoReply;
 use mx_link::Link;
-use mx_multi::{Application, Multi, Seat, Seated};
+use mx_multi::{Multi, Seat};
 use mx_transfer::Outcome;
 use mx_types::{Code, HandleId, OutOfMemory, Ticket};
 use mx_worker::Queued;
@@ -18,8 +18,8 @@ pub struct Message {
     pub outcome: Outcome,
 }
 
-// The message that was read; None where there was none.
-fn message_of(reply: InfoReply<Outcome>) -> Result<Option<Message>, OutOfMemory> {
+/// The message that was read; None where there was none.
+pub fn message_of(reply: InfoReply<Outcome>) -> Result<Option<Message>, OutOfMemory> {
     match reply {
         InfoReply::Message {
             handle,
@@ -46,17 +46,6 @@ pub fn read<L: Link, R: Wait>(
     ensures { seat.new.of ≡ multi.now }
 {
     match multi.info_read(rt, seat) {
-        Ok(reply) => message_of(reply),
-        Err(_) => Ok(None),
-    }
-}
-
-/// Reads the first message through a seat that has its multi handle with it; None where there is none, and where the answer is `WrongSeat`.
-pub fn read_at<L: Link, R: Wait>(
-    rt: &R,
-    seat: &mut Seated<'_, Application, Queued<L>, Outcome>,
-) -> Result<Option<Message>, OutOfMemory> {
-    match seat.info_read(rt) {
         Ok(reply) => message_of(reply),
         Err(_) => Ok(None),
     }
