@@ -94,6 +94,7 @@ fn stands_next(event: Event, next: Option<Event>, mark: &JournalMark, all: &Jour
     requires begins { IsPrefix mark.now.entries all.now.entries }
     ensures { OnTrue result (IsPrefix (mark.now.entries ++ event ∷ []) all.now.entries) }
 {
+    // For the prover alone: what holds of both marks is used.
     let _ = mark;
     let _ = all;
     match next {
@@ -113,6 +114,7 @@ impl BoardReader {
         ensures is { result ≡ self.now.who }
         ensures maker { is_maker result ≡ true }
     {
+        // For the prover alone: what holds of a reader is used.
         let _ = &self.mark;
         self.who
     }
@@ -136,6 +138,7 @@ impl BoardReader {
         ensures is { result ≡ self.now.confirmed }
         ensures but_last { ConfirmsAllButLast self.now }
     {
+        // For the prover alone: what holds of a reader is used.
         let _ = &self.unconfirmed;
         self.mark.len()
     }

@@ -140,6 +140,7 @@ impl Outcome {
         ensures listed { is_outcome_code result ≡ true }
     {
         let ended = self.last.code();
+        // For the prover alone: the code is the last hop's.
         let _ended = ended;
         self.code
     }

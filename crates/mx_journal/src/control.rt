@@ -81,6 +81,7 @@ impl<Q: Work + Drop, O: Ending + Drop> Control<Q, O> {
         ensures sound { IsSound O.code_of O.size_of self.now.opening.history self.now.journal self.now.queue self.now.endings }
         ensures origins { (length self.now.origins ≡ additions self.now.journal) × AreOwn Q.origin self.now.origins self.now.queue }
     {
+        // For the prover alone: what holds of a core is used.
         let _ = &self.table;
     }
 

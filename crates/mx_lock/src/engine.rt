@@ -96,6 +96,7 @@ impl<Q: Work + Drop, O: Ending + Drop> Engine<Q, O> {
     pub fn published(&self) -> &Table
         ensures { IsTableOf self.now.core.journal result.now }
     {
+        // For the prover alone: what holds of an engine is used.
         let _ = &self.control;
         self.board.table()
     }
@@ -104,6 +105,7 @@ impl<Q: Work + Drop, O: Ending + Drop> Engine<Q, O> {
     pub fn mark(&self) -> JournalMark
         ensures { result ≡ mark_of self.now.core.journal self.now.book }
     {
+        // For the prover alone: what holds of an engine is used.
         let _ = &self.control;
         self.board.mark()
     }
@@ -112,6 +114,7 @@ impl<Q: Work + Drop, O: Ending + Drop> Engine<Q, O> {
     pub fn tie_mark(&self) -> TieMark
         ensures { result ≡ self.now.ties }
     {
+        // For the prover alone: what holds of an engine is used.
         let _ = &self.control;
         self.ties.mark()
     }
@@ -123,6 +126,7 @@ impl<Q: Work + Drop, O: Ending + Drop> Engine<Q, O> {
         ensures grown { IsPrefix mark.old.entries mark.new.entries }
         ensures all { IsPrefix self.now.ties.entries mark.new.entries }
     {
+        // For the prover alone: what holds of an engine is used.
         let _ = &self.control;
         mark.learn(&self.ties.mark())
     }
@@ -172,6 +176,7 @@ impl<Q: Work + Drop, O: Ending + Drop> Engine<Q, O> {
         ensures same { self.new ≡ self.old }
         ensures is { IfSome result (λ r. r ≡ caught_up who self.old.core.journal self.old.book) }
     {
+        // For the prover alone: what holds of an engine is used.
         let _ = &self.control;
         self.board.reader(who)
     }

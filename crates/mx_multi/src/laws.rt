@@ -20,6 +20,7 @@ impl<Q: Work + Drop, O: Ending + Drop> Multi<Q, O> {
     pub fn first_call_is_placed(&self)
         ensures { (who : Who) (s t : SeatView Q O) (call : Call) (reply : Reply) → IsNew self.now who s → Stands s t call reply → IsPlaced self.now.engine.opening who (record { cut = length t.seen; call = call; reply = reply } ∷ []) t.seen }
     {
+        // For the prover alone: a law needs something to be a law of.
         let _ = &self.lock;
     }
 
@@ -30,6 +31,7 @@ impl<Q: Work + Drop, O: Ending + Drop> Multi<Q, O> {
         ensures sees { (s t u : SeatView Q O) (more : List Receipt) → Later s t more → Sees t u → Later s u more }
         ensures none { (s : SeatView Q O) → Later s s [] }
     {
+        // For the prover alone: a law needs something to be a law of.
         let _ = &self.lock;
     }
 

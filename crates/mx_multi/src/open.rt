@@ -144,6 +144,7 @@ fn seated<K, Q: Work + Drop, O: Ending + Drop>(
 {
     let mut readers = readers;
     let mut seats = Vec::new(alloc);
+    // For the prover alone: the seats' notes are of these words.
     let _ = words;
     while let Some(reader) = readers.pop_front() {
         let key = lock.another(founder);

@@ -68,6 +68,7 @@ impl<K, Q: Work + Drop, O: Ending + Drop> SeatOf<K, Q, O> {
     pub fn is_placed(&self)
         ensures { HasReceipts self.now }
     {
+        // For the prover alone: what holds of a seat is used.
         let _ = &self.reader;
     }
 }
