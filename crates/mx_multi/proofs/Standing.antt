@@ -325,6 +325,22 @@ none_claimed {Q} j k q r e none still = λ t h.
     sym (ap (λ l. has_ticket t (claimed l r)) e ∙ ap (λ (z : List (Ticket × Q)). has_ticket t (claimed j z)) (still ∙ sym none)) ∙ h
 
 -- a poll that may return
+-- what holds of one engine holds of the same one
+pub locked_as : {Q O : Type 0} (code : O → Code) (size : O → ℕ) (x y : EngineState Q O) → x ≡ y → IsLocked code size x → IsLocked code size y
+locked_as {Q} {O} code size x y e h = subst (λ (z : EngineState Q O). IsLocked code size z) e h
+
+pub legal_as : {Q O : Type 0} (x y : EngineState Q O) → x ≡ y → is_legal x.core.journal ≡ true → is_legal y.core.journal ≡ true
+legal_as {Q} {O} x y e h = subst (λ (z : EngineState Q O). is_legal z.core.journal ≡ true) e h
+
+pub length_as : {Q O : Type 0} (n : ℕ) (x y : EngineState Q O) → x ≡ y → n ≡ length x.core.journal → n ≡ length y.core.journal
+length_as {Q} {O} n x y e h = subst (λ (z : EngineState Q O). n ≡ length z.core.journal) e h
+
+pub ready_as : {Q O : Type 0} (b : Bool) (n : ℕ) (x y : EngineState Q O) → x ≡ y → b ≡ is_ready n x.core.journal → b ≡ is_ready n y.core.journal
+ready_as {Q} {O} b n x y e h = subst (λ (z : EngineState Q O). b ≡ is_ready n z.core.journal) e h
+
+pub made_as : {Q O : Type 0} (n : ℕ) (w : Who) (x y : EngineState Q O) → x ≡ y → n ≡ made_by w x.core.journal → n ≡ made_by w y.core.journal
+made_as {Q} {O} n w x y e h = subst (λ (z : EngineState Q O). n ≡ made_by w z.core.journal) e h
+
 pub woken : {Q O : Type 0} (who : Who) (x : EngineState Q O) → is_legal x.core.journal ≡ true → Leaves who call.Poll x reply.Woken x
 woken who x legal = record { answers = (refl, sym (append-nil x.core.journal)); opening = refl; book = refl; ties = refl; legal = legal; claims = λ t h. h; unchanged = λ none. refl }
 

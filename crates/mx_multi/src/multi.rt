@@ -89,11 +89,13 @@ impl<Q: Work + Drop, O: Ending + Drop> Multi<Q, O> {
         let Some(taken) = self.lock.enter(rt, &mut seat.key, &seat.reader) else {
             return Err(WrongSeat(deed));
         };
-        let _known = taken.engine().know();
+        let found = taken.engine();
+        let _known = found.know();
         let who = seat.reader.who();
         let call = deed.as_call();
         let (taken, reply) = taken.run(rt, deed, who);
-        let _left = taken.engine().know();
+        let left = taken.engine();
+        let _left = left.know();
         self.lock
             .leave(rt, &mut seat.key, taken, &mut seat.reader, &mut seat.ties);
         let cut = seat.reader.cut();
@@ -327,10 +329,12 @@ impl<Q: Work + Drop, O: Ending + Drop> Multi<Q, O> {
         let Some(mut taken) = self.lock.enter(rt, &mut seat.key, &seat.reader) else {
             return None;
         };
-        let _known = taken.engine().know();
-        let _cut = taken.engine().len();
+        let found = taken.engine();
+        let _known = found.know();
+        let _cut = found.len();
         let claimed = taken.claim();
-        let _left = taken.engine().know();
+        let left = taken.engine();
+        let _left = left.know();
         self.lock
             .leave(rt, &mut seat.key, taken, &mut seat.reader, &mut seat.ties);
         let Some(claimed) = claimed else {
@@ -357,8 +361,9 @@ impl<Q: Work + Drop, O: Ending + Drop> Multi<Q, O> {
         let Some(taken) = self.lock.enter(rt, &mut seat.key, &seat.reader) else {
             return Err(WrongSeat(()));
         };
-        let known = taken.engine().know();
-        let _cut = taken.engine().len();
+        let found = taken.engine();
+        let known = found.know();
+        let _cut = found.len();
         self.lock
             .leave(rt, &mut seat.key, taken, &mut seat.reader, &mut seat.ties);
         Ok(known)
@@ -374,10 +379,11 @@ impl<Q: Work + Drop, O: Ending + Drop> Multi<Q, O> {
         let Some(mut taken) = self.lock.enter(rt, &mut one.key, &one.reader) else {
             return false;
         };
-        if taken.engine().begins_with(&two.reader) {
+        let found = taken.engine();
+        if found.begins_with(&two.reader) {
             let other = two.reader.who();
-            if taken.engine().made(other) == two.reader.made() {
-                let _cut = taken.engine().len();
+            if found.made(other) == two.reader.made() {
+                let _cut = found.len();
                 taken.refresh(&mut two.reader);
                 taken.engine().tell(&mut two.ties);
                 self.lock
@@ -442,8 +448,9 @@ impl<Q: Work + Drop, O: Ending + Drop> Multi<Q, O> {
         let Some(taken) = self.lock.enter(rt, &mut seat.key, &seat.reader) else {
             return Err(WrongSeat(()));
         };
-        if taken.engine().is_ready(seat.polled) {
-            let cut = taken.engine().len();
+        let found = taken.engine();
+        if found.is_ready(seat.polled) {
+            let cut = found.len();
             self.lock
                 .leave(rt, &mut seat.key, taken, &mut seat.reader, &mut seat.ties);
             seat.polled = cut;
@@ -496,11 +503,13 @@ impl<Q: Work + Drop, O: Ending + Drop> Multi<Q, O> {
         let Some(mut taken) = self.lock.enter(rt, &mut seat.key, &seat.reader) else {
             return Err(WrongSeat((claim, work)));
         };
-        let _known = taken.engine().know();
-        let _cut = taken.engine().len();
+        let found = taken.engine();
+        let _known = found.know();
+        let _cut = found.len();
         let ticket = claim.ticket();
         let reply = taken.give_back(claim, work);
-        let _left = taken.engine().know();
+        let left = taken.engine();
+        let _left = left.know();
         self.lock
             .leave(rt, &mut seat.key, taken, &mut seat.reader, &mut seat.ties);
         note_given(&mut seat.given, ticket, &reply);

@@ -3,7 +3,7 @@ use Rattle.std.proofs.lemmas.Bool.{false≢true}
 use Rattle.mx_lock.specs.Lock.{IsKeyOf}
 use Rattle.mx_multi.specs.Seats.{MultiView, SeatView}
 use Rattle.mx_board.specs.Board.{ReaderState}
-use Rattle.mx_multi.proofs.Standing.{found_left, finds, left_from, list_kept, list_of, grows_by, begins_by, seat_after, receipt_is, received_more, lock_stands, same_of, engine_kept, stands_from, quiet_mark, tells_on, list_found}
+use Rattle.mx_multi.proofs.Standing.{found_left, finds, left_from, list_kept, list_of, grows_by, begins_by, seat_after, receipt_is, received_more, lock_stands, same_of, engine_kept, stands_from, quiet_mark, tells_on, list_found, locked_as}
 use Rattle.mx_multi.proofs.multi.Multi.act.Goals as goal
 
 pub leave-requires-clause-grows : goal.leave-requires-clause-grows
@@ -69,9 +69,9 @@ returns-clause-left g c =
       found = x;
       engine = sym took.engine;
       begins = finds _ _ c.seat.inside.reader x c.seat.invariant.0 took _ c.seat.inside.polled c.seat.inside.notes c.seat.inside.ties.entries c.seat.inside.mine c.seat.inside.given c.in-Some.ensures.entered.1;
-      locked = c.know-known.ensures.locked;
+      locked = (locked_as _ _ _ _ c.engine-found.ensures c.know-known.ensures.locked);
       after = y;
       left = found_left _ _ c.seat.inside.reader x c.seat.invariant.0 took g.O.Ending.code_of g.O.Ending.size_of _ y leaves.book leaves.opening leaves.ties (sym (ap (λ (t : ReaderState). t.seen) c.leave.ensures.reader))
-          (engine_kept _ _ c.seat.inside.reader x c.seat.invariant.0 took _ y c.leave.ensures.gave) c.know-left.ensures.locked;
+          (engine_kept _ _ c.seat.inside.reader x c.seat.invariant.0 took _ y c.leave.ensures.gave) (locked_as _ _ _ _ c.engine-left.ensures c.know-left.ensures.locked);
       unchanged = leaves.unchanged;
     })

@@ -6,7 +6,7 @@ use Rattle.mx_lock.specs.Ties.{TieState}
 use Rattle.mx_multi.specs.Seats.{MultiView, SeatView}
 use Rattle.mx_board.specs.Board.{ReaderState}
 use Rattle.mx_lock.proofs.Tying.{has_more}
-use Rattle.mx_multi.proofs.Standing.{list_kept, seat_after, received_same, lock_sees, same_of, engine_kept, sees_from, claims_after, claims_one, list_of, none_claimed, found_state, found_left}
+use Rattle.mx_multi.proofs.Standing.{list_kept, seat_after, received_same, lock_sees, same_of, engine_kept, sees_from, claims_after, claims_one, list_of, none_claimed, found_state, found_left, legal_as, locked_as}
 use Rattle.mx_multi.proofs.Claiming.{claims_new}
 use Rattle.mx_multi.proofs.multi.Multi.claim.Goals as goal
 
@@ -17,7 +17,7 @@ invariant_of-seat-in_default-claimed g c =
     let x = c.in-Some.taken in
     let y = c.claim-claimed.new.self in
     let j = c.claim-claimed.ensures.journal in
-    let left : IsLeft x y = record { journal = j.0; opening = j.1; book = j.2; ties = ap (λ (z : TieState). z.book) c.claim-claimed.ensures.ties; legal = ap is_legal j.0 ∙ c.len-cut.ensures.legal } in (
+    let left : IsLeft x y = record { journal = j.0; opening = j.1; book = j.2; ties = ap (λ (z : TieState). z.book) c.claim-claimed.ensures.ties; legal = ap is_legal j.0 ∙ (legal_as _ _ c.engine-found.ensures c.len-cut.ensures.legal) } in (
       seat_after _ _ c.seat.inside.reader x c.seat.invariant.0 took _ _ y c.leave.ensures.gave c.leave.ensures.reader left.book,
       k.2,
       received_same _ _
@@ -33,7 +33,7 @@ invariant_of-seat-2 g c =
     let x = c.in-Some.taken in
     let y = c.claim-claimed.new.self in
     let j = c.claim-claimed.ensures.journal in
-    let left : IsLeft x y = record { journal = j.0; opening = j.1; book = j.2; ties = ap (λ (z : TieState). z.book) c.claim-claimed.ensures.ties; legal = ap is_legal j.0 ∙ c.len-cut.ensures.legal } in (
+    let left : IsLeft x y = record { journal = j.0; opening = j.1; book = j.2; ties = ap (λ (z : TieState). z.book) c.claim-claimed.ensures.ties; legal = ap is_legal j.0 ∙ (legal_as _ _ c.engine-found.ensures c.len-cut.ensures.legal) } in (
       seat_after _ _ c.seat.inside.reader x c.seat.invariant.0 took _ _ y c.leave.ensures.gave c.leave.ensures.reader left.book,
       k.2,
       received_same _ _
@@ -49,7 +49,7 @@ returns-in_default-claimed-clause-sees g c =
     let x = c.in-Some.taken in
     let y = c.claim-claimed.new.self in
     let j = c.claim-claimed.ensures.journal in
-    let left : IsLeft x y = record { journal = j.0; opening = j.1; book = j.2; ties = ap (λ (z : TieState). z.book) c.claim-claimed.ensures.ties; legal = ap is_legal j.0 ∙ c.len-cut.ensures.legal } in
+    let left : IsLeft x y = record { journal = j.0; opening = j.1; book = j.2; ties = ap (λ (z : TieState). z.book) c.claim-claimed.ensures.ties; legal = ap is_legal j.0 ∙ (legal_as _ _ c.engine-found.ensures c.len-cut.ensures.legal) } in
     inr (sees_from _ _ _ c.seat.view_is
     (lock_sees _ _ c.seat.inside.reader x c.seat.invariant.0 took _ c.leave.new.reader y c.leave.ensures.gave c.leave.ensures.reader _ _ c.seat.inside.polled c.seat.inside.notes c.seat.inside.ties.entries c.leave.new.ties.entries c.seat.inside.mine c.seat.inside.given c.seat.inside.given c.leave.ensures.told.1 (same_of _ _ _ c.args.self.now c.args.seat.now c.requires.own c.self.view_is (ap (λ (s : SeatView g.row.Q.Denot g.row.O.Denot). s.of) c.seat.view_is) k.0 k.1 (engine_kept _ _ c.seat.inside.reader x c.seat.invariant.0 took _ y c.leave.ensures.gave) refl refl) c.in-Some.ensures.entered.1 left))
 
@@ -60,7 +60,7 @@ returns-clause-sees g c =
     let x = c.in-Some.taken in
     let y = c.claim-claimed.new.self in
     let j = c.claim-claimed.ensures.journal in
-    let left : IsLeft x y = record { journal = j.0; opening = j.1; book = j.2; ties = ap (λ (z : TieState). z.book) c.claim-claimed.ensures.ties; legal = ap is_legal j.0 ∙ c.len-cut.ensures.legal } in
+    let left : IsLeft x y = record { journal = j.0; opening = j.1; book = j.2; ties = ap (λ (z : TieState). z.book) c.claim-claimed.ensures.ties; legal = ap is_legal j.0 ∙ (legal_as _ _ c.engine-found.ensures c.len-cut.ensures.legal) } in
     sees_from _ _ _ c.seat.view_is
     (lock_sees _ _ c.seat.inside.reader x c.seat.invariant.0 took _ c.leave.new.reader y c.leave.ensures.gave c.leave.ensures.reader _ _ c.seat.inside.polled c.seat.inside.notes c.seat.inside.ties.entries c.leave.new.ties.entries c.seat.inside.mine c.seat.inside.given c.seat.inside.given c.leave.ensures.told.1 (same_of _ _ _ c.args.self.now c.args.seat.now c.requires.own c.self.view_is (ap (λ (s : SeatView g.row.Q.Denot g.row.O.Denot). s.of) c.seat.view_is) k.0 k.1 (engine_kept _ _ c.seat.inside.reader x c.seat.invariant.0 took _ y c.leave.ensures.gave) refl refl) c.in-Some.ensures.entered.1 left)
 
@@ -80,7 +80,7 @@ returns-clause-claims g c =
     let y = c.claim-claimed.new.self in
     let r = c.in-Some-claimed.claimed in
     claims_one _ _ c.seat.inside.reader x c.seat.invariant.0 took _ _ y c.leave.ensures.gave c.leave.ensures.reader r.0.ticket
-    (claims_new x.core.journal y.core.journal r.0.ticket r.1 x.core.queue y.core.queue (ap is_legal c.claim-claimed.ensures.journal.0 ∙ c.len-cut.ensures.legal) c.claim-claimed.ensures.journal.0 c.in-Some-claimed.ensures.some c.in-Some-claimed.ensures.claimed)
+    (claims_new x.core.journal y.core.journal r.0.ticket r.1 x.core.queue y.core.queue (ap is_legal c.claim-claimed.ensures.journal.0 ∙ (legal_as _ _ c.engine-found.ensures c.len-cut.ensures.legal)) c.claim-claimed.ensures.journal.0 c.in-Some-claimed.ensures.some c.in-Some-claimed.ensures.claimed)
     ∙ ap (λ (s : SeatView g.row.Q.Denot g.row.O.Denot). s.claims ++ r.0.ticket ∷ []) c.seat.view_is
 
 pub returns-in_default-claimed-clause-queue : goal.returns-in_default-claimed-clause-queue
@@ -92,7 +92,7 @@ returns-in_default-claimed-clause-queue g c =
     inr
     (record {
       found = x;
-      is = found_state _ _ c.seat.inside.reader x c.seat.invariant.0 took g.O.Ending.code_of g.O.Ending.size_of _ x refl (ap (λ (t : ReaderState). t.seen) c.leave.ensures.reader ∙ c.claim-claimed.ensures.journal.0) (engine_kept _ _ c.seat.inside.reader x c.seat.invariant.0 took _ y c.leave.ensures.gave) c.know-known.ensures.locked;
+      is = found_state _ _ c.seat.inside.reader x c.seat.invariant.0 took g.O.Ending.code_of g.O.Ending.size_of _ x refl (ap (λ (t : ReaderState). t.seen) c.leave.ensures.reader ∙ c.claim-claimed.ensures.journal.0) (engine_kept _ _ c.seat.inside.reader x c.seat.invariant.0 took _ y c.leave.ensures.gave) (locked_as _ _ _ _ c.engine-found.ensures c.know-known.ensures.locked);
       none = none.0;
     })
 
@@ -104,11 +104,11 @@ returns-clause-queue g c =
     let j = c.claim-claimed.ensures.journal in
     record {
       found = x;
-      is = found_state _ _ c.seat.inside.reader x c.seat.invariant.0 took g.O.Ending.code_of g.O.Ending.size_of _ x refl (ap (λ (t : ReaderState). t.seen) c.leave.ensures.reader ∙ c.claim-claimed.ensures.journal.0) (engine_kept _ _ c.seat.inside.reader x c.seat.invariant.0 took _ y c.leave.ensures.gave) c.know-known.ensures.locked;
+      is = found_state _ _ c.seat.inside.reader x c.seat.invariant.0 took g.O.Ending.code_of g.O.Ending.size_of _ x refl (ap (λ (t : ReaderState). t.seen) c.leave.ensures.reader ∙ c.claim-claimed.ensures.journal.0) (engine_kept _ _ c.seat.inside.reader x c.seat.invariant.0 took _ y c.leave.ensures.gave) (locked_as _ _ _ _ c.engine-found.ensures c.know-known.ensures.locked);
       least = c.in-Some-claimed.ensures.least;
       after = y;
       left = found_left _ _ c.seat.inside.reader x c.seat.invariant.0 took g.O.Ending.code_of g.O.Ending.size_of _ y j.2 j.1 (ap (λ (z : TieState). z.book) c.claim-claimed.ensures.ties) (sym (ap (λ (t : ReaderState). t.seen) c.leave.ensures.reader))
-          (engine_kept _ _ c.seat.inside.reader x c.seat.invariant.0 took _ y c.leave.ensures.gave) c.know-left.ensures.locked;
+          (engine_kept _ _ c.seat.inside.reader x c.seat.invariant.0 took _ y c.leave.ensures.gave) (locked_as _ _ _ _ c.engine-left.ensures c.know-left.ensures.locked);
       first = c.in-Some-claimed.ensures.some;
       claimed = c.in-Some-claimed.ensures.claimed;
       endings = c.claim-claimed.ensures.endings;

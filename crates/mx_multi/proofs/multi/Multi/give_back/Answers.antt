@@ -5,7 +5,7 @@ use Rattle.mx_lock.specs.Lock.{IsKeyOf}
 use Rattle.mx_lock.specs.Engine.{IsLeft}
 use Rattle.mx_lock.specs.Ties.{TieState}
 use Rattle.mx_multi.specs.Seats.{MultiView, SeatView, given_with}
-use Rattle.mx_multi.proofs.Standing.{list_kept, list_of, seat_after, received_same, lock_sees, same_of, engine_kept, sees_from, claims_after, found_state, found_left}
+use Rattle.mx_multi.proofs.Standing.{list_kept, list_of, seat_after, received_same, lock_sees, same_of, engine_kept, sees_from, claims_after, found_state, found_left, legal_as, locked_as}
 use Rattle.mx_multi.proofs.multi.Multi.give_back.Goals as goal
 
 pub invariant_of-seat-2 : goal.invariant_of-seat-2
@@ -15,7 +15,7 @@ invariant_of-seat-2 g c =
     let x = c.in-Some.taken in
     let y = c.give_back-reply.new.self in
     let j = c.give_back-reply.ensures.journal in
-    let left : IsLeft x y = record { journal = j.0; opening = j.1; book = j.2; ties = ap (λ (z : TieState). z.book) c.give_back-reply.ensures.ties; legal = ap is_legal j.0 ∙ c.len-cut.ensures.legal } in (
+    let left : IsLeft x y = record { journal = j.0; opening = j.1; book = j.2; ties = ap (λ (z : TieState). z.book) c.give_back-reply.ensures.ties; legal = ap is_legal j.0 ∙ (legal_as _ _ c.engine-found.ensures c.len-cut.ensures.legal) } in (
       seat_after _ _ c.seat.inside.reader x c.seat.invariant.0 took _ _ y c.leave.ensures.gave c.leave.ensures.reader left.book,
       k.2,
       received_same _ _
@@ -31,7 +31,7 @@ returns-clause-sees g c =
     let x = c.in-Some.taken in
     let y = c.give_back-reply.new.self in
     let j = c.give_back-reply.ensures.journal in
-    let left : IsLeft x y = record { journal = j.0; opening = j.1; book = j.2; ties = ap (λ (z : TieState). z.book) c.give_back-reply.ensures.ties; legal = ap is_legal j.0 ∙ c.len-cut.ensures.legal } in
+    let left : IsLeft x y = record { journal = j.0; opening = j.1; book = j.2; ties = ap (λ (z : TieState). z.book) c.give_back-reply.ensures.ties; legal = ap is_legal j.0 ∙ (legal_as _ _ c.engine-found.ensures c.len-cut.ensures.legal) } in
     sees_from _ _ _ c.seat.view_is
     (lock_sees _ _ c.seat.inside.reader x c.seat.invariant.0 took _ c.leave.new.reader y c.leave.ensures.gave c.leave.ensures.reader _ _ c.seat.inside.polled c.seat.inside.notes c.seat.inside.ties.entries c.leave.new.ties.entries c.seat.inside.mine c.seat.inside.given c.note_given.new.given c.leave.ensures.told.1 (same_of _ _ _ c.args.self.now c.args.seat.now c.requires.own c.self.view_is (ap (λ (s : SeatView g.row.Q.Denot g.row.O.Denot). s.of) c.seat.view_is) k.0 k.1 (engine_kept _ _ c.seat.inside.reader x c.seat.invariant.0 took _ y c.leave.ensures.gave) refl refl) c.in-Some.ensures.entered.1 left)
 
@@ -48,10 +48,10 @@ returns-clause-queue g c =
     let engine = engine_kept _ _ c.seat.inside.reader x c.seat.invariant.0 took _ y c.leave.ensures.gave in
     record {
       found = x;
-      is = found_state _ _ c.seat.inside.reader x c.seat.invariant.0 took g.O.Ending.code_of g.O.Ending.size_of _ x refl (seen ∙ same.0) engine c.know-known.ensures.locked;
+      is = found_state _ _ c.seat.inside.reader x c.seat.invariant.0 took g.O.Ending.code_of g.O.Ending.size_of _ x refl (seen ∙ same.0) engine (locked_as _ _ _ _ c.engine-found.ensures c.know-known.ensures.locked);
       back = c.give_back-reply.ensures.back;
       after = y;
-      left = found_left _ _ c.seat.inside.reader x c.seat.invariant.0 took g.O.Ending.code_of g.O.Ending.size_of _ y same.2 same.1 (ap (λ (z : TieState). z.book) c.give_back-reply.ensures.ties) (sym seen) engine c.know-left.ensures.locked;
+      left = found_left _ _ c.seat.inside.reader x c.seat.invariant.0 took g.O.Ending.code_of g.O.Ending.size_of _ y same.2 same.1 (ap (λ (z : TieState). z.book) c.give_back-reply.ensures.ties) (sym seen) engine (locked_as _ _ _ _ c.engine-left.ensures c.know-left.ensures.locked);
       queue = c.give_back-reply.ensures.queue;
       endings = c.give_back-reply.ensures.endings;
     }

@@ -6,7 +6,7 @@ use Rattle.mx_journal.specs.History.{made_by}
 use Rattle.mx_board.specs.Board.{ReaderState}
 use Rattle.mx_lock.specs.Engine.{EngineState, IsLeft}
 use Rattle.mx_multi.specs.Seats.{SeatView}
-use Rattle.mx_multi.proofs.Standing.{list_kept, list_released, seat_after, seat_released, received_same, received_released, lock_sees, other_sees, seat_sees, same_of, engine_kept, engine_released, sees_from, claims_after, left_same, no_other}
+use Rattle.mx_multi.proofs.Standing.{list_kept, list_released, seat_after, seat_released, received_same, received_released, lock_sees, other_sees, seat_sees, same_of, engine_kept, engine_released, sees_from, claims_after, left_same, no_other, legal_as, made_as}
 use Rattle.mx_multi.proofs.multi.Multi.try_meet.Goals as goal
 
 pub invariant_of-one-then-made : goal.invariant_of-one-then-made
@@ -16,7 +16,7 @@ invariant_of-one-then-made g c =
     let x = c.in-Some.taken in
     let y = c.refresh.new.self in
     let same : y ≡ x = c.refresh.ensures.same in
-    let left : IsLeft x y = left_same x y same c.len-cut.ensures.legal in (
+    let left : IsLeft x y = left_same x y same (legal_as _ _ c.engine-found.ensures c.len-cut.ensures.legal) in (
       seat_after _ _ c.one.inside.reader x c.one.invariant.0 took _ _ y c.leave.ensures.gave c.leave.ensures.reader left.book,
       k.2,
       received_same _ _
@@ -30,12 +30,12 @@ invariant_of-two g c =
     let x = c.in-Some.taken in
     let r = c.two.inside.reader in
     let pre : IsPrefix r.seen x.core.journal = search rules in
-    let own : made_by r.who x.core.journal ≡ made_by r.who r.seen = subst (λ m. made_by m x.core.journal ≡ made_by r.who r.seen) c.who-other.ensures.is (sym c.made.ensures ∙ c.if-made.true ∙ c.made-then-begins_with.ensures) in
+    let own : made_by r.who x.core.journal ≡ made_by r.who r.seen = subst (λ m. made_by m x.core.journal ≡ made_by r.who r.seen) c.who-other.ensures.is (sym (made_as _ _ _ _ c.engine-found.ensures c.made.ensures) ∙ c.if-made.true ∙ c.made-then-begins_with.ensures) in
     let book : r.book ≡ x.book = search rules in (
       seat_sees _ r _ x c.two.invariant.0 pre own book c.refresh.ensures.reader,
       c.two.invariant.1,
       received_same _ _
-          (other_sees _ (view c.two.inside.key) r c.refresh.new.reader c.two.inside.polled c.two.inside.notes c.two.inside.ties.entries c.tell.new.mark.entries c.two.inside.mine c.two.inside.given x c.tell.ensures.grown pre own c.len-cut.ensures.legal c.refresh.ensures.reader)
+          (other_sees _ (view c.two.inside.key) r c.refresh.new.reader c.two.inside.polled c.two.inside.notes c.two.inside.ties.entries c.tell.new.mark.entries c.two.inside.mine c.two.inside.given x c.tell.ensures.grown pre own (legal_as _ _ c.engine-found.ensures c.len-cut.ensures.legal) c.refresh.ensures.reader)
           c.two.invariant.2,
       c.tell.ensures.book ∙ c.two.invariant.3,
     )
@@ -58,15 +58,15 @@ returns-then-made-clause-meets g c =
     let x = c.in-Some.taken in
     let y = c.refresh.new.self in
     let same : y ≡ x = c.refresh.ensures.same in
-    let left : IsLeft x y = left_same x y same c.len-cut.ensures.legal in
+    let left : IsLeft x y = left_same x y same (legal_as _ _ c.engine-found.ensures c.len-cut.ensures.legal) in
     let r = c.two.inside.reader in
     let pre : IsPrefix r.seen x.core.journal = search rules in
-    let own : made_by r.who x.core.journal ≡ made_by r.who r.seen = subst (λ m. made_by m x.core.journal ≡ made_by r.who r.seen) c.who-other.ensures.is (sym c.made.ensures ∙ c.if-made.true ∙ c.made-then-begins_with.ensures) in
+    let own : made_by r.who x.core.journal ≡ made_by r.who r.seen = subst (λ m. made_by m x.core.journal ≡ made_by r.who r.seen) c.who-other.ensures.is (sym (made_as _ _ _ _ c.engine-found.ensures c.made.ensures) ∙ c.if-made.true ∙ c.made-then-begins_with.ensures) in
     let found = ap (λ (t : ReaderState). t.seen) c.leave.ensures.reader ∙ ap (λ (z : EngineState g.row.Q.Denot g.row.O.Denot). z.core.journal) same in (
       sees_from _ _ _ c.one.view_is
           (lock_sees _ _ c.one.inside.reader x c.one.invariant.0 took _ c.leave.new.reader y c.leave.ensures.gave c.leave.ensures.reader _ _ c.one.inside.polled c.one.inside.notes c.one.inside.ties.entries c.leave.new.ties.entries c.one.inside.mine c.one.inside.given c.one.inside.given c.leave.ensures.told.1 (same_of _ _ _ c.args.self.now c.args.one.now c.requires.own.0 c.self.view_is (ap (λ (s : SeatView g.row.Q.Denot g.row.O.Denot). s.of) c.one.view_is) k.0 k.1 (engine_kept _ _ c.one.inside.reader x c.one.invariant.0 took _ y c.leave.ensures.gave) refl refl) c.in-Some.ensures.entered.1 left),
       sees_from _ _ _ c.two.view_is
-          (other_sees _ (view c.two.inside.key) r c.refresh.new.reader c.two.inside.polled c.two.inside.notes c.two.inside.ties.entries c.tell.new.mark.entries c.two.inside.mine c.two.inside.given x c.tell.ensures.grown pre own c.len-cut.ensures.legal c.refresh.ensures.reader),
+          (other_sees _ (view c.two.inside.key) r c.refresh.new.reader c.two.inside.polled c.two.inside.notes c.two.inside.ties.entries c.tell.new.mark.entries c.two.inside.mine c.two.inside.given x c.tell.ensures.grown pre own (legal_as _ _ c.engine-found.ensures c.len-cut.ensures.legal) c.refresh.ensures.reader),
       found ∙ sym (ap (λ (t : ReaderState). t.seen) c.refresh.ensures.reader),
     )
 
