@@ -5,6 +5,7 @@ use Rattle.std.specs.List.{sum_by}
 use Rattle.std.proofs.lemmas.List.{length-set, get_or-set_same, get_or-set_other, length-replicate, get_or-replicate}
 use Rattle.std.proofs.lemmas.List.Sums.{sum_by-append}
 use Rattle.std.proofs.lemmas.Grind.{flat_map-append}
+use Rattle.mx_types.specs.Limits.{most_handles}
 use mathlib.Core.Option.{some, some-ne-none, some-injective}
 use mathlib.Core.Logic.{dite}
 use native.Mathlib.Decide.{ℕ_discrete}
@@ -115,7 +116,7 @@ word_set ws i k x le lt =
     (λ apart. let e = get_or-set_other ws i k x 0 apart in (omega (arith, e), λ _. e))
 
 -- a seat's view changes, and its slot's word rises to what all have noted then
-stepped : (n : ℕ) (ws : List ℕ) (views : List NoteView) (id : ℕ) (v w : NoteView) (i x : ℕ) → IsKept n ws views → get_elem? views id ≡ some v → i < 256
+stepped : (n : ℕ) (ws : List ℕ) (views : List NoteView) (id : ℕ) (v w : NoteView) (i x : ℕ) → IsKept n ws views → get_elem? views id ≡ some v → i < most_handles
     → slice_index ws i ≤ x → x ≡ greatest i (all_noted (slice_set views id w)) → ((k : ℕ) → k ≢ i → greatest k w.noted ≡ greatest k v.noted)
     → greatest i v.noted ≤ greatest i w.noted → w.joined ≡ v.joined → IsSeat n (slice_set ws i x) w → IsKept n (slice_set ws i x) (slice_set views id w)
 stepped n ws views id v w i x kept at lt up is else_same more joined seat =
@@ -130,25 +131,25 @@ stepped n ws views id v w i x kept at lt up is else_same more joined seat =
       joined = omega (arith, joined_set views id v w at, joined, kept.joined);
     }
 
-pub opening_keeps : (n : ℕ) → IsKept n (replicate 256 0) (first_seat n ∷ [])
+pub opening_keeps : (n : ℕ) → IsKept n (replicate most_handles 0) (first_seat n ∷ [])
 opening_keeps n = record {
-  wide = length-replicate {A = ℕ} 256 0;
-  words = λ k few. get_or-replicate {A = ℕ} 256 k 0 0 few;
+  wide = length-replicate {A = ℕ} most_handles 0;
+  words = λ k few. get_or-replicate {A = ℕ} most_handles k 0 0 few;
   each = λ j v there. first_only j v there;
   joined = omega arith;
 }
   where
-    first : IsSeat n (replicate 256 0) (first_seat n)
+    first : IsSeat n (replicate most_handles 0) (first_seat n)
     first = record { seats = λ _. refl; read = λ k few. omega arith; spent = λ _. refl }
 
-    first_only : (j : ℕ) (v : NoteView) → get_elem? (first_seat n ∷ []) j ≡ some v → IsSeat n (replicate 256 0) v
-    first_only zero v there = subst (IsSeat n (replicate 256 0)) (some-injective (first_seat n) v there) first
+    first_only : (j : ℕ) (v : NoteView) → get_elem? (first_seat n ∷ []) j ≡ some v → IsSeat n (replicate most_handles 0) v
+    first_only zero v there = subst (IsSeat n (replicate most_handles 0)) (some-injective (first_seat n) v there) first
     first_only (suc j) v there = absurd (some-ne-none v (sym there))
 
-word_up : (ws : List ℕ) (i k x : ℕ) → length ws ≡ 256 → slice_index ws i ≤ x → i < 256 → slice_index ws k ≤ slice_index (slice_set ws i x) k
+word_up : (ws : List ℕ) (i k x : ℕ) → length ws ≡ most_handles → slice_index ws i ≤ x → i < most_handles → slice_index ws k ≤ slice_index (slice_set ws i x) k
 word_up ws i k x wide le lt = (word_set ws i k x le (omega (arith, wide))).0
 
-pub noting_keeps : (n : ℕ) (ws : List ℕ) (views : List NoteView) (id : ℕ) (v : NoteView) (i x : ℕ) → IsKept n ws views → get_elem? views id ≡ some v → i < 256 → 0 < v.joined
+pub noting_keeps : (n : ℕ) (ws : List ℕ) (views : List NoteView) (id : ℕ) (v : NoteView) (i x : ℕ) → IsKept n ws views → get_elem? views id ≡ some v → i < most_handles → 0 < v.joined
     → IsKept n (slice_set ws i (max (slice_index ws i) x)) (slice_set views id (view_with v (v.noted ++ note i x ∷ []) v.read))
 noting_keeps n ws views id v i x kept at lt some_seats =
     let w = view_with v (v.noted ++ note i x ∷ []) v.read in
@@ -163,7 +164,7 @@ noting_keeps n ws views id v i x kept at lt some_seats =
     refl
     (record { seats = s.seats; read = λ k few. omega (arith, s.read k few, word_up ws i k (max (slice_index ws i) x) kept.wide up lt); spent = λ none. absurd (omega (arith, none, some_seats)) })
 
-pub loading_keeps : (n : ℕ) (ws : List ℕ) (views : List NoteView) (id : ℕ) (v : NoteView) (i : ℕ) → IsKept n ws views → get_elem? views id ≡ some v → i < 256
+pub loading_keeps : (n : ℕ) (ws : List ℕ) (views : List NoteView) (id : ℕ) (v : NoteView) (i : ℕ) → IsKept n ws views → get_elem? views id ≡ some v → i < most_handles
     → IsKept n (slice_set ws i (slice_index ws i)) (slice_set views id (view_with v v.noted (v.read ++ note i (slice_index ws i) ∷ [])))
     × (greatest i v.noted ≤ slice_index ws i) × (greatest i v.read ≤ slice_index ws i) × (0 < v.joined → v.joined ≡ v.seats → slice_index ws i ≡ greatest i v.noted)
 loading_keeps n ws views id v i kept at lt =
@@ -172,7 +173,7 @@ loading_keeps n ws views id v i kept at lt =
     let s = kept.each id v at in
     let same : slice_index ws i ≤ x = omega arith in
     let bound = noted_bound i views id v at in
-    let reads : (k : ℕ) → k < 256 → greatest k w.read ≤ slice_index (slice_set ws i x) k =
+    let reads : (k : ℕ) → k < most_handles → greatest k w.read ≤ slice_index (slice_set ws i x) k =
     λ k few. dite (ℕ_discrete k i)
     (λ e. rw e (omega (arith, greatest_here i x v.read, s.read i lt, word_up ws i i x kept.wide same lt)))
     (λ apart. omega (arith, greatest_else i k x v.read (λ e. apart (sym e)), s.read k few, word_up ws i k x kept.wide same lt)) in (

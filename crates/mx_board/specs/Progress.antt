@@ -5,6 +5,7 @@ use mathlib.Core.Option.{some}
 use lib.ListN.{get_elem?}
 use Rattle.atomic_table.specs.Seated.{TableId}
 use Rattle.atomic_table.specs.Table.{Me, Step}
+use Rattle.mx_types.specs.Limits.{most_handles}
 use Rattle.mx_types.specs.declared.names.Ticket.{Ticket}
 use Rattle.mx_board.specs.declared.note.Note.{Note}
 use Rattle.mx_board.specs.declared.note.NoteView.{NoteView}
@@ -51,13 +52,13 @@ all_noted views = flat_map (λ v. v.noted) views
 -- what is known of each seat: it has read no word that is greater than the slot's, and one that was spent in joining has noted nothing
 pub record IsSeat (n : ℕ) (ws : List ℕ) (v : NoteView) : Type 0 where
   pub seats : 0 < v.joined → v.seats ≡ n
-  pub read : (k : ℕ) → k < 256 → greatest k v.read ≤ slice_index ws k
+  pub read : (k : ℕ) → k < most_handles → greatest k v.read ≤ slice_index ws k
   pub spent : v.joined ≡ 0 → v.noted ≡ []
 
 -- the word of each slot is the greatest that was noted for it, or 0; and each seat of the table is joined in one
 pub record IsKept (n : ℕ) (ws : List ℕ) (views : List NoteView) : Type 0 where
-  pub wide : length ws ≡ 256
-  pub words : (k : ℕ) → k < 256 → slice_index ws k ≡ greatest k (all_noted views)
+  pub wide : length ws ≡ most_handles
+  pub words : (k : ℕ) → k < most_handles → slice_index ws k ≡ greatest k (all_noted views)
   pub each : (j : ℕ) (v : NoteView) → get_elem? views j ≡ some v → IsSeat n ws v
   pub joined : sum_by (λ v. v.joined) views ≡ n
 

@@ -5,7 +5,7 @@ ghost use Rattle.mx_board.specs.Progress.{ReadsWord, new_seat, note, word_of};
 
 use crate::note::NoteView;
 use atomic_table::{Join, Play, Seat, Split, Table, TableRule};
-use mx_types::{OutOfMemory, Ticket};
+use mx_types::{MOST_HANDLES, OutOfMemory, Ticket};
 use std::alloc::Global;
 use std::marker::Model;
 
@@ -66,13 +66,14 @@ pub struct ProgressTable {
 
 impl Model for ProgressTable {
     ghost use Rattle.std.specs.Prelude.{◌≡◌};
+    ghost use Rattle.mx_types.specs.Limits.{most_handles};
     ghost use Rattle.mx_board.specs.Progress.{ProgressState};
 
     ghost Value = { ProgressState };
 
     ghost view = { λ t. record { id = t.table.shared.table_id; seats = t.table.shared.key } };
 
-    ghost invariant = { λ t. (t.table.shared.table_id.words ≡ 256) × (t.table.shared.table_id.slots ≡ 0) };
+    ghost invariant = { λ t. (t.table.shared.table_id.words ≡ most_handles) × (t.table.shared.table_id.slots ≡ 0) };
 }
 
 /// The right to note and to read progress words. Contracts see of which table it is, and what it has noted and read.
@@ -100,7 +101,7 @@ impl ProgressTable {
         ensures each { IfOk result (λ r. (length r.1.items ≡ seats) × All (λ s. s ≡ new_seat r.0) r.1.items) }
     {
         let mut all = Vec::new(alloc);
-        let words = [0; 256];
+        let words = [0; MOST_HANDLES];
         let (progress, mut first) = ProgressTable::open(alloc, &words, u64::from(seats))?;
         for made in 1..seats {
             all.push(progress.split(&mut first))?;
@@ -115,7 +116,7 @@ impl ProgressTable {
         words: &[u64],
         seats: u64,
     ) -> Result<(ProgressTable, NoteSeat), OutOfMemory>
-        requires words { words.now ≡ replicate 256 0 }
+        requires words { words.now ≡ replicate MOST_HANDLES 0 }
         requires seats { 0 < seats }
         ensures { IfOk result (λ r. (r.0.seats ≡ seats) × (r.1 ≡ record { of = r.0.id; seats = seats; joined = seats; noted = []; read = [] })) }
     {
