@@ -1,5 +1,6 @@
 -- What a command line may ask for.
-use Rattle.std.specs.Prelude.{◌≡◌, ◌≤◌, true}
+use Rattle.std.specs.Prelude.{◌≡◌, true}
+use Rattle.mx_types.specs.Limits.{IsHistory}
 use Rattle.mx_run_io.specs.Options.{are_within}
 use Rattle.mx_command.specs.declared.asked.Asked.{Asked}
 use Rattle.mx_command.specs.declared.asked.Asked.TheVariants.{Task, Get}
@@ -9,7 +10,7 @@ use Rattle.mx_command.specs.declared.task.Task.TheVariants.{Body, Play}
 -- a history is within its limits
 abbrev pub IsTask : Tasks → Type 0
 IsTask (Body method) = Unit {0}
-IsTask (Play history) = (4 ≤ history) × (history ≤ 1048576)
+IsTask (Play history) = IsHistory history
 
 -- a task that is one, or options within their limits
 abbrev pub IsAsked : Asked → Type 0

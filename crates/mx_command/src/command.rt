@@ -9,7 +9,7 @@ use crate::task::Task;
 use clap::error::ErrorKind;
 use clap::{Arg, ArgAction, ArgMatches, Command, Error, value_parser};
 use mx_run_io::Options;
-use mx_types::Method;
+use mx_types::{LEAST_HISTORY, MOST_HISTORY, Method};
 use std::alloc::{AllocError, Global};
 
 static METHODS: [&str; 6] = ["GET", "HEAD", "POST", "PUT", "DELETE", "OPTIONS"];
@@ -30,7 +30,7 @@ fn play_command<'a>(alloc: Global) -> Result<Command<'a>, AllocError> {
     let history = Arg::new(alloc, "history")
         .long("history")
         .value_name("N")
-        .value_parser(value_parser!(u32).range(4..=1_048_576))
+        .value_parser(value_parser!(u32).range(i64::from(LEAST_HISTORY)..=i64::from(MOST_HISTORY)))
         .default_value("1024")
         .help("How many events the journal has room for: 4 to 1048576");
     Command::new(alloc, "play")
@@ -103,7 +103,9 @@ fn task_of(matches: &ArgMatches<'_>) -> Option<Task>
     }
     let play = matches.subcommand_matches("play")?;
     match play.get_one::<u32>("history") {
-        Some(history) if (4..=1_048_576).contains(&history) => Some(Task::Play(history)),
+        Some(history) if (LEAST_HISTORY..=MOST_HISTORY).contains(&history) => Some(Task::Play(
+            history,
+        )),
         _ => None,
     }
 }
