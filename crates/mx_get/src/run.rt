@@ -1,11 +1,10 @@
 //! The command `get`.
-ghost use Rattle.std.specs.Prelude.{◌≡◌, ◌≢◌, ◌<◌, ◌↔◌, true, false, Err, IfOk, IfErr, OnOk, length, map};
-ghost use Rattle.std.specs.Io.KnownBytes.{Appends};
+ghost use Rattle.std.specs.Prelude.{◌≡◌, ◌≢◌, ◌<◌, true, false, Err, IfOk, IfErr, OnOk, length, map};
 ghost use Rattle.mx_types.specs.Code.{code_number};
 ghost use Rattle.mx_types.specs.declared.code.Code.TheVariants as codes;
 ghost use Rattle.mx_run_io.specs.Faults.{PrintsFault};
 ghost use Rattle.mx_run_io.specs.Options.{are_within};
-ghost use Rattle.mx_run_io.specs.Ends.{writer_of, has_failed_write, is_pending};
+ghost use Rattle.mx_run_io.specs.Ends.{has_failed_write, is_pending, Wrote, EndsRun};
 ghost use Rattle.mx_run_get.specs.Texts.{texts_from, exit_status};
 ghost use Rattle.mx_get.specs.Run.{AnswersUrls, PrintsEnds};
 ghost use Rattle.mx_get.specs.declared.error.FetchError.TheVariants as fetch_error;
@@ -25,8 +24,7 @@ use std::thread::Threads;
 
 // Prints the ends.
 fn print_ends<W: Write>(output: &mut Output<W>, ends: &[Fetched]) -> Result<u8, FetchError>
-    ensures printed { OnOk result (Appends (W.contents (writer_of output.old)) (W.contents (writer_of output.new))
-        (texts_from 0 ends.now)) }
+    ensures printed { OnOk result (Wrote W.contents output.old output.new (texts_from 0 ends.now)) }
     ensures status { IfOk result (λ status. status ≡ exit_status ends.now) }
     ensures small { IfOk result (λ status. status ≢ UNWRITTEN) }
     ensures written { OnOk result (has_failed_write output.new ≢ true) }
@@ -42,10 +40,9 @@ fn print_ends<W: Write>(output: &mut Output<W>, ends: &[Fetched]) -> Result<u8, 
 
 // Prints the want of memory, which stands for whatever a run lacked.
 fn print_unfetched<W: Write>(output: &mut Output<W>) -> u8
-    ensures unwritten { (result ≡ UNWRITTEN) ↔ (has_failed_write output.new ≡ true) }
-    ensures flushed { result ≢ UNWRITTEN → is_pending output.new ≡ false }
+    ensures ends { EndsRun output.new result }
     ensures printed { has_failed_write output.new ≢ true → PrintsFault (code_number codes.OutOfMemory)
-        (W.contents (writer_of output.old)) (W.contents (writer_of output.new)) result }
+        (Wrote W.contents output.old output.new) result }
 {
     let status = end_with(output, Code::OutOfMemory);
     output.end(status)
@@ -69,7 +66,7 @@ pub fn try_get<
 >(rt: &R, urls: &[&str], options: Options, output: &mut Output<W>) -> Result<u8, FetchError>
     requires { are_within options ≡ true }
     ensures printed { IfOk result (λ status. PrintsEnds options.timeout_ms options.max_redirects (map (λ u. u.now) urls.now)
-        (W.contents (writer_of output.old)) (W.contents (writer_of output.new)) status) }
+        (Wrote W.contents output.old output.new) status) }
     ensures small { IfOk result (λ status. status ≢ UNWRITTEN) }
     ensures written { OnOk result (has_failed_write output.new ≢ true) }
     ensures flushed { OnOk result (is_pending output.new ≡ false) }
@@ -103,10 +100,9 @@ pub fn run_get<
     W: Write,
 >(rt: &R, urls: &[&str], options: Options, output: &mut Output<W>) -> u8
     requires { are_within options ≡ true }
-    ensures unwritten { (result ≡ UNWRITTEN) ↔ (has_failed_write output.new ≡ true) }
-    ensures flushed { result ≢ UNWRITTEN → is_pending output.new ≡ false }
+    ensures ends { EndsRun output.new result }
     ensures answered { has_failed_write output.new ≢ true → AnswersUrls options.timeout_ms options.max_redirects (map (λ u. u.now) urls.now)
-        (W.contents (writer_of output.old)) (W.contents (writer_of output.new)) result }
+        (Wrote W.contents output.old output.new) result }
 {
     match try_get(rt, urls, options, output) {
         Ok(status) => status,

@@ -10,12 +10,12 @@ use Rattle.mx_body.specs.Parts.{joined}
 use Rattle.mx_run_body.specs.Texts.{Holds}
 
 -- nothing is written
-pub holds_itself : (old : Option (List ℕ)) (text : List ℕ) → Holds old old text text
+pub holds_itself : (old : Option (List ℕ)) (text : List ℕ) → Holds (Appends old old) text text
 holds_itself old text = record { front = []; written = Appends-nil old; is = refl }
 
 -- behind what is held comes a piece
-pub holds_on : (old mid new : Option (List ℕ)) (text held piece next : List ℕ) → Holds old mid text held → Holds mid new (held ++ piece) next
-    → Holds old new (text ++ piece) next
+pub holds_on : (old mid new : Option (List ℕ)) (text held piece next : List ℕ) → Holds (Appends old mid) text held → Holds (Appends mid new) (held ++ piece) next
+    → Holds (Appends old new) (text ++ piece) next
 holds_on old mid new text held piece next a b = record {
   front = a.front ++ b.front;
   written = Appends-trans old mid new a.front b.front a.written b.written;
@@ -24,7 +24,7 @@ holds_on old mid new text held piece next a b = record {
 }
 
 -- what is held is written
-pub holds_all : (old mid new : Option (List ℕ)) (text held : List ℕ) → Holds old mid text held → Appends mid new held → Appends old new text
+pub holds_all : (old mid new : Option (List ℕ)) (text held : List ℕ) → Holds (Appends old mid) text held → Appends mid new held → Appends old new text
 holds_all old mid new text held a more = subst (Appends old new) (sym a.is) (Appends-trans old mid new a.front held a.written more)
 
 -- the pieces up to the next

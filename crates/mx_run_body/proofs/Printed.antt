@@ -47,7 +47,7 @@ pub answers_received : {E : Type 0} (m : Method) (known left old new : Option (L
     → OnOk result ((behind : List ℕ) → r.len ≡ length (r.decoder.wire ++ behind)
     → Appends old new (text_of (r.decoder.wire ++ behind) r.decoder.verdict))
     → IfOk result (λ status. status ≡ exit_status r.decoder.verdict)
-    → IfOk result (AnswersRead m known left old new)
+    → IfOk result (AnswersRead m known left (Appends old new))
 answers_received m known left old new r (Ok status) read has written is =
     let all = read.received.whole in
     let v = r.decoder.verdict in
@@ -66,7 +66,7 @@ answers_received m known left old new r (Err e) read has written is = tt
 
 -- the want of memory is printed in place of an answer to an input with bytes
 pub answers_short : {E : Type 0} (m : Method) (known left old new : Option (List ℕ)) (r : Result ℕ E)
-    → IfOk r (PrintsFault 27 old new) → known ≢ Some [] → IfOk r (AnswersRead m known left old new)
+    → IfOk r (PrintsFault 27 (Appends old new)) → known ≢ Some [] → IfOk r (AnswersRead m known left (Appends old new))
 answers_short m known left old new (Ok status) printed some = inl (printed, some)
 answers_short m known left old new (Err e) printed some = tt
 

@@ -1,6 +1,5 @@
 -- What `body` prints: the text of the verdict on what was read.
 use Rattle.std.specs.Prelude.{◌≡◌, ◌≢◌, ℕ, ◌-◌, ◌≤◌, ◌⊎◌, true, List, [], ◌++◌, length, Option, Some}
-use Rattle.std.specs.Io.KnownBytes.{Appends}
 use Rattle.mx_types.specs.Code.{code_number}
 use Rattle.mx_types.specs.declared.code.Code.TheVariants as codes
 use Rattle.mx_types.specs.declared.method.Method.{Method}
@@ -26,13 +25,13 @@ exit_status (verdict.Complete status len parts keep) = 0
 exit_status verdict.More = 0
 exit_status (verdict.Fault code) = code_number code
 
--- From old to new the text of the verdict on the whole input is written and nothing else, and the program
--- ends with the verdict's exit status. The body that is written is the content of the response.
-pub record PrintsVerdict (m : Method) (input : List ℕ) (old new : Option (List ℕ)) (ends_with : ℕ) : Type 0 where
+-- What is written is the text of the verdict on the whole input, and the program ends with the verdict's exit status. The body that is
+-- written is the content of the response.
+pub record PrintsVerdict (m : Method) (input : List ℕ) (Written : List ℕ → Type 0) (ends_with : ℕ) : Type 0 where
   pub verdict : Verdict
   pub decided : IsVerdict m input true verdict
   pub content : ContentIs m input true verdict
-  pub written : Appends old new (text_of input verdict)
+  pub written : Written (text_of input verdict)
   pub status : ends_with ≡ exit_status verdict
 
 -- the pieces of a verdict stand in the input, and it is decided
@@ -42,7 +41,7 @@ FitsIn input verdict.More = ⊥
 FitsIn input (verdict.Fault code) = Unit {0}
 
 -- The verdict on what was read is printed; or the want of memory, which an input without bytes never meets.
-abbrev pub AnswersRead : Method → Option (List ℕ) → Option (List ℕ) → Option (List ℕ) → Option (List ℕ) → ℕ → Type 0
-AnswersRead m known left old new ends_with =
-    (PrintsFault (code_number codes.OutOfMemory) old new ends_with × (known ≢ Some []))
-    ⊎ ((bytes : List ℕ) × WasRead known left bytes × PrintsVerdict m bytes old new ends_with)
+abbrev pub AnswersRead : Method → Option (List ℕ) → Option (List ℕ) → (List ℕ → Type 0) → ℕ → Type 0
+AnswersRead m known left Written ends_with =
+    (PrintsFault (code_number codes.OutOfMemory) Written ends_with × (known ≢ Some []))
+    ⊎ ((bytes : List ℕ) × WasRead known left bytes × PrintsVerdict m bytes Written ends_with)

@@ -1,7 +1,6 @@
 -- What `body` prints of a whole response.
-use Rattle.std.specs.Prelude.{◌≡◌, ℕ, ◌≤◌, ◌-◌, Bool, List, [], ◌∷◌, ◌++◌, length, replicate, codes, if◌then◌else◌, Option}
+use Rattle.std.specs.Prelude.{◌≡◌, ℕ, ◌≤◌, ◌-◌, Bool, List, [], ◌∷◌, ◌++◌, length, replicate, codes, if◌then◌else◌}
 use Rattle.std.specs.Fmt.{decimal}
-use Rattle.std.specs.Io.KnownBytes.{Appends}
 use Rattle.mx_body.specs.declared.part.Part.{Part}
 
 -- a status in three digits
@@ -26,8 +25,8 @@ StandsWithin n part = (part.start ≤ part.end) × (part.end ≤ n)
 abbrev pub part_len : Part → ℕ
 part_len part = part.end - part.start
 
--- Private: from old to new the front of the text is written, and its rest is held.
-pub record Holds (old new : Option (List ℕ)) (text held : List ℕ) : Type 0 where
+-- Private: what is written is the front of the text, and its rest is held.
+pub record Holds (Written : List ℕ → Type 0) (text held : List ℕ) : Type 0 where
   pub front : List ℕ
-  pub written : Appends old new front
+  pub written : Written front
   pub is : text ≡ front ++ held

@@ -1,6 +1,6 @@
 //! Pieces that are gathered for a write.
 ghost use Rattle.std.specs.Prelude.{◌≡◌, ◌+◌, ◌≤◌, ◌++◌, true, length, take, IfOk, OnOk, IsErr};
-ghost use Rattle.mx_run_io.specs.Ends.{writer_of, has_failed_write};
+ghost use Rattle.mx_run_io.specs.Ends.{has_failed_write, Wrote};
 ghost use Rattle.mx_run_body.specs.Texts.{Holds};
 
 use mx_run_io::{Output, WriteFailed};
@@ -29,7 +29,7 @@ pub(crate) fn gather<W: Write>(
     requires held { held ≤ length buffer.old }
     ensures len { length buffer.new ≡ length buffer.old }
     ensures within { IfOk result (λ n. n ≤ length buffer.old) }
-    ensures bytes { IfOk result (λ n. Holds (W.contents (writer_of output.old)) (W.contents (writer_of output.new))
+    ensures bytes { IfOk result (λ n. Holds (Wrote W.contents output.old output.new)
         (take held buffer.old ++ piece.now) (take n buffer.new)) }
     ensures failed { IsErr result → has_failed_write output.new ≡ true }
     ensures kept { OnOk result (has_failed_write output.new ≡ has_failed_write output.old) }

@@ -1,9 +1,8 @@
 //! The command `body`: a whole response from its bytes.
-ghost use Rattle.std.specs.Prelude.{◌≡◌, ◌≢◌, ℕ, List, ◌+◌, ◌<◌, ◌≤◌, ◌^◌, ◌++◌, ◌↔◌, ◌⊎◌, true, false, All, IfOk, OnOk, IsErr, length, sum_by};
-ghost use Rattle.std.specs.Io.KnownBytes.{Appends};
+ghost use Rattle.std.specs.Prelude.{◌≡◌, ◌≢◌, ℕ, List, ◌+◌, ◌<◌, ◌≤◌, ◌^◌, ◌++◌, ◌↔◌, ◌⊎◌, true, All, IfOk, OnOk, IsErr, length, sum_by};
 ghost use Rattle.mx_types.specs.Code.{code_number};
 ghost use Rattle.mx_head.specs.Limits.{most_bytes};
-ghost use Rattle.mx_run_io.specs.Ends.{reader_of, reads_of, most_reads_of, has_failed_read, writer_of, has_failed_write, is_pending};
+ghost use Rattle.mx_run_io.specs.Ends.{reader_of, reads_of, most_reads_of, has_failed_read, has_failed_write, Wrote, EndsRun};
 ghost use Rattle.mx_body.specs.Parts.{joined};
 ghost use Rattle.mx_run_body.specs.Texts.{part_len, response_line, StandsWithin};
 ghost use Rattle.mx_run_io.specs.Faults.{PrintsFault};
@@ -14,7 +13,7 @@ use crate::reading::{InputError, receive};
 use crate::text::{print_parts, print_response};
 use mx_body::laws::parts_are_content;
 use mx_body::{Part, Verdict};
-use mx_run_io::{Input, Output, UNWRITTEN, WriteFailed, end_with};
+use mx_run_io::{Input, Output, WriteFailed, end_with};
 use mx_types::{Code, Method};
 use std::alloc::Global;
 use std::io::{Read, Write};
@@ -46,8 +45,7 @@ fn print_whole<W: Write>(
 ) -> Result<(), WriteFailed>
     requires within { All (StandsWithin (length wire.now)) parts.now }
     requires small { sum_by part_len parts.now < 2 ^ 64 }
-    ensures written { OnOk result (Appends (W.contents (writer_of output.old))
-        (W.contents (writer_of output.new))
+    ensures written { OnOk result (Wrote W.contents output.old output.new
         (response_line status (sum_by part_len parts.now) keep left ++ joined wire.now parts.now)) }
     ensures failed { IsErr result ↔ (has_failed_write output.new ≡ true) }
 {
@@ -66,7 +64,7 @@ fn print_verdict<W: Write>(
     requires fits { FitsIn wire.now verdict.now }
     requires front { length wire.now ≤ len }
     ensures written { OnOk result ((behind : List ℕ) → len ≡ length (wire.now ++ behind)
-        → Appends (W.contents (writer_of output.old)) (W.contents (writer_of output.new)) (text_of (wire.now ++ behind) verdict.now)) }
+        → Wrote W.contents output.old output.new (text_of (wire.now ++ behind) verdict.now)) }
     ensures status { IfOk result (λ status. status ≡ exit_status verdict.now) }
     ensures failed { IsErr result ↔ (has_failed_write output.new ≡ true) }
 {
@@ -99,10 +97,10 @@ fn print_body<R: Read, W: Write>(
     ensures asked { has_failed_read input.new ≡ true
         → (has_failed_read input.old ≡ true) ⊎ (reads_of input.old < reads_of input.new) }
     ensures unread { has_failed_read input.new ≡ true → IfOk result (PrintsFault (code_number Code.RecvError)
-        (W.contents (writer_of output.old)) (W.contents (writer_of output.new))) }
+        (Wrote W.contents output.old output.new)) }
     ensures answered { has_failed_read input.new ≢ true → IfOk result (AnswersRead method
         (R.remaining (reader_of input.old)) (R.remaining (reader_of input.new))
-        (W.contents (writer_of output.old)) (W.contents (writer_of output.new))) }
+        (Wrote W.contents output.old output.new)) }
     ensures small { IfOk result (λ status. status < 121) }
     ensures failed { IsErr result ↔ (has_failed_write output.new ≡ true) }
 {
@@ -141,14 +139,13 @@ pub fn run_body<R: Read, W: Write>(
         (R.remaining (reader_of input.old)) (R.remaining (reader_of input.new)) }
     ensures asked { has_failed_read input.new ≡ true
         → (has_failed_read input.old ≡ true) ⊎ (reads_of input.old < reads_of input.new) }
-    ensures unwritten { (result ≡ UNWRITTEN) ↔ (has_failed_write output.new ≡ true) }
-    ensures flushed { result ≢ UNWRITTEN → is_pending output.new ≡ false }
+    ensures ends { EndsRun output.new result }
     ensures unread { has_failed_write output.new ≢ true → has_failed_read input.new ≡ true
         → PrintsFault (code_number Code.RecvError)
-        (W.contents (writer_of output.old)) (W.contents (writer_of output.new)) result }
+        (Wrote W.contents output.old output.new) result }
     ensures answered { has_failed_write output.new ≢ true → has_failed_read input.new ≢ true
         → AnswersRead method (R.remaining (reader_of input.old)) (R.remaining (reader_of input.new))
-        (W.contents (writer_of output.old)) (W.contents (writer_of output.new)) result }
+        (Wrote W.contents output.old output.new) result }
 {
     let status = print_body(alloc, method, input, output);
     output.end(status)

@@ -1,7 +1,6 @@
 //! The lines that are printed.
 ghost use Rattle.std.specs.Prelude.{◌≡◌, true, IsErr, OnOk, ◌↔◌, All, length};
-ghost use Rattle.std.specs.Io.KnownBytes.{Appends};
-ghost use Rattle.mx_run_io.specs.Ends.{writer_of, has_failed_write};
+ghost use Rattle.mx_run_io.specs.Ends.{has_failed_write, Wrote};
 ghost use Rattle.mx_run_body.specs.Texts.{response_line, yes_or_no, StandsWithin};
 ghost use Rattle.mx_body.specs.Parts.{joined};
 
@@ -24,8 +23,7 @@ pub fn print_response<W: Write>(
     keep: bool,
     left: usize,
 ) -> Result<(), WriteFailed>
-    ensures bytes { OnOk result (Appends (W.contents (writer_of output.old)) (W.contents (writer_of output.new))
-        (response_line status body keep left)) }
+    ensures bytes { OnOk result (Wrote W.contents output.old output.new (response_line status body keep left)) }
     ensures failed { IsErr result ↔ (has_failed_write output.new ≡ true) }
 {
     let keep = yes_or_no(keep);
@@ -42,8 +40,7 @@ pub fn print_parts<W: Write>(
     parts: &[Part],
 ) -> Result<(), WriteFailed>
     requires { All (StandsWithin (length input.now)) parts.now }
-    ensures bytes { OnOk result (Appends (W.contents (writer_of output.old)) (W.contents (writer_of output.new))
-        (joined input.now parts.now)) }
+    ensures bytes { OnOk result (Wrote W.contents output.old output.new (joined input.now parts.now)) }
     ensures failed { IsErr result → has_failed_write output.new ≡ true }
     ensures kept { OnOk result (has_failed_write output.new ≡ has_failed_write output.old) }
 {

@@ -1,7 +1,6 @@
 //! The text of a whole run of `get`.
-ghost use Rattle.std.specs.Prelude.{◌≡◌, ◌≢◌, ◌↔◌, ◌<◌, true, false, IsErr, IfOk, OnOk};
-ghost use Rattle.std.specs.Io.KnownBytes.{Appends};
-ghost use Rattle.mx_run_io.specs.Ends.{writer_of, has_failed_write, is_pending};
+ghost use Rattle.std.specs.Prelude.{◌≡◌, ◌≢◌, ◌<◌, true, IsErr, IfOk, OnOk};
+ghost use Rattle.mx_run_io.specs.Ends.{has_failed_write, Wrote, EndsRun};
 ghost use Rattle.mx_run_get.specs.Texts.{texts_from, exit_status};
 
 use crate::fetched::Fetched;
@@ -25,8 +24,7 @@ pub fn exit_status(fetched: &[Fetched]) -> u8
 
 // Prints the texts of all handles, and answers the exit status.
 fn print_all<W: Write>(output: &mut Output<W>, fetched: &[Fetched]) -> Result<u8, WriteFailed>
-    ensures bytes { OnOk result (Appends (W.contents (writer_of output.old)) (W.contents (writer_of output.new))
-        (texts_from 0 fetched.now)) }
+    ensures bytes { OnOk result (Wrote W.contents output.old output.new (texts_from 0 fetched.now)) }
     ensures status { IfOk result (λ status. status ≡ exit_status fetched.now) }
     ensures small { IfOk result (λ status. status < UNWRITTEN) }
     ensures failed { IsErr result → has_failed_write output.new ≡ true }
@@ -42,10 +40,8 @@ fn print_all<W: Write>(output: &mut Output<W>, fetched: &[Fetched]) -> Result<u8
 /// the output couldn't be written. All that is printed is flushed, unless the answer is 121. Bodies are written from
 /// where they stand.
 pub fn print_get<W: Write>(output: &mut Output<W>, fetched: &[Fetched]) -> u8
-    ensures unwritten { (result ≡ UNWRITTEN) ↔ (has_failed_write output.new ≡ true) }
-    ensures flushed { result ≢ UNWRITTEN → is_pending output.new ≡ false }
-    ensures printed { has_failed_write output.new ≢ true
-        → Appends (W.contents (writer_of output.old)) (W.contents (writer_of output.new)) (texts_from 0 fetched.now) }
+    ensures ends { EndsRun output.new result }
+    ensures printed { has_failed_write output.new ≢ true → Wrote W.contents output.old output.new (texts_from 0 fetched.now) }
     ensures status { has_failed_write output.new ≢ true → result ≡ exit_status fetched.now }
 {
     let status = print_all(output, fetched);

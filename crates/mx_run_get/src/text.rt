@@ -1,9 +1,8 @@
 //! The text of one handle.
-ghost use Rattle.std.specs.Prelude.{◌≡◌, ◌++◌, ◌∷◌, [], ◌↔◌, true, IsErr, OnOk, length};
-ghost use Rattle.std.specs.Io.KnownBytes.{Appends};
+ghost use Rattle.std.specs.Prelude.{◌≡◌, ◌++◌, ◌↔◌, true, IsErr, OnOk, length};
 ghost use Rattle.mx_types.specs.Code.{code_number};
 ghost use Rattle.mx_body.specs.Parts.{joined};
-ghost use Rattle.mx_run_io.specs.Ends.{writer_of, has_failed_write};
+ghost use Rattle.mx_run_io.specs.Ends.{has_failed_write, Wrote};
 ghost use Rattle.mx_run_get.specs.Fetched.{content_of};
 ghost use Rattle.mx_run_get.specs.Texts.{transfer_line, transfer_text};
 
@@ -21,8 +20,7 @@ fn print_line<W: Write>(
     status: u16,
     len: u32,
 ) -> Result<(), WriteFailed>
-    ensures bytes { OnOk result (Appends (W.contents (writer_of output.old)) (W.contents (writer_of output.new))
-        (transfer_line handle code status len)) }
+    ensures bytes { OnOk result (Wrote W.contents output.old output.new (transfer_line handle code status len)) }
     ensures failed { IsErr result ↔ (has_failed_write output.new ≡ true) }
 {
     output.print(format_args!("transfer {handle} code {code} status {status} length {len}\n"))
@@ -30,8 +28,7 @@ fn print_line<W: Write>(
 
 // Prints the parts of a body.
 fn print_parts<W: Write>(output: &mut Output<W>, outcome: &Outcome) -> Result<(), WriteFailed>
-    ensures bytes { OnOk result (Appends (W.contents (writer_of output.old)) (W.contents (writer_of output.new))
-        (joined outcome.now.wire outcome.now.parts)) }
+    ensures bytes { OnOk result (Wrote W.contents output.old output.new (joined outcome.now.wire outcome.now.parts)) }
     ensures failed { IsErr result → has_failed_write output.new ≡ true }
     ensures kept { OnOk result (has_failed_write output.new ≡ has_failed_write output.old) }
 {
@@ -50,7 +47,7 @@ fn print_outcome<W: Write>(
     handle: usize,
     outcome: &Outcome,
 ) -> Result<(), WriteFailed>
-    ensures bytes { OnOk result (Appends (W.contents (writer_of output.old)) (W.contents (writer_of output.new))
+    ensures bytes { OnOk result (Wrote W.contents output.old output.new
         (transfer_line handle (code_number outcome.now.code) outcome.now.status (length (content_of outcome.now.code outcome.now))
         ++ content_of outcome.now.code outcome.now)) }
     ensures failed { IsErr result ↔ (has_failed_write output.new ≡ true) }
@@ -71,8 +68,7 @@ pub fn print_transfer<W: Write>(
     handle: usize,
     fetched: &Fetched,
 ) -> Result<(), WriteFailed>
-    ensures bytes { OnOk result (Appends (W.contents (writer_of output.old)) (W.contents (writer_of output.new))
-        (transfer_text handle fetched.now)) }
+    ensures bytes { OnOk result (Wrote W.contents output.old output.new (transfer_text handle fetched.now)) }
     ensures failed { IsErr result ↔ (has_failed_write output.new ≡ true) }
 {
     match fetched {

@@ -20,8 +20,8 @@ pub struct Output<W> {
 
 impl<W: Write> Output<W> {
     ghost use Rattle.std.specs.Prelude.{◌≡◌, ◌≢◌, true, false, Ok, IsOk, IsErr, IfOk, OnOk, OnErr, IfSome, ◌↔◌};
-    ghost use Rattle.std.specs.Io.KnownBytes.{Appends, Keeps};
-    ghost use Rattle.mx_run_io.specs.Ends.{writer_of, has_failed_write, is_pending};
+    ghost use Rattle.std.specs.Io.KnownBytes.{Keeps};
+    ghost use Rattle.mx_run_io.specs.Ends.{writer_of, has_failed_write, is_pending, Wrote, EndsRun};
 
     /// The output of a run.
     pub fn new(writer: W) -> Output<W>
@@ -38,7 +38,7 @@ impl<W: Write> Output<W> {
 
     /// Writes all of the bytes.
     pub fn write_all(&mut self, bytes: &[u8]) -> Result<(), WriteFailed>
-        ensures bytes { OnOk result (Appends (W.contents (writer_of self.old)) (W.contents (writer_of self.new)) bytes.now) }
+        ensures bytes { OnOk result (Wrote W.contents self.old self.new bytes.now) }
         ensures failed { IsErr result ↔ (has_failed_write self.new ≡ true) }
         ensures pending { OnOk result (is_pending self.new ≡ true) }
         ensures stays { has_failed_write self.old ≡ true → self.new ≡ self.old }
@@ -53,8 +53,7 @@ impl<W: Write> Output<W> {
 
     /// Writes a text.
     pub fn print<D: Display + Drop>(&mut self, text: D) -> Result<(), WriteFailed>
-        ensures bytes { OnOk result (IfSome (D.output text)
-            (Appends (W.contents (writer_of self.old)) (W.contents (writer_of self.new)))) }
+        ensures bytes { OnOk result (IfSome (D.output text) (Wrote W.contents self.old self.new)) }
         ensures failed { IsErr result ↔ (has_failed_write self.new ≡ true) }
         ensures pending { OnOk result (is_pending self.new ≡ true) }
         ensures stays { has_failed_write self.old ≡ true → self.new ≡ self.old }
@@ -87,8 +86,7 @@ impl<W: Write> Output<W> {
     pub fn end(&mut self, status: Result<u8, WriteFailed>) -> u8
         requires status { IfOk status (λ s. s ≢ UNWRITTEN) }
         requires failed { IsErr status → has_failed_write self.old ≡ true }
-        ensures unwritten { (result ≡ UNWRITTEN) ↔ (has_failed_write self.new ≡ true) }
-        ensures flushed { result ≢ UNWRITTEN → is_pending self.new ≡ false }
+        ensures ends { EndsRun self.new result }
         ensures status { has_failed_write self.new ≢ true → status ≡ Ok result }
         ensures bytes { has_failed_write self.new ≢ true → Keeps (W.contents (writer_of self.old)) (W.contents (writer_of self.new)) }
         ensures stays { has_failed_write self.old ≡ true → self.new ≡ self.old }

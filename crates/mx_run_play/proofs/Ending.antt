@@ -25,7 +25,7 @@ cut_from : (history : ℕ) (s : Session) → Begins history s → (script : List
 cut_from history s b script = ap (λ z. lines_of (z ++ script)) (sym b.empty)
 
 pub prints_run : (history : ℕ) (s : Session) (status : ℕ) (known old new : Option (List ℕ)) → Begins history s
-    → RanWhole s status known old new → PrintsRun history known old new status
+    → RanWhole s status known (Appends old new) → PrintsRun history known (Appends old new) status
 prints_run history s status known old new b w =
     let is : run_of history w.script ≡ ran w.printed status =
     ap (run_of_lines history) (cut_from history s b w.script) ∙ sym (from_first history s b (lines_of (s.line.items ++ w.script))) ∙ w.run in
@@ -47,7 +47,7 @@ told_fault history s told printed fault old mid new b run written more =
     )
 
 prints_short : (history : ℕ) (s : Session) (known old mid new : Option (List ℕ)) (n : ℕ) → Begins history s
-    → RanShort s known old mid → PrintsFault 27 mid new n → PrintsNoMemory history known old new n
+    → RanShort s known (Appends old mid) → PrintsFault 27 (Appends mid new) n → PrintsNoMemory history known (Appends old new) n
 prints_short history s known old mid new n b w fault =
     let k = told_fault history s w.told w.printed (fault_line 27) old mid new b w.run w.written fault.written in
     record {
@@ -64,7 +64,7 @@ prints_short history s known old mid new n b w fault =
     }
 
 pub prints_unread : {E : Type 0} (history : ℕ) (s : Session) (known left old mid new : Option (List ℕ)) (r : Result ℕ E) → Begins history s
-    → RanUnread s known left old mid → IfOk r (PrintsFault 56 mid new) → IfOk r (PrintsUnread history known left old new)
+    → RanUnread s known left (Appends old mid) → IfOk r (PrintsFault 56 (Appends mid new)) → IfOk r (PrintsUnread history known left (Appends old new))
 prints_unread history s known left old mid new (Ok n) b w fault =
     let k = told_fault history s w.told w.printed (fault_line 56) old mid new b w.run w.written fault.written in
     record {
@@ -81,24 +81,24 @@ prints_unread history s known left old mid new (Err e) b w fault = tt
 
 -- there was no memory for the player
 pub prints_nothing : {E : Type 0} (history before after : ℕ) (known old new : Option (List ℕ)) (r : Result ℕ E) → after ≡ before
-    → IfOk r (PrintsFault 27 old new) → IfOk r (AnswersScript history before after known old new)
+    → IfOk r (PrintsFault 27 (Appends old new)) → IfOk r (AnswersScript history before after known (Appends old new))
 prints_nothing history before after known old new (Ok n) unread fault = inr (inr (record { unread = unread; printed = fault }))
 prints_nothing history before after known old new (Err e) unread fault = tt
 
 -- the same, as the code has them
 pub whole_as : (history before after : ℕ) (s : Session) (o : Option Turn) (last : Turn) (status : ℕ) (known left old new : Option (List ℕ)) → Begins history s
-    → PlaysAll s o known left old new → o ≡ Some last → (PlaysAll s (Some last) known left old new → RanWhole s status known old new)
-    → AnswersScript history before after known old new status
+    → PlaysAll s o known left (Appends old new) → o ≡ Some last → (PlaysAll s (Some last) known left (Appends old new) → RanWhole s status known (Appends old new))
+    → AnswersScript history before after known (Appends old new) status
 whole_as history before after s o last status known left old new b w is its =
-    inl (prints_run history s status known old new b (its (subst (λ z. PlaysAll s z known left old new) is w)))
+    inl (prints_run history s status known old new b (its (subst (λ z. PlaysAll s z known left (Appends old new)) is w)))
 
 pub short_as : {E : Type 0} (history before after : ℕ) (s : Session) (o : Option Turn) (known left old mid new : Option (List ℕ)) (r : Result ℕ E) → Begins history s
-    → PlaysAll s o known left old mid → o ≡ Some turn.NoMemory → IfOk r (PrintsFault 27 mid new) → IfOk r (AnswersScript history before after known old new)
+    → PlaysAll s o known left (Appends old mid) → o ≡ Some turn.NoMemory → IfOk r (PrintsFault 27 (Appends mid new)) → IfOk r (AnswersScript history before after known (Appends old new))
 short_as history before after s o known left old mid new (Ok n) b w is fault =
-    inr (inl (prints_short history s known old mid new n b (subst (λ z. PlaysAll s z known left old mid) is w) fault))
+    inr (inl (prints_short history s known old mid new n b (subst (λ z. PlaysAll s z known left (Appends old mid)) is w) fault))
 short_as history before after s o known left old mid new (Err e) b w is fault = tt
 
 pub unread_as : {E : Type 0} (history : ℕ) (s : Session) (o : Option Turn) (known left old mid new : Option (List ℕ)) (r : Result ℕ E) → Begins history s
-    → PlaysAll s o known left old mid → o ≡ None → IfOk r (PrintsFault 56 mid new) → IfOk r (PrintsUnread history known left old new)
+    → PlaysAll s o known left (Appends old mid) → o ≡ None → IfOk r (PrintsFault 56 (Appends mid new)) → IfOk r (PrintsUnread history known left (Appends old new))
 unread_as history s o known left old mid new r b w is fault =
-    prints_unread history s known left old mid new r b (subst (λ z. PlaysAll s z known left old mid) is w) fault
+    prints_unread history s known left old mid new r b (subst (λ z. PlaysAll s z known left (Appends old mid)) is w) fault

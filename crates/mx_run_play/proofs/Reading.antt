@@ -16,7 +16,7 @@ use Rattle.mx_run_play.proofs.Sessions.{unended_line, plays_then, plays_none, pl
 pub record HasPlayed (s t : Session) (known left old new : Option (List ℕ)) : Type 0 where
   pub seen : List ℕ
   pub given : Consumes known left seen
-  pub played : Plays s seen turn.On t old new
+  pub played : Plays s seen turn.On t (Appends old new)
 
 pub begins : (s : Session) (known old : Option (List ℕ)) → s.line.items ≡ [] → HasPlayed s s known known old old
 begins s known old empty = record { seen = []; given = none known; played = plays_none s old (subst IsUnended (sym empty) tt) } where
@@ -26,7 +26,7 @@ begins s known old empty = record { seen = []; given = none known; played = play
 
 -- another read, which is flushed
 pub goes_on : (s t u : Session) (known mid left old a b c : Option (List ℕ)) (bytes : List ℕ) → HasPlayed s t known mid old a
-    → Consumes mid left bytes → Plays t bytes turn.On u a b → Keeps b c → HasPlayed s u known left old c
+    → Consumes mid left bytes → Plays t bytes turn.On u (Appends a b) → Keeps b c → HasPlayed s u known left old c
 goes_on s t u known mid left old a b c bytes p given more kept =
     let q = plays_then s t u p.seen bytes turn.On old a b p.played more in
     record {
@@ -60,7 +60,7 @@ script_from (Some xs) None front a = absurd a
 script_from (Some xs) (Some ys) front a = (ys, a)
 
 -- a read failed
-pub unread : (s t : Session) (known mid left old a : Option (List ℕ)) → HasPlayed s t known mid old a → Keeps mid left → PlaysAll s None known left old a
+pub unread : (s t : Session) (known mid left old a : Option (List ℕ)) → HasPlayed s t known mid old a → Keeps mid left → PlaysAll s None known left (Appends old a)
 unread s t known mid left old a p kept = record {
   front = p.seen;
   given = Consumes-kept known mid left p.seen p.given kept;
@@ -74,7 +74,7 @@ unread s t known mid left old a p kept = record {
 
 -- the run ended within what was read
 pub turned : (s t u : Session) (next : Turn) (known mid left old a b : Option (List ℕ)) (bytes : List ℕ) → HasPlayed s t known mid old a
-    → Consumes mid left bytes → Plays t bytes next u a b → next ≢ turn.On → PlaysAll s (Some next) known left old b
+    → Consumes mid left bytes → Plays t bytes next u (Appends a b) → next ≢ turn.On → PlaysAll s (Some next) known left (Appends old b)
 turned s t u turn.On known mid left old a b bytes p given more over = absurd (over refl)
 turned s t u turn.Bad known mid left old a b bytes p given more over =
     let q = plays_then s t u p.seen bytes turn.Bad old a b p.played more in
@@ -99,7 +99,7 @@ turned s t u turn.NoMemory known mid left old a b bytes p given more over =
 
 -- the script ended, and with it its last line
 pub script_ended : (s t u : Session) (next : Turn) (known left old a b : Option (List ℕ)) (p : HasPlayed s t known left old a) → IsScript known p.seen
-    → EndsLine t next u a b → PlaysAll s (Some next) known left old b
+    → EndsLine t next u (Appends a b) → PlaysAll s (Some next) known left (Appends old b)
 unfolding outcome
 script_ended s t u turn.On known left old a b p whole ends = record {
   script = p.seen;
@@ -137,7 +137,7 @@ kept_left known mid left seen got a b none =
 
 pub at_end : (s t u : Session) (next : Turn) (known mid left old a b : Option (List ℕ)) (buffer : List ℕ) (count : ℕ)
     → HasPlayed s t known mid old a → Consumes mid left (take count buffer) × (count ≡ 0 → 0 < length buffer → IsAtEnd left)
-    → count ≡ 0 → 0 < length buffer → EndsLine t next u a b → PlaysAll s (Some next) known left old b
+    → count ≡ 0 → 0 < length buffer → EndsLine t next u (Appends a b) → PlaysAll s (Some next) known left (Appends old b)
 at_end s t u next known mid left old a b buffer count p gave none room ends =
     let nothing : take count buffer ≡ [] = rw none refl in
     let given = kept_left known mid left p.seen (take count buffer) p.given gave.0 nothing in
@@ -150,15 +150,15 @@ at_end s t u next known mid left old a b buffer count p gave none room ends =
 
 -- one byte after the other
 took : (s t u : Session) (next : Turn) (bytes : List ℕ) (i d : ℕ) (old a b : Option (List ℕ)) → i < length bytes
-    → Plays s (take i bytes) turn.On t old a → Plays t (get_or bytes i d ∷ []) next u a b → Plays s (take (i + 1) bytes) next u old b
+    → Plays s (take i bytes) turn.On t (Appends old a) → Plays t (get_or bytes i d ∷ []) next u (Appends a b) → Plays s (take (i + 1) bytes) next u (Appends old b)
 took s t u next bytes i d old a b below p q =
-    subst (λ z. Plays s z next u old b) (sym (take_more bytes i d below))
+    subst (λ z. Plays s z next u (Appends old b)) (sym (take_more bytes i d below))
     (plays_then s t u (take i bytes) (get_or bytes i d ∷ []) next old a b p q)
 
 pub took_as : (s t u : Session) (next : Turn) (bytes : List ℕ) (i d : ℕ) (old a b : Option (List ℕ)) → i < length bytes
-    → Plays s (take i bytes) turn.On t old a → Plays t (get_or bytes i d ∷ []) next u a b → next ≡ turn.On → Plays s (take (i + 1) bytes) turn.On u old b
+    → Plays s (take i bytes) turn.On t (Appends old a) → Plays t (get_or bytes i d ∷ []) next u (Appends a b) → next ≡ turn.On → Plays s (take (i + 1) bytes) turn.On u (Appends old b)
 took_as s t u next bytes i d old a b below p q is =
-    subst (λ z. Plays s (take (i + 1) bytes) z u old b) is (took s t u next bytes i d old a b below p q)
+    subst (λ z. Plays s (take (i + 1) bytes) z u (Appends old b)) is (took s t u next bytes i d old a b below p q)
 
 pub bad_over : turn.Bad ≢ turn.On
 bad_over e = cc
@@ -167,19 +167,19 @@ pub short_over : turn.NoMemory ≢ turn.On
 short_over e = cc
 
 pub took_last : (s t u : Session) (next last : Turn) (bytes : List ℕ) (i d : ℕ) (old a b : Option (List ℕ)) → i < length bytes
-    → Plays s (take i bytes) turn.On t old a → Plays t (get_or bytes i d ∷ []) next u a b → next ≡ last → last ≢ turn.On
-    → Plays s bytes last u old b
+    → Plays s (take i bytes) turn.On t (Appends old a) → Plays t (get_or bytes i d ∷ []) next u (Appends a b) → next ≡ last → last ≢ turn.On
+    → Plays s bytes last u (Appends old b)
 took_last s t u next last bytes i d old a b below p q is over =
-    let r = subst (λ z. Plays s (take (i + 1) bytes) z u old b) is (took s t u next bytes i d old a b below p q) in
-    subst (λ z. Plays s z last u old b) (take-append-drop (i + 1) bytes)
+    let r = subst (λ z. Plays s (take (i + 1) bytes) z u (Appends old b)) is (took s t u next bytes i d old a b below p q) in
+    subst (λ z. Plays s z last u (Appends old b)) (take-append-drop (i + 1) bytes)
     (plays_further s u (take (i + 1) bytes) (drop (i + 1) bytes) last old b over r)
 
 pub turned_as : (s t u : Session) (next last : Turn) (known mid left old a b : Option (List ℕ)) (bytes : List ℕ) → HasPlayed s t known mid old a
-    → Consumes mid left bytes → Plays t bytes next u a b → next ≡ last → last ≢ turn.On → PlaysAll s (Some last) known left old b
+    → Consumes mid left bytes → Plays t bytes next u (Appends a b) → next ≡ last → last ≢ turn.On → PlaysAll s (Some last) known left (Appends old b)
 turned_as s t u next last known mid left old a b bytes p given more is over =
-    turned s t u last known mid left old a b bytes p given (subst (λ z. Plays t bytes z u a b) is more) over
+    turned s t u last known mid left old a b bytes p given (subst (λ z. Plays t bytes z u (Appends a b)) is more) over
 
 pub goes_on_as : (s t u : Session) (next : Turn) (known mid left old a b c : Option (List ℕ)) (bytes : List ℕ) → HasPlayed s t known mid old a
-    → Consumes mid left bytes → Plays t bytes next u a b → next ≡ turn.On → Keeps b c → HasPlayed s u known left old c
+    → Consumes mid left bytes → Plays t bytes next u (Appends a b) → next ≡ turn.On → Keeps b c → HasPlayed s u known left old c
 goes_on_as s t u next known mid left old a b c bytes p given more is kept =
-    goes_on s t u known mid left old a b c bytes p given (subst (λ z. Plays t bytes z u a b) is more) kept
+    goes_on s t u known mid left old a b c bytes p given (subst (λ z. Plays t bytes z u (Appends a b)) is more) kept

@@ -59,7 +59,7 @@ run_with text is more p n e = ap (λ x. outcome_with p n x (λ q. outcome more q
 
 -- the three ways in which a line ends
 pub line_silent_ends : (s t : Session) (a : Option (List ℕ)) → line.Silent ≡ line_of s.line.items → t.player ≡ s.player → t.lines ≡ s.lines + 1
-    → t.line.items ≡ [] → EndsLine s turn.On t a a
+    → t.line.items ≡ [] → EndsLine s turn.On t (Appends a a)
 line_silent_ends s t a is player counted empty = record {
   printed = [];
   written = Appends-nil a;
@@ -73,7 +73,7 @@ line_silent_ends s t a is player counted empty = record {
 
 pub line_call_ends : (s t : Session) (call : Call) (a b : Option (List ℕ)) → line.Call call ≡ line_of s.line.items
     → t.player ≡ player_past s.player call → t.lines ≡ s.lines + 1 → t.line.items ≡ []
-    → Appends a b (said_text (says s.player call)) → EndsLine s turn.On t a b
+    → Appends a b (said_text (says s.player call)) → EndsLine s turn.On t (Appends a b)
 line_call_ends s t call a b is player counted empty written = record {
   printed = said_text (says s.player call);
   written = written;
@@ -87,7 +87,7 @@ line_call_ends s t call a b is player counted empty written = record {
 }
 
 pub line_bad_ends : (s t : Session) (a b : Option (List ℕ)) → line.Bad ≡ line_of s.line.items
-    → Appends a b (bad_line_text (s.lines + 1)) → EndsLine s turn.Bad t a b
+    → Appends a b (bad_line_text (s.lines + 1)) → EndsLine s turn.Bad t (Appends a b)
 line_bad_ends s t a b is written = record {
   printed = bad_line_text (s.lines + 1);
   written = written;
@@ -95,31 +95,31 @@ line_bad_ends s t a b is written = record {
 }
 
 pub line_stops : (s t : Session) (l : Line) (call : Call) (text : List ℕ) (a : Option (List ℕ)) → l ≡ line.Call call → l ≡ line_of text
-    → text ≡ s.line.items → MakesEvent s.player call → EndsLine s turn.NoMemory t a a
+    → text ≡ s.line.items → MakesEvent s.player call → EndsLine s turn.NoMemory t (Appends a a)
 line_stops s t l call text a is its same makes =
     (Appends-nil a, subst (WantsEvent s.player) (sym is ∙ its ∙ ap line_of same) makes)
 
 -- the same, as the code has them
 pub silent_told : (s t : Session) (l : Line) (text : List ℕ) (a b : Option (List ℕ)) → l ≡ line.Silent → l ≡ line_of text → text ≡ s.line.items
-    → t.player ≡ s.player → t.lines ≡ s.lines + 1 → t.line.items ≡ [] → b ≡ a → TellsLine s t a b
+    → t.player ≡ s.player → t.lines ≡ s.lines + 1 → t.line.items ≡ [] → b ≡ a → TellsLine s t (Appends a b)
 silent_told s t l text a b is its same player counted empty kept =
-    subst (λ z. TellsLine s t a z) (sym kept) (line_silent_ends s t a (sym is ∙ its ∙ ap line_of same) player counted empty)
+    subst (λ z. TellsLine s t (Appends a z)) (sym kept) (line_silent_ends s t a (sym is ∙ its ∙ ap line_of same) player counted empty)
 
 pub call_told : (s t : Session) (l : Line) (call : Call) (says_it : Said) (text : List ℕ) (a b : Option (List ℕ)) → l ≡ line.Call call → l ≡ line_of text
     → text ≡ s.line.items → says_it ≡ says s.player call → Appends a b (said_text says_it) → t.player ≡ player_past s.player call
-    → t.lines ≡ s.lines + 1 → t.line.items ≡ [] → TellsLine s t a b
+    → t.lines ≡ s.lines + 1 → t.line.items ≡ [] → TellsLine s t (Appends a b)
 call_told s t l call says_it text a b is its same told written player counted empty =
     line_call_ends s t call a b (sym is ∙ its ∙ ap line_of same) player counted empty (subst (λ z. Appends a b (said_text z)) told written)
 
 pub bad_told : (s t : Session) (r : Result Turn WriteFailed) (l : Line) (text : List ℕ) (a b : Option (List ℕ)) → l ≡ line.Bad → l ≡ line_of text
-    → text ≡ s.line.items → IfOk r (λ n. n ≡ turn.Bad) → OnOk r (Appends a b (bad_line_text (s.lines + 1))) → IfOk r (λ n. EndsLine s n t a b)
+    → text ≡ s.line.items → IfOk r (λ n. n ≡ turn.Bad) → OnOk r (Appends a b (bad_line_text (s.lines + 1))) → IfOk r (λ n. EndsLine s n t (Appends a b))
 bad_told s t (Ok n) l text a b is its same bad written =
-    subst (λ z. EndsLine s z t a b) (sym bad) (line_bad_ends s t a b (sym is ∙ its ∙ ap line_of same) written)
+    subst (λ z. EndsLine s z t (Appends a b)) (sym bad) (line_bad_ends s t a b (sym is ∙ its ∙ ap line_of same) written)
 bad_told s t (Err e) l text a b is its same bad written = tt
 
 -- an LF ends the line
-pub plays_end : (s t : Session) (next : Turn) (a b : Option (List ℕ)) → IsUnended s.line.items → EndsLine s next t a b
-    → Plays s (10 ∷ []) next t a b
+pub plays_end : (s t : Session) (next : Turn) (a b : Option (List ℕ)) → IsUnended s.line.items → EndsLine s next t (Appends a b)
+    → Plays s (10 ∷ []) next t (Appends a b)
 unfolding outcome
 plays_end s t turn.On a b h ends = record {
   printed = ends.printed;
@@ -152,7 +152,7 @@ plays_end s t turn.NoMemory a b h ends = record {
 
 -- another byte stands in the line
 pub plays_byte : (s t : Session) (byte : ℕ) (a : Option (List ℕ)) → IsUnended s.line.items → byte ≢ 10
-    → t.player ≡ s.player → t.lines ≡ s.lines → t.line.items ≡ s.line.items ++ byte ∷ [] → Plays s (byte ∷ []) turn.On t a a
+    → t.player ≡ s.player → t.lines ≡ s.lines → t.line.items ≡ s.line.items ++ byte ∷ [] → Plays s (byte ∷ []) turn.On t (Appends a a)
 plays_byte s t byte a h not_10 player counted items = record {
   printed = [];
   written = Appends-nil a;
@@ -171,7 +171,7 @@ plays_byte s t byte a h not_10 player counted items = record {
 
 -- the line is too long
 pub plays_long : (s t : Session) (byte : ℕ) (a b : Option (List ℕ)) → IsUnended s.line.items → byte ≢ 10 → length s.line.items ≡ 64
-    → Appends a b (bad_line_text (s.lines + 1)) → Plays s (byte ∷ []) turn.Bad t a b
+    → Appends a b (bad_line_text (s.lines + 1)) → Plays s (byte ∷ []) turn.Bad t (Appends a b)
 plays_long s t byte a b h not_10 full written = record {
   printed = bad_line_text (s.lines + 1);
   written = written;
@@ -184,7 +184,7 @@ plays_long s t byte a b h not_10 full written = record {
       ∙ run_with (text ++ r.0) line.Bad r.1 s.player (s.lines + 1) (line_long (text ++ r.0) long);
 }
 
-pub plays_none : (s : Session) (a : Option (List ℕ)) → IsUnended s.line.items → Plays s [] turn.On s a a
+pub plays_none : (s : Session) (a : Option (List ℕ)) → IsUnended s.line.items → Plays s [] turn.On s (Appends a a)
 plays_none s a h = record {
   printed = [];
   written = Appends-nil a;
@@ -200,8 +200,8 @@ past_both : (p q r : PlayerView) (d e : List (List ℕ)) → q ≡ past_lines d 
 past_both p q r d e first second = second ∙ ap (past_lines e) first ∙ sym (past_all d e p)
 
 -- bytes, and then more bytes
-pub plays_then : (s t u : Session) (xs ys : List ℕ) (next : Turn) (a b c : Option (List ℕ)) → Plays s xs turn.On t a b → Plays t ys next u b c
-    → Plays s (xs ++ ys) next u a c
+pub plays_then : (s t u : Session) (xs ys : List ℕ) (next : Turn) (a b c : Option (List ℕ)) → Plays s xs turn.On t (Appends a b) → Plays t ys next u (Appends b c)
+    → Plays s (xs ++ ys) next u (Appends a c)
 plays_then s t u xs ys turn.On a b c p q =
     let d = p.follows.told in
     let e = q.follows.told in
@@ -252,8 +252,8 @@ plays_then s t u xs ys turn.NoMemory a b c p q =
     }
 
 -- what stands behind the end of a run is not read
-pub plays_further : (s t : Session) (xs ys : List ℕ) (next : Turn) (a b : Option (List ℕ)) → next ≢ turn.On → Plays s xs next t a b
-    → Plays s (xs ++ ys) next t a b
+pub plays_further : (s t : Session) (xs ys : List ℕ) (next : Turn) (a b : Option (List ℕ)) → next ≢ turn.On → Plays s xs next t (Appends a b)
+    → Plays s (xs ++ ys) next t (Appends a b)
 plays_further s t xs ys turn.On a b over p = absurd (over refl)
 plays_further s t xs ys turn.Bad a b over p = record {
   printed = p.printed;
@@ -274,12 +274,12 @@ plays_further s t xs ys turn.NoMemory a b over p = record {
 }
 
 pub ended_told : (s t : Session) (byte : ℕ) (r : Result Turn WriteFailed) (a b : Option (List ℕ)) → IsUnended s.line.items → byte ≡ 10
-    → IfOk r (λ n. EndsLine s n t a b) → IfOk r (λ n. Plays s (byte ∷ []) n t a b)
-ended_told s t byte (Ok n) a b h is_10 ends = subst (λ z. Plays s (z ∷ []) n t a b) (sym is_10) (plays_end s t n a b h ends)
+    → IfOk r (λ n. EndsLine s n t (Appends a b)) → IfOk r (λ n. Plays s (byte ∷ []) n t (Appends a b))
+ended_told s t byte (Ok n) a b h is_10 ends = subst (λ z. Plays s (z ∷ []) n t (Appends a b)) (sym is_10) (plays_end s t n a b h ends)
 ended_told s t byte (Err e) a b h is_10 ends = tt
 
 pub long_told : (s t : Session) (byte : ℕ) (r : Result Turn WriteFailed) (a b : Option (List ℕ)) → IsUnended s.line.items → byte ≢ 10
     → length s.line.items ≡ 64 → IfOk r (λ n. n ≡ turn.Bad) → OnOk r (Appends a b (bad_line_text (s.lines + 1)))
-    → IfOk r (λ n. Plays s (byte ∷ []) n t a b)
-long_told s t byte (Ok n) a b h not_10 full bad written = subst (λ z. Plays s (byte ∷ []) z t a b) (sym bad) (plays_long s t byte a b h not_10 full written)
+    → IfOk r (λ n. Plays s (byte ∷ []) n t (Appends a b))
+long_told s t byte (Ok n) a b h not_10 full bad written = subst (λ z. Plays s (byte ∷ []) z t (Appends a b)) (sym bad) (plays_long s t byte a b h not_10 full written)
 long_told s t byte (Err e) a b h not_10 full bad written = tt

@@ -1,6 +1,6 @@
 -- What playing a script prints, and how it ends.
 use Rattle.std.specs.Prelude.{◌≡◌, ℕ, ◌+◌, ◌<◌, ◌≤◌, ◌⊎◌, Bool, true, List, [], ◌∷◌, ◌++◌, codes, decimal, Option, IfSome}
-use Rattle.std.specs.Io.KnownBytes.{Appends, Consumes}
+use Rattle.std.specs.Io.KnownBytes.{Consumes}
 use Rattle.mx_run_play.specs.declared.script.Line.{Line}
 use Rattle.mx_run_play.specs.declared.script.Line.TheVariants as line
 use Rattle.mx_run_io.specs.Faults.{fault_line, PrintsFault}
@@ -46,23 +46,23 @@ run_of history script = run_of_lines history (lines_of script)
 abbrev pub IsScript : Option (List ℕ) → List ℕ → Type 0
 IsScript known script = IfSome known (λ all. all ≡ script)
 
--- From old to new the run of the script is printed and nothing else, and the program ends with its status.
-pub record PrintsRun (history : ℕ) (known old new : Option (List ℕ)) (ends_with : ℕ) : Type 0 where
+-- What is written is the run of the script, and the program ends with its status.
+pub record PrintsRun (history : ℕ) (known : Option (List ℕ)) (Written : List ℕ → Type 0) (ends_with : ℕ) : Type 0 where
   pub script : List ℕ
   pub is_it : IsScript known script
-  pub written : Appends old new (run_of history script).text
+  pub written : Written (run_of history script).text
   pub status : ends_with ≡ (run_of history script).status
 
--- The reader gave these bytes, and then a read failed: from old to new the run of the lines that they ended is
--- printed, none of which was bad, and then the fault, and the program ends with its number. The last line was open.
-pub record PrintsUnread (history : ℕ) (known left old new : Option (List ℕ)) (ends_with : ℕ) : Type 0 where
+-- The reader gave these bytes, and then a read failed: what is written is the run of the lines that they ended, none of which was bad, and
+-- then the fault, and the program ends with its number. The last line was open.
+pub record PrintsUnread (history : ℕ) (known left : Option (List ℕ)) (Written : List ℕ → Type 0) (ends_with : ℕ) : Type 0 where
   pub front : List ℕ
   pub given : Consumes known left front
   pub told : List (List ℕ)
   pub last : List ℕ
   pub cut : lines_of front ≡ told ++ last ∷ []
   pub good : (run_of_lines history told).status ≡ 0
-  pub written : Appends old new ((run_of_lines history told).text ++ fault_line 56)
+  pub written : Written ((run_of_lines history told).text ++ fault_line 56)
   pub status : ends_with ≡ 56
 
 -- what a player has after a line, and after some lines
@@ -81,9 +81,9 @@ WantsEvent p line.Silent = ⊥
 WantsEvent p (line.Call c) = MakesEvent p c
 WantsEvent p line.Bad = ⊥
 
--- There was no memory for the event of some line's call: from old to new the run of the lines before it is printed,
--- none of which was bad, and then the fault, and the program ends with its number.
-pub record PrintsNoMemory (history : ℕ) (known old new : Option (List ℕ)) (ends_with : ℕ) : Type 0 where
+-- There was no memory for the event of some line's call: what is written is the run of the lines before it, none of which was bad, and then
+-- the fault, and the program ends with its number.
+pub record PrintsNoMemory (history : ℕ) (known : Option (List ℕ)) (Written : List ℕ → Type 0) (ends_with : ℕ) : Type 0 where
   pub script : List ℕ
   pub is_it : IsScript known script
   pub told : List (List ℕ)
@@ -92,19 +92,19 @@ pub record PrintsNoMemory (history : ℕ) (known old new : Option (List ℕ)) (e
   pub cut : lines_of script ≡ told ++ unanswered ∷ more
   pub good : (run_of_lines history told).status ≡ 0
   pub wants : WantsEvent (past_lines told (fresh history)) (line_of unanswered)
-  pub written : Appends old new ((run_of_lines history told).text ++ fault_line 27)
+  pub written : Written ((run_of_lines history told).text ++ fault_line 27)
   pub status : ends_with ≡ 27
 
 -- There was no memory for a player at all: nothing was read, and the fault is all that is printed.
-pub record PrintsNoPlayer (reads_before reads_after : ℕ) (old new : Option (List ℕ)) (ends_with : ℕ) : Type 0 where
+pub record PrintsNoPlayer (reads_before reads_after : ℕ) (Written : List ℕ → Type 0) (ends_with : ℕ) : Type 0 where
   pub unread : reads_after ≡ reads_before
-  pub printed : PrintsFault 27 old new ends_with
+  pub printed : PrintsFault 27 Written ends_with
 
 -- The run of the whole script is printed, or the want of memory: at a line whose call makes an event, or before any read.
-abbrev pub AnswersScript : ℕ → ℕ → ℕ → Option (List ℕ) → Option (List ℕ) → Option (List ℕ) → ℕ → Type 0
-AnswersScript history reads_before reads_after known old new ends_with =
-    PrintsRun history known old new ends_with
-    ⊎ (PrintsNoMemory history known old new ends_with ⊎ PrintsNoPlayer reads_before reads_after old new ends_with)
+abbrev pub AnswersScript : ℕ → ℕ → ℕ → Option (List ℕ) → (List ℕ → Type 0) → ℕ → Type 0
+AnswersScript history reads_before reads_after known Written ends_with =
+    PrintsRun history known Written ends_with
+    ⊎ (PrintsNoMemory history known Written ends_with ⊎ PrintsNoPlayer reads_before reads_after Written ends_with)
 
 -- A failed input had failed before, or was read, or had no reads left.
 abbrev pub WasAsked : Bool → ℕ → ℕ → ℕ → Type 0

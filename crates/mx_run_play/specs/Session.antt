@@ -1,7 +1,7 @@
 -- What a session of `mxfetch play` has taken in and printed.
 use Rattle.std.specs.Prelude.{◌≡◌, ◌≢◌, ℕ, ◌+◌, List, [], ◌∷◌, ◌++◌, Option, Some, None}
 use Rattle.std.specs.List.{AllByRecursion}
-use Rattle.std.specs.Io.KnownBytes.{Appends, Consumes}
+use Rattle.std.specs.Io.KnownBytes.{Consumes}
 use Rattle.mx_run_play.specs.declared.session.Session.{Session}
 use Rattle.mx_run_play.specs.declared.session.Turn.{Turn}
 use Rattle.mx_run_play.specs.declared.session.Turn.TheVariants as turn
@@ -53,39 +53,40 @@ Follows s bytes turn.On t printed = GoesOn s bytes t printed
 Follows s bytes turn.Bad t printed = IsLast s bytes printed
 Follows s bytes turn.NoMemory t printed = Stops s bytes printed
 
--- The line that stands in the session ended: what that printed from old to new.
-pub record TellsLine (s t : Session) (old new : Option (List ℕ)) : Type 0 where
+-- The line that stands in the session ended: what that printed is what is written.
+pub record TellsLine (s t : Session) (Written : List ℕ → Type 0) : Type 0 where
   pub printed : List ℕ
-  pub written : Appends old new printed
+  pub written : Written printed
   pub tells : Tells s (s.line.items ∷ []) t printed
   pub empty : t.line.items ≡ []
 
-pub record EndsRun (s : Session) (old new : Option (List ℕ)) : Type 0 where
+-- It was bad, and ended the run: what that printed is what is written.
+pub record TellsBadLine (s : Session) (Written : List ℕ → Type 0) : Type 0 where
   pub printed : List ℕ
-  pub written : Appends old new printed
+  pub written : Written printed
   pub last : (more : List (List ℕ)) → rest_of s (s.line.items ∷ more) ≡ ran printed 122
 
-abbrev pub EndsLine : Session → Turn → Session → Option (List ℕ) → Option (List ℕ) → Type 0
-EndsLine s turn.On t old new = TellsLine s t old new
-EndsLine s turn.Bad t old new = EndsRun s old new
-EndsLine s turn.NoMemory t old new = Appends old new [] × WantsEvent s.player (line_of s.line.items)
+abbrev pub EndsLine : Session → Turn → Session → (List ℕ → Type 0) → Type 0
+EndsLine s turn.On t Written = TellsLine s t Written
+EndsLine s turn.Bad t Written = TellsBadLine s Written
+EndsLine s turn.NoMemory t Written = Written [] × WantsEvent s.player (line_of s.line.items)
 
--- Bytes were taken in: from old to new that is printed and nothing else.
-pub record Plays (s : Session) (bytes : List ℕ) (next : Turn) (t : Session) (old new : Option (List ℕ)) : Type 0 where
+-- Bytes were taken in: what that printed is what is written.
+pub record Plays (s : Session) (bytes : List ℕ) (next : Turn) (t : Session) (Written : List ℕ → Type 0) : Type 0 where
   pub printed : List ℕ
-  pub written : Appends old new printed
+  pub written : Written printed
   pub follows : Follows s bytes next t printed
 
 -- The whole script was played, and its run ends with that status.
-pub record RanWhole (s : Session) (status : ℕ) (known old new : Option (List ℕ)) : Type 0 where
+pub record RanWhole (s : Session) (status : ℕ) (known : Option (List ℕ)) (Written : List ℕ → Type 0) : Type 0 where
   pub script : List ℕ
   pub is_it : IsScript known script
   pub printed : List ℕ
   pub run : rest_of s (lines_of (s.line.items ++ script)) ≡ ran printed status
-  pub written : Appends old new printed
+  pub written : Written printed
 
 -- There was no memory for a line of the script.
-pub record RanShort (s : Session) (known old new : Option (List ℕ)) : Type 0 where
+pub record RanShort (s : Session) (known : Option (List ℕ)) (Written : List ℕ → Type 0) : Type 0 where
   pub script : List ℕ
   pub is_it : IsScript known script
   pub told : List (List ℕ)
@@ -95,10 +96,10 @@ pub record RanShort (s : Session) (known old new : Option (List ℕ)) : Type 0 w
   pub wants : WantsEvent (past_lines told s.player) (line_of unanswered)
   pub printed : List ℕ
   pub run : rest_of s told ≡ ran printed 0
-  pub written : Appends old new printed
+  pub written : Written printed
 
 -- A read failed: the lines that had ended were played.
-pub record RanUnread (s : Session) (known left old new : Option (List ℕ)) : Type 0 where
+pub record RanUnread (s : Session) (known left : Option (List ℕ)) (Written : List ℕ → Type 0) : Type 0 where
   pub front : List ℕ
   pub given : Consumes known left front
   pub told : List (List ℕ)
@@ -106,10 +107,10 @@ pub record RanUnread (s : Session) (known left old new : Option (List ℕ)) : Ty
   pub cut : lines_of (s.line.items ++ front) ≡ told ++ last ∷ []
   pub printed : List ℕ
   pub run : rest_of s told ≡ ran printed 0
-  pub written : Appends old new printed
+  pub written : Written printed
 
-abbrev pub PlaysAll : Session → Option Turn → Option (List ℕ) → Option (List ℕ) → Option (List ℕ) → Option (List ℕ) → Type 0
-PlaysAll s (Some turn.On) known left old new = RanWhole s 0 known old new
-PlaysAll s (Some turn.Bad) known left old new = RanWhole s 122 known old new
-PlaysAll s (Some turn.NoMemory) known left old new = RanShort s known old new
-PlaysAll s None known left old new = RanUnread s known left old new
+abbrev pub PlaysAll : Session → Option Turn → Option (List ℕ) → Option (List ℕ) → (List ℕ → Type 0) → Type 0
+PlaysAll s (Some turn.On) known left Written = RanWhole s 0 known Written
+PlaysAll s (Some turn.Bad) known left Written = RanWhole s 122 known Written
+PlaysAll s (Some turn.NoMemory) known left Written = RanShort s known Written
+PlaysAll s None known left Written = RanUnread s known left Written

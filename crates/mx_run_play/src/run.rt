@@ -1,12 +1,12 @@
 //! The command `play`.
-ghost use Rattle.std.specs.Prelude.{◌≡◌, ◌≢◌, ◌+◌, ◌≤◌, ◌↔◌, true, false, IsErr, IfOk};
+ghost use Rattle.std.specs.Prelude.{◌≡◌, ◌≢◌, ◌+◌, ◌≤◌, true, IsErr, IfOk};
 ghost use Rattle.mx_types.specs.Limits.{IsHistory};
-ghost use Rattle.mx_run_io.specs.Ends.{reader_of, reads_of, most_reads_of, has_failed_read, writer_of, has_failed_write, is_pending};
+ghost use Rattle.mx_run_io.specs.Ends.{reader_of, reads_of, most_reads_of, has_failed_read, has_failed_write, Wrote, EndsRun};
 ghost use Rattle.mx_run_play.specs.Run.{PrintsUnread, AnswersScript, WasAsked};
 
 use crate::player::Player;
 use crate::session::{Session, Turn};
-use mx_run_io::{Input, Output, UNWRITTEN, WriteFailed, end_with};
+use mx_run_io::{Input, Output, WriteFailed, end_with};
 use mx_types::Code;
 use std::alloc::Global;
 use std::io::{Read, Write};
@@ -29,9 +29,9 @@ fn play_script<R: Read, W: Write>(
     ensures unread { has_failed_read input.old ≢ true → has_failed_read input.new ≡ true
         → IfOk result (PrintsUnread history
         (R.remaining (reader_of input.old)) (R.remaining (reader_of input.new))
-        (W.contents (writer_of output.old)) (W.contents (writer_of output.new))) }
+        (Wrote W.contents output.old output.new)) }
     ensures answered { has_failed_read input.new ≢ true → IfOk result (AnswersScript history
-        (reads_of input.old) (reads_of input.new) (R.remaining (reader_of input.old)) (W.contents (writer_of output.old)) (W.contents (writer_of output.new))) }
+        (reads_of input.old) (reads_of input.new) (R.remaining (reader_of input.old)) (Wrote W.contents output.old output.new)) }
     ensures written { IfOk result (λ status. status ≢ 121) }
     ensures failed { IsErr result → has_failed_write output.new ≡ true }
 {
@@ -68,15 +68,14 @@ pub fn run_play<R: Read, W: Write>(
     ensures reads { reads_of input.new ≤ reads_of input.old + 4294967295 }
     ensures asked { has_failed_read input.new ≡ true → WasAsked (has_failed_read input.old)
         (most_reads_of input.old) (reads_of input.old) (reads_of input.new) }
-    ensures unwritten { (result ≡ UNWRITTEN) ↔ (has_failed_write output.new ≡ true) }
-    ensures flushed { result ≢ UNWRITTEN → is_pending output.new ≡ false }
+    ensures ends { EndsRun output.new result }
     ensures unread { has_failed_write output.new ≢ true
         → has_failed_read input.old ≢ true → has_failed_read input.new ≡ true
         → PrintsUnread history (R.remaining (reader_of input.old)) (R.remaining (reader_of input.new))
-        (W.contents (writer_of output.old)) (W.contents (writer_of output.new)) result }
+        (Wrote W.contents output.old output.new) result }
     ensures answered { has_failed_write output.new ≢ true → has_failed_read input.new ≢ true
         → AnswersScript history (reads_of input.old) (reads_of input.new) (R.remaining (reader_of input.old))
-        (W.contents (writer_of output.old)) (W.contents (writer_of output.new)) result }
+        (Wrote W.contents output.old output.new) result }
 {
     let status = play_script(alloc, history, input, output);
     output.end(status)

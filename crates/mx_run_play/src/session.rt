@@ -1,7 +1,6 @@
 //! A script that is played as it is read.
 ghost use Rattle.std.specs.Prelude.{◌≡◌, ◌+◌, ◌<◌, ◌≤◌, ◌^◌, ◌↔◌, ◌∷◌, [], true, length, IsErr, IfOk, OnOk, None};
-ghost use Rattle.std.specs.Io.KnownBytes.{Appends};
-ghost use Rattle.mx_run_io.specs.Ends.{reader_of, reads_of, most_reads_of, has_failed_read, writer_of, has_failed_write};
+ghost use Rattle.mx_run_io.specs.Ends.{reader_of, reads_of, most_reads_of, has_failed_read, has_failed_write, Wrote};
 ghost use Rattle.mx_run_play.specs.Run.{bad_line_text, WasAsked};
 ghost use Rattle.mx_run_play.specs.Session.{IsUnended, Plays, EndsLine, PlaysAll};
 ghost use Rattle.mx_run_play.specs.declared.session.Turn.TheVariants.{Bad};
@@ -54,8 +53,7 @@ impl Session {
     /// Plays the line that was read.
     fn end_line<W: Write>(&mut self, output: &mut Output<W>) -> Result<Turn, WriteFailed>
         requires counted { self.old.lines + 1 < 2 ^ 64 }
-        ensures played { IfOk result (λ turn. EndsLine self.old turn self.new
-            (W.contents (writer_of output.old)) (W.contents (writer_of output.new))) }
+        ensures played { IfOk result (λ turn. EndsLine self.old turn self.new (Wrote W.contents output.old output.new)) }
         ensures counted { OnOk result (self.new.lines ≤ self.old.lines + 1) }
         ensures failed { IsErr result → has_failed_write output.new ≡ true }
     {
@@ -75,8 +73,7 @@ impl Session {
     fn bad_line<W: Write>(&self, output: &mut Output<W>) -> Result<Turn, WriteFailed>
         requires counted { self.now.lines + 1 < 2 ^ 64 }
         ensures turn { IfOk result (λ turn. turn ≡ Bad) }
-        ensures bytes { OnOk result (Appends (W.contents (writer_of output.old)) (W.contents (writer_of output.new))
-            (bad_line_text (self.now.lines + 1))) }
+        ensures bytes { OnOk result (Wrote W.contents output.old output.new (bad_line_text (self.now.lines + 1))) }
         ensures failed { IsErr result → has_failed_write output.new ≡ true }
     {
         output.print(format_args!("bad-line {}\n", self.lines + 1))?;
@@ -87,8 +84,7 @@ impl Session {
     fn take<W: Write>(&mut self, byte: u8, output: &mut Output<W>) -> Result<Turn, WriteFailed>
         requires unended { IsUnended self.old.line.items }
         requires counted { self.old.lines + 1 < 2 ^ 64 }
-        ensures played { IfOk result (λ turn. Plays self.old (byte ∷ []) turn self.new
-            (W.contents (writer_of output.old)) (W.contents (writer_of output.new))) }
+        ensures played { IfOk result (λ turn. Plays self.old (byte ∷ []) turn self.new (Wrote W.contents output.old output.new)) }
         ensures counted { OnOk result (self.new.lines ≤ self.old.lines + 1) }
         ensures failed { IsErr result → has_failed_write output.new ≡ true }
     {
@@ -110,8 +106,7 @@ impl Session {
     ) -> Result<Turn, WriteFailed>
         requires unended { IsUnended self.old.line.items }
         requires counted { self.old.lines + length bytes.now + 1 < 2 ^ 64 }
-        ensures played { IfOk result (λ turn. Plays self.old bytes.now turn self.new
-            (W.contents (writer_of output.old)) (W.contents (writer_of output.new))) }
+        ensures played { IfOk result (λ turn. Plays self.old bytes.now turn self.new (Wrote W.contents output.old output.new)) }
         ensures counted { OnOk result (self.new.lines ≤ self.old.lines + length bytes.now) }
         ensures failed { IsErr result → has_failed_write output.new ≡ true }
     {
@@ -140,7 +135,7 @@ impl Session {
         ensures unread { IfOk result (λ turn. (turn ≡ None) ↔ (has_failed_read input.new ≡ true)) }
         ensures played { IfOk result (λ turn. PlaysAll self.old turn
             (R.remaining (reader_of input.old)) (R.remaining (reader_of input.new))
-            (W.contents (writer_of output.old)) (W.contents (writer_of output.new))) }
+            (Wrote W.contents output.old output.new)) }
         ensures failed { IsErr result → has_failed_write output.new ≡ true }
     {
         let mut buffer = [0u8; READ_SIZE];

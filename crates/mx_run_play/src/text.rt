@@ -1,7 +1,6 @@
 //! The texts of a play: what a line of a script prints.
-ghost use Rattle.std.specs.Prelude.{◌≡◌, ◌++◌, ◌∷◌, [], true, IsErr, OnOk, codes, decimal};
-ghost use Rattle.std.specs.Io.KnownBytes.{Appends};
-ghost use Rattle.mx_run_io.specs.Ends.{writer_of, has_failed_write};
+ghost use Rattle.std.specs.Prelude.{◌≡◌, ◌++◌, ◌∷◌, [], true, IsErr, OnOk};
+ghost use Rattle.mx_run_io.specs.Ends.{has_failed_write, Wrote};
 ghost use Rattle.mx_run_play.specs.Texts.{look_text, state_text, handles_text, reply_text, said_text};
 
 use crate::player::Said;
@@ -10,8 +9,7 @@ use mx_types::{AddedHandles, Look, Reply, State};
 use std::io::Write;
 
 fn write_state<W: Write>(output: &mut Output<W>, state: State) -> Result<(), WriteFailed>
-    ensures bytes { OnOk result (Appends (W.contents (writer_of output.old)) (W.contents (writer_of output.new))
-        (state_text state ++ 10 ∷ [])) }
+    ensures bytes { OnOk result (Wrote W.contents output.old output.new (state_text state ++ 10 ∷ [])) }
     ensures failed { IsErr result → has_failed_write output.new ≡ true }
 {
     match state {
@@ -32,8 +30,7 @@ fn write_state<W: Write>(output: &mut Output<W>, state: State) -> Result<(), Wri
 }
 
 fn write_look<W: Write>(output: &mut Output<W>, look: Look) -> Result<(), WriteFailed>
-    ensures bytes { OnOk result (Appends (W.contents (writer_of output.old)) (W.contents (writer_of output.new))
-        (look_text look ++ 10 ∷ [])) }
+    ensures bytes { OnOk result (Wrote W.contents output.old output.new (look_text look ++ 10 ∷ [])) }
     ensures failed { IsErr result → has_failed_write output.new ≡ true }
 {
     match look {
@@ -47,8 +44,7 @@ fn write_handles<W: Write>(
     output: &mut Output<W>,
     handles: &AddedHandles,
 ) -> Result<(), WriteFailed>
-    ensures bytes { OnOk result (Appends (W.contents (writer_of output.old)) (W.contents (writer_of output.new))
-        (handles_text handles.now ++ 10 ∷ [])) }
+    ensures bytes { OnOk result (Wrote W.contents output.old output.new (handles_text handles.now ++ 10 ∷ [])) }
     ensures failed { IsErr result → has_failed_write output.new ≡ true }
 {
     output.print(format_args!("handles"))?;
@@ -59,8 +55,7 @@ fn write_handles<W: Write>(
 }
 
 fn write_reply<W: Write>(output: &mut Output<W>, reply: &Reply) -> Result<(), WriteFailed>
-    ensures bytes { OnOk result (Appends (W.contents (writer_of output.old)) (W.contents (writer_of output.new))
-        (reply_text reply.now ++ 10 ∷ [])) }
+    ensures bytes { OnOk result (Wrote W.contents output.old output.new (reply_text reply.now ++ 10 ∷ [])) }
     ensures failed { IsErr result → has_failed_write output.new ≡ true }
 {
     match reply {
@@ -104,8 +99,7 @@ fn write_reply<W: Write>(output: &mut Output<W>, reply: &Reply) -> Result<(), Wr
 
 /// Prints what a line is answered, as one line.
 pub fn write_said<W: Write>(output: &mut Output<W>, said: &Said) -> Result<(), WriteFailed>
-    ensures bytes { OnOk result (Appends (W.contents (writer_of output.old)) (W.contents (writer_of output.new))
-        (said_text said.now)) }
+    ensures bytes { OnOk result (Wrote W.contents output.old output.new (said_text said.now)) }
     ensures failed { IsErr result → has_failed_write output.new ≡ true }
 {
     match said {

@@ -16,15 +16,15 @@ most_reads (Body method) = most_bytes + 2
 most_reads (Play history) = 4294967295
 
 -- what a run prints and ends with where no read and no write failed
-abbrev pub AnswersTask : Tasks → ℕ → ℕ → Option (List ℕ) → Option (List ℕ) → Option (List ℕ) → Option (List ℕ) → ℕ → Type 0
-AnswersTask (Body method) reads_before reads_after known left old new ends_with = AnswersRead method known left old new ends_with
-AnswersTask (Play history) reads_before reads_after known left old new ends_with =
-    AnswersScript history reads_before reads_after known old new ends_with
+abbrev pub AnswersTask : Tasks → ℕ → ℕ → Option (List ℕ) → Option (List ℕ) → (List ℕ → Type 0) → ℕ → Type 0
+AnswersTask (Body method) reads_before reads_after known left Written ends_with = AnswersRead method known left Written ends_with
+AnswersTask (Play history) reads_before reads_after known left Written ends_with =
+    AnswersScript history reads_before reads_after known Written ends_with
 
 -- what it prints and ends with where a read failed
-abbrev pub PrintsFailedRead : Tasks → Option (List ℕ) → Option (List ℕ) → Option (List ℕ) → Option (List ℕ) → ℕ → Type 0
-PrintsFailedRead (Body method) known left old new ends_with = PrintsFault (code_number codes.RecvError) old new ends_with
-PrintsFailedRead (Play history) known left old new ends_with = PrintsUnread history known left old new ends_with
+abbrev pub PrintsFailedRead : Tasks → Option (List ℕ) → Option (List ℕ) → (List ℕ → Type 0) → ℕ → Type 0
+PrintsFailedRead (Body method) known left Written ends_with = PrintsFault (code_number codes.RecvError) Written ends_with
+PrintsFailedRead (Play history) known left Written ends_with = PrintsUnread history known left Written ends_with
 
 -- how far it reads
 abbrev pub StopsReading : Tasks → Bool → Option (List ℕ) → Option (List ℕ) → Type 0

@@ -1,13 +1,13 @@
 //! The run of a task.
-ghost use Rattle.std.specs.Prelude.{◌≡◌, ◌≢◌, ◌≤◌, ◌↔◌, true, false};
-ghost use Rattle.mx_run_io.specs.Ends.{reader_of, reads_of, most_reads_of, has_failed_read, writer_of, has_failed_write, is_pending};
+ghost use Rattle.std.specs.Prelude.{◌≡◌, ◌≢◌, ◌≤◌, true};
+ghost use Rattle.mx_run_io.specs.Ends.{reader_of, reads_of, most_reads_of, has_failed_read, has_failed_write, Wrote, EndsRun};
 ghost use Rattle.mx_run_play.specs.Run.{WasAsked};
 ghost use Rattle.mx_command.specs.Asked.{IsTask};
 ghost use Rattle.mx_run_task.specs.Tasks.{most_reads, AnswersTask, PrintsFailedRead, StopsReading};
 
 use mx_command::Task;
 use mx_run_body::run_body;
-use mx_run_io::{Input, Output, UNWRITTEN};
+use mx_run_io::{Input, Output};
 use mx_run_play::run_play;
 use std::alloc::Global;
 use std::io::{Read, Write};
@@ -39,16 +39,15 @@ pub fn run_task<R: Read, W: Write>(
         (R.remaining (reader_of input.old)) (R.remaining (reader_of input.new)) }
     ensures asked { has_failed_read input.new ≡ true → WasAsked (has_failed_read input.old)
         (most_reads_of input.old) (reads_of input.old) (reads_of input.new) }
-    ensures unwritten { (result ≡ UNWRITTEN) ↔ (has_failed_write output.new ≡ true) }
-    ensures flushed { result ≢ UNWRITTEN → is_pending output.new ≡ false }
+    ensures ends { EndsRun output.new result }
     ensures unread { has_failed_write output.new ≢ true
         → has_failed_read input.old ≢ true → has_failed_read input.new ≡ true
         → PrintsFailedRead task (R.remaining (reader_of input.old)) (R.remaining (reader_of input.new))
-        (W.contents (writer_of output.old)) (W.contents (writer_of output.new)) result }
+        (Wrote W.contents output.old output.new) result }
     ensures answered { has_failed_write output.new ≢ true → has_failed_read input.new ≢ true
         → AnswersTask task (reads_of input.old) (reads_of input.new)
         (R.remaining (reader_of input.old)) (R.remaining (reader_of input.new))
-        (W.contents (writer_of output.old)) (W.contents (writer_of output.new)) result }
+        (Wrote W.contents output.old output.new) result }
 {
     match task {
         Task::Body(method) => run_body(alloc, method, input, output),

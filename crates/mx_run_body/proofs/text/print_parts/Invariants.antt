@@ -1,4 +1,5 @@
 use Rattle.std.proofs.Common.{◌≡◌, ◌≤◌, length, take}
+use Rattle.mx_run_io.specs.Ends.{Wrote}
 use Rattle.mx_body.specs.Parts.{joined}
 use Rattle.mx_run_body.specs.Texts.{Holds}
 use Rattle.mx_run_body.proofs.text.print_parts.Given as goal
@@ -7,7 +8,7 @@ use Rattle.mx_run_body.proofs.text.print_parts.Given as goal
 abbrev pub invariant-loop-part : goal.invariant-loop-part
 invariant-loop-part g l = record {
   within : l.held ≤ length l.buffer;
-  holds : Holds (g.W.Write.contents l.initial.output.writer) (g.W.Write.contents l.output.writer)
+  holds : Holds (Wrote g.W.Write.contents l.initial.output l.output)
       (joined l.input (take l.part-index l.parts)) (take l.held l.buffer);
   kept : l.output.failed ≡ l.initial.output.failed;
 }
