@@ -14,7 +14,7 @@ set -u
 # where not all of its tests are run, a word in the names of those that are.
 tests='
 mx_body_tests       src/pieces\.rt                                     refused_growth
-mx_tests            src/[a-z_]*_tests\.rt
+mx_request_tests    src/[a-z_]*_tests\.rt
 mx_link_tests       src/\(asking\|scripted\|sockets\)\.rt
 mx_exchange_tests   src/\(connecting\|replay\|tests\)\.rt
 mx_chain_tests      src/\(hops\|redirects\|replay\)\.rt
