@@ -32,7 +32,7 @@ loop-reader-preserved g c =
       own = c.another-key.ensures.kept.0;
       founder = c.another-key.ensures.kept.1 ∙ ap parent inv.founder ∙ ap (founder_at e) next;
       new = subst (AreNew m c.args.worker 0) (sym items)
-          (new_more m c.args.worker 0 was _ inv.new (new_at m c.args.worker n (0 + length was) _ at (is_new m of (view key) r c.args.worker n (first_of c.args.worker + n) c.args.words.now c.in-Some-pop.own_notes c.again.result.ties c.new.result c.new-given.result new.0.0 new.0.1 refl refl (search rules) refl c.of.ensures (new.1 ∙ ap child inv.founder) h.0 none c.new.ensures c.new-given.ensures)));
+          (new_more m c.args.worker 0 was _ inv.new (new_at m c.args.worker n (0 + length was) _ at (is_new m of (view key) r c.args.worker n (first_of c.args.worker + n) c.args.words.now c.in-Some-pop.own_notes c.again.result.entries c.new.result c.new-given.result new.0.0 new.0.1 refl refl (search rules) refl c.of.ensures (new.1 ∙ ap child inv.founder) h.0 none c.new.ensures c.new-given.ensures)));
       readers = subst (λ k. AreReaders c.args.worker k e.book c.pop_front.new.self.items) (sym more) h.1;
       notes = rest.0;
       left = omega (arith, more, inv.left, c.in-Some-pop.ensures.len);
