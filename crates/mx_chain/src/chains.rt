@@ -2,7 +2,8 @@
 ghost use Rattle.std.specs.Prelude.{◌≡◌, ◌≢◌, ◌≤◌, ◌<◌, ◌↔◌, ◌⊎◌, ◌∷◌, ◌++◌, ℕ, true, false, [], None, Some, Ok, Err, IsSome, IfSome, IsTrue, MatchResult, is_some, option_map, option_copied, length};
 ghost use Rattle.mx_request.specs.declared.error.RequestError.TheVariants as refusal;
 ghost use Rattle.mx_exchange.specs.Exchanges.{ExchangeState, WantsLink, IsDue, IsExchange, KeepsToken, attached, clocked};
-ghost use Rattle.mx_exchange.specs.Endings.{is_link_code, IsUndecided};
+ghost use Rattle.mx_types.specs.Code.{is_link_code};
+ghost use Rattle.mx_exchange.specs.Endings.{IsUndecided};
 ghost use Rattle.mx_chain.specs.Hops.{is_redirect, next_of, LeadTo, EndsWith};
 ghost use Rattle.mx_chain.specs.Chains.{ChainState, IsChain, begun, bytes_in, received_of, home_by, home_of, released, left_of};
 ghost use Rattle.mx_chain.specs.declared.chains.Stepped.TheVariants as stepped;

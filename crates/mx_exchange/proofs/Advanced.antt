@@ -16,7 +16,8 @@ use Rattle.mx_link.specs.Answers.{given, given_by}
 use Rattle.mx_link.specs.declared.answers.Answer.{Answer}
 use Rattle.mx_link.specs.declared.answers.Answer.TheVariants as said
 use Rattle.mx_exchange.specs.Order.{InOrder}
-use Rattle.mx_exchange.specs.Endings.{EndsBy, by_bytes, by_end, by_fault, by_memory, MustRetry, may_keep, code_of, fault_code, is_link_code}
+use Rattle.mx_types.specs.Code.{is_link_code}
+use Rattle.mx_exchange.specs.Endings.{EndsBy, by_bytes, by_end, by_fault, by_memory, MustRetry, may_keep, code_of, fault_code}
 use Rattle.mx_exchange.specs.Exchanges.{HopValue, ExchangeState, IsDue, clocked, dropped}
 use Rattle.mx_exchange.specs.Turns.{How, waits, asks, ends, ProbeFails, Probed, Answered, GoesOn, EndsWith, StopsWith, Exchanged, unserved, lost, blocked, unfinished, ended, Turns, late, given_up, paused, refused, turned}
 use Rattle.mx_exchange.specs.Lines.{LineState, ServesTo}

@@ -3,10 +3,9 @@ use Rattle.std.proofs.Common.{◌≡◌, ℕ, ◌+◌, ◌≤◌, ◌<◌, Bool,
 use Rattle.std.specs.Prelude.{count_by}
 use Rattle.mx_types.specs.declared.code.Code.{Code}
 use Rattle.mx_body.specs.Decoder.{Decoded}
-use Rattle.mx_link.specs.Answers.{is_read, is_write}
+use Rattle.mx_link.specs.Answers.{is_connect, is_read, is_write}
 use Rattle.mx_link.specs.declared.answers.Answer.{Answer}
 use Rattle.mx_link.specs.declared.answers.Answer.TheVariants as said
-use Rattle.mx_exchange.specs.Order.{is_connect}
 use Rattle.mx_exchange.specs.Lines.{LineState, IsOpen, IsGoing, Calls, Grows, StepsTo, HaltSo, ServesTo}
 use Rattle.mx_exchange.specs.declared.calls.Step.TheVariants as step
 use Rattle.mx_exchange.specs.declared.calls.Halt.{Halt}

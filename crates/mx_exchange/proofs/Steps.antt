@@ -9,10 +9,10 @@ use Rattle.mx_body.specs.declared.decoder.Stand.{Stand}
 use Rattle.mx_body.specs.declared.decoder.Stand.TheVariants as stand
 use Rattle.mx_body.specs.declared.verdict.Verdict.{Verdict}
 use Rattle.mx_body.specs.declared.verdict.Verdict.TheVariants as verdict
-use Rattle.mx_link.specs.Answers.{given, given_by}
+use Rattle.mx_link.specs.Answers.{is_connect, given, given_by}
 use Rattle.mx_link.specs.declared.answers.Answer.{Answer}
 use Rattle.mx_link.specs.declared.answers.Answer.TheVariants as said
-use Rattle.mx_exchange.specs.Order.{is_connect, is_last}
+use Rattle.mx_exchange.specs.Order.{is_last}
 use Rattle.mx_exchange.specs.Endings.{by_bytes, by_end, by_fault, by_memory, MustRetry, code_of, fault_code, is_loss, is_repeated, is_heard}
 use Rattle.mx_exchange.specs.Lines.{LineState, IsGoing, IsOver, Grows, StepsTo, StepSo}
 use Rattle.mx_exchange.specs.declared.calls.Step.{Step}

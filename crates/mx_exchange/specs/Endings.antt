@@ -1,6 +1,7 @@
 -- How an exchange ends by what its link answers.
 use Rattle.std.specs.Prelude.{◌≡◌, ◌==◌, ℕ, Bool, true, false, ◌&&◌, ◌⊎◌, List, [], ◌∷◌, ◌++◌, length, Option, Some, None}
 use Rattle.std.specs.List.{list_any}
+use Rattle.mx_types.specs.Code.{is_link_code}
 use Rattle.mx_types.specs.declared.code.Code.{Code}
 use Rattle.mx_types.specs.declared.code.Code.TheVariants as code
 use Rattle.mx_types.specs.declared.method.Method.{Method}
@@ -19,14 +20,7 @@ abbrev pub IsUndecided : Method → List Answer → Type 0
 IsUndecided kind answers =
     (list_any is_last answers ≡ false) × IsVerdict kind (given answers) false verdict.More
 
--- the codes of a link that can't be had: the host wasn't found, or not reached, or memory wasn't found
-abbrev pub is_link_code : Code → Bool
-is_link_code code.CouldntResolveHost = true
-is_link_code code.CouldntConnect = true
-is_link_code code.OutOfMemory = true
-is_link_code _ = false
-
--- these, and that of a deadline
+-- the codes of a link that can't be had, and that of a deadline
 abbrev pub is_stop_code : Code → Bool
 is_stop_code code.OperationTimedout = true
 is_stop_code c = is_link_code c

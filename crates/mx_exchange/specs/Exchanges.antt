@@ -7,7 +7,8 @@ use Rattle.mx_link.specs.Answers.{given}
 use Rattle.mx_link.specs.declared.answers.Answer.{Answer}
 use Rattle.mx_head.specs.Limits.{most_bytes}
 use Rattle.mx_exchange.specs.Order.{InOrder, most_read, asks_of}
-use Rattle.mx_exchange.specs.Endings.{IsUndecided, is_link_code}
+use Rattle.mx_types.specs.Code.{is_link_code}
+use Rattle.mx_exchange.specs.Endings.{IsUndecided}
 
 -- A hop. The parts are where the data of the body stand in the wire; `location` is the value of the first Location line of its final
 -- head, unless it is empty; `answers` are what the link answered since it was attached or probed, in order, and `is_reused` says whether

@@ -8,12 +8,12 @@ use Rattle.mx_request.specs.Request.{RequestValue}
 use Rattle.mx_body.specs.Decoder.{Decoded}
 use Rattle.mx_body.specs.declared.verdict.Verdict.{Verdict}
 use Rattle.mx_body.specs.declared.verdict.Verdict.TheVariants as verdict
-use Rattle.mx_link.specs.Answers.{given, taken, is_read, is_write, is_blocked}
+use Rattle.mx_link.specs.Answers.{is_connect, given, taken, is_read, is_write, is_blocked}
 use Rattle.mx_link.specs.declared.answers.Answer.{Answer}
 use Rattle.mx_link.specs.declared.answers.Answer.TheVariants as said
 use Rattle.mx_link.specs.declared.answers.Write.{Write}
 use Rattle.mx_link.specs.declared.answers.Write.TheVariants as write
-use Rattle.mx_exchange.specs.Order.{InOrder, stands, is_connect, is_last, asks_of}
+use Rattle.mx_exchange.specs.Order.{InOrder, stands, is_last, asks_of}
 use Rattle.mx_exchange.specs.Endings.{IsUndecided, EndsBy, MustRetry}
 use Rattle.mx_exchange.specs.declared.calls.Step.{Step}
 use Rattle.mx_exchange.specs.declared.calls.Step.TheVariants as step

@@ -10,13 +10,6 @@ abbrev pub is_connected : Answer → Bool
 is_connected said.Connected = true
 is_connected _ = false
 
--- the answer to the question whether it stands
-abbrev pub is_connect : Answer → Bool
-is_connect said.Connected = true
-is_connect said.ConnectBlocked = true
-is_connect said.ConnectFailed = true
-is_connect _ = false
-
 -- a fault, or the end of what the other side sends
 abbrev pub is_last : Answer → Bool
 is_last said.ConnectFailed = true

@@ -4,12 +4,12 @@ use Rattle.mx_types.specs.declared.code.Code.TheVariants as code
 use Rattle.mx_body.specs.Decision.{HasStatus}
 use Rattle.mx_body.specs.Decoder.{parts_of}
 use Rattle.mx_body.specs.declared.verdict.Verdict.{Verdict}
-use Rattle.mx_link.specs.Answers.{is_read, is_write, is_blocked, given}
+use Rattle.mx_link.specs.Answers.{is_connect, is_read, is_write, is_blocked, given}
 use Rattle.mx_link.specs.declared.answers.Answer.{Answer}
 use Rattle.mx_link.specs.declared.answers.Answer.TheVariants as said
 use Rattle.mx_exchange.specs.declared.exchanges.turns.Turned.{Turned}
 use Rattle.mx_exchange.specs.declared.exchanges.turns.Turned.TheVariants as went
-use Rattle.mx_exchange.specs.Order.{InOrder, is_connect}
+use Rattle.mx_exchange.specs.Order.{InOrder}
 use Rattle.mx_exchange.specs.Endings.{EndsBy, MustRetry, may_keep}
 use Rattle.mx_exchange.specs.Exchanges.{HopValue, ExchangeState, IsDue, LinkTold, dropped}
 

@@ -1,7 +1,7 @@
 //! One request over a link, and after its end another one.
 ghost use Rattle.std.specs.Prelude.{◌≡◌, true, false, [], Some, None, IsSome, IfSome, is_some, option_map, ◌↔◌, if◌then◌else◌};
 ghost use Rattle.mx_exchange.specs.Exchanges.{IsExchange, WantsLink, begun, attached, renewed};
-ghost use Rattle.mx_exchange.specs.Endings.{is_link_code};
+ghost use Rattle.mx_types.specs.Code.{is_link_code};
 
 mod stages;
 pub(crate) mod turns;
@@ -41,7 +41,7 @@ pub struct Exchange<L: Link> {
 
 impl<L: Link> Model for Exchange<L> {
     ghost use Rattle.std.specs.Prelude.{◌≡◌, true, IfSome};
-    ghost use Rattle.mx_exchange.specs.Endings.{is_link_code};
+    ghost use Rattle.mx_types.specs.Code.{is_link_code};
     ghost use Rattle.mx_exchange.specs.Exchanges.{ExchangeState};
     ghost use Rattle.mx_exchange.specs.Stages.{link_of, attached_of, answers_of, reused_of, probe_of, line_of, code_of, kept_of, received_of, IsStage};
 

@@ -1,6 +1,7 @@
 //! A transfer as a future.
 ghost use Rattle.std.specs.Prelude.{◌≡◌, ◌≤◌, ◌↔◌, ◌⊎◌, None, Some, true, false, IsSome, IfSome, is_some, option_map, option_copied};
-ghost use Rattle.mx_exchange.specs.Endings.{is_link_code, IsUndecided};
+ghost use Rattle.mx_types.specs.Code.{is_link_code};
+ghost use Rattle.mx_exchange.specs.Endings.{IsUndecided};
 ghost use Rattle.mx_exchange.specs.Exchanges.{WantsLink, IsDue, IsExchange, KeepsToken, attached, clocked};
 ghost use Rattle.mx_chain.specs.Chains.{IsChain, begun, received_of, home_of};
 ghost use Rattle.mx_transfer.specs.Transfers.{TransferState};

@@ -1,6 +1,6 @@
 //! Two workers, and a third thread that reads the messages.
 ghost use Rattle.std.specs.Prelude.{◌≡◌, ◌≤◌, true, [], IfOk, IfErr};
-ghost use Rattle.mx_exchange.specs.Endings.{is_link_code};
+ghost use Rattle.mx_types.specs.Code.{is_link_code};
 
 use crate::beside::{Answer, Flags, Plan, run_plan};
 use crate::reader::LOOKS;

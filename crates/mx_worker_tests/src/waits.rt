@@ -1,6 +1,6 @@
 //! How long a worker has its gate wait.
 ghost use Rattle.std.specs.Prelude.{◌≡◌, ◌≤◌, true, [], IfOk, IfErr};
-ghost use Rattle.mx_exchange.specs.Endings.{is_link_code};
+ghost use Rattle.mx_types.specs.Code.{is_link_code};
 
 use crate::responses::COUNTED;
 use mx_gate::{Gate, ScriptGate, Turn};
