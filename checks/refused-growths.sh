@@ -17,7 +17,7 @@ mx_body_tests       src/pieces\.rt                                     refused_g
 mx_request_tests    src/[a-z_]*_tests\.rt
 mx_link_tests       src/\(asking\|scripted\|sockets\)\.rt
 mx_exchange_tests   src/\(connecting\|replay\|tests\)\.rt
-mx_chain_tests      src/\(hops\|redirects\|replay\)\.rt
+mx_chain_tests      src/\(hops\|replay\)\.rt
 mx_multi_tests      src/seats\.rt                                      scripts\|meetings\|seats
 mx_worker_tests     src/\(ends\|links\|waits\)\.rt                       ^ends\|^links\|^paused\|^takeover\|^waits
 '
