@@ -1,7 +1,8 @@
 //! What the lock keeps: the control state, and the board that is published of it.
-ghost use Rattle.std.specs.Prelude.{◌≡◌, ◌≤◌, ◌<◌, [], length, true, IfOk, IfSome};
+ghost use Rattle.std.specs.Prelude.{◌≡◌, ◌<◌, [], length, true, IfOk, IfSome};
 ghost use Rattle.std.specs.Bool.{OnTrue};
 ghost use mathlib.Core.List.{IsPrefix};
+ghost use Rattle.mx_types.specs.Limits.{IsHistory};
 ghost use Rattle.mx_journal.specs.History.{is_legal, is_maker, made_by};
 ghost use Rattle.mx_journal.specs.Answers.{is_ready};
 ghost use Rattle.mx_journal.specs.Table.{IsTableOf};
@@ -185,11 +186,10 @@ impl<Q: Work + Drop, O: Ending + Drop> Engine<Q, O> {
     /// with its queue and its endings.
     pub fn close<R: Wait>(self, rt: &R) {
         let Engine {
-            control,
+            control: _control,
             board,
             ties: _ties,
         } = self;
         let _table = board.close(rt);
-        let _control = control;
     }
 }

@@ -1,4 +1,4 @@
-use Rattle.std.proofs.Common.{◌≡◌, ◌∙◌, sym, subst, true}
+use Rattle.std.proofs.Common.{rules, ◌≡◌, ◌∙◌, sym, subst, true}
 use Rattle.mx_journal.specs.History.{has_ticket, running}
 use Rattle.mx_append_log.specs.Log.{AreOfOneList}
 use Rattle.mx_lock.specs.Ties.{TieState}
@@ -33,3 +33,6 @@ returns-clause-claims g c =
     let y = c.give_back.new.self in
     rw (← c.self.view_is, ← c.self-inside.view_is)
     (claims_back before.control.journal y.journal c.give_back.result before.control.queue y.queue c.into_parts-claim.result.0.ticket c.args.work c.give_back.ensures.journal c.give_back.ensures.queue)
+
+pub returns-clause-back : goal.returns-clause-back
+returns-clause-back g c = search rules
