@@ -12,12 +12,12 @@ use crate::tally::Tally;
 use arrayvec::ArrayVec;
 use futures::Future;
 use futures::task::{Doorbell, Poll, Solo};
-use mx_clock::{Deadlines, MOST};
+use mx_clock::Deadlines;
 use mx_gate::{Gate, Turn};
 use mx_link::Link;
 use mx_multi::{AtWork, Multi, Seated};
 use mx_transfer::{Outcome, Transfer};
-use mx_types::{Look, Ticket};
+use mx_types::{Look, MOST_TRANSFERS, Ticket};
 use std::alloc::AllocGlobal;
 use std::random::RandomSource;
 use std::sync::Wait;
@@ -282,7 +282,7 @@ impl<'m, L: Link> Worker<'m, L> {
         rt: &R,
         gate: &mut G,
         now: u64,
-        due: &ArrayVec<Ticket, MOST>,
+        due: &ArrayVec<Ticket, MOST_TRANSFERS>,
         is_due: bool,
     )
         ensures start { self.new.tally.start ≡ self.old.tally.start }
