@@ -1,5 +1,22 @@
 //! One multi handle for many threads: a lock with a rule, seats, and the calls. It is generic in the work that is added
 //! and in the endings that are recorded.
+//!
+//! A caller, with work and endings of its own (`Job`, `End`); `mx_multi_tests` runs it:
+//!
+//! ```text
+//! let (multi, mut seats, mut workers) = Multi::<Job, End>::open(rt, rt.alloc(), limits)?;
+//! let mut seat = multi.at(seats.pop()?);
+//! let mut worker = multi.at(workers.pop()?);
+//! let _added = seat.add(rt, HandleId(1), Job)?;
+//! let (claim, _work) = worker.claim(rt)?;
+//! let _recorded = worker.finish(rt, claim, End::new(Code::Ok, 5))?;
+//! let _woken = seat.poll(rt)?;
+//! let message = seat.info_read(rt)?;
+//! let seat = seat.into_seat();
+//! multi.close(rt, seat);
+//! ```
+//!
+//! Each `?` stands for what a caller does where a call is refused. A seat and a worker's seat may go to threads of their own.
 #![tactic(auto)]
 
 mod laws;
