@@ -97,19 +97,19 @@ fn maker(worker: bool, number: u8) -> Who
 // Readers for seats or workers, which have seen the empty journal.
 fn readers<Q: Work + Drop, O: Ending + Drop>(
     alloc: Global,
-    shared: &mut Engine<Q, O>,
+    engine: &mut Engine<Q, O>,
     count: u8,
     worker: bool,
 ) -> Result<VecDeque<BoardReader>, OutOfMemory>
     requires few { count ≤ most_seats }
-    requires none { shared.old.core.journal ≡ [] }
-    ensures same { shared.new ≡ shared.old }
-    ensures readers { IfOk result (λ v. AreReaders worker 0 shared.old.book v.items × (deque_len v ≡ count)) }
+    requires none { engine.old.core.journal ≡ [] }
+    ensures same { engine.new ≡ engine.old }
+    ensures readers { IfOk result (λ v. AreReaders worker 0 engine.old.book v.items × (deque_len v ≡ count)) }
     ensures few { IfOk result (λ v. deque_len v ≤ most_seats) }
 {
     let mut readers = VecDeque::new(alloc);
     for number in 0..count {
-        let Some(reader) = shared.reader(maker(worker, number)) else {
+        let Some(reader) = engine.reader(maker(worker, number)) else {
             return Err(OutOfMemory);
         };
         readers.push_back(reader)?;
@@ -184,18 +184,18 @@ fn skip<Q: Work + Drop, O: Ending + Drop>(lock: &Lock<Q, O>, founder: &mut Key<Q
 // Readers for the seats, and for the workers.
 fn readers_of_all<Q: Work + Drop, O: Ending + Drop>(
     alloc: Global,
-    shared: &mut Engine<Q, O>,
+    engine: &mut Engine<Q, O>,
     limits: Limits,
 ) -> Result<(VecDeque<BoardReader>, VecDeque<BoardReader>), OutOfMemory>
     requires within { are_within limits ≡ true }
-    requires none { shared.old.core.journal ≡ [] }
-    ensures same { shared.new ≡ shared.old }
-    ensures seats { IfOk result (λ v. AreReaders false 0 shared.old.book v.0.items × (deque_len v.0 ≡ limits.seats)) }
-    ensures workers { IfOk result (λ v. AreReaders true 0 shared.old.book v.1.items × (deque_len v.1 ≡ limits.workers)) }
+    requires none { engine.old.core.journal ≡ [] }
+    ensures same { engine.new ≡ engine.old }
+    ensures seats { IfOk result (λ v. AreReaders false 0 engine.old.book v.0.items × (deque_len v.0 ≡ limits.seats)) }
+    ensures workers { IfOk result (λ v. AreReaders true 0 engine.old.book v.1.items × (deque_len v.1 ≡ limits.workers)) }
     ensures few { IfOk result (λ v. (deque_len v.0 ≤ most_seats) × (deque_len v.1 ≤ most_seats)) }
 {
-    let for_seats = readers(alloc, shared, limits.seats, false)?;
-    let for_workers = readers(alloc, shared, limits.workers, true)?;
+    let for_seats = readers(alloc, engine, limits.seats, false)?;
+    let for_workers = readers(alloc, engine, limits.workers, true)?;
     Ok((for_seats, for_workers))
 }
 
@@ -279,11 +279,11 @@ impl<Q: Work + Drop, O: Ending + Drop> Multi<Q, O> {
     {
         let (words, notes) = ProgressTable::new(alloc, limits.seats + limits.workers)?;
         let places = usize::from(limits.seats) + usize::from(limits.workers);
-        let mut shared = Engine::new(rt, alloc, limits.history, places)?;
-        let start = shared.mark();
-        let no_ties = shared.tie_mark();
-        let all_readers = readers_of_all(alloc, &mut shared, limits)?;
-        let (lock, founder) = Lock::new(rt, alloc, shared)?;
+        let mut engine = Engine::new(rt, alloc, limits.history, places)?;
+        let start = engine.mark();
+        let no_ties = engine.tie_mark();
+        let all_readers = readers_of_all(alloc, &mut engine, limits)?;
+        let (lock, founder) = Lock::new(rt, alloc, engine)?;
         let (seats, workers) = seats_of_all(
             alloc,
             &lock,

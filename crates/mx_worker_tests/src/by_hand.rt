@@ -6,7 +6,7 @@ use futures::Future;
 use futures::task::{Doorbell, Poll, Solo};
 use mx_journal::FinishReply;
 use mx_link::ScriptLink;
-use mx_multi::{Multi, Seat, WorkerSeat};
+use mx_multi::{AtWork, Multi, Seat, Seated, WorkerSeat};
 use mx_transfer::{Outcome, Transfer};
 use mx_types::{Call, Code, HandleId, Look};
 use mx_worker::Queued;

@@ -12,22 +12,22 @@ use Rattle.mx_multi.proofs.multi.Multi.open_within.Goals as goal
 
 pub seats_of_all-requires-clause-ties : goal.seats_of_all-requires-clause-ties
 seats_of_all-requires-clause-ties g c =
-    let shared = c.in_ok-shared.shared in
+    let engine = c.in_ok-engine.engine in
     let mark = c.tie_mark-no_ties.ensures in
-    let none = ap (λ (m : TieState). m.entries) mark ∙ c.in_ok-shared.ensures.2 in
-    let list : c.tie_mark-no_ties.result.book ≡ (content shared).engine.ties = ap (λ (m : TieState). m.book) mark in
-    let first : engine_of (view c.in_ok-lock.founder) ≡ (content shared).engine = ap engine_of c.in_ok-lock.ensures.1 ∙ ap (λ (z : EngineState g.row.Q.Denot g.row.O.Denot). (content z).engine) c.in_ok-all_readers.ensures.same in
+    let none = ap (λ (m : TieState). m.entries) mark ∙ c.in_ok-engine.ensures.2 in
+    let list : c.tie_mark-no_ties.result.book ≡ (content engine).engine.ties = ap (λ (m : TieState). m.book) mark in
+    let first : engine_of (view c.in_ok-lock.founder) ≡ (content engine).engine = ap engine_of c.in_ok-lock.ensures.1 ∙ ap (λ (z : EngineState g.row.Q.Denot g.row.O.Denot). (content z).engine) c.in_ok-all_readers.ensures.same in
     (none, list ∙ sym (ap (λ (e : EngineId). e.ties) first))
 
 pub returns : goal.returns
 returns g c =
     let at = c.in_ok-lock.lock in
     let all : EngineId = record { book = c.mark-start.result.book; opening = record { history = c.args.limits.history }; ties = c.tie_mark-no_ties.result.book } in
-    let shared = c.in_ok-shared.shared in
-    let book : shared.book ≡ c.mark-start.result.book = sym (ap (λ (m : Mark Event). m.book) c.mark-start.ensures) in
-    let opening = c.in_ok-shared.ensures.1 in
-    let ties : shared.ties.book ≡ c.tie_mark-no_ties.result.book = sym (ap (λ (m : TieState). m.book) c.tie_mark-no_ties.ensures) in
-    let here : (content shared).engine ≡ all = λ i. record { book = book i; opening = opening i; ties = ties i } in
+    let engine = c.in_ok-engine.engine in
+    let book : engine.book ≡ c.mark-start.result.book = sym (ap (λ (m : Mark Event). m.book) c.mark-start.ensures) in
+    let opening = c.in_ok-engine.ensures.1 in
+    let ties : engine.ties.book ≡ c.tie_mark-no_ties.result.book = sym (ap (λ (m : TieState). m.book) c.tie_mark-no_ties.ensures) in
+    let here : (content engine).engine ≡ all = λ i. record { book = book i; opening = opening i; ties = ties i } in
     let first : engine_of (view c.in_ok-lock.founder) ≡ all = ap engine_of c.in_ok-lock.ensures.1 ∙ ap (λ (z : EngineState g.row.Q.Denot g.row.O.Denot). (content z).engine) c.in_ok-all_readers.ensures.same ∙ here in
     let m : MultiView g.row.Q.Denot g.row.O.Denot = record { table = at.table; keys = at.keys; engine = all; words = c.in_ok-words.words.id; max_connects = c.args.limits.max_connects } in
     let seats : AreNew m false 0 c.in_ok-seats.seats.items =
