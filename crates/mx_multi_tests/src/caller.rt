@@ -8,7 +8,7 @@ use mx_multi_tests_base::sample::{Bench, Chair, End, FOUR_SEATS, Handle, Job};
 use mx_types::{Code, HandleId, OutOfMemory};
 use std::alloc::Global;
 use std::sync::Wait;
-use std::test::{Fail, HostRuntime};
+use std::test::Fail;
 
 // Adds work, has a worker end it, and reads the message: of which handle it is, and with which code.
 fn fetch<R: Wait>(
