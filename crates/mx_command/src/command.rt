@@ -102,12 +102,11 @@ fn task_of(matches: &ArgMatches<'_>) -> Option<Task>
         return Some(Task::Body(body.get_one::<Method>("METHOD")?));
     }
     let play = matches.subcommand_matches("play")?;
-    match play.get_one::<u32>("history") {
-        Some(history) if (LEAST_HISTORY..=MOST_HISTORY).contains(&history) => Some(Task::Play(
-            history,
-        )),
-        _ => None,
+    let history = play.get_one::<u32>("history")?;
+    if !(LEAST_HISTORY..=MOST_HISTORY).contains(&history) {
+        return None;
     }
+    Some(Task::Play(history))
 }
 
 /// What `get` is asked for, if its values are there. Their ranges are tested here too.
