@@ -1,10 +1,11 @@
 //! A transfer whose connection takes some polls, over a stream that is made up.
 
+use futures::task::Poll;
 use futures::test::MockTask;
 use mx_link::{Called, Link, Stream, StreamLink};
 use mx_request::Request;
 use mx_transfer::Transfer;
-use mx_transfer_tests_base::replay::{poll, request};
+use mx_transfer_tests_base::replay::request;
 use mx_transfer_tests_base::responses::COUNTED;
 use mx_types::{Code, History, Method};
 use std::alloc::AllocGlobal;
@@ -74,11 +75,14 @@ fn link(waits: u32, is_refused: bool) -> SlowLink {
     StreamLink::over(stream, 9)
 }
 
-/// Polls once: the code, or nothing where it is pending or has ended before.
-fn poll_code<L: Link>(task: &MockTask, transfer: &mut Transfer<L>) -> Option<Code> {
-    match poll(task, transfer) {
-        Some(outcome) => Some(outcome.code()),
-        None => None,
+/// The code, or nothing where it is pending or has ended before.
+fn poll<L: Link>(task: &MockTask, transfer: &mut Transfer<L>) -> Option<Code> {
+    if transfer.spent() {
+        return None;
+    }
+    match task.poll(transfer) {
+        Poll::Ready(outcome) => Some(outcome.code()),
+        Poll::Pending => None,
     }
 }
 
@@ -97,11 +101,11 @@ struct Polls {
 
 fn take_polls<L: Link>(task: &MockTask, transfer: &mut Transfer<L>) -> Polls {
     let token = transfer.token();
-    let first = poll_code(task, transfer);
+    let first = poll(task, transfer);
     let asleep = !task.is_woken();
     transfer.wake();
     let woken = task.is_woken();
-    let codes = [first, poll_code(task, transfer), poll_code(task, transfer)];
+    let codes = [first, poll(task, transfer), poll(task, transfer)];
     Polls {
         token,
         codes,

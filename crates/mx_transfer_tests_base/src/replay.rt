@@ -5,7 +5,7 @@
 
 use futures::task::Poll;
 use futures::test::MockTask;
-use mx_link::{Link, ScriptLink, ScriptRead, Write};
+use mx_link::{ScriptLink, ScriptRead, Write};
 use mx_request::Request;
 use mx_transfer::{Outcome, Transfer};
 use mx_types::{Code, Ending as Ends, Method, OutOfMemory, Settings};
@@ -131,6 +131,10 @@ struct Played {
 }
 
 impl Played {
+    fn keep(&mut self, ending: Ending) {
+        self.ending = Some(ending);
+    }
+
     fn seen(&self) -> Seen<'_> {
         Seen {
             waits: self.waits.as_slice(),
@@ -241,7 +245,7 @@ fn waits(task: &MockTask, transfer: &Transfer<ScriptLink>) -> Waiting {
 }
 
 /// The outcome, or nothing where it is pending or has ended before.
-pub fn poll<L: Link>(task: &MockTask, transfer: &mut Transfer<L>) -> Option<Outcome> {
+fn poll(task: &MockTask, transfer: &mut Transfer<ScriptLink>) -> Option<Outcome> {
     if transfer.spent() {
         return None;
     }
@@ -251,21 +255,19 @@ pub fn poll<L: Link>(task: &MockTask, transfer: &mut Transfer<L>) -> Option<Outc
     }
 }
 
-/// Keeps what a transfer has ended with.
-fn keep(
+/// What a transfer has ended with.
+fn ending_of(
     alloc: Global,
     transfer: &mut Transfer<ScriptLink>,
     outcome: Outcome,
-    played: &mut Played,
-) -> Result<(), OutOfMemory> {
+) -> Result<Ending, OutOfMemory> {
     let body = outcome.copy_body(alloc)?;
     let links = links_of(transfer);
-    played.ending = Some(Ending {
+    Ok(Ending {
         outcome,
         body,
         links,
-    });
-    Ok(())
+    })
 }
 
 /// Polls once; what is seen then goes to `played`.
@@ -276,9 +278,10 @@ fn poll_into(
     played: &mut Played,
 ) -> Result<(), OutOfMemory> {
     match poll(task, transfer) {
-        Some(outcome) => keep(alloc, transfer, outcome, played),
-        None => Ok(played.waits.push(waits(task, transfer))?),
+        Some(outcome) => played.keep(ending_of(alloc, transfer, outcome)?),
+        None => played.waits.push(waits(task, transfer))?,
     }
+    Ok(())
 }
 
 /// Makes the call; false where it can't be made now.
