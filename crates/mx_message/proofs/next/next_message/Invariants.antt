@@ -3,4 +3,4 @@ use Rattle.mx_message.specs.Message.{Waited}
 use Rattle.mx_message.proofs.next.next_message.Given as goal
 
 abbrev pub invariant-loop : goal.invariant-loop
-invariant-loop g l = (l.seat.of ≡ l.multi) × Waited l.fn.seat l.seat
+invariant-loop g l = (l.seat.of ≡ l.fn.seat.of) × Waited l.fn.seat l.seat
