@@ -6,14 +6,35 @@ ghost use Rattle.mx_types.specs.declared.code.Code.TheVariants as code;
 ghost use Rattle.mx_request.specs.Request.{request_origin};
 ghost use Rattle.mx_exchange.specs.Hops.{HasContent};
 ghost use Rattle.mx_chain.specs.Outcomes.{IsOutcome};
+ghost use Rattle.mx_lock.specs.Ties.{Has, tie};
+ghost use Rattle.mx_types.specs.declared.origin.Origin.{Origin};
 
 use mx_chain::Outcome;
 use mx_journal::AddReply;
 use mx_lock::TiedClaim;
 use mx_message::next_message;
 use mx_multi::{Application, AtWork, Seated};
-use mx_types::{HandleId, Work};
+use mx_types::{HandleId, Ticket, Work};
 use std::sync::Wait;
+
+// Reads the next message, and takes what comes of it where it is of this ticket.
+fn read_of<Q: Work + Drop, R: Wait>(
+    rt: &R,
+    seat: &mut Seated<'_, Application, Q, Outcome>,
+    ticket: Ticket,
+) -> Option<Outcome>
+    ensures told { IfSome result (λ o. (origin : Origin) → Has seat.old.ties (tie ticket origin) → request_origin o.request ≡ origin) }
+    ensures outcome { IfSome result (λ o. IsOutcome o) }
+    ensures body { IfSome result (λ o. o.code ≡ code.Ok → HasContent o.last) }
+{
+    let Ok(message) = next_message(rt, seat) else {
+        return None;
+    };
+    if message.ticket != ticket {
+        return None;
+    }
+    Some(message.outcome)
+}
 
 /// Adds a transfer, and reads the next message. What comes of it, if it is of this addition, is the outcome of the very request that was
 /// added, with its truth: its hops are a chain that begins with that request, and with `Code::Ok` its content is that of the response to
@@ -31,13 +52,10 @@ pub fn add_and_read<Q: Work + Drop, R: Wait>(
     let Ok(AddReply::Added(ticket)) = seat.add(rt, handle, work) else {
         return None;
     };
-    let Ok(message) = next_message(rt, seat) else {
+    let Some(outcome) = read_of(rt, seat, ticket) else {
         return None;
     };
-    if message.ticket != ticket {
-        return None;
-    }
-    Some(message.outcome)
+    Some(outcome)
 }
 
 /// Ends a claimed transfer through a seat of the multi handle that gave the claim. The other seat, which may be of another multi handle, would

@@ -10,8 +10,22 @@ use mx_link::Link;
 use std::alloc::AllocGlobal;
 use std::random::RandomSource;
 use std::sync::Wait;
-use std::thread;
 use std::thread::{JoinHandle, Threads};
+use std::{io, thread};
+
+// Keeps the handle of a thread that was started.
+fn keep<E: Drop>(
+    handles: &mut Vec<JoinHandle<Counts>>,
+    started: Result<JoinHandle<Counts>, E>,
+) -> Result<(), CrewError> {
+    match started {
+        Ok(handle) => {
+            handles.push(handle)?;
+            Ok(())
+        }
+        Err(_) => Err(CrewError::NoThread),
+    }
+}
 
 // What each worker did, for whom there is room.
 fn join_all<R: Threads>(
@@ -26,6 +40,54 @@ fn join_all<R: Threads>(
         }
     }
     counts
+}
+
+// Runs a worker at each post, on a thread of its own, while the application runs on this one; there is room for their handles and for what
+// they did.
+fn run_all<
+    'm,
+    L: Link + Send,
+    R: Threads + Wait + RandomSource + AllocGlobal + Sync,
+    G: Gate<Link = L> + Send + Drop,
+    T: Drop,
+    F: FnOnce() -> T + Drop,
+>(
+    rt: &'m R,
+    crew: &'m Crew,
+    posts: Vec<Post<'m, L, G>>,
+    handles: Vec<JoinHandle<Counts>>,
+    counts: Vec<Counts>,
+    application: F,
+) -> Result<(T, Vec<Counts>), CrewError>
+    requires { F.pre application }
+    ensures { IfOk result (λ r. F.post application r.0) }
+{
+    thread::scope(
+        thread::scope_env(),
+        rt,
+        move |scope| -> Result<(T, Vec<Counts>), CrewError>
+            requires { IsSync R.row × F.pre application }
+            ensures { IfOk result (λ r. F.post application r.0) }
+        {
+            let mut posts = posts;
+            let mut handles = handles;
+            while let Some(post) = posts.pop() {
+                let Post { seat, gate } = post;
+                let started = scope.spawn(
+                    move || -> Counts
+                        requires { IsSync R.row }
+                    { work(rt, seat, gate) },
+                );
+                if let Err(error) = keep(&mut handles, started) {
+                    crew.dismiss();
+                    return Err(error);
+                }
+            }
+            let told = application();
+            crew.dismiss();
+            Ok((told, join_all(rt, handles, counts)))
+        },
+    )
 }
 
 /// Runs a worker at each post, on a thread of its own, while the application runs on this one. Once that has returned the crew is
@@ -43,43 +105,15 @@ pub fn run_beside<
     T: Drop,
     F: FnOnce() -> T + Drop,
 >(
-    rt: &R,
-    crew: &Crew,
+    rt: &'m R,
+    crew: &'m Crew,
     posts: Vec<Post<'m, L, G>>,
     application: F,
 ) -> Result<(T, Vec<Counts>), CrewError>
     requires { F.pre application }
     ensures { IfOk result (λ r. F.post application r.0) }
 {
-    thread::scope(
-        thread::scope_env(),
-        rt,
-        move |scope| -> Result<(T, Vec<Counts>), CrewError>
-            requires { IsSync R.row × F.pre application }
-            ensures { IfOk result (λ r. F.post application r.0) }
-        {
-            let mut posts = posts;
-            let counts = Vec::with_capacity(rt.alloc(), posts.len())?;
-            let mut handles = Vec::with_capacity(rt.alloc(), posts.len())?;
-            while let Some(post) = posts.pop() {
-                let Post { seat, gate } = post;
-                let started = scope.spawn(
-                    move || -> Counts
-                        requires { IsSync R.row }
-                    { work(rt, seat, gate) },
-                );
-                let Ok(handle) = started else {
-                    crew.dismiss();
-                    return Err(CrewError::NoThread);
-                };
-                if handles.push(handle).is_err() {
-                    crew.dismiss();
-                    return Err(CrewError::OutOfMemory);
-                }
-            }
-            let told = application();
-            crew.dismiss();
-            Ok((told, join_all(rt, handles, counts)))
-        },
-    )
+    let handles = Vec::with_capacity(rt.alloc(), posts.len())?;
+    let counts = Vec::with_capacity(rt.alloc(), posts.len())?;
+    run_all(rt, crew, posts, handles, counts, application)
 }
