@@ -3,4 +3,4 @@ use Rattle.mx_get.specs.Places.{asked_at}
 use Rattle.mx_get.proofs.collect.Desk.await_all.Given as goal
 
 abbrev pub invariant-loop : goal.invariant-loop
-invariant-loop g l = (l.self.seat.of ≡ l.multi) × (map asked_at l.self.places.items ≡ map asked_at l.fn.self.places.items)
+invariant-loop g l = map asked_at l.self.places.items ≡ map asked_at l.fn.self.places.items
