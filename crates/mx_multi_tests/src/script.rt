@@ -54,11 +54,11 @@ struct Kept {
 fn made<R: Wait>(rt: &R, desk: &mut Desk, by: By, call: Call) -> (Option<Reply>, u32) {
     match by {
         By::First => {
-            let reply = client::make(rt, &mut desk.pair.one, call);
+            let reply = desk.pair.first(rt, call);
             (reply, desk.pair.cuts().0)
         }
         By::Second => {
-            let reply = client::make(rt, &mut desk.pair.two, call);
+            let reply = desk.pair.second(rt, call);
             (reply, desk.pair.cuts().1)
         }
         By::Third => {

@@ -51,6 +51,16 @@ impl<'a> Pair<'a> {
         (self.one.cut(), self.two.cut())
     }
 
+    /// A call of the first seat, as `make` has it.
+    pub fn first<R: Wait>(&mut self, rt: &R, call: Call) -> Option<Reply> {
+        make(rt, &mut self.one, call)
+    }
+
+    /// A call of the second seat, as `make` has it.
+    pub fn second<R: Wait>(&mut self, rt: &R, call: Call) -> Option<Reply> {
+        make(rt, &mut self.two, call)
+    }
+
     /// Both seats see the journal, and how many events that has; None where it was answered `WrongSeat`.
     pub fn meet<R: Wait>(&mut self, rt: &R) -> Option<u32> {
         match self.one.meet(rt, &mut self.two) {

@@ -7,7 +7,7 @@ use crate::{messages, runs};
 use mx_gate::Gate;
 use mx_journal::AddReply;
 use mx_link::{Link, ScriptLink};
-use mx_multi::{Limits, Multi, Progress, Seat, WorkerSeat};
+use mx_multi::{Limits, Multi, Progress, Seat, WorkerSeat, WrongSeat};
 use mx_multi_tests_base::entries::text_of;
 use mx_request::Request;
 use mx_transfer::Outcome;
@@ -85,6 +85,15 @@ fn check(alloc: Global, reply: Option<Reply>, answer: &str) -> Result<(), Fail> 
     Err(format!(in alloc; "{said} in place of {answer}")?.into())
 }
 
+// That an addition was made. It is of any work, so that what is handed back is let go as one value, whatever that is.
+fn added<Q: Drop>(answer: Result<AddReply<Q>, WrongSeat<Q>>) -> Result<(), Fail> {
+    match answer {
+        Ok(AddReply::Added(_)) => Ok(()),
+        Ok(AddReply::OutOfMemory(_)) => Err(OutOfMemory.into()),
+        _ => Err("it isn't added".into()),
+    }
+}
+
 impl<L: Link> Desk<L> {
     /// A desk at a new multi handle, whose workers keep so many idle links.
     pub fn open<R: Wait>(rt: &R, alloc: Global, max_connects: u8) -> Result<Desk<L>, OutOfMemory> {
@@ -135,11 +144,7 @@ impl<L: Link> Desk<L> {
         request: Request,
     ) -> Result<(), Fail> {
         let work = Queued::new(alloc, request);
-        match self.multi.add(rt, &mut self.seat, HandleId(handle), work) {
-            Ok(AddReply::Added(_)) => Ok(()),
-            Ok(AddReply::OutOfMemory(_)) => Err(OutOfMemory.into()),
-            _ => Err("it isn't added".into()),
-        }
+        added(self.multi.add(rt, &mut self.seat, HandleId(handle), work))
     }
 
     /// Adds a GET of the URL under a handle. It has so many milliseconds, and no deadline where these are 0.
