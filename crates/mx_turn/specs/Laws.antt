@@ -1,0 +1,60 @@
+-- What follows of every run of a worker.
+use Rattle.std.specs.Prelude.{◌≡◌, ℕ, ◌+◌, ◌≤◌, Bool, List, count_by, filter_map, Option, Some, None}
+use Rattle.mx_types.specs.Limits.{most_transfers}
+use Rattle.mx_types.specs.declared.names.Ticket.{Ticket}
+use Rattle.mx_types.specs.declared.reply.Look.TheVariants as look
+use Rattle.mx_link.specs.declared.answers.Answer.{Answer}
+use Rattle.mx_turn.specs.Workers.{Deed, claims, looks, finishes, gives_back, recorded, stale, unseated, returned, ended_before, unreturned, Worker, in_hand, starts, IsOver}
+use Rattle.mx_turn.specs.Turn.{Runs}
+
+-- the ticket that was claimed by this deed
+abbrev pub claimed_by : {L : Type 0} → Deed L → Option Ticket
+claimed_by (claims (Some h)) = Some h.ticket
+claimed_by _ = None
+
+-- whose end was recorded by it
+abbrev pub recorded_by : {L : Type 0} → Deed L → Option Ticket
+recorded_by (finishes t o recorded) = Some t
+recorded_by _ = None
+
+-- whose end was stale
+abbrev pub stale_by : {L : Type 0} → Deed L → Option Ticket
+stale_by (finishes t o stale) = Some t
+stale_by _ = None
+
+-- which went back to the queue
+abbrev pub given_back_by : {L : Type 0} → Deed L → Option Ticket
+given_back_by (gives_back h returned) = Some h.ticket
+given_back_by _ = None
+
+-- which was let go, as it ran no more
+abbrev pub gone_by : {L : Type 0} → Deed L → Option Ticket
+gone_by (looks t (Some look.Gone)) = Some t
+gone_by (gives_back h ended_before) = Some h.ticket
+gone_by _ = None
+
+-- which was let go, as the seat was another handle's
+abbrev pub unseated_by : {L : Type 0} → Deed L → Option Ticket
+unseated_by (finishes t o unseated) = Some t
+unseated_by (gives_back h unreturned) = Some h.ticket
+unseated_by _ = None
+
+-- how many of the tickets that this picks out pass the test
+abbrev pub many : {L : Type 0} → (Deed L → Option Ticket) → (Ticket → Bool) → List (Deed L) → ℕ
+many by p did = count_by p (filter_map by did)
+
+-- Each claim came to one end: it was recorded, or stale, or given back, or gone, or its seat was another's. So it is by every test of
+-- tickets: by one that only one ticket passes, each claim of that ticket has one end.
+abbrev pub AreAccounted : {L : Type 0} → List (Deed L) → Type 0
+AreAccounted did =
+    (p : Ticket → Bool) → many claimed_by p did
+    ≡ many recorded_by p did + many stale_by p did + many given_back_by p did + many gone_by p did + many unseated_by p did
+
+-- so it is in every run that is over
+abbrev pub EachClaimIsAccounted : {L : Type 0} → (L → List Answer) → (L → ℕ) → Type 0
+EachClaimIsAccounted {L} history token_of =
+    (limit : ℕ) (v : Worker L) → Runs history token_of (starts limit) v → IsOver v → AreAccounted v.did
+
+-- in every run there are at most 64 in hand, transfers and ends that found no memory
+abbrev pub AtMost64 : {L : Type 0} → (L → List Answer) → (L → ℕ) → Type 0
+AtMost64 {L} history token_of = (limit : ℕ) (v : Worker L) → Runs history token_of (starts limit) v → in_hand v ≤ most_transfers

@@ -1,0 +1,4 @@
+pub mod Said
+pub mod Workers
+pub mod Turn
+pub mod Laws

@@ -1,0 +1,186 @@
+-- What a worker does in one turn, as one list of cases. Whatever is promised of a run of turns follows from this.
+use Rattle.std.specs.Prelude.{◌≡◌, ◌≢◌, ◌⊎◌, ℕ, ◌-◌, ◌<◌, ◌≤◌, min, fold, Bool, true, false, not, ◌||◌, List, [], ◌∷◌, ◌++◌, All, Option, Some, None, Ok, Err, if◌then◌else◌}
+use Rattle.mx_types.specs.Code.{is_link_code}
+use Rattle.mx_types.specs.Limits.{most_transfers}
+use Rattle.mx_types.specs.declared.code.Code.{Code}
+use Rattle.mx_types.specs.declared.names.Ticket.{Ticket}
+use Rattle.mx_types.specs.declared.reply.Look.{Look}
+use Rattle.mx_types.specs.declared.reply.Look.TheVariants as look
+use Rattle.mx_request.specs.Endpoint.{HostAndPort}
+use Rattle.mx_link.specs.declared.answers.Answer.{Answer}
+use Rattle.mx_cache.specs.Idle.{Idle, kept, HasNone, TakesNewest}
+use Rattle.mx_exchange.specs.Exchanges.{WantsLink, IsDue, attached}
+use Rattle.mx_chain.specs.Chains.{ChainState, received_of, home_of}
+use Rattle.mx_chain.specs.Outcomes.{OutcomeValue}
+use Rattle.mx_chain.specs.Steps.{How, waits, asks, ends, Steps}
+use Rattle.mx_turn.specs.Said.{Said, told, opened, waited}
+use Rattle.mx_turn.specs.Workers.{Held, SetAside, Finish, lacking, Return, claims, looks, notes, finishes, gives_back, Worker, in_hand, does, hears, holds}
+
+-- one after another, each from where the one before it left the worker
+abbrev pub Each : {X W : Type 0} → (X → W → W → Type 0) → List X → W → W → Type 0
+Each Step [] w v = v ≡ w
+Each {X} {W} Step (x ∷ xs) w v = (mid : W) × Step x w mid × Each Step xs mid v
+
+-- It claims at most one transfer.
+pub data Claims {L : Type 0} (w v : Worker L) : Type 0 where
+  -- one that is stopping, or has as many in hand as it may have, claims none
+  keeps : (w.is_stopping ≡ true) ⊎ (most_transfers ≤ in_hand w) → v ≡ w → Claims w v
+  -- any other asks for one, and there may be none
+  finds_none : w.is_stopping ≡ false → in_hand w < most_transfers → v ≡ does w (claims None) → Claims w v
+  -- or it is given one that has not ended, and holds it as it was given
+  claims_one : (h : Held L) → w.is_stopping ≡ false → in_hand w < most_transfers → h.transfer.code ≡ None
+      → v ≡ holds (does w (claims (Some h))) h → Claims w v
+
+-- An end is handed in. It is set aside behind the others where memory was lacking, and is else in hand no more.
+abbrev pub handed_in : {L : Type 0} → Ticket → OutcomeValue → Finish → Worker L → Worker L
+handed_in ticket o lacking w =
+    record (does w (finishes ticket o lacking)) { set_aside = w.set_aside ++ record { ticket = ticket; outcome = o } ∷ [] }
+handed_in ticket o f w = does w (finishes ticket o f)
+
+-- an end that was set aside is tried again
+abbrev pub Retries : {L : Type 0} → SetAside → Worker L → Worker L → Type 0
+Retries s w v = (f : Finish) × (v ≡ handed_in s.ticket s.outcome f w)
+
+-- the transfer, once its hop was handed a link
+abbrev pub served_by : {L : Type 0} → ChainState L → L → Bool → ChainState L
+served_by t link reused = record t { now = attached t.now link reused; linked = true; link = None }
+
+-- no idle link will do: a fresh one is wanted, or none is of the endpoint
+abbrev pub MustOpen : {L : Type 0} → ChainState L → Idle L → Type 0
+MustOpen t idle = (t.now.needs_fresh ≡ true) ⊎ HasNone t.now.request.endpoint idle.links
+
+-- A transfer comes by the link that it wants, for the endpoint of the hop that is under way; and this is what the gate said meanwhile.
+pub data Supplied {L : Type 0} (history : L → List Answer) (token_of : L → ℕ) (t new : ChainState L) (idle left : Idle L) : List Said → Type 0 where
+  -- one that wants no link is given none
+  unwanted : ¬ (WantsLink t.now) → new ≡ t → left ≡ idle → Supplied history token_of t new idle left []
+  -- unless it wants a fresh one, it is given the newest idle link of its endpoint, as one that was in use before
+  reuses : (link : L) → WantsLink t.now → t.now.needs_fresh ≡ false → TakesNewest t.now.request.endpoint idle.links link left.links
+      → left.limit ≡ idle.limit → new ≡ served_by t link true → Supplied history token_of t new idle left []
+  -- where no idle link will do, it is given one that the gate opens to its endpoint, which has answered nothing yet
+  opens : (link : L) → WantsLink t.now → MustOpen t idle → left ≡ idle → history link ≡ [] → new ≡ served_by t link false
+      → Supplied history token_of t new idle left (opened t.now.request.endpoint (Ok (token_of link)) ∷ [])
+  -- where the gate can't open one, it is told why
+  fails : (c : Code) → WantsLink t.now → MustOpen t idle → left ≡ idle → is_link_code c ≡ true
+      → new ≡ record t { now = record t.now { failure = Some c } }
+      → Supplied history token_of t new idle left (opened t.now.request.endpoint (Err c) ∷ [])
+
+-- the transfer, once the link was taken out of it that a hop has left
+abbrev pub unlinked : {L : Type 0} → ChainState L → ChainState L
+unlinked t = record t { link = None }
+
+-- The link that a hop of the transfer has left, and that may serve again, goes to the idle links: after a poll that ended the transfer, and
+-- after one that goes on to its next hop.
+pub data Keeps {L : Type 0} (t : ChainState L) (idle left : Idle L) : Type 0 where
+  -- it has left none
+  leaves_none : t.link ≡ None → left ≡ idle → Keeps t idle left
+  -- it is kept under the endpoint that it goes to, and where there are then more than may be the oldest leaves
+  puts : (link : L) (home : HostAndPort) → t.link ≡ Some link → home_of t ≡ Some home
+      → left ≡ record idle { links = kept idle.limit (idle.links ++ (home, link) ∷ []) } → Keeps t idle left
+  -- it is dropped, as no memory is found for its endpoint
+  drops : (link : L) → t.link ≡ Some link → left ≡ idle → Keeps t idle left
+
+-- After its poll a transfer is held on, unless it has ended.
+abbrev pub Settles : {L : Type 0} → Held L → Bool → Worker L → Worker L → How → Type 0
+-- one that waits is held on
+Settles h goes w v waits = v ≡ holds w h
+-- one that asked to be polled again is held on, and where it goes on the worker is not to wait
+Settles h goes w v asks = v ≡ holds (record w { has_asked = w.has_asked || goes }) h
+-- the end of one that has ended is handed in
+Settles h goes w v (ends o) = (f : Finish) × (v ≡ handed_in h.ticket o f w)
+
+-- it goes on where the look says so: a look of nothing counts as paused
+abbrev pub is_go : Option Look → Bool
+is_go (Some look.Go) = true
+is_go _ = false
+
+-- the transfer, once it was told the moment, and whether it is paused
+abbrev pub prepared : {L : Type 0} → ℕ → Bool → ChainState L → ChainState L
+prepared now goes t = record t { now = record t.now { moment = now; is_paused = not goes } }
+
+-- it comes by a link only where it goes on
+abbrev pub Readies : {L : Type 0} → (L → List Answer) → (L → ℕ) → Bool → ChainState L → ChainState L → Idle L → Idle L → List Said → Type 0
+Readies history token_of true t new idle left said = Supplied history token_of t new idle left said
+Readies history token_of false t new idle left said = (new ≡ t) × (left ≡ idle) × (said ≡ [])
+
+-- It looks at a transfer.
+pub data LooksAt {L : Type 0} (history : L → List Answer) (token_of : L → ℕ) (now : ℕ) (h : Held L) (w v : Worker L) : Type 0 where
+  -- one that is gone is let go with its link
+  lets_go : v ≡ does w (looks h.ticket (Some look.Gone)) → LooksAt history token_of now h w v
+  -- Any other is prepared, comes by a link where it goes on, and is polled once. The count of its bytes is noted, the link that a hop left
+  -- is kept, and it is held on or its end is handed in.
+  serves : (seen : Option Look) (ready new : ChainState L) (idle left : Idle L) (said : List Said) (how : How) → seen ≢ Some look.Gone
+      → Readies history token_of (is_go seen) (prepared now (is_go seen) h.transfer) ready w.idle idle said
+      → Steps history ready new how
+      → Keeps new idle left
+      → Settles (record h { transfer = unlinked new }) (is_go seen)
+      (record w { idle = left; did = w.did ++ looks h.ticket seen ∷ notes h.ticket h.slot (received_of new) ∷ []; said = w.said ++ said }) v how
+      → LooksAt history token_of now h w v
+
+-- a transfer whose deadline has come
+abbrev pub IsLate : {L : Type 0} → ℕ → Held L → Type 0
+IsLate now h = IsDue h.transfer.now.deadline now
+
+-- It goes through these transfers from here to its end, and looks at each once.
+pub data GoesThrough {L : Type 0} (history : L → List Answer) (token_of : L → ℕ) (now : ℕ) (v : Worker L) : List (Held L) → Worker L → Type 0 where
+  -- none is left
+  through : GoesThrough history token_of now v [] v
+  -- while some are due, it looks at one of them
+  due : {w mid : Worker L} (earlier later : List (Held L)) (h : Held L) → IsLate now h → LooksAt history token_of now h w mid
+      → GoesThrough history token_of now v (earlier ++ later) mid → GoesThrough history token_of now v (earlier ++ h ∷ later) w
+  -- where none is, it looks at the one that was claimed first
+  next : {w mid : Worker L} (h : Held L) (later : List (Held L)) → All (λ k. ¬ (IsLate now k)) (h ∷ later)
+      → LooksAt history token_of now h w mid → GoesThrough history token_of now v later mid
+      → GoesThrough history token_of now v (h ∷ later) w
+
+-- the longest wait of a turn, in milliseconds
+abbrev pub longest_wait : ℕ
+longest_wait = 20
+
+-- the milliseconds to a deadline
+abbrev pub time_left : ℕ → Option ℕ → ℕ
+time_left now None = longest_wait
+time_left now (Some deadline) = deadline - now
+
+-- how long it waits: not at all where one that goes on has asked to be polled again; else until the next deadline, and at most the longest
+-- wait
+abbrev pub wait_of : {L : Type 0} → ℕ → Worker L → ℕ
+wait_of now w = if w.has_asked then 0 else fold (λ ms h. min ms (time_left now h.transfer.now.deadline)) longest_wait w.held
+
+-- What becomes of a transfer once the worker is told to stop.
+pub data GivesBack {L : Type 0} (h : Held L) (w v : Worker L) : Type 0 where
+  -- one that has started is held on
+  holds_on : h.transfer.now.is_started ≡ true → v ≡ holds w h → GivesBack h w v
+  -- one that has not is given back as it stands, and is held no more
+  returns : (r : Return) → h.transfer.now.is_started ≡ false → v ≡ does w (gives_back h r) → GivesBack h w v
+
+-- Whether it is told to stop, and was before.
+abbrev pub Stops : {L : Type 0} → Bool → Bool → Worker L → Worker L → Type 0
+-- nothing comes of it where it isn't told, or was before
+Stops false already w v = v ≡ w
+Stops true true w v = v ≡ w
+-- where it is told for the first time it is stopping from then on, and gives back what has not started
+Stops true false w v = Each GivesBack w.held (record w { is_stopping = true; held = [] }) v
+
+-- One turn: the worker before and after.
+pub record WorkerTurn {L : Type 0} (history : L → List Answer) (token_of : L → ℕ) (w v : Worker L) : Type 0 where
+  -- the moment
+  pub now : ℕ
+  -- the worker once it has claimed, once it has tried the ends again, and once it has gone through its transfers
+  pub claimed : Worker L
+  pub tried : Worker L
+  pub gone_through : Worker L
+  -- whether it is told to stop
+  pub stop : Bool
+  -- it asks its gate for the moment, and claims at most one transfer
+  pub claim : Claims (hears (record w { has_asked = false }) (told now)) claimed
+  -- it tries the ends again that found no memory, in order
+  pub retries : Each Retries claimed.set_aside (record claimed { set_aside = [] }) tried
+  -- it goes through its transfers, the due ones first, then in order of claim
+  pub each : GoesThrough history token_of now gone_through tried.held (record tried { held = [] })
+  -- it waits at its gate, and gives back what has not started once it is told to stop
+  pub stops : Stops stop gone_through.is_stopping (hears gone_through (waited (wait_of now gone_through) stop)) v
+
+-- turn after turn
+pub data Runs {L : Type 0} (history : L → List Answer) (token_of : L → ℕ) (w : Worker L) : Worker L → Type 0 where
+  begins : Runs history token_of w w
+  turns : {m v : Worker L} → Runs history token_of w m → WorkerTurn history token_of m v → Runs history token_of w v
