@@ -1,0 +1,94 @@
+//! A worker's idle links, and how a transfer comes by one.
+ghost use Rattle.std.specs.Prelude.{◌≡◌, [], IfOk, MatchOption};
+ghost use Rattle.mx_turn.specs.Turn.{Keeps, unlinked};
+ghost use Rattle.mx_links.specs.Supplies.{Supplies, HasNoIdle, TakesIdle};
+
+use mx_cache::IdleCache;
+use mx_gate::Gate;
+use mx_link::Link;
+use mx_request::Endpoint;
+use mx_transfer::Transfer;
+use mx_types::OutOfMemory;
+use std::alloc::Global;
+use std::marker::Model;
+
+/// A worker's idle links, each with the endpoint that it goes to, and how many they are at most. Contracts see them as a cache's, the
+/// oldest first.
+#[derive(Drop)]
+pub struct Links<L: Link> {
+    alloc: Global,
+    idle: IdleCache<L>,
+}
+
+impl<L: Link> Model for Links<L> {
+    ghost use Rattle.mx_cache.specs.Idle.{Idle};
+
+    ghost Value = { Idle L };
+
+    ghost view = { λ l. l.idle };
+}
+
+impl<L: Link> Links<L> {
+    /// No idle link yet, and room for as many as the limit. `OutOfMemory` comes where there is no memory for these.
+    pub fn new(alloc: Global, limit: u8) -> Result<Links<L>, OutOfMemory>
+        ensures { IfOk result (λ links. links ≡ record { links = []; limit = limit }) }
+    {
+        Ok(Links {
+            alloc,
+            idle: IdleCache::with_limit(alloc, usize::from(limit))?,
+        })
+    }
+
+    // The newest idle link of the endpoint, unless only a fresh one will do.
+    fn take(&mut self, endpoint: &Endpoint, fresh: bool) -> Option<L>
+        ensures { MatchOption result (HasNoIdle endpoint.now fresh self.old self.new) (λ link. TakesIdle endpoint.now fresh self.old link self.new) }
+    {
+        if fresh {
+            return None;
+        }
+        let Some(link) = self.idle.take(endpoint) else {
+            return None;
+        };
+        Some(link)
+    }
+
+    /// Hands a link to the transfer where it wants one: the newest idle one of its endpoint, unless only a fresh one will do, else one that
+    /// the gate opens. Where the gate can't, the transfer is told why.
+    pub fn supply<G: Gate<Link = L>>(&mut self, gate: &mut G, transfer: &mut Transfer<L>)
+        ensures supplied { Supplies L.history L.token_of transfer.old.chain transfer.new.chain self.old self.new }
+        ensures same { transfer.new ≡ record transfer.old { chain = transfer.new.chain } }
+        ensures request { transfer.new.chain.request ≡ transfer.old.chain.request }
+        ensures code { transfer.new.chain.code ≡ transfer.old.chain.code }
+        ensures limit { self.new.limit ≡ self.old.limit }
+    {
+        let Some(want) = transfer.wants() else {
+            return;
+        };
+        if let Some(link) = self.take(want.endpoint, want.fresh) {
+            transfer.attach(link, true);
+            return;
+        }
+        match gate.open(want.endpoint) {
+            Ok(link) => transfer.attach(link, false),
+            Err(code) => transfer.fail_link(code),
+        }
+    }
+
+    /// Keeps the link that a hop of the transfer has left, where it may serve again. It is dropped where its endpoint can't be copied for
+    /// want of memory.
+    pub fn keep(&mut self, transfer: &mut Transfer<L>)
+        ensures kept { Keeps transfer.old.chain self.old self.new }
+        ensures rest { transfer.new ≡ record transfer.old { chain = unlinked transfer.old.chain } }
+        ensures limit { self.new.limit ≡ self.old.limit }
+    {
+        let Some(link) = transfer.take_link() else {
+            return;
+        };
+        let Some(endpoint) = transfer.link_endpoint() else {
+            return;
+        };
+        if let Ok(endpoint) = endpoint.copy(self.alloc) {
+            let _oldest = self.idle.put(endpoint, link);
+        }
+    }
+}
