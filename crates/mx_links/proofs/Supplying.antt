@@ -1,5 +1,6 @@
 -- How a transfer comes by its link, case by case.
 use Rattle.std.proofs.Common.{◌≡◌, ◌⊎◌, inl, inr, ℕ, Bool, true, false, List, [], ◌∷◌, ◌++◌, sym, subst, ◌∙◌, Some}
+use Rattle.std.specs.Prelude.{Result, Ok, Err, IfOk, IfErr, MatchResult}
 use Rattle.mx_types.specs.Code.{is_link_code}
 use Rattle.mx_types.specs.declared.code.Code.{Code}
 use Rattle.mx_request.specs.Endpoint.{HostAndPort}
@@ -7,7 +8,7 @@ use Rattle.mx_link.specs.declared.answers.Answer.{Answer}
 use Rattle.mx_cache.specs.Idle.{Idle, kept, HasNone, TakesNewest}
 use Rattle.mx_exchange.specs.Exchanges.{WantsLink}
 use Rattle.mx_chain.specs.Chains.{ChainState, home_of}
-use Rattle.mx_turn.specs.Turn.{unwanted, reuses, opens, fails, served_by, MustOpen, Keeps, puts}
+use Rattle.mx_turn.specs.Turn.{unwanted, reuses, opens, fails, served_by, unserved, MustOpen, Keeps, puts}
 use Rattle.mx_links.specs.Supplies.{Supplies, HasNoIdle, TakesIdle}
 
 module _ {L : Type 0} (history : L → List Answer) (token_of : L → ℕ) (t new : ChainState L) (idle left : Idle L) where
@@ -25,13 +26,12 @@ module _ {L : Type 0} (history : L → List Answer) (token_of : L → ℕ) (t ne
     why (inl only) = inl (sym fresh ∙ only)
     why (inr others) = inr (subst (λ x. HasNone x idle.links) of others)
 
-  pub by_gate : (e : HostAndPort) (f : Bool) (link : L) → WantsLink t.now → f ≡ t.now.needs_fresh → e ≡ t.now.request.endpoint → HasNoIdle e f idle left → history link ≡ []
-      → new ≡ served_by t link false → Supplies history token_of t new idle left
-  by_gate e f link wants fresh of none empty after = (_, opens link wants (must_open e f fresh of none) none.same empty after)
-
-  pub by_code : (e : HostAndPort) (f : Bool) (c : Code) → WantsLink t.now → f ≡ t.now.needs_fresh → e ≡ t.now.request.endpoint → HasNoIdle e f idle left → is_link_code c ≡ true
-      → new ≡ record t { now = record t.now { failure = Some c } } → Supplies history token_of t new idle left
-  by_code e f c wants fresh of none code after = (_, fails c wants (must_open e f fresh of none) none.same code after)
+  -- what the gate answered was handed on
+  pub by_gate : (e : HostAndPort) (f : Bool) (opened : Result L Code) → WantsLink t.now → f ≡ t.now.needs_fresh → e ≡ t.now.request.endpoint → HasNoIdle e f idle left
+      → IfOk opened (λ link. history link ≡ []) → IfErr opened (λ c. is_link_code c ≡ true) → MatchResult opened (λ link. new ≡ served_by t link false) (λ c. new ≡ unserved t c)
+      → Supplies history token_of t new idle left
+  by_gate e f (Ok link) wants fresh of none empty code after = (_, opens link wants (must_open e f fresh of none) none.same empty after)
+  by_gate e f (Err c) wants fresh of none empty code after = (_, fails c wants (must_open e f fresh of none) none.same code after)
 
 -- the link that was left was put under a copy of where it goes
 pub by_put : {L : Type 0} (t : ChainState L) (idle new : Idle L) (link : L) (home copy : HostAndPort) → t.link ≡ Some link → home_of t ≡ Some home → copy ≡ home

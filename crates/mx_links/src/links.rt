@@ -1,6 +1,8 @@
 //! A worker's idle links, and how a transfer comes by one.
-ghost use Rattle.std.specs.Prelude.{◌≡◌, [], IfOk, MatchOption};
-ghost use Rattle.mx_turn.specs.Turn.{Keeps, unlinked};
+ghost use Rattle.std.specs.Prelude.{◌≡◌, [], true, false, IfOk, IfErr, MatchOption, MatchResult};
+ghost use Rattle.mx_types.specs.Code.{is_link_code};
+ghost use Rattle.mx_exchange.specs.Exchanges.{WantsLink};
+ghost use Rattle.mx_turn.specs.Turn.{Keeps, served_by, unserved, unlinked};
 ghost use Rattle.mx_links.specs.Supplies.{Supplies, HasNoIdle, TakesIdle};
 
 use mx_cache::IdleCache;
@@ -8,7 +10,7 @@ use mx_gate::Gate;
 use mx_link::Link;
 use mx_request::Endpoint;
 use mx_transfer::Transfer;
-use mx_types::OutOfMemory;
+use mx_types::{Code, OutOfMemory};
 use std::alloc::Global;
 use std::marker::Model;
 
@@ -26,6 +28,19 @@ impl<L: Link> Model for Links<L> {
     ghost Value = { Idle L };
 
     ghost view = { λ l. l.idle };
+}
+
+// Hands the transfer what was opened for it: a link, as one that was never in use, or the code of why there is none.
+fn give<L: Link>(transfer: &mut Transfer<L>, opened: Result<L, Code>)
+    requires wanted { WantsLink transfer.old.chain.now }
+    requires code { IfErr opened (λ code. is_link_code code ≡ true) }
+    ensures given { MatchResult opened (λ link. transfer.new.chain ≡ served_by transfer.old.chain link false) (λ code. transfer.new.chain ≡ unserved transfer.old.chain code) }
+    ensures same { transfer.new ≡ record transfer.old { chain = transfer.new.chain } }
+{
+    match opened {
+        Ok(link) => transfer.attach(link, false),
+        Err(code) => transfer.fail_link(code),
+    }
 }
 
 impl<L: Link> Links<L> {
@@ -68,10 +83,8 @@ impl<L: Link> Links<L> {
             transfer.attach(link, true);
             return;
         }
-        match gate.open(want.endpoint) {
-            Ok(link) => transfer.attach(link, false),
-            Err(code) => transfer.fail_link(code),
-        }
+        let opened = gate.open(want.endpoint);
+        give(transfer, opened);
     }
 
     /// Keeps the link that a hop of the transfer has left, where it may serve again. It is dropped where its endpoint can't be copied for
@@ -88,7 +101,7 @@ impl<L: Link> Links<L> {
             return;
         };
         if let Ok(endpoint) = endpoint.copy(self.alloc) {
-            let _oldest = self.idle.put(endpoint, link);
+            drop(self.idle.put(endpoint, link));
         }
     }
 }

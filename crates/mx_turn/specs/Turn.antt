@@ -45,6 +45,10 @@ Retries s w v = (f : Finish) × (v ≡ handed_in s.ticket s.outcome f w)
 abbrev pub served_by : {L : Type 0} → ChainState L → L → Bool → ChainState L
 served_by t link reused = record t { now = attached t.now link reused; linked = true; link = None }
 
+-- the transfer, once its hop was told why there is no link
+abbrev pub unserved : {L : Type 0} → ChainState L → Code → ChainState L
+unserved t c = record t { now = record t.now { failure = Some c } }
+
 -- no idle link will do: a fresh one is wanted, or none is of the endpoint
 abbrev pub MustOpen : {L : Type 0} → ChainState L → Idle L → Type 0
 MustOpen t idle = (t.now.needs_fresh ≡ true) ⊎ HasNone t.now.request.endpoint idle.links
@@ -60,8 +64,7 @@ pub data Supplied {L : Type 0} (history : L → List Answer) (token_of : L → �
   opens : (link : L) → WantsLink t.now → MustOpen t idle → left ≡ idle → history link ≡ [] → new ≡ served_by t link false
       → Supplied history token_of t new idle left (opened t.now.request.endpoint (Ok (token_of link)) ∷ [])
   -- where the gate can't open one, it is told why
-  fails : (c : Code) → WantsLink t.now → MustOpen t idle → left ≡ idle → is_link_code c ≡ true
-      → new ≡ record t { now = record t.now { failure = Some c } }
+  fails : (c : Code) → WantsLink t.now → MustOpen t idle → left ≡ idle → is_link_code c ≡ true → new ≡ unserved t c
       → Supplied history token_of t new idle left (opened t.now.request.endpoint (Err c) ∷ [])
 
 -- the transfer, once the link was taken out of it that a hop has left

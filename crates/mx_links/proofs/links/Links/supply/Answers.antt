@@ -1,6 +1,6 @@
 use Rattle.std.proofs.Common.{◌≡◌, refl, true, false, ap}
 use Rattle.mx_transfer.specs.Transfers.{TransferState}
-use Rattle.mx_links.proofs.Supplying.{by_none, by_idle, by_gate, by_code}
+use Rattle.mx_links.proofs.Supplying.{by_none, by_idle, by_gate}
 use Rattle.mx_links.proofs.links.Links.supply.Goals as goal
 
 pub returns-in_default-clause-supplied : goal.returns-in_default-clause-supplied
@@ -9,8 +9,5 @@ returns-in_default-clause-supplied g c = by_none _ _ _ _ _ _ (λ wants. let x : 
 pub returns-in-Some-take-clause-supplied : goal.returns-in-Some-take-clause-supplied
 returns-in-Some-take-clause-supplied g c = by_idle _ _ _ _ _ _ _ _ _ (c.in-Some.ensures.wants.0 refl) c.in-Some.ensures.which.0 c.in-Some.ensures.which.1 c.in-Some-take.ensures (ap (λ (t : TransferState g.row.L.Denot). t.chain) c.attach.ensures)
 
-pub returns-in-Ok-clause-supplied : goal.returns-in-Ok-clause-supplied
-returns-in-Ok-clause-supplied g c = by_gate _ _ _ _ _ _ _ _ _ (c.in-Some.ensures.wants.0 refl) c.in-Some.ensures.which.0 c.in-Some.ensures.which.1 c.in_default-take.ensures c.in-Ok.ensures.fresh (ap (λ (t : TransferState g.row.L.Denot). t.chain) c.attach-in-Ok.ensures)
-
-pub returns-in-Err-clause-supplied : goal.returns-in-Err-clause-supplied
-returns-in-Err-clause-supplied g c = by_code _ _ _ _ _ _ _ _ _ (c.in-Some.ensures.wants.0 refl) c.in-Some.ensures.which.0 c.in-Some.ensures.which.1 c.in_default-take.ensures c.in-Err.ensures.code (ap (λ (t : TransferState g.row.L.Denot). t.chain) c.fail_link.ensures)
+pub returns-clause-supplied : goal.returns-clause-supplied
+returns-clause-supplied g c = by_gate _ _ _ _ _ _ _ _ _ (c.in-Some.ensures.wants.0 refl) c.in-Some.ensures.which.0 c.in-Some.ensures.which.1 c.in_default-take.ensures c.open-opened.ensures.fresh c.open-opened.ensures.code c.give.ensures.given
