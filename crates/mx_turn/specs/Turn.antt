@@ -23,7 +23,7 @@ Each {X} {W} Step (x ∷ xs) w v = (mid : W) × Step x w mid × Each Step xs mid
 
 -- It claims at most one transfer.
 pub data Claims {L : Type 0} (w v : Worker L) : Type 0 where
-  -- one that is stopping, or has as many in hand as it may have, claims none
+  -- a worker that is stopping, or has as many in hand as it may have, claims none
   keeps : (w.is_stopping ≡ true) ⊎ (most_transfers ≤ in_hand w) → v ≡ w → Claims w v
   -- any other asks for one, and there may be none
   finds_none : w.is_stopping ≡ false → in_hand w < most_transfers → v ≡ does w (claims None) → Claims w v
@@ -79,7 +79,7 @@ pub data Keeps {L : Type 0} (t : ChainState L) (idle left : Idle L) : Type 0 whe
   -- it is kept under the endpoint that it goes to, and where there are then more than may be the oldest leaves
   puts : (link : L) (home : HostAndPort) → t.link ≡ Some link → home_of t ≡ Some home
       → left ≡ record idle { links = kept idle.limit (idle.links ++ (home, link) ∷ []) } → Keeps t idle left
-  -- it is dropped, as no memory is found for its endpoint
+  -- or it is dropped: where no memory is found for its endpoint, which nothing here can tell
   drops : (link : L) → t.link ≡ Some link → left ≡ idle → Keeps t idle left
 
 -- After its poll a transfer is held on, unless it has ended.
@@ -156,9 +156,9 @@ pub data GivesBack {L : Type 0} (h : Held L) (w v : Worker L) : Type 0 where
   -- one that has not is given back as it stands, and is held no more
   returns : (r : Return) → h.transfer.now.is_started ≡ false → v ≡ does w (gives_back h r) → GivesBack h w v
 
--- Whether it is told to stop, and was before.
+-- What comes of whether it is told to stop, and whether it was before.
 abbrev pub Stops : {L : Type 0} → Bool → Bool → Worker L → Worker L → Type 0
--- nothing comes of it where it isn't told, or was before
+-- nothing where it isn't told, or was before
 Stops false already w v = v ≡ w
 Stops true true w v = v ≡ w
 -- where it is told for the first time it is stopping from then on, and gives back what has not started
@@ -183,7 +183,9 @@ pub record WorkerTurn {L : Type 0} (history : L → List Answer) (token_of : L �
   -- it waits at its gate, and gives back what has not started once it is told to stop
   pub stops : Stops stop gone_through.is_stopping (hears gone_through (waited (wait_of now gone_through) stop)) v
 
--- turn after turn
+-- Turn after turn.
 pub data Runs {L : Type 0} (history : L → List Answer) (token_of : L → ℕ) (w : Worker L) : Worker L → Type 0 where
+  -- it has taken no turn yet
   begins : Runs history token_of w w
+  -- it has taken one turn more
   turns : {m v : Worker L} → Runs history token_of w m → WorkerTurn history token_of m v → Runs history token_of w v
