@@ -28,24 +28,24 @@ enum Removal {
 
 /// A gate for one worker, which removes handle 1 by the seat of an application thread. Its moment is 0.
 #[derive(Drop)]
-struct Remover<'a, R: Wait> {
-    rt: &'a R,
+struct Remover<'r, 'm, R: Wait> {
+    rt: &'r R,
     alloc: Global,
-    seat: Seated<'a, Application, Queued<ScriptLink>, Outcome>,
+    seat: Seated<'m, Application, Queued<ScriptLink>, Outcome>,
     removal: Removal,
     turns: u32,
     /// How many links it has opened.
     opened: u32,
 }
 
-impl<'a, R: Wait> Remover<'a, R> {
+impl<'r, 'm, R: Wait> Remover<'r, 'm, R> {
     fn remove(&mut self) {
         let call = Call::Remove(HandleId(1));
         let _removed = self.seat.make(self.rt, call);
     }
 }
 
-impl<'a, R: Wait> Gate for Remover<'a, R> {
+impl<'r, 'm, R: Wait> Gate for Remover<'r, 'm, R> {
     type Link = ScriptLink;
 
     ghost latest = { λ _. 0 };
@@ -98,10 +98,11 @@ fn count<R: Wait + RandomSource + AllocGlobal>(
     let Some(worker) = workers.pop() else {
         return Err("no worker's seat".into());
     };
+    let seat = multi.at(seat);
     let mut gate = Remover {
         rt,
         alloc: rt.alloc(),
-        seat: multi.at(seat),
+        seat,
         removal,
         turns: 2,
         opened: 0,
