@@ -10,7 +10,6 @@ use mx_request::Request;
 use mx_transfer::{Outcome, Transfer};
 use mx_types::{Code, Ending as Ends, Method, OutOfMemory, Settings};
 use std::alloc::{AllocGlobal, Global};
-use std::process::Abort;
 use std::random::RandomSource;
 use std::test::Fail;
 
@@ -163,9 +162,12 @@ impl Ending {
     }
 }
 
-/// Compares what was seen.
-fn has_seen(rt: &impl Abort, played: &Played, waits: &[Waiting], ended: Option<Ended<'_>>) {
-    assert_eq!(rt; played.seen(), Seen { waits, ended });
+/// Fails unless just this was seen.
+fn compare(played: &Played, waits: &[Waiting], ended: Option<Ended<'_>>) -> Result<(), Fail> {
+    if played.seen() == (Seen { waits, ended }) {
+        return Ok(());
+    }
+    Err(Fail::from("something else is seen of the transfer"))
 }
 
 /// A request without a body that follows so many redirects at most, and has so many milliseconds: no deadline where these are 0.
@@ -349,9 +351,21 @@ fn play<R: RandomSource + AllocGlobal>(
     made
 }
 
-/// Compares what is seen of a new transfer of the request over these calls, up to its end: each poll that answers `Pending`, and what it
-/// has ended with, if it has.
-pub fn is_seen<R: Abort + RandomSource + AllocGlobal>(
+fn play_and_compare<R: RandomSource + AllocGlobal>(
+    rt: &R,
+    request: Request,
+    calls: &[Call<'_>],
+    played: &mut Played,
+    waits: &[Waiting],
+    ended: Option<Ended<'_>>,
+) -> Result<(), Fail> {
+    play(rt, request, calls, played)?;
+    compare(played, waits, ended)
+}
+
+/// Fails unless just this is seen of a new transfer of the request over these calls, up to its end: each poll that answers `Pending`, and
+/// what it has ended with, if it has.
+pub fn is_seen<R: RandomSource + AllocGlobal>(
     rt: &R,
     request: Request,
     calls: &[Call<'_>],
@@ -362,12 +376,9 @@ pub fn is_seen<R: Abort + RandomSource + AllocGlobal>(
         waits: Vec::new(rt.alloc()),
         ending: None,
     };
-    let made = play(rt, request, calls, &mut played);
-    if made.is_ok() {
-        has_seen(rt, &played, waits, ended);
-    }
+    let seen = play_and_compare(rt, request, calls, &mut played, waits, ended);
     drop(played);
-    made
+    seen
 }
 
 /// What the poll answers that comes behind a fresh link which gives this reply; nothing where that is pending.
