@@ -16,8 +16,7 @@ use Rattle.mx_types.specs.declared.code.Code.{Code}
 use Rattle.mx_types.specs.declared.origin.Origin.{Origin}
 use Rattle.mx_lock.specs.Ties.{IsTied, TieState}
 
--- the control state, the journal of the version that is published, which journal it is, and of which requests additions, work
--- given back and ends are
+-- the control state, the journal of the version that is published, which journal it is, and of which requests additions are
 pub record EngineState (Q O : Type 0) : Type 0 where
   pub core : Core Q O
   pub published : List Event

@@ -21,7 +21,7 @@ use mx_types::{Ending, Who, Work};
 use std::marker::Model;
 use std::sync::Wait;
 
-/// The engine, taken out of the lock. It has no `Drop`, and ends by being given back or put back alone.
+/// The engine, taken out of the lock. It has no `Drop`, and ends by being given back or put back alone, or with the lock.
 /// Contracts see what `Engine` has.
 pub struct Taken<Q: Work + Drop, O: Ending + Drop> {
     engine: Engine<Q, O>,
