@@ -96,7 +96,9 @@ fn run_all<
 /// # Errors
 ///
 /// `OutOfMemory` where there was no memory for the threads' handles, and `NoThread` where a thread couldn't be started: the
-/// application didn't run then, and the workers that had started are dismissed and have ended.
+/// application didn't run then, and the workers that had started are dismissed and have ended. Posts and application are let go.
+///
+/// Of all this a clause says only that what it answers is what the application may return.
 pub fn run_beside<
     'm,
     L: Link + Send,

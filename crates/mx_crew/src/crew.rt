@@ -13,7 +13,7 @@ use std::sync::Arc;
 use std::sync::atomic::{AtomicBool, Ordering};
 use std::time::Instant;
 
-/// What wakes workers, and what stops them.
+/// What wakes workers, and what stops them; no clause says that it does.
 #[derive(Drop)]
 pub struct Crew {
     bells: Vec<Bell>,

@@ -29,7 +29,7 @@ pub struct Counts {
     pub given_back: u32,
 }
 
-/// A post for each seat, as far as there are gates.
+/// A post for each seat, as far as there are gates. Where there is no memory for them, seats and gates are let go.
 pub fn posts<'m, L: Link, G: Gate<Link = L> + Drop>(
     alloc: Global,
     multi: &'m Multi<Queued<L>, Outcome>,

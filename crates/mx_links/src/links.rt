@@ -68,7 +68,8 @@ impl<L: Link> Links<L> {
     }
 
     /// Hands a link to the transfer where it wants one: the newest idle one of its endpoint, unless only a fresh one will do, else one that
-    /// the gate opens. Where the gate can't, the transfer is told why.
+    /// the gate opens. Where the gate can't, the transfer is told why. That link and code are the gate's no clause says, as no gate tells
+    /// what it was asked.
     pub fn supply<G: Gate<Link = L>>(&mut self, gate: &mut G, transfer: &mut Transfer<L>)
         ensures supplied { Supplies L.history L.token_of transfer.old.chain transfer.new.chain self.old self.new }
         ensures same { transfer.new ≡ record transfer.old { chain = transfer.new.chain } }
@@ -88,7 +89,7 @@ impl<L: Link> Links<L> {
     }
 
     /// Keeps the link that a hop of the transfer has left, where it may serve again. It is dropped where its endpoint can't be copied for
-    /// want of memory.
+    /// want of memory; that it is dropped there alone no clause says.
     pub fn keep(&mut self, transfer: &mut Transfer<L>)
         ensures kept { Keeps transfer.old.chain self.old self.new }
         ensures rest { transfer.new ≡ record transfer.old { chain = unlinked transfer.old.chain } }

@@ -334,9 +334,9 @@ impl<Q: Work + Drop, O: Ending + Drop> Multi<Q, O> {
         self.max_connects
     }
 
-    /// Ends the multi handle, through one of its seats: it waits for a call that is under way, and gives all memory back, with
-    /// the work that waits and the endings that were not read. Reads through the other seats then answer None; a call under
-    /// the lock can't be made, as the multi handle is gone.
+    /// Ends the multi handle, through one of its seats, and gives all memory back, with the work that waits and the endings that
+    /// were not read; of that no clause says anything. No call is under way then, and none can be made through another seat, a
+    /// read neither, as the multi handle is gone.
     pub fn close<R: Wait>(self, rt: &R, seat: Seat<Q, O>)
         requires { seat.of ≡ self }
     {

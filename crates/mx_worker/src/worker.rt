@@ -367,8 +367,8 @@ impl<'m, L: Link> Worker<'m, L> {
 /// many of ends that were stale; and so many tickets as it tells stand behind those that the seat had given back. Where memory for the
 /// start is refused, nothing was claimed and the seat is as it was.
 ///
-/// No clause says in which order it goes through what it holds, how long it has its gate wait, or that it ends: one that has started and
-/// stays paused keeps it.
+/// No clause says that it claims, polls or records anything, in which order it goes through what it holds, how long it has its gate wait,
+/// or that it ends: one that has started and stays paused keeps it.
 #[tactic(auto, using(crate::proofs::Tallies::worked_none, crate::proofs::Tallies::gave_none))]
 pub fn run_worker<'m, L: Link, R: Wait + RandomSource + AllocGlobal, G: Gate<Link = L>>(
     rt: &R,
