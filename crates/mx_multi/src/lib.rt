@@ -1,7 +1,7 @@
 //! One multi handle for many threads: a lock with a rule, seats, and the calls. It is generic in the work that is added
 //! and in the endings that are recorded.
 //!
-//! A caller, with work and endings of its own (`Job`, `End`); `mx_multi_tests` runs it:
+//! A caller, with work and endings of its own (`Job`, `End`); `mx_multi_tests` runs it, but for its last two lines:
 //!
 //! ```text
 //! let (multi, mut seats, mut workers) = Multi::<Job, End>::open(rt, rt.alloc(), limits)?;
