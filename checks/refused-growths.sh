@@ -1,10 +1,11 @@
 #!/usr/bin/env bash
 # Runs what `rt ci` built with each growth of memory refused in turn, the first, the second, and so on until a run asks for no
 # more, by a library of its own (checks/refuse.c). A program has to print what memory allows and end with 27, or to do without
-# that growth and print all. A test has to pass, to fail as a call was refused, or to be stopped by an assertion of its own, as
-# where a transfer ended with 27; nothing below it may stop it, and it has to end. Of a test that asks for more than 200 growths
-# the first 200 are refused. Prints one line for each program and test, and ends with 0 where all did as they have to, with 1
-# where one didn't, and with 2 where something that it needs isn't there: a program, a test, a C compiler.
+# that growth and print all. A test has to pass, to fail as a call was refused, or to see something else than it is to see, as
+# where a transfer ended with 27, by an assertion of its own or by the words of mx_transfer_tests_base; nothing below it may stop
+# it, and it has to end. Of a test that asks for more than 200 growths the first 200 are refused. Prints one line for each program
+# and test, and ends with 0 where all did as they have to, with 1 where one didn't, and with 2 where something that it needs isn't
+# there: a program, a test, a C compiler.
 #
 # Use: checks/refused-growths.sh        after `rt ci`, on Linux; a C compiler is in Debian's package gcc
 set -u
@@ -15,12 +16,15 @@ set -u
 tests='
 mx_body_tests       src/pieces\.rt                                     refused_growth
 mx_request_tests    src/[a-z_]*_tests\.rt
-mx_link_tests       src/\(asking\|scripted\|sockets\)\.rt
-mx_exchange_tests   src/\(connecting\|replay\|tests\)\.rt
-mx_chain_tests      src/\(hops\|replay\)\.rt
+mx_link_tests       src/\(scripted\|sockets\)\.rt
+mx_exchange_tests   src/connecting\.rt
+mx_chain_tests      src/hops\.rt
 mx_multi_tests      src/seats\.rt                                      scripts\|meetings\|seats
 mx_worker_tests     src/\(ends\|links\|waits\)\.rt                       ^ends\|^links\|^paused\|^takeover\|^waits
 '
+
+# What mx_transfer_tests_base says of a transfer that isn't as a test has it.
+OTHERWISE='something else is seen of the transfer'
 
 top=$(cd "$(dirname "$(readlink -f "$0")")/.." && pwd)
 work=$(mktemp -d)
@@ -102,23 +106,25 @@ try_program 'mxfetch play' "$work/script" play
 
 # the tests of a crate, each up to its 200th growth
 try_tests() {
-  local crate=$1 own=$2 word=$3 test names which failed_calls stopped tests=$top/crates/$1/out/$1_tests
+  local crate=$1 own=$2 word=$3 test names which failed_calls seen tests=$top/crates/$1/out/$1_tests
   names=$("$tests" --list | sed -n 's/: test$//p' | grep "$word")
   [ -n "$names" ] || { status=0; : > "$work/printed"; : > "$work/said"; wrong "$crate: its tests name no test"; }
   for test in $names; do
-    which=1 failed_calls=0 stopped=0
+    which=1 failed_calls=0 seen=0
     while [ "$which" -le 200 ] && refused "$which" "$tests" "$test"; do
       if [ "$status" -eq 101 ] && grep -q 'OutOfMemory\|AllocError\|AllocFailed' "$work/said"; then
         failed_calls=$((failed_calls + 1))
       elif [ "$status" -eq 134 ] && grep -q "test stopped at $own:" "$work/printed"; then
-        stopped=$((stopped + 1))
+        seen=$((seen + 1))
+      elif [ "$status" -eq 101 ] && grep -qF "$OTHERWISE" "$work/said"; then
+        seen=$((seen + 1))
       elif [ "$status" -ne 0 ]; then
         wrong "$crate, $test, growth $which"
       fi
       which=$((which + 1))
     done
     [ "$which" -gt 200 ] || [ "$status" -eq 0 ] || wrong "$crate, $test, no growth refused"
-    echo "$crate, $test: $((which - 1)) growths refused, $failed_calls by a call, $stopped seen by an assertion"
+    echo "$crate, $test: $((which - 1)) growths refused, $failed_calls by a call, $seen seen by the test"
   done
 }
 while read -r crate own word; do
