@@ -8,7 +8,7 @@ use mx_types::Code;
 /// What a handle ended with.
 #[derive(Drop)]
 pub enum Fetched {
-    /// Its URL was refused, or there was no memory for its transfer.
+    /// Its URL was refused.
     Refused(Code),
     /// Its transfer ended.
     Ended(Outcome),
