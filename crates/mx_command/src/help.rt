@@ -1,4 +1,4 @@
-//! The texts of the help. No line has more than 100 bytes.
+//! The texts of the help. No line but that of `MXFETCH` has more than 100 bytes.
 
 /// What `mxfetch` is.
 pub const MXFETCH: &str =
