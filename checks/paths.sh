@@ -81,9 +81,9 @@ def is_there(text):
     if text in OUTSIDE:
         return True
     if re.fullmatch(r"(\w+::)+\w+(\(\))?", text):
-        return is_item(text.removesuffix("()"))
+        return is_item(re.sub(r"\(\)$", "", text))
     if re.fullmatch(r"[\w…*-]+(\(\))?", text):
-        return is_name(text.removesuffix("()"))
+        return is_name(re.sub(r"\(\)$", "", text))
     if re.fullmatch(r"[\w.…*-]+/", text) or re.fullmatch(r"[\w./…*-]+\.(rt|antt|edit|md|sh|txt)", text):
         return is_path(text) or is_name(text)
     if re.fullmatch(r"\w+/[\w…*-]+", text):

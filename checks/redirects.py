@@ -116,7 +116,7 @@ class Servers:
 def line_of(asked):
     """A request in a message: the server and the first line."""
     place, head = asked
-    line = head.split(b"\r\n")[0].decode("latin-1").removesuffix(" HTTP/1.1")
+    line = re.sub(r" HTTP/1\.1$", "", head.split(b"\r\n")[0].decode("latin-1"))
     return f"{place} {line if len(line) < 60 else line[:50] + '...'}"
 
 
