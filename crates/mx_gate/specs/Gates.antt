@@ -1,15 +1,17 @@
 -- What contracts see of a gate to the network.
-use Rattle.std.specs.Prelude.{ℕ, ◌+◌, ◌-◌, ◌/◌, ◌^◌, min, max, Bool, true, false}
+use Rattle.std.specs.Prelude.{List, ℕ, ◌+◌, ◌-◌, ◌/◌, ◌^◌, min, max, Bool, true, false}
 use Rattle.mx_types.specs.declared.code.Code.{Code}
 use Rattle.mx_types.specs.declared.code.Code.TheVariants as code
+use Rattle.mx_gate.specs.Said.{Said}
 use Rattle.mx_gate.specs.declared.gate.Turn.{Turn}
 use Rattle.mx_gate.specs.declared.gate.Turn.TheVariants as turn
 
--- The latest moment told, the token of the next link, and whether the last turn saw the flag set.
+-- The latest moment told, the token of the next link, whether the last turn saw the flag set, and all that was said.
 pub record SocketGateState : Type 0 where
   pub latest : ℕ
   pub next_token : ℕ
   pub is_stopped : Bool
+  pub said : List Said
 
 -- the moment in milliseconds, where so many nanoseconds passed since the start: it never falls, and fits in 64 bits
 abbrev pub moment_after : ℕ → ℕ → ℕ

@@ -4,3 +4,5 @@ pub mod Gates
 pub mod Laws
 pub mod Script
 pub mod Ready
+pub mod Said
+pub mod Notes

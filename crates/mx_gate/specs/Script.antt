@@ -1,18 +1,20 @@
 -- What a scripted gate answers.
 use Rattle.std.specs.Prelude.{◌≡◌, ℕ, max, true, List, [], ◌∷◌, Option, Result, Ok, Err}
 use Rattle.mx_types.specs.Code.{is_link_code}
+use Rattle.mx_gate.specs.Said.{Said}
 use Rattle.mx_link.specs.declared.answers.Answer.{Answer}
 use Rattle.mx_types.specs.declared.code.Code.{Code}
 use Rattle.mx_types.specs.declared.code.Code.TheVariants as code
 
--- What is planned for opens and for moments, how many turns are to answer that the worker goes on, the latest moment told, and the last
--- wait asked for.
+-- What is planned for opens and for moments, how many turns are to answer that the worker goes on, the latest moment told, the last wait
+-- asked for, and all that was said.
 pub record ScriptGateState (L : Type 0) : Type 0 where
   pub openings : List (Result L Code)
   pub moments : List ℕ
   pub turns : ℕ
   pub latest : ℕ
   pub last_wait : Option ℕ
+  pub said : List Said
 
 -- a link that has answered nothing, or the code of one that can't be had
 abbrev pub IsOpening : {L : Type 0} → (L → List Answer) → Result L Code → Type 0

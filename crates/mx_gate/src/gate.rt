@@ -1,5 +1,5 @@
 //! The trait that every gate has.
-ghost use Rattle.std.specs.Prelude.{◌≡◌, ◌≤◌, ℕ, true, [], IfOk, IfErr};
+ghost use Rattle.std.specs.Prelude.{◌≡◌, ◌≤◌, ℕ, List, true, [], ◌∷◌, ◌++◌, IfOk, IfErr};
 ghost use Rattle.mx_types.specs.Code.{is_link_code};
 
 use mx_link::Link;
@@ -18,13 +18,19 @@ pub enum Turn {
 pub trait Gate {
     type Link: Link;
 
+    ghost use Rattle.mx_gate.specs.Said.{Said as OneSaid, told, opened, waited, numbered, is_stop};
+
+    // All that it was asked so far and what it answered, in order.
+    ghost said: { Self → List OneSaid };
+
     // The latest moment that was told, 0 before the first.
     ghost latest: { Self → ℕ };
 
     /// The moment, in milliseconds since a start of the gate's own choice. Moments never fall.
     fn now(&mut self) -> u64
         ensures told { result ≡ latest self.new }
-        ensures rises { latest self.old ≤ latest self.new };
+        ensures rises { latest self.old ≤ latest self.new }
+        ensures noted { said self.new ≡ said self.old ++ told result ∷ [] };
 
     /// A link to the endpoint that has answered nothing yet. It may still be connecting.
     ///
@@ -32,10 +38,12 @@ pub trait Gate {
     fn open(&mut self, endpoint: &Endpoint) -> Result<Self::Link, Code>
         ensures fresh { IfOk result (λ link. Self.Link.history link ≡ []) }
         ensures code { IfErr result (λ code. is_link_code code ≡ true) }
-        ensures moment { latest self.new ≡ latest self.old };
+        ensures moment { latest self.new ≡ latest self.old }
+        ensures noted { said self.new ≡ said self.old ++ opened endpoint.now (numbered Self.Link.token_of result) ∷ [] };
 
     /// Waits until a link may have become ready, or something else calls for a look, and at most `wait_ms`
     /// milliseconds.
     fn turn(&mut self, wait_ms: u32) -> Turn
-        ensures moment { latest self.new ≡ latest self.old };
+        ensures moment { latest self.new ≡ latest self.old }
+        ensures noted { said self.new ≡ said self.old ++ waited wait_ms (is_stop result) ∷ [] };
 }

@@ -2,18 +2,20 @@
 ghost use Rattle.std.specs.Prelude.{◌≡◌, ◌≤◌, ◌-◌, ◌==◌, ◌∷◌, ◌++◌, true, false, [], length, Some, None, IfOk, IfErr, OnOk, OnErr};
 ghost use Rattle.mx_types.specs.Code.{is_link_code};
 ghost use Rattle.mx_gate.specs.Gates.{turn_of};
+ghost use Rattle.mx_gate.specs.Said.{told, opened, waited, numbered, is_stop};
 ghost use Rattle.mx_gate.specs.Script.{IsOpening, next_opening, next_moment};
 
 use crate::gate::{Gate, Turn};
+use crate::said::Said;
 use mx_link::Link;
 use mx_request::Endpoint;
-use mx_types::Code;
+use mx_types::{Code, History};
 use std::alloc::{AllocFailed, Global};
 use std::collections::VecDeque;
 use std::marker::Model;
 
-/// A gate that answers from three scripts, in memory. Contracts see what is left of them, the latest moment told, and
-/// the last wait that was asked for.
+/// A gate that answers from three scripts, in memory. Contracts see what is left of them, the latest moment told, the
+/// last wait that was asked for, and all that was said.
 ///
 /// After its script an `open` answers `CouldntConnect`, the moment stays, and turns answer `Stop`. It never waits.
 #[derive(Drop)]
@@ -23,6 +25,7 @@ pub struct ScriptGate<L: Link> {
     turns: u32,
     latest: u64,
     last_wait: Option<u32>,
+    said: History<Said>,
 }
 
 impl<L: Link> Model for ScriptGate<L> {
@@ -37,6 +40,7 @@ impl<L: Link> Model for ScriptGate<L> {
       turns = g.turns;
       latest = g.latest;
       last_wait = g.last_wait;
+      said = g.said;
     } };
 
     ghost invariant = { λ g. AllByRecursion (IsOpening L.history) g.openings.items };
@@ -45,7 +49,7 @@ impl<L: Link> Model for ScriptGate<L> {
 impl<L: Link> ScriptGate<L> {
     /// A gate with no openings and no moments, whose first `turns` turns answer `Continue`.
     pub fn new(alloc: Global, turns: u32) -> ScriptGate<L>
-        ensures { result ≡ record { openings = []; moments = []; turns = turns; latest = 0; last_wait = None } }
+        ensures { result ≡ record { openings = []; moments = []; turns = turns; latest = 0; last_wait = None; said = [] } }
     {
         ScriptGate {
             openings: VecDeque::new(alloc),
@@ -53,6 +57,7 @@ impl<L: Link> ScriptGate<L> {
             turns,
             latest: 0,
             last_wait: None,
+            said: History::new(),
         }
     }
 
@@ -100,42 +105,52 @@ impl<L: Link> ScriptGate<L> {
 impl<L: Link> Gate for ScriptGate<L> {
     type Link = L;
 
+    ghost said = { λ gate. gate.said };
+
     ghost latest = { λ gate. gate.latest };
 
     fn now(&mut self) -> u64
         ensures told { result ≡ self.new.latest }
         ensures rises { self.old.latest ≤ self.new.latest }
         ensures planned { next_moment self.old.latest self.old.moments ≡ (result, self.new.moments) }
-        ensures others { self.new ≡ record self.old { latest = result; moments = self.new.moments } }
+        ensures others { self.new ≡ record self.old { latest = result; moments = self.new.moments; said = self.new.said } }
+        ensures noted { self.new.said ≡ self.old.said ++ told result ∷ [] }
     {
         if let Some(moment) = self.moments.pop_front() {
             self.latest = self.latest.max(moment);
         }
+        self.said.note(Said::told(self.latest));
         self.latest
     }
 
-    fn open(&mut self, _endpoint: &Endpoint) -> Result<L, Code>
+    fn open(&mut self, endpoint: &Endpoint) -> Result<L, Code>
         ensures fresh { IfOk result (λ link. L.history link ≡ []) }
         ensures code { IfErr result (λ code. is_link_code code ≡ true) }
         ensures moment { self.new.latest ≡ self.old.latest }
         ensures planned { next_opening self.old.openings ≡ (result, self.new.openings) }
-        ensures others { self.new ≡ record self.old { openings = self.new.openings } }
+        ensures others { self.new ≡ record self.old { openings = self.new.openings; said = self.new.said } }
+        ensures noted { self.new.said ≡ self.old.said ++ opened endpoint.now (numbered L.token_of result) ∷ [] }
     {
-        match self.openings.pop_front() {
+        let answer = match self.openings.pop_front() {
             Some(opening) => opening,
             None => Err(Code::CouldntConnect),
-        }
+        };
+        self.said.note(Said::opened(endpoint, &answer));
+        answer
     }
 
     fn turn(&mut self, wait_ms: u32) -> Turn
         ensures stop { result ≡ turn_of (self.old.turns == 0) }
-        ensures rest { self.new ≡ record self.old { turns = self.old.turns - 1; last_wait = Some wait_ms } }
+        ensures rest { self.new ≡ record self.old { turns = self.old.turns - 1; last_wait = Some wait_ms; said = self.new.said } }
+        ensures noted { self.new.said ≡ self.old.said ++ waited wait_ms (is_stop result) ∷ [] }
     {
         self.last_wait = Some(wait_ms);
         if self.turns == 0 {
+            self.said.note(Said::waited(wait_ms, Turn::Stop));
             return Turn::Stop;
         }
         self.turns -= 1;
+        self.said.note(Said::waited(wait_ms, Turn::Continue));
         Turn::Continue
     }
 }

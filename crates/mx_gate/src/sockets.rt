@@ -1,19 +1,21 @@
 //! A gate to the network.
-ghost use Rattle.std.specs.Prelude.{◌≡◌, ◌≤◌, ◌/◌, ◌-◌, ◌^◌, true, false, [], min, max, IfOk, IfErr, OnErr};
+ghost use Rattle.std.specs.Prelude.{◌≡◌, ◌≤◌, ◌/◌, ◌-◌, ◌^◌, ◌∷◌, ◌++◌, true, false, [], min, max, IfOk, IfErr, OnErr};
 ghost use Rattle.std.specs.Duration.{as_nanos};
 ghost use Rattle.mx_types.specs.Code.{is_link_code};
+ghost use Rattle.mx_gate.specs.Said.{told, opened, waited, numbered, is_stop};
 ghost use Rattle.mx_gate.specs.Gates.{moment_after, next_token, turn_of, is_start_code};
 
 use crate::addresses::address_of;
 use crate::faults::connect_code;
 use crate::gate::{Gate, Turn};
 use crate::ready::ReadyLink;
+use crate::said::Said;
 use crate::signals::Signals;
 use mio::net::TcpStream;
 use mio::{Events, Interest, Poll, Token, Waker};
 use mx_link::TcpLink;
 use mx_request::Endpoint;
-use mx_types::Code;
+use mx_types::{Code, History};
 use std::alloc::{AllocError, AllocGlobal, Global};
 use std::io;
 use std::marker::Model;
@@ -48,8 +50,8 @@ impl Bell {
 
 /// A gate that opens TCP connections, and waits until one of them is ready. A link of it that would have waited makes no
 /// system call before the gate was told something new of its connection. Contracts see the latest moment told, the
-/// token of its next link, and whether its last turn saw the flag that stops it. What the network answers, and when,
-/// no contract can say.
+/// token of its next link, whether its last turn saw the flag that stops it, and all that was said. What the network
+/// answers, and when, no contract can say.
 #[derive(Drop)]
 pub struct SocketGate<'r, R> {
     rt: &'r R,
@@ -62,6 +64,7 @@ pub struct SocketGate<'r, R> {
     latest: u64,
     next_token: u64,
     is_stopped: bool,
+    said: History<Said>,
 }
 
 impl<'r, R> Model for SocketGate<'r, R> {
@@ -69,7 +72,7 @@ impl<'r, R> Model for SocketGate<'r, R> {
 
     ghost Value = { SocketGateState };
 
-    ghost view = { λ g. record { latest = g.latest; next_token = g.next_token; is_stopped = g.is_stopped } };
+    ghost view = { λ g. record { latest = g.latest; next_token = g.next_token; is_stopped = g.is_stopped; said = g.said } };
 }
 
 // The moment, where so much time passed since the start.
@@ -95,7 +98,7 @@ impl<'r, R: Net + Clock + AllocGlobal> SocketGate<'r, R> {
     ///
     /// `CouldntConnect` comes where the system gives no poll or no clock, `OutOfMemory` where memory is wanting.
     pub fn new(rt: &'r R, stop: Arc<AtomicBool>) -> Result<SocketGate<'r, R>, Code>
-        ensures opened { IfOk result (λ gate. gate ≡ record { latest = 0; next_token = 1; is_stopped = false }) }
+        ensures opened { IfOk result (λ gate. gate ≡ record { latest = 0; next_token = 1; is_stopped = false; said = [] }) }
         ensures code { IfErr result (λ code. is_start_code code ≡ true) }
     {
         match Instant::now(rt) {
@@ -111,7 +114,7 @@ impl<'r, R: Net + Clock + AllocGlobal> SocketGate<'r, R> {
         stop: Arc<AtomicBool>,
         start: Instant,
     ) -> Result<SocketGate<'r, R>, Code>
-        ensures opened { IfOk result (λ gate. gate ≡ record { latest = 0; next_token = 1; is_stopped = false }) }
+        ensures opened { IfOk result (λ gate. gate ≡ record { latest = 0; next_token = 1; is_stopped = false; said = [] }) }
         ensures code { IfErr result (λ code. is_start_code code ≡ true) }
     {
         match SocketGate::parts(rt) {
@@ -126,6 +129,7 @@ impl<'r, R: Net + Clock + AllocGlobal> SocketGate<'r, R> {
                 latest: 0,
                 next_token: 1,
                 is_stopped: false,
+                said: History::new(),
             }),
             Err(error) => Err(connect_code(&error)),
         }
@@ -171,6 +175,20 @@ impl<'r, R: Net + Clock + AllocGlobal> SocketGate<'r, R> {
         Ok(ReadyLink::over(TcpLink::new(stream, token), signals))
     }
 
+    // Begins to connect to the address of the endpoint.
+    fn begin(&mut self, endpoint: &Endpoint) -> Result<SocketLink, Code>
+        ensures code { IfErr result (λ code. is_link_code code ≡ true) }
+        ensures opened { IfOk result (λ link. (link.link.token ≡ self.old.next_token) × (link.history ≡ [])
+            × (self.new ≡ record self.old { next_token = next_token self.old.next_token })) }
+        ensures refused { OnErr result (self.new ≡ self.old) }
+    {
+        let address = address_of(self.rt, endpoint)?;
+        match self.connect(address) {
+            Ok(link) => Ok(link),
+            Err(error) => Err(connect_code(&error)),
+        }
+    }
+
     // Counts what the last wait told of each connection.
     fn tell(&self) {
         for event in self.events.iter() {
@@ -188,16 +206,20 @@ impl<'r, R: Net + Clock + AllocGlobal> SocketGate<'r, R> {
 impl<R: Net + Clock + AllocGlobal> Gate for SocketGate<'_, R> {
     type Link = SocketLink;
 
+    ghost said = { λ gate. gate.said };
+
     ghost latest = { λ gate. gate.latest };
 
     fn now(&mut self) -> u64
         ensures told { result ≡ self.new.latest }
         ensures rises { self.old.latest ≤ self.new.latest }
-        ensures others { self.new ≡ record self.old { latest = self.new.latest } }
+        ensures others { self.new ≡ record self.old { latest = self.new.latest; said = self.new.said } }
+        ensures noted { self.new.said ≡ self.old.said ++ told result ∷ [] }
     {
         if let Ok(passed) = self.start.elapsed(self.rt) {
             self.latest = moment_after(self.latest, passed);
         }
+        self.said.note(Said::told(self.latest));
         self.latest
     }
 
@@ -207,20 +229,20 @@ impl<R: Net + Clock + AllocGlobal> Gate for SocketGate<'_, R> {
         ensures code { IfErr result (λ code. is_link_code code ≡ true) }
         ensures moment { self.new.latest ≡ self.old.latest }
         ensures opened { IfOk result (λ link. (link.link.token ≡ self.old.next_token) × (link.history ≡ [])
-            × (self.new ≡ record self.old { next_token = next_token self.old.next_token })) }
-        ensures refused { OnErr result (self.new ≡ self.old) }
+            × (self.new ≡ record self.old { next_token = next_token self.old.next_token; said = self.new.said })) }
+        ensures refused { OnErr result (self.new ≡ record self.old { said = self.new.said }) }
+        ensures noted { self.new.said ≡ self.old.said ++ opened endpoint.now (numbered (λ link. link.link.token) result) ∷ [] }
     {
-        let address = address_of(self.rt, endpoint)?;
-        match self.connect(address) {
-            Ok(link) => Ok(link),
-            Err(error) => Err(connect_code(&error)),
-        }
+        let answer = self.begin(endpoint);
+        self.said.note(Said::opened(endpoint, &answer));
+        answer
     }
 
     /// Waits until a connection is ready or the bell is rung. What is told of connections lets their links be asked again.
     fn turn(&mut self, wait_ms: u32) -> Turn
         ensures stop { result ≡ turn_of self.new.is_stopped }
-        ensures others { self.new ≡ record self.old { is_stopped = self.new.is_stopped } }
+        ensures others { self.new ≡ record self.old { is_stopped = self.new.is_stopped; said = self.new.said } }
+        ensures noted { self.new.said ≡ self.old.said ++ waited wait_ms (is_stop result) ∷ [] }
     {
         let wait = Duration::from_millis(u64::from(wait_ms));
         // A wait that fails ends at once, as one that a signal ends, and tells nothing.
@@ -228,6 +250,8 @@ impl<R: Net + Clock + AllocGlobal> Gate for SocketGate<'_, R> {
             self.tell();
         }
         self.is_stopped = self.stop.load(Ordering::SeqCst);
-        turn_of(self.is_stopped)
+        let turn = turn_of(self.is_stopped);
+        self.said.note(Said::waited(wait_ms, turn));
+        turn
     }
 }

@@ -1,0 +1,65 @@
+//! What a gate was asked, and what it answered: for contracts alone.
+ghost use Rattle.std.specs.Prelude.{◌≡◌, Ok};
+ghost use Rattle.mx_gate.specs.Said.{told, opened, waited, numbered, is_stop};
+
+use crate::gate::Turn;
+use mx_link::Link;
+use mx_request::Endpoint;
+use mx_types::Code;
+use std::marker::Model;
+use std::snapshot::Snapshot;
+
+#[derive(Drop)]
+pub(crate) enum Note {
+    Told(u64),
+    Opened(Snapshot<Endpoint>, Result<u64, Code>),
+    Waited(u32, bool),
+}
+
+/// One thing that a gate was asked, with its answer.
+#[derive(Drop)]
+pub struct Said {
+    note: Note,
+}
+
+impl Model for Said {
+    ghost use Rattle.mx_gate.specs.Said.{Said as OneSaid};
+    ghost use Rattle.mx_gate.specs.Notes.{said_by};
+
+    ghost Value = { OneSaid };
+
+    ghost view = { λ s. said_by s.note };
+}
+
+impl Said {
+    /// It told this moment.
+    pub fn told(moment: u64) -> Said
+        ensures { result ≡ told moment }
+    {
+        Said {
+            note: Note::Told(moment),
+        }
+    }
+
+    /// It opened this link for the endpoint, or couldn't.
+    pub fn opened<L: Link>(endpoint: &Endpoint, answer: &Result<L, Code>) -> Said
+        ensures { result ≡ opened endpoint.now (numbered L.token_of answer.now) }
+    {
+        let number = match answer {
+            Ok(link) => Ok(link.token()),
+            Err(code) => Err(*code),
+        };
+        Said {
+            note: Note::Opened(Snapshot::of(endpoint), number),
+        }
+    }
+
+    /// It was to wait so many milliseconds, and then said this.
+    pub fn waited(wait_ms: u32, turn: Turn) -> Said
+        ensures { result ≡ waited wait_ms (is_stop turn) }
+    {
+        Said {
+            note: Note::Waited(wait_ms, matches!(turn, Turn::Stop)),
+        }
+    }
+}
