@@ -68,10 +68,9 @@ impl<L: Link> Links<L> {
     }
 
     /// Hands a link to the transfer where it wants one: the newest idle one of its endpoint, unless only a fresh one will do, else one that
-    /// the gate opens. Where the gate can't, the transfer is told why. That link and code are the gate's no clause says, as no gate tells
-    /// what it was asked.
+    /// the gate opens. Where the gate can't, the transfer is told why.
     pub fn supply<G: Gate<Link = L>>(&mut self, gate: &mut G, transfer: &mut Transfer<L>)
-        ensures supplied { Supplies L.history L.token_of transfer.old.chain transfer.new.chain self.old self.new }
+        ensures supplied { Supplies L.history L.token_of transfer.old.chain transfer.new.chain self.old self.new (G.said gate.old) (G.said gate.new) }
         ensures same { transfer.new ≡ record transfer.old { chain = transfer.new.chain } }
         ensures request { transfer.new.chain.request ≡ transfer.old.chain.request }
         ensures code { transfer.new.chain.code ≡ transfer.old.chain.code }

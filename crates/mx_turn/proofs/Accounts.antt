@@ -10,7 +10,7 @@ use Rattle.mx_link.specs.declared.answers.Answer.{Answer}
 use Rattle.mx_chain.specs.Chains.{received_of}
 use Rattle.mx_chain.specs.Outcomes.{OutcomeValue}
 use Rattle.mx_chain.specs.Steps.{How, waits, asks, ends}
-use Rattle.mx_turn.specs.Said.{told, waited}
+use Rattle.mx_gate.specs.Said.{told, waited}
 use Rattle.mx_turn.specs.Workers.{Held, SetAside, Worker, Finish, recorded, stale, lacking, unseated, returned, ended_before, unreturned, Deed, claims, looks, notes, gives_back, hears, does, holds, starts}
 use Rattle.mx_turn.specs.Turn.{Each, Claims, keeps, finds_none, claims_one, handed_in, Retries, Settles, LooksAt, lets_go, serves, unlinked, GoesThrough, through, due, next, GivesBack, holds_on, returns, Stops, wait_of, WorkerTurn, Runs, begins, turns}
 use Rattle.mx_turn.specs.Laws.{claimed_by, recorded_by, stale_by, given_back_by, gone_by, unseated_by, many, EachClaimIsAccounted}

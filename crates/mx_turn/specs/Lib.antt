@@ -1,4 +1,3 @@
-pub mod Said
 pub mod Workers
 pub mod Turn
 pub mod Laws

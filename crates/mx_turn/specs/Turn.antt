@@ -13,7 +13,7 @@ use Rattle.mx_exchange.specs.Exchanges.{WantsLink, IsDue, attached}
 use Rattle.mx_chain.specs.Chains.{ChainState, received_of, home_of}
 use Rattle.mx_chain.specs.Outcomes.{OutcomeValue}
 use Rattle.mx_chain.specs.Steps.{How, waits, asks, ends, Steps}
-use Rattle.mx_turn.specs.Said.{Said, told, opened, waited}
+use Rattle.mx_gate.specs.Said.{Said, told, opened, waited}
 use Rattle.mx_turn.specs.Workers.{Held, SetAside, Finish, lacking, Return, claims, looks, notes, finishes, gives_back, Worker, in_hand, does, hears, holds}
 
 -- one after another, each from where the one before it left the worker

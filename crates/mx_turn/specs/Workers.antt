@@ -5,7 +5,7 @@ use Rattle.mx_types.specs.declared.reply.Look.{Look}
 use Rattle.mx_cache.specs.Idle.{Idle}
 use Rattle.mx_chain.specs.Chains.{ChainState}
 use Rattle.mx_chain.specs.Outcomes.{OutcomeValue}
-use Rattle.mx_turn.specs.Said.{Said}
+use Rattle.mx_gate.specs.Said.{Said}
 
 -- a claimed transfer: its ticket, its slot, and how it stands
 pub record Held (L : Type 0) : Type 0 where

@@ -4,10 +4,10 @@ use Rattle.mx_links.proofs.Supplying.{by_none, by_idle, by_gate}
 use Rattle.mx_links.proofs.links.Links.supply.Goals as goal
 
 pub returns-in_default-clause-supplied : goal.returns-in_default-clause-supplied
-returns-in_default-clause-supplied g c = by_none _ _ _ _ _ _ (λ wants. let x : false ≡ true = c.in_default.ensures.wants.1 wants in cc) refl refl
+returns-in_default-clause-supplied g c = by_none _ _ _ _ _ _ _ _ (λ wants. let x : false ≡ true = c.in_default.ensures.wants.1 wants in cc) refl refl refl
 
 pub returns-in-Some-take-clause-supplied : goal.returns-in-Some-take-clause-supplied
-returns-in-Some-take-clause-supplied g c = by_idle _ _ _ _ _ _ _ _ _ (c.in-Some.ensures.wants.0 refl) c.in-Some.ensures.which.0 c.in-Some.ensures.which.1 c.in-Some-take.ensures (ap (λ (t : TransferState g.row.L.Denot). t.chain) c.attach.ensures)
+returns-in-Some-take-clause-supplied g c = by_idle _ _ _ _ _ _ _ _ _ _ _ (c.in-Some.ensures.wants.0 refl) c.in-Some.ensures.which.0 c.in-Some.ensures.which.1 c.in-Some-take.ensures (ap (λ (t : TransferState g.row.L.Denot). t.chain) c.attach.ensures) refl
 
 pub returns-clause-supplied : goal.returns-clause-supplied
-returns-clause-supplied g c = by_gate _ _ _ _ _ _ _ _ _ (c.in-Some.ensures.wants.0 refl) c.in-Some.ensures.which.0 c.in-Some.ensures.which.1 c.in_default-take.ensures c.open-opened.ensures.fresh c.open-opened.ensures.code c.give.ensures.given
+returns-clause-supplied g c = by_gate _ _ _ _ _ _ _ _ _ _ _ (c.in-Some.ensures.wants.0 refl) c.in-Some.ensures.which.0 c.in-Some.ensures.which.1 c.in_default-take.ensures c.open-opened.ensures.fresh c.open-opened.ensures.code c.give.ensures.given c.open-opened.ensures.noted
