@@ -3,12 +3,12 @@ ghost use Rattle.std.specs.Prelude.{◌≡◌, All};
 
 use crate::responses::{AT_ONCE, SILENT};
 use crate::script::{Step, desk_after};
-use mx_gate::{Gate, Turn};
+use mx_gate::{Gate, Said, Turn};
 use mx_link::{ScriptLink, ScriptRead};
 use mx_multi::{Application, Seated};
 use mx_request::Endpoint;
 use mx_transfer::Outcome;
-use mx_types::{Call, Code, HandleId};
+use mx_types::{Call, Code, HandleId, History};
 use mx_worker::Queued;
 use mx_worker_tests_base::desk::Parts;
 use mx_worker_tests_base::runs;
@@ -36,25 +36,41 @@ struct Remover<'r, 'm, R: Wait> {
     turns: u32,
     /// How many links it has opened.
     opened: u32,
+    said: History<Said>,
 }
 
 impl<'r, 'm, R: Wait> Remover<'r, 'm, R> {
-    fn remove(&mut self) {
+    fn remove(&mut self)
+        ensures { self.new.said ≡ self.old.said }
+    {
         let call = Call::Remove(HandleId(1));
         let _removed = self.seat.make(self.rt, call);
+    }
+
+    fn next_turn(&mut self) -> Turn
+        ensures { self.new.said ≡ self.old.said }
+    {
+        if self.turns == 0 {
+            return Turn::Stop;
+        }
+        self.turns -= 1;
+        Turn::Continue
     }
 }
 
 impl<'r, 'm, R: Wait> Gate for Remover<'r, 'm, R> {
     type Link = ScriptLink;
 
+    ghost said = { λ gate. gate.said };
+
     ghost latest = { λ _. 0 };
 
     fn now(&mut self) -> u64 {
+        self.said.note(Said::told(0));
         0
     }
 
-    fn open(&mut self, _endpoint: &Endpoint) -> Result<ScriptLink, Code> {
+    fn open(&mut self, endpoint: &Endpoint) -> Result<ScriptLink, Code> {
         let mut reads: &[ScriptRead<'static>] = AT_ONCE;
         if self.removal == Removal::AtOpening {
             self.remove();
@@ -62,21 +78,21 @@ impl<'r, 'm, R: Wait> Gate for Remover<'r, 'm, R> {
             reads = SILENT;
         }
         self.opened = self.opened.saturating_add(1);
-        match ScriptLink::new(self.alloc, reads, &[]) {
+        let answer = match ScriptLink::new(self.alloc, reads, &[]) {
             Ok(link) => Ok(link),
             Err(_) => Err(Code::OutOfMemory),
-        }
+        };
+        self.said.note(Said::opened(endpoint, &answer));
+        answer
     }
 
-    fn turn(&mut self, _wait_ms: u32) -> Turn {
+    fn turn(&mut self, wait_ms: u32) -> Turn {
         if self.removal == Removal::InTurn {
             self.remove();
         }
-        if self.turns == 0 {
-            return Turn::Stop;
-        }
-        self.turns -= 1;
-        Turn::Continue
+        let turn = self.next_turn();
+        self.said.note(Said::waited(wait_ms, turn));
+        turn
     }
 }
 
@@ -106,6 +122,7 @@ fn count<R: Wait + RandomSource + AllocGlobal>(
         removal,
         turns: 2,
         opened: 0,
+        said: History::new(),
     };
     match runs::work(rt, multi.at(worker), &mut gate) {
         Some(ran) => Ok((ran.recorded, ran.stale, ran.given_back, gate.opened)),

@@ -1,14 +1,15 @@
 //! Two workers, and a third thread that reads the messages.
-ghost use Rattle.std.specs.Prelude.{◌≡◌, ◌≤◌, true, [], IfOk, IfErr};
+ghost use Rattle.std.specs.Prelude.{◌≡◌, ◌≤◌, true, [], ◌∷◌, ◌++◌, IfOk, IfErr};
 ghost use Rattle.mx_types.specs.Code.{is_link_code};
+ghost use Rattle.mx_gate.specs.Said.{told, opened, waited, numbered, is_stop};
 
 use crate::beside::{Answer, Flags, Plan, run_plan};
 use crate::reader::LOOKS;
 use crate::responses::COUNTED;
-use mx_gate::{Gate, Turn};
+use mx_gate::{Gate, Said, Turn};
 use mx_link::{ScriptLink, ScriptRead};
 use mx_request::Endpoint;
-use mx_types::Code;
+use mx_types::{Code, History};
 use std::alloc::AllocGlobal;
 use std::rt::Clock;
 use std::sync::atomic::Ordering;
@@ -22,6 +23,7 @@ pub struct HoldingGate<'a, R> {
     rt: &'a R,
     flags: &'a Flags,
     moment: u64,
+    said: History<Said>,
 }
 
 impl<'a, R: Clock + AllocGlobal> HoldingGate<'a, R> {
@@ -30,6 +32,21 @@ impl<'a, R: Clock + AllocGlobal> HoldingGate<'a, R> {
             rt,
             flags,
             moment: 0,
+            said: History::new(),
+        }
+    }
+
+    // A link, once it is not held any more.
+    fn link_to(&self, endpoint: &Endpoint) -> Result<ScriptLink, Code>
+        ensures fresh { IfOk result (λ link. link.history ≡ []) }
+        ensures code { IfErr result (λ code. is_link_code code ≡ true) }
+    {
+        if endpoint.host.as_str() == "held.example" && !self.hold() {
+            return Err(Code::CouldntConnect);
+        }
+        match ScriptLink::new(self.rt.alloc(), &[ScriptRead::Bytes(COUNTED)], &[]) {
+            Ok(link) => Ok(link),
+            Err(_) => Err(Code::OutOfMemory),
         }
     }
 
@@ -48,12 +65,16 @@ impl<'a, R: Clock + AllocGlobal> HoldingGate<'a, R> {
 impl<'a, R: Clock + AllocGlobal> Gate for HoldingGate<'a, R> {
     type Link = ScriptLink;
 
+    ghost said = { λ gate. gate.said };
+
     ghost latest = { λ gate. gate.moment };
 
     fn now(&mut self) -> u64
         ensures told { result ≡ self.new.moment }
         ensures rises { self.old.moment ≤ self.new.moment }
+        ensures noted { self.new.said ≡ self.old.said ++ told result ∷ [] }
     {
+        self.said.note(Said::told(self.moment));
         self.moment
     }
 
@@ -61,25 +82,25 @@ impl<'a, R: Clock + AllocGlobal> Gate for HoldingGate<'a, R> {
         ensures fresh { IfOk result (λ link. link.history ≡ []) }
         ensures code { IfErr result (λ code. is_link_code code ≡ true) }
         ensures moment { self.new.moment ≡ self.old.moment }
+        ensures noted { self.new.said ≡ self.old.said ++ opened endpoint.now (numbered (λ _. 0) result) ∷ [] }
     {
-        if endpoint.host.as_str() == "held.example" && !self.hold() {
-            return Err(Code::CouldntConnect);
-        }
-        match ScriptLink::new(self.rt.alloc(), &[ScriptRead::Bytes(COUNTED)], &[]) {
-            Ok(link) => Ok(link),
-            Err(_) => Err(Code::OutOfMemory),
-        }
+        let answer = self.link_to(endpoint);
+        self.said.note(Said::opened(endpoint, &answer));
+        answer
     }
 
     fn turn(&mut self, wait_ms: u32) -> Turn
         ensures moment { self.new.moment ≡ self.old.moment }
+        ensures noted { self.new.said ≡ self.old.said ++ waited wait_ms (is_stop result) ∷ [] }
     {
         thread::sleep(self.rt, Duration::from_millis(u64::from(wait_ms.min(1))));
-        if self.flags.crew.is_dismissed() {
+        let turn = if self.flags.crew.is_dismissed() {
             Turn::Stop
         } else {
             Turn::Continue
-        }
+        };
+        self.said.note(Said::waited(wait_ms, turn));
+        turn
     }
 }
 

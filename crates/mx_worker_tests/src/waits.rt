@@ -1,6 +1,7 @@
 //! How long a worker has its gate wait.
-ghost use Rattle.std.specs.Prelude.{◌≡◌, ◌≤◌, true, [], IfOk, IfErr};
+ghost use Rattle.std.specs.Prelude.{◌≡◌, ◌≤◌, true, [], ◌∷◌, ◌++◌, IfOk, IfErr};
 ghost use Rattle.mx_types.specs.Code.{is_link_code};
+ghost use Rattle.mx_gate.specs.Said.{told, opened, waited, numbered, is_stop};
 
 use crate::responses::COUNTED;
 use mx_gate::{Gate, ScriptGate, Turn};
@@ -24,11 +25,14 @@ pub struct FirstWait {
 impl Gate for FirstWait {
     type Link = ScriptLink;
 
+    ghost said = { λ first. first.gate.said };
+
     ghost latest = { λ first. first.gate.latest };
 
     fn now(&mut self) -> u64
         ensures told { result ≡ self.new.gate.latest }
         ensures rises { self.old.gate.latest ≤ self.new.gate.latest }
+        ensures noted { self.new.gate.said ≡ self.old.gate.said ++ told result ∷ [] }
     {
         self.gate.now()
     }
@@ -37,12 +41,14 @@ impl Gate for FirstWait {
         ensures fresh { IfOk result (λ link. link.history ≡ []) }
         ensures code { IfErr result (λ code. is_link_code code ≡ true) }
         ensures moment { self.new.gate.latest ≡ self.old.gate.latest }
+        ensures noted { self.new.gate.said ≡ self.old.gate.said ++ opened endpoint.now (numbered (λ _. 0) result) ∷ [] }
     {
         self.gate.open(endpoint)
     }
 
     fn turn(&mut self, wait_ms: u32) -> Turn
         ensures moment { self.new.gate.latest ≡ self.old.gate.latest }
+        ensures noted { self.new.gate.said ≡ self.old.gate.said ++ waited wait_ms (is_stop result) ∷ [] }
     {
         if self.wait.is_none() {
             self.wait = Some(wait_ms);
