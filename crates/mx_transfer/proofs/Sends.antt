@@ -19,7 +19,7 @@ source_field : IsSend Source.the_field.row
 source_field = search (sendable, crosses) depth 40
 
 inside_field : (L : RattleType) (g : link.Ghosts L.Denot) → IsSend L → IsSend (Inside.the_field L g).row
-inside_field L g s = struct_send (shape (Inside.the_type L g)) (chain_send L g s, (source_field, (source_field, (opt_waker, tt))))
+inside_field L g s = struct_send (shape (Inside.the_type L g)) (chain_send L g s, (source_field, (source_field, (opt_waker, (search (sendable, crosses) depth 40, tt)))))
 
 pub transfer_send : (L : RattleType) (g : link.Ghosts L.Denot) → IsSend L → IsSend (Transfer.the_row L g)
 transfer_send L g s =

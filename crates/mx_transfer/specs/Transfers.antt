@@ -1,5 +1,5 @@
 -- What contracts see of a transfer as a future, and what one poll of it does.
-use Rattle.std.specs.Prelude.{◌≡◌, ℕ, true, List, Option, ◌⊎◌}
+use Rattle.std.specs.Prelude.{◌≡◌, ℕ, Bool, true, false, List, Option, ◌⊎◌}
 use Rattle.futures.specs.Slot.{IsLeftIn}
 use Rattle.futures.specs.declared.task.context.Context.{Context}
 use Rattle.futures.specs.declared.task.waker.Waker.{Waker}
@@ -10,17 +10,19 @@ use Rattle.mx_chain.specs.Chains.{ChainState}
 use Rattle.mx_chain.specs.Outcomes.{OutcomeValue}
 use Rattle.mx_chain.specs.Steps.{Steps, waits, asks, ends}
 
--- `waker` is where a poll that waits leaves its task's waker, for all that it waits for
+-- `waker` is where a poll that waits leaves its task's waker, for all that it waits for; `has_asked` tells whether the last poll asked for
+-- another
 pub record TransferState (L : Type 0) : Type 0 where
   pub chain : ChainState L
   pub link_source : ℕ
   pub time_source : ℕ
   pub waker : Option Waker
+  pub has_asked : Bool
 
 -- What a poll answers. One that waits has left its task's waker in the transfer, unless none could be made; any other that is pending has
--- asked to be polled again. All else that is new is the turn's.
+-- asked to be polled again, and says so from then on. All else that is new is the turn's.
 abbrev pub PollSo : {L : Type 0} → (L → List Answer) → TransferState L → TransferState L → Poll OutcomeValue → Context → Context → Type 0
-PollSo history old new (poll.Ready o) was is = Steps history old.chain new.chain (ends o) × (new ≡ record old { chain = new.chain })
+PollSo history old new (poll.Ready o) was is = Steps history old.chain new.chain (ends o) × (new ≡ record old { chain = new.chain; has_asked = false })
 PollSo history old new poll.Pending was is =
-    (Steps history old.chain new.chain waits × (new ≡ record old { chain = new.chain; waker = new.waker }) × IsLeftIn was is new.waker)
-    ⊎ (Steps history old.chain new.chain asks × (new ≡ record old { chain = new.chain }) × (is.is_woken ≡ true))
+    (Steps history old.chain new.chain waits × (new ≡ record old { chain = new.chain; waker = new.waker; has_asked = false }) × IsLeftIn was is new.waker)
+    ⊎ (Steps history old.chain new.chain asks × (new ≡ record old { chain = new.chain; has_asked = true }) × (is.is_woken ≡ true))

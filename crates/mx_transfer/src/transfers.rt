@@ -23,6 +23,8 @@ pub struct Transfer<L: Link> {
     time_source: Source,
     // Of the task that polls it, for both sources.
     waker: Option<Waker>,
+    // The last poll asked for another.
+    has_asked: bool,
 }
 
 impl<L: Link> Model for Transfer<L> {
@@ -35,6 +37,7 @@ impl<L: Link> Model for Transfer<L> {
       link_source = t.link_source.id;
       time_source = t.time_source.id;
       waker = t.waker;
+      has_asked = t.has_asked;
     } };
 }
 
@@ -53,12 +56,14 @@ impl<L: Link> Transfer<L> {
     pub fn new(alloc: Global, request: Request) -> Transfer<L>
         ensures chain { result.chain ≡ begun request }
         ensures waker { result.waker ≡ None }
+        ensures unasked { result.has_asked ≡ false }
     {
         Transfer {
             chain: Chain::new(alloc, request),
             link_source: Source::new(),
             time_source: Source::new(),
             waker: None,
+            has_asked: false,
         }
     }
 
@@ -139,6 +144,13 @@ impl<L: Link> Transfer<L> {
         if let Some(waker) = self.waker.take() {
             waker.wake();
         }
+    }
+
+    /// Whether its last poll asked to be polled again.
+    pub fn has_asked(&self) -> bool
+        ensures { result ≡ self.now.has_asked }
+    {
+        self.has_asked
     }
 
     /// What holds of every transfer. It does nothing: a call gives its caller's proof the law.
@@ -244,9 +256,13 @@ impl<L: Link> Future for Transfer<L> {
         ensures hop { IsExchange L.history L.asked L.token_of self.new.chain.now }
         ensures undecided { OnPending result (IsUndecided self.new.chain.now.request.method self.new.chain.now.answers) }
     {
+        self.has_asked = false;
         match self.chain.turn() {
             Stepped::Ended(outcome) => Poll::Ready(outcome),
-            Stepped::Asks => cx.yield_now(),
+            Stepped::Asks => {
+                self.has_asked = true;
+                cx.yield_now()
+            }
             Stepped::Waits => self.wait(cx),
         }
     }
