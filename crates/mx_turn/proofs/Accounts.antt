@@ -180,8 +180,8 @@ module _ (p : Ticket → Bool) where
       run_owes w v (turns {m = m} run turn) o = turn_step m v turn (run_owes w m run o)
 
 pub accounted : {L : Type 0} (history : L → List Answer) (token_of : L → ℕ) → EachClaimIsAccounted history token_of
-accounted {L} history token_of limit v run over p =
-    let o = run_owes p history token_of (starts limit) v run (omega arith) in
+accounted {L} history token_of limit said v run over p =
+    let o = run_owes p history token_of (record (starts limit) { said = said }) v run (omega arith) in
     let held : of_held p v.held ≡ 0 = ap (of_held p) over.1 in
     let aside : of_aside p v.set_aside ≡ 0 = ap (of_aside p) over.2 in
     omega (arith, o, held, aside)

@@ -72,4 +72,4 @@ module _ {L : Type 0} where
     run_fits w v (turns {m = m} run turn) h = turn_step m v turn (run_fits w m run h)
 
 pub at_most_64 : {L : Type 0} (history : L → List Answer) (token_of : L → ℕ) → AtMost64 history token_of
-at_most_64 history token_of limit v run = let h = run_fits history token_of (starts limit) v run (omega arith) in omega arith
+at_most_64 history token_of limit said v run = let h = run_fits history token_of (record (starts limit) { said = said }) v run (omega arith) in omega arith

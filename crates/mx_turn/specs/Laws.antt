@@ -4,6 +4,7 @@ use Rattle.mx_types.specs.Limits.{most_transfers}
 use Rattle.mx_types.specs.declared.names.Ticket.{Ticket}
 use Rattle.mx_types.specs.declared.reply.Look.TheVariants as look
 use Rattle.mx_link.specs.declared.answers.Answer.{Answer}
+use Rattle.mx_gate.specs.Said.{Said}
 use Rattle.mx_turn.specs.Workers.{Deed, claims, looks, finishes, gives_back, recorded, stale, unseated, returned, ended_before, unreturned, Worker, in_hand, starts, IsOver}
 use Rattle.mx_turn.specs.Turn.{Runs}
 
@@ -50,11 +51,12 @@ AreAccounted did =
     (p : Ticket → Bool) → many claimed_by p did
     ≡ many recorded_by p did + many stale_by p did + many given_back_by p did + many gone_by p did + many unseated_by p did
 
--- so it is in every run that is over
+-- so it is in every run that is over, whatever the gate had said before
 abbrev pub EachClaimIsAccounted : {L : Type 0} → (L → List Answer) → (L → ℕ) → Type 0
 EachClaimIsAccounted {L} history token_of =
-    (limit : ℕ) (v : Worker L) → Runs history token_of (starts limit) v → IsOver v → AreAccounted v.did
+    (limit : ℕ) (said : List Said) (v : Worker L) → Runs history token_of (record (starts limit) { said = said }) v → IsOver v → AreAccounted v.did
 
 -- in every run there are at most 64 in hand, transfers and ends that found no memory
 abbrev pub AtMost64 : {L : Type 0} → (L → List Answer) → (L → ℕ) → Type 0
-AtMost64 {L} history token_of = (limit : ℕ) (v : Worker L) → Runs history token_of (starts limit) v → in_hand v ≤ most_transfers
+AtMost64 {L} history token_of =
+    (limit : ℕ) (said : List Said) (v : Worker L) → Runs history token_of (record (starts limit) { said = said }) v → in_hand v ≤ most_transfers
