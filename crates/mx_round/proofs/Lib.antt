@@ -1,0 +1,6 @@
+pub mod Queues
+mod Handing
+mod Polling
+mod Looking
+mod Passing
+mod Turning

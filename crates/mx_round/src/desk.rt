@@ -1,0 +1,424 @@
+//! A worker's desk: what it holds, and what it does with it.
+ghost use Rattle.std.specs.Prelude.{◌≡◌, ◌<◌, ◌≤◌, ◌+◌, ◌↔◌, ◌||◌, length, map, [], None, true, false, IsTrue, MatchOption, fold, min};
+ghost use Rattle.mx_types.specs.Limits.{most_transfers};
+ghost use Rattle.mx_chain.specs.Steps.{IfEnded, IfGoing, Steps, how_of};
+ghost use Rattle.mx_gate.specs.Said.{is_stop};
+ghost use Rattle.mx_turn.specs.Workers.{in_hand, holds, IsOver};
+ghost use Rattle.mx_turn.specs.Turn.{Each, Claims, Retries, LooksAt, GivesBack, GoesThrough, Stops, WorkerTurn, longest_wait, prepared, time_left, wait_of};
+ghost use Rattle.mx_round.specs.Desks.{Advances, IsNext, IsReadied, Polls, beside};
+
+use crate::engine::{Engine, Finished, Held, LONGEST_WAIT, Right, Tied};
+use crate::queue::Queue;
+use crate::rack::Rack;
+use futures::Future;
+use futures::task::{Poll, Solo};
+use mx_chain::Stepped;
+use mx_gate::{Gate, Turn};
+use mx_link::Link;
+use mx_links::Links;
+use mx_transfer::Transfer;
+use mx_types::Look;
+use std::marker::Model;
+use std::sync::Wait;
+
+/// A worker without its spare queues. Contracts see the worker, of which list of ties its claims are, and how its engine began.
+#[derive(Drop)]
+pub(crate) struct Desk<L: Link, C: Right, E: Engine<L, C>> {
+    engine: E,
+    rack: Rack<L, C, E>,
+    links: Links<L>,
+    solo: Solo,
+    is_stopping: bool,
+    has_asked: bool,
+}
+
+impl<L: Link, C: Right, E: Engine<L, C>> Model for Desk<L, C, E> {
+    ghost use Rattle.std.specs.Prelude.{◌≡◌, []};
+    ghost use Rattle.mx_round.specs.Desks.{DeskView};
+
+    ghost Value = { DeskView L E.Start };
+
+    ghost view = { λ d. record {
+      worker = record { held = d.rack.held; set_aside = d.rack.set_aside; idle = d.links; is_stopping = d.is_stopping; has_asked = d.has_asked; did = E.did d.engine; said = [] };
+      of = E.of d.engine;
+      start = E.start d.engine;
+    } };
+
+    ghost invariant = { λ d. d.rack.of ≡ E.of d.engine };
+}
+
+// Takes one that is due, while there is one, else the first.
+fn take_next<L: Link, C: Right, E: Tied>(
+    todo: &mut Queue<Held<L, C>, E>,
+    now: u64,
+) -> Option<Held<L, C>>
+    ensures taken { MatchOption result (todo.old.items ≡ []) (λ h. IsNext now todo.old.items h todo.new.items) }
+    ensures rest { MatchOption result (todo.new.items ≡ []) (λ h. h.of ≡ todo.old.of) }
+    ensures of { todo.new.of ≡ todo.old.of }
+    ensures count { MatchOption result (length todo.new.items ≡ length todo.old.items) (λ _. length todo.new.items + 1 ≡ length todo.old.items) }
+{
+    for place in 0..todo.len() {
+        if todo.get(place).is_late(now) {
+            return todo.take(place);
+        }
+    }
+    todo.pop()
+}
+
+// The lesser of the longest wait and the milliseconds to the next deadline of these.
+fn least_left<L: Link, C: Right, E: Tied>(held: &Queue<Held<L, C>, E>, now: u64) -> u32
+    ensures { result ≡ fold (λ ms h. min ms (time_left now h.held.transfer.now.deadline)) longest_wait held.now.items }
+{
+    let mut least = LONGEST_WAIT as u32;
+    for place in 0..held.len() {
+        least = least.min(held.get(place).time_left(now));
+    }
+    least
+}
+
+// One poll, in the context of the worker's one task. The task goes on whatever the poll answers.
+fn poll_once<L: Link>(solo: &Solo, transfer: &mut Transfer<L>) -> Stepped
+    requires running { transfer.old.chain.code ≡ None }
+    ensures steps { Steps L.history transfer.old.chain transfer.new.chain (how_of result) }
+    ensures value { IfEnded result (λ o. o.request ≡ transfer.old.chain.request) }
+    ensures again { IfGoing result (transfer.new.chain.code ≡ None) }
+    ensures same { IfGoing result (transfer.new.chain.request ≡ transfer.old.chain.request) }
+{
+    let mut cx = solo.begin();
+    match transfer.poll(&mut cx) {
+        Poll::Ready(outcome) => {
+            let _again: Poll<()> = cx.yield_now();
+            cx.park();
+            Stepped::Ended(outcome)
+        }
+        Poll::Pending => {
+            cx.park();
+            if transfer.has_asked() {
+                Stepped::Asks
+            } else {
+                Stepped::Waits
+            }
+        }
+    }
+}
+
+impl<L: Link, C: Right, E: Engine<L, C>> Desk<L, C, E> {
+    pub fn new(engine: E, rack: Rack<L, C, E>, links: Links<L>, solo: Solo) -> Desk<L, C, E>
+        requires { rack.of ≡ E.of engine }
+        ensures { result ≡ record {
+          worker = record { held = rack.held; set_aside = rack.set_aside; idle = links; is_stopping = false; has_asked = false; did = E.did engine; said = [] };
+          of = E.of engine;
+          start = E.start engine;
+        } }
+    {
+        Desk {
+            engine,
+            rack,
+            links,
+            solo,
+            is_stopping: false,
+            has_asked: false,
+        }
+    }
+
+    /// The engine.
+    pub fn into_engine(self) -> E
+        ensures { (E.did result ≡ self.worker.did) × (E.start result ≡ self.start) }
+    {
+        self.engine
+    }
+
+    /// Whether it was told to stop, and has nothing in hand.
+    pub fn is_over(&self) -> bool
+        ensures { IsTrue result ↔ IsOver self.now.worker }
+    {
+        self.is_stopping && self.rack.is_empty()
+    }
+
+    // Holds a transfer, behind the others.
+    fn hold(&mut self, held: Held<L, C>)
+        requires room { in_hand self.old.worker < most_transfers }
+        requires own { held.of ≡ self.old.of }
+        ensures held { self.new ≡ record self.old { worker = holds self.old.worker held.held } }
+    {
+        self.rack.hold(held);
+    }
+
+    // A transfer has asked to be polled again: one that goes on, or not.
+    fn hear_asking(&mut self, goes: bool)
+        ensures asked { self.new ≡ record self.old { worker = record self.old.worker { has_asked = (self.old.worker.has_asked || goes) } } }
+    {
+        self.has_asked = self.has_asked || goes;
+    }
+
+    // Claims a transfer, if there is one and it has room for it.
+    fn claim<R: Wait>(&mut self, rt: &R)
+        ensures claims { Claims self.old.worker self.new.worker }
+        ensures same { self.new ≡ record self.old { worker = self.new.worker } }
+    {
+        if self.is_stopping || !self.rack.has_room() {
+            return;
+        }
+        let Some(claimed) = self.engine.claim(rt) else {
+            return;
+        };
+        claimed.know();
+        self.hold(claimed);
+    }
+
+    // Hands in an end. One that finds no memory is set aside.
+    fn record<R: Wait>(&mut self, rt: &R, finished: Finished<C>)
+        requires room { in_hand self.old.worker < most_transfers }
+        requires own { finished.of ≡ self.old.of }
+        ensures retries { Retries finished.end self.old.worker self.new.worker }
+        ensures same { self.new ≡ record self.old { worker = self.new.worker } }
+    {
+        if let Some(finished) = self.engine.finish(rt, finished) {
+            self.rack.set_aside(finished);
+        }
+    }
+
+    // Tells a transfer the moment and whether it is paused, and gives it a link where it goes on and wants one.
+    fn make_ready<G: Gate<Link = L>>(
+        &mut self,
+        gate: &mut G,
+        now: u64,
+        goes: bool,
+        transfer: &mut Transfer<L>,
+    )
+        ensures ready { IsReadied L.history L.token_of (prepared now goes transfer.old.chain) transfer.new.chain goes (beside self.old.worker (G.said gate.old)) (beside self.new.worker (G.said gate.new)) }
+        ensures code { transfer.new.chain.code ≡ transfer.old.chain.code }
+        ensures request { transfer.new.chain.request ≡ transfer.old.chain.request }
+        ensures same { self.new ≡ record self.old { worker = self.new.worker } }
+    {
+        transfer.prepare(now, !goes);
+        if !goes {
+            return;
+        }
+        self.links.supply(gate, transfer);
+    }
+
+    // Polls a transfer once, notes how many bytes it has received, and keeps the link that a hop left.
+    fn poll(&mut self, right: &C, transfer: &mut Transfer<L>) -> Stepped
+        requires running { transfer.old.chain.code ≡ None }
+        ensures polls { Polls L.history (record { ticket = C.ticket_of right.now; slot = C.slot_of right.now; transfer = transfer.old.chain }) transfer.new.chain self.old.worker self.new.worker (how_of result) }
+        ensures value { IfEnded result (λ o. o.request ≡ transfer.old.chain.request) }
+        ensures again { IfGoing result (transfer.new.chain.code ≡ None) }
+        ensures request { IfGoing result (transfer.new.chain.request ≡ transfer.old.chain.request) }
+        ensures same { self.new ≡ record self.old { worker = self.new.worker } }
+    {
+        let stepped = poll_once(&self.solo, transfer);
+        self.engine.note(right, transfer.received());
+        self.links.keep(transfer);
+        stepped
+    }
+
+    // Makes a transfer ready, polls it once, and holds it on unless it has ended.
+    fn advance<R: Wait, G: Gate<Link = L>>(
+        &mut self,
+        rt: &R,
+        gate: &mut G,
+        now: u64,
+        held: Held<L, C>,
+        goes: bool,
+    )
+        requires room { in_hand self.old.worker < most_transfers }
+        requires own { held.of ≡ self.old.of }
+        ensures advances { Advances L.history L.token_of now held.held goes (beside self.old.worker (G.said gate.old)) (beside self.new.worker (G.said gate.new)) }
+        ensures same { self.new ≡ record self.old { worker = self.new.worker } }
+    {
+        let (right, mut transfer) = held.into_parts();
+        self.make_ready(gate, now, goes, &mut transfer);
+        match self.poll(&right, &mut transfer) {
+            Stepped::Waits => self.hold(Held::new(right, transfer)),
+            Stepped::Asks => {
+                self.hear_asking(goes);
+                self.hold(Held::new(right, transfer));
+            }
+            Stepped::Ended(outcome) => self.record(rt, Finished::new(right, outcome)),
+        }
+    }
+
+    // Looks at a transfer, and polls it unless it runs no more: then it is dropped with its link.
+    fn look_at<R: Wait, G: Gate<Link = L>>(
+        &mut self,
+        rt: &R,
+        gate: &mut G,
+        now: u64,
+        held: Held<L, C>,
+    )
+        requires room { in_hand self.old.worker < most_transfers }
+        requires own { held.of ≡ self.old.of }
+        ensures looks { LooksAt L.history L.token_of now held.held (beside self.old.worker (G.said gate.old)) (beside self.new.worker (G.said gate.new)) }
+        ensures same { self.new ≡ record self.old { worker = self.new.worker } }
+    {
+        match self.engine.look(held.ticket()) {
+            Some(Look::Gone) => {}
+            Some(Look::Go) => self.advance(rt, gate, now, held, true),
+            Some(Look::Paused) => self.advance(rt, gate, now, held, false),
+            None => self.advance(rt, gate, now, held, false),
+        }
+    }
+
+    // Gives a transfer back that has not started. One that has is held on.
+    fn hand_back<R: Wait>(&mut self, rt: &R, held: Held<L, C>)
+        requires room { in_hand self.old.worker < most_transfers }
+        requires own { held.of ≡ self.old.of }
+        ensures gives { GivesBack held.held self.old.worker self.new.worker }
+        ensures same { self.new ≡ record self.old { worker = self.new.worker } }
+    {
+        if held.started() {
+            self.hold(held);
+            return;
+        }
+        self.engine.give_back(rt, held);
+    }
+
+    // Hands in the ends again that were set aside, in order.
+    fn retry_those<R: Wait>(&mut self, rt: &R, todo: &mut Queue<Finished<C>, E>)
+        requires fits { length todo.old.items + in_hand self.old.worker ≤ most_transfers }
+        requires own { todo.old.of ≡ self.old.of }
+        ensures retries { Each Retries (map (λ e. e.end) todo.old.items) self.old.worker self.new.worker }
+        ensures empty { todo.new.items ≡ [] }
+        ensures of { todo.new.of ≡ todo.old.of }
+        ensures same { self.new ≡ record self.old { worker = self.new.worker } }
+    {
+        for gone in 0..todo.len() {
+            let Some(finished) = todo.pop() else {
+                return;
+            };
+            self.record(rt, finished);
+        }
+    }
+
+    // Gives back what has not started, in order, and holds on to the rest.
+    fn stop_those<R: Wait>(&mut self, rt: &R, todo: &mut Queue<Held<L, C>, E>)
+        requires fits { length todo.old.items + in_hand self.old.worker ≤ most_transfers }
+        requires own { todo.old.of ≡ self.old.of }
+        ensures gives { Each GivesBack (map (λ h. h.held) todo.old.items) self.old.worker self.new.worker }
+        ensures empty { todo.new.items ≡ [] }
+        ensures of { todo.new.of ≡ todo.old.of }
+        ensures same { self.new ≡ record self.old { worker = self.new.worker } }
+    {
+        for gone in 0..todo.len() {
+            let Some(held) = todo.pop() else {
+                return;
+            };
+            self.hand_back(rt, held);
+        }
+    }
+
+    // Goes through these and looks at each once: while one is due one that is, else the first.
+    fn go_through<R: Wait, G: Gate<Link = L>>(
+        &mut self,
+        rt: &R,
+        gate: &mut G,
+        now: u64,
+        todo: &mut Queue<Held<L, C>, E>,
+    )
+        requires fits { length todo.old.items + in_hand self.old.worker ≤ most_transfers }
+        requires own { todo.old.of ≡ self.old.of }
+        ensures through { GoesThrough L.history L.token_of now (beside self.new.worker (G.said gate.new)) (map (λ h. h.held) todo.old.items) (beside self.old.worker (G.said gate.old)) }
+        ensures empty { todo.new.items ≡ [] }
+        ensures of { todo.new.of ≡ todo.old.of }
+        ensures same { self.new ≡ record self.old { worker = self.new.worker } }
+    {
+        for gone in 0..todo.len() {
+            let Some(held) = take_next(todo, now) else {
+                return;
+            };
+            self.look_at(rt, gate, now, held);
+        }
+    }
+
+    // Tries the ends again that were set aside.
+    fn retry_all<R: Wait>(&mut self, rt: &R, todo: &mut Queue<Finished<C>, E>)
+        requires spare { todo.old.items ≡ [] }
+        requires own { todo.old.of ≡ self.old.of }
+        ensures retries { Each Retries self.old.worker.set_aside (record self.old.worker { set_aside = [] }) self.new.worker }
+        ensures spare { todo.new ≡ todo.old }
+        ensures same { self.new ≡ record self.old { worker = self.new.worker } }
+    {
+        self.rack.swap_set_aside(todo);
+        self.retry_those(rt, todo);
+    }
+
+    // Goes through what it holds.
+    fn go_all<R: Wait, G: Gate<Link = L>>(
+        &mut self,
+        rt: &R,
+        gate: &mut G,
+        now: u64,
+        todo: &mut Queue<Held<L, C>, E>,
+    )
+        requires spare { todo.old.items ≡ [] }
+        requires own { todo.old.of ≡ self.old.of }
+        ensures through { GoesThrough L.history L.token_of now (beside self.new.worker (G.said gate.new)) self.old.worker.held (record (beside self.old.worker (G.said gate.old)) { held = [] }) }
+        ensures spare { todo.new ≡ todo.old }
+        ensures same { self.new ≡ record self.old { worker = self.new.worker } }
+    {
+        self.rack.swap_held(todo);
+        self.go_through(rt, gate, now, todo);
+    }
+
+    // How long it may wait.
+    fn wait_ms(&self, now: u64) -> u32
+        ensures { result ≡ wait_of now self.now.worker }
+    {
+        if self.has_asked {
+            return 0;
+        }
+        least_left(self.rack.held(), now)
+    }
+
+    // Gives back what has not started, in order of claim.
+    fn stop<R: Wait>(&mut self, rt: &R, todo: &mut Queue<Held<L, C>, E>)
+        requires spare { todo.old.items ≡ [] }
+        requires own { todo.old.of ≡ self.old.of }
+        ensures gives { Each GivesBack self.old.worker.held (record self.old.worker { is_stopping = true; held = [] }) self.new.worker }
+        ensures spare { todo.new ≡ todo.old }
+        ensures same { self.new ≡ record self.old { worker = self.new.worker } }
+    {
+        self.is_stopping = true;
+        self.rack.swap_held(todo);
+        self.stop_those(rt, todo);
+    }
+
+    // It is told to stop, or goes on.
+    fn hear<R: Wait>(&mut self, rt: &R, turn: Turn, todo: &mut Queue<Held<L, C>, E>)
+        requires spare { todo.old.items ≡ [] }
+        requires own { todo.old.of ≡ self.old.of }
+        ensures stops { Stops (is_stop turn) self.old.worker.is_stopping self.old.worker self.new.worker }
+        ensures spare { todo.new ≡ todo.old }
+        ensures same { self.new ≡ record self.old { worker = self.new.worker } }
+    {
+        if matches!(turn, Turn::Stop) && !self.is_stopping {
+            self.stop(rt, todo);
+        }
+    }
+
+    /// One turn. The two queues are empty before and afterwards.
+    pub fn turn<R: Wait, G: Gate<Link = L>>(
+        &mut self,
+        rt: &R,
+        gate: &mut G,
+        held: &mut Queue<Held<L, C>, E>,
+        ends: &mut Queue<Finished<C>, E>,
+    )
+        requires held { held.old ≡ record { items = []; of = self.old.of } }
+        requires ends { ends.old ≡ record { items = []; of = self.old.of } }
+        ensures turn { WorkerTurn L.history L.token_of (beside self.old.worker (G.said gate.old)) (beside self.new.worker (G.said gate.new)) }
+        ensures held { held.new ≡ held.old }
+        ensures ends { ends.new ≡ ends.old }
+        ensures same { self.new ≡ record self.old { worker = self.new.worker } }
+    {
+        self.has_asked = false;
+        let now = gate.now();
+        self.claim(rt);
+        self.retry_all(rt, ends);
+        self.go_all(rt, gate, now, held);
+        let wait = self.wait_ms(now);
+        let turn = gate.turn(wait);
+        self.hear(rt, turn, held);
+    }
+}

@@ -1,0 +1,143 @@
+//! A worker.
+ghost use Rattle.std.specs.Prelude.{◌≡◌, ◌↔◌, [], IsTrue, MatchResult, IfSome};
+ghost use Rattle.mx_turn.specs.Workers.{IsOver, starts};
+ghost use Rattle.mx_turn.specs.Turn.{WorkerTurn, Runs};
+ghost use Rattle.mx_round.specs.Desks.{beside};
+
+use crate::desk::Desk;
+use crate::engine::{Engine, Finished, Held, Right};
+use crate::queue::Queue;
+use crate::rack::Rack;
+use futures::task::{Doorbell, Solo};
+use mx_gate::Gate;
+use mx_link::Link;
+use mx_links::Links;
+use std::alloc::AllocGlobal;
+use std::marker::Model;
+use std::random::RandomSource;
+use std::sync::Wait;
+
+/// A worker, at an engine. Contracts see what it has in hand, its idle links and what it did at the engine, of which list of ties its claims
+/// are, and how the engine began. What its gate said stands beside it.
+///
+/// The spare queues are empty between its turns. In a turn what it holds is swapped into one of them, and gone through there.
+#[derive(Drop)]
+pub struct Worker<L: Link, C: Right, E: Engine<L, C>> {
+    desk: Desk<L, C, E>,
+    spare_held: Queue<Held<L, C>, E>,
+    spare_ends: Queue<Finished<C>, E>,
+}
+
+impl<L: Link, C: Right, E: Engine<L, C>> Model for Worker<L, C, E> {
+    ghost use Rattle.std.specs.Prelude.{◌≡◌, []};
+    ghost use Rattle.mx_round.specs.Desks.{DeskView};
+
+    ghost Value = { DeskView L E.Start };
+
+    ghost view = { λ w. w.desk };
+
+    ghost invariant = { λ w. (w.spare_held ≡ record { items = []; of = w.desk.of }) × (w.spare_ends ≡ record { items = []; of = w.desk.of }) };
+}
+
+// What a worker needs memory for.
+#[derive(Drop)]
+struct Tools<L: Link, C: Right, E: Engine<L, C>> {
+    rack: Rack<L, C, E>,
+    links: Links<L>,
+    solo: Solo,
+    spare_held: Queue<Held<L, C>, E>,
+    spare_ends: Queue<Finished<C>, E>,
+}
+
+fn make_tools<L: Link, C: Right, E: Engine<L, C>, R: RandomSource + AllocGlobal>(
+    rt: &R,
+    engine: &E,
+    limit: u8,
+) -> Option<Tools<L, C, E>>
+    ensures rack { IfSome result (λ t. t.rack ≡ record { held = []; set_aside = []; of = E.of engine.now }) }
+    ensures links { IfSome result (λ t. t.links ≡ record { links = []; limit = limit }) }
+    ensures held { IfSome result (λ t. t.spare_held ≡ record { items = []; of = E.of engine.now }) }
+    ensures ends { IfSome result (λ t. t.spare_ends ≡ record { items = []; of = E.of engine.now }) }
+{
+    let Ok(rack) = Rack::new(rt.alloc(), engine) else {
+        return None;
+    };
+    let Ok(links) = Links::new(rt.alloc(), limit) else {
+        return None;
+    };
+    let Ok(solo) = Solo::new(rt, Doorbell::spinning()) else {
+        return None;
+    };
+    let Ok(spare_held) = Queue::new(rt.alloc(), engine) else {
+        return None;
+    };
+    let Ok(spare_ends) = Queue::new(rt.alloc(), engine) else {
+        return None;
+    };
+    Some(Tools {
+        rack,
+        links,
+        solo,
+        spare_held,
+        spare_ends,
+    })
+}
+
+impl<L: Link, C: Right, E: Engine<L, C>> Worker<L, C, E> {
+    /// A worker with nothing in hand, and with room for so many idle links. Where no memory is found the engine comes back.
+    pub fn new<R: RandomSource + AllocGlobal>(
+        rt: &R,
+        engine: E,
+        limit: u8,
+    ) -> Result<Worker<L, C, E>, E>
+        ensures { MatchResult result (λ w. w ≡ record { worker = record (starts limit) { did = E.did engine }; of = E.of engine; start = E.start engine }) (λ back. back ≡ engine) }
+    {
+        let Some(tools) = make_tools(rt, &engine, limit) else {
+            return Err(engine);
+        };
+        Ok(Worker {
+            desk: Desk::new(engine, tools.rack, tools.links, tools.solo),
+            spare_held: tools.spare_held,
+            spare_ends: tools.spare_ends,
+        })
+    }
+
+    /// The engine. What the worker has in hand is dropped.
+    pub fn into_engine(self) -> E
+        ensures { (E.did result ≡ self.worker.did) × (E.start result ≡ self.start) }
+    {
+        self.desk.into_engine()
+    }
+
+    /// Whether it was told to stop, and has nothing in hand.
+    pub fn is_over(&self) -> bool
+        ensures { IsTrue result ↔ IsOver self.now.worker }
+    {
+        self.desk.is_over()
+    }
+
+    /// One turn: it claims, tries again the ends that found no memory, goes through its transfers, waits at the gate, and gives back
+    /// what has not started once it is told to stop.
+    pub fn turn<R: Wait, G: Gate<Link = L>>(&mut self, rt: &R, gate: &mut G)
+        ensures turn { WorkerTurn L.history L.token_of (beside self.old.worker (G.said gate.old)) (beside self.new.worker (G.said gate.new)) }
+        ensures same { self.new ≡ record self.old { worker = self.new.worker } }
+    {
+        self.desk
+            .turn(rt, gate, &mut self.spare_held, &mut self.spare_ends);
+    }
+
+    /// Turn after turn, until it was told to stop and has nothing in hand.
+    pub fn run<R: Wait, G: Gate<Link = L>>(&mut self, rt: &R, gate: &mut G)
+        ensures runs { Runs L.history L.token_of (beside self.old.worker (G.said gate.old)) (beside self.new.worker (G.said gate.new)) }
+        ensures over { IsOver self.new.worker }
+        ensures same { self.new ≡ record self.old { worker = self.new.worker } }
+    {
+        for _ in rt.forever() {
+            if self.is_over() {
+                return;
+            }
+            self.turn(rt, gate);
+        }
+        unreachable!()
+    }
+}
