@@ -30,7 +30,7 @@ module _ (p : Ticket → Bool) where
     many-cons : (by : Deed L → Option Ticket) (d : Deed L) (ds : List (Deed L)) → many by p (d ∷ ds) ≡ many by p (d ∷ []) + many by p ds
     many-cons by d ds = cons-count (by d) (filter_map by ds)
 
-    many-append : (by : Deed L → Option Ticket) (ds es : List (Deed L)) → many by p (ds ++ es) ≡ many by p ds + many by p es
+    pub many-append : (by : Deed L → Option Ticket) (ds es : List (Deed L)) → many by p (ds ++ es) ≡ many by p ds + many by p es
     many-append by [] es = omega arith
     many-append by (d ∷ ds) es =
         let a = many-cons by d (ds ++ es) in

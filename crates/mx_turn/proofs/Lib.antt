@@ -1,2 +1,3 @@
 pub mod Accounts
 pub mod Within
+mod Looks

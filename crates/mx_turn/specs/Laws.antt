@@ -1,12 +1,12 @@
 -- What follows of every run of a worker.
-use Rattle.std.specs.Prelude.{◌≡◌, ℕ, ◌+◌, ◌≤◌, Bool, List, count_by, filter_map, Option, Some, None}
+use Rattle.std.specs.Prelude.{◌≡◌, ℕ, ◌+◌, ◌≤◌, All, Bool, true, false, List, count_by, filter_map, Option, Some, None}
 use Rattle.mx_types.specs.Limits.{most_transfers}
 use Rattle.mx_types.specs.declared.names.Ticket.{Ticket}
 use Rattle.mx_types.specs.declared.reply.Look.TheVariants as look
 use Rattle.mx_link.specs.declared.answers.Answer.{Answer}
 use Rattle.mx_gate.specs.Said.{Said}
 use Rattle.mx_turn.specs.Workers.{Deed, claims, looks, finishes, gives_back, recorded, stale, unseated, returned, ended_before, unreturned, Worker, in_hand, starts, IsOver}
-use Rattle.mx_turn.specs.Turn.{Runs}
+use Rattle.mx_turn.specs.Turn.{Runs, WorkerTurn}
 
 -- the ticket that was claimed by this deed
 abbrev pub claimed_by : {L : Type 0} → Deed L → Option Ticket
@@ -60,3 +60,27 @@ EachClaimIsAccounted {L} history token_of =
 abbrev pub AtMost64 : {L : Type 0} → (L → List Answer) → (L → ℕ) → Type 0
 AtMost64 {L} history token_of =
     (limit : ℕ) (said : List Said) (v : Worker L) → Runs history token_of (record (starts limit) { said = said }) v → in_hand v ≤ most_transfers
+
+-- the ticket that was looked at by this deed
+abbrev pub looked_at_by : {L : Type 0} → Deed L → Option Ticket
+looked_at_by (looks t seen) = Some t
+looked_at_by _ = None
+
+-- In each turn it looks once at each transfer that it held, and at the one that it has claimed, and at no other: by every test of tickets it
+-- has looked as often as it held and claimed some.
+abbrev pub EachIsLookedAt : {L : Type 0} → (L → List Answer) → (L → ℕ) → Type 0
+EachIsLookedAt {L} history token_of =
+    (w v : Worker L) → WorkerTurn history token_of w v → (p : Ticket → Bool)
+    → many looked_at_by p v.did + many claimed_by p w.did ≡ many looked_at_by p w.did + count_by (λ h. p h.ticket) w.held + many claimed_by p v.did
+
+-- once it is stopping it goes on stopping, and claims nothing
+abbrev pub ClaimsNoneOnceStopping : {L : Type 0} → (L → List Answer) → (L → ℕ) → Type 0
+ClaimsNoneOnceStopping {L} history token_of =
+    (w v : Worker L) → WorkerTurn history token_of w v → w.is_stopping ≡ true
+    → (v.is_stopping ≡ true) × ((p : Ticket → Bool) → many claimed_by p v.did ≡ many claimed_by p w.did)
+
+-- when it is told to stop it gives back what has not started: all that it holds on has
+abbrev pub HoldsWhatHasStarted : {L : Type 0} → (L → List Answer) → (L → ℕ) → Type 0
+HoldsWhatHasStarted {L} history token_of =
+    (w v : Worker L) → WorkerTurn history token_of w v → w.is_stopping ≡ false → v.is_stopping ≡ true
+    → All (λ h. h.transfer.now.is_started ≡ true) v.held

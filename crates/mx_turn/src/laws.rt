@@ -1,5 +1,5 @@
-//! What holds of every run of a worker. Each law is a function that does nothing: its contract is the law.
-ghost use Rattle.mx_turn.specs.Laws.{EachClaimIsAccounted, AtMost64};
+//! What holds of every turn and of every run of a worker. Each law is a function that does nothing: its contract is the law.
+ghost use Rattle.mx_turn.specs.Laws.{AtMost64, ClaimsNoneOnceStopping, EachClaimIsAccounted, EachIsLookedAt, HoldsWhatHasStarted};
 
 use mx_link::Link;
 
@@ -12,4 +12,19 @@ pub fn each_claim_is_accounted<L: Link>()
 /// A worker has at most 64 transfers and ends that found no memory in hand.
 pub fn at_most_64<L: Link>()
     ensures { AtMost64 L.history L.token_of }
+{}
+
+/// In each turn a worker looks once at each transfer that it holds, and at no other.
+pub fn each_is_looked_at<L: Link>()
+    ensures { EachIsLookedAt L.history L.token_of }
+{}
+
+/// A worker that was told to stop claims nothing more.
+pub fn claims_none_once_stopping<L: Link>()
+    ensures { ClaimsNoneOnceStopping L.history L.token_of }
+{}
+
+/// A worker that is told to stop gives back what has not started.
+pub fn holds_what_has_started<L: Link>()
+    ensures { HoldsWhatHasStarted L.history L.token_of }
 {}
