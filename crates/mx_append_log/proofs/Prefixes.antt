@@ -1,5 +1,5 @@
 -- Lists that begin other lists, by their first elements.
-use Rattle.std.proofs.Common.{◌≡◌, ◌+◌, ◌≤◌, ◌<◌, ℕ, List, [], ◌∷◌, ◌++◌, append-nil, append_assoc, length, take, drop, get_or, sym, refl, ap, subst, ◌∙◌, ⊎_elim, inl, inr, Bool, true, false, MatchBool, arith}
+use Rattle.std.proofs.Common.{◌≡◌, ◌+◌, ◌≤◌, ◌<◌, ℕ, List, [], ◌∷◌, ◌++◌, append-nil, append_assoc, length, length-append, take, drop, get_or, sym, refl, ap, subst, ◌∙◌, ⊎_elim, inl, inr, Bool, true, false, MatchBool, arith}
 use Rattle.std.specs.Prelude.{Some, slice_get, nat_le}
 use Rattle.std.proofs.lemmas.List.{take_at, take_all, take-take, take_more, take-append-drop}
 use Rattle.std.proofs.lemmas.Option.{slice_get_within, get_or_from_slice_get}
@@ -37,6 +37,17 @@ prefix_next xs ys x p next =
     let n = length xs in
     let more = take_more ys n x (slice_get_within ys n x next) in
     takes_prefix (n + 1) (xs ++ x ∷ []) ys (more ∙ ap (λ l. l ++ get_or ys n x ∷ []) (prefix_takes xs ys p) ∙ ap (λ y. xs ++ y ∷ []) (get_or_from_slice_get ys n x x next))
+
+-- what begins a list is no longer, and the element behind a beginning is the list's next one
+pub prefix_fits : {X : Type 0} (xs ys : List X) → IsPrefix xs ys → length xs ≤ length ys
+prefix_fits xs ys p = omega (arith, ap length p.1, length-append xs p.0)
+
+next_of : {X : Type 0} (xs rest : List X) (x : X) → slice_get ((xs ++ x ∷ []) ++ rest) (length xs) ≡ Some x
+next_of [] rest x = refl
+next_of (y ∷ xs) rest x = next_of xs rest x
+
+pub prefix_shows_next : {X : Type 0} (xs ys : List X) (x : X) → IsPrefix (xs ++ x ∷ []) ys → slice_get ys (length xs) ≡ Some x
+prefix_shows_next xs ys x p = ap (λ l. slice_get l (length xs)) (sym p.1) ∙ next_of xs p.0 x
 
 -- two beginnings of one list: one begins the other
 pub of_one_list : {X : Type 0} (xs ys zs : List X) → IsPrefix xs zs → IsPrefix ys zs → AreOfOneList xs ys

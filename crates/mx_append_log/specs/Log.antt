@@ -1,5 +1,5 @@
 -- One list that only grows, and what is known of it. The list exists in contracts alone.
-use Rattle.std.specs.Prelude.{ℕ, ◌≡◌, ◌⊎◌, ◌==◌, true, List, [], ◌∷◌, ◌++◌, length, MatchBool}
+use Rattle.std.specs.Prelude.{ℕ, ◌≡◌, ◌⊎◌, ◌==◌, Bool, true, List, [], ◌∷◌, ◌++◌, length, MatchBool}
 use mathlib.Core.List.{IsPrefix}
 use Rattle.logbook.specs.Pages.{Cell, Step, View, Book, Named}
 
@@ -18,6 +18,10 @@ first_word b = record { tracked = true; key = 0; book = b }
 -- where the length found is the one expected, the entry now stands behind all that had been seen; else the whole list was seen
 abbrev pub Appends : {T : Type 0} → Step T → View T ℕ → ℕ → View T ℕ → Type 0
 Appends asked before found after = MatchBool (found == asked.old) (after.0 ≡ before.0 ++ asked.ask ∷ []) (length after.0 ≡ found)
+
+-- whether the first list begins the second
+abbrev pub DecidesBeginning : {T : Type 0} → Bool → List T → List T → Type 0
+DecidesBeginning b xs ys = MatchBool b (IsPrefix xs ys) (IsPrefix xs ys → ⊥)
 
 -- two beginnings of one list: one begins the other
 abbrev pub AreOfOneList : {T : Type 0} → List T → List T → Type 0

@@ -1,5 +1,5 @@
 //! Tokens of a list: how far it was seen, and which list it is.
-ghost use Rattle.std.specs.Prelude.{◌≡◌, length, MatchBool};
+ghost use Rattle.std.specs.Prelude.{◌≡◌, length, MatchBool, nat_le};
 ghost use mathlib.Core.List.{IsPrefix};
 ghost use Rattle.mx_append_log.specs.Log.{AreOfOneList};
 
@@ -91,7 +91,8 @@ impl<T> CountedMark<T> {
     /// longer.
     pub fn reaches(&self, other: &CountedMark<T>) -> bool
         requires { other.now.book ≡ self.now.book }
-        ensures { MatchBool result (IsPrefix other.now.entries self.now.entries) (IsPrefix self.now.entries other.now.entries) }
+        ensures begins { MatchBool result (IsPrefix other.now.entries self.now.entries) (IsPrefix self.now.entries other.now.entries) }
+        ensures longer { result ≡ nat_le (length other.now.entries) (length self.now.entries) }
     {
         other.mark.are_of_one_list(&self.mark);
         other.count <= self.count

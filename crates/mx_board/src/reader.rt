@@ -1,9 +1,9 @@
 //! What one maker has seen of the journal, and its reads of the published versions.
 ghost use Rattle.std.specs.Prelude.{◌≡◌, ◌++◌, ◌∷◌, ◌≤◌, [], true, length, map, slice_get, IfSome, MatchOption};
-ghost use Rattle.std.specs.Bool.{OnTrue};
 ghost use Rattle.std.specs.Option.{option_to_list};
 ghost use mathlib.Core.List.{IsPrefix};
 ghost use Rattle.left_right.specs.Sides.{view};
+ghost use Rattle.mx_append_log.specs.Log.{DecidesBeginning};
 ghost use Rattle.mx_history.specs.History.{added, is_maker, made_by, running};
 ghost use Rattle.mx_history.specs.Answers.{look_of, state_of};
 ghost use Rattle.mx_board.specs.Board.{AreOfOneJournal, ConfirmsAllButLast, IsFound, OneBeginsOther, Reads, caught_up, confirmed_of, mark_of};
@@ -92,7 +92,7 @@ fn look<Q: Query>(
 fn stands_next(event: Event, next: Option<Event>, mark: &JournalMark, all: &JournalMark) -> bool
     requires next { next ≡ slice_get all.now.entries (length mark.now.entries) }
     requires begins { IsPrefix mark.now.entries all.now.entries }
-    ensures { OnTrue result (IsPrefix (mark.now.entries ++ event ∷ []) all.now.entries) }
+    ensures { DecidesBeginning result (mark.now.entries ++ event ∷ []) all.now.entries }
 {
     // For the prover alone: what holds of both marks is used.
     let _ = mark;
@@ -148,7 +148,7 @@ impl BoardReader {
     pub fn is_behind(&self, all: &JournalMark, next: Option<Event>) -> bool
         requires book { self.now.book ≡ all.now.book }
         requires next { next ≡ slice_get all.now.entries self.now.confirmed }
-        ensures { OnTrue result (IsPrefix self.now.seen all.now.entries) }
+        ensures { DecidesBeginning result self.now.seen all.now.entries }
     {
         if all.reaches(&self.mark) {
             return match self.unconfirmed {
