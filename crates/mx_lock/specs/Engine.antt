@@ -1,5 +1,5 @@
 -- What the lock keeps, for contracts.
-use Rattle.std.specs.Prelude.{ℕ, List, ◌≡◌, true, false}
+use Rattle.std.specs.Prelude.{ℕ, List, ◌≡◌, Bool, true, false}
 use Rattle.logbook.specs.Pages.{Book}
 use Rattle.mx_types.specs.declared.names.Ticket.{Ticket}
 use Rattle.mx_types.specs.declared.event.Event.{Event}
@@ -7,6 +7,7 @@ use Rattle.mx_journal.specs.History.{Opening, has_ticket, is_legal}
 use Rattle.mx_types.specs.declared.event.Who.{Who}
 use Rattle.mx_types.specs.declared.call.Call.{Call}
 use Rattle.mx_types.specs.declared.reply.Reply.{Reply}
+use Rattle.mx_types.specs.declared.reply.Reply.TheVariants as reply
 use Rattle.mx_journal.specs.Answers.{Answers}
 use Rattle.mx_journal.specs.Receipts.{comes_with_event}
 use Rattle.mx_journal.specs.Called.{Called}
@@ -42,6 +43,12 @@ content x = record { journal = x.core.journal; engine = record { book = x.book; 
 pub record IsLocked {Q O : Type 0} (code : O → Code) (size : O → ℕ) (x : EngineState Q O) : Type 0 where
   pub sound : IsSound code size x.core.opening.history x.core.journal x.core.queue x.core.endings
   pub published : x.published ≡ x.core.journal
+
+-- the answers of calls whose event lets a poll return: a wake-up, and an end that was recorded
+abbrev pub lets_polls_return : Reply → Bool
+lets_polls_return reply.Ok = true
+lets_polls_return reply.Recorded = true
+lets_polls_return _ = false
 
 -- the second list has no ticket that the first hasn't
 abbrev pub HasNoOther : List Ticket → List Ticket → Type 0

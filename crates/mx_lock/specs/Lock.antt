@@ -14,7 +14,8 @@ use Rattle.mx_types.specs.declared.event.Who.{Who}
 use Rattle.mx_types.specs.declared.event.Who.TheVariants as who
 use Rattle.mx_types.specs.declared.names.Ticket.{Ticket}
 use Rattle.mx_journal.specs.History.{has_ticket, made_by}
-use Rattle.mx_lock.specs.Engine.{EngineId, Content}
+use Rattle.mx_types.specs.declared.code.Code.{Code}
+use Rattle.mx_lock.specs.Engine.{EngineId, EngineState, Content, IsLocked, content}
 use Rattle.mx_lock.specs.declared.key_view.KeyView.{KeyView}
 use Rattle.mx_lock.specs.declared.key_view.BookName.{BookName}
 use Rattle.mx_lock.specs.declared.key_view.EngineName.{EngineName}
@@ -90,6 +91,12 @@ module _ {X : Type 0} (content : X → Content) where
     pub own : made_by (maker v.number) (content x).journal ≡ made_by (maker v.number) v.seen
     pub engine : engine_of v ≡ (content x).engine
     pub is : w ≡ record v { holding = true; held = (content x).journal; found = (content x).claimed }
+
+-- what the key found in its lock: its engine, with no event more of the key's maker than it had left
+pub record IsFoundBy {Q O : Type 0} (code : O → Code) (size : O → ℕ) (v : KeyView) (x : EngineState Q O) : Type 0 where
+  pub engine : (content x).engine ≡ engine_of v
+  pub locked : IsLocked code size x
+  pub own : made_by (maker v.number) x.core.journal ≡ made_by (maker v.number) v.seen
 
 -- the key after it gave the engine back: it has seen the journal, and what is claimed now and wasn't when it took the engine, it has claimed
 abbrev pub given : KeyView → Content → KeyView

@@ -5,7 +5,7 @@ ghost use Rattle.mx_types.specs.declared.call.Call.{Call};
 ghost use Rattle.mx_types.specs.declared.reply.Reply.{Reply};
 ghost use Rattle.mx_journal.specs.History.{is_maker};
 ghost use Rattle.mx_journal.specs.Receipts.{is_poll};
-ghost use Rattle.mx_lock.specs.Engine.{Makes};
+ghost use Rattle.mx_lock.specs.Engine.{Makes, lets_polls_return};
 ghost use Rattle.mx_lock.specs.Ties.{IsTied, Tells, Tie};
 
 use crate::claim::{TiedClaim, tied_again};
@@ -47,11 +47,6 @@ pub trait Deed<Q: Work + Drop, O: Ending + Drop> {
         ensures back { back self result }
         ensures tells { Tells (tie self result) ties.new.entries }
         ensures quiet { is_poll (call self) ≡ false };
-
-    /// Whether those that poll are to be told.
-    fn wakes(_answer: &Self::Reply) -> bool {
-        false
-    }
 
     /// Which call of the history it is, for its receipt.
     fn as_call(&self) -> Call
@@ -273,10 +268,6 @@ impl<Q: Work + Drop, O: Ending + Drop> Deed<Q, O> for Waking {
         core.wakeup(log, who)
     }
 
-    fn wakes(answer: &WakeupReply) -> bool {
-        matches!(answer, WakeupReply::Ok)
-    }
-
     fn as_call(&self) -> Call {
         Call::Wakeup
     }
@@ -328,10 +319,6 @@ impl<Q: Work + Drop, O: Ending + Drop> Deed<Q, O> for Finishing<Q, O> {
         tied_again(reply, mark, given, ended)
     }
 
-    fn wakes(answer: &FinishReply<TiedClaim<Q>, O>) -> bool {
-        matches!(answer, FinishReply::Recorded)
-    }
-
     fn as_call(&self) -> Call {
         Call::Finish(self.claim.ticket(), self.ending.code(), self.ending.size())
     }
@@ -339,4 +326,11 @@ impl<Q: Work + Drop, O: Ending + Drop> Deed<Q, O> for Finishing<Q, O> {
     fn as_reply(answer: &FinishReply<TiedClaim<Q>, O>) -> Reply {
         answer.reply()
     }
+}
+
+/// Whether a call with this answer lets polls return: a wake-up, or an end that was recorded.
+pub fn lets_polls_return(answer: &Reply) -> bool
+    ensures { result ≡ lets_polls_return answer.now }
+{
+    matches!(answer, Reply::Ok | Reply::Recorded)
 }

@@ -1,8 +1,7 @@
 //! What the lock keeps: the control state, and the board that is published of it.
 ghost use Rattle.std.specs.Prelude.{◌≡◌, ◌<◌, [], length, true, IfOk, IfSome};
-ghost use Rattle.std.specs.Bool.{OnTrue};
 ghost use mathlib.Core.List.{IsPrefix};
-ghost use Rattle.mx_types.specs.Limits.{IsHistory};
+ghost use Rattle.mx_append_log.specs.Log.{DecidesBeginning};
 ghost use Rattle.mx_journal.specs.History.{is_legal, is_maker, made_by};
 ghost use Rattle.mx_journal.specs.Answers.{is_ready};
 ghost use Rattle.mx_journal.specs.Table.{IsTableOf};
@@ -159,16 +158,14 @@ impl<Q: Work + Drop, O: Ending + Drop> Engine<Q, O> {
     /// Whether the journal begins with what a reader has seen.
     pub fn begins_with(&self, reader: &BoardReader) -> bool
         requires { reader.now.book ≡ self.now.book }
-        ensures { OnTrue result (IsPrefix reader.now.seen self.now.core.journal) }
+        ensures { DecidesBeginning result reader.now.seen self.now.core.journal }
     {
         let confirmed = reader.confirmed();
-        if confirmed <= self.len() as u64 {
-            let next = self.control.event(confirmed as u32);
-            if reader.is_behind(&self.mark(), next) {
-                return true;
-            }
+        if confirmed > self.len() as u64 {
+            return false;
         }
-        false
+        let next = self.control.event(confirmed as u32);
+        reader.is_behind(&self.mark(), next)
     }
 
     /// A reader for a maker, which has seen the whole journal. None where every place for a reader is in use.

@@ -12,7 +12,9 @@ mod taken;
 mod ties;
 
 pub use crate::claim::TiedClaim;
-pub use crate::deeds::{Addition, Deed, Finishing, Pausing, Reading, Removal, Unpausing, Waking};
+pub use crate::deeds::{
+    Addition, Deed, Finishing, Pausing, Reading, Removal, Unpausing, Waking, lets_polls_return,
+};
 pub use crate::engine::Engine;
 pub use crate::key_view::{BookName, EngineName, KeyView};
 pub use crate::lock::{Key, Lock};

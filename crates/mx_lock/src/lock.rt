@@ -1,11 +1,11 @@
 //! The lock: a channel with one place, in which the engine lies, under a rule over the keys.
-ghost use Rattle.std.specs.Prelude.{◌≡◌, ◌≢◌, [], true, false, IfOk, MatchOption};
+ghost use Rattle.std.specs.Prelude.{◌≡◌, ◌≢◌, [], true, false, IfErr, IfOk, MatchResult};
 ghost use mathlib.Core.List.{IsPrefix};
 ghost use Rattle.crossbeam_channel.specs.Claims.{view};
 ghost use Rattle.mx_journal.specs.Laws.{HasAtMostOneMore};
 ghost use Rattle.mx_board.specs.Board.{caught_up};
 ghost use Rattle.mx_lock.specs.Engine.{content};
-ghost use Rattle.mx_lock.specs.Lock.{maker, engine_of, IsKeyOf, Took, given, released, founded, parent, child};
+ghost use Rattle.mx_lock.specs.Lock.{maker, engine_of, IsFoundBy, IsKeyOf, Took, given, released, founded, parent, child};
 
 use crate::engine::Engine;
 use crate::key_view::KeyView;
@@ -17,6 +17,7 @@ use mx_board::BoardReader;
 use mx_types::{Ending, OutOfMemory, Work};
 use std::alloc::Global;
 use std::marker::Model;
+use std::snapshot::Snapshot;
 use std::sync::Wait;
 
 /// The right to take the engine out of a lock, one a maker. Contracts see what it knows.
@@ -129,25 +130,28 @@ impl<Q: Work + Drop, O: Ending + Drop> Lock<Q, O> {
     }
 
     /// Takes the engine for a reader, where the journal begins with what the reader has seen. Else the engine is put back
-    /// as it was found.
+    /// as it was found, and what was found comes back, for contracts alone: its journal doesn't begin so.
     pub fn enter<R: Wait>(
         &self,
         rt: &R,
         key: &mut Key<Q, O>,
         reader: &BoardReader,
-    ) -> Option<Taken<Q, O>>
+    ) -> Result<Taken<Q, O>, Snapshot<Engine<Q, O>>>
         requires own { IsKeyOf self.now key.old }
         requires free { ((view key.old).holding ≡ false) × ((view key.old).told ≡ true) }
         requires book { reader.now.book ≡ (engine_of (view key.old)).book }
         ensures kept { IsKeyOf self.now key.new }
-        ensures entered { MatchOption result (view key.new ≡ released (view key.old)) (λ t. Took content (view key.old) t (view key.new) × IsPrefix reader.now.seen t.core.journal) }
+        ensures entered { MatchResult result (λ t. Took content (view key.old) t (view key.new) × IsPrefix reader.now.seen t.core.journal) (λ _. view key.new ≡ released (view key.old)) }
+        ensures right { IfErr result (λ x. IsFoundBy O.code_of O.size_of (view key.old) x.value × (IsPrefix reader.now.seen x.value.core.journal → ⊥)) }
     {
         let taken = self.take(rt, key);
-        if taken.engine().begins_with(reader) {
-            return Some(taken);
+        let found = taken.engine();
+        if found.begins_with(reader) {
+            return Ok(taken);
         }
+        let known = found.know();
         self.put_back(rt, key, taken);
-        None
+        Err(known)
     }
 
     /// Gives the engine back, brings the reader up to its journal, and tells the mark all ties.

@@ -1,5 +1,5 @@
 -- What a call says of its seat.
-use Rattle.std.proofs.Common.{◌≡◌, inl, inr, ℕ, ◌∙◌, sym, refl, ap, subst, List, [], ◌∷◌, ◌+◌, ◌≤◌, ◌++◌, append-nil, length, length-append, Bool, true, false, cond, arith}
+use Rattle.std.proofs.Common.{◌≡◌, inl, inr, ℕ, ◌∙◌, sym, refl, ap, subst, List, [], ◌∷◌, ◌+◌, ◌≤◌, ◌++◌, append-nil, length, length-append, Bool, MatchBool, true, false, cond, arith}
 use Rattle.std.specs.Prelude.{not, ◌||◌, Option, Some, None}
 use Rattle.std.specs.List.{filter}
 use Rattle.std.specs.Option.{unwrap_or}
@@ -27,8 +27,8 @@ use Rattle.mx_board.specs.Board.{ReaderState, Reads, caught_up}
 use Rattle.mx_board.specs.Progress.{NoteState}
 use Rattle.mx_append_log.proofs.Prefixes.{prefix_self, prefix_trans}
 use Rattle.mx_lock.specs.Engine.{EngineState, EngineId, content, HasNoOther, IsLocked, Leaves, IsLeft}
-use Rattle.mx_lock.specs.Lock.{maker, engine_of, newly, Took, given, released}
-use Rattle.mx_multi.specs.Seats.{MultiView, SeatView, IsSeat, HasReceipts, Finds, Confirms, Stands, Sees, SeesVersion, FoundState, LeavesState}
+use Rattle.mx_lock.specs.Lock.{maker, engine_of, newly, IsFoundBy, Took, given, released}
+use Rattle.mx_multi.specs.Seats.{MultiView, SeatView, IsAhead, FindsNoneReady, FindsOther, IsSeat, HasReceipts, Finds, Confirms, Stands, Sees, SeesVersion, FoundState, LeavesState}
 use Rattle.mx_multi.specs.declared.progress.Progress.{Progress}
 use Rattle.mx_multi.specs.Progress.{IsProgress}
 use Rattle.mx_types.specs.declared.names.HandleId.{HandleId}
@@ -150,6 +150,12 @@ module _ {Q O : Type 0} (v w : KeyView) (r : ReaderState) (x : EngineState Q O) 
   finds of p n k m back pre =
       let own : made_by r.who x.core.journal ≡ made_by r.who v.seen = subst (λ w. made_by w x.core.journal ≡ made_by w v.seen) seat.who took.own in
       record { later = pre; own = own ∙ sym seat.own }
+
+  -- what was found, where the key put it back, and nothing was ready
+  pub finds_none_ready : (code : O → Code) (size : O → ℕ) (of : MultiView Q O) (p : ℕ) (n : NoteState) (k : List Origin) (m : List Receipt) (back : List Ticket) → of.engine ≡ engine_of v → IsPrefix r.seen x.core.journal → IsLocked code size x → is_ready p x.core.journal ≡ false
+      → FindsNoneReady code size (seat_of of v r p n k m back)
+  finds_none_ready code size of p n k m back engine pre locked none =
+      record { found = x; engine = sym took.engine ∙ sym engine; locked = locked; begins = finds of p n k m back pre; none = none }
 
   pub book_found : r.book ≡ x.book
   book_found = seat.book ∙ ap (λ (e : EngineId). e.book) took.engine
@@ -324,6 +330,30 @@ pub none_claimed : {Q : Type 0} (j k : List Event) (q r : List (Ticket × Q)) �
 none_claimed {Q} j k q r e none still = λ t h.
     sym (ap (λ l. has_ticket t (claimed l r)) e ∙ ap (λ (z : List (Ticket × Q)). has_ticket t (claimed j z)) (still ∙ sym none)) ∙ h
 
+-- what was found does not begin with what a seat has seen, or has another number of its own events
+pub finds_other : {Q O : Type 0} (code : O → Code) (size : O → ℕ) (v : KeyView) (r : ReaderState) (x : EngineState Q O) (of : MultiView Q O) (p : ℕ) (n : NoteState) (k : List Origin) (m : List Receipt) (back : List Ticket) → of.engine ≡ engine_of v → IsFoundBy code size v x → (IsPrefix r.seen x.core.journal → ⊥)
+    → FindsOther code size (seat_of of v r p n k m back)
+finds_other code size v r x of p n k m back engine found lacks = record { found = x; engine = found.engine ∙ sym engine; locked = found.locked; other = λ f. lacks f.later }
+
+pub not_ahead : {Q O : Type 0} (code : O → Code) (size : O → ℕ) (v : KeyView) (r : ReaderState) (x : EngineState Q O) (of : MultiView Q O) (p : ℕ) (n : NoteState) (k : List Origin) (m : List Receipt) (back : List Ticket) → of.engine ≡ (content x).engine → IsLocked code size x → (IsAhead r x.core.journal → ⊥)
+    → FindsOther code size (seat_of of v r p n k m back)
+not_ahead code size v r x of p n k m back engine locked lacks = record { found = x; engine = sym engine; locked = locked; other = λ f. lacks (f.later, f.own) }
+
+-- and what a reader was told of an engine holds of the same one
+pub ahead_as : {Q O : Type 0} (b : Bool) (r : ReaderState) (x y : EngineState Q O) → x ≡ y → b ≡ true → MatchBool b (IsAhead r x.core.journal) (IsAhead r x.core.journal → ⊥) → IsAhead r y.core.journal
+ahead_as {Q} {O} b r x y e is h =
+    subst (λ (z : EngineState Q O). IsAhead r z.core.journal) e (subst (λ c. MatchBool c (IsAhead r x.core.journal) (IsAhead r x.core.journal → ⊥)) is h)
+
+pub behind_as : {Q O : Type 0} (b : Bool) (r : ReaderState) (x y : EngineState Q O) → x ≡ y → b ≡ false → MatchBool b (IsAhead r x.core.journal) (IsAhead r x.core.journal → ⊥) → IsAhead r y.core.journal → ⊥
+behind_as {Q} {O} b r x y e is h =
+    subst (λ (z : EngineState Q O). IsAhead r z.core.journal → ⊥) e (subst (λ c. MatchBool c (IsAhead r x.core.journal) (IsAhead r x.core.journal → ⊥)) is h)
+
+pub other_from : {Q O : Type 0} (code : O → Code) (size : O → ℕ) (old s : SeatView Q O) → old ≡ s → FindsOther code size old → FindsOther code size s
+other_from {Q} {O} code size old s e h = subst (λ (z : SeatView Q O). FindsOther code size z) e h
+
+pub none_ready_from : {Q O : Type 0} (code : O → Code) (size : O → ℕ) (old s : SeatView Q O) → old ≡ s → FindsNoneReady code size old → FindsNoneReady code size s
+none_ready_from {Q} {O} code size old s e h = subst (λ (z : SeatView Q O). FindsNoneReady code size z) e h
+
 -- a poll that may return
 -- what holds of one engine holds of the same one
 pub locked_as : {Q O : Type 0} (code : O → Code) (size : O → ℕ) (x y : EngineState Q O) → x ≡ y → IsLocked code size x → IsLocked code size y
@@ -337,9 +367,6 @@ length_as {Q} {O} n x y e h = subst (λ (z : EngineState Q O). n ≡ length z.co
 
 pub ready_as : {Q O : Type 0} (b : Bool) (n : ℕ) (x y : EngineState Q O) → x ≡ y → b ≡ is_ready n x.core.journal → b ≡ is_ready n y.core.journal
 ready_as {Q} {O} b n x y e h = subst (λ (z : EngineState Q O). b ≡ is_ready n z.core.journal) e h
-
-pub made_as : {Q O : Type 0} (n : ℕ) (w : Who) (x y : EngineState Q O) → x ≡ y → n ≡ made_by w x.core.journal → n ≡ made_by w y.core.journal
-made_as {Q} {O} n w x y e h = subst (λ (z : EngineState Q O). n ≡ made_by w z.core.journal) e h
 
 pub woken : {Q O : Type 0} (who : Who) (x : EngineState Q O) → is_legal x.core.journal ≡ true → Leaves who call.Poll x reply.Woken x
 woken who x legal = record { answers = (refl, sym (append-nil x.core.journal)); opening = refl; book = refl; ties = refl; legal = legal; claims = λ t h. h; unchanged = λ none. refl }

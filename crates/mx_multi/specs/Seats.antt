@@ -59,6 +59,10 @@ pub record IsSeat (v : KeyView) (r : ReaderState) : Type 0 where
   pub own : made_by r.who r.seen ≡ made_by r.who v.seen
   pub but_last : ConfirmsAllButLast r
 
+-- a journal that begins with what the reader has seen, and has no event more of its maker
+abbrev pub IsAhead : ReaderState → List Event → Type 0
+IsAhead r j = IsPrefix r.seen j × (made_by r.who j ≡ made_by r.who r.seen)
+
 -- the seat's receipts are those of its calls: they stand in what it has seen, and the last poll among them is its last poll
 pub record HasReceipts {Q O : Type 0} (s : SeatView Q O) : Type 0 where
   pub placed : IsPlaced s.of.engine.opening s.who s.mine s.seen
@@ -125,6 +129,22 @@ pub record FoundState {Q O : Type 0} (code : O → Code) (size : O → ℕ) (s :
   pub journal : x.core.journal ≡ s.seen
   pub engine : (content x).engine ≡ s.of.engine
   pub locked : IsLocked code size x
+
+-- What lay in the lock of the seat's engine when a call was refused: its journal doesn't begin with what the seat has seen, or has another number
+-- of events that are the seat's own.
+pub record FindsOther {Q O : Type 0} (code : O → Code) (size : O → ℕ) (s : SeatView Q O) : Type 0 where
+  pub found : EngineState Q O
+  pub engine : (content found).engine ≡ s.of.engine
+  pub locked : IsLocked code size found
+  pub other : Finds s found.core.journal → ⊥
+
+-- What lay there when a poll was not to return: no event at or after the seat's mark lets it
+pub record FindsNoneReady {Q O : Type 0} (code : O → Code) (size : O → ℕ) (s : SeatView Q O) : Type 0 where
+  pub found : EngineState Q O
+  pub engine : (content found).engine ≡ s.of.engine
+  pub locked : IsLocked code size found
+  pub begins : Finds s found.core.journal
+  pub none : is_ready s.polled found.core.journal ≡ false
 
 -- A call of a seat left the engine so, with this reply: it found a state whose journal begins with what the seat had seen, and left one with the
 -- journal that the seat has then seen. Where the call came with no event, queue and endings are as they were.

@@ -1,5 +1,6 @@
 //! The calls of a multi handle that threads share.
-ghost use Rattle.std.specs.Prelude.{◌⊎◌, ◌≡◌, ◌≤◌, ◌++◌, ◌∷◌, [], true, length, take, Some, IfSome, IfOk, OnOk, MatchBool, MatchResult, MatchOption};
+ghost use Rattle.std.specs.Prelude.{◌⊎◌, ◌≡◌, ◌≤◌, ◌++◌, ◌∷◌, [], true, length, take, Some, IfNone, IfSome, IfOk, OnErr, OnOk, MatchBool, MatchResult, MatchOption};
+ghost use Rattle.std.specs.Bool.{OnFalse};
 ghost use Rattle.mx_types.specs.declared.call.Call.{Call};
 ghost use Rattle.mx_types.specs.declared.reply.Reply.{Reply};
 ghost use Rattle.mx_journal.specs.History.{has_ticket, running};
@@ -9,16 +10,16 @@ ghost use Rattle.mx_journal.specs.Replies.{IsGivenBack, is_back, handed_back, wo
 ghost use Rattle.mx_board.specs.Board.{AreOfOneJournal, OneBeginsOther};
 ghost use Rattle.mx_lock.specs.Engine.{EngineState};
 ghost use Rattle.mx_lock.specs.Ties.{AreOfAdditions, Has, Tells, tie, tie_added, tie_read};
-ghost use Rattle.mx_multi.specs.Seats.{Stands, Sees, FoundState, GivesBack, ClaimsLeast, ClaimsNothing, LeavesState, given_with};
+ghost use Rattle.mx_multi.specs.Seats.{IsAhead, Stands, Sees, FindsNoneReady, FindsOther, FoundState, GivesBack, ClaimsLeast, ClaimsNothing, LeavesState, given_with};
 
 use crate::seat::{Seat, SeatOf, WorkerSeat, note_given, note_receipt};
-use mx_board::{JournalMark, ProgressTable, are_of_one_journal};
+use mx_board::{BoardReader, JournalMark, ProgressTable, are_of_one_journal};
 use mx_journal::{
     AddReply, FinishReply, GiveBackReply, InfoReply, PauseReply, RemoveReply, WakeupReply,
 };
 use mx_lock::{
     Addition, Deed, Engine, Finishing, Lock, Pausing, Reading, Removal, TieMark, TiedClaim,
-    Unpausing, Waking,
+    Unpausing, Waking, lets_polls_return,
 };
 use mx_types::{AddedHandles, Call, Ending, HandleId, Look, Receipt, Reply, State, Ticket, Work};
 use std::marker::Model;
@@ -63,6 +64,17 @@ impl<Q: Work + Drop, O: Ending + Drop> Model for Multi<Q, O> {
     ghost view = { λ m. record { table = m.lock.table; keys = m.lock.keys; engine = record { book = m.start.book; opening = record { history = m.history }; ties = m.no_ties.book }; words = m.words.id; max_connects = m.max_connects } };
 }
 
+// Whether the journal begins with what a reader has seen, and has no event more of its maker.
+fn fits<Q: Work + Drop, O: Ending + Drop>(found: &Engine<Q, O>, reader: &BoardReader) -> bool
+    requires { reader.now.book ≡ found.now.book }
+    ensures { MatchBool result (IsAhead reader.now found.now.core.journal) (IsAhead reader.now found.now.core.journal → ⊥) }
+{
+    if !found.begins_with(reader) {
+        return false;
+    }
+    found.made(reader.who()) == reader.made()
+}
+
 impl<Q: Work + Drop, O: Ending + Drop> Multi<Q, O> {
     // Tells those that wait that they are to look again.
     fn tell<R: Wait>(&self, rt: &R) {
@@ -85,9 +97,11 @@ impl<Q: Work + Drop, O: Ending + Drop> Multi<Q, O> {
         ensures tells { IfOk result (λ r. Tells (D.tie deed r) seat.new.ties) }
         ensures left { IfOk result (λ r. LeavesState O.code_of O.size_of seat.old seat.new (D.reply r)) }
         ensures confirmed { OnOk result (seat.new.confirmed ≡ length seat.new.seen) }
+        ensures right { OnErr result (FindsOther O.code_of O.size_of seat.old) }
     {
-        let Some(taken) = self.lock.enter(rt, &mut seat.key, &seat.reader) else {
-            return Err(WrongSeat(deed));
+        let taken = match self.lock.enter(rt, &mut seat.key, &seat.reader) {
+            Ok(taken) => taken,
+            Err(_found) => return Err(WrongSeat(deed)),
         };
         let found = taken.engine();
         let _known = found.know();
@@ -99,10 +113,11 @@ impl<Q: Work + Drop, O: Ending + Drop> Multi<Q, O> {
         self.lock
             .leave(rt, &mut seat.key, taken, &mut seat.reader, &mut seat.ties);
         let cut = seat.reader.cut();
-        note_receipt(&mut seat.mine, cut, call, D::as_reply(&reply));
-        if D::wakes(&reply) {
+        let answer = D::as_reply(&reply);
+        if lets_polls_return(&answer) {
             self.tell(rt);
         }
+        note_receipt(&mut seat.mine, cut, call, answer);
         Ok(reply)
     }
 
@@ -121,6 +136,7 @@ impl<Q: Work + Drop, O: Ending + Drop> Multi<Q, O> {
         ensures tells { IfOk result (λ r. Tells (tie_added r (Q.origin work)) seat.new.ties) }
         ensures left { IfOk result (λ r. LeavesState O.code_of O.size_of seat.old seat.new (reply_of_add r)) }
         ensures confirmed { OnOk result (seat.new.confirmed ≡ length seat.new.seen) }
+        ensures right { OnErr result (FindsOther O.code_of O.size_of seat.old) }
     {
         match self.act(rt, seat, Addition { handle, work }) {
             Ok(reply) => Ok(reply),
@@ -139,6 +155,7 @@ impl<Q: Work + Drop, O: Ending + Drop> Multi<Q, O> {
         ensures stands { MatchResult result (λ r. Stands seat.old seat.new (Call.Remove handle) (reply_of_remove r)) (λ _. seat.new ≡ seat.old) }
         ensures left { IfOk result (λ r. LeavesState O.code_of O.size_of seat.old seat.new (reply_of_remove r)) }
         ensures confirmed { OnOk result (seat.new.confirmed ≡ length seat.new.seen) }
+        ensures right { OnErr result (FindsOther O.code_of O.size_of seat.old) }
     {
         match self.act(rt, seat, Removal(handle)) {
             Ok(reply) => Ok(reply),
@@ -157,6 +174,7 @@ impl<Q: Work + Drop, O: Ending + Drop> Multi<Q, O> {
         ensures stands { MatchResult result (λ r. Stands seat.old seat.new (Call.Pause handle) (reply_of_pause r)) (λ _. seat.new ≡ seat.old) }
         ensures left { IfOk result (λ r. LeavesState O.code_of O.size_of seat.old seat.new (reply_of_pause r)) }
         ensures confirmed { OnOk result (seat.new.confirmed ≡ length seat.new.seen) }
+        ensures right { OnErr result (FindsOther O.code_of O.size_of seat.old) }
     {
         match self.act(rt, seat, Pausing(handle)) {
             Ok(reply) => Ok(reply),
@@ -175,6 +193,7 @@ impl<Q: Work + Drop, O: Ending + Drop> Multi<Q, O> {
         ensures stands { MatchResult result (λ r. Stands seat.old seat.new (Call.Unpause handle) (reply_of_pause r)) (λ _. seat.new ≡ seat.old) }
         ensures left { IfOk result (λ r. LeavesState O.code_of O.size_of seat.old seat.new (reply_of_pause r)) }
         ensures confirmed { OnOk result (seat.new.confirmed ≡ length seat.new.seen) }
+        ensures right { OnErr result (FindsOther O.code_of O.size_of seat.old) }
     {
         match self.act(rt, seat, Unpausing(handle)) {
             Ok(reply) => Ok(reply),
@@ -194,6 +213,7 @@ impl<Q: Work + Drop, O: Ending + Drop> Multi<Q, O> {
         ensures tells { IfOk result (λ r. Tells (tie_read O.origin r) seat.new.ties) }
         ensures left { IfOk result (λ r. LeavesState O.code_of O.size_of seat.old seat.new (reply_of_info O.code_of O.size_of r)) }
         ensures confirmed { OnOk result (seat.new.confirmed ≡ length seat.new.seen) }
+        ensures right { OnErr result (FindsOther O.code_of O.size_of seat.old) }
     {
         match self.act(rt, seat, Reading) {
             Ok(reply) => Ok(reply),
@@ -211,6 +231,7 @@ impl<Q: Work + Drop, O: Ending + Drop> Multi<Q, O> {
         ensures stands { MatchResult result (λ r. Stands seat.old seat.new Call.Wakeup (reply_of_wakeup r)) (λ _. seat.new ≡ seat.old) }
         ensures left { IfOk result (λ r. LeavesState O.code_of O.size_of seat.old seat.new (reply_of_wakeup r)) }
         ensures confirmed { OnOk result (seat.new.confirmed ≡ length seat.new.seen) }
+        ensures right { OnErr result (FindsOther O.code_of O.size_of seat.old) }
     {
         match self.act(rt, seat, Waking) {
             Ok(reply) => Ok(reply),
@@ -233,6 +254,7 @@ impl<Q: Work + Drop, O: Ending + Drop> Multi<Q, O> {
         ensures back { IfOk result (λ r. IsHandedBack claim ending r) }
         ensures left { IfOk result (λ r. LeavesState O.code_of O.size_of seat.old seat.new (reply_of_finish r)) }
         ensures confirmed { OnOk result (seat.new.confirmed ≡ length seat.new.seen) }
+        ensures right { OnErr result (FindsOther O.code_of O.size_of seat.old) }
     {
         match self.act(rt, seat, Finishing { claim, ending }) {
             Ok(reply) => Ok(reply),
@@ -325,9 +347,11 @@ impl<Q: Work + Drop, O: Ending + Drop> Multi<Q, O> {
         ensures handle { IfSome result (λ r. handle_of r.0.ticket seat.new.seen ≡ Some r.0.handle) }
         ensures slot { IfSome result (λ r. slot_of r.0.ticket seat.new.seen ≡ Some r.0.slot) }
         ensures queue { MatchOption result ((seat.new ≡ seat.old) ⊎ ClaimsNothing O.code_of O.size_of seat.new) (λ r. ClaimsLeast O.code_of O.size_of seat.new r.0.ticket r.1) }
+        ensures right { IfNone result (FindsOther O.code_of O.size_of seat.old ⊎ ClaimsNothing O.code_of O.size_of seat.new) }
     {
-        let Some(mut taken) = self.lock.enter(rt, &mut seat.key, &seat.reader) else {
-            return None;
+        let mut taken = match self.lock.enter(rt, &mut seat.key, &seat.reader) {
+            Ok(taken) => taken,
+            Err(_found) => return None,
         };
         let found = taken.engine();
         let _known = found.know();
@@ -354,12 +378,14 @@ impl<Q: Work + Drop, O: Ending + Drop> Multi<Q, O> {
         requires own { seat.old.of ≡ self.now }
         ensures sees { MatchResult result (λ x. Sees seat.old seat.new) (λ _. seat.new ≡ seat.old) }
         ensures found { IfOk result (λ x. FoundState O.code_of O.size_of seat.new x.value) }
+        ensures right { OnErr result (FindsOther O.code_of O.size_of seat.old) }
         ensures tied { IfOk result (λ x. AreOfAdditions Q.origin O.origin x.value.core x.value.ties.entries) }
         ensures claims { seat.new.claims ≡ seat.old.claims }
         ensures given { seat.new.given ≡ seat.old.given }
     {
-        let Some(taken) = self.lock.enter(rt, &mut seat.key, &seat.reader) else {
-            return Err(WrongSeat(()));
+        let taken = match self.lock.enter(rt, &mut seat.key, &seat.reader) {
+            Ok(taken) => taken,
+            Err(_found) => return Err(WrongSeat(())),
         };
         let found = taken.engine();
         let known = found.know();
@@ -375,22 +401,22 @@ impl<Q: Work + Drop, O: Ending + Drop> Multi<Q, O> {
         ensures meets { MatchBool result (Sees one.old one.new × Sees two.old two.new × (one.new.seen ≡ two.new.seen)) ((one.new ≡ one.old) × (two.new ≡ two.old)) }
         ensures claims { (one.new.claims ≡ one.old.claims) × (two.new.claims ≡ two.old.claims) }
         ensures given { (one.new.given ≡ one.old.given) × (two.new.given ≡ two.old.given) }
+        ensures right { OnFalse result (FindsOther O.code_of O.size_of one.old ⊎ FindsOther O.code_of O.size_of two.old) }
     {
-        let Some(mut taken) = self.lock.enter(rt, &mut one.key, &one.reader) else {
-            return false;
+        let mut taken = match self.lock.enter(rt, &mut one.key, &one.reader) {
+            Ok(taken) => taken,
+            Err(_found) => return false,
         };
         let found = taken.engine();
-        if found.begins_with(&two.reader) {
-            let other = two.reader.who();
-            if found.made(other) == two.reader.made() {
-                let _cut = found.len();
-                taken.refresh(&mut two.reader);
-                taken.engine().tell(&mut two.ties);
-                self.lock
-                    .leave(rt, &mut one.key, taken, &mut one.reader, &mut one.ties);
-                return true;
-            }
+        if fits(found, &two.reader) {
+            let _cut = found.len();
+            taken.refresh(&mut two.reader);
+            taken.engine().tell(&mut two.ties);
+            self.lock
+                .leave(rt, &mut one.key, taken, &mut one.reader, &mut one.ties);
+            return true;
         }
+        let _known = found.know();
         self.lock.put_back(rt, &mut one.key, taken);
         false
     }
@@ -407,6 +433,7 @@ impl<Q: Work + Drop, O: Ending + Drop> Multi<Q, O> {
         ensures meets { MatchResult result (λ n. Sees one.old one.new × Sees two.old two.new × (one.new.seen ≡ two.new.seen) × (n ≡ length one.new.seen)) (λ _. (one.new ≡ one.old) × (two.new ≡ two.old)) }
         ensures claims { (one.new.claims ≡ one.old.claims) × (two.new.claims ≡ two.old.claims) }
         ensures given { (one.new.given ≡ one.old.given) × (two.new.given ≡ two.old.given) }
+        ensures right { OnErr result (FindsOther O.code_of O.size_of one.old ⊎ FindsOther O.code_of O.size_of two.old) }
     {
         let met = self.try_meet(rt, one, two);
         if met {
@@ -440,13 +467,16 @@ impl<Q: Work + Drop, O: Ending + Drop> Multi<Q, O> {
         }
     }
 
-    // Polls once. False, and nothing changes, where no event lets the poll return.
+    // Polls once. False, and nothing changes, where no event of a journal that begins with what the seat has seen lets it return.
     fn try_poll<R: Wait>(&self, rt: &R, seat: &mut Seat<Q, O>) -> Result<bool, WrongSeat<()>>
         requires own { seat.old.of ≡ self.now }
-        ensures { MatchResult result (λ woken. MatchBool woken (Stands seat.old seat.new Call.Poll Reply.Woken × (seat.new.confirmed ≡ length seat.new.seen)) (seat.new ≡ seat.old)) (λ _. seat.new ≡ seat.old) }
+        ensures polls { MatchResult result (λ woken. MatchBool woken (Stands seat.old seat.new Call.Poll Reply.Woken × (seat.new.confirmed ≡ length seat.new.seen)) (seat.new ≡ seat.old)) (λ _. seat.new ≡ seat.old) }
+        ensures asleep { IfOk result (λ woken. OnFalse woken (FindsNoneReady O.code_of O.size_of seat.old)) }
+        ensures right { OnErr result (FindsOther O.code_of O.size_of seat.old) }
     {
-        let Some(taken) = self.lock.enter(rt, &mut seat.key, &seat.reader) else {
-            return Err(WrongSeat(()));
+        let taken = match self.lock.enter(rt, &mut seat.key, &seat.reader) {
+            Ok(taken) => taken,
+            Err(_found) => return Err(WrongSeat(())),
         };
         let found = taken.engine();
         if found.is_ready(seat.polled) {
@@ -457,6 +487,7 @@ impl<Q: Work + Drop, O: Ending + Drop> Multi<Q, O> {
             note_receipt(&mut seat.mine, cut, Call::Poll, Reply::Woken);
             return Ok(true);
         }
+        let _known = found.know();
         self.lock.put_back(rt, &mut seat.key, taken);
         Ok(false)
     }
@@ -467,6 +498,7 @@ impl<Q: Work + Drop, O: Ending + Drop> Multi<Q, O> {
         requires own { seat.old.of ≡ self.now }
         ensures stands { MatchResult result (λ _. Stands seat.old seat.new Call.Poll Reply.Woken) (λ _. seat.new ≡ seat.old) }
         ensures confirmed { OnOk result (seat.new.confirmed ≡ length seat.new.seen) }
+        ensures right { OnErr result (FindsOther O.code_of O.size_of seat.old) }
     {
         for _ in rt.forever() {
             // The count is read before the journal: an event that comes after the look is told after the count was read,
@@ -499,9 +531,11 @@ impl<Q: Work + Drop, O: Ending + Drop> Multi<Q, O> {
         ensures queue { IfOk result (λ r. GivesBack O.code_of O.size_of seat.new claim.ticket work r) }
         ensures claims { seat.new.claims ≡ seat.old.claims }
         ensures given { IfOk result (λ r. seat.new.given ≡ given_with r claim.ticket seat.old.given) }
+        ensures right { OnErr result (FindsOther O.code_of O.size_of seat.old) }
     {
-        let Some(mut taken) = self.lock.enter(rt, &mut seat.key, &seat.reader) else {
-            return Err(WrongSeat((claim, work)));
+        let mut taken = match self.lock.enter(rt, &mut seat.key, &seat.reader) {
+            Ok(taken) => taken,
+            Err(_found) => return Err(WrongSeat((claim, work))),
         };
         let found = taken.engine();
         let _known = found.know();

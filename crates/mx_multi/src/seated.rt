@@ -1,5 +1,5 @@
 //! A seat that has its multi handle with it: what programs call.
-ghost use Rattle.std.specs.Prelude.{◌⊎◌, ◌≡◌, ◌++◌, ◌∷◌, [], true, length, take, Some, IfSome, IfOk, OnOk, MatchResult, MatchOption};
+ghost use Rattle.std.specs.Prelude.{◌⊎◌, ◌≡◌, ◌++◌, ◌∷◌, [], true, length, take, Some, IfNone, IfSome, IfOk, OnErr, OnOk, MatchResult, MatchOption};
 ghost use Rattle.mx_types.specs.declared.call.Call.{Call};
 ghost use Rattle.mx_types.specs.declared.reply.Reply.{Reply};
 ghost use Rattle.mx_journal.specs.History.{has_ticket, running};
@@ -9,7 +9,7 @@ ghost use Rattle.mx_journal.specs.Replies.{IsGivenBack, is_back, handed_back, wo
 ghost use Rattle.mx_lock.specs.Ties.{Has, Tells, tie, tie_added, tie_read};
 ghost use Rattle.mx_multi.specs.Laws.{RanScript};
 ghost use Rattle.mx_multi.specs.Progress.{IsProgress, noted_by};
-ghost use Rattle.mx_multi.specs.Seats.{HasReceipts, Stands, Sees, SeesVersion, GivesBack, ClaimsLeast, ClaimsNothing, LeavesState, given_with};
+ghost use Rattle.mx_multi.specs.Seats.{FindsOther, HasReceipts, Stands, Sees, SeesVersion, GivesBack, ClaimsLeast, ClaimsNothing, LeavesState, given_with};
 
 use crate::multi::{HandleList, Multi, WrongSeat};
 use crate::progress::Progress;
@@ -95,6 +95,7 @@ impl<'m, Q: Work + Drop, O: Ending + Drop> Seated<'m, Application, Q, O> {
         ensures tells { IfOk result (λ r. Tells (tie_added r (Q.origin work)) self.new.ties) }
         ensures left { IfOk result (λ r. LeavesState O.code_of O.size_of self.old self.new (reply_of_add r)) }
         ensures confirmed { OnOk result (self.new.confirmed ≡ length self.new.seen) }
+        ensures right { OnErr result (FindsOther O.code_of O.size_of self.old) }
     {
         self.multi.add(rt, &mut self.seat, handle, work)
     }
@@ -108,6 +109,7 @@ impl<'m, Q: Work + Drop, O: Ending + Drop> Seated<'m, Application, Q, O> {
         ensures stands { MatchResult result (λ r. Stands self.old self.new (Call.Remove handle) (reply_of_remove r)) (λ _. self.new ≡ self.old) }
         ensures left { IfOk result (λ r. LeavesState O.code_of O.size_of self.old self.new (reply_of_remove r)) }
         ensures confirmed { OnOk result (self.new.confirmed ≡ length self.new.seen) }
+        ensures right { OnErr result (FindsOther O.code_of O.size_of self.old) }
     {
         self.multi.remove(rt, &mut self.seat, handle)
     }
@@ -117,6 +119,7 @@ impl<'m, Q: Work + Drop, O: Ending + Drop> Seated<'m, Application, Q, O> {
         ensures stands { MatchResult result (λ r. Stands self.old self.new (Call.Pause handle) (reply_of_pause r)) (λ _. self.new ≡ self.old) }
         ensures left { IfOk result (λ r. LeavesState O.code_of O.size_of self.old self.new (reply_of_pause r)) }
         ensures confirmed { OnOk result (self.new.confirmed ≡ length self.new.seen) }
+        ensures right { OnErr result (FindsOther O.code_of O.size_of self.old) }
     {
         self.multi.pause(rt, &mut self.seat, handle)
     }
@@ -130,6 +133,7 @@ impl<'m, Q: Work + Drop, O: Ending + Drop> Seated<'m, Application, Q, O> {
         ensures stands { MatchResult result (λ r. Stands self.old self.new (Call.Unpause handle) (reply_of_pause r)) (λ _. self.new ≡ self.old) }
         ensures left { IfOk result (λ r. LeavesState O.code_of O.size_of self.old self.new (reply_of_pause r)) }
         ensures confirmed { OnOk result (self.new.confirmed ≡ length self.new.seen) }
+        ensures right { OnErr result (FindsOther O.code_of O.size_of self.old) }
     {
         self.multi.unpause(rt, &mut self.seat, handle)
     }
@@ -141,6 +145,7 @@ impl<'m, Q: Work + Drop, O: Ending + Drop> Seated<'m, Application, Q, O> {
         ensures tells { IfOk result (λ r. Tells (tie_read O.origin r) self.new.ties) }
         ensures left { IfOk result (λ r. LeavesState O.code_of O.size_of self.old self.new (reply_of_info O.code_of O.size_of r)) }
         ensures confirmed { OnOk result (self.new.confirmed ≡ length self.new.seen) }
+        ensures right { OnErr result (FindsOther O.code_of O.size_of self.old) }
     {
         self.multi.info_read(rt, &mut self.seat)
     }
@@ -150,6 +155,7 @@ impl<'m, Q: Work + Drop, O: Ending + Drop> Seated<'m, Application, Q, O> {
         ensures stands { MatchResult result (λ r. Stands self.old self.new Call.Wakeup (reply_of_wakeup r)) (λ _. self.new ≡ self.old) }
         ensures left { IfOk result (λ r. LeavesState O.code_of O.size_of self.old self.new (reply_of_wakeup r)) }
         ensures confirmed { OnOk result (self.new.confirmed ≡ length self.new.seen) }
+        ensures right { OnErr result (FindsOther O.code_of O.size_of self.old) }
     {
         self.multi.wakeup(rt, &mut self.seat)
     }
@@ -159,6 +165,7 @@ impl<'m, Q: Work + Drop, O: Ending + Drop> Seated<'m, Application, Q, O> {
     pub fn poll<R: Wait>(&mut self, rt: &R) -> Result<(), WrongSeat<()>>
         ensures stands { MatchResult result (λ _. Stands self.old self.new Call.Poll Reply.Woken) (λ _. self.new ≡ self.old) }
         ensures confirmed { OnOk result (self.new.confirmed ≡ length self.new.seen) }
+        ensures right { OnErr result (FindsOther O.code_of O.size_of self.old) }
     {
         self.multi.poll(rt, &mut self.seat)
     }
@@ -208,6 +215,7 @@ impl<'m, Q: Work + Drop, O: Ending + Drop> Seated<'m, Application, Q, O> {
         ensures meets { MatchResult result (λ n. Sees self.old self.new × Sees other.old other.new × (self.new.seen ≡ other.new.seen) × (n ≡ length self.new.seen)) (λ _. (self.new ≡ self.old) × (other.new ≡ other.old)) }
         ensures claims { (self.new.claims ≡ self.old.claims) × (other.new.claims ≡ other.old.claims) }
         ensures given { (self.new.given ≡ self.old.given) × (other.new.given ≡ other.old.given) }
+        ensures right { OnErr result (FindsOther O.code_of O.size_of self.old ⊎ FindsOther O.code_of O.size_of other.old) }
     {
         self.multi.meet(rt, &mut self.seat, &mut other.seat)
     }
@@ -259,6 +267,7 @@ impl<'m, Q: Work + Drop, O: Ending + Drop> Seated<'m, AtWork, Q, O> {
         ensures handle { IfSome result (λ r. handle_of r.0.ticket self.new.seen ≡ Some r.0.handle) }
         ensures slot { IfSome result (λ r. slot_of r.0.ticket self.new.seen ≡ Some r.0.slot) }
         ensures queue { MatchOption result ((self.new ≡ self.old) ⊎ ClaimsNothing O.code_of O.size_of self.new) (λ r. ClaimsLeast O.code_of O.size_of self.new r.0.ticket r.1) }
+        ensures right { IfNone result (FindsOther O.code_of O.size_of self.old ⊎ ClaimsNothing O.code_of O.size_of self.new) }
         ensures of { self.new.of ≡ self.old.of }
     {
         self.multi.claim(rt, &mut self.seat)
@@ -293,6 +302,7 @@ impl<'m, Q: Work + Drop, O: Ending + Drop> Seated<'m, AtWork, Q, O> {
         ensures back { IfOk result (λ r. IsHandedBack claim ending r) }
         ensures left { IfOk result (λ r. LeavesState O.code_of O.size_of self.old self.new (reply_of_finish r)) }
         ensures confirmed { OnOk result (self.new.confirmed ≡ length self.new.seen) }
+        ensures right { OnErr result (FindsOther O.code_of O.size_of self.old) }
     {
         self.multi.finish(rt, &mut self.seat, claim, ending)
     }
@@ -313,6 +323,7 @@ impl<'m, Q: Work + Drop, O: Ending + Drop> Seated<'m, AtWork, Q, O> {
         ensures queue { IfOk result (λ r. GivesBack O.code_of O.size_of self.new claim.ticket work r) }
         ensures claims { self.new.claims ≡ self.old.claims }
         ensures given { IfOk result (λ r. self.new.given ≡ given_with r claim.ticket self.old.given) }
+        ensures right { OnErr result (FindsOther O.code_of O.size_of self.old) }
     {
         self.multi.give_back(rt, &mut self.seat, claim, work)
     }

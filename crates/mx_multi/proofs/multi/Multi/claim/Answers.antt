@@ -10,18 +10,18 @@ use Rattle.mx_multi.proofs.Standing.{list_kept, seat_after, received_same, lock_
 use Rattle.mx_multi.proofs.Claiming.{claims_new}
 use Rattle.mx_multi.proofs.multi.Multi.claim.Goals as goal
 
-pub invariant_of-seat-in_default-claimed : goal.invariant_of-seat-in_default-claimed
-invariant_of-seat-in_default-claimed g c =
+pub invariant_of-seat-in_default : goal.invariant_of-seat-in_default
+invariant_of-seat-in_default g c =
     let k : IsKeyOf c.self.inside.lock c.leave.new.key = c.leave.ensures.kept in
-    let took = c.in-Some.ensures.entered.0 in
-    let x = c.in-Some.taken in
+    let took = c.in-Ok.ensures.entered.0 in
+    let x = c.in-Ok.taken in
     let y = c.claim-claimed.new.self in
     let j = c.claim-claimed.ensures.journal in
     let left : IsLeft x y = record { journal = j.0; opening = j.1; book = j.2; ties = ap (λ (z : TieState). z.book) c.claim-claimed.ensures.ties; legal = ap is_legal j.0 ∙ (legal_as _ _ c.engine-found.ensures c.len-cut.ensures.legal) } in (
       seat_after _ _ c.seat.inside.reader x c.seat.invariant.0 took _ _ y c.leave.ensures.gave c.leave.ensures.reader left.book,
       k.2,
       received_same _ _
-          (lock_sees _ _ c.seat.inside.reader x c.seat.invariant.0 took _ c.leave.new.reader y c.leave.ensures.gave c.leave.ensures.reader _ _ c.seat.inside.polled c.seat.inside.notes c.seat.inside.ties.entries c.leave.new.ties.entries c.seat.inside.mine c.seat.inside.given c.seat.inside.given c.leave.ensures.told.1 (same_of _ _ _ c.args.self.now c.args.seat.now c.requires.own c.self.view_is (ap (λ (s : SeatView g.row.Q.Denot g.row.O.Denot). s.of) c.seat.view_is) k.0 k.1 (engine_kept _ _ c.seat.inside.reader x c.seat.invariant.0 took _ y c.leave.ensures.gave) refl refl) c.in-Some.ensures.entered.1 left)
+          (lock_sees _ _ c.seat.inside.reader x c.seat.invariant.0 took _ c.leave.new.reader y c.leave.ensures.gave c.leave.ensures.reader _ _ c.seat.inside.polled c.seat.inside.notes c.seat.inside.ties.entries c.leave.new.ties.entries c.seat.inside.mine c.seat.inside.given c.seat.inside.given c.leave.ensures.told.1 (same_of _ _ _ c.args.self.now c.args.seat.now c.requires.own c.self.view_is (ap (λ (s : SeatView g.row.Q.Denot g.row.O.Denot). s.of) c.seat.view_is) k.0 k.1 (engine_kept _ _ c.seat.inside.reader x c.seat.invariant.0 took _ y c.leave.ensures.gave) refl refl) c.in-Ok.ensures.entered.1 left)
           c.seat.invariant.2,
       list_kept _ _ c.seat.inside.reader x c.seat.invariant.0 took _ y _ _ c.leave.ensures.gave c.leave.ensures.told.0 c.seat.invariant.3,
     )
@@ -29,45 +29,45 @@ invariant_of-seat-in_default-claimed g c =
 pub invariant_of-seat-2 : goal.invariant_of-seat-2
 invariant_of-seat-2 g c =
     let k : IsKeyOf c.self.inside.lock c.leave.new.key = c.leave.ensures.kept in
-    let took = c.in-Some.ensures.entered.0 in
-    let x = c.in-Some.taken in
+    let took = c.in-Ok.ensures.entered.0 in
+    let x = c.in-Ok.taken in
     let y = c.claim-claimed.new.self in
     let j = c.claim-claimed.ensures.journal in
     let left : IsLeft x y = record { journal = j.0; opening = j.1; book = j.2; ties = ap (λ (z : TieState). z.book) c.claim-claimed.ensures.ties; legal = ap is_legal j.0 ∙ (legal_as _ _ c.engine-found.ensures c.len-cut.ensures.legal) } in (
       seat_after _ _ c.seat.inside.reader x c.seat.invariant.0 took _ _ y c.leave.ensures.gave c.leave.ensures.reader left.book,
       k.2,
       received_same _ _
-          (lock_sees _ _ c.seat.inside.reader x c.seat.invariant.0 took _ c.leave.new.reader y c.leave.ensures.gave c.leave.ensures.reader _ _ c.seat.inside.polled c.seat.inside.notes c.seat.inside.ties.entries c.leave.new.ties.entries c.seat.inside.mine c.seat.inside.given c.seat.inside.given c.leave.ensures.told.1 (same_of _ _ _ c.args.self.now c.args.seat.now c.requires.own c.self.view_is (ap (λ (s : SeatView g.row.Q.Denot g.row.O.Denot). s.of) c.seat.view_is) k.0 k.1 (engine_kept _ _ c.seat.inside.reader x c.seat.invariant.0 took _ y c.leave.ensures.gave) refl refl) c.in-Some.ensures.entered.1 left)
+          (lock_sees _ _ c.seat.inside.reader x c.seat.invariant.0 took _ c.leave.new.reader y c.leave.ensures.gave c.leave.ensures.reader _ _ c.seat.inside.polled c.seat.inside.notes c.seat.inside.ties.entries c.leave.new.ties.entries c.seat.inside.mine c.seat.inside.given c.seat.inside.given c.leave.ensures.told.1 (same_of _ _ _ c.args.self.now c.args.seat.now c.requires.own c.self.view_is (ap (λ (s : SeatView g.row.Q.Denot g.row.O.Denot). s.of) c.seat.view_is) k.0 k.1 (engine_kept _ _ c.seat.inside.reader x c.seat.invariant.0 took _ y c.leave.ensures.gave) refl refl) c.in-Ok.ensures.entered.1 left)
           c.seat.invariant.2,
       list_kept _ _ c.seat.inside.reader x c.seat.invariant.0 took _ y _ _ c.leave.ensures.gave c.leave.ensures.told.0 c.seat.invariant.3,
     )
 
-pub returns-in_default-claimed-clause-sees : goal.returns-in_default-claimed-clause-sees
-returns-in_default-claimed-clause-sees g c =
+pub returns-in_default-clause-sees : goal.returns-in_default-clause-sees
+returns-in_default-clause-sees g c =
     let k : IsKeyOf c.self.inside.lock c.leave.new.key = c.leave.ensures.kept in
-    let took = c.in-Some.ensures.entered.0 in
-    let x = c.in-Some.taken in
+    let took = c.in-Ok.ensures.entered.0 in
+    let x = c.in-Ok.taken in
     let y = c.claim-claimed.new.self in
     let j = c.claim-claimed.ensures.journal in
     let left : IsLeft x y = record { journal = j.0; opening = j.1; book = j.2; ties = ap (λ (z : TieState). z.book) c.claim-claimed.ensures.ties; legal = ap is_legal j.0 ∙ (legal_as _ _ c.engine-found.ensures c.len-cut.ensures.legal) } in
     inr (sees_from _ _ _ c.seat.view_is
-    (lock_sees _ _ c.seat.inside.reader x c.seat.invariant.0 took _ c.leave.new.reader y c.leave.ensures.gave c.leave.ensures.reader _ _ c.seat.inside.polled c.seat.inside.notes c.seat.inside.ties.entries c.leave.new.ties.entries c.seat.inside.mine c.seat.inside.given c.seat.inside.given c.leave.ensures.told.1 (same_of _ _ _ c.args.self.now c.args.seat.now c.requires.own c.self.view_is (ap (λ (s : SeatView g.row.Q.Denot g.row.O.Denot). s.of) c.seat.view_is) k.0 k.1 (engine_kept _ _ c.seat.inside.reader x c.seat.invariant.0 took _ y c.leave.ensures.gave) refl refl) c.in-Some.ensures.entered.1 left))
+    (lock_sees _ _ c.seat.inside.reader x c.seat.invariant.0 took _ c.leave.new.reader y c.leave.ensures.gave c.leave.ensures.reader _ _ c.seat.inside.polled c.seat.inside.notes c.seat.inside.ties.entries c.leave.new.ties.entries c.seat.inside.mine c.seat.inside.given c.seat.inside.given c.leave.ensures.told.1 (same_of _ _ _ c.args.self.now c.args.seat.now c.requires.own c.self.view_is (ap (λ (s : SeatView g.row.Q.Denot g.row.O.Denot). s.of) c.seat.view_is) k.0 k.1 (engine_kept _ _ c.seat.inside.reader x c.seat.invariant.0 took _ y c.leave.ensures.gave) refl refl) c.in-Ok.ensures.entered.1 left))
 
 pub returns-clause-sees : goal.returns-clause-sees
 returns-clause-sees g c =
     let k : IsKeyOf c.self.inside.lock c.leave.new.key = c.leave.ensures.kept in
-    let took = c.in-Some.ensures.entered.0 in
-    let x = c.in-Some.taken in
+    let took = c.in-Ok.ensures.entered.0 in
+    let x = c.in-Ok.taken in
     let y = c.claim-claimed.new.self in
     let j = c.claim-claimed.ensures.journal in
     let left : IsLeft x y = record { journal = j.0; opening = j.1; book = j.2; ties = ap (λ (z : TieState). z.book) c.claim-claimed.ensures.ties; legal = ap is_legal j.0 ∙ (legal_as _ _ c.engine-found.ensures c.len-cut.ensures.legal) } in
     sees_from _ _ _ c.seat.view_is
-    (lock_sees _ _ c.seat.inside.reader x c.seat.invariant.0 took _ c.leave.new.reader y c.leave.ensures.gave c.leave.ensures.reader _ _ c.seat.inside.polled c.seat.inside.notes c.seat.inside.ties.entries c.leave.new.ties.entries c.seat.inside.mine c.seat.inside.given c.seat.inside.given c.leave.ensures.told.1 (same_of _ _ _ c.args.self.now c.args.seat.now c.requires.own c.self.view_is (ap (λ (s : SeatView g.row.Q.Denot g.row.O.Denot). s.of) c.seat.view_is) k.0 k.1 (engine_kept _ _ c.seat.inside.reader x c.seat.invariant.0 took _ y c.leave.ensures.gave) refl refl) c.in-Some.ensures.entered.1 left)
+    (lock_sees _ _ c.seat.inside.reader x c.seat.invariant.0 took _ c.leave.new.reader y c.leave.ensures.gave c.leave.ensures.reader _ _ c.seat.inside.polled c.seat.inside.notes c.seat.inside.ties.entries c.leave.new.ties.entries c.seat.inside.mine c.seat.inside.given c.seat.inside.given c.leave.ensures.told.1 (same_of _ _ _ c.args.self.now c.args.seat.now c.requires.own c.self.view_is (ap (λ (s : SeatView g.row.Q.Denot g.row.O.Denot). s.of) c.seat.view_is) k.0 k.1 (engine_kept _ _ c.seat.inside.reader x c.seat.invariant.0 took _ y c.leave.ensures.gave) refl refl) c.in-Ok.ensures.entered.1 left)
 
-pub returns-in_default-claimed-clause-claims : goal.returns-in_default-claimed-clause-claims
-returns-in_default-claimed-clause-claims g c =
-    let took = c.in-Some.ensures.entered.0 in
-    let x = c.in-Some.taken in
+pub returns-in_default-clause-claims : goal.returns-in_default-clause-claims
+returns-in_default-clause-claims g c =
+    let took = c.in-Ok.ensures.entered.0 in
+    let x = c.in-Ok.taken in
     let y = c.claim-claimed.new.self in
     let none : (x.core.queue ≡ []) × (y.core.queue ≡ []) = search rules in
     claims_after _ _ c.seat.inside.reader x c.seat.invariant.0 took _ _ y c.leave.ensures.gave c.leave.ensures.reader (none_claimed x.core.journal y.core.journal x.core.queue y.core.queue c.claim-claimed.ensures.journal.0 none.0 none.1)
@@ -75,18 +75,18 @@ returns-in_default-claimed-clause-claims g c =
 
 pub returns-clause-claims : goal.returns-clause-claims
 returns-clause-claims g c =
-    let took = c.in-Some.ensures.entered.0 in
-    let x = c.in-Some.taken in
+    let took = c.in-Ok.ensures.entered.0 in
+    let x = c.in-Ok.taken in
     let y = c.claim-claimed.new.self in
-    let r = c.in-Some-claimed.claimed in
+    let r = c.in-Some.claimed in
     claims_one _ _ c.seat.inside.reader x c.seat.invariant.0 took _ _ y c.leave.ensures.gave c.leave.ensures.reader r.0.ticket
-    (claims_new x.core.journal y.core.journal r.0.ticket r.1 x.core.queue y.core.queue (ap is_legal c.claim-claimed.ensures.journal.0 ∙ (legal_as _ _ c.engine-found.ensures c.len-cut.ensures.legal)) c.claim-claimed.ensures.journal.0 c.in-Some-claimed.ensures.some c.in-Some-claimed.ensures.claimed)
+    (claims_new x.core.journal y.core.journal r.0.ticket r.1 x.core.queue y.core.queue (ap is_legal c.claim-claimed.ensures.journal.0 ∙ (legal_as _ _ c.engine-found.ensures c.len-cut.ensures.legal)) c.claim-claimed.ensures.journal.0 c.in-Some.ensures.some c.in-Some.ensures.claimed)
     ∙ ap (λ (s : SeatView g.row.Q.Denot g.row.O.Denot). s.claims ++ r.0.ticket ∷ []) c.seat.view_is
 
-pub returns-in_default-claimed-clause-queue : goal.returns-in_default-claimed-clause-queue
-returns-in_default-claimed-clause-queue g c =
-    let took = c.in-Some.ensures.entered.0 in
-    let x = c.in-Some.taken in
+pub returns-in_default-clause-queue : goal.returns-in_default-clause-queue
+returns-in_default-clause-queue g c =
+    let took = c.in-Ok.ensures.entered.0 in
+    let x = c.in-Ok.taken in
     let y = c.claim-claimed.new.self in
     let none : (x.core.queue ≡ []) × (y.core.queue ≡ []) = search rules in
     inr
@@ -98,33 +98,33 @@ returns-in_default-claimed-clause-queue g c =
 
 pub returns-clause-queue : goal.returns-clause-queue
 returns-clause-queue g c =
-    let took = c.in-Some.ensures.entered.0 in
-    let x = c.in-Some.taken in
+    let took = c.in-Ok.ensures.entered.0 in
+    let x = c.in-Ok.taken in
     let y = c.claim-claimed.new.self in
     let j = c.claim-claimed.ensures.journal in
     record {
       found = x;
       is = found_state _ _ c.seat.inside.reader x c.seat.invariant.0 took g.O.Ending.code_of g.O.Ending.size_of _ x refl (ap (λ (t : ReaderState). t.seen) c.leave.ensures.reader ∙ c.claim-claimed.ensures.journal.0) (engine_kept _ _ c.seat.inside.reader x c.seat.invariant.0 took _ y c.leave.ensures.gave) (locked_as _ _ _ _ c.engine-found.ensures c.know-known.ensures.locked);
-      least = c.in-Some-claimed.ensures.least;
+      least = c.in-Some.ensures.least;
       after = y;
       left = found_left _ _ c.seat.inside.reader x c.seat.invariant.0 took g.O.Ending.code_of g.O.Ending.size_of _ y j.2 j.1 (ap (λ (z : TieState). z.book) c.claim-claimed.ensures.ties) (sym (ap (λ (t : ReaderState). t.seen) c.leave.ensures.reader))
           (engine_kept _ _ c.seat.inside.reader x c.seat.invariant.0 took _ y c.leave.ensures.gave) (locked_as _ _ _ _ c.engine-left.ensures c.know-left.ensures.locked);
-      first = c.in-Some-claimed.ensures.some;
-      claimed = c.in-Some-claimed.ensures.claimed;
+      first = c.in-Some.ensures.some;
+      claimed = c.in-Some.ensures.claimed;
       endings = c.claim-claimed.ensures.endings;
     }
 
 pub returns-clause-request : goal.returns-clause-request
-returns-clause-request g c = has_more _ _ _ _ c.leave.ensures.told.2 c.in-Some-claimed.ensures.request
+returns-clause-request g c = has_more _ _ _ _ c.leave.ensures.told.2 c.in-Some.ensures.request
 
 pub returns-clause-own : goal.returns-clause-own
 returns-clause-own g c =
-    let took = c.in-Some.ensures.entered.0 in
-    c.in-Some-claimed.ensures.own ∙ ap (λ (z : TieState). z.book) c.claim-claimed.ensures.ties
-    ∙ list_of _ _ c.seat.inside.reader c.in-Some.taken c.seat.invariant.0 took c.args.self.now (ap (λ (s : SeatView g.row.Q.Denot g.row.O.Denot). s.of.engine) c.seat.view_is ∙ ap (λ (m : MultiView g.row.Q.Denot g.row.O.Denot). m.engine) c.requires.own)
+    let took = c.in-Ok.ensures.entered.0 in
+    c.in-Some.ensures.own ∙ ap (λ (z : TieState). z.book) c.claim-claimed.ensures.ties
+    ∙ list_of _ _ c.seat.inside.reader c.in-Ok.taken c.seat.invariant.0 took c.args.self.now (ap (λ (s : SeatView g.row.Q.Denot g.row.O.Denot). s.of.engine) c.seat.view_is ∙ ap (λ (m : MultiView g.row.Q.Denot g.row.O.Denot). m.engine) c.requires.own)
 
-pub returns-in_default-claimed-clause-given : goal.returns-in_default-claimed-clause-given
-returns-in_default-claimed-clause-given g c = ap (λ (s : SeatView g.row.Q.Denot g.row.O.Denot). s.given) c.seat.view_is
+pub returns-in_default-clause-given : goal.returns-in_default-clause-given
+returns-in_default-clause-given g c = ap (λ (s : SeatView g.row.Q.Denot g.row.O.Denot). s.given) c.seat.view_is
 
 pub returns-clause-given : goal.returns-clause-given
 returns-clause-given g c = ap (λ (s : SeatView g.row.Q.Denot g.row.O.Denot). s.given) c.seat.view_is

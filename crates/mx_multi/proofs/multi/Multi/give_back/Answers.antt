@@ -11,15 +11,15 @@ use Rattle.mx_multi.proofs.multi.Multi.give_back.Goals as goal
 pub invariant_of-seat-2 : goal.invariant_of-seat-2
 invariant_of-seat-2 g c =
     let k : IsKeyOf c.self.inside.lock c.leave.new.key = c.leave.ensures.kept in
-    let took = c.in-Some.ensures.entered.0 in
-    let x = c.in-Some.taken in
+    let took = c.in-Ok.ensures.entered.0 in
+    let x = c.in-Ok.taken in
     let y = c.give_back-reply.new.self in
     let j = c.give_back-reply.ensures.journal in
     let left : IsLeft x y = record { journal = j.0; opening = j.1; book = j.2; ties = ap (λ (z : TieState). z.book) c.give_back-reply.ensures.ties; legal = ap is_legal j.0 ∙ (legal_as _ _ c.engine-found.ensures c.len-cut.ensures.legal) } in (
       seat_after _ _ c.seat.inside.reader x c.seat.invariant.0 took _ _ y c.leave.ensures.gave c.leave.ensures.reader left.book,
       k.2,
       received_same _ _
-          (lock_sees _ _ c.seat.inside.reader x c.seat.invariant.0 took _ c.leave.new.reader y c.leave.ensures.gave c.leave.ensures.reader _ _ c.seat.inside.polled c.seat.inside.notes c.seat.inside.ties.entries c.leave.new.ties.entries c.seat.inside.mine c.seat.inside.given c.note_given.new.given c.leave.ensures.told.1 (same_of _ _ _ c.args.self.now c.args.seat.now c.requires.own c.self.view_is (ap (λ (s : SeatView g.row.Q.Denot g.row.O.Denot). s.of) c.seat.view_is) k.0 k.1 (engine_kept _ _ c.seat.inside.reader x c.seat.invariant.0 took _ y c.leave.ensures.gave) refl refl) c.in-Some.ensures.entered.1 left)
+          (lock_sees _ _ c.seat.inside.reader x c.seat.invariant.0 took _ c.leave.new.reader y c.leave.ensures.gave c.leave.ensures.reader _ _ c.seat.inside.polled c.seat.inside.notes c.seat.inside.ties.entries c.leave.new.ties.entries c.seat.inside.mine c.seat.inside.given c.note_given.new.given c.leave.ensures.told.1 (same_of _ _ _ c.args.self.now c.args.seat.now c.requires.own c.self.view_is (ap (λ (s : SeatView g.row.Q.Denot g.row.O.Denot). s.of) c.seat.view_is) k.0 k.1 (engine_kept _ _ c.seat.inside.reader x c.seat.invariant.0 took _ y c.leave.ensures.gave) refl refl) c.in-Ok.ensures.entered.1 left)
           c.seat.invariant.2,
       list_kept _ _ c.seat.inside.reader x c.seat.invariant.0 took _ y _ _ c.leave.ensures.gave c.leave.ensures.told.0 c.seat.invariant.3,
     )
@@ -27,21 +27,21 @@ invariant_of-seat-2 g c =
 pub returns-clause-sees : goal.returns-clause-sees
 returns-clause-sees g c =
     let k : IsKeyOf c.self.inside.lock c.leave.new.key = c.leave.ensures.kept in
-    let took = c.in-Some.ensures.entered.0 in
-    let x = c.in-Some.taken in
+    let took = c.in-Ok.ensures.entered.0 in
+    let x = c.in-Ok.taken in
     let y = c.give_back-reply.new.self in
     let j = c.give_back-reply.ensures.journal in
     let left : IsLeft x y = record { journal = j.0; opening = j.1; book = j.2; ties = ap (λ (z : TieState). z.book) c.give_back-reply.ensures.ties; legal = ap is_legal j.0 ∙ (legal_as _ _ c.engine-found.ensures c.len-cut.ensures.legal) } in
     sees_from _ _ _ c.seat.view_is
-    (lock_sees _ _ c.seat.inside.reader x c.seat.invariant.0 took _ c.leave.new.reader y c.leave.ensures.gave c.leave.ensures.reader _ _ c.seat.inside.polled c.seat.inside.notes c.seat.inside.ties.entries c.leave.new.ties.entries c.seat.inside.mine c.seat.inside.given c.note_given.new.given c.leave.ensures.told.1 (same_of _ _ _ c.args.self.now c.args.seat.now c.requires.own c.self.view_is (ap (λ (s : SeatView g.row.Q.Denot g.row.O.Denot). s.of) c.seat.view_is) k.0 k.1 (engine_kept _ _ c.seat.inside.reader x c.seat.invariant.0 took _ y c.leave.ensures.gave) refl refl) c.in-Some.ensures.entered.1 left)
+    (lock_sees _ _ c.seat.inside.reader x c.seat.invariant.0 took _ c.leave.new.reader y c.leave.ensures.gave c.leave.ensures.reader _ _ c.seat.inside.polled c.seat.inside.notes c.seat.inside.ties.entries c.leave.new.ties.entries c.seat.inside.mine c.seat.inside.given c.note_given.new.given c.leave.ensures.told.1 (same_of _ _ _ c.args.self.now c.args.seat.now c.requires.own c.self.view_is (ap (λ (s : SeatView g.row.Q.Denot g.row.O.Denot). s.of) c.seat.view_is) k.0 k.1 (engine_kept _ _ c.seat.inside.reader x c.seat.invariant.0 took _ y c.leave.ensures.gave) refl refl) c.in-Ok.ensures.entered.1 left)
 
 pub returns-clause-runs : goal.returns-clause-runs
 returns-clause-runs g c = λ back. ap (λ (t : ReaderState). has_ticket c.args.claim.ticket (running t.seen)) c.leave.ensures.reader ∙ ap (λ l. has_ticket c.args.claim.ticket (running l)) c.give_back-reply.ensures.journal.0 ∙ c.give_back-reply.ensures.runs back
 
 pub returns-clause-queue : goal.returns-clause-queue
 returns-clause-queue g c =
-    let took = c.in-Some.ensures.entered.0 in
-    let x = c.in-Some.taken in
+    let took = c.in-Ok.ensures.entered.0 in
+    let x = c.in-Ok.taken in
     let y = c.give_back-reply.new.self in
     let seen = ap (λ (t : ReaderState). t.seen) c.leave.ensures.reader in
     let same = c.give_back-reply.ensures.journal in
@@ -58,15 +58,15 @@ returns-clause-queue g c =
 
 pub returns-clause-claims : goal.returns-clause-claims
 returns-clause-claims g c =
-    let took = c.in-Some.ensures.entered.0 in
-    let x = c.in-Some.taken in
+    let took = c.in-Ok.ensures.entered.0 in
+    let x = c.in-Ok.taken in
     let y = c.give_back-reply.new.self in
     claims_after _ _ c.seat.inside.reader x c.seat.invariant.0 took _ _ y c.leave.ensures.gave c.leave.ensures.reader c.give_back-reply.ensures.claims ∙ ap (λ (s : SeatView g.row.Q.Denot g.row.O.Denot). s.claims) c.seat.view_is
 
 pub give_back-reply-requires-clause-own : goal.give_back-reply-requires-clause-own
 give_back-reply-requires-clause-own g c =
     c.requires.claim
-    ∙ sym (list_of _ _ c.seat.inside.reader c.in-Some.taken c.seat.invariant.0 c.in-Some.ensures.entered.0 c.args.self.now (ap (λ (s : SeatView g.row.Q.Denot g.row.O.Denot). s.of.engine) c.seat.view_is ∙ ap (λ (m : MultiView g.row.Q.Denot g.row.O.Denot). m.engine) c.requires.own))
+    ∙ sym (list_of _ _ c.seat.inside.reader c.in-Ok.taken c.seat.invariant.0 c.in-Ok.ensures.entered.0 c.args.self.now (ap (λ (s : SeatView g.row.Q.Denot g.row.O.Denot). s.of.engine) c.seat.view_is ∙ ap (λ (m : MultiView g.row.Q.Denot g.row.O.Denot). m.engine) c.requires.own))
 
 pub returns-clause-given : goal.returns-clause-given
 returns-clause-given g c =
