@@ -10,6 +10,7 @@ ghost use Rattle.mx_lock.specs.Engine.{IsLocked};
 ghost use Rattle.mx_lock.specs.Ties.{AreOfAdditions, IsTied};
 ghost use Rattle.mx_types.specs.Limits.{IsHistory};
 
+use crate::deeds::Parts;
 use crate::ties::{TieLog, TieMark};
 use mx_board::{BoardReader, BoardWriter, JournalMark, board};
 use mx_journal::{Control, Table};
@@ -62,21 +63,16 @@ impl<Q: Work + Drop, O: Ending + Drop> Engine<Q, O> {
     }
 
     // Publishes what a call has left.
-    pub(crate) fn publish<R: Wait>(
-        rt: &R,
-        control: Control<Q, O>,
-        board: BoardWriter,
-        ties: TieLog,
-    ) -> Engine<Q, O>
-        requires { (board.events ≡ control.journal) × IsTied O.origin control ties.entries }
-        ensures is { result ≡ record { core = control; published = control.journal; book = board.book; ties = ties } }
+    pub(crate) fn publish<R: Wait>(rt: &R, parts: Parts<Q, O>) -> Engine<Q, O>
+        requires { (parts.log.events ≡ parts.core.journal) × IsTied O.origin parts.core parts.ties.entries }
+        ensures is { result ≡ record { core = parts.core; published = parts.core.journal; book = parts.log.book; ties = parts.ties } }
         ensures legal { is_legal result.core.journal ≡ true }
     {
-        control.sound();
+        parts.core.sound();
         Engine {
-            board: board.publish(rt),
-            control,
-            ties,
+            board: parts.log.publish(rt),
+            control: parts.core,
+            ties: parts.ties,
         }
     }
 

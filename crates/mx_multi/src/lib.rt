@@ -25,6 +25,7 @@ mod open;
 mod progress;
 mod seat;
 mod seated;
+mod surface;
 
 pub use crate::laws::run_two;
 pub use crate::multi::{HandleList, Multi, WrongSeat};

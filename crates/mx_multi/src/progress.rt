@@ -1,13 +1,9 @@
 //! How far transfers are: words that workers note and seats read, without a lock.
-ghost use Rattle.std.specs.Prelude.{◌≡◌, if◌then◌else◌, nat_lt, MatchOption};
-ghost use Rattle.mx_multi.specs.Seats.{SeesVersion};
-ghost use Rattle.mx_multi.specs.Progress.{IsProgress, ProgressNeverFalls, SaysWord, noted_by, progress_of};
+ghost use Rattle.std.specs.Prelude.{◌≡◌, if◌then◌else◌, nat_lt};
+ghost use Rattle.mx_multi.specs.Progress.{ProgressNeverFalls, SaysWord, progress_of};
 
-use crate::multi::Multi;
-use crate::seat::{Seat, WorkerSeat};
 use mx_board::{Found, NoteSeat, ProgressTable};
-use mx_lock::TiedClaim;
-use mx_types::{Ending, HandleId, Ticket, Work};
+use mx_types::Ticket;
 
 /// How far a handle's transfer is.
 #[derive(Clone, Copy, Debug, PartialEq, Eq)]
@@ -21,7 +17,7 @@ pub enum Progress {
 }
 
 // What the word of an addition's slot says of it.
-fn read_word(words: &ProgressTable, notes: &mut NoteSeat, found: Found) -> Progress
+pub(crate) fn read_word(words: &ProgressTable, notes: &mut NoteSeat, found: Found) -> Progress
     requires { notes.old.of ≡ words.now.id }
     ensures { SaysWord found.ticket found.slot notes.old notes.new result }
 {
@@ -54,31 +50,3 @@ fn progress_by_another(ticket: Ticket, noted: Ticket) -> Progress
 pub fn progress_never_falls()
     ensures { ProgressNeverFalls }
 {}
-
-impl<Q: Work + Drop, O: Ending + Drop> Multi<Q, O> {
-    /// How far a handle's transfer is, by the version that was published last and the word of its slot, which is no less
-    /// than any that the seat has read there. It takes no lock and no memory. None, and nothing changes, where there is no
-    /// version to be had.
-    pub fn progress(&self, seat: &mut Seat<Q, O>, handle: HandleId) -> Option<Progress>
-        requires own { seat.old.of ≡ self.now }
-        ensures { MatchOption result (seat.new ≡ seat.old) (λ p. SeesVersion seat.old seat.new × IsProgress handle seat.new.seen seat.old.words seat.new.words p) }
-    {
-        let Some(found) = seat.reader.find(handle) else {
-            return None;
-        };
-        let Some(found) = found else {
-            return Some(Progress::NotAdded);
-        };
-        Some(read_word(&self.words, &mut seat.notes, found))
-    }
-
-    /// Notes that a claimed transfer has received so many bytes of its response. Where a greater word was noted for its slot,
-    /// of a newer ticket or a greater count, that stays. It takes no lock and no memory.
-    pub fn note(&self, seat: &mut WorkerSeat<Q, O>, claim: &TiedClaim<Q>, count: u32)
-        requires own { seat.old.of ≡ self.now }
-        ensures { seat.new ≡ noted_by seat.old claim.now.slot claim.now.ticket count }
-    {
-        self.words
-            .note(&mut seat.notes, claim.slot(), claim.ticket(), count)
-    }
-}

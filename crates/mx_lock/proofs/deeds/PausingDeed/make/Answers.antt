@@ -1,12 +1,25 @@
-use Rattle.std.proofs.Common.{refl}
+use Rattle.std.proofs.Common.{refl, subst, sym, Bool}
 use Rattle.mx_types.specs.declared.call.Call.TheVariants as call
-use Rattle.mx_journal.specs.Replies.{reply_of_pause}
+use Rattle.mx_journal.specs.Replies.{pausing_call, reply_of_pause}
+use Rattle.mx_lock.specs.Engine.{Makes}
 use Rattle.mx_lock.proofs.Leaving.{makes_same}
 use Rattle.mx_lock.proofs.Tying.{tied_same}
 use Rattle.mx_lock.proofs.deeds.PausingDeed.make.Goals as goal
 
+pub returns-then-self-clause-makes : goal.returns-then-self-clause-makes
+returns-then-self-clause-makes g c =
+    let e = c.pause.ensures in
+    let x = c.args.parts.now in
+    let ties = x.ties in
+    let reply = reply_of_pause c.pause.result in
+    subst (λ (b : Bool). Makes g.O.Ending.origin c.args.who (pausing_call b c.args.self.handle) x.core c.pause.new.self x.log c.pause.new.log ties ties reply) (sym c.if-self.true)
+    (makes_same g.O.Ending.origin _ (call.Pause c.args.self.handle) _ _ _ _ ties reply e.called refl e.queue (tied_same g.O.Ending.origin _ _ ties.entries c.requires.tied e.origins e.endings))
+
 pub returns-clause-makes : goal.returns-clause-makes
 returns-clause-makes g c =
-    let e = c.pause.ensures in
-    makes_same g.O.Ending.origin _ (call.Pause c.args.self.0) _ _ _ _ _ (reply_of_pause c.pause.result) e.called refl e.queue
-    (tied_same g.O.Ending.origin _ _ c.args._ties.now.entries c.requires.tied e.origins e.endings)
+    let e = c.unpause.ensures in
+    let x = c.args.parts.now in
+    let ties = x.ties in
+    let reply = reply_of_pause c.unpause.result in
+    subst (λ (b : Bool). Makes g.O.Ending.origin c.args.who (pausing_call b c.args.self.handle) x.core c.unpause.new.self x.log c.unpause.new.log ties ties reply) (sym c.if-self.false)
+    (makes_same g.O.Ending.origin _ (call.Unpause c.args.self.handle) _ _ _ _ ties reply e.called refl e.queue (tied_same g.O.Ending.origin _ _ ties.entries c.requires.tied e.origins e.endings))
