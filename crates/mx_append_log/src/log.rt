@@ -100,8 +100,8 @@ impl<T> AppendLog<T> {
         true
     }
 
-    /// Puts an entry behind the others. It would wait for ever where the list had more entries than were seen here; none are put in
-    /// elsewhere.
+    /// Puts an entry behind the others. It would wait for ever where the list had more entries than were seen here, or as many as it can
+    /// have; none are put in elsewhere.
     pub fn add<X, M: Plain<X, T, u64>, R: Wait>(&mut self, rt: &R, about: &X)
         requires { M.state about.now ≡ None }
         ensures book { self.new.book ≡ self.old.book }
