@@ -1,18 +1,66 @@
 -- One answer more of a link that isn't asked again before something new was told of it.
-use Rattle.std.proofs.Common.{◌≡◌, ℕ, ◌+◌, Bool, true, false, List, [], ◌∷◌, ◌++◌, refl, ap, sym, ◌∙◌, cond, append-nil, inl, inr, arith}
+use Rattle.std.proofs.Common.{◌≡◌, ℕ, ◌+◌, Bool, true, false, List, [], ◌∷◌, ◌++◌, length, refl, ap, sym, ◌∙◌, cond, append-nil, length-append, inl, inr, arith}
 use Rattle.std.specs.Prelude.{count_by, if◌then◌else◌}
 use Rattle.std.proofs.lemmas.List.Elements.{filter-append}
 use Rattle.std.proofs.lemmas.List.Sums.{sum_by-append, sum_by-cons}
-use Rattle.mx_link.specs.Answers.{given, taken, faults, is_fault, is_blocked}
+use Rattle.mx_link.specs.Answers.{given, taken, faults, is_fault, is_blocked, is_read}
+use Rattle.mx_link.specs.Calls.{connect_answer, read_answer, write_answer}
+use Rattle.mx_link.specs.declared.answers.Connect.{Connect}
+use Rattle.mx_link.specs.declared.answers.Connect.TheVariants as connect
+use Rattle.mx_link.specs.declared.answers.Read.{Read}
+use Rattle.mx_link.specs.declared.answers.Read.TheVariants as read
+use Rattle.mx_link.specs.declared.answers.Write.{Write}
+use Rattle.mx_link.specs.declared.answers.Write.TheVariants as write
 use Rattle.mx_link.specs.declared.answers.Answer.{Answer}
 use Rattle.mx_link.specs.declared.answers.Answer.TheVariants as answers
-use Rattle.mx_gate.specs.Ready.{telling, is_told, waits, WaitsTellNothing}
+use Rattle.mx_gate.specs.Ready.{telling, is_told, waits, is_short, drained, WaitsTellNothing}
 
 -- the last answer of a kind
 pub waits_last : (kind : Answer → Bool) (so : Bool) (xs : List Answer) (a : Answer)
     → waits kind so (xs ++ a ∷ []) ≡ (if kind a then is_blocked a else waits kind so xs)
 waits_last kind so [] a = refl
 waits_last kind so (x ∷ xs) a = waits_last kind (if kind x then is_blocked x else so) xs a
+
+-- one call more
+pub calls_more : (xs : List Answer) (ns : List ℕ) (a : Answer) (n : ℕ) → length xs ≡ length ns → length (xs ++ a ∷ []) ≡ length (ns ++ n ∷ [])
+calls_more xs ns a n same = grind (arith, length-append, same)
+
+drained_last : (so : Bool) (xs : List Answer) (ns : List ℕ) (a : Answer) (n : ℕ) → length xs ≡ length ns
+    → drained so (xs ++ a ∷ []) (ns ++ n ∷ []) ≡ (if is_read a then is_short a n else drained so xs ns)
+drained_last so [] [] a n same = refl
+drained_last so [] (m ∷ ns) a n same = absurd (omega (arith, same))
+drained_last so (x ∷ xs) [] a n same = absurd (omega (arith, same))
+drained_last so (x ∷ xs) (m ∷ ns) a n same = drained_last (if is_read x then is_short x m else so) xs ns a n (omega (arith, same))
+
+reads : (r : Read) (b : List ℕ) → is_read (read_answer r b) ≡ true
+reads (read.Bytes n) b = refl
+reads read.WouldBlock b = refl
+reads read.End b = refl
+reads read.Fault b = refl
+
+connects : (c : Connect) → is_read (connect_answer c) ≡ false
+connects connect.Done = refl
+connects connect.WouldBlock = refl
+connects connect.Fault = refl
+
+writes : (w : Write) (b : List ℕ) → is_read (write_answer w b) ≡ false
+writes (write.Bytes n) b = refl
+writes write.WouldBlock b = refl
+writes write.Fault b = refl
+
+-- after a short read
+pub drained_by_read : (xs : List Answer) (ns : List ℕ) (r : Read) (b : List ℕ) → length xs ≡ length ns → is_short (read_answer r b) (length b) ≡ true
+    → drained false (xs ++ read_answer r b ∷ []) (ns ++ length b ∷ []) ≡ true
+drained_by_read xs ns r b same short = let is = reads r b in drained_last false xs ns (read_answer r b) (length b) same ∙ rw is short
+
+-- and after another call than a read
+pub drained_past_connect : (xs : List Answer) (ns : List ℕ) (c : Connect) (n : ℕ) → length xs ≡ length ns → drained false xs ns ≡ true
+    → drained false (xs ++ connect_answer c ∷ []) (ns ++ n ∷ []) ≡ true
+drained_past_connect xs ns c n same so = let is = connects c in drained_last false xs ns (connect_answer c) n same ∙ rw is so
+
+pub drained_past_write : (xs : List Answer) (ns : List ℕ) (w : Write) (b : List ℕ) (n : ℕ) → length xs ≡ length ns → drained false xs ns ≡ true
+    → drained false (xs ++ write_answer w b ∷ []) (ns ++ n ∷ []) ≡ true
+drained_past_write xs ns w b n same so = let is = writes w b in drained_last false xs ns (write_answer w b) n same ∙ rw is so
 
 -- an answer of both
 pub telling_both : (xs ys : List Answer) (a : Answer) → telling xs ≡ telling ys → telling (xs ++ a ∷ []) ≡ telling (ys ++ a ∷ [])

@@ -1,5 +1,6 @@
 //! A link that isn't asked again before something new was told of it.
-ghost use Rattle.std.specs.Prelude.{◌≡◌, ◌<◌, ◌≤◌, ◌-◌, ◌^◌, true, false, [], ◌∷◌, ◌++◌, length, min};
+ghost use Rattle.std.specs.Prelude.{◌≡◌, ◌<◌, ◌≤◌, ◌-◌, ◌^◌, true, false, not, ◌||◌, ◌&&◌, nat_lt, IsTrue, [], ◌∷◌, ◌++◌, length, min};
+ghost use Rattle.mx_gate.specs.Ready.{is_short};
 ghost use Rattle.mx_link.specs.Calls.{connect_answer, read_answer, write_answer, IsReadWithin, IsWriteWithin};
 
 use crate::signals::Signals;
@@ -9,7 +10,9 @@ use std::marker::Model;
 use std::sync::Arc;
 
 /// A link whose readiness a gate is told. Where it answered that a call would have waited, the same call isn't made again
-/// before the gate was told something new: it answers so at once.
+/// before the gate was told something new: it answers so at once. Nor is a read of more than one byte made after one that
+/// gave fewer bytes than it was asked for, and so left none (epoll(7)), unless the gate was told that the other side sends
+/// no more.
 #[derive(Drop)]
 pub struct ReadyLink<L: Link> {
     link: L,
@@ -20,14 +23,18 @@ pub struct ReadyLink<L: Link> {
     waits_to_connect: bool,
     waits_to_read: bool,
     waits_to_write: bool,
+    // Whether its last read left nothing, and no end was told.
+    is_drained: bool,
+    // How many ends had been told when it was made.
+    ends_before: u64,
     history: History<Answer>,
     asked: History<usize>,
 }
 
 impl<L: Link> Model for ReadyLink<L> {
-    ghost use Rattle.std.specs.Prelude.{◌≡◌, true, false};
+    ghost use Rattle.std.specs.Prelude.{◌≡◌, true, false, length};
     ghost use Rattle.mx_link.specs.Answers.{is_connect, faults, is_read, is_write};
-    ghost use Rattle.mx_gate.specs.Ready.{ReadyState, telling, waits};
+    ghost use Rattle.mx_gate.specs.Ready.{ReadyState, telling, waits, drained};
 
     ghost Value = { ReadyState L };
 
@@ -38,6 +45,7 @@ impl<L: Link> Model for ReadyLink<L> {
       waits_to_connect = l.waits_to_connect;
       waits_to_read = l.waits_to_read;
       waits_to_write = l.waits_to_write;
+      is_drained = l.is_drained;
     } };
 
     ghost invariant = { λ l. record {
@@ -46,13 +54,28 @@ impl<L: Link> Model for ReadyLink<L> {
       connects : l.waits_to_connect ≡ true → waits is_connect false (L.history l.link) ≡ true;
       reads : l.waits_to_read ≡ true → waits is_read false (L.history l.link) ≡ true;
       writes : l.waits_to_write ≡ true → waits is_write false (L.history l.link) ≡ true;
+      calls : length (L.history l.link) ≡ length (L.asked l.link);
+      drains : l.is_drained ≡ true → drained false (L.history l.link) (L.asked l.link) ≡ true;
     } };
 }
 
+// Whether this read has left nothing that was told already. The end may have been told with the last bytes, and isn't told again: a link
+// whose end was told is asked until it gives it.
+fn has_drained(read: Read, buffer: &[u8], is_ended: bool) -> bool
+    requires { IsReadWithin read (length buffer.now) }
+    ensures { IsTrue result → is_short (read_answer read buffer.now) (length buffer.now) ≡ true }
+{
+    let Read::Bytes(n) = read else {
+        return false;
+    };
+    n < buffer.len() && !is_ended
+}
+
 impl<L: Link> ReadyLink<L> {
-    /// A link that has answered nothing yet, and whose readiness these signals tell.
+    /// A link that was asked nothing yet, and whose readiness these signals tell. What they told before isn't of it.
     pub fn over(link: L, signals: Arc<Signals>) -> ReadyLink<L>
-        requires { L.history link ≡ [] }
+        requires history { L.history link ≡ [] }
+        requires asked { L.asked link ≡ [] }
         ensures { result ≡ record {
           link = link;
           history = [];
@@ -60,8 +83,10 @@ impl<L: Link> ReadyLink<L> {
           waits_to_connect = false;
           waits_to_read = false;
           waits_to_write = false;
+          is_drained = false;
         } }
     {
+        let ends_before = signals.ends_told(link.token());
         ReadyLink {
             link,
             signals,
@@ -70,6 +95,8 @@ impl<L: Link> ReadyLink<L> {
             waits_to_connect: false,
             waits_to_read: false,
             waits_to_write: false,
+            is_drained: false,
+            ends_before,
             history: History::new(),
             asked: History::new(),
         }
@@ -85,6 +112,7 @@ impl<L: Link> ReadyLink<L> {
         if told != self.reads_told {
             self.reads_told = told;
             self.waits_to_read = false;
+            self.is_drained = false;
         }
     }
 
@@ -101,11 +129,18 @@ impl<L: Link> ReadyLink<L> {
             self.waits_to_write = false;
         }
     }
+
+    // Whether a read of so many bytes is made. One byte is always asked for where the last read was short: that probes a link which lay idle.
+    fn is_to_read(&self, len: usize) -> bool
+        ensures { result ≡ not (self.now.waits_to_read || (self.now.is_drained && nat_lt 1 len)) }
+    {
+        !self.waits_to_read && !(self.is_drained && len > 1)
+    }
 }
 
 impl<L: Link> Link for ReadyLink<L> {
     ghost use Rattle.mx_link.specs.Answers.{is_connect, is_read, is_write};
-    ghost use Rattle.mx_gate.specs.Ready.{IsAnswered};
+    ghost use Rattle.mx_gate.specs.Ready.{IsAnswered, IsReadAnswered};
 
     ghost history = { λ link. link.history };
 
@@ -113,7 +148,7 @@ impl<L: Link> Link for ReadyLink<L> {
 
     ghost token_of = { λ link. L.token_of link.link };
 
-    #[tactic(auto, using(crate::proofs::ReadyLemmas::telling_both, crate::proofs::ReadyLemmas::telling_one, crate::proofs::ReadyLemmas::faults_both, crate::proofs::ReadyLemmas::faults_one, crate::proofs::ReadyLemmas::waits_last))]
+    #[tactic(auto, using(crate::proofs::ReadyLemmas::telling_both, crate::proofs::ReadyLemmas::telling_one, crate::proofs::ReadyLemmas::faults_both, crate::proofs::ReadyLemmas::faults_one, crate::proofs::ReadyLemmas::waits_last, crate::proofs::ReadyLemmas::calls_more, crate::proofs::ReadyLemmas::drained_past_connect))]
     fn try_connect(&mut self) -> Connect
         ensures answered { IsAnswered is_connect (L.history self.old.link) (L.history self.new.link) (connect_answer result) }
         ensures told { self.new.history ≡ self.old.history ++ connect_answer result ∷ [] }
@@ -133,10 +168,10 @@ impl<L: Link> Link for ReadyLink<L> {
         connect
     }
 
-    #[tactic(auto, using(crate::proofs::ReadyLemmas::telling_both, crate::proofs::ReadyLemmas::telling_one, crate::proofs::ReadyLemmas::faults_both, crate::proofs::ReadyLemmas::faults_one, crate::proofs::ReadyLemmas::waits_last))]
+    #[tactic(auto, using(crate::proofs::ReadyLemmas::telling_both, crate::proofs::ReadyLemmas::telling_one, crate::proofs::ReadyLemmas::faults_both, crate::proofs::ReadyLemmas::faults_one, crate::proofs::ReadyLemmas::waits_last, crate::proofs::ReadyLemmas::calls_more, crate::proofs::ReadyLemmas::drained_by_read))]
     fn try_read(&mut self, buffer: &mut [u8]) -> Read
         requires { 0 < length buffer.old }
-        ensures answered { IsAnswered is_read (L.history self.old.link) (L.history self.new.link) (read_answer result buffer.new) }
+        ensures answered { IsReadAnswered (L.history self.old.link) (L.asked self.old.link) (L.history self.new.link) (read_answer result buffer.new) (length buffer.new) }
         ensures told { self.new.history ≡ self.old.history ++ read_answer result buffer.new ∷ [] }
         ensures asked { self.new.asked ≡ self.old.asked ++ length buffer.new ∷ [] }
         ensures within { IsReadWithin result (length buffer.new) }
@@ -144,19 +179,22 @@ impl<L: Link> Link for ReadyLink<L> {
         ensures token { L.token_of self.new.link ≡ L.token_of self.old.link }
     {
         self.hear_reads();
-        if self.waits_to_read {
+        if !self.is_to_read(buffer.len()) {
             self.history.note(Answer::to_read(Read::WouldBlock, buffer));
             self.asked.note(buffer.len());
             return Read::WouldBlock;
         }
         let read = self.link.try_read(buffer);
         self.waits_to_read = read == Read::WouldBlock;
+        // Looked at behind the read, so that an end that is told meanwhile counts.
+        let is_ended = self.signals.ends_told(self.link.token()) != self.ends_before;
+        self.is_drained = has_drained(read, buffer, is_ended);
         self.history.note(Answer::to_read(read, buffer));
         self.asked.note(buffer.len());
         read
     }
 
-    #[tactic(auto, using(crate::proofs::ReadyLemmas::telling_both, crate::proofs::ReadyLemmas::telling_one, crate::proofs::ReadyLemmas::faults_both, crate::proofs::ReadyLemmas::faults_one, crate::proofs::ReadyLemmas::waits_last))]
+    #[tactic(auto, using(crate::proofs::ReadyLemmas::telling_both, crate::proofs::ReadyLemmas::telling_one, crate::proofs::ReadyLemmas::faults_both, crate::proofs::ReadyLemmas::faults_one, crate::proofs::ReadyLemmas::waits_last, crate::proofs::ReadyLemmas::calls_more, crate::proofs::ReadyLemmas::drained_past_write))]
     fn try_write(&mut self, bytes: &[u8]) -> Write
         requires { 0 < length bytes.now }
         ensures answered { IsAnswered is_write (L.history self.old.link) (L.history self.new.link) (write_answer result bytes.now) }

@@ -3,14 +3,15 @@ use std::alloc::{AllocError, Global};
 use std::sync::atomic::{AtomicU64, Ordering};
 
 /// How many counts there are of each kind. Tokens that differ by a multiple of it share theirs: a link of such a token
-/// may then ask once without need, and none is left unasked.
+/// may then ask without need, and none is left unasked.
 const COUNTS: u64 = 256;
 
-/// How often the system told that a connection may be read, and how often that it may be written to. A gate counts, and
-/// its links look.
+/// How often the system told that a connection may be read, how often that it may be written to, and how often that its
+/// other side sends no more. A gate counts, and its links look.
 #[derive(Drop)]
 pub struct Signals {
     reads: Vec<AtomicU64>,
+    ends: Vec<AtomicU64>,
     writes: Vec<AtomicU64>,
 }
 
@@ -42,6 +43,7 @@ impl Signals {
     pub fn new(alloc: Global) -> Result<Signals, AllocError> {
         Ok(Signals {
             reads: zeros(alloc)?,
+            ends: zeros(alloc)?,
             writes: zeros(alloc)?,
         })
     }
@@ -49,6 +51,12 @@ impl Signals {
     /// Counts that the connection may be read.
     pub fn tell_read(&self, token: u64) {
         tell(&self.reads, token);
+    }
+
+    /// Counts that the other side of the connection sends no more, or that it failed. Who tells that it may be read, too,
+    /// tells this first: a link that has heard of the one then finds the other.
+    pub fn tell_end(&self, token: u64) {
+        tell(&self.ends, token);
     }
 
     /// Counts that the connection stands, failed, or may be written to.
@@ -59,6 +67,11 @@ impl Signals {
     /// How often it was told that the connection may be read.
     pub fn reads_told(&self, token: u64) -> u64 {
         told(&self.reads, token)
+    }
+
+    /// How often it was told that the other side of the connection sends no more, or that it failed.
+    pub fn ends_told(&self, token: u64) -> u64 {
+        told(&self.ends, token)
     }
 
     /// How often it was told that the connection stands, failed, or may be written to.

@@ -193,6 +193,9 @@ impl<'r, R: Net + Clock + AllocGlobal> SocketGate<'r, R> {
     fn tell(&self) {
         for event in self.events.iter() {
             let token = event.token().0 as u64;
+            if event.is_read_closed() || event.is_error() {
+                self.signals.tell_end(token);
+            }
             if event.is_readable() || event.is_read_closed() || event.is_error() {
                 self.signals.tell_read(token);
             }

@@ -15,11 +15,11 @@ use std::thread;
 use std::thread::{JoinHandle, Threads};
 use std::time::{Duration, Instant};
 
-// How often a test waits for a link, ten milliseconds each time, before it gives up.
-const TURNS: u32 = 1000;
+/// How often a test waits for a link, ten milliseconds each time, before it gives up.
+pub const TURNS: u32 = 1000;
 
-// The first answer that isn't that the connection is still being made.
-fn connect<G: Gate>(gate: &mut G, link: &mut G::Link) -> Connect {
+/// The first answer that isn't that the connection is still being made.
+pub fn connect<G: Gate>(gate: &mut G, link: &mut G::Link) -> Connect {
     for _ in 0..TURNS {
         match link.try_connect() {
             Connect::WouldBlock => {
@@ -31,8 +31,8 @@ fn connect<G: Gate>(gate: &mut G, link: &mut G::Link) -> Connect {
     Connect::WouldBlock
 }
 
-// The first read that isn't `WouldBlock`.
-fn read<G: Gate>(gate: &mut G, link: &mut G::Link) -> (Read, [u8; 8]) {
+/// The first read that isn't `WouldBlock`.
+pub fn read<G: Gate>(gate: &mut G, link: &mut G::Link) -> (Read, [u8; 8]) {
     let mut buffer = [b'-'; 8];
     for _ in 0..TURNS {
         match link.try_read(&mut buffer) {
@@ -92,8 +92,8 @@ fn link_to<G: Gate>(alloc: Global, gate: &mut G, port: u16) -> Result<G::Link, F
     given(gate.open(&there))
 }
 
-// A gate, and a link that it opens to this port.
-fn gate_and_link<R: Net + Clock + AllocGlobal>(
+/// A gate, and a link that it opens to this port.
+pub fn gate_and_link<R: Net + Clock + AllocGlobal>(
     rt: &R,
     port: u16,
 ) -> Result<(SocketGate<'_, R>, SocketLink), Fail> {
@@ -136,8 +136,8 @@ fn send_to<R: Net + Clock + AllocGlobal + Abort>(rt: &R, port: u16) -> Result<()
     Ok(())
 }
 
-// A listener at a port that was free, and that port.
-fn listening<R: Net<Listener = TcpListener, Stream = TcpStream>>(
+/// A listener at a port that was free, and that port.
+pub fn listening<R: Net<Listener = TcpListener, Stream = TcpStream>>(
     rt: &R,
 ) -> Result<(TcpListener, u16), Fail> {
     let listener = TcpListener::bind(rt, "127.0.0.1:0")?;
@@ -159,106 +159,6 @@ fn a_link_writes_and_reads_and_sees_the_end(rt: HostRuntime) -> Result<(), Fail>
     let (port, server) = one_server(&rt)?;
     send_to(&rt, port)?;
     assert!(rt; server.join(&rt));
-    Ok(())
-}
-
-// What a test and its peer tell each other: that the peer is to send, and that it has.
-#[derive(Drop)]
-struct Told {
-    go: AtomicBool,
-    sent: AtomicBool,
-}
-
-// Sends two bytes once it is told to, and waits until it is told again.
-fn send_late<R: Clock + Wait>(rt: &R, listener: &TcpListener, told: &Told) -> bool {
-    let Ok((mut stream, _)) = listener.accept() else {
-        return false;
-    };
-    for _ in 0..TURNS {
-        if told.go.load(Ordering::SeqCst) {
-            break;
-        }
-        thread::sleep(rt, Duration::from_millis(1));
-    }
-    let is_sent = stream.write_all(b"ab").is_ok();
-    told.sent.store(true, Ordering::SeqCst);
-    thread::sleep(rt, Duration::from_millis(100));
-    is_sent
-}
-
-// Tells the peer to send, and waits until it says that it has.
-fn have_sent<R: Clock + Wait>(rt: &R, told: &Told) {
-    told.go.store(true, Ordering::SeqCst);
-    for _ in 0..TURNS {
-        if told.sent.load(Ordering::SeqCst) {
-            return;
-        }
-        thread::sleep(rt, Duration::from_millis(1));
-    }
-}
-
-// Finds nothing to read, then no more before a turn though bytes came, and then those.
-fn read_after_a_turn<R: Abort + Clock + Wait, G: Gate>(
-    rt: &R,
-    gate: &mut G,
-    link: &mut G::Link,
-    told: &Told,
-) {
-    let connected = connect(gate, link);
-    gate.turn(0);
-    let mut buffer = [0; 8];
-    let early = link.try_read(&mut buffer);
-    have_sent(rt, told);
-    let before = link.try_read(&mut buffer);
-    let after = read(gate, link);
-    assert_eq!(rt;
-        (connected, early, before, after),
-        (
-            Connect::Done,
-            Read::WouldBlock,
-            Read::WouldBlock,
-            (Read::Bytes(2), *b"ab------")
-        )
-    );
-}
-
-// The same, over a link of its own to the peer at this port.
-fn read_from<R: Net + Clock + AllocGlobal + Wait + Abort>(
-    rt: &R,
-    port: u16,
-    told: &Told,
-) -> Result<(), Fail> {
-    let (mut gate, mut link) = gate_and_link(rt, port)?;
-    read_after_a_turn(rt, &mut gate, &mut link, told);
-    Ok(())
-}
-
-// A thread that sends late, and its port.
-fn late_sender<
-    R: Net<Listener = TcpListener, Stream = TcpStream>
-        + Clock
-        + Wait
-        + Threads
-        + Copy
-        + Send
-        + Drop
-        + 'static,
->(rt: &R, told: Arc<Told>) -> Result<(u16, JoinHandle<bool>), Fail> {
-    let (listener, port) = listening(rt)?;
-    let rt_there = *rt;
-    let sender = thread::spawn(rt, move || send_late(&rt_there, &listener, &told))?;
-    Ok((port, sender))
-}
-
-// Bytes that came are not read before a turn has told of them: the link isn't asked.
-#[test]
-fn a_link_that_waits_is_not_asked_before_a_turn(rt: HostRuntime) -> Result<(), Fail> {
-    let go = AtomicBool::new(false);
-    let sent = AtomicBool::new(false);
-    let told = Arc::new(rt.alloc(), Told { go, sent })?;
-    let (port, sender) = late_sender(&rt, Arc::try_clone(&told)?)?;
-    read_from(&rt, port, &told)?;
-    assert!(rt; sender.join(&rt));
     Ok(())
 }
 
