@@ -2,15 +2,19 @@
 use Rattle.std.specs.Prelude.{List, ℕ, ◌+◌, ◌-◌, ◌/◌, ◌^◌, min, max, Bool, true, false}
 use Rattle.mx_types.specs.declared.code.Code.{Code}
 use Rattle.mx_types.specs.declared.code.Code.TheVariants as code
+use Rattle.std.specs.declared.net.SocketAddr.{SocketAddr}
 use Rattle.mx_gate.specs.Said.{Said}
 use Rattle.mx_gate.specs.declared.gate.Turn.{Turn}
 use Rattle.mx_gate.specs.declared.gate.Turn.TheVariants as turn
 
--- The latest moment told, the token of the next link, whether the last turn saw the flag set, and all that was said.
+-- The latest moment told, the token of the next link, whether the last turn saw the flag set, what each lookup found, each address that
+-- was dialled, and all that was said.
 pub record SocketGateState : Type 0 where
   pub latest : ℕ
   pub next_token : ℕ
   pub is_stopped : Bool
+  pub found : List (List SocketAddr)
+  pub dialled : List SocketAddr
   pub said : List Said
 
 -- the moment in milliseconds, where so many nanoseconds passed since the start: it never falls, and fits in 64 bits

@@ -1,6 +1,7 @@
 pub mod Faults
 pub mod Addresses
 pub mod Gates
+pub mod Dials
 pub mod Laws
 pub mod Script
 pub mod Ready

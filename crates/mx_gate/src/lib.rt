@@ -11,7 +11,7 @@ mod scripted;
 mod signals;
 mod sockets;
 
-pub use crate::addresses::{address_of, choose, unbracketed};
+pub use crate::addresses::{Found, address_of, choose, unbracketed};
 pub use crate::faults::{connect_code, lookup_code};
 pub use crate::gate::{Gate, Turn};
 pub use crate::ready::ReadyLink;

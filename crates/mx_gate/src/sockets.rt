@@ -1,16 +1,19 @@
 //! A gate to the network.
-ghost use Rattle.std.specs.Prelude.{◌≡◌, ◌≤◌, ◌/◌, ◌-◌, ◌^◌, ◌∷◌, ◌++◌, true, false, [], min, max, IfOk, IfErr, OnErr};
+ghost use Rattle.std.specs.Prelude.{◌≡◌, ◌≤◌, ◌/◌, ◌-◌, ◌^◌, ◌∷◌, ◌++◌, true, false, ◌||◌, ◌⊎◌, [], min, max, IfOk, IfErr, OnErr};
 ghost use Rattle.std.specs.Duration.{as_nanos};
+ghost use Rattle.mio.specs.Event.{is_readable, is_writable, is_error, is_read_closed, is_write_closed};
 ghost use Rattle.mx_types.specs.Code.{is_link_code};
 ghost use Rattle.mx_gate.specs.Said.{told, opened, waited, numbered, is_stop};
+ghost use Rattle.mx_gate.specs.Dials.{Dials};
 ghost use Rattle.mx_gate.specs.Gates.{moment_after, next_token, turn_of, is_start_code};
 
-use crate::addresses::address_of;
+use crate::addresses::{Found, address_of};
 use crate::faults::connect_code;
 use crate::gate::{Gate, Turn};
 use crate::ready::ReadyLink;
 use crate::said::Said;
 use crate::signals::Signals;
+use mio::event::Event;
 use mio::net::TcpStream;
 use mio::{Events, Interest, Poll, Token, Waker};
 use mx_link::TcpLink;
@@ -64,6 +67,8 @@ pub struct SocketGate<'r, R> {
     latest: u64,
     next_token: u64,
     is_stopped: bool,
+    found: History<Found>,
+    dialled: History<SocketAddr>,
     said: History<Said>,
 }
 
@@ -72,7 +77,31 @@ impl<'r, R> Model for SocketGate<'r, R> {
 
     ghost Value = { SocketGateState };
 
-    ghost view = { λ g. record { latest = g.latest; next_token = g.next_token; is_stopped = g.is_stopped; said = g.said } };
+    ghost view = { λ g. record { latest = g.latest; next_token = g.next_token; is_stopped = g.is_stopped; found = g.found; dialled = g.dialled; said = g.said } };
+}
+
+// What an event tells of its connection.
+#[derive(Clone, Copy)]
+struct News {
+    // It may be read: a read would not wait.
+    may_read: bool,
+    // The other side sends no more, or it failed.
+    has_ended: bool,
+    // It stands, failed, or may be written to.
+    may_write: bool,
+}
+
+fn news_of(event: &Event) -> News
+    ensures reads { result.may_read ≡ (is_readable event.now || (is_read_closed event.now || is_error event.now)) }
+    ensures ends { result.has_ended ≡ (is_read_closed event.now || is_error event.now) }
+    ensures writes { result.may_write ≡ (is_writable event.now || (is_write_closed event.now || is_error event.now)) }
+{
+    let has_ended = event.is_read_closed() || event.is_error();
+    News {
+        may_read: event.is_readable() || has_ended,
+        has_ended,
+        may_write: event.is_writable() || event.is_write_closed() || event.is_error(),
+    }
 }
 
 // The moment, where so much time passed since the start.
@@ -98,7 +127,7 @@ impl<'r, R: Net + Clock + AllocGlobal> SocketGate<'r, R> {
     ///
     /// `CouldntConnect` comes where the system gives no poll or no clock, `OutOfMemory` where memory is wanting.
     pub fn new(rt: &'r R, stop: Arc<AtomicBool>) -> Result<SocketGate<'r, R>, Code>
-        ensures opened { IfOk result (λ gate. gate ≡ record { latest = 0; next_token = 1; is_stopped = false; said = [] }) }
+        ensures opened { IfOk result (λ gate. gate ≡ record { latest = 0; next_token = 1; is_stopped = false; found = []; dialled = []; said = [] }) }
         ensures code { IfErr result (λ code. is_start_code code ≡ true) }
     {
         match Instant::now(rt) {
@@ -114,7 +143,7 @@ impl<'r, R: Net + Clock + AllocGlobal> SocketGate<'r, R> {
         stop: Arc<AtomicBool>,
         start: Instant,
     ) -> Result<SocketGate<'r, R>, Code>
-        ensures opened { IfOk result (λ gate. gate ≡ record { latest = 0; next_token = 1; is_stopped = false; said = [] }) }
+        ensures opened { IfOk result (λ gate. gate ≡ record { latest = 0; next_token = 1; is_stopped = false; found = []; dialled = []; said = [] }) }
         ensures code { IfErr result (λ code. is_start_code code ≡ true) }
     {
         match SocketGate::parts(rt) {
@@ -129,6 +158,8 @@ impl<'r, R: Net + Clock + AllocGlobal> SocketGate<'r, R> {
                 latest: 0,
                 next_token: 1,
                 is_stopped: false,
+                found: History::new(),
+                dialled: History::new(),
                 said: History::new(),
             }),
             Err(error) => Err(connect_code(&error)),
@@ -157,14 +188,15 @@ impl<'r, R: Net + Clock + AllocGlobal> SocketGate<'r, R> {
         })
     }
 
-    // Begins to connect, and has the poll report when the connection is ready.
+    // Begins to connect, and has the poll report when the connection is ready. What is dialled is noted just before.
     fn connect(&mut self, address: SocketAddr) -> io::Result<SocketLink>
         ensures opened { IfOk result (λ link. (link.link.token ≡ self.old.next_token) × (link.history ≡ [])
-            × (self.new ≡ record self.old { next_token = next_token self.old.next_token })) }
-        ensures refused { OnErr result (self.new ≡ self.old) }
+            × (self.new ≡ record self.old { next_token = next_token self.old.next_token; dialled = self.old.dialled ++ address ∷ [] })) }
+        ensures refused { OnErr result (self.new ≡ record self.old { dialled = self.old.dialled ++ address ∷ [] }) }
     {
-        let signals = Arc::try_clone(&self.signals)?;
+        self.dialled.note(address);
         let mut stream = TcpStream::connect(self.rt, address)?;
+        let signals = Arc::try_clone(&self.signals)?;
         let token = self.next_token;
         self.poll.registry().register(
             &mut stream,
@@ -179,10 +211,12 @@ impl<'r, R: Net + Clock + AllocGlobal> SocketGate<'r, R> {
     fn begin(&mut self, endpoint: &Endpoint) -> Result<SocketLink, Code>
         ensures code { IfErr result (λ code. is_link_code code ≡ true) }
         ensures opened { IfOk result (λ link. (link.link.token ≡ self.old.next_token) × (link.history ≡ [])
-            × (self.new ≡ record self.old { next_token = next_token self.old.next_token })) }
-        ensures refused { OnErr result (self.new ≡ self.old) }
+            × (self.new ≡ record self.old { next_token = next_token self.old.next_token; found = self.new.found; dialled = self.new.dialled })) }
+        ensures refused { OnErr result (self.new ≡ record self.old { found = self.new.found; dialled = self.new.dialled }) }
+        ensures dialled { IfOk result (λ _. Dials endpoint.now self.old self.new) }
+        ensures undialled { OnErr result ((self.new.dialled ≡ self.old.dialled) ⊎ Dials endpoint.now self.old self.new) }
     {
-        let address = address_of(self.rt, endpoint)?;
+        let address = address_of(self.rt, endpoint, &mut self.found)?;
         match self.connect(address) {
             Ok(link) => Ok(link),
             Err(error) => Err(connect_code(&error)),
@@ -193,13 +227,14 @@ impl<'r, R: Net + Clock + AllocGlobal> SocketGate<'r, R> {
     fn tell(&self) {
         for event in self.events.iter() {
             let token = event.token().0 as u64;
-            if event.is_read_closed() || event.is_error() {
+            let news = news_of(event);
+            if news.has_ended {
                 self.signals.tell_end(token);
             }
-            if event.is_readable() || event.is_read_closed() || event.is_error() {
+            if news.may_read {
                 self.signals.tell_read(token);
             }
-            if event.is_writable() || event.is_write_closed() || event.is_error() {
+            if news.may_write {
                 self.signals.tell_write(token);
             }
         }
@@ -232,8 +267,10 @@ impl<R: Net + Clock + AllocGlobal> Gate for SocketGate<'_, R> {
         ensures code { IfErr result (λ code. is_link_code code ≡ true) }
         ensures moment { self.new.latest ≡ self.old.latest }
         ensures opened { IfOk result (λ link. (link.link.token ≡ self.old.next_token) × (link.history ≡ [])
-            × (self.new ≡ record self.old { next_token = next_token self.old.next_token; said = self.new.said })) }
-        ensures refused { OnErr result (self.new ≡ record self.old { said = self.new.said }) }
+            × (self.new ≡ record self.old { next_token = next_token self.old.next_token; found = self.new.found; dialled = self.new.dialled; said = self.new.said })) }
+        ensures refused { OnErr result (self.new ≡ record self.old { found = self.new.found; dialled = self.new.dialled; said = self.new.said }) }
+        ensures dialled { IfOk result (λ _. Dials endpoint.now self.old self.new) }
+        ensures undialled { OnErr result ((self.new.dialled ≡ self.old.dialled) ⊎ Dials endpoint.now self.old self.new) }
         ensures noted { self.new.said ≡ self.old.said ++ opened endpoint.now (numbered (λ link. link.link.token) result) ∷ [] }
     {
         let answer = self.begin(endpoint);

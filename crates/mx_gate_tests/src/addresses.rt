@@ -1,6 +1,6 @@
 use crate::outside::{Outside, endpoint};
 use mx_gate::{address_of, choose, connect_code, lookup_code, unbracketed};
-use mx_types::Code;
+use mx_types::{Code, History};
 use std::alloc::Global;
 use std::io::{Error, ErrorKind};
 use std::net::{Ipv4Addr, Ipv6Addr, SocketAddr};
@@ -58,7 +58,7 @@ fn address_at(
     let there = endpoint(alloc, host, port)?;
     let mut outside = Outside::new(alloc, addresses);
     outside.refusal = refusal;
-    Ok(address_of(&outside, &there))
+    Ok(address_of(&outside, &there, &mut History::new()))
 }
 
 #[test]
