@@ -58,6 +58,20 @@ pub fn add_and_read<Q: Work + Drop, R: Wait>(
     Some(outcome)
 }
 
+// Ends a claimed transfer, and lets go what isn't recorded.
+fn finish_one<Q: Work + Drop, R: Wait>(
+    rt: &R,
+    worker: &mut Seated<'_, AtWork, Q, Outcome>,
+    claim: TiedClaim<Q>,
+    outcome: Outcome,
+) -> bool
+    requires claim { claim.of ≡ worker.old.of.engine.ties }
+    requires origin { request_origin outcome.request ≡ claim.origin }
+    ensures of { worker.new.of ≡ worker.old.of }
+{
+    worker.finish(rt, claim, outcome).is_ok()
+}
+
 /// Ends a claimed transfer through a seat of the multi handle that gave the claim. The other seat, which may be of another multi handle, would
 /// refuse that claim.
 pub fn finish_claimed<Q: Work + Drop, R: Wait>(
@@ -71,7 +85,7 @@ pub fn finish_claimed<Q: Work + Drop, R: Wait>(
     requires origin { request_origin outcome.request ≡ claim.origin }
 {
     let _cut = other.cut();
-    worker.finish(rt, claim, outcome).is_ok()
+    finish_one(rt, worker, claim, outcome)
 }
 
 /// Ends two claimed transfers, each with the outcome of its request.
@@ -86,10 +100,9 @@ pub fn finish_both<Q: Work + Drop, R: Wait>(
 {
     let (one, two) = claims;
     let (first, second) = outcomes;
-    let Ok(_reply) = worker.finish(rt, one, first) else {
-        return false;
-    };
-    worker.finish(rt, two, second).is_ok()
+    let is_first = finish_one(rt, worker, one, first);
+    let is_second = finish_one(rt, worker, two, second);
+    is_first && is_second
 }
 
 /// Claims work, and gives it back to the multi handle that gave the claim. The other seat, which may be of another one, would refuse that

@@ -1,5 +1,7 @@
 -- Calls that wait for a message, and what is known of it then.
-use Rattle.std.proofs.Common.{◌≡◌, ◌≢◌, ◌∙◌, inl, sym, refl, ap, subst, ℕ, List, [], ◌∷◌, ◌++◌, append_assoc, length, true, if◌then◌else◌}
+use Rattle.std.proofs.Common.{◌≡◌, ◌≢◌, ◌∙◌, inl, inr, sym, refl, ap, subst, ℕ, List, [], ◌∷◌, ◌++◌, append_assoc, length, true, if◌then◌else◌}
+use Rattle.std.specs.Prelude.{IfErr, Ok, Err, Result}
+use Rattle.std.proofs.lemmas.List.Elements.{All-append, All-nil, All-push}
 use Rattle.mx_types.specs.declared.code.Code.TheVariants as code
 use Rattle.mx_types.specs.declared.names.HandleId.{HandleId}
 use Rattle.mx_types.specs.declared.names.Ticket.{Ticket}
@@ -8,6 +10,7 @@ use Rattle.mx_types.specs.declared.call.Call.TheVariants as call
 use Rattle.mx_types.specs.declared.call.Receipt.{Receipt}
 use Rattle.mx_types.specs.declared.event.Event.{Event}
 use Rattle.mx_types.specs.declared.reply.Reply.{Reply}
+use Rattle.mx_types.specs.declared.reply.Reply.TheVariants as reply
 use Rattle.mx_request.specs.Request.{request_origin}
 use Rattle.mx_body.specs.Parts.{joined}
 use Rattle.mx_link.specs.Answers.{given}
@@ -26,7 +29,7 @@ use Rattle.mx_append_log.proofs.Prefixes.{prefix_trans}
 use Rattle.mx_multi.specs.Seats.{Later, SeatView, Stands}
 use Rattle.mx_multi.proofs.Runs.{later_none, later_more}
 use Rattle.mx_multi.proofs.Standing.{told_alike}
-use Rattle.mx_message.specs.Message.{CarriesBody, IsNextMessage, IsOrderly, IsRead, Waited}
+use Rattle.mx_message.specs.Message.{CarriesBody, IsNextMessage, IsOrderly, IsRead, IsWait, Unread, Waited}
 
 -- with code OK the wire is all that the last hop's link gave
 pub carries : (o : OutcomeValue) (wire : List ℕ) → IsOutcome o → (o.last.code ≢ code.OutOfMemory → wire ≡ given o.last.answers)
@@ -55,16 +58,52 @@ later_on s t u a b h k = record {
 
 module _ {Q : Type 0} where
   pub waited_none : (s : SeatView Q OutcomeValue) → Waited s s
-  waited_none s = record { more = []; later = later_none s }
+  waited_none s = record { more = []; later = later_none s; waits = All-nil IsWait }
 
   pub waited_on : (s t u : SeatView Q OutcomeValue) → Waited s t → Waited t u → Waited s u
-  waited_on s t u h k = record { more = h.more ++ k.more; later = later_on s t u h.more k.more h.later k.later }
+  waited_on s t u h k = record {
+    more = h.more ++ k.more;
+    later = later_on s t u h.more k.more h.later k.later;
+    waits = All-append IsWait h.more k.more h.waits k.waits;
+  }
 
-  pub waited_two : (s t u : SeatView Q OutcomeValue) (c d : Call) (p q : Reply) → Stands s t c p → Stands t u d q → Waited s u
-  waited_two s t u c d p q h k =
-      let one : Receipt = record { cut = length t.seen; call = c; reply = p } in
-      let two : Receipt = record { cut = length u.seen; call = d; reply = q } in
-      record { more = ([] ++ one ∷ []) ++ two ∷ []; later = later_more s t u ([] ++ one ∷ []) d q (later_more s s t [] c p (later_none s) h) k }
+  waited_more : (s t u : SeatView Q OutcomeValue) (c : Call) (p : Reply) → ((cut : ℕ) → IsWait (record { cut = cut; call = c; reply = p }))
+      → Waited s t → Stands t u c p → Waited s u
+  waited_more s t u c p is h k =
+      let new : Receipt = record { cut = length u.seen; call = c; reply = p } in
+      record { more = h.more ++ new ∷ []; later = later_more s t u h.more c p h.later k; waits = All-push IsWait h.more new h.waits (is (length u.seen)) }
+
+  -- a reading that found none
+  found_none : (s t : SeatView Q OutcomeValue) (r : InfoReply OutcomeValue) → r ≡ info.Empty
+      → Stands s t call.InfoRead (reply_of_info (λ x. x.code) (λ x. length (joined x.wire x.parts)) r) → Waited s t
+  found_none s t r is h =
+      waited_more s s t call.InfoRead reply.Empty (λ cut. inl (refl, refl)) (waited_none s)
+      (subst (λ x. Stands s t call.InfoRead (reply_of_info (λ x. x.code) (λ x. length (joined x.wire x.parts)) x)) is h)
+
+  -- and a poll
+  pub waited_two : (s t u : SeatView Q OutcomeValue) (r : InfoReply OutcomeValue) → r ≡ info.Empty
+      → Stands s t call.InfoRead (reply_of_info (λ x. x.code) (λ x. length (joined x.wire x.parts)) r) → Stands t u call.Poll reply.Woken → Waited s u
+  waited_two s t u r is h k = waited_more s t u call.Poll reply.Woken (λ cut. inr (refl, refl)) (found_none s t r is h) k
+
+  -- where nothing was answered, where a reading found no memory, and where a reading found none and no poll was answered
+  pub unread_same : (s t : SeatView Q OutcomeValue) → t ≡ s → Unread s t
+  unread_same s t e = record { at = s; waited = waited_none s; last = inl e }
+
+  pub unread_lacks : (s t : SeatView Q OutcomeValue) (r : InfoReply OutcomeValue) → r ≡ info.OutOfMemory
+      → Stands s t call.InfoRead (reply_of_info (λ x. x.code) (λ x. length (joined x.wire x.parts)) r) → Unread s t
+  unread_lacks s t r is h = record {
+    at = s;
+    waited = waited_none s;
+    last = inr (subst (λ x. Stands s t call.InfoRead (reply_of_info (λ x. x.code) (λ x. length (joined x.wire x.parts)) x)) is h);
+  }
+
+  pub unread_found_none : (s t u : SeatView Q OutcomeValue) (r : InfoReply OutcomeValue) → r ≡ info.Empty
+      → Stands s t call.InfoRead (reply_of_info (λ x. x.code) (λ x. length (joined x.wire x.parts)) r) → u ≡ t → Unread s u
+  unread_found_none s t u r is h e = record { at = t; waited = found_none s t r is h; last = inl e }
+
+  -- after calls that waited
+  pub unread_on : (s t u : SeatView Q OutcomeValue) → Waited s t → Unread t u → Unread s u
+  unread_on s t u h k = record { at = k.at; waited = waited_on s t k.at h k.waited; last = k.last }
 
   -- what was read
   pub read_is : (s t : SeatView Q OutcomeValue) (r : InfoReply OutcomeValue) (h : HandleId) (ticket : Ticket) (o : OutcomeValue) (left : ℕ) → r ≡ info.Message h ticket o left
@@ -87,6 +126,11 @@ orderly j t legal =
       none_after = λ f later w h is. nothing_after_removal f later w h t (ap is_legal (sym is) ∙ legal);
       in_order = first_in_first_out j legal;
     }
+
+-- what holds whatever was refused
+pub if_refused : {A E : Type 0} {P : Type 0} (r : Result A E) → P → IfErr r (λ _. P)
+if_refused (Ok a) p = tt
+if_refused (Err e) p = p
 
 pub next : {Q : Type 0} (s at t : SeatView Q OutcomeValue) (h : HandleId) (ticket : Ticket) (o : OutcomeValue) (left : ℕ) → Waited s at → IsRead at t h ticket o left → IsNextMessage s t h ticket o left
 next s at t h ticket o left w r = record {

@@ -1,5 +1,5 @@
 -- What is known of a message.
-use Rattle.std.specs.Prelude.{◌≡◌, ℕ, ◌≤◌, true, false, not, List, ◌∷◌, ◌++◌, map, length}
+use Rattle.std.specs.Prelude.{◌≡◌, ◌⊎◌, ℕ, ◌≤◌, true, false, not, All, List, ◌∷◌, ◌++◌, map, length}
 use Rattle.std.specs.List.{filter}
 use Rattle.mx_types.specs.declared.code.Code.TheVariants as code
 use Rattle.mx_types.specs.declared.names.HandleId.{HandleId}
@@ -43,10 +43,21 @@ pub record CarriesBody (o : OutcomeValue) : Type 0 where
   pub content : HasContent o.last
   pub same : joined o.wire o.parts ≡ joined o.last.wire o.last.parts
 
--- calls that wait for a message were answered: readings that found nothing, and polls
+-- a call by which a seat waits for a message: a reading that found none, or a poll
+abbrev pub IsWait : Receipt → Type 0
+IsWait r = ((r.call ≡ call.InfoRead) × (r.reply ≡ reply.Empty)) ⊎ ((r.call ≡ call.Poll) × (r.reply ≡ reply.Woken))
+
+-- calls that wait for a message were answered, and no others: readings that found none, and polls
 pub record Waited {Q : Type 0} (s t : SeatView Q OutcomeValue) : Type 0 where
   pub more : List Receipt
   pub later : Later s t more
+  pub waits : All IsWait more
+
+-- no message was read: calls that wait for one were answered, and then perhaps a reading that found no memory
+pub record Unread {Q : Type 0} (s t : SeatView Q OutcomeValue) : Type 0 where
+  pub at : SeatView Q OutcomeValue
+  pub waited : Waited s at
+  pub last : (t ≡ at) ⊎ Stands at t call.InfoRead reply.OutOfMemory
 
 -- the seat read this message, whose outcome is true, and whose first request is the one that was added under the ticket
 pub record IsRead {Q : Type 0} (s t : SeatView Q OutcomeValue) (h : HandleId) (ticket : Ticket) (o : OutcomeValue) (left : ℕ) : Type 0 where
@@ -57,7 +68,7 @@ pub record IsRead {Q : Type 0} (s t : SeatView Q OutcomeValue) (h : HandleId) (t
 
 -- The headline, of one message:
 pub record IsNextMessage {Q : Type 0} (s t : SeatView Q OutcomeValue) (h : HandleId) (ticket : Ticket) (o : OutcomeValue) (left : ℕ) : Type 0 where
-  -- the calls that waited for it have receipts behind those of the seat, and then the reading stands
+  -- the calls that waited for it, readings that found none and polls, have receipts behind those of the seat, and then the reading stands
   pub at : SeatView Q OutcomeValue
   pub waited : Waited s at
   pub stands : Stands at t call.InfoRead (answer_of h ticket o left)

@@ -1,8 +1,8 @@
 //! The next message, and what is known of it.
-ghost use Rattle.std.specs.Prelude.{◌≡◌, IfOk, MatchOption};
+ghost use Rattle.std.specs.Prelude.{◌≡◌, IfErr, IfOk, MatchOption};
 ghost use Rattle.mx_types.specs.declared.code.Code.TheVariants as code;
 ghost use Rattle.mx_chain.specs.Outcomes.{IsOutcome};
-ghost use Rattle.mx_message.specs.Message.{CarriesBody, IsNextMessage, IsRead, Waited};
+ghost use Rattle.mx_message.specs.Message.{CarriesBody, IsNextMessage, IsRead, Unread, Waited};
 
 use mx_chain::Outcome;
 use mx_journal::InfoReply;
@@ -22,7 +22,7 @@ pub struct Message {
     pub left: u32,
 }
 
-/// No message was read: the seat isn't one of this multi handle's, or there was no memory.
+/// No message was read: a call was answered `WrongSeat`, or there was no memory.
 #[derive(Clone, Copy, Debug, PartialEq, Eq)]
 pub struct NoMessage;
 
@@ -42,6 +42,7 @@ fn read_once<Q: Work + Drop, R: Wait>(
     seat: &mut Seated<'_, Application, Q, Outcome>,
 ) -> Result<Option<Message>, NoMessage>
     ensures of { seat.new.of ≡ seat.old.of }
+    ensures unread { IfErr result (λ _. Unread seat.old seat.new) }
     ensures read { IfOk result (λ o. MatchOption o (Waited seat.old seat.new) (λ m. (m.code ≡ m.outcome.code) × IsRead seat.old seat.new m.handle m.ticket m.outcome m.left)) }
 {
     let Ok(reply) = seat.info_read(rt) else {
@@ -82,12 +83,16 @@ fn read_once<Q: Work + Drop, R: Wait>(
 /// ticket, and its hops are a chain from there on: each later request is the one to which the response before led, and each hop ended as
 /// the answers of its link come to. With `Code::Ok` it carries the body of the response to the last request of the chain, by RFC 9112,
 /// within the bytes that the last hop's connection gave.
+///
+/// The calls that waited for it, which are readings that found none and polls, have receipts behind those that the seat had. So have they
+/// where it answers `NoMessage`, and behind them perhaps a reading that found no memory.
 #[tactic(auto, using(crate::proofs::Messages::waited_none, crate::proofs::Messages::waited_on))]
 pub fn next_message<Q: Work + Drop, R: Wait>(
     rt: &R,
     seat: &mut Seated<'_, Application, Q, Outcome>,
 ) -> Result<Message, NoMessage>
     ensures of { seat.new.of ≡ seat.old.of }
+    ensures unread { IfErr result (λ _. Unread seat.old seat.new) }
     ensures code { IfOk result (λ m. m.code ≡ m.outcome.code) }
     ensures message { IfOk result (λ m. IsNextMessage seat.old seat.new m.handle m.ticket m.outcome m.left) }
 {
