@@ -2,9 +2,10 @@
 ghost use Rattle.std.specs.Prelude.{◌≡◌};
 ghost use Rattle.mx_types.specs.Origin.{no_request};
 
+use crate::desk::FOUR_SEATS;
 use mx_journal::{FinishReply, InfoReply};
-use mx_multi::{Application, AtWork, Seated};
-use mx_multi_tests_base::sample::{Bench, Chair, End, FOUR_SEATS, Handle, Job};
+use mx_multi::{Application, AtWork, Seat, Seated, WorkerSeat};
+use mx_multi_tests_base::sample::{End, Handle, Job};
 use mx_types::{Code, HandleId, OutOfMemory};
 use std::alloc::Global;
 use std::sync::Wait;
@@ -36,8 +37,8 @@ fn fetch<R: Wait>(
 fn fetch_at<R: Wait>(
     rt: &R,
     multi: &Handle,
-    seat: Chair,
-    worker: Bench,
+    seat: Seat<Job, End>,
+    worker: WorkerSeat<Job, End>,
 ) -> Result<(HandleId, Code), Fail>
     requires { (seat.of ≡ multi.now) × (worker.of ≡ multi.now) }
 {

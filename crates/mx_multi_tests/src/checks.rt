@@ -1,7 +1,6 @@
 //! What was answered beside what is expected.
 
 use mx_multi_tests_base::entries::text_of;
-use mx_multi_tests_base::texts::Asked;
 use mx_types::{Call, OutOfMemory, Reply};
 use std::alloc::Global;
 use std::test::Fail;
@@ -46,6 +45,5 @@ pub fn compare(
     if said.as_str() == expected.0 && cut == expected.1 {
         return Ok(());
     }
-    let asked = Asked(call);
-    Err(format!(in alloc; "{asked} = {said}, {cut}")?.into())
+    Err(format!(in alloc; "{call:?} = {said}, {cut}")?.into())
 }

@@ -1,27 +1,64 @@
 //! Reads while another call keeps the lock.
 
 use crate::checks::{answered, check, compare};
+use crate::desk::{Desk, Scene};
 use crate::script::{By, Step, at_four_seats, take_steps};
-use mx_multi_tests_base::desk::{Desk, Scene};
+use mx_multi_tests_base::client::{Client, Worker};
 use mx_multi_tests_base::hold::Hold;
 use mx_multi_tests_base::sample::End;
-use mx_multi_tests_base::threads::{Told, read_meanwhile};
-use mx_types::{Call, Code, HandleId, Reply};
+use mx_types::{Call, Code, HandleId, Reply, Ticket};
 use std::alloc::Global;
 use std::sync::{Arc, Wait};
 use std::test::Fail;
-use std::thread::Threads;
+use std::thread::{Threads, join};
 
 const ONE: HandleId = HandleId(1);
 
 // Adds handle 1, and claims it.
-fn add_and_claim<R: Wait>(rt: &R, alloc: Global, desk: &mut Desk) -> Result<usize, Fail> {
-    const ADDITION: &[Step] = &[Step::Make(By::Third, Call::Add(ONE), "added 0", 1)];
-    take_steps(rt, alloc, desk, ADDITION)?;
-    match desk.worker.claim(rt)? {
-        Some((number, _ticket)) => Ok(number),
-        None => Err("nothing to claim".into()),
+fn add_and_claim<R: Wait>(rt: &R, alloc: Global, desk: &mut Desk) -> Result<(), Fail> {
+    const STEPS: &[Step] = &[
+        Step::Make(By::Third, Call::Add(ONE), "added 0", 1),
+        Step::Claim(Ticket(0)),
+    ];
+    take_steps(rt, alloc, desk, STEPS)
+}
+
+/// What a client was told of handle 1.
+#[derive(Drop)]
+struct Told {
+    handles: Option<Reply>,
+    running: Option<Reply>,
+    state: Option<Reply>,
+}
+
+// Reads once the lock is kept, and then lets it go; None where it isn't kept.
+fn read_all(client: &mut Client, hold: &Hold) -> Option<Told> {
+    if !hold.has_begun() {
+        return None;
     }
+    let told = Told {
+        handles: client.read(Call::Handles),
+        running: client.read(Call::Running),
+        state: client.read(Call::State(ONE)),
+    };
+    hold.end();
+    Some(told)
+}
+
+// A worker ends its transfer, and a client, in a thread of its own, reads once the ending keeps the lock. It answers what the worker was
+// told, and what the client was told.
+fn read_meanwhile<R: Threads + Wait + Sync>(
+    rt: &R,
+    worker: &mut Worker,
+    end: End,
+    client: &mut Client,
+    hold: &Hold,
+) -> (Option<Reply>, Option<Told>) {
+    join(
+        rt,
+        move || worker.finish(rt, end),
+        move || read_all(client, hold),
+    )
 }
 
 // What the reads are to answer, and then the end that kept the lock.
@@ -51,7 +88,6 @@ fn read_beside<R: Threads + Wait + Sync>(
     rt: &R,
     alloc: Global,
     desk: &mut Desk,
-    number: usize,
 ) -> Result<(), Fail> {
     let hold = Arc::new(alloc, Hold::new())?;
     let end = End {
@@ -59,15 +95,7 @@ fn read_beside<R: Threads + Wait + Sync>(
         size: 5,
         hold: Some(hold.clone()?),
     };
-    let (ended, told) = read_meanwhile(
-        rt,
-        &mut desk.worker,
-        number,
-        end,
-        &mut desk.fourth,
-        &hold,
-        ONE,
-    );
+    let (ended, told) = read_meanwhile(rt, &mut desk.worker, end, &mut desk.fourth, &hold);
     compare_all(alloc, &hold, told, ended)
 }
 
@@ -76,16 +104,14 @@ fn read_beside<R: Threads + Wait + Sync>(
 struct HeldLock;
 
 impl Scene for HeldLock {
-    type Told = Result<(), Fail>;
-
     fn play<R: Threads + Wait + Sync>(
         &self,
         rt: &R,
         alloc: Global,
         desk: &mut Desk,
     ) -> Result<(), Fail> {
-        let number = add_and_claim(rt, alloc, desk)?;
-        read_beside(rt, alloc, desk, number)
+        add_and_claim(rt, alloc, desk)?;
+        read_beside(rt, alloc, desk)
     }
 }
 

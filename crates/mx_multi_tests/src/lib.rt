@@ -7,6 +7,8 @@ mod caller;
 #[cfg(test)]
 mod checks;
 #[cfg(test)]
+mod desk;
+#[cfg(test)]
 mod held;
 #[cfg(test)]
 mod meetings;

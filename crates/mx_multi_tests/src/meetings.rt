@@ -1,16 +1,25 @@
 //! What each seat sees of a call that another seat has made, while it is made and afterwards.
+ghost use Rattle.std.specs.Prelude.{◌≡◌};
 
 use crate::checks::check;
+use crate::desk::{Desk, Pair, Scene};
 use crate::script::{By, Step, at_four_seats, take_steps};
-use mx_multi_tests_base::desk::{Desk, Scene};
-use mx_multi_tests_base::threads::{Glance, Listed, list_beside};
-use mx_types::{Call, HandleId, OutOfMemory, Ticket};
+use mx_multi_tests_base::client::{Client, make};
+use mx_types::{Call, HandleId, OutOfMemory, Reply, Ticket};
 use std::alloc::Global;
 use std::sync::Wait;
 use std::test::Fail;
-use std::thread::Threads;
+use std::thread::{Threads, join_mut};
 
 const ONE: HandleId = HandleId(1);
+
+/// A list of handles: how many events the seat had then seen, how many handles there were, and the first.
+#[derive(Clone, Copy, PartialEq, Eq)]
+struct Glance {
+    cut: u32,
+    count: usize,
+    first: Option<HandleId>,
+}
 
 const NOTHING: Glance = Glance {
     cut: 0,
@@ -23,6 +32,57 @@ const ONE_HANDLE: Glance = Glance {
     count: 1,
     first: Some(ONE),
 };
+
+// A list of the handles through a seat, where it was answered.
+fn glance_at(client: &mut Client) -> Option<Glance>
+    ensures { client.new.of ≡ client.old.of }
+{
+    let Some(list) = client.handles() else {
+        return None;
+    };
+    let handles = list.list.as_slice();
+    Some(Glance {
+        cut: list.cut,
+        count: handles.len(),
+        first: handles.first().copied(),
+    })
+}
+
+// Adds handle 1, once more where memory was refused, and lists all at once.
+fn add_and_list<R: Wait>(rt: &R, client: &mut Client) -> (bool, Option<Glance>)
+    ensures { client.new.of ≡ client.old.of }
+{
+    let refused = matches!(make(rt, client, Call::Add(ONE)), Some(Reply::OutOfMemory));
+    if refused {
+        let _added = make(rt, client, Call::Add(ONE));
+    }
+    (refused, glance_at(client))
+}
+
+/// What two seats listed, and whether memory was refused for the addition beside them.
+#[derive(Clone, Copy)]
+struct Listed {
+    refused: bool,
+    first: Option<Glance>,
+    second: Option<Glance>,
+}
+
+// The first seat adds handle 1, once more where memory was refused, and lists all at once; the second lists all meanwhile, in a
+// thread of its own.
+fn list_beside<R: Threads + Wait + Sync>(rt: &R, pair: &mut Pair) -> Listed {
+    let one = &mut pair.one;
+    let two = &mut pair.two;
+    let ((refused, first), second) = join_mut(
+        rt,
+        &mut || add_and_list(rt, one),
+        &mut || glance_at(two),
+    );
+    Listed {
+        refused,
+        first,
+        second,
+    }
+}
 
 // What was listed beside an addition of handle 1: by its seat, and by the other.
 fn check_lists(listed: Listed) -> Result<(), Fail> {
@@ -55,15 +115,13 @@ const SEEN: &[Step] = &[
 struct Additions;
 
 impl Scene for Additions {
-    type Told = Result<(), Fail>;
-
     fn play<R: Threads + Wait + Sync>(
         &self,
         rt: &R,
         alloc: Global,
         desk: &mut Desk,
     ) -> Result<(), Fail> {
-        let listed = list_beside(rt, &mut desk.pair, ONE);
+        let listed = list_beside(rt, &mut desk.pair);
         check_lists(listed)?;
         take_steps(rt, alloc, desk, SEEN)?;
         if listed.refused {

@@ -1,12 +1,14 @@
 //! Scripts of calls at a desk, each with what it is to answer. A call that is refused memory is made once more, and is then to
 //! answer the same as if it had been the first; a script in which one was refused fails with the want of memory in the end.
+ghost use Rattle.std.specs.Prelude.{◌≡◌};
 
 use crate::checks::{check, compare};
+use crate::desk::{Desk, FOUR_SEATS, Pair, Scene, at_desk};
+use mx_journal::GiveBackReply;
 use mx_multi::Progress;
 use mx_multi_tests_base::client;
-use mx_multi_tests_base::client::Worker;
-use mx_multi_tests_base::desk::{Desk, Scene, at_desk};
-use mx_multi_tests_base::sample::{End, FOUR_SEATS};
+use mx_multi_tests_base::client::{Client, Worker};
+use mx_multi_tests_base::sample::{End, Job};
 use mx_types::{Call, Code, HandleId, OutOfMemory, Reply, Ticket};
 use std::alloc::Global;
 use std::sync::Wait;
@@ -31,12 +33,12 @@ pub enum Step {
     Meet(u32),
     /// The worker claims the next work, which is of that ticket.
     Claim(Ticket),
-    /// The worker ends the transfer of the claim of that number, with a code and a size: how many events its seat has then seen.
-    Finish(usize, Code, u32, u32),
-    /// The worker gives the work of the claim of that number back, and whether its ticket ran and was claimed.
-    GiveBack(usize, bool),
-    /// The worker notes so many bytes for the claim of that number.
-    Note(usize, u32),
+    /// The worker ends the transfer of its last claim, with a code and a size: how many events its seat has then seen.
+    Finish(Code, u32, u32),
+    /// The worker gives the work of its last claim back, and whether its ticket ran and was claimed.
+    GiveBack(bool),
+    /// The worker notes so many bytes for its last claim.
+    Note(u32),
     /// The worker looks at a ticket: the text of the answer, and how many events its seat has then seen.
     Look(Ticket, &'static str, u32),
     /// The fourth seat reads how far a handle's transfer is.
@@ -51,24 +53,20 @@ struct Kept {
 }
 
 // A seat's call, and how many events the seat has then seen.
+fn made_at<R: Wait>(rt: &R, client: &mut Client, call: Call) -> (Option<Reply>, u32)
+    ensures { client.new.of ≡ client.old.of }
+{
+    let reply = client::make(rt, client, call);
+    (reply, client.cut())
+}
+
 fn made<R: Wait>(rt: &R, desk: &mut Desk, by: By, call: Call) -> (Option<Reply>, u32) {
+    let pair = &mut desk.pair;
     match by {
-        By::First => {
-            let reply = desk.pair.first(rt, call);
-            (reply, desk.pair.cuts().0)
-        }
-        By::Second => {
-            let reply = desk.pair.second(rt, call);
-            (reply, desk.pair.cuts().1)
-        }
-        By::Third => {
-            let reply = client::make(rt, &mut desk.third, call);
-            (reply, desk.third.cut())
-        }
-        By::Fourth => {
-            let reply = client::make(rt, &mut desk.fourth, call);
-            (reply, desk.fourth.cut())
-        }
+        By::First => made_at(rt, &mut pair.one, call),
+        By::Second => made_at(rt, &mut pair.two, call),
+        By::Third => made_at(rt, &mut desk.third, call),
+        By::Fourth => made_at(rt, &mut desk.fourth, call),
     }
 }
 
@@ -89,16 +87,16 @@ fn make<R: Wait>(
 }
 
 // Both seats meet, and have then seen so many events.
-fn meet<R: Wait>(rt: &R, desk: &mut Desk, cut: u32) -> Result<(), Fail> {
-    check(desk.pair.meet(rt) == Some(cut), "they met otherwise")?;
-    check(desk.pair.cuts() == (cut, cut), "another list")
+fn meet<R: Wait>(rt: &R, pair: &mut Pair, cut: u32) -> Result<(), Fail> {
+    let Ok(met) = pair.one.meet(rt, &mut pair.two) else {
+        return Err("they met not".into());
+    };
+    let cuts = (met, pair.one.cut(), pair.two.cut());
+    check(cuts == (cut, cut, cut), "they met otherwise")
 }
 
 fn claim<R: Wait>(rt: &R, worker: &mut Worker, ticket: Ticket) -> Result<(), Fail> {
-    let Some((_number, claimed)) = worker.claim(rt)? else {
-        return Err("nothing to claim".into());
-    };
-    check(claimed == ticket, "another ticket")
+    check(worker.claim(rt)? == Some(ticket), "another ticket, or none")
 }
 
 // What an end was answered, the second time where the first was refused memory.
@@ -106,16 +104,15 @@ fn finish<R: Wait>(
     rt: &R,
     worker: &mut Worker,
     kept: &mut Kept,
-    number: usize,
     code: Code,
     size: u32,
 ) -> Option<Reply> {
-    let reply = worker.finish(rt, number, End::new(code, size));
+    let reply = worker.finish(rt, End::new(code, size));
     if !matches!(reply, Some(Reply::OutOfMemory)) {
         return reply;
     }
     kept.refused = true;
-    worker.finish(rt, number, End::new(code, size))
+    worker.finish(rt, End::new(code, size))
 }
 
 // Ends the transfer of a claim, which is to be recorded.
@@ -123,21 +120,32 @@ fn end<R: Wait>(
     rt: &R,
     worker: &mut Worker,
     kept: &mut Kept,
-    number: usize,
     code: Code,
     size: u32,
     cut: u32,
 ) -> Result<(), Fail> {
-    let reply = finish(rt, worker, kept, number, code, size);
+    let reply = finish(rt, worker, kept, code, size);
     check(matches!(reply, Some(Reply::Recorded)), "not recorded")?;
-    check(worker.cut() == cut, "other events")
+    check(worker.seat.cut() == cut, "other events")
 }
 
-fn give_back<R: Wait>(rt: &R, worker: &mut Worker, number: usize, back: bool) -> Result<(), Fail> {
-    check(
-        worker.give_back(rt, number) == Some(back),
-        "given back otherwise",
-    )
+// Gives the work of the last claim back; whether its ticket ran and was claimed.
+fn give_back<R: Wait>(rt: &R, worker: &mut Worker) -> Option<bool> {
+    let claim = worker.hand.take()?;
+    match worker.seat.give_back(rt, claim, Job) {
+        Ok(GiveBackReply::Back) => Some(true),
+        Ok(GiveBackReply::Stale(_)) => Some(false),
+        Err(_) => None,
+    }
+}
+
+// Notes so many bytes for the last claim. False where there is none.
+fn note(worker: &mut Worker, count: u32) -> bool {
+    let Some(claim) = worker.hand.claims().last() else {
+        return false;
+    };
+    worker.seat.note(claim, count);
+    true
 }
 
 fn look(
@@ -149,7 +157,7 @@ fn look(
     let Some(look) = worker.look(ticket) else {
         return Err("no look".into());
     };
-    let cut = worker.cut();
+    let cut = worker.seat.cut();
     let call = Call::Look(ticket);
     compare(alloc, call, Some(Reply::Look(look)), cut, expected)
 }
@@ -167,13 +175,14 @@ fn take_step<R: Wait>(
             let (reply, now) = make(rt, desk, kept, by, call);
             compare(alloc, call, reply, now, (answer, cut))
         }
-        Step::Meet(cut) => meet(rt, desk, cut),
+        Step::Meet(cut) => meet(rt, &mut desk.pair, cut),
         Step::Claim(ticket) => claim(rt, &mut desk.worker, ticket),
-        Step::Finish(number, code, size, cut) => {
-            end(rt, &mut desk.worker, kept, number, code, size, cut)
-        }
-        Step::GiveBack(number, back) => give_back(rt, &mut desk.worker, number, back),
-        Step::Note(number, bytes) => check(desk.worker.note(number, bytes), "no such claim"),
+        Step::Finish(code, size, cut) => end(rt, &mut desk.worker, kept, code, size, cut),
+        Step::GiveBack(is_back) => check(
+            give_back(rt, &mut desk.worker) == Some(is_back),
+            "given back otherwise",
+        ),
+        Step::Note(count) => check(note(&mut desk.worker, count), "no claim"),
         Step::Look(ticket, answer, cut) => look(alloc, &mut desk.worker, ticket, (answer, cut)),
         Step::Progress(handle, progress) => {
             let read = desk.fourth.progress(handle);
@@ -206,8 +215,6 @@ struct Script<'a> {
 }
 
 impl Scene for Script<'_> {
-    type Told = Result<(), Fail>;
-
     fn play<R: Threads + Wait + Sync>(
         &self,
         rt: &R,
@@ -219,7 +226,7 @@ impl Scene for Script<'_> {
 }
 
 /// Plays at a multi handle of four seats; where memory was refused for it, at another, and then fails with the want of memory.
-pub fn at_four_seats<R: Threads + Wait + Sync, S: Scene<Told = Result<(), Fail>>>(
+pub fn at_four_seats<R: Threads + Wait + Sync, S: Scene>(
     rt: &R,
     alloc: Global,
     scene: &S,

@@ -1,12 +1,11 @@
 //! One thread, and the seats of one multi handle.
 
 use crate::checks::{answered, check};
+use crate::desk::{Desk, FOUR_SEATS, Scene};
 use crate::script::at_four_seats;
 use mx_multi::{Limits, OpenError};
 use mx_multi_tests_base::client::{Client, make};
-use mx_multi_tests_base::desk::{Desk, Scene};
-use mx_multi_tests_base::opened::open;
-use mx_multi_tests_base::sample::FOUR_SEATS;
+use mx_multi_tests_base::sample::Handle;
 use mx_types::{Call, HandleId, Reply};
 use std::alloc::Global;
 use std::sync::Wait;
@@ -14,7 +13,7 @@ use std::test::Fail;
 use std::thread::Threads;
 
 fn is_refused<R: Wait>(rt: &R, alloc: Global, limits: Limits) -> bool {
-    match open(rt, alloc, limits) {
+    match Handle::open(rt, alloc, limits) {
         Ok(_) => false,
         Err(error) => error == OpenError::BadLimits,
     }
@@ -78,8 +77,6 @@ fn fill<R: Wait>(rt: &R, client: &mut Client) -> Result<(), Fail> {
 struct FullTable;
 
 impl Scene for FullTable {
-    type Told = Result<(), Fail>;
-
     fn play<R: Threads + Wait + Sync>(
         &self,
         rt: &R,

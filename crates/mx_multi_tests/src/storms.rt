@@ -1,8 +1,9 @@
 //! Calls of many threads, played again on one.
 
 use crate::checks::check;
-use mx_multi_tests_base::entries::Entry;
+use mx_multi_tests_base::entries::{Entry, Stop};
 use mx_multi_tests_base::stress::{differs, storm};
+use mx_types::OutOfMemory;
 use std::alloc::Global;
 use std::sync::Wait;
 use std::test::Fail;
@@ -17,15 +18,19 @@ fn replay(alloc: Global, entries: &mut Vec<Entry>) -> Result<(), Fail> {
     let Some(place) = differs(alloc, entries)? else {
         return Ok(());
     };
-    match entries.get(place) {
-        Some(entry) => Err(format!(in alloc; "{entry}")?.into()),
-        None => Err("no such call".into()),
-    }
+    let Some(entry) = entries.get(place) else {
+        return Err("no such call".into());
+    };
+    let Entry { who, cut, call, .. } = entry;
+    let said = entry.said.as_str();
+    Err(format!(in alloc; "{who:?} {cut} {call:?} = {said}")?.into())
 }
 
 fn run_and_replay<R: Threads + Wait + Sync>(rt: &R, alloc: Global) -> Result<(), Fail> {
-    let Some(mut entries) = storm(rt, alloc, SEED, TURNS)? else {
-        return Err("a call was not answered".into());
+    let mut entries = match storm(rt, alloc, SEED, TURNS) {
+        Ok(entries) => entries,
+        Err(Stop::Memory) => return Err(OutOfMemory.into()),
+        Err(Stop::NoAnswer) => return Err("a call was not answered".into()),
     };
     replay(alloc, &mut entries)?;
     check(entries.len() > 16 * TURNS as usize, "few calls")

@@ -1,28 +1,79 @@
 //! Two threads that take turns, and poll until it is theirs.
 
 use crate::checks::check;
+use crate::desk::{Desk, FOUR_SEATS, Scene, at_desk};
 use crate::script::{By, Step, take_steps};
 use mx_multi::Limits;
-use mx_multi_tests_base::desk::{Desk, Scene, at_desk};
-use mx_multi_tests_base::sample::FOUR_SEATS;
-use mx_multi_tests_base::threads::take_turns;
-use mx_types::{Call, HandleId};
+use mx_multi_tests_base::client::Client;
+use mx_types::{Call, HandleId, Reply, State};
 use std::alloc::Global;
 use std::sync::Wait;
 use std::test::Fail;
-use std::thread::Threads;
+use std::thread::{Threads, join};
 
 const ONE: HandleId = HandleId(1);
 
 const TURNS: u32 = 1000;
+
+// Whether it is a client's turn, which resumes or pauses the handle; None where that can't be read.
+fn is_next(client: &mut Client, resumes: bool) -> Option<bool> {
+    match client.state(ONE)? {
+        State::Paused(_) => Some(resumes),
+        State::Running(_) => Some(!resumes),
+        _ => None,
+    }
+}
+
+// Resumes or pauses the handle, and wakes the others.
+fn take_turn<R: Wait>(rt: &R, client: &mut Client, resumes: bool) {
+    let call = if resumes {
+        Call::Unpause(ONE)
+    } else {
+        Call::Pause(ONE)
+    };
+    let _made = client.run_script(rt, &[call, Call::Wakeup]);
+}
+
+// Takes so many turns, and polls until it is the next; how many it took.
+fn take_all<R: Wait>(rt: &R, client: &mut Client, resumes: bool) -> u32 {
+    let mut taken = 0u32;
+    for _ in rt.forever() {
+        if taken >= TURNS {
+            return taken;
+        }
+        match is_next(client, resumes) {
+            Some(true) => {
+                take_turn(rt, client, resumes);
+                taken = taken.wrapping_add(1);
+            }
+            Some(false) => {
+                let _woken = client.poll(rt);
+            }
+            None => return taken,
+        }
+    }
+    taken
+}
+
+// Two clients take turns, each in a thread of its own: the first pauses the handle, the second resumes it, each then wakes the other, and
+// polls until it is its turn. It answers how many turns each took.
+fn take_turns<R: Threads + Wait + Sync>(
+    rt: &R,
+    first: &mut Client,
+    second: &mut Client,
+) -> (u32, u32) {
+    join(
+        rt,
+        move || take_all(rt, first, false),
+        move || take_all(rt, second, true),
+    )
+}
 
 /// Two seats pause and resume handle 1 in turn.
 #[derive(Clone, Copy)]
 struct PingPong;
 
 impl Scene for PingPong {
-    type Told = Result<(), Fail>;
-
     fn play<R: Threads + Wait + Sync>(
         &self,
         rt: &R,
@@ -31,7 +82,7 @@ impl Scene for PingPong {
     ) -> Result<(), Fail> {
         const ADDITION: &[Step] = &[Step::Make(By::Third, Call::Add(ONE), "added 0", 1)];
         take_steps(rt, alloc, desk, ADDITION)?;
-        let turns = take_turns(rt, &mut desk.third, &mut desk.fourth, ONE, TURNS);
+        let turns = take_turns(rt, &mut desk.third, &mut desk.fourth);
         check(turns == (TURNS, TURNS), "other turns")
     }
 }

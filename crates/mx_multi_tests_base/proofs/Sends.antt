@@ -11,7 +11,7 @@ use Rattle.mx_multi.proofs.Sends.{application_send, at_work_send, seated_send}
 use Rattle.mx_multi.specs.contracts.seat.Application as Application
 use Rattle.mx_multi.specs.contracts.seat.AtWork as AtWork
 use Rattle.mx_multi.specs.contracts.seated.Seated as Seated
-use Rattle.mx_multi_tests_base.proofs.party.Notes.TheSendSync.{the_field_send as notes_field}
+use Rattle.mx_multi_tests_base.proofs.entries.Notes.TheSendSync.{the_field_send as notes_field}
 use Rattle.mx_multi_tests_base.specs.contracts.sample.JobWork.TheImpl.{ghosts as job}
 use Rattle.mx_multi_tests_base.specs.contracts.sample.EndEnding.TheImpl.{ghosts as end}
 use Rattle.mx_multi_tests_base.specs.contracts.sample.Job as Job
@@ -59,12 +59,12 @@ pub worker_send : (x : NamedLft) → IsSend (Worker.the_row x)
 worker_send x = recorded_send (Worker.the_field x).row _ _ (Worker.the_type x).to_one (worker_field x)
 
 place_field : (x : NamedLft) → IsSend (Place.the_field x).row
-place_field x = struct_send (shape (Place.the_type x)) (client_send x, (search (sendable, crosses) depth 40, (search (sendable, crosses) depth 40, tt)))
+place_field x = struct_send (shape (Place.the_type x)) (client_send x, (notes_field, tt))
 
 party_field : (x : NamedLft) → IsSend (Party.the_field x).row
 party_field x = struct_send (shape (Party.the_type x)) (
   place_field x,
-  (place_field x, (worker_field x, (search (sendable, crosses) depth 40, (search (sendable, crosses) depth 40, (search (sendable, crosses) depth 40, (notes_field, tt)))))),
+  (place_field x, (worker_field x, (notes_field, (search (sendable, crosses) depth 40, (search (sendable, crosses) depth 40, tt))))),
 )
 
 pub party_send : (x : NamedLft) → IsSend (Party.the_row x)

@@ -1,31 +1,36 @@
 //! The seats of this crate's multi handle, each with its handle.
-ghost use Rattle.std.specs.Prelude.{◌≡◌};
+ghost use Rattle.std.specs.Prelude.{◌≡◌, IfSome};
+ghost use Rattle.std.specs.List.{All};
 
 use crate::hand::Hand;
-use crate::sample::{End, Job};
-use mx_journal::{FinishReply, GiveBackReply};
-use mx_multi::{Application, AtWork, Seated};
+use crate::sample::{End, Handle, Job};
+use mx_journal::FinishReply;
+use mx_multi::{Application, AtWork, SeatOf, Seated};
 use mx_types::{Call, Look, OutOfMemory, Reply, Ticket};
+use std::alloc::Global;
 use std::sync::Wait;
+
+/// The seats in one role that nobody has taken yet, with their multi handle.
+#[derive(Drop)]
+pub struct Seats<'a, K> {
+    pub multi: &'a Handle,
+    pub left: Vec<SeatOf<K, Job, End>>,
+    pub ghost own: { All (λ s. s.of ≡ multi.now) left.items },
+}
+
+impl<'a, K> Seats<'a, K> {
+    /// The last of them.
+    pub fn take(&mut self) -> Option<Seated<'a, K, Job, End>>
+        ensures same { self.new.multi ≡ self.old.multi }
+        ensures own { IfSome result (λ s. s.of ≡ self.old.multi.now) }
+    {
+        let seat = self.left.pop()?;
+        Some(self.multi.at(seat))
+    }
+}
 
 /// An application thread's seat.
 pub type Client<'a> = Seated<'a, Application, Job, End>;
-
-/// Two application threads' seats of one multi handle.
-#[derive(Drop)]
-pub struct Pair<'a> {
-    pub one: Client<'a>,
-    pub two: Client<'a>,
-    pub ghost own: { two.of ≡ one.of },
-}
-
-/// A worker's seat, and what it has claimed.
-#[derive(Drop)]
-pub struct Worker<'a> {
-    pub seat: Seated<'a, AtWork, Job, End>,
-    pub hand: Hand,
-    pub ghost claims: { hand ≡ seat.of.engine.ties },
-}
 
 /// Makes a call, an addition with this crate's work; None where it was answered `WrongSeat` or None, or where it is a worker's.
 pub fn make<R: Wait>(rt: &R, client: &mut Client, call: Call) -> Option<Reply>
@@ -45,45 +50,29 @@ pub fn make<R: Wait>(rt: &R, client: &mut Client, call: Call) -> Option<Reply>
     }
 }
 
-impl<'a> Pair<'a> {
-    /// How many events each seat has seen.
-    pub fn cuts(&self) -> (u32, u32) {
-        (self.one.cut(), self.two.cut())
-    }
-
-    /// A call of the first seat, as `make` has it.
-    pub fn first<R: Wait>(&mut self, rt: &R, call: Call) -> Option<Reply> {
-        make(rt, &mut self.one, call)
-    }
-
-    /// A call of the second seat, as `make` has it.
-    pub fn second<R: Wait>(&mut self, rt: &R, call: Call) -> Option<Reply> {
-        make(rt, &mut self.two, call)
-    }
-
-    /// Both seats see the journal, and how many events that has; None where it was answered `WrongSeat`.
-    pub fn meet<R: Wait>(&mut self, rt: &R) -> Option<u32> {
-        match self.one.meet(rt, &mut self.two) {
-            Ok(cut) => Some(cut),
-            Err(_) => None,
-        }
-    }
+/// A worker's seat, and what it has claimed.
+#[derive(Drop)]
+pub struct Worker<'a> {
+    pub seat: Seated<'a, AtWork, Job, End>,
+    pub hand: Hand,
+    pub ghost claims: { hand ≡ seat.of.engine.ties },
 }
 
 impl<'a> Worker<'a> {
-    /// How many events its seat has seen.
-    pub fn cut(&self) -> u32 {
-        self.seat.cut()
+    /// A worker at the seat, with no claim yet.
+    pub fn new(alloc: Global, seat: Seated<'a, AtWork, Job, End>) -> Worker<'a> {
+        let hand = Hand::new(alloc, seat.multi().first_ties());
+        Worker { seat, hand }
     }
 
-    /// Takes the next work, and keeps the claim alone: the number of the claim, and its ticket.
-    pub fn claim<R: Wait>(&mut self, rt: &R) -> Result<Option<(usize, Ticket)>, OutOfMemory> {
+    /// Takes the next work, and keeps the claim alone: its ticket.
+    pub fn claim<R: Wait>(&mut self, rt: &R) -> Result<Option<Ticket>, OutOfMemory> {
         let Some((claim, _work)) = self.seat.claim(rt) else {
             return Ok(None);
         };
         let ticket = claim.ticket();
-        let number = self.hand.keep(claim)?;
-        Ok(Some((number, ticket)))
+        self.hand.keep(claim)?;
+        Ok(Some(ticket))
     }
 
     /// What it is told of a ticket.
@@ -94,37 +83,17 @@ impl<'a> Worker<'a> {
         Some(look)
     }
 
-    /// Notes how many bytes the transfer of the claim of that number has received. False where there is no such claim.
-    pub fn note(&mut self, number: usize, count: u32) -> bool {
-        let Some(claim) = self.hand.get(number) else {
-            return false;
-        };
-        self.seat.note(claim, count);
-        true
-    }
-
-    /// Ends the transfer of the claim of that number; None where it was answered `WrongSeat`, or where there is no such claim. A claim
-    /// that comes back for want of memory is kept under its number.
-    pub fn finish<R: Wait>(&mut self, rt: &R, number: usize, end: End) -> Option<Reply> {
-        let claim = self.hand.take(number)?;
+    /// Ends the transfer of the last claim; None where it was answered `WrongSeat`, or where there is no claim. A claim that comes back
+    /// for want of memory is kept again, where there is memory for that.
+    pub fn finish<R: Wait>(&mut self, rt: &R, end: End) -> Option<Reply> {
+        let claim = self.hand.take()?;
         match self.seat.finish(rt, claim, end) {
             Ok(FinishReply::OutOfMemory(claim, _)) => {
-                self.hand.put(number, claim);
+                let _kept = self.hand.keep(claim);
                 Some(Reply::OutOfMemory)
             }
             Ok(FinishReply::Recorded) => Some(Reply::Recorded),
             Ok(FinishReply::Stale(_)) => Some(Reply::Stale),
-            Err(_) => None,
-        }
-    }
-
-    /// Gives the work of the claim of that number back; whether its ticket ran and was claimed; None where it was answered `WrongSeat`, or
-    /// where there is no such claim.
-    pub fn give_back<R: Wait>(&mut self, rt: &R, number: usize) -> Option<bool> {
-        let claim = self.hand.take(number)?;
-        match self.seat.give_back(rt, claim, Job) {
-            Ok(GiveBackReply::Back) => Some(true),
-            Ok(GiveBackReply::Stale(_)) => Some(false),
             Err(_) => None,
         }
     }

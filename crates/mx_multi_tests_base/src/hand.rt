@@ -1,5 +1,5 @@
 //! What a worker has claimed.
-ghost use Rattle.std.specs.Prelude.{◌≡◌, IfSome, IfOk};
+ghost use Rattle.std.specs.Prelude.{◌≡◌, IfSome};
 ghost use Rattle.mx_types.specs.Origin.{no_request};
 
 use crate::sample::Job;
@@ -7,15 +7,14 @@ use mx_lock::{TieMark, TiedClaim};
 use mx_types::OutOfMemory;
 use std::alloc::Global;
 use std::marker::Model;
-use std::mem;
 
-/// Claims on additions of this crate's work, of one multi handle, each under the number of its coming. Contracts see of which list of ties
-/// they are. The place of one that was taken stays empty.
+/// Claims on additions of this crate's work, of one multi handle, in the order of their coming. Contracts see of which list of ties
+/// they are.
 #[derive(Drop)]
 pub struct Hand {
     /// For contracts alone: it has no size.
     of: TieMark,
-    claims: Vec<Option<TiedClaim<Job>>>,
+    claims: Vec<TiedClaim<Job>>,
 }
 
 impl Model for Hand {
@@ -41,48 +40,29 @@ impl Hand {
         }
     }
 
-    /// Keeps a claim, under the number that it answers.
+    /// Keeps a claim, behind the others.
     #[tactic(auto, using(crate::proofs::Hands::kept_more))]
-    pub fn keep(&mut self, claim: TiedClaim<Job>) -> Result<usize, OutOfMemory>
+    pub fn keep(&mut self, claim: TiedClaim<Job>) -> Result<(), OutOfMemory>
         requires of { claim.of ≡ self.old }
         requires origin { claim.origin ≡ no_request }
         ensures same { self.new ≡ self.old }
     {
-        let number = self.claims.len();
-        self.claims.push(Some(claim))?;
-        Ok(number)
+        self.claims.push(claim)?;
+        Ok(())
     }
 
-    /// Takes the claim of that number; None where there is none.
-    #[tactic(auto, using(crate::proofs::Hands::taken))]
-    pub fn take(&mut self, number: usize) -> Option<TiedClaim<Job>>
+    /// Takes the last claim.
+    pub fn take(&mut self) -> Option<TiedClaim<Job>>
         ensures same { self.new ≡ self.old }
         ensures of { IfSome result (λ c. c.of ≡ self.old) }
         ensures origin { IfSome result (λ c. c.origin ≡ no_request) }
     {
-        if number >= self.claims.len() {
-            return None;
-        }
-        mem::replace(&mut self.claims[number], None)
+        let claim = self.claims.pop()?;
+        Some(claim)
     }
 
-    /// Puts a claim back under the number that it had.
-    #[tactic(auto, using(crate::proofs::Hands::put))]
-    pub fn put(&mut self, number: usize, claim: TiedClaim<Job>)
-        requires of { claim.of ≡ self.old }
-        requires origin { claim.origin ≡ no_request }
-        ensures same { self.new ≡ self.old }
-    {
-        if number < self.claims.len() {
-            self.claims[number] = Some(claim);
-        }
-    }
-
-    /// The claim of that number.
-    pub fn get(&self, number: usize) -> Option<&TiedClaim<Job>> {
-        if number >= self.claims.len() {
-            return None;
-        }
-        self.claims[number].as_ref()
+    /// The claims, in the order of their coming.
+    pub fn claims(&self) -> &[TiedClaim<Job>] {
+        self.claims.as_slice()
     }
 }

@@ -10,6 +10,16 @@ pub struct Hold {
     late: AtomicBool,
 }
 
+// Returns true once the sign is given; false after some ten seconds.
+fn is_given(sign: &AtomicBool) -> bool {
+    for _ in 0..4_000_000_000u64 {
+        if sign.load(Ordering::SeqCst) {
+            return true;
+        }
+    }
+    false
+}
+
 impl Hold {
     pub fn new() -> Hold {
         Hold {
@@ -22,22 +32,14 @@ impl Hold {
     /// Says that it has begun, and returns once it is over; or after some ten seconds, and then it was late.
     pub fn stay(&self) {
         self.begun.store(true, Ordering::SeqCst);
-        for _ in 0..4_000_000_000u64 {
-            if self.over.load(Ordering::SeqCst) {
-                return;
-            }
+        if !is_given(&self.over) {
+            self.late.store(true, Ordering::SeqCst);
         }
-        self.late.store(true, Ordering::SeqCst);
     }
 
     /// Returns true once it has begun; false after some ten seconds.
     pub fn has_begun(&self) -> bool {
-        for _ in 0..4_000_000_000u64 {
-            if self.begun.load(Ordering::SeqCst) {
-                return true;
-            }
-        }
-        false
+        is_given(&self.begun)
     }
 
     /// Lets the call go.

@@ -1,16 +1,13 @@
-//! What calls of many threads on one multi handle are made of, and the same calls on one thread: seats beside the multi handle
-//! that gave them, calls by chance, the texts of calls and of their answers. Tests and the programs of `bench` stand on it.
+//! What calls of many threads on one multi handle are made of, and the same calls on one thread: seats with their handle, calls by
+//! chance, the texts of calls and of their answers. Tests and the programs of `bench` stand on it.
 #![tactic(auto)]
 
 pub mod client;
-pub mod desk;
 pub mod entries;
 pub mod hand;
 pub mod hold;
 pub mod one_thread;
-pub mod opened;
 pub mod party;
 pub mod sample;
 pub mod stress;
 pub mod texts;
-pub mod threads;

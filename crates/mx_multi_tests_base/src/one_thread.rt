@@ -1,16 +1,17 @@
-//! The calls of many makers, one after another, on one thread: the control state alone, with no lock and no versions.
+//! The calls of many makers, one after another, on one thread: the control core alone, with no lock and no versions.
 ghost use Rattle.std.specs.Prelude.{◌≡◌, ◌<◌, ◌≤◌, true};
 ghost use Rattle.mx_types.specs.Limits.{IsHistory};
 ghost use Rattle.mx_types.specs.Origin.{no_request};
 ghost use Rattle.mx_journal.specs.History.{is_maker};
 
+use crate::entries::{Entry, text_of};
 use crate::sample::{End, Job};
 use mx_journal::{Claim, Control, VecLog};
 use mx_types::{Call, Code, HandleId, OutOfMemory, Reply, Ticket, Who};
 use std::alloc::Global;
 
-/// The place of a maker among the 32: first the seats, then the workers.
-pub fn place_of(who: Who) -> usize
+// The place of a maker among the 32: first the seats, then the workers.
+fn place_of(who: Who) -> usize
     ensures { result < 32 }
 {
     match who {
@@ -35,13 +36,14 @@ struct Held {
     ghost origin: { claim.origin ≡ no_request },
 }
 
-/// A control state with its log, the claims on all additions, and the marks of the makers' polls.
+/// A control core with its log, the claims on all additions, and of each maker the mark of its poll and how many calls it has made.
 #[derive(Drop)]
 pub struct OneThread {
     control: Control<Job, End>,
     log: VecLog,
     held: Vec<Option<Held>>,
     marks: [u32; 32],
+    calls: [usize; 32],
 }
 
 impl OneThread {
@@ -53,40 +55,27 @@ impl OneThread {
             log: VecLog::new(alloc),
             held: Vec::new(alloc),
             marks: [0; 32],
+            calls: [0; 32],
         })
     }
 
-    /// How many events there were.
-    pub fn len(&self) -> u32 {
-        self.control.len()
-    }
-
-    // Claims the addition that waits, and holds the claim.
-    fn hold(&mut self) -> Result<(), OutOfMemory> {
-        if let Some((claim, _work)) = self.control.claim() {
-            self.held.push(Some(Held { claim }))?;
-        }
-        Ok(())
-    }
-
+    // Adds a handle, and holds the claim on what waits then.
     fn add(&mut self, who: Who, handle: HandleId) -> Result<Reply, OutOfMemory>
         requires { is_maker who ≡ true }
     {
         let reply = self.control.add(&mut self.log, who, handle, Job).reply();
-        if matches!(reply, Reply::Added(_)) {
-            self.hold()?;
+        if let Some((claim, _work)) = self.control.claim() {
+            self.held.push(Some(Held { claim }))?;
         }
         Ok(reply)
     }
 
-    fn finish(&mut self, who: Who, ticket: Ticket, code: Code, size: u32) -> Option<Reply>
+    fn finish(&mut self, who: Who, ticket: Ticket, end: End) -> Option<Reply>
         requires { is_maker who ≡ true }
     {
         let place = self.held.get_mut(ticket.0 as usize)?;
         let Held { claim } = place.take()?;
-        let reply = self
-            .control
-            .finish(&mut self.log, who, claim, End::new(code, size));
+        let reply = self.control.finish(&mut self.log, who, claim, end);
         Some(reply.reply())
     }
 
@@ -99,29 +88,53 @@ impl OneThread {
         Some(Reply::Woken)
     }
 
-    /// What a maker's call answers; None for a poll that would wait, the end of a transfer that isn't claimed, and a number
-    /// that no maker has.
-    pub fn answer(&mut self, who: Who, call: Call) -> Result<Option<Reply>, OutOfMemory> {
+    // What a maker's call answers; None for a poll that would wait, the end of a transfer that isn't claimed, and a number
+    // that no maker has.
+    fn answer(&mut self, who: Who, call: Call) -> Result<Option<Reply>, OutOfMemory> {
         if !may_call(who) {
             return Ok(None);
         }
+        let log = &mut self.log;
         Ok(match call {
             Call::Add(handle) => Some(self.add(who, handle)?),
-            Call::Remove(handle) => {
-                Some(self.control.remove(&mut self.log, who, handle).reply())
-            }
-            Call::Pause(handle) => Some(self.control.pause(&mut self.log, who, handle).reply()),
-            Call::Unpause(handle) => {
-                Some(self.control.unpause(&mut self.log, who, handle).reply())
-            }
-            Call::InfoRead => Some(self.control.info_read(&mut self.log, who).reply()),
-            Call::Wakeup => Some(self.control.wakeup(&mut self.log, who).reply()),
+            Call::Remove(handle) => Some(self.control.remove(log, who, handle).reply()),
+            Call::Pause(handle) => Some(self.control.pause(log, who, handle).reply()),
+            Call::Unpause(handle) => Some(self.control.unpause(log, who, handle).reply()),
+            Call::InfoRead => Some(self.control.info_read(log, who).reply()),
+            Call::Wakeup => Some(self.control.wakeup(log, who).reply()),
             Call::Poll => self.poll(who),
             Call::Handles => Some(Reply::Handles(self.control.handles())),
             Call::Running => Some(Reply::Running(self.control.running())),
             Call::State(handle) => Some(Reply::State(self.control.state(handle))),
-            Call::Finish(ticket, code, size) => self.finish(who, ticket, code, size),
+            Call::Finish(ticket, code, size) => self.finish(who, ticket, End::new(code, size)),
             Call::Look(ticket) => Some(Reply::Look(self.control.look(ticket))),
         })
+    }
+
+    // Whether a call is the next one of its maker, and is answered the same, at the same cut.
+    fn agrees(&mut self, alloc: Global, entry: &Entry) -> Result<bool, OutOfMemory> {
+        let count = &mut self.calls[place_of(entry.who)];
+        let is_next = *count == entry.number;
+        *count = count.wrapping_add(1);
+        let Some(reply) = self.answer(entry.who, entry.call)? else {
+            return Ok(false);
+        };
+        let said = text_of(alloc, &reply)?;
+        Ok(is_next && said == entry.said && self.control.len() == entry.cut)
+    }
+
+    /// Makes all calls, which stand in the order of their cuts. The place of the first that isn't the next of its maker, that is
+    /// answered otherwise, or whose cut isn't how many events there then are.
+    pub fn first_that_differs(
+        &mut self,
+        alloc: Global,
+        entries: &[Entry],
+    ) -> Result<Option<usize>, OutOfMemory> {
+        for (place, entry) in entries.iter().enumerate() {
+            if !self.agrees(alloc, entry)? {
+                return Ok(Some(place));
+            }
+        }
+        Ok(None)
     }
 }

@@ -1,7 +1,7 @@
 //! A multi handle with nothing to transfer.
 
 use crate::hold::Hold;
-use mx_multi::{Limits, Multi, Seat, WorkerSeat};
+use mx_multi::Multi;
 use mx_types::{Code, Ending, Work};
 use std::sync::Arc;
 
@@ -56,15 +56,3 @@ impl Ending for End {
 }
 
 pub type Handle = Multi<Job, End>;
-
-pub type Chair = Seat<Job, End>;
-
-pub type Bench = WorkerSeat<Job, End>;
-
-/// Four seats and a worker's, with a history of 2,048 events.
-pub const FOUR_SEATS: Limits = Limits {
-    seats: 4,
-    workers: 1,
-    history: 2048,
-    max_connects: 4,
-};
