@@ -162,12 +162,19 @@ impl Ending {
     }
 }
 
-/// Fails unless just this was seen.
-fn compare(played: &Played, waits: &[Waiting], ended: Option<Ended<'_>>) -> Result<(), Fail> {
-    if played.seen() == (Seen { waits, ended }) {
+/// Fails unless just this was seen, and then says both.
+fn compare(
+    alloc: Global,
+    played: &Played,
+    waits: &[Waiting],
+    ended: Option<Ended<'_>>,
+) -> Result<(), Fail> {
+    let seen = played.seen();
+    let expected = Seen { waits, ended };
+    if seen == expected {
         return Ok(());
     }
-    Err(Fail::from("something else is seen of the transfer"))
+    Err(format!(in alloc; "{seen:?} is seen in place of {expected:?}")?.into())
 }
 
 /// A request without a body that follows so many redirects at most, and has so many milliseconds: no deadline where these are 0.
@@ -360,7 +367,7 @@ fn play_and_compare<R: RandomSource + AllocGlobal>(
     ended: Option<Ended<'_>>,
 ) -> Result<(), Fail> {
     play(rt, request, calls, played)?;
-    compare(played, waits, ended)
+    compare(rt.alloc(), played, waits, ended)
 }
 
 /// Fails unless just this is seen of a new transfer of the request over these calls, up to its end: each poll that answers `Pending`, and
