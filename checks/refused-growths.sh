@@ -23,8 +23,8 @@ mx_multi_tests      src/seats\.rt                                      scripts\|
 mx_worker_tests     src/\(ends\|links\|waits\)\.rt                       ^ends\|^links\|^paused\|^takeover\|^waits
 '
 
-# What mx_transfer_tests_base says of a transfer that isn't as a test has it.
-OTHERWISE='something else is seen of the transfer'
+# What mx_transfer_tests_base says of a transfer that isn't as a test has it, between what it saw and what was expected.
+OTHERWISE=' is seen in place of '
 
 top=$(cd "$(dirname "$(readlink -f "$0")")/.." && pwd)
 work=$(mktemp -d)
