@@ -135,8 +135,18 @@ module _ (p : Ticket → Bool) where
           let held : of_held t.tried.held ≡ of_held t.claimed.held = ap of_held at_tried.1 in
           let at_through = gone_through t.now t.gone_through t.tried.held (record t.tried { held = [] }) t.each in
           let at_end = stopped t.stop t.gone_through.is_stopping (hears t.gone_through (waited (wait_of t.now t.gone_through) t.stop)) v t.stops in
-          omega (arith, at_claimed.0, at_claimed.1, at_tried.0.looks_more, at_tried.0.claims_same, held, at_through.looks_more, at_through.claims_same,
-          at_end.looks_more, at_end.claims_same)
+          omega (
+            arith,
+            at_claimed.0,
+            at_claimed.1,
+            at_tried.0.looks_more,
+            at_tried.0.claims_same,
+            held,
+            at_through.looks_more,
+            at_through.claims_same,
+            at_end.looks_more,
+            at_end.claims_same,
+          )
 
 pub looked_at_once : {L : Type 0} (history : L → List Answer) (token_of : L → ℕ) → EachIsLookedAt history token_of
 looked_at_once history token_of w v t p = turn_looks p history token_of w v t
@@ -212,12 +222,14 @@ module _ {L : Type 0} where
     none_once_stopping w v t is =
         let told_before = until_told w v t ∙ is in
         let heard : Worker L = hears t.gone_through (waited (wait_of t.now t.gone_through) t.stop) in
-        let same = stops_again t.stop t.gone_through.is_stopping heard v told_before t.stops in
-        (ap (λ x. x.is_stopping) same ∙ told_before, λ p.
-            let begun : Worker L = hears (record w { has_asked = false }) (told t.now) in
-            let at_tried = retried p t.claimed.set_aside (record t.claimed { set_aside = [] }) t.tried t.retries in
-            let at_through = gone_through p history token_of t.now t.gone_through t.tried.held (record t.tried { held = [] }) t.each in
-            ap (λ x. many claimed_by p x.did) same ∙ at_through.claims_same ∙ at_tried.0.claims_same ∙ claimed_none p begun t.claimed t.claim is)
+        let same = stops_again t.stop t.gone_through.is_stopping heard v told_before t.stops in (
+          ap (λ x. x.is_stopping) same ∙ told_before,
+          λ p.
+              let begun : Worker L = hears (record w { has_asked = false }) (told t.now) in
+              let at_tried = retried p t.claimed.set_aside (record t.claimed { set_aside = [] }) t.tried t.retries in
+              let at_through = gone_through p history token_of t.now t.gone_through t.tried.held (record t.tried { held = [] }) t.each in
+              ap (λ x. many claimed_by p x.did) same ∙ at_through.claims_same ∙ at_tried.0.claims_same ∙ claimed_none p begun t.claimed t.claim is,
+        )
 
     pub what_has_started : HoldsWhatHasStarted history token_of
     what_has_started w v t going stopping =
