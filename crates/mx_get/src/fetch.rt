@@ -9,7 +9,7 @@ ghost use Rattle.mx_get.specs.declared.error.FetchError.TheVariants as fetch_err
 
 use crate::collect::Desk;
 use crate::error::FetchError;
-use mx_crew::{Crew, posts, run_beside};
+use mx_crew::{Crew, Post, posts, run_beside};
 use mx_gate::Gate;
 use mx_link::Link;
 use mx_multi::{Limits, Multi, OpenError, Seat, WorkerSeat};
@@ -77,6 +77,38 @@ fn open<L: Link, R: Wait + AllocGlobal>(rt: &R, options: Options) -> Result<Open
     }
 }
 
+// Has the desk collect the ends of the URLs, beside a worker at each post, which are as many as the options ask for.
+fn collect_beside<
+    'm,
+    L: Link + Send,
+    R: Threads + Wait + RandomSource + AllocGlobal + Sync,
+    G: Gate<Link = L> + Send + Drop,
+>(
+    rt: &'m R,
+    crew: &'m Crew,
+    posts: Vec<Post<'m, L, G>>,
+    desk: Desk<'m, L>,
+    urls: &[&str],
+    options: Options,
+) -> Result<Vec<Fetched>, FetchError>
+    requires posts { vec_len posts ≡ options.workers }
+    requires none { desk.places.items ≡ [] }
+    ensures ends { IfOk result (λ ends. AreEndsOf options.timeout_ms options.max_redirects (map (λ u. u.now) urls.now) ends.items) }
+    ensures cause { IfErr result (λ e. is_of_run e ≡ true) }
+{
+    let (collected, _counts) = run_beside(
+        rt,
+        crew,
+        posts,
+        move || -> Result<Vec<Fetched>, FetchError>
+            requires { desk.places.items ≡ [] }
+            ensures ends { IfOk result (λ ends. AreEndsOf options.timeout_ms options.max_redirects (map (λ u. u.now) urls.entry.now) ends.items) }
+            ensures cause { IfErr result (λ e. is_of_run e ≡ true) }
+        { desk.collect(rt, crew, urls, options) },
+    )?;
+    collected
+}
+
 // Fetches at a multi handle that is open, with a worker at each gate. What is let go where memory is wanting is here, and not where the
 // handle is owned.
 fn fetch_with<
@@ -105,17 +137,7 @@ fn fetch_with<
     let (seat, workers) = seats;
     let posts = posts(rt.alloc(), multi, workers, gates)?;
     let desk = Desk::new(rt.alloc(), multi.at(seat), urls.len())?;
-    let (collected, _counts) = run_beside(
-        rt,
-        crew,
-        posts,
-        move || -> Result<Vec<Fetched>, FetchError>
-            requires { desk.places.items ≡ [] }
-            ensures ends { IfOk result (λ ends. AreEndsOf options.timeout_ms options.max_redirects (map (λ u. u.now) urls.entry.now) ends.items) }
-            ensures cause { IfErr result (λ e. is_of_run e ≡ true) }
-        { desk.collect(rt, crew, urls, options) },
-    )?;
-    collected
+    collect_beside(rt, crew, posts, desk, urls, options)
 }
 
 // Fetches with a worker at each gate, which are as many as the options ask for. It knows nothing of sockets: what it lets go, in each of

@@ -1,7 +1,9 @@
 //! `mxfetch`: URLs fetched over HTTP/1.1, and responses from bytes to bodies.
 #![tactic(auto)]
 
-ghost use Rattle.std.specs.Prelude.{◌≡◌, ◌⊎◌, true, IfErr};
+ghost use Rattle.std.specs.Prelude.{◌≡◌, ◌≢◌, ◌<◌, ◌⊎◌, true, IfErr, length};
+ghost use Rattle.clap.specs.Values.{kind_of};
+ghost use Rattle.clap.specs.declared.error.kind.ErrorKind.TheVariants as kinds;
 ghost use Rattle.mx_run_io.specs.Options.{are_within};
 ghost use Rattle.mx_command.specs.Asked.{IsTask};
 
@@ -34,9 +36,13 @@ fn out_of_memory(rt: &impl Print) -> u8
     }
 }
 
-/// Prints what clap has to say: help and the version on standard output, a refusal on standard error.
+/// Prints what clap has to say: help and the version on standard output, a refusal on standard error. The exit status tells which it was.
 fn explain(rt: &(impl Print + Eprint), error: &Error) -> u8
-    ensures { (result ≡ 0) ⊎ ((result ≡ 120) ⊎ ((result ≡ 27) ⊎ (result ≡ 121))) }
+    ensures any { (result ≡ 0) ⊎ ((result ≡ 120) ⊎ ((result ≡ 27) ⊎ (result ≡ 121))) }
+    ensures memory { kind_of error.now ≡ kinds.OutOfMemory → (result ≡ 27) ⊎ (result ≡ 121) }
+    ensures shown { (kind_of error.now ≡ kinds.DisplayHelp) ⊎ (kind_of error.now ≡ kinds.DisplayVersion) → (result ≡ 0) ⊎ (result ≡ 121) }
+    ensures refused { kind_of error.now ≢ kinds.OutOfMemory → kind_of error.now ≢ kinds.DisplayHelp
+        → kind_of error.now ≢ kinds.DisplayVersion → result ≡ REFUSED }
 {
     if error.kind() == ErrorKind::OutOfMemory {
         return out_of_memory(rt);
@@ -62,7 +68,7 @@ fn run<R: io::Input + Print + AllocGlobal>(rt: &R, task: Task) -> u8
     }
 }
 
-/// Fetches what `get` is asked for.
+/// Fetches what `get` is asked for. More URLs than it takes are refused.
 fn fetch<
     R: Threads
         + Wait
@@ -75,6 +81,7 @@ fn fetch<
         + Sync,
 >(rt: &R, get: Get<'_>) -> u8
     requires { are_within get.options ≡ true }
+    ensures many { MOST_URLS < length get.entry.urls.items → result ≡ REFUSED }
 {
     if get.urls.len() > MOST_URLS {
         let _ = eprintln!(rt; "too many URLs");
