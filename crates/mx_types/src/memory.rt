@@ -3,8 +3,7 @@ use std::alloc::{AllocError, AllocFailed};
 use std::error::Error;
 use std::fmt;
 
-/// Memory was refused. It is the whole engine's one word for that: what was asked for was not done, and what
-/// was handed in is as it was.
+/// Memory was refused. It is the whole engine's one word for that; what is left then, each call says for itself.
 #[derive(Clone, Copy, Debug, PartialEq, Eq)]
 pub struct OutOfMemory;
 
