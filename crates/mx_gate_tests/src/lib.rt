@@ -14,3 +14,5 @@ mod ready;
 mod scripted;
 #[cfg(test)]
 mod sockets;
+#[cfg(test)]
+mod writers;

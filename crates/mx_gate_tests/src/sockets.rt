@@ -54,7 +54,8 @@ fn serve_one(listener: &TcpListener) -> bool {
     stream.read_exact(&mut four).is_ok() && stream.write_all(&four).is_ok()
 }
 
-fn flag(alloc: Global) -> Result<Arc<AtomicBool>, AllocError> {
+/// A flag that isn't set.
+pub fn flag(alloc: Global) -> Result<Arc<AtomicBool>, AllocError> {
     Ok(Arc::new(alloc, AtomicBool::new(false))?)
 }
 
@@ -309,17 +310,31 @@ fn time_of_turns<R: Clock, G: Gate>(rt: &R, gate: &mut G) -> Result<(Duration, D
     Ok((at_once, start.elapsed(rt)?))
 }
 
-// The same, of a new gate.
-fn turn_often<R: Net + Clock + AllocGlobal>(rt: &R) -> Result<(Duration, Duration), Fail> {
+// Whether a turn of 20 milliseconds takes less than 35. Where the machine has much else to do one may take longer, but not each of a hundred.
+fn ends_in_time<R: Clock, G: Gate>(rt: &R, gate: &mut G) -> Result<bool, Fail> {
+    for _ in 0..100 {
+        let start = Instant::now(rt)?;
+        gate.turn(20);
+        if start.elapsed(rt)? < Duration::from_millis(35) {
+            return Ok(true);
+        }
+    }
+    Ok(false)
+}
+
+// The same, of a new gate, and before it how long turns take that don't wait, and one of 300 milliseconds.
+fn turn_often<R: Net + Clock + AllocGlobal>(rt: &R) -> Result<(Duration, Duration, bool), Fail> {
     let mut gate = gate(rt)?;
-    time_of_turns(rt, &mut gate)
+    let (at_once, waited) = time_of_turns(rt, &mut gate)?;
+    Ok((at_once, waited, ends_in_time(rt, &mut gate)?))
 }
 
 #[test]
 fn a_wait_takes_its_time(rt: HostRuntime) -> Result<(), Fail> {
-    let (at_once, waited) = turn_often(&rt)?;
+    let (at_once, waited, in_time) = turn_often(&rt)?;
     assert!(rt; at_once < Duration::from_millis(290));
     assert!(rt; waited >= Duration::from_millis(290) && waited < Duration::from_secs(10));
+    assert!(rt; in_time);
     Ok(())
 }
 
