@@ -19,6 +19,10 @@ mod scripts;
 #[cfg(test)]
 mod seats;
 #[cfg(test)]
+mod sleepers;
+#[cfg(test)]
 mod storms;
 #[cfg(test)]
 mod turns;
+#[cfg(test)]
+mod two_threads;

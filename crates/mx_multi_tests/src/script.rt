@@ -29,6 +29,8 @@ pub enum By {
 pub enum Step {
     /// A seat's call: the text of its answer, and how many events the seat has then seen.
     Make(By, Call, &'static str, u32),
+    /// The third seat makes all calls of a script, of which none makes an event.
+    Run(&'static [Call]),
     /// The first two seats meet, and have then both seen so many events.
     Meet(u32),
     /// The worker claims the next work, which is of that ticket.
@@ -175,6 +177,10 @@ fn take_step<R: Wait>(
             let (reply, now) = make(rt, desk, kept, by, call);
             compare(alloc, call, reply, now, (answer, cut))
         }
+        Step::Run(calls) => check(
+            desk.third.run_script(rt, calls) == calls.len(),
+            "a script that wasn't run to its end",
+        ),
         Step::Meet(cut) => meet(rt, &mut desk.pair, cut),
         Step::Claim(ticket) => claim(rt, &mut desk.worker, ticket),
         Step::Finish(code, size, cut) => end(rt, &mut desk.worker, kept, code, size, cut),

@@ -75,7 +75,7 @@ fn every_call_that_may_find_no_memory(rt: HostRuntime) -> Result<(), Fail> {
 }
 
 /// Two seats add a handle each, meet, and list both; where nothing is removed, the journal stays as it is. A meeting shows each
-/// seat what the other has added.
+/// seat what the other has added. A script of reads is run to its end.
 #[test]
 fn two_seats_add_a_handle_each(rt: HostRuntime) -> Result<(), Fail> {
     const STEPS: &[Step] = &[
@@ -83,6 +83,7 @@ fn two_seats_add_a_handle_each(rt: HostRuntime) -> Result<(), Fail> {
         Step::Make(By::Second, Call::Add(TWO), "added 1", 2),
         Step::Meet(2),
         Step::Make(By::First, Call::Handles, "handles 1 2", 2),
+        Step::Run(&[Call::Handles, Call::Running, Call::State(TWO)]),
         Step::Make(By::First, Call::Remove(HandleId(9)), "not-added", 2),
         Step::Make(By::First, Call::Add(THREE), "added 2", 3),
         Step::Meet(3),
