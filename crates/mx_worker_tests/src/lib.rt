@@ -6,6 +6,8 @@ mod beside;
 #[cfg(test)]
 mod by_hand;
 #[cfg(test)]
+mod crews;
+#[cfg(test)]
 mod ends;
 #[cfg(test)]
 mod hops;
