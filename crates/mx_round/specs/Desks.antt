@@ -6,8 +6,8 @@ use Rattle.mx_cache.specs.Idle.{Idle}
 use Rattle.mx_chain.specs.Chains.{ChainState, received_of}
 use Rattle.mx_chain.specs.Steps.{How, Steps}
 use Rattle.mx_gate.specs.Said.{Said}
-use Rattle.mx_turn.specs.Workers.{Held, SetAside, Finish, recorded, stale, lacking, unseated, Deed, notes, finishes, Worker}
-use Rattle.mx_turn.specs.Turn.{Keeps, Readies, Settles, IsLate, prepared, unlinked}
+use Rattle.mx_turn.specs.Workers.{Held, SetAside, Finish, recorded, stale, lacking, unseated, Deed, notes, finishes, Worker, starts, IsOver}
+use Rattle.mx_turn.specs.Turn.{Keeps, Readies, Settles, IsLate, Runs, prepared, unlinked}
 
 -- a claimed transfer, and which list of ties has the tie of its claim's addition
 pub record HeldView (L : Type 0) : Type 0 where
@@ -84,3 +84,11 @@ pub record Advances {L : Type 0} (history : L → List Answer) (token_of : L →
 pub data IsNext {L : Type 0} (now : ℕ) (old : List (HeldView L)) (h : HeldView L) (new : List (HeldView L)) : Type 0 where
   is_due : (earlier later : List (HeldView L)) → old ≡ earlier ++ h ∷ later → new ≡ earlier ++ later → IsLate now h.held → IsNext now old h new
   is_first : old ≡ h ∷ new → All (λ k. ¬ (IsLate now k.held)) old → IsNext now old h new
+
+-- A worker ran, from its start to its end: what was done at the engine, and what its gate said, before and after.
+pub record HasRun {L : Type 0} (history : L → List Answer) (token_of : L → ℕ) (limit : ℕ) (done did : List (Deed L)) (was is : List Said) : Type 0 where
+  pub last : Worker L
+  pub run : Runs history token_of (record (starts limit) { did = done; said = was }) last
+  pub over : IsOver last
+  pub did_is : did ≡ last.did
+  pub said_is : is ≡ last.said

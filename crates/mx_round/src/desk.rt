@@ -5,7 +5,7 @@ ghost use Rattle.mx_chain.specs.Steps.{IfEnded, IfGoing, Steps, how_of};
 ghost use Rattle.mx_gate.specs.Said.{is_stop};
 ghost use Rattle.mx_turn.specs.Workers.{in_hand, holds, IsOver};
 ghost use Rattle.mx_turn.specs.Turn.{Each, Claims, Retries, LooksAt, GivesBack, GoesThrough, Stops, WorkerTurn, longest_wait, prepared, time_left, wait_of};
-ghost use Rattle.mx_round.specs.Desks.{Advances, IsNext, IsReadied, Polls, beside};
+ghost use Rattle.mx_round.specs.Desks.{Advances, HandsIn, IsNext, IsReadied, Polls, beside};
 
 use crate::engine::{Engine, Finished, Held, LONGEST_WAIT, Right, Tied};
 use crate::queue::Queue;
@@ -102,6 +102,21 @@ fn poll_once<L: Link>(solo: &Solo, transfer: &mut Transfer<L>) -> Stepped
     }
 }
 
+// Hands in an end. One that finds no memory comes back.
+fn hand_in<L: Link, C: Right, E: Engine<L, C>, R: Wait>(
+    rt: &R,
+    engine: &mut E,
+    finished: Finished<C>,
+) -> Option<Finished<C>>
+    requires own { finished.of ≡ E.of engine.old }
+    ensures did { HandsIn (E.did engine.old) (E.did engine.new) finished result }
+    ensures same { (E.of engine.new ≡ E.of engine.old) × (E.start engine.new ≡ E.start engine.old) }
+{
+    let mut place = Some(finished);
+    engine.finish(rt, &mut place);
+    place
+}
+
 impl<L: Link, C: Right, E: Engine<L, C>> Desk<L, C, E> {
     pub fn new(engine: E, rack: Rack<L, C, E>, links: Links<L>, solo: Solo) -> Desk<L, C, E>
         requires { rack.of ≡ E.of engine }
@@ -173,7 +188,7 @@ impl<L: Link, C: Right, E: Engine<L, C>> Desk<L, C, E> {
         ensures retries { Retries finished.end self.old.worker self.new.worker }
         ensures same { self.new ≡ record self.old { worker = self.new.worker } }
     {
-        if let Some(finished) = self.engine.finish(rt, finished) {
+        if let Some(finished) = hand_in(rt, &mut self.engine, finished) {
             self.rack.set_aside(finished);
         }
     }
@@ -271,7 +286,8 @@ impl<L: Link, C: Right, E: Engine<L, C>> Desk<L, C, E> {
             self.hold(held);
             return;
         }
-        self.engine.give_back(rt, held);
+        let mut place = Some(held);
+        self.engine.give_back(rt, &mut place);
     }
 
     // Hands in the ends again that were set aside, in order.

@@ -165,7 +165,8 @@ impl<C: Right> Finished<C> {
     }
 }
 
-/// The engine, through a seat of the worker's own. It gives rights of its own list of ties, and takes these alone.
+/// The engine, through a seat of the worker's own. It gives rights of its own list of ties, and takes these alone. What is handed in is
+/// taken out of its place, so that it can stay there: the prover covers no impl of a trait whose methods take such a value by move.
 pub trait Engine<L: Link, C: Right>: Tied + Drop {
     /// What contracts know of the engine as it began.
     type Start;
@@ -195,16 +196,16 @@ pub trait Engine<L: Link, C: Right>: Tied + Drop {
         ensures did { did self.new ≡ did self.old ++ notes (C.ticket_of right.now) (C.slot_of right.now) count ∷ [] }
         ensures same { (Self.of self.new ≡ Self.of self.old) × (start self.new ≡ start self.old) };
 
-    /// Hands in an end. One that finds no memory comes back.
-    fn finish<R: Wait>(&mut self, rt: &R, finished: Finished<C>) -> Option<Finished<C>>
-        requires own { finished.of ≡ Self.of self.old }
-        ensures did { HandsIn (did self.old) (did self.new) finished result }
+    /// Hands in an end. One that finds no memory stays in its place.
+    fn finish<R: Wait>(&mut self, rt: &R, finished: &mut Option<Finished<C>>)
+        requires own { IfSome finished.old (λ f. f.of ≡ Self.of self.old) }
+        ensures did { IfSome finished.old (λ f. HandsIn (did self.old) (did self.new) f finished.new) }
         ensures same { (Self.of self.new ≡ Self.of self.old) × (start self.new ≡ start self.old) };
 
     /// Gives a transfer back that has not started.
-    fn give_back<R: Wait>(&mut self, rt: &R, held: Held<L, C>)
-        requires own { held.of ≡ Self.of self.old }
-        requires unstarted { held.held.transfer.now.is_started ≡ false }
-        ensures did { (r : Return) × (did self.new ≡ did self.old ++ gives_back held.held r ∷ []) }
+    fn give_back<R: Wait>(&mut self, rt: &R, held: &mut Option<Held<L, C>>)
+        requires own { IfSome held.old (λ h. h.of ≡ Self.of self.old) }
+        requires unstarted { IfSome held.old (λ h. h.held.transfer.now.is_started ≡ false) }
+        ensures did { IfSome held.old (λ h. (r : Return) × (did self.new ≡ did self.old ++ gives_back h.held r ∷ [])) }
         ensures same { (Self.of self.new ≡ Self.of self.old) × (start self.new ≡ start self.old) };
 }
