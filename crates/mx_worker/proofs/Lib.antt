@@ -1,3 +1,2 @@
-pub mod Racks
 pub mod Sends
 pub mod Tallies

@@ -1,7 +1,8 @@
--- What a worker's calls make of its seat and of its counts.
-use Rattle.std.proofs.Common.{◌≡◌, ◌∙◌, ◌⊎◌, inl, inr, ℕ, ◌+◌, ◌-◌, ◌^◌, Bool, List, [], ◌∷◌, ◌++◌, append-nil, append_assoc, length, length-append, refl, ap, sym, subst, arith}
-use Rattle.std.specs.Prelude.{min, count_by}
-use Rattle.std.proofs.lemmas.List.Sums.{sum_by-append}
+-- What a worker's calls make of its seat, of the list of what was done with it, and of its counts.
+use Rattle.std.proofs.Common.{◌≡◌, ◌∙◌, ◌⊎◌, inl, inr, ℕ, ◌+◌, ◌-◌, ◌^◌, List, [], ◌∷◌, ◌++◌, append-nil, append_assoc, length, length-append, map, refl, ap, sym, subst, arith, Option, Some, None}
+use Rattle.std.specs.Prelude.{min, filter_map, MatchOption}
+use Rattle.std.proofs.lemmas.List.{map-append}
+use Rattle.std.proofs.lemmas.List.Elements.{filter_map-append}
 use Rattle.mx_types.specs.declared.names.Ticket.{Ticket}
 use Rattle.mx_types.specs.declared.call.Call.{Call}
 use Rattle.mx_types.specs.declared.call.Call.TheVariants as call
@@ -9,35 +10,39 @@ use Rattle.mx_types.specs.declared.call.Receipt.{Receipt}
 use Rattle.mx_types.specs.declared.reply.Reply.{Reply}
 use Rattle.mx_types.specs.declared.reply.Reply.TheVariants as reply
 use Rattle.mx_types.specs.declared.reply.Look.{Look}
+use Rattle.mx_chain.specs.Outcomes.{OutcomeValue}
+use Rattle.mx_board.specs.declared.note.Note.{Note}
+use Rattle.mx_board.specs.Progress.{note, word_of}
 use Rattle.mx_multi.proofs.Runs.{later_none, later_more, later_sees}
-use Rattle.mx_journal.specs.declared.replies.GiveBackReply.{GiveBackReply}
-use Rattle.mx_journal.specs.declared.replies.GiveBackReply.TheVariants as giving
-use Rattle.mx_journal.specs.Replies.{is_back}
-use Rattle.mx_multi.specs.Seats.{SeatView, Stands, Sees, Later, given_with}
+use Rattle.mx_multi.specs.Seats.{SeatView, Stands, Sees, Later, FindsOther}
 use Rattle.mx_multi.specs.Progress.{noted_by}
-use Rattle.mx_worker.specs.Work.{GaveBack, Worked, tallied, is_recorded, is_stale, is_recorded_reply, is_stale_reply, one_more}
+use Rattle.mx_turn.specs.Workers.{Held, Deed, Finish, starts, claims, looks, notes, finishes, gives_back, recorded, stale, lacking, unseated, returned, ended_before, unreturned}
+use Rattle.mx_link.specs.declared.answers.Answer.{Answer}
+use Rattle.mx_gate.specs.Said.{Said}
+use Rattle.mx_turn.specs.Turn.{Runs}
+use Rattle.mx_turn.proofs.Accounts.{accounted}
+use Rattle.mx_round.specs.Desks.{EndView, HandsIn, HasRun}
+use Rattle.mx_lock.specs.Ties.{TiedClaimed}
+use Rattle.mx_turn.specs.Laws.{claimed_by, recorded_by, stale_by, given_back_by, unseated_by}
+use Rattle.mx_worker.specs.Work.{AreCounted, FoundOther, IsDone, WorkerRan, answered_by, code_of, finish_call, held_count, noted_by_deed, size_of}
 
-count-append : (p : Receipt → Bool) (xs ys : List Receipt) → count_by p (xs ++ ys) ≡ count_by p xs + count_by p ys
-count-append p xs ys = sum_by-append _ xs ys
+-- what a deed more adds to a list that is picked out of the deeds
+picks_more : {D X : Type 0} (by : D → Option X) (ds : List D) (d : D) (old is start : List X) → old ≡ start ++ filter_map by ds → is ≡ old ++ filter_map by (d ∷ []) → is ≡ start ++ filter_map by (ds ++ d ∷ [])
+picks_more by ds d old is start h e =
+    e ∙ ap (λ l. l ++ filter_map by (d ∷ [])) h ∙ append_assoc start (filter_map by ds) (filter_map by (d ∷ [])) ∙ ap (λ l. start ++ l) (sym (filter_map-append by ds (d ∷ [])))
 
-tallied-more : (p : Receipt → Bool) (xs ys : List Receipt) (n k : ℕ) → n ≡ tallied p xs → k ≡ min (n + count_by p ys) (2 ^ 32 - 1) → k ≡ tallied p (xs ++ ys)
-tallied-more p xs ys n k h e = let c = count-append p xs ys in omega arith
+picks_same : {D X : Type 0} (by : D → Option X) (ds : List D) (d : D) → filter_map by (d ∷ []) ≡ [] → filter_map by (ds ++ d ∷ []) ≡ filter_map by ds
+picks_same by ds d e = filter_map-append by ds (d ∷ []) ∙ ap (λ l. filter_map by ds ++ l) e ∙ append-nil (filter_map by ds)
 
-pub worked_none : {Q O : Type 0} (s : SeatView Q O) → Worked s s 0 0
-worked_none s = record { more = []; later = later_none s; recorded_is = refl; stale_is = refl }
+abbrev Seat : Type 0 → Type 0
+Seat Q = SeatView Q OutcomeValue
 
-pub worked_same : {Q O : Type 0} (s t u : SeatView Q O) (r k : ℕ) → Worked s t r k → u ≡ t → Worked s u r k
-worked_same s t u r k w e = subst (λ v. Worked s v r k) (sym e) w
+noted_on : {Q : Type 0} (t u : Seat Q) → (u ≡ t) ⊎ Sees t u → u.words.noted ≡ t.words.noted ++ []
+noted_on {Q} t u (inl e) = ap (λ (v : Seat Q). v.words.noted) e ∙ sym (append-nil t.words.noted)
+noted_on t u (inr h) = ap (λ w. w.noted) h.words ∙ sym (append-nil t.words.noted)
 
-pub worked_saw : {Q O : Type 0} (s t u : SeatView Q O) (r k : ℕ) → Worked s t r k → Sees t u → Worked s u r k
-worked_saw s t u r k w h = record { more = w.more; later = later_sees s t u w.more w.later h; recorded_is = w.recorded_is; stale_is = w.stale_is }
-
-pub worked_sees : {Q O : Type 0} (s t u : SeatView Q O) (r k : ℕ) → Worked s t r k → (u ≡ t) ⊎ Sees t u → Worked s u r k
-worked_sees s t u r k w (inl e) = worked_same s t u r k w e
-worked_sees s t u r k w (inr h) = worked_saw s t u r k w h
-
--- a count was noted
-later_notes : {Q O : Type 0} (s t : SeatView Q O) (slot : ℕ) (ticket : Ticket) (count : ℕ) (more : List Receipt) → Later s t more → Later s (noted_by t slot ticket count) more
+-- a seat that has noted a count
+later_notes : {Q : Type 0} (s t : Seat Q) (slot : ℕ) (ticket : Ticket) (count : ℕ) (more : List Receipt) → Later s t more → Later s (noted_by t slot ticket count) more
 later_notes s t slot ticket count more h = record {
   of = h.of;
   who = h.who;
@@ -48,54 +53,199 @@ later_notes s t slot ticket count more h = record {
   placed = λ p. let q = h.placed p in record { placed = q.placed; polled = q.polled };
 }
 
-pub worked_notes : {Q O : Type 0} (s t u : SeatView Q O) (r k slot : ℕ) (ticket : Ticket) (count : ℕ) → Worked s t r k → u ≡ noted_by t slot ticket count → Worked s u r k
-worked_notes s t u r k slot ticket count w e =
-    worked_same s (noted_by t slot ticket count) u r k (record { more = w.more; later = later_notes s t slot ticket count w.more w.later; recorded_is = w.recorded_is; stale_is = w.stale_is }) e
+module _ {L Q : Type 0} where
+  abbrev Done : Seat Q → Seat Q → List (Deed L) → Type 0
+  Done s t did = IsDone s t did
 
-worked_more : {Q O : Type 0} (s t u : SeatView Q O) (r k r2 k2 : ℕ) (call : Call) (reply : Reply) → Worked s t r k → Stands t u call reply
-    → r2 ≡ min (r + count_by is_recorded (record { cut = length u.seen; call = call; reply = reply } ∷ [])) (2 ^ 32 - 1)
-    → k2 ≡ min (k + count_by is_stale (record { cut = length u.seen; call = call; reply = reply } ∷ [])) (2 ^ 32 - 1)
-    → Worked s u r2 k2
-worked_more s t u r k r2 k2 call reply w h er ek =
-    let new : Receipt = record { cut = length u.seen; call = call; reply = reply } in
+  pub done_none : (s : Seat Q) → Done s s []
+  done_none s = record {
+    more = [];
+    later = later_none s;
+    answers = refl;
+    claims = sym (append-nil s.claims);
+    given = sym (append-nil s.given);
+    noted = sym (append-nil s.words.noted);
+    seated = inl refl;
+  }
+
+  -- what was lost
+  seated_more : (s : Seat Q) (did : List (Deed L)) (d : Deed L) → (filter_map unseated_by did ≡ []) ⊎ FoundOther s.of → (filter_map unseated_by (d ∷ []) ≡ []) ⊎ FoundOther s.of
+      → (filter_map unseated_by (did ++ d ∷ []) ≡ []) ⊎ FoundOther s.of
+  seated_more s did d (inr f) _ = inr f
+  seated_more s did d (inl e) (inr f) = inr f
+  seated_more s did d (inl e) (inl k) = inl (picks_same unseated_by did d k ∙ e)
+
+  -- one deed more
+  done_more : (s t u : Seat Q) (did : List (Deed L)) (d : Deed L) (more : List Receipt) (w : Done s t did)
+      → Later s u (w.more ++ more)
+      → map (λ (r : Receipt). (r.call, r.reply)) more ≡ filter_map answered_by (d ∷ [])
+      → u.claims ≡ t.claims ++ filter_map claimed_by (d ∷ [])
+      → u.given ≡ t.given ++ filter_map given_back_by (d ∷ [])
+      → u.words.noted ≡ t.words.noted ++ filter_map noted_by_deed (d ∷ [])
+      → (filter_map unseated_by (d ∷ []) ≡ []) ⊎ FoundOther s.of
+      → Done s u (did ++ d ∷ [])
+  done_more s t u did d more w later answers claimed given noted seated = record {
+    more = w.more ++ more;
+    later = later;
+    answers = map-append (λ (r : Receipt). (r.call, r.reply)) w.more more ∙ ap (λ l. l ++ map (λ (r : Receipt). (r.call, r.reply)) more) w.answers
+        ∙ ap (λ l. filter_map answered_by did ++ l) answers ∙ sym (filter_map-append answered_by did (d ∷ []));
+    claims = picks_more claimed_by did d t.claims u.claims s.claims w.claims claimed;
+    given = picks_more given_back_by did d t.given u.given s.given w.given given;
+    noted = picks_more noted_by_deed did d t.words.noted u.words.noted s.words.noted w.noted noted;
+    seated = seated_more s did d w.seated seated;
+  }
+
+  -- the seat is as it was, or has seen a journal
+  later_on : (s t u : Seat Q) (did : List (Deed L)) (w : Done s t did) → (u ≡ t) ⊎ Sees t u → Later s u (w.more ++ [])
+  later_on s t u did w (inl e) = subst (λ l. Later s u l) (sym (append-nil w.more)) (subst (λ v. Later s v w.more) (sym e) w.later)
+  later_on s t u did w (inr h) = subst (λ l. Later s u l) (sym (append-nil w.more)) (later_sees s t u w.more w.later h)
+
+  -- it asked for work, and there was none
+  pub done_claims_none : (s t u : Seat Q) (did : List (Deed L)) → Done s t did → (u ≡ t) ⊎ Sees t u → u.claims ≡ t.claims → u.given ≡ t.given → Done s u (did ++ claims None ∷ [])
+  done_claims_none s t u did w h claimed given =
+      done_more s t u did _ [] w (later_on s t u did w h) refl (claimed ∙ sym (append-nil t.claims)) (given ∙ sym (append-nil t.given)) (noted_on t u h) (inl refl)
+
+  -- and was given some
+  pub done_claims : (s t u : Seat Q) (did : List (Deed L)) (h : Held L) (ticket : Ticket) → Done s t did → h.ticket ≡ ticket → Sees t u → u.claims ≡ t.claims ++ ticket ∷ [] → u.given ≡ t.given → Done s u (did ++ claims (Some h) ∷ [])
+  done_claims s t u did h ticket w is sees claimed given =
+      done_more s t u did _ [] w (later_on s t u did w (inr sees)) refl (claimed ∙ ap (λ x. t.claims ++ x ∷ []) (sym is)) (given ∙ sym (append-nil t.given)) (noted_on t u (inr sees)) (inl refl)
+
+  -- the seat is as it was
+  as_it_was : (s t u : Seat Q) (did : List (Deed L)) (d : Deed L) → Done s t did → u ≡ t → filter_map answered_by (d ∷ []) ≡ [] → filter_map claimed_by (d ∷ []) ≡ [] → filter_map given_back_by (d ∷ []) ≡ []
+      → filter_map noted_by_deed (d ∷ []) ≡ [] → (filter_map unseated_by (d ∷ []) ≡ []) ⊎ FoundOther s.of → Done s u (did ++ d ∷ [])
+  as_it_was s t u did d w e answers claimed given noted seated =
+      done_more s t u did d [] w (later_on s t u did w (inl e)) (sym answers)
+      (ap (λ (v : Seat Q). v.claims) e ∙ sym (append-nil t.claims) ∙ ap (λ l. t.claims ++ l) (sym claimed))
+      (ap (λ (v : Seat Q). v.given) e ∙ sym (append-nil t.given) ∙ ap (λ l. t.given ++ l) (sym given))
+      (ap (λ (v : Seat Q). v.words.noted) e ∙ sym (append-nil t.words.noted) ∙ ap (λ l. t.words.noted ++ l) (sym noted))
+      seated
+
+  -- no version could be read
+  pub done_looks_none : (s t u : Seat Q) (did : List (Deed L)) (ticket : Ticket) → Done s t did → u ≡ t → Done s u (did ++ looks ticket None ∷ [])
+  done_looks_none s t u did ticket w e = as_it_was s t u did _ w e refl refl refl refl (inl refl)
+
+  -- a call was answered
+  answered : (s t u : Seat Q) (did : List (Deed L)) (d : Deed L) (c : Call) (r : Reply) → Done s t did → Stands t u c r → filter_map answered_by (d ∷ []) ≡ (c, r) ∷ []
+      → filter_map claimed_by (d ∷ []) ≡ [] → filter_map given_back_by (d ∷ []) ≡ [] → filter_map noted_by_deed (d ∷ []) ≡ [] → filter_map unseated_by (d ∷ []) ≡ [] → Done s u (did ++ d ∷ [])
+  answered s t u did d c r w h answers claimed given noted seated =
+      done_more s t u did d (record { cut = length u.seen; call = c; reply = r } ∷ []) w (later_more s t u w.more c r w.later h) (sym answers)
+      (h.claims ∙ sym (append-nil t.claims) ∙ ap (λ l. t.claims ++ l) (sym claimed))
+      (h.given ∙ sym (append-nil t.given) ∙ ap (λ l. t.given ++ l) (sym given))
+      (ap (λ x. x.noted) h.words ∙ sym (append-nil t.words.noted) ∙ ap (λ l. t.words.noted ++ l) (sym noted))
+      (inl seated)
+
+  pub done_looks : (s t u : Seat Q) (did : List (Deed L)) (ticket : Ticket) (look : Look) → Done s t did → Stands t u (call.Look ticket) (reply.Look look) → Done s u (did ++ looks ticket (Some look) ∷ [])
+  done_looks s t u did ticket look w h = answered s t u did _ _ _ w h refl refl refl refl refl
+
+  -- a ticket was looked at
+  pub done_looked : (s t u : Seat Q) (did : List (Deed L)) (ticket : Ticket) (seen : Option Look) → Done s t did → MatchOption seen (u ≡ t) (λ l. Stands t u (call.Look ticket) (reply.Look l)) → Done s u (did ++ looks ticket seen ∷ [])
+  done_looked s t u did ticket None w e = done_looks_none s t u did ticket w e
+  done_looked s t u did ticket (Some l) w h = done_looks s t u did ticket l w h
+
+  pub done_recorded : (s t u : Seat Q) (did : List (Deed L)) (ticket : Ticket) (o : OutcomeValue) → Done s t did → Stands t u (finish_call ticket o) reply.Recorded → Done s u (did ++ finishes ticket o recorded ∷ [])
+  done_recorded s t u did ticket o w h = answered s t u did _ _ _ w h refl refl refl refl refl
+
+  pub done_stale : (s t u : Seat Q) (did : List (Deed L)) (ticket : Ticket) (o : OutcomeValue) → Done s t did → Stands t u (finish_call ticket o) reply.Stale → Done s u (did ++ finishes ticket o stale ∷ [])
+  done_stale s t u did ticket o w h = answered s t u did _ _ _ w h refl refl refl refl refl
+
+  pub done_lacking : (s t u : Seat Q) (did : List (Deed L)) (ticket : Ticket) (o : OutcomeValue) → Done s t did → Stands t u (finish_call ticket o) reply.OutOfMemory → Done s u (did ++ finishes ticket o lacking ∷ [])
+  done_lacking s t u did ticket o w h = answered s t u did _ _ _ w h refl refl refl refl refl
+
+  -- what lay in the lock was another's
+  found_other : (s t : Seat Q) (did : List (Deed L)) → Done s t did → FindsOther code_of size_of t → FoundOther s.of
+  found_other s t did w f = record { seat = t; of = w.later.of; other = f }
+
+  pub done_unseated : (s t u : Seat Q) (did : List (Deed L)) (ticket : Ticket) (o : OutcomeValue) → Done s t did → u ≡ t → FindsOther code_of size_of t → Done s u (did ++ finishes ticket o unseated ∷ [])
+  done_unseated s t u did ticket o w e f = as_it_was s t u did _ w e refl refl refl refl (inr (found_other s t did w f))
+
+  pub done_unreturned : (s t u : Seat Q) (did : List (Deed L)) (h : Held L) → Done s t did → u ≡ t → FindsOther code_of size_of t → Done s u (did ++ gives_back h unreturned ∷ [])
+  done_unreturned s t u did h w e f = as_it_was s t u did _ w e refl refl refl refl (inr (found_other s t did w f))
+
+  -- work went back
+  pub done_returned : (s t u : Seat Q) (did : List (Deed L)) (h : Held L) (ticket : Ticket) → Done s t did → h.ticket ≡ ticket → Sees t u → u.claims ≡ t.claims → u.given ≡ t.given ++ ticket ∷ [] → Done s u (did ++ gives_back h returned ∷ [])
+  done_returned s t u did h ticket w is sees claimed given =
+      done_more s t u did _ [] w (later_on s t u did w (inr sees)) refl (claimed ∙ sym (append-nil t.claims)) (given ∙ ap (λ x. t.given ++ x ∷ []) (sym is)) (noted_on t u (inr sees)) (inl refl)
+
+  pub done_ended_before : (s t u : Seat Q) (did : List (Deed L)) (h : Held L) → Done s t did → Sees t u → u.claims ≡ t.claims → u.given ≡ t.given → Done s u (did ++ gives_back h ended_before ∷ [])
+  done_ended_before s t u did h w sees claimed given =
+      done_more s t u did _ [] w (later_on s t u did w (inr sees)) refl (claimed ∙ sym (append-nil t.claims)) (given ∙ sym (append-nil t.given)) (noted_on t u (inr sees)) (inl refl)
+
+  -- a count was noted
+  pub done_notes : (s t u : Seat Q) (did : List (Deed L)) (slot : ℕ) (ticket : Ticket) (count : ℕ) → Done s t did → u ≡ noted_by t slot ticket count → Done s u (did ++ notes ticket slot count ∷ [])
+  done_notes s t u did slot ticket count w e = subst (λ v. Done s v (did ++ notes ticket slot count ∷ [])) (sym e)
+      (done_more s t (noted_by t slot ticket count) did _ [] w (subst (λ l. Later s (noted_by t slot ticket count) l) (sym (append-nil w.more)) (later_notes s t slot ticket count w.more w.later))
+      refl (sym (append-nil t.claims)) (sym (append-nil t.given)) refl (inl refl))
+
+-- the counts after a deed that none of them counts
+module _ {L : Type 0} where
+  pub counts_none : AreCounted {L = L} [] 0 0 0
+  counts_none = record { recorded_is = refl; stale_is = refl; given_back_is = refl }
+
+  count_same : (by : Deed L → Option Ticket) (did : List (Deed L)) (d : Deed L) (n : ℕ) → filter_map by (d ∷ []) ≡ [] → n ≡ held_count (filter_map by did) → n ≡ held_count (filter_map by (did ++ d ∷ []))
+  count_same by did d n e h = h ∙ ap held_count (sym (picks_same by did d e))
+
+  count_more : (by : Deed L → Option Ticket) (did : List (Deed L)) (d : Deed L) (t : Ticket) (n k : ℕ) → filter_map by (d ∷ []) ≡ t ∷ [] → n ≡ held_count (filter_map by did) → k ≡ min (n + 1) (2 ^ 32 - 1) → k ≡ held_count (filter_map by (did ++ d ∷ []))
+  count_more by did d t n k e h is =
+      let l : length (filter_map by (did ++ d ∷ [])) ≡ length (filter_map by did) + 1 = ap length (filter_map-append by did (d ∷ [])) ∙ length-append (filter_map by did) (filter_map by (d ∷ [])) ∙ ap (λ x. length (filter_map by did) + length x) e in
+      omega (arith, h, is, l)
+
+  pub counts_same : (did : List (Deed L)) (d : Deed L) (r k g : ℕ) → AreCounted did r k g → filter_map recorded_by (d ∷ []) ≡ [] → filter_map stale_by (d ∷ []) ≡ [] → filter_map given_back_by (d ∷ []) ≡ [] → AreCounted (did ++ d ∷ []) r k g
+  counts_same did d r k g c a b e = record {
+    recorded_is = count_same recorded_by did d r a c.recorded_is;
+    stale_is = count_same stale_by did d k b c.stale_is;
+    given_back_is = count_same given_back_by did d g e c.given_back_is;
+  }
+
+  pub counts_recorded : (did : List (Deed L)) (ticket : Ticket) (o : OutcomeValue) (r k g n : ℕ) → AreCounted did r k g → n ≡ min (r + 1) (2 ^ 32 - 1) → AreCounted (did ++ finishes ticket o recorded ∷ []) n k g
+  counts_recorded did ticket o r k g n c e = record {
+    recorded_is = count_more recorded_by did _ ticket r n refl c.recorded_is e;
+    stale_is = count_same stale_by did _ k refl c.stale_is;
+    given_back_is = count_same given_back_by did _ g refl c.given_back_is;
+  }
+
+  pub counts_stale : (did : List (Deed L)) (ticket : Ticket) (o : OutcomeValue) (r k g n : ℕ) → AreCounted did r k g → n ≡ min (k + 1) (2 ^ 32 - 1) → AreCounted (did ++ finishes ticket o stale ∷ []) r n g
+  counts_stale did ticket o r k g n c e = record {
+    recorded_is = count_same recorded_by did _ r refl c.recorded_is;
+    stale_is = count_more stale_by did _ ticket k n refl c.stale_is e;
+    given_back_is = count_same given_back_by did _ g refl c.given_back_is;
+  }
+
+  pub counts_returned : (did : List (Deed L)) (h : Held L) (r k g n : ℕ) → AreCounted did r k g → n ≡ min (g + 1) (2 ^ 32 - 1) → AreCounted (did ++ gives_back h returned ∷ []) r k n
+  counts_returned did h r k g n c e = record {
+    recorded_is = count_same recorded_by did _ r refl c.recorded_is;
+    stale_is = count_same stale_by did _ k refl c.stale_is;
+    given_back_is = count_more given_back_by did _ h.ticket g n refl c.given_back_is e;
+  }
+
+-- a deed more, as a call told it
+pub with_last : {L : Type 0} (P : List (Deed L) → Type 0) (did is : List (Deed L)) (told d : Deed L) → is ≡ did ++ told ∷ [] → told ≡ d → P (did ++ d ∷ []) → P is
+with_last P did is told d e f p = subst P (sym (e ∙ ap (λ x. did ++ x ∷ []) f)) p
+
+-- the call of an end that was handed in, by its claim and its outcome
+pub as_end : {Q : Type 0} (t u : Seat Q) (e f : EndView) (claim : TiedClaimed) (was r : Reply) → e ≡ f → claim.ticket ≡ f.end.ticket → was ≡ r → Stands t u (finish_call claim.ticket f.end.outcome) was
+    → Stands t u (finish_call e.end.ticket e.end.outcome) r
+as_end t u e f claim was r e_is is r_is h = subst (Stands t u (finish_call e.end.ticket e.end.outcome)) r_is
+    (subst (λ (x : EndView). Stands t u (finish_call x.end.ticket x.end.outcome) was) (sym e_is) (subst (λ x. Stands t u (finish_call x f.end.outcome) was) is h))
+
+-- an end for which memory was lacking comes back
+pub lacks : {L : Type 0} (was is : List (Deed L)) (e back : EndView) → is ≡ was ++ finishes e.end.ticket e.end.outcome lacking ∷ [] → back ≡ e → HandsIn was is e (Some back)
+lacks was is e back did b = record { f = lacking; did = did; comes_back = λ _. ap Some b; is_taken = none } where
+  none : ((lacking ≡ recorded) ⊎ (lacking ≡ stale)) ⊎ (lacking ≡ unseated) → Some back ≡ None
+  none (inl (inl x)) = absurd cc
+  none (inl (inr x)) = absurd cc
+  none (inr x) = absurd cc
+
+-- a run of an engine that was a seat, from its start on
+pub ran : {L Q : Type 0} (history : L → List Answer) (token_of : L → ℕ) (s t : Seat Q) (limit : ℕ) (did : List (Deed L)) (was is : List Said) (r k g : ℕ)
+    → limit ≡ s.of.max_connects → HasRun history token_of limit [] did was is → IsDone s t did → AreCounted did r k g → WorkerRan history token_of s t was is r k g
+ran history token_of s t limit did was is r k g e h done counted =
+    let run = subst (λ n. Runs history token_of (record (starts n) { said = was }) h.last) e h.run in
     record {
-      more = w.more ++ new ∷ [];
-      later = later_more s t u w.more call reply w.later h;
-      recorded_is = tallied-more is_recorded w.more (new ∷ []) r r2 w.recorded_is er;
-      stale_is = tallied-more is_stale w.more (new ∷ []) k k2 w.stale_is ek;
+      last = h.last;
+      run = run;
+      over = h.over;
+      said = h.said_is;
+      done = subst (IsDone s t) h.did_is done;
+      accounted = accounted history token_of s.of.max_connects was h.last run h.over;
+      counted = subst (λ d. AreCounted d r k g) h.did_is counted;
     }
-
-tallied-most : (p : Receipt → Bool) (xs : List Receipt) (n : ℕ) → n ≡ tallied p xs → n ≡ min (n + 0) (2 ^ 32 - 1)
-tallied-most p xs n h = omega arith
-
-pub worked_look : {Q O : Type 0} (s t u : SeatView Q O) (r k : ℕ) (ticket : Ticket) (look : Look) → Worked s t r k → Stands t u (call.Look ticket) (reply.Look look) → Worked s u r k
-worked_look s t u r k ticket look w h = worked_more s t u r k r k (call.Look ticket) (reply.Look look) w h (tallied-most is_recorded w.more r w.recorded_is) (tallied-most is_stale w.more k w.stale_is)
-
--- an end was answered
-pub worked_finish : {Q O : Type 0} (s t u : SeatView Q O) (r k r2 k2 : ℕ) (call : Call) (answer : Reply) → Worked s t r k → Stands t u call answer → r2 ≡ one_more r (is_recorded_reply answer) → k2 ≡ one_more k (is_stale_reply answer) → Worked s u r2 k2
-worked_finish s t u r k r2 k2 call answer w h er ek = worked_more s t u r k r2 k2 call answer w h (omega (arith, er)) (omega (arith, ek))
-
-pub gave_none : {Q O : Type 0} (s : SeatView Q O) → GaveBack s s 0
-gave_none s = record { more = []; given = sym (append-nil s.given); count_is = refl }
-
--- nothing was given back
-pub gave_same : {Q O : Type 0} (s t u : SeatView Q O) (n : ℕ) → GaveBack s t n → u.given ≡ t.given → GaveBack s u n
-gave_same s t u n g e = record { more = g.more; given = e ∙ g.given; count_is = g.count_is }
-
-pub gave_as : {Q O : Type 0} (s t u : SeatView Q O) (n : ℕ) → GaveBack s t n → u ≡ t → GaveBack s u n
-gave_as {Q} {O} s t u n g e = gave_same s t u n g (ap (λ (v : SeatView Q O). v.given) e)
-
-pub gave_stands : {Q O : Type 0} (s t u : SeatView Q O) (n : ℕ) (call : Call) (reply : Reply) → GaveBack s t n → Stands t u call reply → GaveBack s u n
-gave_stands s t u n call reply g h = gave_same s t u n g h.given
-
-pub gave_notes : {Q O : Type 0} (s t u : SeatView Q O) (n slot : ℕ) (ticket : Ticket) (count : ℕ) → GaveBack s t n → u ≡ noted_by t slot ticket count → GaveBack s u n
-gave_notes {Q} {O} s t u n slot ticket count g e = gave_same s t u n g (ap (λ (v : SeatView Q O). v.given) e)
-
--- work was to be given back
-pub gave_back : {Q O : Type 0} (s t u : SeatView Q O) (n k : ℕ) (ticket : Ticket) (reply : GiveBackReply Q) → GaveBack s t n → u.given ≡ given_with reply ticket t.given → k ≡ one_more n (is_back reply) → GaveBack s u k
-gave_back s t u n k ticket giving.Back g given count = record {
-  more = g.more ++ ticket ∷ [];
-  given = given ∙ ap (λ l. l ++ ticket ∷ []) g.given ∙ append_assoc s.given g.more (ticket ∷ []);
-  count_is = omega (arith, count, g.count_is, length-append g.more (ticket ∷ []));
-}
-gave_back s t u n k ticket (giving.Stale work) g given count = record { more = g.more; given = given ∙ g.given; count_is = omega (arith, count, g.count_is) }

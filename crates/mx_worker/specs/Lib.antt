@@ -1,2 +1,1 @@
-pub mod Racks
 pub mod Work

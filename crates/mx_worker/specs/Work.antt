@@ -1,59 +1,91 @@
 -- What a worker did with its seat.
-use Rattle.std.specs.Prelude.{◌≡◌, ℕ, ◌+◌, ◌-◌, ◌^◌, min, count_by, if◌then◌else◌, Bool, true, false, List, ◌++◌, length}
+use Rattle.std.specs.Prelude.{◌≡◌, ◌⊎◌, ℕ, ◌-◌, ◌^◌, min, List, [], ◌++◌, length, map, filter_map, Option, Some, None}
 use Rattle.mx_types.specs.declared.code.Code.{Code}
 use Rattle.mx_types.specs.declared.names.Ticket.{Ticket}
+use Rattle.mx_types.specs.declared.call.Call.{Call}
 use Rattle.mx_types.specs.declared.call.Call.TheVariants as call
 use Rattle.mx_types.specs.declared.call.Receipt.{Receipt}
 use Rattle.mx_types.specs.declared.reply.Reply.{Reply}
 use Rattle.mx_types.specs.declared.reply.Reply.TheVariants as reply
-use Rattle.mx_multi.specs.Seats.{SeatView, Later, Stands}
+use Rattle.mx_body.specs.Parts.{joined}
+use Rattle.mx_link.specs.declared.answers.Answer.{Answer}
+use Rattle.mx_chain.specs.Outcomes.{OutcomeValue}
+use Rattle.mx_board.specs.declared.note.Note.{Note}
+use Rattle.mx_board.specs.Progress.{note, word_of}
+use Rattle.mx_multi.specs.Seats.{MultiView, SeatView, Later, FindsOther}
+use Rattle.mx_gate.specs.Said.{Said}
+use Rattle.mx_turn.specs.Workers.{Deed, looks, notes, finishes, recorded, stale, lacking, Worker, starts, IsOver}
+use Rattle.mx_turn.specs.Turn.{Runs}
+use Rattle.mx_turn.specs.Laws.{claimed_by, recorded_by, stale_by, given_back_by, unseated_by, AreAccounted}
 
-abbrev pub is_recorded_reply : Reply → Bool
-is_recorded_reply reply.Recorded = true
-is_recorded_reply _ = false
+-- the code of an outcome, and how many bytes its body has, as its message tells them
+abbrev pub code_of : OutcomeValue → Code
+code_of o = o.code
 
-abbrev pub is_stale_reply : Reply → Bool
-is_stale_reply reply.Stale = true
-is_stale_reply _ = false
+abbrev pub size_of : OutcomeValue → ℕ
+size_of o = length (joined o.wire o.parts)
 
-abbrev pub is_recorded : Receipt → Bool
-is_recorded r = is_recorded_reply r.reply
+-- the call that hands in the end of a ticket
+abbrev pub finish_call : Ticket → OutcomeValue → Call
+finish_call t o = call.Finish t (code_of o) (size_of o)
 
-abbrev pub is_stale : Receipt → Bool
-is_stale r = is_stale_reply r.reply
+-- the call that a deed is, with its reply, where it has a receipt
+abbrev pub answered_by : {L : Type 0} → Deed L → Option (Call × Reply)
+answered_by (looks t (Some l)) = Some (call.Look t, reply.Look l)
+answered_by (finishes t o recorded) = Some (finish_call t o, reply.Recorded)
+answered_by (finishes t o stale) = Some (finish_call t o, reply.Stale)
+answered_by (finishes t o lacking) = Some (finish_call t o, reply.OutOfMemory)
+answered_by _ = None
 
--- how many of the receipts, held at the greatest number of 32 bits
-abbrev pub tallied : (Receipt → Bool) → List Receipt → ℕ
-tallied p receipts = min (count_by p receipts) (2 ^ 32 - 1)
+-- the word that was written by it
+abbrev pub noted_by_deed : {L : Type 0} → Deed L → Option Note
+noted_by_deed (notes t slot count) = Some (note slot (word_of t count))
+noted_by_deed _ = None
 
--- one more where it is so, held at the greatest number of 32 bits
-abbrev pub one_more : ℕ → Bool → ℕ
-one_more n is_so = min (n + (if is_so then 1 else 0)) (2 ^ 32 - 1)
+-- at some moment what lay in the lock didn't begin with what a seat of this multi handle had seen, or had other events of the seat's own
+pub record FoundOther {Q : Type 0} (m : MultiView Q OutcomeValue) : Type 0 where
+  pub seat : SeatView Q OutcomeValue
+  pub of : seat.of ≡ m
+  pub other : FindsOther code_of size_of seat
 
--- The seat has these receipts behind those that it had, and no others, so there is one such list; so many of them are of ends that were
--- recorded, and so many of ends that were stale.
-pub record Worked {Q O : Type 0} (s t : SeatView Q O) (recorded stale : ℕ) : Type 0 where
+-- What the seat did, from s to t, is these deeds: its further receipts are those of the calls that were answered, in order; its further
+-- claims are what they claimed; likewise what it gave back and the words that it wrote. And nothing was lost as the seat was another
+-- handle's, unless what lay in the lock was another's indeed.
+pub record IsDone {L Q : Type 0} (s t : SeatView Q OutcomeValue) (did : List (Deed L)) : Type 0 where
   pub more : List Receipt
   pub later : Later s t more
-  pub recorded_is : recorded ≡ tallied is_recorded more
-  pub stale_is : stale ≡ tallied is_stale more
+  pub answers : map (λ r. (r.call, r.reply)) more ≡ filter_map answered_by did
+  pub claims : t.claims ≡ s.claims ++ filter_map claimed_by did
+  pub given : t.given ≡ s.given ++ filter_map given_back_by did
+  pub noted : t.words.noted ≡ s.words.noted ++ filter_map noted_by_deed did
+  pub seated : (filter_map unseated_by did ≡ []) ⊎ FoundOther s.of
 
--- The seat has given these tickets back, behind those that it had given back, and no others, so there is one such list; so many they are.
-pub record GaveBack {Q O : Type 0} (s t : SeatView Q O) (count : ℕ) : Type 0 where
-  pub more : List Ticket
-  pub given : t.given ≡ s.given ++ more
-  pub count_is : count ≡ min (length more) (2 ^ 32 - 1)
+-- how many they are, held at the greatest number of 32 bits
+abbrev pub held_count : List Ticket → ℕ
+held_count ts = min (length ts) (2 ^ 32 - 1)
 
--- the end of a ticket found no memory
-pub record Lacks {Q O : Type 0} (s t : SeatView Q O) (ticket : Ticket) : Type 0 where
-  pub code : Code
-  pub size : ℕ
-  pub stands : Stands s t (call.Finish ticket code size) reply.OutOfMemory
+-- so many ends were recorded by these deeds, so many were stale, and so many transfers went back to the queue
+pub record AreCounted {L : Type 0} (did : List (Deed L)) (recorded_count stale_count given_back_count : ℕ) : Type 0 where
+  pub recorded_is : recorded_count ≡ held_count (filter_map recorded_by did)
+  pub stale_is : stale_count ≡ held_count (filter_map stale_by did)
+  pub given_back_is : given_back_count ≡ held_count (filter_map given_back_by did)
 
--- a worker's seat as it began, as it is, and what was counted since
-pub record TallyView (Q O : Type 0) : Type 0 where
-  pub start : SeatView Q O
-  pub seat : SeatView Q O
-  pub recorded : ℕ
-  pub stale : ℕ
-  pub given_back : ℕ
+-- A worker ran, with this seat and this gate, before and after: turn after turn, until it was told to stop and had nothing in hand. What the
+-- seat did is what the worker did in those turns, and what the gate said is what it was told there. Each claim came to one end.
+pub record WorkerRan {L Q : Type 0} (history : L → List Answer) (token_of : L → ℕ) (s t : SeatView Q OutcomeValue) (was is : List Said) (recorded_count stale_count given_back_count : ℕ) : Type 0 where
+  pub last : Worker L
+  pub run : Runs history token_of (record (starts s.of.max_connects) { said = was }) last
+  pub over : IsOver last
+  pub said : is ≡ last.said
+  pub done : IsDone s t last.did
+  pub accounted : AreAccounted last.did
+  pub counted : AreCounted last.did recorded_count stale_count given_back_count
+
+-- a worker's seat as it began and as it is, what was done with it since, and what was counted
+pub record TallyView (L Q : Type 0) : Type 0 where
+  pub start : SeatView Q OutcomeValue
+  pub seat : SeatView Q OutcomeValue
+  pub did : List (Deed L)
+  pub recorded_count : ℕ
+  pub stale_count : ℕ
+  pub given_back_count : ℕ

@@ -1,9 +1,8 @@
-//! Workers: each claims transfers of a multi handle, polls them by hand over links that it keeps, and records their ends.
+//! Workers at a multi handle: each claims transfers, polls them by hand over links that it keeps, and records their ends.
 #![tactic(auto)]
 
-mod links;
+mod claims;
 mod queued;
-mod rack;
 mod tally;
 mod worker;
 

@@ -1,27 +1,12 @@
-//! The work of a multi handle with workers, and what a worker has of it.
-ghost use Rattle.std.specs.Prelude.{◌≡◌, None, Bool, false};
-ghost use Rattle.logbook.specs.Pages.{Book};
-ghost use Rattle.mx_request.specs.Request.{request_origin};
+//! The work of a multi handle with workers.
+ghost use Rattle.std.specs.Prelude.{◌≡◌, None, false};
 
 use mx_link::Link;
-use mx_lock::TiedClaim;
 use mx_request::Request;
-use mx_transfer::{Outcome, Transfer};
-use mx_types::{Ticket, Work};
+use mx_transfer::Transfer;
+use mx_types::Work;
 use std::alloc::Global;
 use std::marker::Model;
-
-/// What a worker has in hand: it has started, or it hasn't.
-pub(crate) trait Start {
-    /// Whether it has started, for contracts alone.
-    ghost is_started: { Self → Bool };
-}
-
-/// What has a claim.
-pub(crate) trait Tied {
-    /// Which list of ties has the tie of its claim's addition, for contracts alone.
-    ghost of: { Self → Book };
-}
 
 /// A transfer that has not ended, as it waits for a worker. Contracts see the transfer.
 #[derive(Drop)]
@@ -44,10 +29,6 @@ impl<L: Link> Work for Queued<L> {
     ghost use Rattle.mx_request.specs.Request.{request_origin};
 
     ghost origin = { λ q. request_origin q.chain.request };
-}
-
-impl<L: Link> Start for Queued<L> {
-    ghost is_started = { λ q. q.chain.now.is_started };
 }
 
 impl<L: Link> Queued<L> {
@@ -83,41 +64,4 @@ impl<L: Link> Queued<L> {
     {
         self.transfer
     }
-}
-
-/// A claim and its transfer, which are of one request. The transfer has not ended.
-#[derive(Drop)]
-pub(crate) struct Held<L: Link> {
-    pub claim: TiedClaim<Queued<L>>,
-    pub transfer: Transfer<L>,
-    pub ghost running: { transfer.chain.code ≡ None },
-    pub ghost of_one: { request_origin transfer.chain.request ≡ claim.origin },
-}
-
-impl<L: Link> Start for Held<L> {
-    ghost is_started = { λ h. h.transfer.chain.now.is_started };
-}
-
-impl<L: Link> Tied for Held<L> {
-    ghost of = { λ h. h.claim.of };
-}
-
-impl<L: Link> Held<L> {
-    pub fn ticket(&self) -> Ticket
-        ensures { result ≡ self.now.claim.ticket }
-    {
-        self.claim.ticket()
-    }
-}
-
-/// A claim and the outcome that ends it, which are of one request.
-#[derive(Drop)]
-pub(crate) struct Finished<L: Link> {
-    pub claim: TiedClaim<Queued<L>>,
-    pub outcome: Outcome,
-    pub ghost of_one: { request_origin outcome.request ≡ claim.origin },
-}
-
-impl<L: Link> Tied for Finished<L> {
-    ghost of = { λ f. f.claim.of };
 }

@@ -1,167 +1,199 @@
 //! A worker's calls on the multi handle, with the count of its recorded and stale ends, and of what it gave back.
-ghost use Rattle.std.specs.Prelude.{◌≡◌, true, false, IfSome};
-ghost use Rattle.mx_journal.specs.History.{has_ticket, running};
-ghost use Rattle.mx_journal.specs.Replies.{is_back, reply_of_finish};
-ghost use Rattle.mx_multi.specs.Progress.{noted_by};
-ghost use Rattle.mx_worker.specs.Work.{GaveBack, Worked, Lacks, is_recorded_reply, is_stale_reply, one_more};
+ghost use Rattle.std.specs.Prelude.{◌≡◌, ◌∷◌, ◌++◌, [], false, option_map, IfSome};
+ghost use Rattle.mx_turn.specs.Workers.{Return, claims, looks, notes, finishes, gives_back, recorded, stale, lacking, unseated, returned, ended_before, unreturned};
+ghost use Rattle.mx_round.specs.Desks.{HandsIn};
+ghost use Rattle.mx_worker.specs.Work.{AreCounted, IsDone};
 
-use crate::queued::Start;
+use crate::claims::WorkerClaim;
+use crate::queued::Queued;
 use mx_journal::{FinishReply, GiveBackReply};
-use mx_lock::TiedClaim;
+use mx_link::Link;
 use mx_multi::{AtWork, Seated};
-use mx_types::{Ending, Look, Ticket, Work};
+use mx_round::{Done, Engine, Finished, Held, Tied};
+use mx_transfer::Outcome;
+use mx_types::{History, Look, Ticket};
 use std::marker::Model;
 use std::snapshot::Snapshot;
 use std::sync::Wait;
 
-/// The seat of a running worker, beside the seat as the worker began. Only the calls here touch it. It knows of transfers and of outcomes
-/// no more than a multi handle does, so that no goal of its calls has to look into one.
+/// The seat of a running worker, beside the seat as the worker began, what was done with it since, and what was counted. Only the calls
+/// here touch it.
 #[derive(Drop)]
-pub(crate) struct Tally<'m, Q: Work + Start + Drop, O: Ending + Drop> {
-    start: Snapshot<Seated<'m, AtWork, Q, O>>,
-    seat: Seated<'m, AtWork, Q, O>,
+pub(crate) struct Tally<'m, L: Link> {
+    start: Snapshot<Seated<'m, AtWork, Queued<L>, Outcome>>,
+    seat: Seated<'m, AtWork, Queued<L>, Outcome>,
+    did: History<Done<L, WorkerClaim<L>>>,
     recorded: u32,
     stale: u32,
     given_back: u32,
 }
 
-impl<'m, Q: Work + Start + Drop, O: Ending + Drop> Model for Tally<'m, Q, O> {
-    ghost use Rattle.mx_worker.specs.Work.{GaveBack, TallyView, Worked};
+impl<'m, L: Link> Model for Tally<'m, L> {
+    ghost use Rattle.mx_transfer.specs.Transfers.{TransferState};
+    ghost use Rattle.mx_worker.specs.Work.{AreCounted, IsDone, TallyView};
 
-    ghost Value = { TallyView Q O };
+    ghost Value = { TallyView L (TransferState L) };
 
-    ghost view = { λ t. record { start = t.start.value; seat = t.seat; recorded = t.recorded; stale = t.stale; given_back = t.given_back } };
+    ghost view = { λ t. record { start = t.start.value; seat = t.seat; did = t.did; recorded_count = t.recorded; stale_count = t.stale; given_back_count = t.given_back } };
 
-    ghost invariant = { λ t. Worked t.start.value t.seat t.recorded t.stale × GaveBack t.start.value t.seat t.given_back };
+    ghost invariant = { λ t. IsDone t.start.value t.seat t.did × AreCounted t.did t.recorded t.stale t.given_back };
 }
 
-// How many ends were recorded, after one more was answered.
-fn recorded_with<C: Drop, O: Drop>(recorded: u32, reply: &FinishReply<C, O>) -> u32
-    ensures { result ≡ one_more recorded (is_recorded_reply (reply_of_finish reply.now)) }
-{
-    match reply {
-        FinishReply::Recorded => recorded.saturating_add(1),
-        FinishReply::Stale(_) => recorded,
-        FinishReply::OutOfMemory(_, _) => recorded,
-    }
+impl<'m, L: Link> Tied for Tally<'m, L> {
+    ghost of = { λ t. t.start.of.engine.ties };
 }
 
-// How many ends were stale, after one more was answered.
-fn stale_with<C: Drop, O: Drop>(stale: u32, reply: &FinishReply<C, O>) -> u32
-    ensures { result ≡ one_more stale (is_stale_reply (reply_of_finish reply.now)) }
-{
-    match reply {
-        FinishReply::Recorded => stale,
-        FinishReply::Stale(_) => stale.saturating_add(1),
-        FinishReply::OutOfMemory(_, _) => stale,
-    }
-}
-
-// How many went back to the queue, after one more was answered.
-fn given_back_with<Q: Drop>(given_back: u32, reply: &GiveBackReply<Q>) -> u32
-    ensures { result ≡ one_more given_back (is_back reply.now) }
-{
-    match reply {
-        GiveBackReply::Back => given_back.saturating_add(1),
-        GiveBackReply::Stale(_) => given_back,
-    }
-}
-
-impl<'m, Q: Work + Start + Drop, O: Ending + Drop> Tally<'m, Q, O> {
-    #[tactic(auto, using(crate::proofs::Tallies::worked_none, crate::proofs::Tallies::gave_none))]
-    pub fn new(seat: Seated<'m, AtWork, Q, O>) -> Tally<'m, Q, O>
-        ensures { result.start ≡ seat.entry }
+impl<'m, L: Link> Tally<'m, L> {
+    pub fn new(seat: Seated<'m, AtWork, Queued<L>, Outcome>) -> Tally<'m, L>
+        ensures { result ≡ record { start = seat.entry; seat = seat.entry; did = []; recorded_count = 0; stale_count = 0; given_back_count = 0 } }
     {
         Tally {
             start: Snapshot::of(&seat),
             seat,
+            did: History::new(),
             recorded: 0,
             stale: 0,
             given_back: 0,
         }
     }
 
-    /// Takes work out of the queue, if there is some.
-    #[tactic(auto, using(crate::proofs::Tallies::worked_sees, crate::proofs::Tallies::gave_same))]
-    pub fn claim<R: Wait>(&mut self, rt: &R) -> Option<(TiedClaim<Q>, Q)>
-        ensures start { self.new.start ≡ self.old.start }
-        ensures origin { IfSome result (λ r. Q.origin r.1 ≡ r.0.origin) }
-        ensures claim { IfSome result (λ r. r.0.of ≡ self.old.start.of.engine.ties) }
+    /// The seat, how many ends were recorded and how many were stale, and how many transfers went back to the queue.
+    pub fn into_parts(self) -> (Seated<'m, AtWork, Queued<L>, Outcome>, u32, u32, u32)
+        ensures seat { result.0 ≡ self.entry.seat }
+        ensures done { IsDone self.entry.start result.0 self.entry.did }
+        ensures counted { AreCounted self.entry.did result.1 result.2 result.3 }
     {
-        let Some((claim, work)) = self.seat.claim(rt) else {
-            return None;
-        };
-        Some((claim, work))
+        (self.seat, self.recorded, self.stale, self.given_back)
     }
 
-    /// What is told of a transfer. None where no version can be read.
-    #[tactic(auto, using(crate::proofs::Tallies::worked_same, crate::proofs::Tallies::gave_as))]
-    pub fn look(&mut self, ticket: Ticket) -> Option<Look>
-        ensures start { self.new.start ≡ self.old.start }
-    {
-        let Some(look) = self.seat.look(ticket) else {
-            return None;
-        };
-        Some(look)
-    }
-
-    /// Notes how many bytes of its response a claimed transfer has received.
-    #[tactic(auto, using(crate::proofs::Tallies::worked_notes, crate::proofs::Tallies::gave_notes))]
-    pub fn note(&mut self, claim: &TiedClaim<Q>, count: u32)
-        ensures start { self.new.start ≡ self.old.start }
-        ensures noted { self.new.seat ≡ noted_by self.old.seat claim.now.slot claim.now.ticket count }
-    {
-        self.seat.note(claim, count);
-    }
-
-    /// Gives claimed work that has not started back to the queue, and counts it where it went back. False where it didn't, as it runs no
-    /// more: it is then dropped.
-    #[tactic(auto, using(crate::proofs::Tallies::worked_saw, crate::proofs::Tallies::worked_same, crate::proofs::Tallies::gave_as, crate::proofs::Tallies::gave_back))]
-    pub fn give_back<R: Wait>(&mut self, rt: &R, claim: TiedClaim<Q>, work: Q) -> bool
-        requires claim { claim.of ≡ self.old.start.of.engine.ties }
-        requires origin { Q.origin work ≡ claim.origin }
-        requires unstarted { Q.is_started work ≡ false }
-        ensures start { self.new.start ≡ self.old.start }
-        ensures back { result ≡ true → has_ticket claim.ticket (running self.new.seat.seen) ≡ true }
-    {
-        let Ok(reply) = self.seat.give_back(rt, claim, work) else {
-            return false;
-        };
-        self.given_back = given_back_with(self.given_back, &reply);
-        matches!(reply, GiveBackReply::Back)
-    }
-
-    /// Records an end. One that found no memory comes back.
-    #[tactic(auto, using(crate::proofs::Tallies::worked_same, crate::proofs::Tallies::gave_as))]
-    pub fn finish<R: Wait>(
+    // Hands in an end. One that finds no memory comes back.
+    fn hand_in<R: Wait>(
         &mut self,
         rt: &R,
-        claim: TiedClaim<Q>,
-        ending: O,
-    ) -> Option<(TiedClaim<Q>, O)>
-        requires claim { claim.of ≡ self.old.start.of.engine.ties }
-        requires origin { O.origin ending ≡ claim.origin }
-        ensures start { self.new.start ≡ self.old.start }
-        ensures lacking { IfSome result (λ r. Lacks self.old.seat self.new.seat r.0.ticket) }
-        ensures back { IfSome result (λ r. (r.0 ≡ claim) × (r.1 ≡ ending)) }
+        finished: Finished<WorkerClaim<L>>,
+    ) -> Option<Finished<WorkerClaim<L>>>
+        requires own { finished.of ≡ self.old.start.of.engine.ties }
+        ensures did { HandsIn self.old.did self.new.did finished result }
+        ensures same { self.new.start ≡ self.old.start }
     {
-        let Ok(reply) = self.seat.finish(rt, claim, ending) else {
-            return None;
-        };
-        self.recorded = recorded_with(self.recorded, &reply);
-        self.stale = stale_with(self.stale, &reply);
-        match reply {
-            FinishReply::Recorded => None,
-            FinishReply::Stale(_ending) => None,
-            FinishReply::OutOfMemory(claim, ending) => Some((claim, ending)),
+        let end = Snapshot::of(&finished);
+        let (right, outcome) = finished.into_parts();
+        match self.seat.finish(rt, right.into_claim(), outcome) {
+            Ok(FinishReply::Recorded) => {
+                self.did.note(Done::recorded(end));
+                self.recorded = self.recorded.saturating_add(1);
+                None
+            }
+            Ok(FinishReply::Stale(outcome)) => {
+                self.did.note(Done::stale(end));
+                self.stale = self.stale.saturating_add(1);
+                drop(outcome);
+                None
+            }
+            Ok(FinishReply::OutOfMemory(claim, outcome)) => {
+                self.did.note(Done::lacking(end));
+                Some(Finished::new(WorkerClaim::new(claim), outcome))
+            }
+            Err(refused) => {
+                self.did.note(Done::unseated(end));
+                drop(refused);
+                None
+            }
         }
     }
 
-    /// The seat, how many ends were recorded and how many were stale, and how many transfers went back to the queue.
-    pub fn into_parts(self) -> (Seated<'m, AtWork, Q, O>, u32, u32, u32)
-        ensures ran { Worked self.entry.start result.0 result.1 result.2 }
-        ensures given { GaveBack self.entry.start result.0 result.3 }
+    // Gives a transfer back that has not started.
+    fn hand_back<R: Wait>(&mut self, rt: &R, held: Held<L, WorkerClaim<L>>)
+        requires own { held.of ≡ self.old.start.of.engine.ties }
+        requires unstarted { held.held.transfer.now.is_started ≡ false }
+        ensures did { (r : Return) × (self.new.did ≡ self.old.did ++ gives_back held.held r ∷ []) }
+        ensures same { self.new.start ≡ self.old.start }
     {
-        (self.seat, self.recorded, self.stale, self.given_back)
+        let given = Snapshot::of(&held);
+        let (right, transfer) = held.into_parts();
+        match self
+            .seat
+            .give_back(rt, right.into_claim(), Queued::of(transfer))
+        {
+            Ok(GiveBackReply::Back) => {
+                self.did.note(Done::returned(given));
+                self.given_back = self.given_back.saturating_add(1);
+            }
+            Ok(GiveBackReply::Stale(queued)) => {
+                self.did.note(Done::ended_before(given));
+                drop(queued);
+            }
+            Err(refused) => {
+                self.did.note(Done::unreturned(given));
+                drop(refused);
+            }
+        }
+    }
+}
+
+impl<'m, L: Link> Engine<L, WorkerClaim<L>> for Tally<'m, L> {
+    type Start = Seated<'m, AtWork, Queued<L>, Outcome>;
+
+    ghost did = { λ t. t.did };
+
+    ghost start = { λ t. t.start };
+
+    fn claim<R: Wait>(&mut self, rt: &R) -> Option<Held<L, WorkerClaim<L>>>
+        ensures did { self.new.did ≡ self.old.did ++ claims (option_map (λ h. h.held) result) ∷ [] }
+        ensures own { IfSome result (λ h. h.of ≡ self.old.start.of.engine.ties) }
+        ensures same { (self.new.start.of.engine.ties ≡ self.old.start.of.engine.ties) × (self.new.start ≡ self.old.start) }
+    {
+        match self.seat.claim(rt) {
+            Some((claim, queued)) => {
+                let held = Some(Held::new(WorkerClaim::new(claim), queued.into_transfer()));
+                self.did.note(Done::claims(&held));
+                held
+            }
+            None => {
+                let none = None;
+                self.did.note(Done::claims(&none));
+                none
+            }
+        }
+    }
+
+    fn look(&mut self, ticket: Ticket) -> Option<Look>
+        ensures did { self.new.did ≡ self.old.did ++ looks ticket result ∷ [] }
+        ensures same { (self.new.start.of.engine.ties ≡ self.old.start.of.engine.ties) × (self.new.start ≡ self.old.start) }
+    {
+        let seen = self.seat.look(ticket);
+        self.did.note(Done::looks(ticket, seen));
+        seen
+    }
+
+    fn note(&mut self, right: &WorkerClaim<L>, count: u32)
+        ensures did { self.new.did ≡ self.old.did ++ notes right.now.ticket right.now.slot count ∷ [] }
+        ensures same { (self.new.start.of.engine.ties ≡ self.old.start.of.engine.ties) × (self.new.start ≡ self.old.start) }
+    {
+        self.seat.note(right.claim(), count);
+        self.did.note(Done::notes(right, count));
+    }
+
+    fn finish<R: Wait>(&mut self, rt: &R, finished: &mut Option<Finished<WorkerClaim<L>>>)
+        requires own { IfSome finished.old (λ f. f.of ≡ self.old.start.of.engine.ties) }
+        ensures did { IfSome finished.old (λ f. HandsIn self.old.did self.new.did f finished.new) }
+        ensures same { (self.new.start.of.engine.ties ≡ self.old.start.of.engine.ties) × (self.new.start ≡ self.old.start) }
+    {
+        let Some(end) = finished.take() else {
+            return;
+        };
+        *finished = self.hand_in(rt, end);
+    }
+
+    fn give_back<R: Wait>(&mut self, rt: &R, held: &mut Option<Held<L, WorkerClaim<L>>>)
+        requires own { IfSome held.old (λ h. h.of ≡ self.old.start.of.engine.ties) }
+        requires unstarted { IfSome held.old (λ h. h.held.transfer.now.is_started ≡ false) }
+        ensures did { IfSome held.old (λ h. (r : Return) × (self.new.did ≡ self.old.did ++ gives_back h.held r ∷ [])) }
+        ensures same { (self.new.start.of.engine.ties ≡ self.old.start.of.engine.ties) × (self.new.start ≡ self.old.start) }
+    {
+        let Some(given) = held.take() else {
+            return;
+        };
+        self.hand_back(rt, given);
     }
 }

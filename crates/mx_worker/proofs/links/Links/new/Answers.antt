@@ -1,5 +1,0 @@
-use Rattle.std.proofs.Common.{rules}
-use Rattle.mx_worker.proofs.links.Links.new.Goals as goal
-
-pub returns : goal.returns
-returns g c = search rules

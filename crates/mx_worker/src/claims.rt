@@ -1,0 +1,61 @@
+//! A worker's claim, as the right that its turns go by.
+ghost use Rattle.std.specs.Prelude.{◌≡◌};
+
+use crate::queued::Queued;
+use mx_link::Link;
+use mx_lock::TiedClaim;
+use mx_round::{Right, Tied};
+use mx_types::Ticket;
+use std::marker::Model;
+
+/// A claim of queued work. Contracts see it as the claim.
+#[derive(Drop)]
+pub(crate) struct WorkerClaim<L: Link> {
+    claim: TiedClaim<Queued<L>>,
+}
+
+impl<L: Link> Model for WorkerClaim<L> {
+    ghost use Rattle.mx_lock.specs.Ties.{TiedClaimed};
+
+    ghost Value = { TiedClaimed };
+
+    ghost view = { λ c. c.claim };
+}
+
+impl<L: Link> Tied for WorkerClaim<L> {
+    ghost of = { λ c. c.of };
+}
+
+impl<L: Link> Right for WorkerClaim<L> {
+    ghost ticket_of = { λ c. c.ticket };
+
+    ghost slot_of = { λ c. c.slot };
+
+    ghost origin_of = { λ c. c.origin };
+
+    fn ticket(&self) -> Ticket
+        ensures { result ≡ self.now.ticket }
+    {
+        self.claim.ticket()
+    }
+}
+
+impl<L: Link> WorkerClaim<L> {
+    pub fn new(claim: TiedClaim<Queued<L>>) -> WorkerClaim<L>
+        ensures { result ≡ claim }
+    {
+        WorkerClaim { claim }
+    }
+
+    pub fn claim(&self) -> &TiedClaim<Queued<L>>
+        ensures { result.now ≡ self.now }
+    {
+        &self.claim
+    }
+
+    pub fn into_claim(self) -> TiedClaim<Queued<L>>
+        ensures { result ≡ self }
+    {
+        self.claim
+    }
+}
