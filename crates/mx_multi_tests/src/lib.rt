@@ -19,8 +19,6 @@ mod scripts;
 #[cfg(test)]
 mod seats;
 #[cfg(test)]
-mod sleepers;
-#[cfg(test)]
 mod storms;
 #[cfg(test)]
 mod turns;
