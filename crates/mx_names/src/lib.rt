@@ -1,0 +1,18 @@
+//! Names of hosts: which lookups are under way, and what they came to.
+#![tactic(auto)]
+
+mod addresses;
+mod answer;
+mod entry;
+mod finding;
+mod hosts;
+mod lookup;
+mod names;
+
+pub use crate::addresses::Addresses;
+pub use crate::answer::Answer;
+pub use crate::entry::Learnt;
+pub use crate::finding::Finding;
+pub use crate::hosts::spelled;
+pub use crate::lookup::Lookup;
+pub use crate::names::{KEPT_MS, MOST_LOOKUPS, Names};
