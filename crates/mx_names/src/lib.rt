@@ -8,6 +8,7 @@ mod finding;
 mod hosts;
 mod lookup;
 mod names;
+mod system;
 
 pub use crate::addresses::Addresses;
 pub use crate::answer::Answer;
@@ -16,3 +17,4 @@ pub use crate::finding::Finding;
 pub use crate::hosts::spelled;
 pub use crate::lookup::Lookup;
 pub use crate::names::{KEPT_MS, MOST_LOOKUPS, Names};
+pub use crate::system::SystemLookup;

@@ -1,0 +1,51 @@
+//! The system's lookup.
+ghost use Rattle.std.specs.Prelude.{◌≡◌, true};
+ghost use Rattle.mx_names.specs.Addresses.{is_lookup_code};
+
+use crate::addresses::Addresses;
+use crate::lookup::Lookup;
+use mx_types::Code;
+use std::alloc::AllocGlobal;
+use std::io;
+use std::net::{Net, SocketAddr, ToSocketAddrs};
+
+/// The system's lookup, by whatever it is set up for: a file of hosts, name servers. What it gives of a host no contract can
+/// say.
+#[derive(Clone, Copy)]
+pub struct SystemLookup<R> {
+    rt: R,
+}
+
+impl<R> SystemLookup<R> {
+    pub fn new(rt: R) -> SystemLookup<R> {
+        SystemLookup { rt }
+    }
+}
+
+fn lookup_code(error: &io::Error) -> Code
+    ensures { is_lookup_code result ≡ true }
+{
+    match error.kind() {
+        io::ErrorKind::OutOfMemory => Code::OutOfMemory,
+        _ => Code::CouldntResolveHost,
+    }
+}
+
+impl<R: Net + AllocGlobal + Drop> Lookup for SystemLookup<R> {
+    ghost gives = { λ host outcome. Unit {0} };
+
+    /// `CouldntResolveHost` comes where the lookup fails or gives nothing.
+    fn look_up(&self, host: &str) -> Result<Addresses, Code> {
+        let found = match (host, 0).to_socket_addrs(&self.rt) {
+            Ok(found) => found,
+            Err(error) => return Err(lookup_code(&error)),
+        };
+        let Ok(all) = found.collect::<Vec<SocketAddr>>(self.rt.alloc()) else {
+            return Err(Code::OutOfMemory);
+        };
+        match Addresses::new(all) {
+            Some(addresses) => Ok(addresses),
+            None => Err(Code::CouldntResolveHost),
+        }
+    }
+}
