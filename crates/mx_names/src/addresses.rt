@@ -1,5 +1,5 @@
 //! The addresses of a host.
-ghost use Rattle.std.specs.Prelude.{◌≡◌, ◌<◌, [], length, IfOk, MatchOption};
+ghost use Rattle.std.specs.Prelude.{◌≡◌, ◌<◌, [], ◌∷◌, length, IfOk, MatchOption};
 ghost use Rattle.mx_names.specs.Addresses.{in_order};
 
 use mx_types::OutOfMemory;
@@ -47,6 +47,15 @@ impl Addresses {
         } else {
             Some(Addresses { all })
         }
+    }
+
+    /// One address.
+    pub fn one(alloc: Global, address: SocketAddr) -> Result<Addresses, OutOfMemory>
+        ensures { IfOk result (λ addresses. addresses ≡ address ∷ []) }
+    {
+        let mut all = Vec::new(alloc);
+        all.push(address)?;
+        Ok(Addresses { all })
     }
 
     /// The addresses, at least one.

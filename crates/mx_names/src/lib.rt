@@ -1,4 +1,4 @@
-//! Names of hosts: which lookups are under way, and what they came to.
+//! Names of hosts: which lookups are under way, what they came to, and lookups on threads of their own.
 #![tactic(auto)]
 
 mod addresses;
@@ -8,13 +8,15 @@ mod finding;
 mod hosts;
 mod lookup;
 mod names;
+mod resolver;
 mod system;
 
 pub use crate::addresses::Addresses;
 pub use crate::answer::Answer;
 pub use crate::entry::Learnt;
 pub use crate::finding::Finding;
-pub use crate::hosts::spelled;
+pub use crate::hosts::{spelled, unbracketed};
 pub use crate::lookup::Lookup;
 pub use crate::names::{KEPT_MS, MOST_LOOKUPS, Names};
+pub use crate::resolver::{Resolver, Ring};
 pub use crate::system::SystemLookup;
