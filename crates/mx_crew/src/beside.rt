@@ -1,6 +1,7 @@
 //! A run of a crew, beside an application.
-ghost use Rattle.std.specs.Prelude.{IfOk};
+ghost use Rattle.std.specs.Prelude.{◌≡◌, ◌≤◌, ◌+◌, IfErr, IfOk, OnErr, OnOk, vec_capacity, vec_len};
 ghost use Rattle.std.specs.Thread.{IsSync};
+ghost use Rattle.mx_crew.specs.declared.error.CrewError.TheVariants as crew_error;
 
 use crate::crew::Crew;
 use crate::error::CrewError;
@@ -13,31 +14,38 @@ use std::sync::Wait;
 use std::thread::{JoinHandle, Threads};
 use std::{io, thread};
 
-// Keeps the handle of a thread that was started.
+// Keeps the handle of a thread that was started: there is room for it.
 fn keep<E: Drop>(
     handles: &mut Vec<JoinHandle<Counts>>,
     started: Result<JoinHandle<Counts>, E>,
-) -> Result<(), CrewError> {
+) -> Result<(), CrewError>
+    requires { vec_len handles.old + 1 ≤ vec_capacity handles.old }
+    ensures kept { OnOk result (vec_len handles.new ≡ vec_len handles.old + 1) }
+    ensures room { vec_capacity handles.new ≡ vec_capacity handles.old }
+    ensures cause { IfErr result (λ e. e ≡ crew_error.NoThread) }
+{
     match started {
         Ok(handle) => {
-            handles.push(handle)?;
+            handles.push_reserved(handle);
             Ok(())
         }
         Err(_) => Err(CrewError::NoThread),
     }
 }
 
-// What each worker did, for whom there is room.
+// What each worker did.
 fn join_all<R: Threads>(
     rt: &R,
     handles: Vec<JoinHandle<Counts>>,
     mut counts: Vec<Counts>,
-) -> Vec<Counts> {
-    for handle in handles {
-        let count = handle.join(rt);
-        if counts.len() < counts.capacity() {
-            counts.push_reserved(count);
-        }
+) -> Vec<Counts>
+    requires none { vec_len counts ≡ 0 }
+    requires room { vec_len handles ≤ vec_capacity counts }
+    ensures { vec_len result ≡ vec_len handles }
+{
+    let mut handles = handles;
+    while let Some(handle) = handles.pop() {
+        counts.push_reserved(handle.join(rt));
     }
     counts
 }
@@ -59,15 +67,22 @@ fn run_all<
     counts: Vec<Counts>,
     application: F,
 ) -> Result<(T, Vec<Counts>), CrewError>
-    requires { F.pre application }
-    ensures { IfOk result (λ r. F.post application r.0) }
+    requires application { F.pre application }
+    requires none { (vec_len handles ≡ 0) × (vec_len counts ≡ 0) }
+    requires room { (vec_len posts ≤ vec_capacity handles) × (vec_len posts ≤ vec_capacity counts) }
+    ensures told { IfOk result (λ r. F.post application r.0) }
+    ensures workers { IfOk result (λ r. vec_len r.1 ≡ vec_len posts.entry) }
+    ensures cause { IfErr result (λ e. e ≡ crew_error.NoThread) }
 {
     thread::scope(
         thread::scope_env(),
         rt,
         move |scope| -> Result<(T, Vec<Counts>), CrewError>
-            requires { IsSync R.row × F.pre application }
-            ensures { IfOk result (λ r. F.post application r.0) }
+            requires { IsSync R.row × F.pre application × (vec_len handles ≡ 0) × (vec_len counts ≡ 0)
+                × (vec_len posts ≤ vec_capacity handles) × (vec_len posts ≤ vec_capacity counts) }
+            ensures told { IfOk result (λ r. F.post application r.0) }
+            ensures workers { IfOk result (λ r. vec_len r.1 ≡ vec_len posts.entry) }
+            ensures cause { IfErr result (λ e. e ≡ crew_error.NoThread) }
         {
             let mut posts = posts;
             let mut handles = handles;
@@ -91,14 +106,16 @@ fn run_all<
 }
 
 /// Runs a worker at each post, on a thread of its own, while the application runs on this one. Once that has returned the crew is
-/// dismissed. It answers what the application returned, and what each worker did; all workers have ended then. It may wait.
+/// dismissed. It answers what the application returned, and for each post what its worker did; all workers have ended then. It may wait.
 ///
 /// # Errors
 ///
 /// `OutOfMemory` where there was no memory for the threads' handles, and `NoThread` where a thread couldn't be started: the
-/// application didn't run then, and the workers that had started are dismissed and have ended. Posts and application are let go.
+/// application didn't run then, and the workers that had started are dismissed and have ended. Posts and application don't come back:
+/// a worker that has started has its post, and lets it go as it ends.
 ///
-/// Of all this a clause says only that what it answers is what the application may return.
+/// Of all this the clauses say that what it answers first is what the application may return, and that it counts as many workers as there
+/// were posts.
 pub fn run_beside<
     'm,
     L: Link + Send,
@@ -113,7 +130,8 @@ pub fn run_beside<
     application: F,
 ) -> Result<(T, Vec<Counts>), CrewError>
     requires { F.pre application }
-    ensures { IfOk result (λ r. F.post application r.0) }
+    ensures told { IfOk result (λ r. F.post application r.0) }
+    ensures workers { IfOk result (λ r. vec_len r.1 ≡ vec_len posts.entry) }
 {
     let handles = Vec::with_capacity(rt.alloc(), posts.len())?;
     let counts = Vec::with_capacity(rt.alloc(), posts.len())?;

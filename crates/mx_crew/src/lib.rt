@@ -9,4 +9,4 @@ mod post;
 pub use crate::beside::run_beside;
 pub use crate::crew::Crew;
 pub use crate::error::CrewError;
-pub use crate::post::{Counts, Post, posts};
+pub use crate::post::{Counts, NoPosts, Post, posts};

@@ -1,11 +1,10 @@
 //! A worker's post.
-ghost use Rattle.std.specs.Prelude.{◌≡◌, All, IfOk, min, vec_len};
+ghost use Rattle.std.specs.Prelude.{◌≡◌, All, IfErr, IfOk, min, vec_len};
 
 use mx_gate::{Gate, Turn};
 use mx_link::Link;
 use mx_multi::{AtWork, Multi, Seated, WorkerSeat};
 use mx_transfer::Outcome;
-use mx_types::OutOfMemory;
 use mx_worker::{Queued, run_worker};
 use std::alloc::{AllocGlobal, Global};
 use std::random::RandomSource;
@@ -21,6 +20,13 @@ pub struct Post<'m, L: Link, G> {
     pub gate: G,
 }
 
+/// There was no memory for posts: seats and gates come back.
+#[derive(Drop)]
+pub struct NoPosts<L: Link, G> {
+    pub seats: Vec<WorkerSeat<Queued<L>, Outcome>>,
+    pub gates: Vec<G>,
+}
+
 /// What a worker did: how many ends it recorded, how many were stale, and how many transfers went back to the queue.
 #[derive(Clone, Copy, Debug, PartialEq, Eq)]
 pub struct Counts {
@@ -29,37 +35,43 @@ pub struct Counts {
     pub given_back: u32,
 }
 
-/// A post for each seat, as far as there are gates. Where there is no memory for them, seats and gates are let go.
+/// A post for each seat, as far as there are gates. What is over, seats or gates, is let go. Where there is no memory for them, seats and
+/// gates come back.
 pub fn posts<'m, L: Link, G: Gate<Link = L> + Drop>(
     alloc: Global,
     multi: &'m Multi<Queued<L>, Outcome>,
     seats: Vec<WorkerSeat<Queued<L>, Outcome>>,
     gates: Vec<G>,
-) -> Result<Vec<Post<'m, L, G>>, OutOfMemory>
+) -> Result<Vec<Post<'m, L, G>>, NoPosts<L, G>>
     requires { All (λ s. s.of ≡ multi.now) seats.items }
-    ensures { IfOk result (λ posts. vec_len posts ≡ min (vec_len seats) (vec_len gates)) }
+    ensures count { IfOk result (λ posts. vec_len posts ≡ min (vec_len seats) (vec_len gates)) }
+    ensures back { IfErr result (λ e. (e.seats ≡ seats) × (e.gates ≡ gates)) }
 {
+    let Ok(mut posts) = Vec::with_capacity(alloc, seats.len()) else {
+        return Err(NoPosts { seats, gates });
+    };
     let (mut seats, mut gates) = (seats, gates);
-    let mut posts = Vec::with_capacity(alloc, seats.len())?;
     while let Some(seat) = seats.pop() {
         let Some(gate) = gates.pop() else {
             return Ok(posts);
         };
-        posts.push(Post {
+        posts.push_reserved(Post {
             seat: multi.at(seat),
             gate,
-        })?;
+        });
     }
     Ok(posts)
 }
 
-// Works until the gate stops it, and says what it did. The seat comes back where there was no memory for the start, and the gate doesn't
-// stop it.
+// Works until the gate stops it, and says what it did. The seat comes back as it was where there was no memory for the start, and the gate
+// doesn't stop it.
 fn work_once<'m, L: Link, R: Wait + RandomSource + AllocGlobal, G: Gate<Link = L>>(
     rt: &R,
     seat: Seated<'m, AtWork, Queued<L>, Outcome>,
     gate: &mut G,
-) -> Result<Counts, Seated<'m, AtWork, Queued<L>, Outcome>> {
+) -> Result<Counts, Seated<'m, AtWork, Queued<L>, Outcome>>
+    ensures { IfErr result (λ again. again ≡ seat.entry) }
+{
     let end = run_worker(rt, seat, gate);
     if end.refused && matches!(gate.turn(START_AGAIN), Turn::Continue) {
         return Err(end.seat);

@@ -135,7 +135,9 @@ fn fetch_with<
     ensures cause { IfErr result (λ e. is_of_run e ≡ true) }
 {
     let (seat, workers) = seats;
-    let posts = posts(rt.alloc(), multi, workers, gates)?;
+    let Ok(posts) = posts(rt.alloc(), multi, workers, gates) else {
+        return Err(FetchError::OutOfMemory);
+    };
     let desk = Desk::new(rt.alloc(), multi.at(seat), urls.len())?;
     collect_beside(rt, crew, posts, desk, urls, options)
 }

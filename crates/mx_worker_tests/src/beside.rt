@@ -143,7 +143,9 @@ fn run_gates<
     requires seat { seat.of ≡ multi.now }
     requires workers { All (λ s. s.of ≡ multi.now) workers.items }
 {
-    let posts = posts(rt.alloc(), multi, workers, gates)?;
+    let Ok(posts) = posts(rt.alloc(), multi, workers, gates) else {
+        return Err(Fail::from(OutOfMemory));
+    };
     Ok(read_beside(rt, multi.at(seat), posts, flags, plan))
 }
 

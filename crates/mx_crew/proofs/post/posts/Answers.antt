@@ -10,6 +10,7 @@ loop-seat-preserved g c =
     let rest = All-pop (λ (s : SeatView _ _). s.of ≡ c.args.multi.now) _ _ (Some c.in-Some.seat) c.in-Some.ensures.items was.seats in
     record {
       seats = rest.0;
-      seats_left = omega (arith, c.in-Some.ensures.len, c.in_ok-push.ensures.len, was.seats_left);
-      gates_left = omega (arith, c.in-Some-pop.ensures.len, c.in_ok-push.ensures.len, was.gates_left);
+      seats_left = omega (arith, c.in-Some.ensures.len, c.push_reserved.ensures.len, was.seats_left);
+      gates_left = omega (arith, c.in-Some-pop.ensures.len, c.push_reserved.ensures.len, was.gates_left);
+      room = omega (arith, was.room, c.push_reserved.ensures.capacity);
     }

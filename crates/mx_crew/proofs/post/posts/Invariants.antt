@@ -1,5 +1,5 @@
-use Rattle.std.proofs.Common.{◌≡◌, ◌+◌}
-use Rattle.std.specs.Prelude.{All, vec_len}
+use Rattle.std.proofs.Common.{◌≡◌, ◌≤◌, ◌+◌}
+use Rattle.std.specs.Prelude.{All, vec_capacity, vec_len}
 use Rattle.mx_crew.proofs.post.posts.Given as goal
 
 abbrev pub invariant-loop-seat : goal.invariant-loop-seat
@@ -7,6 +7,7 @@ invariant-loop-seat g l = record {
   seats : All (λ s. s.of ≡ l.multi) l.seats.items;
   seats_left : vec_len l.posts + vec_len l.seats ≡ vec_len l.fn.seats;
   gates_left : vec_len l.posts + vec_len l.gates ≡ vec_len l.fn.gates;
+  room : vec_len l.fn.seats ≤ vec_capacity l.posts;
 }
 
 abbrev pub decreases-loop-seat : goal.decreases-loop-seat
