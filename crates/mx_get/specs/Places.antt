@@ -1,12 +1,34 @@
--- What stands at the place of a URL.
-use Rattle.std.specs.Prelude.{ℕ, List, Result, Ok}
+-- What stands at the places of URLs.
+use Rattle.std.specs.Prelude.{ℕ, ◌==◌, Bool, true, false, List, slice_get, slice_set, Result, Ok, if◌then◌else◌}
+use Rattle.std.specs.Option.{option_map_or}
 use Rattle.mx_types.specs.declared.code.Code.{Code}
+use Rattle.mx_types.specs.declared.names.Ticket.{Ticket}
 use Rattle.mx_request.specs.Request.{RequestValue}
+use Rattle.mx_chain.specs.Outcomes.{OutcomeValue}
+use Rattle.mx_run_get.specs.declared.fetched.Fetched.TheVariants.{Ended}
 use Rattle.mx_get.specs.Asked.{asked_of}
-use Rattle.mx_get.specs.declared.collect.Place.{Place}
-use Rattle.mx_get.specs.declared.collect.Place.TheVariants.{Awaited, Known}
+use Rattle.mx_get.specs.declared.place.Place.{Place}
+use Rattle.mx_get.specs.declared.place.Place.TheVariants.{Awaited, Known}
 
 -- what was asked for there
 abbrev pub asked_at : Place → Result RequestValue Code
-asked_at (Awaited request) = Ok request
+asked_at (Awaited addition) = Ok addition.request
 asked_at (Known end) = asked_of end
+
+-- an end is awaited there
+abbrev pub is_awaiting : Place → Bool
+is_awaiting (Awaited _) = true
+is_awaiting (Known _) = false
+
+-- the end of this ticket's addition is awaited there
+abbrev pub awaits : Ticket → Place → Bool
+awaits t (Awaited addition) = addition.ticket.0 == t.0
+awaits t (Known _) = false
+
+-- and at a place by its number
+abbrev pub awaits_at : List Place → ℕ → Ticket → Bool
+awaits_at places i t = option_map_or (awaits t) (slice_get places i) false
+
+-- the places once it is known there what its transfer ended with
+abbrev pub noted_at : List Place → ℕ → OutcomeValue → List Place
+noted_at places i outcome = slice_set places i (Known (Ended outcome))

@@ -1,36 +1,39 @@
 //! The one who adds what is to be fetched, and collects what came.
-ghost use Rattle.std.specs.Prelude.{◌≡◌, ◌⊎◌, ◌<◌, ◌++◌, [], ◌∷◌, true, length, map, slice_get, Some, Ok, Err, All, IsTrue};
-ghost use Rattle.std.specs.Prelude.{MatchResult, IfOk, IfErr, OnOk};
+ghost use Rattle.std.specs.Prelude.{◌≡◌, ◌≢◌, ◌⊎◌, ◌+◌, ◌<◌, ◌++◌, [], ◌∷◌, true, false, count_by, length, map, Some, Ok, Err};
+ghost use Rattle.std.specs.Prelude.{MatchResult, IfOk, IfErr, OnOk, OnErr};
+ghost use mathlib.Core.List.{IsPrefix};
+ghost use Rattle.mx_types.specs.declared.call.Call.TheVariants as call;
+ghost use Rattle.mx_types.specs.declared.reply.Reply.TheVariants as reply;
+ghost use Rattle.mx_request.specs.Request.{request_origin};
 ghost use Rattle.mx_request.specs.RequestError.{refusal_code};
 ghost use Rattle.mx_request.specs.declared.error.RequestError.TheVariants as refusal;
-ghost use Rattle.mx_get.specs.Asked.{asked_for, asked_of, AreEndsOf, IsEnd};
+ghost use Rattle.mx_lock.specs.Ties.{Has, tie};
+ghost use Rattle.mx_multi.specs.Seats.{Stands};
+ghost use Rattle.mx_get.specs.Asked.{asked_for, AreEndsOf};
+ghost use Rattle.mx_get.specs.Desks.{Adds, IsTold, Notes};
 ghost use Rattle.mx_get.specs.FetchError.{is_of_run};
-ghost use Rattle.mx_get.specs.Places.{asked_at};
+ghost use Rattle.mx_get.specs.Places.{asked_at, awaits_at, is_awaiting, noted_at};
 
+use crate::addition::Addition;
 use crate::end::End;
 use crate::error::FetchError;
+use crate::place::{Place, awaits, ends_at};
 use mx_crew::Crew;
 use mx_journal::AddReply;
 use mx_link::Link;
 use mx_message::{NoMessage, next_message};
 use mx_multi::{Application, Seated, WrongSeat};
+use mx_request::laws::origin_is_whole_request;
 use mx_request::{Request, RequestError};
 use mx_run_get::Fetched;
 use mx_run_io::Options;
 use mx_transfer::Outcome;
-use mx_types::{HandleId, Method, OutOfMemory, Settings};
+use mx_types::{HandleId, Method, OutOfMemory, Settings, Ticket};
 use mx_worker::Queued;
 use std::alloc::{AllocGlobal, Global};
+use std::marker::Model;
+use std::snapshot::Snapshot;
 use std::sync::Wait;
-
-/// What stands at the place of a URL.
-#[derive(Drop)]
-pub enum Place {
-    /// The request whose end is awaited.
-    Awaited(Request),
-    /// What the URL ended with.
-    Known(End),
-}
 
 // A GET of the URL.
 fn build(
@@ -48,59 +51,59 @@ fn build(
     Request::build(alloc, Method::Get, url, settings)
 }
 
-// Whether the end of this request is awaited at that place.
-#[tactic(auto, using(crate::proofs::Asking::found))]
-fn awaits(places: &[Place], at: usize, request: &Request) -> bool
-    ensures inside { IsTrue result → at < length places.now }
-    ensures asked { IsTrue result → slice_get (map asked_at places.now) at ≡ Some (Ok request.now) }
-{
-    if at >= places.len() {
-        return false;
-    }
-    match &places[at] {
-        Place::Awaited(awaited) => awaited.is_same(request),
-        Place::Known(_) => false,
-    }
-}
-
-// The ends, where each is known.
-#[tactic(auto, using(crate::proofs::Asking::ends_reversed))]
-fn ends_at(alloc: Global, places: Vec<Place>) -> Result<Vec<Fetched>, FetchError>
-    ensures asked { IfOk result (λ ends. map asked_of ends.items ≡ map asked_at places.items) }
-    ensures outcomes { IfOk result (λ ends. All IsEnd ends.items) }
-    ensures cause { IfErr result (λ e. is_of_run e ≡ true) }
-{
-    let mut places = places;
-    let mut ends = Vec::with_capacity(alloc, places.len())?;
-    while let Some(place) = places.pop() {
-        let Place::Known(end) = place else {
-            return Err(FetchError::NoMessage);
-        };
-        ends.push(end.into_fetched())?;
-    }
-    ends.reverse();
-    Ok(ends)
-}
-
-// That an addition was made, or why it wasn't. It is of any work, so that what is handed back is let go as one value, whatever that is.
-fn added<Q: Drop>(answer: Result<AddReply<Q>, WrongSeat<Q>>) -> Result<(), FetchError>
+// The ticket of an addition that was made, or why none was. It is of any work, so that what is handed back is let go as one value, whatever
+// that is.
+fn added<Q: Drop>(answer: Result<AddReply<Q>, WrongSeat<Q>>) -> Result<Ticket, FetchError>
+    ensures ticket { IfOk result (λ t. answer ≡ Ok (AddReply.Added t)) }
     ensures cause { IfErr result (λ e. is_of_run e ≡ true) }
 {
     match answer {
-        Ok(AddReply::Added(_)) => Ok(()),
+        Ok(AddReply::Added(ticket)) => Ok(ticket),
         Ok(AddReply::OutOfMemory(_)) => Err(FetchError::OutOfMemory),
         _ => Err(FetchError::NotAdded),
     }
 }
 
-/// The application's seat, and what came so far.
+// Adds a transfer of the request under this handle.
+fn add_transfer<L: Link, R: Wait + AllocGlobal>(
+    rt: &R,
+    seat: &mut Seated<'_, Application, Queued<L>, Outcome>,
+    handle: HandleId,
+    request: Request,
+) -> Result<Addition, FetchError>
+    ensures stands { IfOk result (λ a. Stands seat.old seat.new (call.Add handle) (reply.Added a.ticket)) }
+    ensures request { IfOk result (λ a. a.request ≡ request) }
+    ensures told { IfOk result (λ a. IsTold seat.new.ties a) }
+    ensures later { IsPrefix seat.old.ties seat.new.ties }
+    ensures cause { IfErr result (λ e. is_of_run e ≡ true) }
+{
+    request.know();
+    let asked = Snapshot::of(&request);
+    let work = Queued::new(rt.alloc(), request);
+    let ticket = added(seat.add(rt, handle, work))?;
+    Ok(Addition::new(ticket, asked))
+}
+
+/// The application's seat, and what came so far. Of each addition whose end is awaited the seat was told that it is of the request that was
+/// asked for at that place.
 #[derive(Drop)]
 pub struct Desk<'m, L: Link> {
-    pub seat: Seated<'m, Application, Queued<L>, Outcome>,
-    /// A place for each URL that was added or refused, in their order: the number of its place is its handle.
-    pub places: Vec<Place>,
-    // How many messages are to come.
-    waiting: u32,
+    seat: Seated<'m, Application, Queued<L>, Outcome>,
+    // A place for each URL that was added or refused, in their order: the number of its place is its handle.
+    places: Vec<Place>,
+    // At how many places an end is awaited.
+    waiting: usize,
+}
+
+impl<'m, L: Link> Model for Desk<'m, L> {
+    ghost use Rattle.mx_transfer.specs.Transfers.{TransferState};
+    ghost use Rattle.mx_get.specs.Desks.{DeskView, IsDesk};
+
+    ghost Value = { DeskView (TransferState L) };
+
+    ghost view = { λ d. record { seat = d.seat; places = d.places.items } };
+
+    ghost invariant = { λ d. IsDesk (record { seat = d.seat; places = d.places.items }) d.waiting };
 }
 
 impl<'m, L: Link> Desk<'m, L> {
@@ -111,7 +114,7 @@ impl<'m, L: Link> Desk<'m, L> {
         count: usize,
     ) -> Result<Desk<'m, L>, OutOfMemory>
         ensures seat { IfOk result (λ desk. desk.seat ≡ seat.entry) }
-        ensures none { IfOk result (λ desk. desk.places.items ≡ []) }
+        ensures none { IfOk result (λ desk. desk.places ≡ []) }
     {
         Ok(Desk {
             seat,
@@ -120,23 +123,21 @@ impl<'m, L: Link> Desk<'m, L> {
         })
     }
 
-    // Adds the transfer of a request at the next place.
+    // Adds the transfer of a request, whose handle is the number of the next place.
     fn add_request<R: Wait + AllocGlobal>(
         &mut self,
         rt: &R,
         request: Request,
     ) -> Result<(), FetchError>
-        ensures asked { OnOk result (map asked_at self.new.places.items ≡ map asked_at self.old.places.items ++ Ok request ∷ []) }
+        ensures adds { OnOk result (Adds self.old self.new request) }
         ensures cause { IfErr result (λ e. is_of_run e ≡ true) }
     {
-        let Ok(handle) = u32::try_from(self.places.len()) else {
+        let Ok(handle) = u32::try_from(self.places.as_slice().len()) else {
             return Err(FetchError::NotAdded);
         };
-        let awaited = request.copy(rt.alloc())?;
-        let work = Queued::new(rt.alloc(), request);
-        added(self.seat.add(rt, HandleId(handle), work))?;
-        self.waiting = self.waiting.saturating_add(1);
-        self.places.push(Place::Awaited(awaited))?;
+        let addition = add_transfer(rt, &mut self.seat, HandleId(handle), request)?;
+        self.places.push(Place::Awaited(addition))?;
+        self.waiting += 1;
         Ok(())
     }
 
@@ -148,7 +149,7 @@ impl<'m, L: Link> Desk<'m, L> {
         timeout_ms: u32,
         max_redirects: u8,
     ) -> Result<(), FetchError>
-        ensures asked { OnOk result (map asked_at self.new.places.items ≡ map asked_at self.old.places.items ++ asked_for timeout_ms max_redirects url.now ∷ []) }
+        ensures asked { OnOk result (map asked_at self.new.places ≡ map asked_at self.old.places ++ asked_for timeout_ms max_redirects url.now ∷ []) }
         ensures cause { IfErr result (λ e. is_of_run e ≡ true) }
     {
         match build(rt.alloc(), url, timeout_ms, max_redirects) {
@@ -161,37 +162,44 @@ impl<'m, L: Link> Desk<'m, L> {
         }
     }
 
-    // Notes what the handle's transfer ended with, where it is of the request that is awaited at its place.
-    #[tactic(auto, using(crate::proofs::Asking::kept))]
-    fn note(&mut self, handle: HandleId, outcome: Outcome)
+    // Notes what the transfer of an addition ended with, where that addition's end is awaited at the place of its handle.
+    fn note(&mut self, handle: HandleId, ticket: Ticket, outcome: Outcome) -> Result<(), NoMessage>
+        requires told { Has self.old.seat.ties (tie ticket (request_origin outcome.request)) }
         ensures seat { self.new.seat ≡ self.old.seat }
-        ensures asked { map asked_at self.new.places.items ≡ map asked_at self.old.places.items }
+        ensures noted { OnOk result ((awaits_at self.old.places handle.0 ticket ≡ true) × (self.new.places ≡ noted_at self.old.places handle.0 outcome)) }
+        ensures other { OnErr result ((awaits_at self.old.places handle.0 ticket ≡ false) × (self.new.places ≡ self.old.places)) }
+        ensures fewer { OnOk result (count_by is_awaiting self.new.places < count_by is_awaiting self.old.places) }
+        ensures asked { map asked_at self.new.places ≡ map asked_at self.old.places }
     {
         let at = handle.0 as usize;
-        if awaits(self.places.as_slice(), at, outcome.request()) {
+        outcome.request().know();
+        origin_is_whole_request();
+        if awaits(self.places.as_slice(), at, ticket) {
             self.places[at] = Place::Known(End::ended(outcome));
+            self.waiting -= 1;
+            return Ok(());
         }
+        Err(NoMessage)
     }
 
     // Waits for the next message and notes it.
     fn await_one<R: Wait>(&mut self, rt: &R) -> Result<(), NoMessage>
-        ensures asked { map asked_at self.new.places.items ≡ map asked_at self.old.places.items }
+        ensures notes { OnOk result (Notes self.old self.new) }
+        ensures fewer { OnOk result (count_by is_awaiting self.new.places < count_by is_awaiting self.old.places) }
+        ensures asked { map asked_at self.new.places ≡ map asked_at self.old.places }
     {
-        let Ok(message) = next_message(rt, &mut self.seat) else {
-            return Err(NoMessage);
-        };
-        self.note(message.handle, message.outcome);
-        Ok(())
+        let message = next_message(rt, &mut self.seat)?;
+        self.note(message.handle, message.ticket, message.outcome)
     }
 
     // Waits for all messages that are to come.
     fn await_all<R: Wait>(&mut self, rt: &R) -> Result<(), NoMessage>
-        ensures asked { map asked_at self.new.places.items ≡ map asked_at self.old.places.items }
+        ensures known { OnOk result (count_by is_awaiting self.new.places ≡ 0) }
+        ensures asked { map asked_at self.new.places ≡ map asked_at self.old.places }
     {
-        for _ in 0..self.waiting {
+        while self.waiting > 0 {
             self.await_one(rt)?;
         }
-        self.waiting = 0;
         Ok(())
     }
 
@@ -203,7 +211,7 @@ impl<'m, L: Link> Desk<'m, L> {
         urls: &[&str],
         options: Options,
     ) -> Result<(), FetchError>
-        ensures asked { OnOk result (map asked_at self.new.places.items ≡ map asked_at self.old.places.items
+        ensures asked { OnOk result (map asked_at self.new.places ≡ map asked_at self.old.places
             ++ map (asked_for options.timeout_ms options.max_redirects) (map (λ u. u.now) urls.now)) }
         ensures cause { IfErr result (λ e. is_of_run e ≡ true) }
     {
@@ -225,7 +233,8 @@ impl<'m, L: Link> Desk<'m, L> {
         urls: &[&str],
         options: Options,
     ) -> Result<(), FetchError>
-        ensures asked { OnOk result (map asked_at self.new.places.items ≡ map asked_at self.old.places.items
+        ensures known { OnOk result (count_by is_awaiting self.new.places ≡ 0) }
+        ensures asked { OnOk result (map asked_at self.new.places ≡ map asked_at self.old.places
             ++ map (asked_for options.timeout_ms options.max_redirects) (map (λ u. u.now) urls.now)) }
         ensures cause { IfErr result (λ e. is_of_run e ≡ true) }
     {
@@ -243,7 +252,7 @@ impl<'m, L: Link> Desk<'m, L> {
         urls: &[&str],
         options: Options,
     ) -> Result<Vec<Fetched>, FetchError>
-        requires none { self.places.items ≡ [] }
+        requires none { self.places ≡ [] }
         ensures ends { IfOk result (λ ends. AreEndsOf options.timeout_ms options.max_redirects (map (λ u. u.now) urls.now) ends.items) }
         ensures cause { IfErr result (λ e. is_of_run e ≡ true) }
     {

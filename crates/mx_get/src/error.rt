@@ -30,7 +30,7 @@ pub enum FetchError {
     /// none is known to meet this; but no contract says so.
     #[error("a transfer can't be added")]
     NotAdded,
-    /// Of a transfer that was added no message was read, for want of memory, or one that is of another request.
+    /// Of a transfer that was added no message was read, for want of memory, or one that is of another addition.
     #[error("no message came of a transfer that was added")]
     NoMessage,
     /// The output couldn't be written or flushed.

@@ -92,7 +92,7 @@ fn collect_beside<
     options: Options,
 ) -> Result<Vec<Fetched>, FetchError>
     requires posts { vec_len posts ≡ options.workers }
-    requires none { desk.places.items ≡ [] }
+    requires none { desk.places ≡ [] }
     ensures ends { IfOk result (λ ends. AreEndsOf options.timeout_ms options.max_redirects (map (λ u. u.now) urls.now) ends.items) }
     ensures cause { IfErr result (λ e. is_of_run e ≡ true) }
 {
@@ -101,7 +101,7 @@ fn collect_beside<
         crew,
         posts,
         move || -> Result<Vec<Fetched>, FetchError>
-            requires { desk.places.items ≡ [] }
+            requires { desk.places ≡ [] }
             ensures ends { IfOk result (λ ends. AreEndsOf options.timeout_ms options.max_redirects (map (λ u. u.now) urls.entry.now) ends.items) }
             ensures cause { IfErr result (λ e. is_of_run e ≡ true) }
         { desk.collect(rt, crew, urls, options) },

@@ -1,10 +1,12 @@
 //! `mxfetch get`: URLs fetched by workers on threads, and what came of them printed.
 #![tactic(auto)]
 
+mod addition;
 mod collect;
 mod end;
 mod error;
 mod fetch;
+mod place;
 mod run;
 
 pub use crate::error::FetchError;
