@@ -6,8 +6,6 @@ mod beside;
 #[cfg(test)]
 mod by_hand;
 #[cfg(test)]
-mod crews;
-#[cfg(test)]
 mod ends;
 #[cfg(test)]
 mod hops;
