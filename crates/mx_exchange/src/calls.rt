@@ -141,7 +141,7 @@ impl<L: Link> Line<L> {
     }
 
     /// The one call that comes next.
-    fn step(&mut self, request: &Request, decoder: &mut Decoder, buffer: &mut [u8]) -> Step
+    fn ask_next(&mut self, request: &Request, decoder: &mut Decoder, buffer: &mut [u8]) -> Step
         requires open { IsOpen self.old }
         requires going { IsGoing self.old.request.method self.old.answers decoder.old }
         requires about { self.old.request ≡ request.now }
@@ -171,7 +171,7 @@ impl<L: Link> Line<L> {
         let mut reads = 0;
         let mut writes = 0;
         for turn in 0..MOST_CALLS {
-            match self.step(request, decoder, &mut buffer) {
+            match self.ask_next(request, decoder, &mut buffer) {
                 Step::Connected => {}
                 Step::Wrote => {
                     writes += 1;

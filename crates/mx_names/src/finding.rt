@@ -1,6 +1,5 @@
 //! What the lookup of a host came to.
-ghost use Rattle.std.specs.Prelude.{◌≡◌, string_bytes, Err};
-ghost use Rattle.mx_types.specs.declared.code.Code.TheVariants as codes;
+ghost use Rattle.std.specs.Prelude.{◌≡◌, string_bytes};
 ghost use Rattle.mx_names.specs.Names.{IsOutcome};
 
 use crate::addresses::Addresses;
@@ -49,17 +48,6 @@ impl<L: Lookup> Finding<L> {
         Finding {
             host,
             outcome,
-            by: PhantomData,
-        }
-    }
-
-    /// There was no memory for the lookup of the host.
-    pub fn refused(host: String) -> Finding<L>
-        ensures { result ≡ record { host = string_bytes host; outcome = Err codes.OutOfMemory } }
-    {
-        Finding {
-            host,
-            outcome: Err(Code::OutOfMemory),
             by: PhantomData,
         }
     }

@@ -63,7 +63,7 @@ pub fn next_method(status: u16, method: Method) -> Method
     }
 }
 
-pub fn copy_text(alloc: Global, text: &Option<String>) -> Result<Option<String>, AllocError>
+fn copy_text(alloc: Global, text: &Option<String>) -> Result<Option<String>, AllocError>
     ensures { IfOk result (λ copy. option_map string_bytes copy ≡ option_map string_bytes text.now) }
 {
     match text {
@@ -72,7 +72,7 @@ pub fn copy_text(alloc: Global, text: &Option<String>) -> Result<Option<String>,
     }
 }
 
-pub fn copy_fields(
+fn copy_fields(
     alloc: Global,
     fields: &[(String, String)],
 ) -> Result<Vec<(String, String)>, AllocError>
@@ -87,7 +87,7 @@ pub fn copy_fields(
     Ok(copy)
 }
 
-pub fn copy_body(alloc: Global, body: &Option<Vec<u8>>) -> Result<Option<Vec<u8>>, AllocError>
+fn copy_body(alloc: Global, body: &Option<Vec<u8>>) -> Result<Option<Vec<u8>>, AllocError>
     ensures { IfOk result (λ copy. option_map (λ bytes. bytes.items) copy ≡ option_map (λ bytes. bytes.items) body.now) }
 {
     match body {

@@ -16,8 +16,6 @@ use std::alloc::{AllocError, Global};
 use std::marker::Model;
 use url::{ParseError, Url};
 
-mod same;
-
 /// The most bytes of a URL's text.
 const MOST_TEXT: usize = 65_536;
 

@@ -6,35 +6,35 @@ use Rattle.mx_exchange.proofs.lines.Line.serve.Goals as goal
 pub loop-turn-preserved : goal.loop-turn-preserved
 loop-turn-preserved g c =
     let i = c.loop-turn.invariant in
-    elim c.match-step.branch [
+    elim c.match-ask_next.branch [
       | in-Connected w ↦ record {
-        room = c.step.ensures.room ∙ i.room;
+        room = c.ask_next.ensures.room ∙ i.room;
         reads = rw w.reads-is i.reads;
         writes = rw w.writes-is i.writes;
-        serves = rw (w.reads-is, w.writes-is) (Serves-connected i.serves _ (rw w.in-Connected.is at c.step.ensures.turn));
+        serves = rw (w.reads-is, w.writes-is) (Serves-connected i.serves _ (rw w.in-Connected.is at c.ask_next.ensures.turn));
       }
       | in-Wrote+else-writes-eq-MOST_WRITES w ↦ record {
-        room = c.step.ensures.room ∙ i.room;
+        room = c.ask_next.ensures.room ∙ i.room;
         reads = rw w.reads-is i.reads;
         writes = rw w.writes-is (omega (arith, i.writes, w.if-writes-eq-MOST_WRITES.false));
-        serves = rw (w.reads-is, w.writes-is) (Serves-wrote i.serves _ (rw w.in-Wrote.is at c.step.ensures.turn));
+        serves = rw (w.reads-is, w.writes-is) (Serves-wrote i.serves _ (rw w.in-Wrote.is at c.ask_next.ensures.turn));
       }
       | in-Heard+else-reads-eq-MOST_READS w ↦ record {
-        room = c.step.ensures.room ∙ i.room;
+        room = c.ask_next.ensures.room ∙ i.room;
         reads = rw w.reads-is (omega (arith, i.reads, w.if-reads-eq-MOST_READS.false));
         writes = rw w.writes-is i.writes;
-        serves = rw (w.reads-is, w.writes-is) (Serves-heard i.serves _ (rw w.in-Heard.is at c.step.ensures.turn));
+        serves = rw (w.reads-is, w.writes-is) (Serves-heard i.serves _ (rw w.in-Heard.is at c.ask_next.ensures.turn));
       }
     ]
 
-pub step-requires-clause-open : goal.step-requires-clause-open
-step-requires-clause-open g c = Serves-open c.loop-turn.invariant.serves c.requires.open
+pub ask_next-requires-clause-open : goal.ask_next-requires-clause-open
+ask_next-requires-clause-open g c = Serves-open c.loop-turn.invariant.serves c.requires.open
 
-pub step-requires-clause-going : goal.step-requires-clause-going
-step-requires-clause-going g c = Serves-going c.loop-turn.invariant.serves
+pub ask_next-requires-clause-going : goal.ask_next-requires-clause-going
+ask_next-requires-clause-going g c = Serves-going c.loop-turn.invariant.serves
 
-pub step-requires-clause-about : goal.step-requires-clause-about
-step-requires-clause-about g c = same_request c.loop-turn.invariant.serves ∙ c.requires.about
+pub ask_next-requires-clause-about : goal.ask_next-requires-clause-about
+ask_next-requires-clause-about g c = same_request c.loop-turn.invariant.serves ∙ c.requires.about
 
 pub loop-turn-init : goal.loop-turn-init
 loop-turn-init g c = record {
@@ -61,5 +61,5 @@ returns-in-Lost-clause-turn g c = Serve-lost c.loop-turn.invariant.serves c.loop
 pub returns-in-Over-clause-turn : goal.returns-in-Over-clause-turn
 returns-in-Over-clause-turn g c = Serve-over c.loop-turn.invariant.serves c.loop-turn.invariant.reads c.loop-turn.invariant.writes _ c.in-Over.code c.in-Over.ensures.turn
 
-pub step-requires-clause-room : goal.step-requires-clause-room
-step-requires-clause-room g c = search rules
+pub ask_next-requires-clause-room : goal.ask_next-requires-clause-room
+ask_next-requires-clause-room g c = search rules
