@@ -1,16 +1,17 @@
 -- What a scripted gate answers.
-use Rattle.std.specs.Prelude.{◌≡◌, ℕ, max, true, List, [], ◌∷◌, Option, Result, Ok, Err}
+use Rattle.std.specs.Prelude.{◌≡◌, ℕ, max, Bool, true, List, [], ◌∷◌, Option, Result, Ok, Err}
 use Rattle.mx_types.specs.Code.{is_link_code}
 use Rattle.mx_gate.specs.Said.{Said}
 use Rattle.mx_link.specs.declared.answers.Answer.{Answer}
 use Rattle.mx_types.specs.declared.code.Code.{Code}
 use Rattle.mx_types.specs.declared.code.Code.TheVariants as code
 
--- What is planned for opens and for moments, how many turns are to answer that the worker goes on, the latest moment told, the last wait
+-- What is planned for opens, for moments and for whether a link can be opened, how many turns are to answer that the worker goes on, the latest moment told, the last wait
 -- asked for, and all that was said.
 pub record ScriptGateState (L : Type 0) : Type 0 where
   pub openings : List (Result L Code)
   pub moments : List ℕ
+  pub asks : List Bool
   pub turns : ℕ
   pub latest : ℕ
   pub last_wait : Option ℕ
@@ -25,6 +26,11 @@ IsOpening history (Err code) = is_link_code code ≡ true
 abbrev pub next_opening : {L : Type 0} → List (Result L Code) → Result L Code × List (Result L Code)
 next_opening [] = (Err code.CouldntConnect, [])
 next_opening (opening ∷ rest) = (opening, rest)
+
+-- Whether a link can be opened, and what is planned after it. After the script one can.
+abbrev pub next_ask : List Bool → Bool × List Bool
+next_ask [] = (true, [])
+next_ask (can ∷ rest) = (can, rest)
 
 -- The moment told after the latest, and what is planned after it. Moments never fall, and after the script they stay.
 abbrev pub next_moment : ℕ → List ℕ → ℕ × List ℕ

@@ -18,7 +18,7 @@ pub enum Turn {
 pub trait Gate {
     type Link: Link;
 
-    ghost use Rattle.mx_gate.specs.Said.{Said as OneSaid, told, opened, waited, numbered, is_stop};
+    ghost use Rattle.mx_gate.specs.Said.{Said as OneSaid, told, asked, opened, waited, numbered, is_stop};
 
     // All that it was asked so far and what it answered, in order.
     ghost said: { Self → List OneSaid };
@@ -31,6 +31,12 @@ pub trait Gate {
         ensures told { result ≡ latest self.new }
         ensures rises { latest self.old ≤ latest self.new }
         ensures noted { said self.new ≡ said self.old ++ told result ∷ [] };
+
+    /// Whether a link to the endpoint can be opened now. A gate that has to look its name up first says no until that lookup has ended, and
+    /// is to be asked again; one that looks no name up, or looks it up in `open`, says yes.
+    fn can_open(&mut self, endpoint: &Endpoint) -> bool
+        ensures moment { latest self.new ≡ latest self.old }
+        ensures noted { said self.new ≡ said self.old ++ asked endpoint.now result ∷ [] };
 
     /// A link to the endpoint that has answered nothing yet. It may still be connecting.
     ///

@@ -1,6 +1,6 @@
 //! What a gate was asked, and what it answered: for contracts alone.
 ghost use Rattle.std.specs.Prelude.{◌≡◌, Ok};
-ghost use Rattle.mx_gate.specs.Said.{told, opened, waited, numbered, is_stop};
+ghost use Rattle.mx_gate.specs.Said.{told, asked, opened, waited, numbered, is_stop};
 
 use crate::gate::Turn;
 use mx_link::Link;
@@ -12,6 +12,7 @@ use std::snapshot::Snapshot;
 #[derive(Drop)]
 pub(crate) enum Note {
     Told(u64),
+    Asked(Snapshot<Endpoint>, bool),
     Opened(Snapshot<Endpoint>, Result<u64, Code>),
     Waited(u32, bool),
 }
@@ -38,6 +39,15 @@ impl Said {
     {
         Said {
             note: Note::Told(moment),
+        }
+    }
+
+    /// It could open a link to the endpoint, or could not yet.
+    pub fn asked(endpoint: &Endpoint, can: bool) -> Said
+        ensures { result ≡ asked endpoint.now can }
+    {
+        Said {
+            note: Note::Asked(Snapshot::of(endpoint), can),
         }
     }
 

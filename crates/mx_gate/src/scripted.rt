@@ -2,8 +2,8 @@
 ghost use Rattle.std.specs.Prelude.{◌≡◌, ◌≤◌, ◌-◌, ◌==◌, ◌∷◌, ◌++◌, true, false, [], length, Some, None, IfOk, IfErr, OnOk, OnErr};
 ghost use Rattle.mx_types.specs.Code.{is_link_code};
 ghost use Rattle.mx_gate.specs.Gates.{turn_of};
-ghost use Rattle.mx_gate.specs.Said.{told, opened, waited, numbered, is_stop};
-ghost use Rattle.mx_gate.specs.Script.{IsOpening, next_opening, next_moment};
+ghost use Rattle.mx_gate.specs.Said.{told, asked, opened, waited, numbered, is_stop};
+ghost use Rattle.mx_gate.specs.Script.{IsOpening, next_ask, next_opening, next_moment};
 
 use crate::gate::{Gate, Turn};
 use crate::said::Said;
@@ -14,14 +14,15 @@ use std::alloc::{AllocFailed, Global};
 use std::collections::VecDeque;
 use std::marker::Model;
 
-/// A gate that answers from three scripts, in memory. Contracts see what is left of them, the latest moment told, the
+/// A gate that answers from four scripts, in memory. Contracts see what is left of them, the latest moment told, the
 /// last wait that was asked for, and all that was said.
 ///
-/// After its script an `open` answers `CouldntConnect`, the moment stays, and turns answer `Stop`. It never waits.
+/// After its script a link can be opened, an `open` answers `CouldntConnect`, the moment stays, and turns answer `Stop`. It never waits.
 #[derive(Drop)]
 pub struct ScriptGate<L: Link> {
     openings: VecDeque<Result<L, Code>>,
     moments: VecDeque<u64>,
+    asks: VecDeque<bool>,
     turns: u32,
     latest: u64,
     last_wait: Option<u32>,
@@ -37,6 +38,7 @@ impl<L: Link> Model for ScriptGate<L> {
     ghost view = { λ g. record {
       openings = g.openings.items;
       moments = g.moments.items;
+      asks = g.asks.items;
       turns = g.turns;
       latest = g.latest;
       last_wait = g.last_wait;
@@ -47,13 +49,14 @@ impl<L: Link> Model for ScriptGate<L> {
 }
 
 impl<L: Link> ScriptGate<L> {
-    /// A gate with no openings and no moments, whose first `turns` turns answer `Continue`.
+    /// A gate with nothing planned, whose first `turns` turns answer `Continue`.
     pub fn new(alloc: Global, turns: u32) -> ScriptGate<L>
-        ensures { result ≡ record { openings = []; moments = []; turns = turns; latest = 0; last_wait = None; said = [] } }
+        ensures { result ≡ record { openings = []; moments = []; asks = []; turns = turns; latest = 0; last_wait = None; said = [] } }
     {
         ScriptGate {
             openings: VecDeque::new(alloc),
             moments: VecDeque::new(alloc),
+            asks: VecDeque::new(alloc),
             turns,
             latest: 0,
             last_wait: None,
@@ -85,6 +88,17 @@ impl<L: Link> ScriptGate<L> {
         ensures back { IfErr result (λ failed. failed.value ≡ moment) }
     {
         self.moments.push_back(moment)
+    }
+
+    /// Adds whether a link can be opened when the gate is asked.
+    ///
+    /// The one error is that no memory was had.
+    pub fn plan_ask(&mut self, can: bool) -> Result<(), AllocFailed<bool>>
+        ensures planned { OnOk result (self.new ≡ record self.old { asks = self.old.asks ++ can ∷ [] }) }
+        ensures refused { OnErr result (self.new ≡ self.old) }
+        ensures back { IfErr result (λ failed. failed.value ≡ can) }
+    {
+        self.asks.push_back(can)
     }
 
     /// How many openings are left.
@@ -121,6 +135,17 @@ impl<L: Link> Gate for ScriptGate<L> {
         }
         self.said.note(Said::told(self.latest));
         self.latest
+    }
+
+    fn can_open(&mut self, endpoint: &Endpoint) -> bool
+        ensures moment { self.new.latest ≡ self.old.latest }
+        ensures planned { next_ask self.old.asks ≡ (result, self.new.asks) }
+        ensures others { self.new ≡ record self.old { asks = self.new.asks; said = self.new.said } }
+        ensures noted { self.new.said ≡ self.old.said ++ asked endpoint.now result ∷ [] }
+    {
+        let can = self.asks.pop_front().unwrap_or(true);
+        self.said.note(Said::asked(endpoint, can));
+        can
     }
 
     fn open(&mut self, endpoint: &Endpoint) -> Result<L, Code>

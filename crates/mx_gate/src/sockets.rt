@@ -3,7 +3,7 @@ ghost use Rattle.std.specs.Prelude.{◌≡◌, ◌≤◌, ◌/◌, ◌-◌, ◌^
 ghost use Rattle.std.specs.Duration.{as_nanos};
 ghost use Rattle.mio.specs.Event.{is_readable, is_writable, is_error, is_read_closed, is_write_closed};
 ghost use Rattle.mx_types.specs.Code.{is_link_code};
-ghost use Rattle.mx_gate.specs.Said.{told, opened, waited, numbered, is_stop};
+ghost use Rattle.mx_gate.specs.Said.{told, asked, opened, waited, numbered, is_stop};
 ghost use Rattle.mx_gate.specs.Dials.{Dials};
 ghost use Rattle.mx_gate.specs.Gates.{moment_after, next_token, turn_of, is_start_code};
 
@@ -67,6 +67,8 @@ pub struct SocketGate<'r, R> {
     latest: u64,
     next_token: u64,
     is_stopped: bool,
+    looked_at: Option<u64>,
+    may_skip: bool,
     found: History<Found>,
     dialled: History<SocketAddr>,
     said: History<Said>,
@@ -158,6 +160,8 @@ impl<'r, R: Net + Clock + AllocGlobal> SocketGate<'r, R> {
                 latest: 0,
                 next_token: 1,
                 is_stopped: false,
+                looked_at: None,
+                may_skip: false,
                 found: History::new(),
                 dialled: History::new(),
                 said: History::new(),
@@ -223,6 +227,17 @@ impl<'r, R: Net + Clock + AllocGlobal> SocketGate<'r, R> {
         }
     }
 
+    // Waits, and counts what that told. A wait that fails ends at once, as one that a signal ends, and tells nothing.
+    fn look(&mut self, wait_ms: u32)
+        ensures { self.new ≡ self.old }
+    {
+        self.looked_at = Some(self.latest);
+        let wait = Duration::from_millis(u64::from(wait_ms));
+        if self.poll.poll(&mut self.events, Some(wait)).is_ok() {
+            self.tell();
+        }
+    }
+
     // Counts what the last wait told of each connection.
     fn tell(&self) {
         for event in self.events.iter() {
@@ -257,8 +272,20 @@ impl<R: Net + Clock + AllocGlobal> Gate for SocketGate<'_, R> {
         if let Ok(passed) = self.start.elapsed(self.rt) {
             self.latest = moment_after(self.latest, passed);
         }
+        self.may_skip = self.looked_at == Some(self.latest);
         self.said.note(Said::told(self.latest));
         self.latest
+    }
+
+    /// It can: `open` looks the name up itself.
+    fn can_open(&mut self, endpoint: &Endpoint) -> bool
+        ensures yes { result ≡ true }
+        ensures moment { self.new.latest ≡ self.old.latest }
+        ensures others { self.new ≡ record self.old { said = self.new.said } }
+        ensures noted { self.new.said ≡ self.old.said ++ asked endpoint.now result ∷ [] }
+    {
+        self.said.note(Said::asked(endpoint, true));
+        true
     }
 
     /// Begins to connect to the address of the endpoint (`address_of`).
@@ -278,17 +305,17 @@ impl<R: Net + Clock + AllocGlobal> Gate for SocketGate<'_, R> {
         answer
     }
 
-    /// Waits until a connection is ready or the bell is rung. What is told of connections lets their links be asked again.
+    /// Waits until a connection is ready or the bell is rung. What is told of connections lets their links be asked again. A turn of
+    /// no wait looks once a millisecond of the clock, so that it costs a worker that has work at hand no system call each time.
     fn turn(&mut self, wait_ms: u32) -> Turn
         ensures stop { result ≡ turn_of self.new.is_stopped }
         ensures others { self.new ≡ record self.old { is_stopped = self.new.is_stopped; said = self.new.said } }
         ensures noted { self.new.said ≡ self.old.said ++ waited wait_ms (is_stop result) ∷ [] }
     {
-        let wait = Duration::from_millis(u64::from(wait_ms));
-        // A wait that fails ends at once, as one that a signal ends, and tells nothing.
-        if self.poll.poll(&mut self.events, Some(wait)).is_ok() {
-            self.tell();
+        if wait_ms > 0 || !self.may_skip {
+            self.look(wait_ms);
         }
+        self.may_skip = false;
         self.is_stopped = self.stop.load(Ordering::SeqCst);
         let turn = turn_of(self.is_stopped);
         self.said.note(Said::waited(wait_ms, turn));

@@ -68,23 +68,28 @@ impl<L: Link> Links<L> {
     }
 
     /// Hands a link to the transfer where it wants one: the newest idle one of its endpoint, unless only a fresh one will do, else one that
-    /// the gate opens. Where the gate can't, the transfer is told why.
-    pub fn supply<G: Gate<Link = L>>(&mut self, gate: &mut G, transfer: &mut Transfer<L>)
-        ensures supplied { Supplies L.history L.token_of transfer.old.chain transfer.new.chain self.old self.new (G.said gate.old) (G.said gate.new) }
+    /// the gate opens. Where that comes to nothing, the transfer is told why. The answer is whether the gate says that none can be opened yet:
+    /// then it is given none.
+    pub fn supply<G: Gate<Link = L>>(&mut self, gate: &mut G, transfer: &mut Transfer<L>) -> bool
+        ensures supplied { Supplies L.history L.token_of transfer.old.chain transfer.new.chain self.old self.new (G.said gate.old) (G.said gate.new) result }
         ensures same { transfer.new ≡ record transfer.old { chain = transfer.new.chain } }
         ensures request { transfer.new.chain.request ≡ transfer.old.chain.request }
         ensures code { transfer.new.chain.code ≡ transfer.old.chain.code }
         ensures limit { self.new.limit ≡ self.old.limit }
     {
         let Some(want) = transfer.wants() else {
-            return;
+            return false;
         };
         if let Some(link) = self.take(want.endpoint, want.fresh) {
             transfer.attach(link, true);
-            return;
+            return false;
+        }
+        if !gate.can_open(want.endpoint) {
+            return true;
         }
         let opened = gate.open(want.endpoint);
         give(transfer, opened);
+        false
     }
 
     /// Keeps the link that a hop of the transfer has left, where it may serve again. It is dropped where its endpoint can't be copied for

@@ -1,13 +1,16 @@
 //! A worker's desk: what it holds, and what it does with it.
-ghost use Rattle.std.specs.Prelude.{◌≡◌, ◌<◌, ◌≤◌, ◌+◌, ◌↔◌, ◌||◌, length, map, [], None, true, false, IsTrue, MatchOption, fold, min};
+ghost use Rattle.std.specs.Prelude.{◌≡◌, ◌<◌, ◌≤◌, ◌+◌, ◌↔◌, ◌||◌, ◌&&◌, not, length, map, [], None, true, false, IsTrue, fold, min};
 ghost use Rattle.mx_types.specs.Limits.{most_transfers};
+ghost use Rattle.mx_request.specs.Request.{request_origin};
+ghost use Rattle.mx_exchange.specs.Exchanges.{WantsLink};
 ghost use Rattle.mx_chain.specs.Steps.{IfEnded, IfGoing, Steps, how_of};
 ghost use Rattle.mx_gate.specs.Said.{is_stop};
 ghost use Rattle.mx_turn.specs.Workers.{in_hand, holds, IsOver};
 ghost use Rattle.mx_turn.specs.Turn.{Each, Claims, Retries, LooksAt, GivesBack, GoesThrough, Stops, WorkerTurn, longest_wait, prepared, time_left, wait_of};
-ghost use Rattle.mx_round.specs.Desks.{Advances, HandsIn, IsNext, IsReadied, Polls, beside};
+ghost use Rattle.mx_round.specs.Desks.{Advances, HandsIn, IsReadied, Polls, beside};
 
 use crate::engine::{Engine, Finished, Held, LONGEST_WAIT, Right, Tied};
+use crate::next::{least_deadline, take_next};
 use crate::queue::Queue;
 use crate::rack::Rack;
 use futures::Future;
@@ -29,7 +32,7 @@ pub(crate) struct Desk<L: Link, C: Right, E: Engine<L, C>> {
     links: Links<L>,
     solo: Solo,
     is_stopping: bool,
-    has_asked: bool,
+    can_go_on: bool,
 }
 
 impl<L: Link, C: Right, E: Engine<L, C>> Model for Desk<L, C, E> {
@@ -39,30 +42,12 @@ impl<L: Link, C: Right, E: Engine<L, C>> Model for Desk<L, C, E> {
     ghost Value = { DeskView L E.Start };
 
     ghost view = { λ d. record {
-      worker = record { held = d.rack.held; set_aside = d.rack.set_aside; idle = d.links; is_stopping = d.is_stopping; has_asked = d.has_asked; did = E.did d.engine; said = [] };
+      worker = record { held = d.rack.held; set_aside = d.rack.set_aside; idle = d.links; is_stopping = d.is_stopping; can_go_on = d.can_go_on; did = E.did d.engine; said = [] };
       of = E.of d.engine;
       start = E.start d.engine;
     } };
 
     ghost invariant = { λ d. d.rack.of ≡ E.of d.engine };
-}
-
-// Takes one that is due, while there is one, else the first.
-fn take_next<L: Link, C: Right, E: Tied>(
-    todo: &mut Queue<Held<L, C>, E>,
-    now: u64,
-) -> Option<Held<L, C>>
-    ensures taken { MatchOption result (todo.old.items ≡ []) (λ h. IsNext now todo.old.items h todo.new.items) }
-    ensures rest { MatchOption result (todo.new.items ≡ []) (λ h. h.of ≡ todo.old.of) }
-    ensures of { todo.new.of ≡ todo.old.of }
-    ensures count { MatchOption result (length todo.new.items ≡ length todo.old.items) (λ _. length todo.new.items + 1 ≡ length todo.old.items) }
-{
-    for place in 0..todo.len() {
-        if todo.get(place).is_late(now) {
-            return todo.take(place);
-        }
-    }
-    todo.pop()
 }
 
 // The lesser of the longest wait and the milliseconds to the next deadline of these.
@@ -102,6 +87,20 @@ fn poll_once<L: Link>(solo: &Solo, transfer: &mut Transfer<L>) -> Stepped
     }
 }
 
+// Whether a transfer wants a link.
+fn wants_link<L: Link>(transfer: &Transfer<L>) -> bool
+    ensures { IsTrue result ↔ WantsLink transfer.now.chain.now }
+{
+    transfer.wants().is_some()
+}
+
+// Whether a transfer that waits could go on at once: one that may go on, and wants a link that may be opened.
+fn could_go_on(goes: bool, delayed: bool, wants: bool) -> bool
+    ensures { result ≡ (goes && (not delayed && wants)) }
+{
+    goes && !delayed && wants
+}
+
 // Hands in an end. One that finds no memory comes back.
 fn hand_in<L: Link, C: Right, E: Engine<L, C>, R: Wait>(
     rt: &R,
@@ -121,7 +120,7 @@ impl<L: Link, C: Right, E: Engine<L, C>> Desk<L, C, E> {
     pub fn new(engine: E, rack: Rack<L, C, E>, links: Links<L>, solo: Solo) -> Desk<L, C, E>
         requires { rack.of ≡ E.of engine }
         ensures { result ≡ record {
-          worker = record { held = rack.held; set_aside = rack.set_aside; idle = links; is_stopping = false; has_asked = false; did = E.did engine; said = [] };
+          worker = record { held = rack.held; set_aside = rack.set_aside; idle = links; is_stopping = false; can_go_on = false; did = E.did engine; said = [] };
           of = E.of engine;
           start = E.start engine;
         } }
@@ -132,7 +131,7 @@ impl<L: Link, C: Right, E: Engine<L, C>> Desk<L, C, E> {
             links,
             solo,
             is_stopping: false,
-            has_asked: false,
+            can_go_on: false,
         }
     }
 
@@ -159,11 +158,24 @@ impl<L: Link, C: Right, E: Engine<L, C>> Desk<L, C, E> {
         self.rack.hold(held);
     }
 
-    // A transfer has asked to be polled again: one that goes on, or not.
-    fn hear_asking(&mut self, goes: bool)
-        ensures asked { self.new ≡ record self.old { worker = record self.old.worker { has_asked = (self.old.worker.has_asked || goes) } } }
+    // It is not to wait after this turn where something could go on at once.
+    fn go_on_if(&mut self, could: bool)
+        ensures goes_on { self.new ≡ record self.old { worker = record self.old.worker { can_go_on = (self.old.worker.can_go_on || could) } } }
     {
-        self.has_asked = self.has_asked || goes;
+        self.can_go_on = self.can_go_on || could;
+    }
+
+    // Holds on to a transfer that was polled, which could go on at once, or couldn't.
+    fn hold_on(&mut self, right: C, transfer: Transfer<L>, could: bool)
+        requires room { in_hand self.old.worker < most_transfers }
+        requires own { C.of right ≡ self.old.of }
+        requires running { transfer.chain.code ≡ None }
+        requires origin { request_origin transfer.chain.request ≡ C.origin_of right }
+        ensures held { self.new.worker ≡ holds (record self.old.worker { can_go_on = (self.old.worker.can_go_on || could) }) (record { ticket = C.ticket_of right; slot = C.slot_of right; transfer = transfer.chain }) }
+        ensures same { self.new ≡ record self.old { worker = self.new.worker } }
+    {
+        self.go_on_if(could);
+        self.hold(Held::new(right, transfer));
     }
 
     // Claims a transfer, if there is one and it has room for it.
@@ -179,6 +191,8 @@ impl<L: Link, C: Right, E: Engine<L, C>> Desk<L, C, E> {
         };
         claimed.know();
         self.hold(claimed);
+        let has_room = self.rack.has_room();
+        self.go_on_if(has_room);
     }
 
     // Hands in an end. One that finds no memory is set aside.
@@ -193,24 +207,25 @@ impl<L: Link, C: Right, E: Engine<L, C>> Desk<L, C, E> {
         }
     }
 
-    // Tells a transfer the moment and whether it is paused, and gives it a link where it goes on and wants one.
+    // Tells a transfer the moment and whether it is paused, and gives it a link where it goes on and wants one. The answer is whether none can
+    // be opened for it yet.
     fn make_ready<G: Gate<Link = L>>(
         &mut self,
         gate: &mut G,
         now: u64,
         goes: bool,
         transfer: &mut Transfer<L>,
-    )
-        ensures ready { IsReadied L.history L.token_of (prepared now goes transfer.old.chain) transfer.new.chain goes (beside self.old.worker (G.said gate.old)) (beside self.new.worker (G.said gate.new)) }
+    ) -> bool
+        ensures ready { IsReadied L.history L.token_of (prepared now goes transfer.old.chain) transfer.new.chain goes result (beside self.old.worker (G.said gate.old)) (beside self.new.worker (G.said gate.new)) }
         ensures code { transfer.new.chain.code ≡ transfer.old.chain.code }
         ensures request { transfer.new.chain.request ≡ transfer.old.chain.request }
         ensures same { self.new ≡ record self.old { worker = self.new.worker } }
     {
         transfer.prepare(now, !goes);
         if !goes {
-            return;
+            return false;
         }
-        self.links.supply(gate, transfer);
+        self.links.supply(gate, transfer)
     }
 
     // Polls a transfer once, notes how many bytes it has received, and keeps the link that a hop left.
@@ -243,13 +258,13 @@ impl<L: Link, C: Right, E: Engine<L, C>> Desk<L, C, E> {
         ensures same { self.new ≡ record self.old { worker = self.new.worker } }
     {
         let (right, mut transfer) = held.into_parts();
-        self.make_ready(gate, now, goes, &mut transfer);
+        let delayed = self.make_ready(gate, now, goes, &mut transfer);
         match self.poll(&right, &mut transfer) {
-            Stepped::Waits => self.hold(Held::new(right, transfer)),
-            Stepped::Asks => {
-                self.hear_asking(goes);
-                self.hold(Held::new(right, transfer));
+            Stepped::Waits => {
+                let wants = wants_link(&transfer);
+                self.hold_on(right, transfer, could_go_on(goes, delayed, wants));
             }
+            Stepped::Asks => self.hold_on(right, transfer, goes),
             Stepped::Ended(outcome) => self.record(rt, Finished::new(right, outcome)),
         }
     }
@@ -324,27 +339,33 @@ impl<L: Link, C: Right, E: Engine<L, C>> Desk<L, C, E> {
         }
     }
 
-    // Goes through these and looks at each once: while one is due one that is, else the first.
+    // Goes through these and looks at each once: while one is due one that is, else the first. It asks for the moment before each that isn't
+    // due, and the answer is the last.
     fn go_through<R: Wait, G: Gate<Link = L>>(
         &mut self,
         rt: &R,
         gate: &mut G,
         now: u64,
         todo: &mut Queue<Held<L, C>, E>,
-    )
+    ) -> u64
         requires fits { length todo.old.items + in_hand self.old.worker ≤ most_transfers }
         requires own { todo.old.of ≡ self.old.of }
-        ensures through { GoesThrough L.history L.token_of now (beside self.new.worker (G.said gate.new)) (map (λ h. h.held) todo.old.items) (beside self.old.worker (G.said gate.old)) }
+        ensures through { GoesThrough L.history L.token_of result (beside self.new.worker (G.said gate.new)) now true (map (λ h. h.held) todo.old.items) (beside self.old.worker (G.said gate.old)) }
         ensures empty { todo.new.items ≡ [] }
         ensures of { todo.new.of ≡ todo.old.of }
         ensures same { self.new ≡ record self.old { worker = self.new.worker } }
     {
+        let mut least = least_deadline(todo);
+        let mut moment = now;
+        let mut is_new = true;
         for gone in 0..todo.len() {
-            let Some(held) = take_next(todo, now) else {
-                return;
+            let Some(held) = take_next(gate, todo, &mut least, &mut moment, is_new) else {
+                unreachable!()
             };
-            self.look_at(rt, gate, now, held);
+            self.look_at(rt, gate, moment, held);
+            is_new = false;
         }
+        moment
     }
 
     // Tries the ends again that were set aside.
@@ -359,29 +380,29 @@ impl<L: Link, C: Right, E: Engine<L, C>> Desk<L, C, E> {
         self.retry_those(rt, todo);
     }
 
-    // Goes through what it holds.
+    // Goes through what it holds. The answer is the last moment.
     fn go_all<R: Wait, G: Gate<Link = L>>(
         &mut self,
         rt: &R,
         gate: &mut G,
         now: u64,
         todo: &mut Queue<Held<L, C>, E>,
-    )
+    ) -> u64
         requires spare { todo.old.items ≡ [] }
         requires own { todo.old.of ≡ self.old.of }
-        ensures through { GoesThrough L.history L.token_of now (beside self.new.worker (G.said gate.new)) self.old.worker.held (record (beside self.old.worker (G.said gate.old)) { held = [] }) }
+        ensures through { GoesThrough L.history L.token_of result (beside self.new.worker (G.said gate.new)) now true self.old.worker.held (record (beside self.old.worker (G.said gate.old)) { held = [] }) }
         ensures spare { todo.new ≡ todo.old }
         ensures same { self.new ≡ record self.old { worker = self.new.worker } }
     {
         self.rack.swap_held(todo);
-        self.go_through(rt, gate, now, todo);
+        self.go_through(rt, gate, now, todo)
     }
 
     // How long it may wait.
     fn wait_ms(&self, now: u64) -> u32
         ensures { result ≡ wait_of now self.now.worker }
     {
-        if self.has_asked {
+        if self.can_go_on {
             return 0;
         }
         least_left(self.rack.held(), now)
@@ -428,12 +449,12 @@ impl<L: Link, C: Right, E: Engine<L, C>> Desk<L, C, E> {
         ensures ends { ends.new ≡ ends.old }
         ensures same { self.new ≡ record self.old { worker = self.new.worker } }
     {
-        self.has_asked = false;
+        self.can_go_on = false;
         let now = gate.now();
         self.claim(rt);
         self.retry_all(rt, ends);
-        self.go_all(rt, gate, now, held);
-        let wait = self.wait_ms(now);
+        let last = self.go_all(rt, gate, now, held);
+        let wait = self.wait_ms(last);
         let turn = gate.turn(wait);
         self.hear(rt, turn, held);
     }

@@ -90,6 +90,13 @@ impl<L: Link, C: Right> Held<L, C> {
         self.transfer.started()
     }
 
+    /// Its deadline.
+    pub(crate) fn deadline(&self) -> Option<u64>
+        ensures { result ≡ self.now.held.transfer.now.deadline }
+    {
+        self.transfer.deadline()
+    }
+
     /// Whether its deadline isn't after this moment.
     pub(crate) fn is_late(&self, now: u64) -> bool
         ensures { IsTrue result ↔ IsLate now self.now.held }

@@ -1,6 +1,6 @@
 -- Each claim of a worker comes to one end.
 use Rattle.std.proofs.Common.{◌≡◌, ◌≢◌, ℕ, ◌+◌, Bool, true, false, cond, List, [], ◌∷◌, ◌++◌, Option, Some, None, refl, sym, ap, subst, ◌∙◌, arith, append-nil}
-use Rattle.std.specs.Prelude.{count_by, sum_by, filter_map, ◌||◌}
+use Rattle.std.specs.Prelude.{count_by, sum_by, filter_map, ◌||◌, ◌&&◌, not}
 use Rattle.std.specs.List.{cons_option}
 use Rattle.std.proofs.lemmas.List.Sums.{sum_by-append, sum_by-cons, sum_by_push}
 use Rattle.mx_types.specs.declared.names.Ticket.{Ticket}
@@ -12,7 +12,7 @@ use Rattle.mx_chain.specs.Outcomes.{OutcomeValue}
 use Rattle.mx_chain.specs.Steps.{How, waits, asks, ends}
 use Rattle.mx_gate.specs.Said.{told, waited}
 use Rattle.mx_turn.specs.Workers.{Held, SetAside, Worker, Finish, recorded, stale, lacking, unseated, returned, ended_before, unreturned, Deed, claims, looks, notes, gives_back, hears, does, holds, starts}
-use Rattle.mx_turn.specs.Turn.{Each, Claims, keeps, finds_none, claims_one, handed_in, Retries, Settles, LooksAt, lets_go, serves, unlinked, GoesThrough, through, due, next, GivesBack, holds_on, returns, Stops, wait_of, WorkerTurn, Runs, begins, turns}
+use Rattle.mx_turn.specs.Turn.{Each, Claims, keeps, finds_none, claims_one, handed_in, Retries, Settles, LooksAt, lets_go, serves, unlinked, GoesThrough, through, due, asks_time, next, GivesBack, holds_on, returns, Stops, wait_of, WorkerTurn, Runs, begins, turns}
 use Rattle.mx_turn.specs.Laws.{claimed_by, recorded_by, stale_by, given_back_by, gone_by, unseated_by, many, EachClaimIsAccounted}
 
 module _ (p : Ticket → Bool) where
@@ -95,9 +95,9 @@ module _ (p : Ticket → Bool) where
     claims_step : (w v : Worker L) → Claims w v → Owes w 0 → Owes v 0
     claims_step w v (keeps why e) o = subst (λ x. Owes x 0) (sym e) o
     claims_step w v (finds_none going room e) o = subst (λ x. Owes x 0) (sym e) (owes_more w (does w (claims None)) 0 0 (claims None ∷ []) o refl refl)
-    claims_step w v (claims_one h going room runs e) o =
+    claims_step w v (claims_one h has_room going room runs more e) o =
         let push : of_held (w.held ++ h ∷ []) ≡ of_held w.held + one h.ticket = sum_by_push (λ (k : Held L). cond (p k.ticket) 1 0) w.held h in
-        subst (λ x. Owes x 0) (sym e) (owes_more w (holds (does w (claims (Some h))) h) 0 0 (claims (Some h) ∷ []) o refl (omega (arith, push)))
+        subst (λ x. Owes x 0) (sym e) (owes_more w (holds (does (record w { can_go_on = w.can_go_on || has_room }) (claims (Some h))) h) 0 0 (claims (Some h) ∷ []) o refl (omega (arith, push)))
 
     hands_in : (t : Ticket) (o : OutcomeValue) (f : Finish) (w : Worker L) (n : ℕ) → Owes w (one t + n) → Owes (handed_in t o f w) n
     hands_in t o recorded w n h = owes_more w (handed_in t o recorded w) (one t + n) n _ h refl (omega arith)
@@ -134,14 +134,14 @@ module _ (p : Ticket → Bool) where
         each_owes GivesBack (λ (h : Held L). cond (p h.ticket) 1 0) gives_step w.held (record w { is_stopping = true; held = [] }) v 0 each
         (owes_more w (record w { is_stopping = true; held = [] }) 0 _ [] o (sym (append-nil w.did)) (omega arith))
 
-    settles_step : (h : Held L) (goes : Bool) (w v : Worker L) (how : How) (n : ℕ) → Settles h goes w v how → Owes w (one h.ticket + n) → Owes v n
-    settles_step h goes w v waits n e o =
+    settles_step : (h : Held L) (goes delayed : Bool) (w v : Worker L) (how : How) (n : ℕ) → Settles h goes delayed w v how → Owes w (one h.ticket + n) → Owes v n
+    settles_step h goes delayed w v waits n (wants, is, e) o =
         let push : of_held (w.held ++ h ∷ []) ≡ of_held w.held + one h.ticket = sum_by_push (λ (k : Held L). cond (p k.ticket) 1 0) w.held h in
-        subst (λ x. Owes x n) (sym e) (owes_more w (holds w h) (one h.ticket + n) n [] o (sym (append-nil w.did)) (omega (arith, push)))
-    settles_step h goes w v asks n e o =
+        subst (λ x. Owes x n) (sym e) (owes_more w (holds (record w { can_go_on = w.can_go_on || (goes && (not delayed && wants)) }) h) (one h.ticket + n) n [] o (sym (append-nil w.did)) (omega (arith, push)))
+    settles_step h goes delayed w v asks n e o =
         let push : of_held (w.held ++ h ∷ []) ≡ of_held w.held + one h.ticket = sum_by_push (λ (k : Held L). cond (p k.ticket) 1 0) w.held h in
-        subst (λ x. Owes x n) (sym e) (owes_more w (holds (record w { has_asked = w.has_asked || goes }) h) (one h.ticket + n) n [] o (sym (append-nil w.did)) (omega (arith, push)))
-    settles_step h goes w v (ends out) n (f, e) o = subst (λ x. Owes x n) (sym e) (hands_in h.ticket out f w n o)
+        subst (λ x. Owes x n) (sym e) (owes_more w (holds (record w { can_go_on = w.can_go_on || goes }) h) (one h.ticket + n) n [] o (sym (append-nil w.did)) (omega (arith, push)))
+    settles_step h goes delayed w v (ends out) n (f, e) o = subst (λ x. Owes x n) (sym e) (hands_in h.ticket out f w n o)
 
     module _ (history : L → List Answer) (token_of : L → ℕ) where
       looks_step : (now : ℕ) (h : Held L) (w v : Worker L) (n : ℕ) → LooksAt history token_of now h w v → Owes w (one h.ticket + n) → Owes v n
@@ -150,30 +150,33 @@ module _ (p : Ticket → Bool) where
           let ds = looks h.ticket seen ∷ notes h.ticket h.slot (received_of new) ∷ [] in
           let q : IsQuiet ds = quiet-append (looks h.ticket seen ∷ []) _ (quiet-looks h.ticket seen ne) (quiet-notes h.ticket h.slot (received_of new)) in
           let mid : Worker L = record w { idle = left; did = w.did ++ ds; said = w.said ++ said } in
-          settles_step (record h { transfer = unlinked new }) _ mid v how n settles (owes_quiet w mid (one h.ticket + n) ds q o refl refl refl)
+          settles_step (record h { transfer = unlinked new }) _ _ mid v how n settles (owes_quiet w mid (one h.ticket + n) ds q o refl refl refl)
 
-      through_step : (now : ℕ) (v : Worker L) (todo : List (Held L)) (w : Worker L) → GoesThrough history token_of now v todo w → Owes w (of_held todo) → Owes v 0
-      through_step now v todo w through o = o
-      through_step now v todo w (due {mid = mid} earlier later h d at rest) o =
+      through_step : (last : ℕ) (v : Worker L) (at : ℕ) (new : Bool) (todo : List (Held L)) (w : Worker L) → GoesThrough history token_of last v at new todo w → Owes w (of_held todo) → Owes v 0
+      through_step last v at new todo w (through is_new) o = o
+      through_step last v at new todo w (due {mid = mid} now is_new earlier later h d looked rest) o =
           let a = sum_by-append (λ (k : Held L). cond (p k.ticket) 1 0) earlier (h ∷ later) in
           let b = sum_by-cons (λ (k : Held L). cond (p k.ticket) 1 0) h later in
           let c = sum_by-append (λ (k : Held L). cond (p k.ticket) 1 0) earlier later in
-          through_step now v (earlier ++ later) mid rest (looks_step now h w mid (of_held (earlier ++ later)) at (owes_is w _ _ o (omega (arith, a, b, c))))
-      through_step now v todo w (next {mid = mid} h later none at rest) o =
+          through_step last v now false (earlier ++ later) mid rest (looks_step now h w mid (of_held (earlier ++ later)) looked (owes_is w _ _ o (omega (arith, a, b, c))))
+      through_step last v at new todo w (asks_time now since left none rest) o =
+          let told_more : Worker L = hears w (told since) in
+          through_step last v since true left told_more rest (owes_more w told_more (of_held left) (of_held left) [] o (sym (append-nil w.did)) (omega arith))
+      through_step last v at new todo w (next {mid = mid} now h later none looked rest) o =
           let b = sum_by-cons (λ (k : Held L). cond (p k.ticket) 1 0) h later in
-          through_step now v later mid rest (looks_step now h w mid (of_held later) at (owes_is w _ _ o (omega (arith, b))))
+          through_step last v now false later mid rest (looks_step now h w mid (of_held later) looked (owes_is w _ _ o (omega (arith, b))))
 
       turn_step : (w v : Worker L) → WorkerTurn history token_of w v → Owes w 0 → Owes v 0
       turn_step w v t o =
-          let begun : Worker L = hears (record w { has_asked = false }) (told t.now) in
+          let begun : Worker L = hears (record w { can_go_on = false }) (told t.now) in
           let at_claimed = claims_step begun t.claimed t.claim o in
           let emptied : Worker L = record t.claimed { set_aside = [] } in
           let at_emptied : Owes emptied (of_aside t.claimed.set_aside + 0) = owes_more t.claimed emptied 0 _ [] at_claimed (sym (append-nil t.claimed.did)) (omega arith) in
           let at_tried : Owes t.tried 0 = each_owes Retries (λ (s : SetAside). cond (p s.ticket) 1 0) retries_step t.claimed.set_aside emptied t.tried 0 t.retries at_emptied in
           let laid : Worker L = record t.tried { held = [] } in
           let at_laid : Owes laid (of_held t.tried.held) = owes_more t.tried laid 0 _ [] at_tried (sym (append-nil t.tried.did)) (omega arith) in
-          let at_through = through_step t.now t.gone_through t.tried.held laid t.each at_laid in
-          stops_step t.stop t.gone_through.is_stopping (hears t.gone_through (waited (wait_of t.now t.gone_through) t.stop)) v t.stops at_through
+          let at_through = through_step t.last t.gone_through t.now true t.tried.held laid t.each at_laid in
+          stops_step t.stop t.gone_through.is_stopping (hears t.gone_through (waited (wait_of t.last t.gone_through) t.stop)) v t.stops at_through
 
       run_owes : (w v : Worker L) → Runs history token_of w v → Owes w 0 → Owes v 0
       run_owes w v begins o = o

@@ -1,7 +1,6 @@
 -- Whom a worker looks at, and what it claims and holds once it is stopping.
-use Rattle.std.proofs.Common.{◌≡◌, ℕ, ◌+◌, Bool, true, false, cond, List, [], ◌∷◌, ◌++◌, Option, Some, None, refl, sym, ap, subst, ◌∙◌, arith, append-nil}
-use Rattle.std.specs.Prelude.{All, count_by, sum_by, filter_map, ◌||◌}
-use Rattle.std.specs.List.{cons_option}
+use Rattle.std.proofs.Common.{◌≡◌, ℕ, ◌+◌, Bool, true, false, cond, List, [], ◌∷◌, ◌++◌, Some, None, refl, sym, ap, subst, ◌∙◌, arith, append-nil}
+use Rattle.std.specs.Prelude.{All, count_by, ◌||◌, ◌&&◌, not}
 use Rattle.std.proofs.lemmas.List.Elements.{All-nil, All-push}
 use Rattle.std.proofs.lemmas.List.Sums.{sum_by-append, sum_by-cons, sum_by_push}
 use Rattle.mx_types.specs.declared.names.Ticket.{Ticket}
@@ -11,7 +10,7 @@ use Rattle.mx_chain.specs.Outcomes.{OutcomeValue}
 use Rattle.mx_chain.specs.Steps.{How, waits, asks, ends}
 use Rattle.mx_gate.specs.Said.{told, waited}
 use Rattle.mx_turn.specs.Workers.{Held, SetAside, Worker, Finish, recorded, stale, lacking, unseated, Deed, claims, looks, notes, finishes, gives_back, hears, does, holds}
-use Rattle.mx_turn.specs.Turn.{Each, Claims, keeps, finds_none, claims_one, handed_in, Retries, Settles, LooksAt, lets_go, serves, unlinked, GoesThrough, through, due, next, GivesBack, holds_on, returns, Stops, wait_of, WorkerTurn}
+use Rattle.mx_turn.specs.Turn.{Each, Claims, keeps, finds_none, claims_one, handed_in, Retries, Settles, LooksAt, lets_go, serves, unlinked, GoesThrough, through, due, asks_time, next, GivesBack, holds_on, returns, Stops, wait_of, WorkerTurn}
 use Rattle.mx_turn.specs.Laws.{claimed_by, looked_at_by, many, EachIsLookedAt, ClaimsNoneOnceStopping, HoldsWhatHasStarted}
 use Rattle.mx_turn.proofs.Accounts.{many-append}
 
@@ -83,10 +82,10 @@ module _ (p : Ticket → Bool) where
         let emptied : Worker L = record w { is_stopping = true; held = [] } in
         looked_on w emptied v 0 0 0 refl (same_did w emptied refl) (given w.held emptied v each)
 
-    settled : (h : Held L) (goes : Bool) (w v : Worker L) (how : How) → Settles h goes w v how → Looked w v 0
-    settled h goes w v waits e = looked_as w _ v 0 e (same_did w (holds w h) refl)
-    settled h goes w v asks e = looked_as w _ v 0 e (same_did w (holds (record w { has_asked = w.has_asked || goes }) h) refl)
-    settled h goes w v (ends o) (f, e) = looked_as w _ v 0 e (hands h.ticket o f w)
+    settled : (h : Held L) (goes delayed : Bool) (w v : Worker L) (how : How) → Settles h goes delayed w v how → Looked w v 0
+    settled h goes delayed w v waits (wants, is, e) = looked_as w _ v 0 e (same_did w (holds (record w { can_go_on = w.can_go_on || (goes && (not delayed && wants)) }) h) refl)
+    settled h goes delayed w v asks e = looked_as w _ v 0 e (same_did w (holds (record w { can_go_on = w.can_go_on || goes }) h) refl)
+    settled h goes delayed w v (ends o) (f, e) = looked_as w _ v 0 e (hands h.ticket o f w)
 
     -- the one that was claimed is held
     claimed : (w v : Worker L) → Claims w v
@@ -96,7 +95,7 @@ module _ (p : Ticket → Bool) where
         let did = did_more w (does w (claims None)) (claims None ∷ []) 0 refl refl refl in
         subst (λ x. (many looked_at_by p x.did ≡ many looked_at_by p w.did) × (many claimed_by p x.did + of_held w.held ≡ many claimed_by p w.did + of_held x.held)) (sym e)
         (omega (arith, did.looks_more), omega (arith, did.claims_same))
-    claimed w v (claims_one h going room runs e) =
+    claimed w v (claims_one h has_room going room runs more e) =
         let a = many-append p looked_at_by w.did (claims (Some h) ∷ []) in
         let b = many-append p claimed_by w.did (claims (Some h) ∷ []) in
         let push : of_held (w.held ++ h ∷ []) ≡ of_held w.held + one h.ticket = sum_by_push (λ (k : Held L). cond (p k.ticket) 1 0) w.held h in
@@ -112,29 +111,31 @@ module _ (p : Ticket → Bool) where
           let ds = looks h.ticket seen ∷ notes h.ticket h.slot (received_of new) ∷ [] in
           let mid : Worker L = record w { idle = left; did = w.did ++ ds; said = w.said ++ said } in
           looked_on w mid v (one h.ticket) 0 (one h.ticket) (omega arith) (did_more w mid ds (one h.ticket) refl (omega arith) refl)
-          (settled (record h { transfer = unlinked new }) _ mid v how settles)
+          (settled (record h { transfer = unlinked new }) _ _ mid v how settles)
 
-      gone_through : (now : ℕ) (v : Worker L) (todo : List (Held L)) (w : Worker L) → GoesThrough history token_of now v todo w → Looked w v (of_held todo)
-      gone_through now v todo w through = none_looked w
-      gone_through now v todo w (due {mid = mid} earlier later h d at rest) =
+      gone_through : (last : ℕ) (v : Worker L) (at : ℕ) (new : Bool) (todo : List (Held L)) (w : Worker L) → GoesThrough history token_of last v at new todo w → Looked w v (of_held todo)
+      gone_through last v at new todo w (through is_new) = none_looked w
+      gone_through last v at new todo w (due {mid = mid} now is_new earlier later h d seen rest) =
           let a = sum_by-append (λ (k : Held L). cond (p k.ticket) 1 0) earlier (h ∷ later) in
           let b = sum_by-cons (λ (k : Held L). cond (p k.ticket) 1 0) h later in
           let c = sum_by-append (λ (k : Held L). cond (p k.ticket) 1 0) earlier later in
-          looked_on w mid v (one h.ticket) (of_held (earlier ++ later)) _ (omega (arith, a, b, c)) (looked now h w mid at) (gone_through now v (earlier ++ later) mid rest)
-      gone_through now v todo w (next {mid = mid} h later none at rest) =
+          looked_on w mid v (one h.ticket) (of_held (earlier ++ later)) _ (omega (arith, a, b, c)) (looked now h w mid seen) (gone_through last v now false (earlier ++ later) mid rest)
+      gone_through last v at new todo w (asks_time now since left none rest) =
+          looked_on w (hears w (told since)) v 0 (of_held left) _ (omega arith) (same_did w (hears w (told since)) refl) (gone_through last v since true left (hears w (told since)) rest)
+      gone_through last v at new todo w (next {mid = mid} now h later none seen rest) =
           let b = sum_by-cons (λ (k : Held L). cond (p k.ticket) 1 0) h later in
-          looked_on w mid v (one h.ticket) (of_held later) _ (omega (arith, b)) (looked now h w mid at) (gone_through now v later mid rest)
+          looked_on w mid v (one h.ticket) (of_held later) _ (omega (arith, b)) (looked now h w mid seen) (gone_through last v now false later mid rest)
 
       turn_looks : (w v : Worker L) → WorkerTurn history token_of w v
           → many looked_at_by p v.did + many claimed_by p w.did ≡ many looked_at_by p w.did + of_held w.held + many claimed_by p v.did
       turn_looks w v t =
-          let begun : Worker L = hears (record w { has_asked = false }) (told t.now) in
+          let begun : Worker L = hears (record w { can_go_on = false }) (told t.now) in
           let at_claimed = claimed begun t.claimed t.claim in
           let emptied : Worker L = record t.claimed { set_aside = [] } in
           let at_tried = retried t.claimed.set_aside emptied t.tried t.retries in
           let held : of_held t.tried.held ≡ of_held t.claimed.held = ap of_held at_tried.1 in
-          let at_through = gone_through t.now t.gone_through t.tried.held (record t.tried { held = [] }) t.each in
-          let at_end = stopped t.stop t.gone_through.is_stopping (hears t.gone_through (waited (wait_of t.now t.gone_through) t.stop)) v t.stops in
+          let at_through = gone_through t.last t.gone_through t.now true t.tried.held (record t.tried { held = [] }) t.each in
+          let at_end = stopped t.stop t.gone_through.is_stopping (hears t.gone_through (waited (wait_of t.last t.gone_through) t.stop)) v t.stops in
           omega (
             arith,
             at_claimed.0,
@@ -162,17 +163,17 @@ module _ {L : Type 0} where
   claims_stopping : (w v : Worker L) → Claims w v → v.is_stopping ≡ w.is_stopping
   claims_stopping w v (keeps why e) = ap (λ x. x.is_stopping) e
   claims_stopping w v (finds_none going room e) = ap (λ x. x.is_stopping) e
-  claims_stopping w v (claims_one h going room runs e) = ap (λ x. x.is_stopping) e
+  claims_stopping w v (claims_one h has_room going room runs more e) = ap (λ x. x.is_stopping) e
 
   retries_stopping : (ss : List SetAside) (w v : Worker L) → Each Retries ss w v → v.is_stopping ≡ w.is_stopping
   retries_stopping [] w v e = ap (λ x. x.is_stopping) e
   retries_stopping (s ∷ ss) w v (mid, (f, e), rest) =
       retries_stopping ss mid v rest ∙ ap (λ x. x.is_stopping) e ∙ hands_stopping s.ticket s.outcome f w
 
-  settles_stopping : (h : Held L) (goes : Bool) (w v : Worker L) (how : How) → Settles h goes w v how → v.is_stopping ≡ w.is_stopping
-  settles_stopping h goes w v waits e = ap (λ x. x.is_stopping) e
-  settles_stopping h goes w v asks e = ap (λ x. x.is_stopping) e
-  settles_stopping h goes w v (ends o) (f, e) = ap (λ x. x.is_stopping) e ∙ hands_stopping h.ticket o f w
+  settles_stopping : (h : Held L) (goes delayed : Bool) (w v : Worker L) (how : How) → Settles h goes delayed w v how → v.is_stopping ≡ w.is_stopping
+  settles_stopping h goes delayed w v waits (wants, is, e) = ap (λ x. x.is_stopping) e
+  settles_stopping h goes delayed w v asks e = ap (λ x. x.is_stopping) e
+  settles_stopping h goes delayed w v (ends o) (f, e) = ap (λ x. x.is_stopping) e ∙ hands_stopping h.ticket o f w
 
   -- nothing comes of being told to stop where it is stopping, or isn't told
   stops_again : (stop already : Bool) (w v : Worker L) → already ≡ true → Stops stop already w v → v ≡ w
@@ -200,38 +201,39 @@ module _ {L : Type 0} where
   module _ (history : L → List Answer) (token_of : L → ℕ) where
     looks_stopping : (now : ℕ) (h : Held L) (w v : Worker L) → LooksAt history token_of now h w v → v.is_stopping ≡ w.is_stopping
     looks_stopping now h w v (lets_go e) = ap (λ x. x.is_stopping) e
-    looks_stopping now h w v (serves seen ready new idle left said how ne ready_is steps keeping settles) = settles_stopping _ _ _ v how settles
+    looks_stopping now h w v (serves seen ready new idle left said how ne ready_is steps keeping settles) = settles_stopping _ _ _ _ v how settles
 
-    through_stopping : (now : ℕ) (v : Worker L) (todo : List (Held L)) (w : Worker L) → GoesThrough history token_of now v todo w → v.is_stopping ≡ w.is_stopping
-    through_stopping now v todo w through = refl
-    through_stopping now v todo w (due {mid = mid} earlier later h d at rest) = through_stopping now v _ mid rest ∙ looks_stopping now h w mid at
-    through_stopping now v todo w (next {mid = mid} h later none at rest) = through_stopping now v later mid rest ∙ looks_stopping now h w mid at
+    through_stopping : (last : ℕ) (v : Worker L) (at : ℕ) (new : Bool) (todo : List (Held L)) (w : Worker L) → GoesThrough history token_of last v at new todo w → v.is_stopping ≡ w.is_stopping
+    through_stopping last v at new todo w (through is_new) = refl
+    through_stopping last v at new todo w (due {mid = mid} now is_new earlier later h d seen rest) = through_stopping last v now false _ mid rest ∙ looks_stopping now h w mid seen
+    through_stopping last v at new todo w (asks_time now since left none rest) = through_stopping last v since true _ (hears w (told since)) rest
+    through_stopping last v at new todo w (next {mid = mid} now h later none seen rest) = through_stopping last v now false later mid rest ∙ looks_stopping now h w mid seen
 
     until_told : (w v : Worker L) (t : WorkerTurn history token_of w v) → t.gone_through.is_stopping ≡ w.is_stopping
     until_told w v t =
-        through_stopping t.now t.gone_through t.tried.held (record t.tried { held = [] }) t.each
+        through_stopping t.last t.gone_through t.now true t.tried.held (record t.tried { held = [] }) t.each
         ∙ retries_stopping t.claimed.set_aside (record t.claimed { set_aside = [] }) t.tried t.retries
-        ∙ claims_stopping (hears (record w { has_asked = false }) (told t.now)) t.claimed t.claim
+        ∙ claims_stopping (hears (record w { can_go_on = false }) (told t.now)) t.claimed t.claim
 
     claimed_none : (p : Ticket → Bool) (w v : Worker L) → Claims w v → w.is_stopping ≡ true → many claimed_by p v.did ≡ many claimed_by p w.did
     claimed_none p w v (keeps why e) is = ap (λ x. many claimed_by p x.did) e
     claimed_none p w v (finds_none going room e) is = let no : true ≡ false = sym is ∙ going in cc
-    claimed_none p w v (claims_one h going room runs e) is = let no : true ≡ false = sym is ∙ going in cc
+    claimed_none p w v (claims_one h has_room going room runs more e) is = let no : true ≡ false = sym is ∙ going in cc
 
     pub none_once_stopping : ClaimsNoneOnceStopping history token_of
     none_once_stopping w v t is =
         let told_before = until_told w v t ∙ is in
-        let heard : Worker L = hears t.gone_through (waited (wait_of t.now t.gone_through) t.stop) in
+        let heard : Worker L = hears t.gone_through (waited (wait_of t.last t.gone_through) t.stop) in
         let same = stops_again t.stop t.gone_through.is_stopping heard v told_before t.stops in (
           ap (λ x. x.is_stopping) same ∙ told_before,
           λ p.
-              let begun : Worker L = hears (record w { has_asked = false }) (told t.now) in
+              let begun : Worker L = hears (record w { can_go_on = false }) (told t.now) in
               let at_tried = retried p t.claimed.set_aside (record t.claimed { set_aside = [] }) t.tried t.retries in
-              let at_through = gone_through p history token_of t.now t.gone_through t.tried.held (record t.tried { held = [] }) t.each in
+              let at_through = gone_through p history token_of t.last t.gone_through t.now true t.tried.held (record t.tried { held = [] }) t.each in
               ap (λ x. many claimed_by p x.did) same ∙ at_through.claims_same ∙ at_tried.0.claims_same ∙ claimed_none p begun t.claimed t.claim is,
         )
 
     pub what_has_started : HoldsWhatHasStarted history token_of
     what_has_started w v t going stopping =
-        let heard : Worker L = hears t.gone_through (waited (wait_of t.now t.gone_through) t.stop) in
+        let heard : Worker L = hears t.gone_through (waited (wait_of t.last t.gone_through) t.stop) in
         stops_started t.stop t.gone_through.is_stopping heard v (until_told w v t ∙ going) stopping t.stops

@@ -5,8 +5,9 @@ use Rattle.mx_types.specs.declared.names.Ticket.{Ticket}
 use Rattle.mx_link.specs.declared.answers.Answer.{Answer}
 use Rattle.mx_chain.specs.Outcomes.{OutcomeValue}
 use Rattle.mx_chain.specs.Steps.{How, waits, asks, ends}
-use Rattle.mx_turn.specs.Workers.{Held, SetAside, Worker, Finish, recorded, stale, lacking, unseated, in_hand, starts}
-use Rattle.mx_turn.specs.Turn.{Each, Claims, keeps, finds_none, claims_one, handed_in, Retries, Settles, LooksAt, lets_go, serves, unlinked, GoesThrough, through, due, next, GivesBack, holds_on, returns, Stops, WorkerTurn, Runs, begins, turns}
+use Rattle.mx_gate.specs.Said.{told}
+use Rattle.mx_turn.specs.Workers.{Held, SetAside, Worker, Finish, recorded, stale, lacking, unseated, in_hand, hears, starts}
+use Rattle.mx_turn.specs.Turn.{Each, Claims, keeps, finds_none, claims_one, handed_in, Retries, Settles, LooksAt, lets_go, serves, unlinked, GoesThrough, through, due, asks_time, next, GivesBack, holds_on, returns, Stops, WorkerTurn, Runs, begins, turns}
 use Rattle.mx_turn.specs.Laws.{AtMost64}
 
 -- with n more there are at most 64
@@ -37,34 +38,35 @@ module _ {L : Type 0} where
   stops_step true true w v e h = subst (λ x. Fits x 0) (sym e) h
   stops_step true false w v each h = each_fits GivesBack gives_step w.held (record w { is_stopping = true; held = [] }) v 0 each (omega (arith, h))
 
-  settles_step : (k : Held L) (goes : Bool) (w v : Worker L) (how : How) (n : ℕ) → Settles k goes w v how → Fits w (1 + n) → Fits v n
-  settles_step k goes w v waits n e h = let push = length-append w.held (k ∷ []) in subst (λ x. Fits x n) (sym e) (omega arith)
-  settles_step k goes w v asks n e h = let push = length-append w.held (k ∷ []) in subst (λ x. Fits x n) (sym e) (omega arith)
-  settles_step k goes w v (ends out) n (f, e) h = subst (λ x. Fits x n) (sym e) (hands_in k.ticket out f w n h)
+  settles_step : (k : Held L) (goes delayed : Bool) (w v : Worker L) (how : How) (n : ℕ) → Settles k goes delayed w v how → Fits w (1 + n) → Fits v n
+  settles_step k goes delayed w v waits n (wants, is, e) h = let push = length-append w.held (k ∷ []) in subst (λ x. Fits x n) (sym e) (omega arith)
+  settles_step k goes delayed w v asks n e h = let push = length-append w.held (k ∷ []) in subst (λ x. Fits x n) (sym e) (omega arith)
+  settles_step k goes delayed w v (ends out) n (f, e) h = subst (λ x. Fits x n) (sym e) (hands_in k.ticket out f w n h)
 
   pub claims_step : (w v : Worker L) → Claims w v → Fits w 0 → Fits v 0
   claims_step w v (keeps why e) h = subst (λ x. Fits x 0) (sym e) h
   claims_step w v (finds_none going room e) h = subst (λ x. Fits x 0) (sym e) h
-  claims_step w v (claims_one k going room runs e) h = let push = length-append w.held (k ∷ []) in subst (λ x. Fits x 0) (sym e) (omega arith)
+  claims_step w v (claims_one k has_room going room runs more e) h = let push = length-append w.held (k ∷ []) in subst (λ x. Fits x 0) (sym e) (omega arith)
 
   module _ (history : L → List Answer) (token_of : L → ℕ) where
     pub looks_step : (now : ℕ) (k : Held L) (w v : Worker L) (n : ℕ) → LooksAt history token_of now k w v → Fits w (1 + n) → Fits v n
     looks_step now k w v n (lets_go e) h = subst (λ x. Fits x n) (sym e) (omega arith)
-    looks_step now k w v n (serves seen ready new idle left said how ne ready_is steps keeping settles) h = settles_step (record k { transfer = unlinked new }) _ _ v how n settles h
+    looks_step now k w v n (serves seen ready new idle left said how ne ready_is steps keeping settles) h = settles_step (record k { transfer = unlinked new }) _ _ _ v how n settles h
 
-    through_step : (now : ℕ) (v : Worker L) (todo : List (Held L)) (w : Worker L) → GoesThrough history token_of now v todo w → Fits w (length todo) → Fits v 0
-    through_step now v todo w through h = h
-    through_step now v todo w (due {mid = mid} earlier later k d at rest) h =
+    through_step : (last : ℕ) (v : Worker L) (at : ℕ) (new : Bool) (todo : List (Held L)) (w : Worker L) → GoesThrough history token_of last v at new todo w → Fits w (length todo) → Fits v 0
+    through_step last v at new todo w (through is_new) h = h
+    through_step last v at new todo w (due {mid = mid} now is_new earlier later k d seen rest) h =
         let a = length-append earlier (k ∷ later) in
         let b = length-append earlier later in
-        through_step now v (earlier ++ later) mid rest (looks_step now k w mid (length (earlier ++ later)) at (omega arith))
-    through_step now v todo w (next {mid = mid} k later none at rest) h = through_step now v later mid rest (looks_step now k w mid (length later) at (omega arith))
+        through_step last v now false (earlier ++ later) mid rest (looks_step now k w mid (length (earlier ++ later)) seen (omega arith))
+    through_step last v at new todo w (asks_time now since left none rest) h = through_step last v since true left (hears w (told since)) rest h
+    through_step last v at new todo w (next {mid = mid} now k later none seen rest) h = through_step last v now false later mid rest (looks_step now k w mid (length later) seen (omega arith))
 
     turn_step : (w v : Worker L) → WorkerTurn history token_of w v → Fits w 0 → Fits v 0
     turn_step w v t h =
         let at_claimed = claims_step _ t.claimed t.claim h in
         let at_tried : Fits t.tried 0 = each_fits Retries retries_step t.claimed.set_aside (record t.claimed { set_aside = [] }) t.tried 0 t.retries (omega arith) in
-        let at_through = through_step t.now t.gone_through t.tried.held (record t.tried { held = [] }) t.each (omega arith) in
+        let at_through = through_step t.last t.gone_through t.now true t.tried.held (record t.tried { held = [] }) t.each (omega arith) in
         stops_step t.stop t.gone_through.is_stopping _ v t.stops at_through
 
     run_fits : (w v : Worker L) → Runs history token_of w v → Fits w 0 → Fits v 0

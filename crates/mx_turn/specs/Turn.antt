@@ -1,5 +1,5 @@
 -- What a worker does in one turn, as one list of cases. Whatever is promised of a run of turns follows from this.
-use Rattle.std.specs.Prelude.{◌≡◌, ◌≢◌, ◌⊎◌, ℕ, ◌-◌, ◌<◌, ◌≤◌, min, fold, Bool, true, false, not, ◌||◌, List, [], ◌∷◌, ◌++◌, All, Option, Some, None, Ok, Err, if◌then◌else◌}
+use Rattle.std.specs.Prelude.{◌≡◌, ◌≢◌, ◌⊎◌, ℕ, ◌+◌, ◌-◌, ◌<◌, ◌≤◌, ◌↔◌, IsTrue, min, fold, Bool, true, false, not, ◌&&◌, ◌||◌, List, [], ◌∷◌, ◌++◌, All, Option, Some, None, Ok, Err, if◌then◌else◌}
 use Rattle.mx_types.specs.Code.{is_link_code}
 use Rattle.mx_types.specs.Limits.{most_transfers}
 use Rattle.mx_types.specs.declared.code.Code.{Code}
@@ -13,7 +13,7 @@ use Rattle.mx_exchange.specs.Exchanges.{WantsLink, IsDue, attached}
 use Rattle.mx_chain.specs.Chains.{ChainState, received_of, home_of}
 use Rattle.mx_chain.specs.Outcomes.{OutcomeValue}
 use Rattle.mx_chain.specs.Steps.{How, waits, asks, ends, Steps}
-use Rattle.mx_gate.specs.Said.{Said, told, opened, waited}
+use Rattle.mx_gate.specs.Said.{Said, told, asked, opened, waited}
 use Rattle.mx_turn.specs.Workers.{Held, SetAside, Finish, lacking, Return, claims, looks, notes, finishes, gives_back, Worker, in_hand, does, hears, holds}
 
 -- one after another, each from where the one before it left the worker
@@ -27,9 +27,11 @@ pub data Claims {L : Type 0} (w v : Worker L) : Type 0 where
   keeps : (w.is_stopping ≡ true) ⊎ (most_transfers ≤ in_hand w) → v ≡ w → Claims w v
   -- any other asks for one, and there may be none
   finds_none : w.is_stopping ≡ false → in_hand w < most_transfers → v ≡ does w (claims None) → Claims w v
-  -- or it is given one that has not ended, and holds it as it was given
-  claims_one : (h : Held L) → w.is_stopping ≡ false → in_hand w < most_transfers → h.transfer.code ≡ None
-      → v ≡ holds (does w (claims (Some h))) h → Claims w v
+  -- or it is given one that has not ended, and holds it as it was given; and unless it then has as many in hand as it may have, it can go
+  -- on at once, as there may be more
+  claims_one : (h : Held L) (has_room : Bool) → w.is_stopping ≡ false → in_hand w < most_transfers → h.transfer.code ≡ None
+      → IsTrue has_room ↔ (in_hand w + 1 < most_transfers)
+      → v ≡ holds (does (record w { can_go_on = w.can_go_on || has_room }) (claims (Some h))) h → Claims w v
 
 -- An end is handed in. It is set aside behind the others where memory was lacking, and is else in hand no more.
 abbrev pub handed_in : {L : Type 0} → Ticket → OutcomeValue → Finish → Worker L → Worker L
@@ -60,12 +62,20 @@ pub data Supplied {L : Type 0} (history : L → List Answer) (token_of : L → �
   -- unless it wants a fresh one, it is given the newest idle link of its endpoint, as one that was in use before
   reuses : (link : L) → WantsLink t.now → t.now.needs_fresh ≡ false → TakesNewest t.now.request.endpoint idle.links link left.links
       → left.limit ≡ idle.limit → new ≡ served_by t link true → Supplied history token_of t new idle left []
-  -- where no idle link will do, it is given one that the gate opens to its endpoint, which has answered nothing yet
+  -- where no idle link will do, and none can be opened yet, as the name of its endpoint isn't known, it is given none in this turn
+  delays : WantsLink t.now → MustOpen t idle → left ≡ idle → new ≡ t
+      → Supplied history token_of t new idle left (asked t.now.request.endpoint false ∷ [])
+  -- where one can, it is given one that the gate opens to its endpoint, which has answered nothing yet
   opens : (link : L) → WantsLink t.now → MustOpen t idle → left ≡ idle → history link ≡ [] → new ≡ served_by t link false
-      → Supplied history token_of t new idle left (opened t.now.request.endpoint (Ok (token_of link)) ∷ [])
-  -- where the gate can't open one, it is told why
+      → Supplied history token_of t new idle left (asked t.now.request.endpoint true ∷ opened t.now.request.endpoint (Ok (token_of link)) ∷ [])
+  -- where that comes to nothing, it is told why
   fails : (c : Code) → WantsLink t.now → MustOpen t idle → left ≡ idle → is_link_code c ≡ true → new ≡ unserved t c
-      → Supplied history token_of t new idle left (opened t.now.request.endpoint (Err c) ∷ [])
+      → Supplied history token_of t new idle left (asked t.now.request.endpoint true ∷ opened t.now.request.endpoint (Err c) ∷ [])
+
+-- what the gate said tells that no link could be opened yet
+abbrev pub is_delayed : List Said → Bool
+is_delayed (asked endpoint false ∷ _) = true
+is_delayed _ = false
 
 -- the transfer, once the link was taken out of it that a hop has left
 abbrev pub unlinked : {L : Type 0} → ChainState L → ChainState L
@@ -82,14 +92,16 @@ pub data Keeps {L : Type 0} (t : ChainState L) (idle left : Idle L) : Type 0 whe
   -- or it is dropped: where no memory is found for its endpoint, which nothing here can tell
   drops : (link : L) → t.link ≡ Some link → left ≡ idle → Keeps t idle left
 
--- After its poll a transfer is held on, unless it has ended.
-abbrev pub Settles : {L : Type 0} → Held L → Bool → Worker L → Worker L → How → Type 0
--- one that waits is held on
-Settles h goes w v waits = v ≡ holds w h
--- one that asked to be polled again is held on, and where it goes on the worker is not to wait
-Settles h goes w v asks = v ≡ holds (record w { has_asked = w.has_asked || goes }) h
+-- After its poll a transfer is held on, unless it has ended; and the worker is not to wait where the transfer could go on at once. `goes`
+-- tells whether it may go on, and `delayed` whether no link could be opened for it yet.
+abbrev pub Settles : {L : Type 0} → Held L → Bool → Bool → Worker L → Worker L → How → Type 0
+-- one that waits is held on, and could go on where it wants a link, unless none could be opened yet
+Settles h goes delayed w v waits =
+    (wants : Bool) × (IsTrue wants ↔ WantsLink h.transfer.now) × (v ≡ holds (record w { can_go_on = w.can_go_on || (goes && (not delayed && wants)) }) h)
+-- one that asked to be polled again is held on, and could go on
+Settles h goes delayed w v asks = v ≡ holds (record w { can_go_on = w.can_go_on || goes }) h
 -- the end of one that has ended is handed in
-Settles h goes w v (ends o) = (f : Finish) × (v ≡ handed_in h.ticket o f w)
+Settles h goes delayed w v (ends o) = (f : Finish) × (v ≡ handed_in h.ticket o f w)
 
 -- it goes on where the look says so: a look of nothing counts as paused
 abbrev pub is_go : Option Look → Bool
@@ -115,7 +127,7 @@ pub data LooksAt {L : Type 0} (history : L → List Answer) (token_of : L → �
       → Readies history token_of (is_go seen) (prepared now (is_go seen) h.transfer) ready w.idle idle said
       → Steps history ready new how
       → Keeps new idle left
-      → Settles (record h { transfer = unlinked new }) (is_go seen)
+      → Settles (record h { transfer = unlinked new }) (is_go seen) (is_delayed said)
       (record w { idle = left; did = w.did ++ looks h.ticket seen ∷ notes h.ticket h.slot (received_of new) ∷ []; said = w.said ++ said }) v how
       → LooksAt history token_of now h w v
 
@@ -123,17 +135,22 @@ pub data LooksAt {L : Type 0} (history : L → List Answer) (token_of : L → �
 abbrev pub IsLate : {L : Type 0} → ℕ → Held L → Type 0
 IsLate now h = IsDue h.transfer.now.deadline now
 
--- It goes through these transfers from here to its end, and looks at each once.
-pub data GoesThrough {L : Type 0} (history : L → List Answer) (token_of : L → ℕ) (now : ℕ) (v : Worker L) : List (Held L) → Worker L → Type 0 where
+-- It goes through these transfers from here to its end, where the moment is `last`, and looks at each once. `now` is the moment here, and
+-- `is_new` tells that it has polled none since it was told so.
+pub data GoesThrough {L : Type 0} (history : L → List Answer) (token_of : L → ℕ) (last : ℕ) (v : Worker L) : ℕ → Bool → List (Held L) → Worker L → Type 0 where
   -- none is left
-  through : GoesThrough history token_of now v [] v
+  through : (is_new : Bool) → GoesThrough history token_of last v last is_new [] v
   -- while some are due, it looks at one of them
-  due : {w mid : Worker L} (earlier later : List (Held L)) (h : Held L) → IsLate now h → LooksAt history token_of now h w mid
-      → GoesThrough history token_of now v (earlier ++ later) mid → GoesThrough history token_of now v (earlier ++ h ∷ later) w
-  -- where none is, it looks at the one that was claimed first
-  next : {w mid : Worker L} (h : Held L) (later : List (Held L)) → All (λ k. ¬ (IsLate now k)) (h ∷ later)
-      → LooksAt history token_of now h w mid → GoesThrough history token_of now v later mid
-      → GoesThrough history token_of now v (h ∷ later) w
+  due : {w mid : Worker L} (now : ℕ) (is_new : Bool) (earlier later : List (Held L)) (h : Held L) → IsLate now h
+      → LooksAt history token_of now h w mid → GoesThrough history token_of last v now false (earlier ++ later) mid
+      → GoesThrough history token_of last v now is_new (earlier ++ h ∷ later) w
+  -- where none is, it asks for the moment, unless it has polled none since it was told one: then some may be due
+  asks_time : {w : Worker L} (now since : ℕ) (todo : List (Held L)) → All (λ k. ¬ (IsLate now k)) todo
+      → GoesThrough history token_of last v since true todo (hears w (told since)) → GoesThrough history token_of last v now false todo w
+  -- where none is now, it looks at the one that was claimed first
+  next : {w mid : Worker L} (now : ℕ) (h : Held L) (later : List (Held L)) → All (λ k. ¬ (IsLate now k)) (h ∷ later)
+      → LooksAt history token_of now h w mid → GoesThrough history token_of last v now false later mid
+      → GoesThrough history token_of last v now true (h ∷ later) w
 
 -- the longest wait of a turn, in milliseconds
 abbrev pub longest_wait : ℕ
@@ -144,10 +161,9 @@ abbrev pub time_left : ℕ → Option ℕ → ℕ
 time_left now None = longest_wait
 time_left now (Some deadline) = deadline - now
 
--- how long it waits: not at all where one that goes on has asked to be polled again; else until the next deadline, and at most the longest
--- wait
+-- how long it waits: not at all where something of its own could go on at once; else until the next deadline, and at most the longest wait
 abbrev pub wait_of : {L : Type 0} → ℕ → Worker L → ℕ
-wait_of now w = if w.has_asked then 0 else fold (λ ms h. min ms (time_left now h.transfer.now.deadline)) longest_wait w.held
+wait_of now w = if w.can_go_on then 0 else fold (λ ms h. min ms (time_left now h.transfer.now.deadline)) longest_wait w.held
 
 -- What becomes of a transfer once the worker is told to stop.
 pub data GivesBack {L : Type 0} (h : Held L) (w v : Worker L) : Type 0 where
@@ -166,8 +182,9 @@ Stops true false w v = Each GivesBack w.held (record w { is_stopping = true; hel
 
 -- One turn: the worker before and after.
 pub record WorkerTurn {L : Type 0} (history : L → List Answer) (token_of : L → ℕ) (w v : Worker L) : Type 0 where
-  -- the moment
+  -- the moment at its beginning, and the last that it was told
   pub now : ℕ
+  pub last : ℕ
   -- the worker once it has claimed, once it has tried the ends again, and once it has gone through its transfers
   pub claimed : Worker L
   pub tried : Worker L
@@ -175,13 +192,13 @@ pub record WorkerTurn {L : Type 0} (history : L → List Answer) (token_of : L �
   -- whether it is told to stop
   pub stop : Bool
   -- it asks its gate for the moment, and claims at most one transfer
-  pub claim : Claims (hears (record w { has_asked = false }) (told now)) claimed
+  pub claim : Claims (hears (record w { can_go_on = false }) (told now)) claimed
   -- it tries the ends again that found no memory, in order
   pub retries : Each Retries claimed.set_aside (record claimed { set_aside = [] }) tried
-  -- it goes through its transfers, the due ones first, then in order of claim
-  pub each : GoesThrough history token_of now gone_through tried.held (record tried { held = [] })
+  -- it goes through its transfers, the due ones first, then in order of claim, and asks for the moment between
+  pub each : GoesThrough history token_of last gone_through now true tried.held (record tried { held = [] })
   -- it waits at its gate, and gives back what has not started once it is told to stop
-  pub stops : Stops stop gone_through.is_stopping (hears gone_through (waited (wait_of now gone_through) stop)) v
+  pub stops : Stops stop gone_through.is_stopping (hears gone_through (waited (wait_of last gone_through) stop)) v
 
 -- Turn after turn.
 pub data Runs {L : Type 0} (history : L → List Answer) (token_of : L → ℕ) (w : Worker L) : Worker L → Type 0 where

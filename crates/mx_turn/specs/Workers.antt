@@ -44,14 +44,14 @@ pub data Deed (L : Type 0) : Type 0 where
   gives_back : Held L → Return → Deed L
 
 -- A worker. `held` are its transfers, in order of claim, and `set_aside` the ends that found no memory. `idle` are its idle links.
--- `is_stopping` tells whether it was told to stop, and `has_asked` whether one that it polled in this turn asked to be polled again.
+-- `is_stopping` tells whether it was told to stop, and `can_go_on` whether something of its own could go on at once after this turn.
 -- `did` is what it did at the engine so far, and `said` what its gate said, each in order.
 pub record Worker (L : Type 0) : Type 0 where
   pub held : List (Held L)
   pub set_aside : List SetAside
   pub idle : Idle L
   pub is_stopping : Bool
-  pub has_asked : Bool
+  pub can_go_on : Bool
   pub did : List (Deed L)
   pub said : List Said
 
@@ -78,7 +78,7 @@ starts limit = record {
   set_aside = [];
   idle = record { links = []; limit = limit };
   is_stopping = false;
-  has_asked = false;
+  can_go_on = false;
   did = [];
   said = [];
 }

@@ -4,6 +4,8 @@
 #[cfg(test)]
 mod beside;
 #[cfg(test)]
+mod between;
+#[cfg(test)]
 mod by_hand;
 #[cfg(test)]
 mod ends;

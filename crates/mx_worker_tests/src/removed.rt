@@ -70,6 +70,11 @@ impl<'r, 'm, R: Wait> Gate for Remover<'r, 'm, R> {
         0
     }
 
+    fn can_open(&mut self, endpoint: &Endpoint) -> bool {
+        self.said.note(Said::asked(endpoint, true));
+        true
+    }
+
     fn open(&mut self, endpoint: &Endpoint) -> Result<ScriptLink, Code> {
         let mut reads: &[ScriptRead<'static>] = AT_ONCE;
         if self.removal == Removal::AtOpening {

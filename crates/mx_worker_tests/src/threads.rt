@@ -1,7 +1,7 @@
 //! Two workers, and a third thread that reads the messages.
 ghost use Rattle.std.specs.Prelude.{◌≡◌, ◌≤◌, true, [], ◌∷◌, ◌++◌, IfOk, IfErr};
 ghost use Rattle.mx_types.specs.Code.{is_link_code};
-ghost use Rattle.mx_gate.specs.Said.{told, opened, waited, numbered, is_stop};
+ghost use Rattle.mx_gate.specs.Said.{told, asked, opened, waited, numbered, is_stop};
 
 use crate::beside::{Answer, Flags, Plan, run_plan};
 use crate::reader::LOOKS;
@@ -76,6 +76,14 @@ impl<'a, R: Clock + AllocGlobal> Gate for HoldingGate<'a, R> {
     {
         self.said.note(Said::told(self.moment));
         self.moment
+    }
+
+    fn can_open(&mut self, endpoint: &Endpoint) -> bool
+        ensures moment { self.new.moment ≡ self.old.moment }
+        ensures noted { self.new.said ≡ self.old.said ++ asked endpoint.now result ∷ [] }
+    {
+        self.said.note(Said::asked(endpoint, true));
+        true
     }
 
     fn open(&mut self, endpoint: &Endpoint) -> Result<ScriptLink, Code>

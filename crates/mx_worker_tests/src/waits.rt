@@ -1,7 +1,7 @@
 //! How long a worker has its gate wait.
 ghost use Rattle.std.specs.Prelude.{◌≡◌, ◌≤◌, true, [], ◌∷◌, ◌++◌, IfOk, IfErr};
 ghost use Rattle.mx_types.specs.Code.{is_link_code};
-ghost use Rattle.mx_gate.specs.Said.{told, opened, waited, numbered, is_stop};
+ghost use Rattle.mx_gate.specs.Said.{told, asked, opened, waited, numbered, is_stop};
 
 use crate::responses::COUNTED;
 use mx_gate::{Gate, ScriptGate, Turn};
@@ -15,19 +15,19 @@ use std::random::RandomSource;
 use std::sync::Wait;
 use std::test::Fail;
 
-/// A scripted gate that keeps the first wait that it was given.
+/// A scripted gate that keeps the waits that it was given.
 #[derive(Drop)]
-pub struct FirstWait {
+pub struct NotedWaits {
     gate: ScriptGate<ScriptLink>,
-    wait: Option<u32>,
+    waits: Vec<u32>,
 }
 
-impl Gate for FirstWait {
+impl Gate for NotedWaits {
     type Link = ScriptLink;
 
-    ghost said = { λ first. first.gate.said };
+    ghost said = { λ waits. waits.gate.said };
 
-    ghost latest = { λ first. first.gate.latest };
+    ghost latest = { λ waits. waits.gate.latest };
 
     fn now(&mut self) -> u64
         ensures told { result ≡ self.new.gate.latest }
@@ -35,6 +35,13 @@ impl Gate for FirstWait {
         ensures noted { self.new.gate.said ≡ self.old.gate.said ++ told result ∷ [] }
     {
         self.gate.now()
+    }
+
+    fn can_open(&mut self, endpoint: &Endpoint) -> bool
+        ensures moment { self.new.gate.latest ≡ self.old.gate.latest }
+        ensures noted { self.new.gate.said ≡ self.old.gate.said ++ asked endpoint.now result ∷ [] }
+    {
+        self.gate.can_open(endpoint)
     }
 
     fn open(&mut self, endpoint: &Endpoint) -> Result<ScriptLink, Code>
@@ -50,60 +57,112 @@ impl Gate for FirstWait {
         ensures moment { self.new.gate.latest ≡ self.old.gate.latest }
         ensures noted { self.new.gate.said ≡ self.old.gate.said ++ waited wait_ms (is_stop result) ∷ [] }
     {
-        if self.wait.is_none() {
-            self.wait = Some(wait_ms);
-        }
+        drop(self.waits.push(wait_ms));
         self.gate.turn(wait_ms)
     }
 }
 
-// The first wait of a worker that serves one transfer, which begins at the moment 100, over the one link of these, which gives its pieces.
-fn wait_at<R: Wait + RandomSource + AllocGlobal>(
+/// How many transfers a worker serves, how many milliseconds each may take, or 0 for no limit, and how often its gate says that no link can
+/// be opened yet.
+#[derive(Clone, Copy)]
+struct Case {
+    transfers: u32,
+    timeout_ms: u32,
+    delays: u32,
+}
+
+/// One transfer, without a limit.
+const ONE: Case = Case {
+    transfers: 1,
+    timeout_ms: 0,
+    delays: 0,
+};
+
+// The waits of a worker that serves so many transfers, which begin at the moment 100, over links that give these pieces, where the gate first
+// says so often that none can be opened yet.
+fn waits_at<R: Wait + RandomSource + AllocGlobal>(
     rt: &R,
     desk: &mut ScriptDesk,
-    timeout_ms: u32,
+    case: Case,
     links: &[&[ScriptRead<'_>]],
-) -> Result<Option<u32>, Fail> {
-    desk.add(rt, rt.alloc(), 1, "http://a.example/", timeout_ms)?;
-    let gate = gate_with(rt.alloc(), 2, links, &[100])?;
-    let mut first = FirstWait { gate, wait: None };
-    desk.run(rt, &mut first, 1, 0)?;
-    let wait = first.wait;
-    drop(first);
-    desk.expect(rt, 1, Code::Ok, b"hello")?;
-    Ok(wait)
+) -> Result<Vec<u32>, Fail> {
+    for handle in 0..case.transfers {
+        desk.add(
+            rt,
+            rt.alloc(),
+            handle + 1,
+            "http://a.example/",
+            case.timeout_ms,
+        )?;
+    }
+    let mut gate = gate_with(rt.alloc(), 4, links, &[100])?;
+    for _ in 0..case.delays {
+        gate.plan_ask(false)?;
+    }
+    let mut waits = NotedWaits {
+        gate,
+        waits: Vec::new(rt.alloc()),
+    };
+    desk.run(rt, &mut waits, case.transfers, 0)?;
+    let NotedWaits { gate, waits } = waits;
+    drop(gate);
+    for handle in 0..case.transfers {
+        desk.expect(rt, handle + 1, Code::Ok, b"hello")?;
+    }
+    Ok(waits)
 }
 
-fn first_wait<R: Wait + RandomSource + AllocGlobal>(
+fn waits<R: Wait + RandomSource + AllocGlobal>(
     rt: &R,
-    timeout_ms: u32,
+    case: Case,
     links: &[&[ScriptRead<'_>]],
-) -> Result<Option<u32>, Fail> {
+) -> Result<Vec<u32>, Fail> {
     let mut desk = ScriptDesk::open(rt, rt.alloc(), 4)?;
-    let wait = wait_at(rt, &mut desk, timeout_ms, links);
+    let waits = waits_at(rt, &mut desk, case, links);
     desk.close();
-    wait
+    waits
 }
 
-/// Its deadline is 7 milliseconds away, or farther than the longest wait, or there is none.
+/// In its first turn it claims, and there may be more: it doesn't wait. In the second the deadline is 7 milliseconds away, or farther than
+/// the longest wait, or there is none.
 #[test]
 fn a_turn_waits_until_the_next_deadline(rt: HostRuntime) -> Result<(), Fail> {
-    let late = [ScriptRead::WouldBlock, ScriptRead::Bytes(COUNTED)];
+    let late = [
+        ScriptRead::WouldBlock,
+        ScriptRead::WouldBlock,
+        ScriptRead::Bytes(COUNTED),
+    ];
     for (timeout_ms, wait) in [(7, 7), (21, 20), (0, 20)] {
         assert_eq!(rt;
-            first_wait(&rt, timeout_ms, &[&late])?,
-            Some(wait),
+            waits(&rt, Case { timeout_ms, ..ONE }, &[&late])?.as_slice(),
+            [0, wait, 20, 20, 20].as_slice(),
             "of {timeout_ms}"
         );
     }
     Ok(())
 }
 
+/// While no link can be opened yet, the worker waits as long as where there is nothing to do: it doesn't spin. Once one can it is opened.
+#[test]
+fn a_worker_waits_for_a_name(rt: HostRuntime) -> Result<(), Fail> {
+    assert_eq!(rt;
+        waits(
+            &rt,
+            Case { delays: 3, ..ONE },
+            &[&[ScriptRead::Bytes(COUNTED)]]
+        )?
+        .as_slice(),
+        [0, 20, 20, 20, 20].as_slice()
+    );
+    Ok(())
+}
+
 /// One that asked to be polled again, after the most reads of a poll, isn't kept waiting.
 #[test]
 fn a_transfer_that_asks_is_polled_at_once(rt: HostRuntime) -> Result<(), Fail> {
-    let head: [&[u8]; 9] = [
+    let head: [&[u8]; 10] = [
         b"HTTP/1.1 200 OK\r\n",
+        b"Server: one that says more of itself than anybody wants to know, and sends it byte by byte\r\n",
         b"A: 1\r\n",
         b"B: 2\r\n",
         b"C: 3\r\n",
@@ -119,7 +178,31 @@ fn a_transfer_that_asks_is_polled_at_once(rt: HostRuntime) -> Result<(), Fail> {
             reads.push(ScriptRead::Bytes(&line[i..i + 1]))?;
         }
     }
-    assert!(rt; 64 < reads.len());
-    assert_eq!(rt; first_wait(&rt, 0, &[reads.as_slice()])?, Some(0));
+    assert!(rt; 128 < reads.len());
+    assert_eq!(rt;
+        waits(&rt, ONE, &[reads.as_slice()])?.as_slice(),
+        [0, 0, 20, 20, 20].as_slice()
+    );
+    Ok(())
+}
+
+/// The second transfer is given the link that the first has left, and which the server closes once it has been written to: it wants a fresh
+/// one, and the worker doesn't wait before it has that opened.
+#[test]
+fn a_lost_link_is_replaced_at_once(rt: HostRuntime) -> Result<(), Fail> {
+    let lost = [
+        ScriptRead::Bytes(COUNTED),
+        ScriptRead::WouldBlock,
+        ScriptRead::WouldBlock,
+        ScriptRead::End,
+    ];
+    let two = Case {
+        transfers: 2,
+        ..ONE
+    };
+    assert_eq!(rt;
+        waits(&rt, two, &[&lost, &[ScriptRead::Bytes(COUNTED)]])?.as_slice(),
+        [0, 0, 0, 20, 20].as_slice()
+    );
     Ok(())
 }

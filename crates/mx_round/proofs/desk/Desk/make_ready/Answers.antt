@@ -7,4 +7,4 @@ pub returns-then-not-goes-clause-ready : goal.returns-then-not-goes-clause-ready
 returns-then-not-goes-clause-ready g c = ready_paused _ _ c.args.now c.args.goes c.args.transfer.now.chain _ _ c.if-not-goes.true (ap (λ (t : TransferState _). t.chain) c.prepare.ensures)
 
 pub returns-clause-ready : goal.returns-clause-ready
-returns-clause-ready g c = rw (← c.self.view_is) (ready_on _ _ c.args.now c.args.goes c.args.transfer.now.chain _ _ _ _ _ c.if-not-goes.false (ap (λ (t : TransferState _). t.chain) c.prepare.ensures) c.supply.ensures.supplied)
+returns-clause-ready g c = rw (← c.self.view_is) (ready_on _ _ c.args.now c.args.goes c.supply.result c.args.transfer.now.chain _ _ _ _ _ c.if-not-goes.false (ap (λ (t : TransferState _). t.chain) c.prepare.ensures) c.supply.ensures.supplied)
