@@ -47,6 +47,12 @@ fn get_command<'a>(alloc: Global) -> Result<Command<'a>, AllocError> {
         .value_parser(value_parser!(u8).range(1..=16))
         .default_value("2")
         .help("How many workers fetch, each on a thread of its own: 1 to 16");
+    let at_once = Arg::new(alloc, "at-once")
+        .long("at-once")
+        .value_name("N")
+        .value_parser(value_parser!(u16).range(1..=256))
+        .default_value("256")
+        .help("How many transfers are added at a time: 1 to 256; with one worker it is always 1");
     let timeout = Arg::new(alloc, "timeout-ms")
         .long("timeout-ms")
         .value_name("N")
@@ -75,6 +81,7 @@ fn get_command<'a>(alloc: Global) -> Result<Command<'a>, AllocError> {
         .long_about(help::LONG_GET)
         .after_help(help::MORE_GET)
         .arg(workers)?
+        .arg(at_once)?
         .arg(timeout)?
         .arg(max_connects)?
         .arg(max_redirects)?
@@ -109,28 +116,30 @@ fn task_of(matches: &ArgMatches<'_>) -> Option<Task>
     Some(Task::Play(history))
 }
 
-/// What `get` is asked for, if its values are there. Their ranges are tested here too.
+/// How the URLs of `get` are fetched, if its values are there. Their ranges are tested here too.
+fn options_of(get: &ArgMatches<'_>) -> Option<Options>
+    ensures { IfSome result (λ options. are_within options ≡ true) }
+{
+    let options = Options {
+        workers: get.get_one::<u8>("workers")?,
+        at_once: get.get_one::<u16>("at-once")?,
+        timeout_ms: get.get_one::<u32>("timeout-ms")?,
+        max_connects: get.get_one::<u8>("max-connects")?,
+        max_redirects: get.get_one::<u8>("max-redirects")?,
+    };
+    if !options.are_within() {
+        return None;
+    }
+    Some(options)
+}
+
+/// What `get` is asked for, if its values are there.
 fn get_of<'a>(alloc: Global, get: &ArgMatches<'a>) -> Result<Option<Get<'a>>, AllocError>
     ensures { IfOk result (λ o. IfSome o (λ g. are_within g.options ≡ true)) }
 {
-    let (Some(workers), Some(timeout_ms), Some(max_connects), Some(max_redirects), Some(given)) = (
-        get.get_one::<u8>("workers"),
-        get.get_one::<u32>("timeout-ms"),
-        get.get_one::<u8>("max-connects"),
-        get.get_one::<u8>("max-redirects"),
-        get.get_strs("URL"),
-    ) else {
+    let (Some(options), Some(given)) = (options_of(get), get.get_strs("URL")) else {
         return Ok(None);
     };
-    let options = Options {
-        workers,
-        timeout_ms,
-        max_connects,
-        max_redirects,
-    };
-    if !options.are_within() {
-        return Ok(None);
-    }
     let mut urls = Vec::with_capacity(alloc, given.len())?;
     for url in given {
         urls.push(*url)?;

@@ -32,7 +32,8 @@ H counts the URLs from 0; C is the number of a CURLcode (libcurl-errors(3)), 0 w
 S is the status of the response, 0 where there was none; B is the length of the body, 0 where C is
 not 0. Where redirects are followed these are of the last response. With --max-redirects 0, which is
 what is meant where it isn't given, none is followed, and a redirect is printed as it is. With one
-worker the URLs are fetched one after the other, with more at the same time.";
+worker the URLs are fetched one after the other. With more they are fetched at the same time: all,
+or with --at-once N the first N, and then one more for each that has ended.";
 
 /// The exit statuses of `get`, and an example.
 pub const MORE_GET: &str = "Exit status: the first C that isn't 0, in the order of the URLs:

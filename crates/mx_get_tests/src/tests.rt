@@ -47,6 +47,7 @@ fn get_two<
 
 const ONE_WORKER: Options = Options {
     workers: 1,
+    at_once: 256,
     timeout_ms: 0,
     max_connects: 4,
     max_redirects: 0,
@@ -54,6 +55,7 @@ const ONE_WORKER: Options = Options {
 
 const NO_IDLE_LINKS: Options = Options {
     workers: 1,
+    at_once: 256,
     timeout_ms: 0,
     max_connects: 0,
     max_redirects: 0,
@@ -61,6 +63,7 @@ const NO_IDLE_LINKS: Options = Options {
 
 const FOUR_WORKERS: Options = Options {
     workers: 4,
+    at_once: 256,
     timeout_ms: 10_000,
     max_connects: 4,
     max_redirects: 0,
@@ -68,6 +71,7 @@ const FOUR_WORKERS: Options = Options {
 
 const TWO_REDIRECTS: Options = Options {
     workers: 1,
+    at_once: 256,
     timeout_ms: 0,
     max_connects: 4,
     max_redirects: 2,

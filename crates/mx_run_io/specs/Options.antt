@@ -1,7 +1,11 @@
 -- How URLs are fetched.
-use Rattle.std.specs.Prelude.{nat_le, ◌&&◌, Bool}
+use Rattle.std.specs.Prelude.{ℕ, nat_le, ◌==◌, ◌&&◌, Bool, if◌then◌else◌}
 use Rattle.mx_run_io.specs.declared.options.Options.{Options}
 
--- 1 to 16 workers, at most 64 idle connections a worker
+-- 1 to 16 workers, 1 to 256 transfers at a time, at most 64 idle connections a worker
 abbrev pub are_within : Options → Bool
-are_within o = nat_le 1 o.workers && nat_le o.workers 16 && nat_le o.max_connects 64
+are_within o = nat_le 1 o.workers && nat_le o.workers 16 && nat_le 1 o.at_once && nat_le o.at_once 256 && nat_le o.max_connects 64
+
+-- how many transfers are added at a time: with one worker one after another
+abbrev pub width : Options → ℕ
+width o = if o.workers == 1 then 1 else o.at_once

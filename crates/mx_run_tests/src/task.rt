@@ -141,13 +141,14 @@ fn histories(rt: HostRuntime) {
 }
 
 /// With the options that are usual, the greatest, and the least.
-static GETS: [Row<'static>; 3] = [
+static GETS: [Row<'static>; 4] = [
     (
         &["get", "http://a/"],
         &["http://a/"],
         Answer::Get(
             Options {
                 workers: 2,
+                at_once: 256,
                 timeout_ms: 0,
                 max_connects: 4,
                 max_redirects: 0,
@@ -161,6 +162,8 @@ static GETS: [Row<'static>; 3] = [
             "--workers",
             "16",
             "http://a/",
+            "--at-once",
+            "255",
             "--timeout-ms",
             "4294967295",
             "--max-connects",
@@ -174,6 +177,7 @@ static GETS: [Row<'static>; 3] = [
         Answer::Get(
             Options {
                 workers: 16,
+                at_once: 255,
                 timeout_ms: 4_294_967_295,
                 max_connects: 64,
                 max_redirects: 255,
@@ -185,6 +189,7 @@ static GETS: [Row<'static>; 3] = [
         &[
             "get",
             "--workers=1",
+            "--at-once=1",
             "--max-connects=0",
             "--max-redirects=0",
             "x",
@@ -193,8 +198,23 @@ static GETS: [Row<'static>; 3] = [
         Answer::Get(
             Options {
                 workers: 1,
+                at_once: 1,
                 timeout_ms: 0,
                 max_connects: 0,
+                max_redirects: 0,
+            },
+            true,
+        ),
+    ),
+    (
+        &["get", "x", "--at-once", "256"],
+        &["x"],
+        Answer::Get(
+            Options {
+                workers: 2,
+                at_once: 256,
+                timeout_ms: 0,
+                max_connects: 4,
                 max_redirects: 0,
             },
             true,
@@ -207,7 +227,7 @@ fn options_of_get(rt: HostRuntime) {
     none_is_wrong(&rt, first_wrong(rt.alloc(), &GETS));
 }
 
-static REFUSED: [Row<'static>; 20] = [
+static REFUSED: [Row<'static>; 25] = [
     (&[], &[], Answer::Refused),
     (&["body"], &[], Answer::Refused),
     (&["body", "get"], &[], Answer::Refused),
@@ -227,6 +247,27 @@ static REFUSED: [Row<'static>; 20] = [
         &[],
         Answer::Refused,
     ),
+    (
+        &["get", "--at-once", "0", "http://a/"],
+        &[],
+        Answer::Refused,
+    ),
+    (
+        &["get", "--at-once", "257", "http://a/"],
+        &[],
+        Answer::Refused,
+    ),
+    (
+        &["get", "--at-once", "65537", "http://a/"],
+        &[],
+        Answer::Refused,
+    ),
+    (
+        &["get", "--at-once", "-1", "http://a/"],
+        &[],
+        Answer::Refused,
+    ),
+    (&["get", "--at-once", "http://a/"], &[], Answer::Refused),
     (
         &["get", "--max-connects", "65", "http://a/"],
         &[],
