@@ -1,5 +1,5 @@
 -- What is asked for at places, what a seat was told of them, and at how many an end is awaited.
-use Rattle.std.proofs.Common.{◌≡◌, ◌∙◌, refl, ap, sym, subst, ℕ, ◌+◌, ◌-◌, ◌<◌, suc, zero, List, [], ◌∷◌, ◌++◌, map, length, reverse, Bool, true, false, inl, inr, cond, unwrap_or, arith}
+use Rattle.std.proofs.Common.{◌≡◌, ◌∙◌, refl, ap, sym, subst, ℕ, ◌+◌, ◌-◌, ◌<◌, ◌≤◌, suc, zero, List, [], ◌∷◌, ◌++◌, map, length, reverse, Bool, true, false, inl, inr, cond, unwrap_or, arith}
 use Rattle.std.specs.Prelude.{All, MatchResult, OnOk, Option, Some, Result, Ok, Err, slice_get, count_by, ◌⊎◌}
 use Rattle.std.proofs.lemmas.Bool.{eqb-true}
 use Rattle.std.proofs.lemmas.List.Elements.{All-head, All-nil, All-push, All-set, All-tail, All-weaker}
@@ -110,45 +110,50 @@ note_keeps law ties (p ∷ ps) (suc i) t o is told all at =
 
 -- desks
 module _ {Q : Type 0} where
-  pub desk_none : (s : SeatView Q OutcomeValue) → IsDesk (record { seat = s; places = [] }) 0
-  desk_none s = record { told = All-nil (IsToldAt s.ties); waiting = refl }
+  pub desk_none : (s : SeatView Q OutcomeValue) (w : ℕ) → IsDesk (record { seat = s; places = []; width = w }) 0
+  desk_none s w = record { told = All-nil (IsToldAt s.ties); waiting = refl; width = omega arith }
 
   -- whose seat has gone on
-  pub desk_on : (s t : SeatView Q OutcomeValue) (places : List Place) (n : ℕ) → IsPrefix s.ties t.ties
-      → IsDesk (record { seat = s; places = places }) n → IsDesk (record { seat = t; places = places }) n
-  desk_on s t places n more is = record {
+  pub desk_on : (s t : SeatView Q OutcomeValue) (places : List Place) (w n : ℕ) → IsPrefix s.ties t.ties
+      → IsDesk (record { seat = s; places = places; width = w }) n → IsDesk (record { seat = t; places = places; width = w }) n
+  desk_on s t places w n more is = record {
     told = All-weaker (IsToldAt s.ties) (IsToldAt t.ties) (told_at_more s.ties t.ties more) places is.told;
     waiting = is.waiting;
+    width = is.width;
   }
 
   -- which await one end more, or know one
-  pub desk_awaits : (s : SeatView Q OutcomeValue) (places : List Place) (n : ℕ) (a : AdditionView) → IsTold s.ties a
-      → IsDesk (record { seat = s; places = places }) n → IsDesk (record { seat = s; places = places ++ Awaited a ∷ [] }) (n + 1)
-  desk_awaits s places n a told is = record {
+  pub desk_awaits : (s : SeatView Q OutcomeValue) (places : List Place) (w n : ℕ) (a : AdditionView) → IsTold s.ties a
+      → count_by is_awaiting places < w
+      → IsDesk (record { seat = s; places = places; width = w }) n → IsDesk (record { seat = s; places = places ++ Awaited a ∷ []; width = w }) (n + 1)
+  desk_awaits s places w n a told room is = record {
     told = All-push (IsToldAt s.ties) places (Awaited a) is.told told;
     waiting = omega (arith, is.waiting, one_more_awaits places a);
+    width = omega (arith, is.waiting, room);
   }
 
-  pub desk_knows : (s : SeatView Q OutcomeValue) (places : List Place) (n : ℕ) (e : Fetched)
-      → IsDesk (record { seat = s; places = places }) n → IsDesk (record { seat = s; places = places ++ Known e ∷ [] }) n
-  desk_knows s places n e is = record {
+  pub desk_knows : (s : SeatView Q OutcomeValue) (places : List Place) (w n : ℕ) (e : Fetched)
+      → IsDesk (record { seat = s; places = places; width = w }) n → IsDesk (record { seat = s; places = places ++ Known e ∷ []; width = w }) n
+  desk_knows s places w n e is = record {
     told = All-push (IsToldAt s.ties) places (Known e) is.told tt;
     waiting = is.waiting ∙ sym (one_more_known places e);
+    width = is.width;
   }
 
   -- where an end that was awaited is known
-  pub desk_notes : (s : SeatView Q OutcomeValue) (places : List Place) (n i : ℕ) (t : Ticket) (o : OutcomeValue) → awaits_at places i t ≡ true
-      → IsDesk (record { seat = s; places = places }) n → IsDesk (record { seat = s; places = noted_at places i o }) (n - 1)
-  desk_notes s places n i t o at is = record {
+  pub desk_notes : (s : SeatView Q OutcomeValue) (places : List Place) (w n i : ℕ) (t : Ticket) (o : OutcomeValue) → awaits_at places i t ≡ true
+      → IsDesk (record { seat = s; places = places; width = w }) n → IsDesk (record { seat = s; places = noted_at places i o; width = w }) (n - 1)
+  desk_notes s places w n i t o at is = record {
     told = All-set (IsToldAt s.ties) places i (Known (Ended o)) tt is.told;
     waiting = omega (arith, is.waiting, one_less places i t o at);
+    width = omega (arith, is.width);
   }
 
   -- what was added and is awaited
-  pub adds_next : (s t : SeatView Q OutcomeValue) (places : List Place) (old new : DeskView Q) (n : ℕ) (a : AdditionView) (request : RequestValue)
-      → record { seat = s; places = places } ≡ old → new.seat ≡ t → new.places ≡ places ++ Awaited a ∷ [] → n ≡ length places → a.request ≡ request
+  pub adds_next : (s t : SeatView Q OutcomeValue) (places : List Place) (w : ℕ) (old new : DeskView Q) (n : ℕ) (a : AdditionView) (request : RequestValue)
+      → record { seat = s; places = places; width = w } ≡ old → new.seat ≡ t → new.places ≡ places ++ Awaited a ∷ [] → n ≡ length places → a.request ≡ request
       → Stands s t (call.Add (record { 0 = n })) (reply.Added a.ticket) → Adds old new request
-  adds_next s t places old new n a request is seat awaited number of stands = record {
+  adds_next s t places w old new n a request is seat awaited number of stands = record {
     ticket = a.ticket;
     added = subst (λ (u : SeatView Q OutcomeValue). Stands old.seat u (call.Add (record { 0 = length old.places })) (reply.Added a.ticket)) (sym seat)
         (subst (λ (d : DeskView Q). Stands d.seat t (call.Add (record { 0 = length d.places })) (reply.Added a.ticket)) is
@@ -158,10 +163,10 @@ module _ {Q : Type 0} where
   }
 
   -- what was read and noted
-  pub notes_next : (s t : SeatView Q OutcomeValue) (places : List Place) (old new : DeskView Q) (h : HandleId) (ticket : Ticket) (o : OutcomeValue) (left : ℕ)
-      → record { seat = s; places = places } ≡ old → new.seat ≡ t → IsNextMessage s t h ticket o left
+  pub notes_next : (s t : SeatView Q OutcomeValue) (places : List Place) (w : ℕ) (old new : DeskView Q) (h : HandleId) (ticket : Ticket) (o : OutcomeValue) (left : ℕ)
+      → record { seat = s; places = places; width = w } ≡ old → new.seat ≡ t → IsNextMessage s t h ticket o left
       → (awaits_at places h.0 ticket ≡ true) × (new.places ≡ noted_at places h.0 o) → Notes old new
-  notes_next s t places old new h ticket o left is seat read noted = record {
+  notes_next s t places w old new h ticket o left is seat read noted = record {
     handle = h;
     ticket = ticket;
     outcome = o;

@@ -1,5 +1,5 @@
 -- What a desk is, which adds what is to be fetched and collects what came.
-use Rattle.std.specs.Prelude.{◌≡◌, ℕ, true, List, [], ◌∷◌, ◌++◌, length, count_by, All}
+use Rattle.std.specs.Prelude.{◌≡◌, ◌<◌, ◌≤◌, ℕ, true, List, [], ◌∷◌, ◌++◌, length, count_by, All}
 use Rattle.mx_types.specs.declared.call.Call.TheVariants as call
 use Rattle.mx_types.specs.declared.names.HandleId.{HandleId}
 use Rattle.mx_types.specs.declared.names.Ticket.{Ticket}
@@ -10,15 +10,18 @@ use Rattle.mx_chain.specs.Outcomes.{OutcomeValue}
 use Rattle.mx_lock.specs.Ties.{Has, tie}
 use Rattle.mx_multi.specs.Seats.{SeatView, Stands}
 use Rattle.mx_message.specs.Message.{IsNextMessage}
+use Rattle.mx_run_io.specs.Options.{width as width_of}
+use Rattle.mx_run_io.specs.declared.options.Options.{Options}
 use Rattle.mx_get.specs.Additions.{AdditionView}
 use Rattle.mx_get.specs.Places.{awaits_at, is_awaiting, noted_at}
 use Rattle.mx_get.specs.declared.place.Place.{Place}
 use Rattle.mx_get.specs.declared.place.Place.TheVariants.{Awaited, Known}
 
--- a seat, and a place for each URL
+-- a seat, a place for each URL, and how many ends it awaits at a time, at most
 pub record DeskView (Q : Type 0) : Type 0 where
   pub seat : SeatView Q OutcomeValue
   pub places : List Place
+  pub width : ℕ
 
 -- a seat with these ties was told that the addition is of its request
 pub record IsTold (ties : List Origin) (addition : AdditionView) : Type 0 where
@@ -30,10 +33,19 @@ abbrev pub IsToldAt : List Origin → Place → Type 0
 IsToldAt ties (Awaited addition) = IsTold ties addition
 IsToldAt ties (Known _) = Unit {0}
 
--- The seat was told of the additions whose ends are awaited, and so many are.
+-- The seat was told of the additions whose ends are awaited, and so many are, which are no more than may be.
 pub record IsDesk {Q : Type 0} (desk : DeskView Q) (count : ℕ) : Type 0 where
   pub told : All (IsToldAt desk.seat.ties) desk.places
   pub waiting : count ≡ count_by is_awaiting desk.places
+  pub width : count ≤ desk.width
+
+-- one end more may be awaited
+abbrev pub HasRoom : {Q : Type 0} → DeskView Q → Type 0
+HasRoom desk = count_by is_awaiting desk.places < desk.width
+
+-- it has no place yet, and is as wide as the options have it
+abbrev pub IsNewFor : {Q : Type 0} → Options → DeskView Q → Type 0
+IsNewFor options desk = (desk.places ≡ []) × (desk.width ≡ width_of options)
 
 -- The seat added a transfer of the request: its handle is the number of the next place, where the end of that addition is then awaited.
 pub record Adds {Q : Type 0} (old new : DeskView Q) (request : RequestValue) : Type 0 where

@@ -10,7 +10,7 @@ ghost use Rattle.mx_request.specs.declared.error.RequestError.TheVariants as ref
 ghost use Rattle.mx_lock.specs.Ties.{Has, tie};
 ghost use Rattle.mx_multi.specs.Seats.{Stands};
 ghost use Rattle.mx_get.specs.Asked.{asked_for, AreEndsOf};
-ghost use Rattle.mx_get.specs.Desks.{Adds, IsTold, Notes};
+ghost use Rattle.mx_get.specs.Desks.{Adds, HasRoom, IsNewFor, IsTold, Notes};
 ghost use Rattle.mx_get.specs.FetchError.{is_of_run};
 ghost use Rattle.mx_get.specs.Places.{asked_at, awaits_at, is_awaiting, noted_at};
 
@@ -85,7 +85,7 @@ fn add_transfer<L: Link, R: Wait + AllocGlobal>(
 }
 
 /// The application's seat, and what came so far. Of each addition whose end is awaited the seat was told that it is of the request that was
-/// asked for at that place.
+/// asked for at that place, and no more ends are awaited at a time than the desk is wide.
 #[derive(Drop)]
 pub struct Desk<'m, L: Link> {
     seat: Seated<'m, Application, Queued<L>, Outcome>,
@@ -93,6 +93,8 @@ pub struct Desk<'m, L: Link> {
     places: Vec<Place>,
     // At how many places an end is awaited.
     waiting: usize,
+    // At how many at most.
+    width: usize,
 }
 
 impl<'m, L: Link> Model for Desk<'m, L> {
@@ -101,25 +103,27 @@ impl<'m, L: Link> Model for Desk<'m, L> {
 
     ghost Value = { DeskView (TransferState L) };
 
-    ghost view = { λ d. record { seat = d.seat; places = d.places.items } };
+    ghost view = { λ d. record { seat = d.seat; places = d.places.items; width = d.width } };
 
-    ghost invariant = { λ d. IsDesk (record { seat = d.seat; places = d.places.items }) d.waiting };
+    ghost invariant = { λ d. IsDesk (record { seat = d.seat; places = d.places.items; width = d.width }) d.waiting };
 }
 
 impl<'m, L: Link> Desk<'m, L> {
-    /// No URL yet, and room for so many.
+    /// No URL yet, and room for so many, of which as many ends are awaited at a time as the options have it.
     pub fn new(
         alloc: Global,
         seat: Seated<'m, Application, Queued<L>, Outcome>,
         count: usize,
+        options: Options,
     ) -> Result<Desk<'m, L>, OutOfMemory>
         ensures seat { IfOk result (λ desk. desk.seat ≡ seat.entry) }
-        ensures none { IfOk result (λ desk. desk.places ≡ []) }
+        ensures fresh { IfOk result (IsNewFor options) }
     {
         Ok(Desk {
             seat,
             places: Vec::with_capacity(alloc, count)?,
             waiting: 0,
+            width: usize::from(options.width()),
         })
     }
 
@@ -129,7 +133,9 @@ impl<'m, L: Link> Desk<'m, L> {
         rt: &R,
         request: Request,
     ) -> Result<(), FetchError>
+        requires room { HasRoom self.old }
         ensures adds { OnOk result (Adds self.old self.new request) }
+        ensures width { self.new.width ≡ self.old.width }
         ensures cause { IfErr result (λ e. is_of_run e ≡ true) }
     {
         let Ok(handle) = u32::try_from(self.places.as_slice().len()) else {
@@ -149,7 +155,9 @@ impl<'m, L: Link> Desk<'m, L> {
         timeout_ms: u32,
         max_redirects: u8,
     ) -> Result<(), FetchError>
+        requires room { HasRoom self.old }
         ensures asked { OnOk result (map asked_at self.new.places ≡ map asked_at self.old.places ++ asked_for timeout_ms max_redirects url.now ∷ []) }
+        ensures width { self.new.width ≡ self.old.width }
         ensures cause { IfErr result (λ e. is_of_run e ≡ true) }
     {
         match build(rt.alloc(), url, timeout_ms, max_redirects) {
@@ -166,6 +174,7 @@ impl<'m, L: Link> Desk<'m, L> {
     fn note(&mut self, handle: HandleId, ticket: Ticket, outcome: Outcome) -> Result<(), NoMessage>
         requires told { Has self.old.seat.ties (tie ticket (request_origin outcome.request)) }
         ensures seat { self.new.seat ≡ self.old.seat }
+        ensures width { self.new.width ≡ self.old.width }
         ensures noted { OnOk result ((awaits_at self.old.places handle.0 ticket ≡ true) × (self.new.places ≡ noted_at self.old.places handle.0 outcome)) }
         ensures other { OnErr result ((awaits_at self.old.places handle.0 ticket ≡ false) × (self.new.places ≡ self.old.places)) }
         ensures fewer { OnOk result (count_by is_awaiting self.new.places < count_by is_awaiting self.old.places) }
@@ -185,6 +194,7 @@ impl<'m, L: Link> Desk<'m, L> {
     // Waits for the next message and notes it.
     fn await_one<R: Wait>(&mut self, rt: &R) -> Result<(), NoMessage>
         ensures notes { OnOk result (Notes self.old self.new) }
+        ensures width { self.new.width ≡ self.old.width }
         ensures fewer { OnOk result (count_by is_awaiting self.new.places < count_by is_awaiting self.old.places) }
         ensures asked { map asked_at self.new.places ≡ map asked_at self.old.places }
     {
@@ -192,18 +202,22 @@ impl<'m, L: Link> Desk<'m, L> {
         self.note(message.handle, message.ticket, message.outcome)
     }
 
-    // Waits for all messages that are to come.
-    fn await_all<R: Wait>(&mut self, rt: &R) -> Result<(), NoMessage>
-        ensures known { OnOk result (count_by is_awaiting self.new.places ≡ 0) }
+    // Waits for messages until fewer ends than that are awaited. The workers are woken before: something may have been added since.
+    fn await_fewer<R: Wait>(&mut self, rt: &R, crew: &Crew, limit: usize) -> Result<(), NoMessage>
+        ensures few { OnOk result (count_by is_awaiting self.new.places < limit) }
+        ensures width { self.new.width ≡ self.old.width }
         ensures asked { map asked_at self.new.places ≡ map asked_at self.old.places }
     {
-        while self.waiting > 0 {
+        if self.waiting >= limit {
+            crew.ring();
+        }
+        while self.waiting >= limit {
             self.await_one(rt)?;
         }
         Ok(())
     }
 
-    // Adds the URLs, with one worker each after the message of the one before.
+    // Adds the URLs, each once there is room for it.
     fn add_all<R: Wait + AllocGlobal>(
         &mut self,
         rt: &R,
@@ -216,11 +230,9 @@ impl<'m, L: Link> Desk<'m, L> {
         ensures cause { IfErr result (λ e. is_of_run e ≡ true) }
     {
         for url in urls {
+            let width = self.width;
+            self.await_fewer(rt, crew, width)?;
             self.add(rt, *url, options.timeout_ms, options.max_redirects)?;
-            if options.workers == 1 {
-                crew.ring();
-                self.await_all(rt)?;
-            }
         }
         Ok(())
     }
@@ -239,12 +251,11 @@ impl<'m, L: Link> Desk<'m, L> {
         ensures cause { IfErr result (λ e. is_of_run e ≡ true) }
     {
         self.add_all(rt, crew, urls, options)?;
-        crew.ring();
-        self.await_all(rt)?;
+        self.await_fewer(rt, crew, 1)?;
         Ok(())
     }
 
-    /// Adds the URLs, with one worker each after the message of the one before, and waits for all messages.
+    /// Adds the URLs, each once fewer ends are awaited than may be at a time, and waits for all messages.
     pub fn collect<R: Wait + AllocGlobal>(
         self,
         rt: &R,
@@ -252,7 +263,7 @@ impl<'m, L: Link> Desk<'m, L> {
         urls: &[&str],
         options: Options,
     ) -> Result<Vec<Fetched>, FetchError>
-        requires none { self.places ≡ [] }
+        requires fresh { IsNewFor options self }
         ensures ends { IfOk result (λ ends. AreEndsOf options.timeout_ms options.max_redirects (map (λ u. u.now) urls.now) ends.items) }
         ensures cause { IfErr result (λ e. is_of_run e ≡ true) }
     {

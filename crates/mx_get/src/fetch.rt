@@ -1,8 +1,9 @@
 //! A run of workers on threads.
-ghost use Rattle.std.specs.Prelude.{◌≡◌, ◌≢◌, ◌<◌, [], true, Err, All, IfOk, IfErr, length, map, vec_len};
+ghost use Rattle.std.specs.Prelude.{◌≡◌, ◌≢◌, ◌<◌, true, Err, All, IfOk, IfErr, length, map, vec_len};
 ghost use Rattle.mx_multi.specs.Opening.{are_within as are_limits_within};
 ghost use Rattle.mx_run_io.specs.Options.{are_within};
 ghost use Rattle.mx_get.specs.Asked.{AreEndsOf};
+ghost use Rattle.mx_get.specs.Desks.{IsNewFor};
 ghost use Rattle.mx_get.specs.FetchError.{is_of_run};
 ghost use Rattle.mx_get.specs.Opened.{IsOpenedFor};
 ghost use Rattle.mx_get.specs.declared.error.FetchError.TheVariants as fetch_error;
@@ -92,7 +93,7 @@ fn collect_beside<
     options: Options,
 ) -> Result<Vec<Fetched>, FetchError>
     requires posts { vec_len posts ≡ options.workers }
-    requires none { desk.places ≡ [] }
+    requires fresh { IsNewFor options desk }
     ensures ends { IfOk result (λ ends. AreEndsOf options.timeout_ms options.max_redirects (map (λ u. u.now) urls.now) ends.items) }
     ensures cause { IfErr result (λ e. is_of_run e ≡ true) }
 {
@@ -101,7 +102,7 @@ fn collect_beside<
         crew,
         posts,
         move || -> Result<Vec<Fetched>, FetchError>
-            requires { desk.places ≡ [] }
+            requires { IsNewFor options desk }
             ensures ends { IfOk result (λ ends. AreEndsOf options.timeout_ms options.max_redirects (map (λ u. u.now) urls.entry.now) ends.items) }
             ensures cause { IfErr result (λ e. is_of_run e ≡ true) }
         { desk.collect(rt, crew, urls, options) },
@@ -138,7 +139,7 @@ fn fetch_with<
     let Ok(posts) = posts(rt.alloc(), multi, workers, gates) else {
         return Err(FetchError::OutOfMemory);
     };
-    let desk = Desk::new(rt.alloc(), multi.at(seat), urls.len())?;
+    let desk = Desk::new(rt.alloc(), multi.at(seat), urls.len(), options)?;
     collect_beside(rt, crew, posts, desk, urls, options)
 }
 
@@ -190,8 +191,8 @@ fn fetch_from<
 /// Fetches the URLs by GET. What is answered is what each ended with, in their order: the code of its refusal, or what a
 /// transfer of its request ended with. It may wait.
 ///
-/// With one worker each URL is added after the message of the one before; with more all are added at once. All workers
-/// have ended when it returns. It answers
+/// With one worker each URL is added after the message of the one before; with more `at_once` are added at first, and one more after each
+/// message. All workers have ended when it returns. It answers
 ///
 /// - `TooManyUrls` where there are more than `MOST_URLS`, and only there;
 /// - `NoClock`, `NoPoll`, `NoThread` where the system has none for the workers;

@@ -85,10 +85,9 @@ pub fn try_get<
 /// The answer is the exit status: the number of the first code that isn't `Ok`, 0 where there is none, or 121
 /// where the output couldn't be written. All that is printed is flushed, unless the answer is 121. It may wait.
 ///
-/// With one worker each URL is added after the message of the one before; with more all are added at once. Where
-/// memory, a thread, a poll of the system's or its clock can't be had, a transfer wasn't added, no message came of one
-/// that was, or there are more URLs than `MOST_URLS`, `FAULT 27` is printed instead, once the workers have ended:
-/// `try_get` tells which.
+/// With one worker each URL is added after the message of the one before; with more `at_once` are added at first, and one more after each
+/// message. Where memory, a thread, a poll of the system's or its clock can't be had, a transfer wasn't added, no message came of one that
+/// was, or there are more URLs than `MOST_URLS`, `FAULT 27` is printed instead, once the workers have ended: `try_get` tells which.
 pub fn run_get<
     R: Threads
         + Wait

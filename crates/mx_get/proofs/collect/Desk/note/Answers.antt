@@ -14,7 +14,7 @@ pub invariant_of-self : goal.invariant_of-self
 invariant_of-self g c =
     let is = sym (c.awaits.ensures ∙ ap (λ l. awaits_at l c.args.handle.0 c.args.ticket) c.as_slice.ensures.value) ∙ c.if-awaits.true in
     rw c.ended.ensures
-    (desk_notes c.self.inside.seat c.self.inside.places.items c.self.inside.waiting c.args.handle.0 c.args.ticket c.args.outcome is c.self.invariant)
+    (desk_notes c.self.inside.seat c.self.inside.places.items c.self.inside.width c.self.inside.waiting c.args.handle.0 c.args.ticket c.args.outcome is c.self.invariant)
 
 pub returns-then-awaits-clause-fewer : goal.returns-then-awaits-clause-fewer
 returns-then-awaits-clause-fewer g c =
