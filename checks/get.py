@@ -4,6 +4,7 @@ import os
 import socket
 import subprocess
 import sys
+import threading
 import time
 
 import redirects
@@ -184,6 +185,40 @@ def case_max_connects_0():
         want(server.count == 1, f"{server.count} connections for 20 transfers with one kept")
 
 
+def case_at_once():
+    lock, paths = threading.Lock(), [f"/o{number}" for number in range(20)]
+
+    def run_with(words, wanted):
+        # holds each request until as many as are wanted have been open at a time, and a little longer
+        asked, now, most = [], 0, 0
+
+        def holding(connection, _):
+            nonlocal now, most
+            while (path := read_request(connection)) is not None:
+                with lock:
+                    asked.append(path)
+                    now += 1
+                    most = max(most, now)
+                until = time.monotonic() + 5
+                while most < wanted and time.monotonic() < until:
+                    time.sleep(0.001)
+                time.sleep(0.01)
+                with lock:
+                    now -= 1
+                connection.sendall(counted(body_of(path)))
+
+        with Server(holding) as server:
+            run = Run(words + [server.url(path) for path in paths])
+        want_ends(run, [(0, 200, body_of(path)) for path in paths])
+        want(most == wanted, f"{words}: {most} open at a time in place of {wanted}")
+        want(wanted > 1 or asked == paths, f"{words}: asked for in another order: {asked}")
+
+    for workers in ("1", "2", "4", "16"):
+        run_with(["--workers", workers], 1 if workers == "1" else 20)
+        for width in (1, 3, 19, 256):
+            run_with(["--workers", workers, "--at-once", str(width)], 1 if workers == "1" else min(width, 20))
+
+
 def case_257_urls():
     run = Run(["http://127.0.0.1:1/"] * 257)
     want(run.status == 120, f"exit status {run.status}")
@@ -195,12 +230,15 @@ def case_refused_command_lines():
     for words in ([], ["--workers", "0", "http://a/"], ["--workers", "17", "http://a/"], ["--max-connects", "65", "http://a/"],
                   ["--timeout-ms", "4294967296", "http://a/"], ["--max-redirects", "256", "http://a/"],
                   ["--max-redirects", "-1", "http://a/"], ["--max-redirects", "", "http://a/"], ["--max-redirects", "http://a/"],
+                  ["--at-once", "0", "http://a/"], ["--at-once", "257", "http://a/"], ["--at-once", "-1", "http://a/"],
+                  ["--at-once", "", "http://a/"], ["--at-once", "http://a/"], ["--at-once", "2", "--at-once", "3", "http://a/"],
                   ["--what", "http://a/"]):
         run = Run(words)
         want(run.status == 120 and run.out == b"" and run.err != b"", f"{words}: exit status {run.status}")
     asked = subprocess.run([PROGRAM, "get", "--help"], capture_output=True, timeout=20)
     want(asked.returncode == 0 and b"transfer H code C" in asked.stdout and asked.stderr == b"", "help")
     want(b"--max-redirects" in asked.stdout and b"\n   47  " in asked.stdout, "help has no --max-redirects, or no 47")
+    want(b"--at-once <N>" in asked.stdout and b"1 to 256 URLs" in asked.stdout, "help has no --at-once, or not how many URLs there may be")
 
 
 def case_full_output():
