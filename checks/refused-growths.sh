@@ -24,7 +24,7 @@ mx_worker_tests     src/\(ends\|links\|waits\)\.rt                       ^ends\|
 '
 
 # What mx_transfer_tests_base says of a transfer that isn't as a test has it, between what it saw and what was expected.
-OTHERWISE=' is seen in place of '
+OTHERWISE='something else is seen: '
 
 top=$(cd "$(dirname "$(readlink -f "$0")")/.." && pwd)
 work=$(mktemp -d)

@@ -174,7 +174,7 @@ fn compare(
     if seen == expected {
         return Ok(());
     }
-    Err(format!(in alloc; "{seen:?} is seen in place of {expected:?}")?.into())
+    Err(format!(in alloc; "something else is seen: {seen:?} in place of {expected:?}")?.into())
 }
 
 /// A request without a body that follows so many redirects at most, and has so many milliseconds: no deadline where these are 0.
