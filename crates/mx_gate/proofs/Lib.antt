@@ -1,4 +1,5 @@
 mod BracketLemmas
-mod ChoiceLemmas
+mod DialLemmas
+mod FirstLemmas
 mod LawProofs
 mod ReadyLemmas

@@ -1,7 +1,7 @@
 -- The address that is opened for an endpoint.
-use Rattle.std.specs.Prelude.{ℕ, ◌==◌, ◌&&◌, ◌-◌, Bool, true, false, List, length, slice_index, take, drop, Option, if◌then◌else◌}
+use Rattle.std.specs.Prelude.{ℕ, ◌==◌, ◌&&◌, ◌-◌, ◌++◌, Bool, true, false, not, List, length, slice_index, take, drop, Option, if◌then◌else◌}
 use Rattle.std.specs.Option.{option_or}
-use Rattle.std.specs.List.{find, slice_get}
+use Rattle.std.specs.List.{filter, find, slice_get}
 use Rattle.std.specs.declared.net.SocketAddr.{SocketAddr}
 use Rattle.std.specs.Net.Addr.{is_ipv4}
 use Rattle.std.specs.Net.Socket.{socket_ip}
@@ -15,6 +15,10 @@ is_v4 address = is_ipv4 (socket_ip address)
 -- the first IPv4 address, else the first address
 abbrev pub chosen : List SocketAddr → Option SocketAddr
 chosen addresses = option_or (find is_v4 addresses) (slice_get addresses 0)
+
+-- the IPv4 addresses as they come, and then the others as they come
+abbrev pub in_order : List SocketAddr → List SocketAddr
+in_order addresses = filter is_v4 addresses ++ filter (λ address. not (is_v4 address)) addresses
 
 -- the codes of a host whose address can't be had
 abbrev pub is_lookup_code : Code → Bool

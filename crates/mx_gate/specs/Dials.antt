@@ -1,22 +1,37 @@
 -- What is dialled for an endpoint.
 use Rattle.std.specs.Prelude.{◌≡◌, ℕ, List, [], ◌∷◌, ◌++◌, Some}
+use Rattle.std.specs.List.{AllZip}
 use Rattle.std.specs.declared.net.SocketAddr.{SocketAddr}
 use Rattle.std.specs.declared.net.IpAddr.{IpAddr}
 use Rattle.std.specs.Net.Grammar.{IsIpText}
 use Rattle.std.specs.Net.Socket.{socket_ip, socket_port, socket_flowinfo, socket_scope_id}
 use Rattle.std.specs.Net.ToAddrs.{IsHostAndPort}
 use Rattle.mx_request.specs.Endpoint.{HostAndPort}
-use Rattle.mx_gate.specs.Addresses.{chosen, unbracketed}
+use Rattle.mx_gate.specs.Addresses.{chosen, in_order, unbracketed}
 use Rattle.mx_gate.specs.Gates.{SocketGateState}
+
+-- the one address, at the port that was asked for
+pub record IsAt (asked : ℕ) (one address : SocketAddr) : Type 0 where
+  pub ip : socket_ip address ≡ socket_ip one
+  pub port : socket_port address ≡ asked
+  pub flowinfo : socket_flowinfo address ≡ socket_flowinfo one
+  pub scope_id : socket_scope_id address ≡ socket_scope_id one
+
+-- the same addresses in the same order, at that port
+abbrev pub AreAt : ℕ → List SocketAddr → List SocketAddr → Type 0
+AreAt asked some addresses = AllZip (IsAt asked) some addresses
+
+-- they are all that one lookup more found, in the order in which they are dialled
+pub record AreFound (was is : List (List SocketAddr)) (asked : ℕ) (addresses : List SocketAddr) : Type 0 where
+  pub found : List SocketAddr
+  pub more : is ≡ was ++ found ∷ []
+  pub all : AreAt asked (in_order found) addresses
 
 -- the address that is chosen of those found, at the port that was asked for
 pub record IsChosenAt (found : List SocketAddr) (asked : ℕ) (address : SocketAddr) : Type 0 where
   pub one : SocketAddr
   pub first : chosen found ≡ Some one
-  pub ip : socket_ip address ≡ socket_ip one
-  pub port : socket_port address ≡ asked
-  pub flowinfo : socket_flowinfo address ≡ socket_flowinfo one
-  pub scope_id : socket_scope_id address ≡ socket_scope_id one
+  pub at : IsAt asked one address
 
 -- it was chosen of what one lookup more found
 pub record IsFound (was is : List (List SocketAddr)) (asked : ℕ) (address : SocketAddr) : Type 0 where
@@ -28,7 +43,16 @@ pub record IsFound (was is : List (List SocketAddr)) (asked : ℕ) (address : So
 abbrev pub SpellsNone : List ℕ → Type 0
 SpellsNone text = (ip : IpAddr) → IsIpText text ip → ⊥
 
--- The address of an endpoint, where `was` is what the lookups before it found, a list of addresses each, and `is` what all have since.
+-- The addresses of an endpoint in the order in which they are dialled, where `was` is what the lookups before found, a list of addresses
+-- each, and `is` what all have since.
+pub data AreAddressesOf (endpoint : HostAndPort) (addresses : List SocketAddr) (was is : List (List SocketAddr)) : Type 0 where
+  -- the one that the host spells, at the port; nothing is looked up
+  one_spelled : (address : SocketAddr) → addresses ≡ address ∷ [] → IsHostAndPort (unbracketed endpoint.host) endpoint.port address → is ≡ was
+      → AreAddressesOf endpoint addresses was is
+  -- where it spells none, all that one lookup found, at the port
+  all_looked_up : SpellsNone (unbracketed endpoint.host) → AreFound was is endpoint.port addresses → AreAddressesOf endpoint addresses was is
+
+-- The address of an endpoint that is dialled first.
 pub data IsAddressOf (endpoint : HostAndPort) (address : SocketAddr) (was is : List (List SocketAddr)) : Type 0 where
   -- the one that the host spells, at the port; nothing is looked up
   spelled : IsHostAndPort (unbracketed endpoint.host) endpoint.port address → is ≡ was → IsAddressOf endpoint address was is
@@ -40,3 +64,10 @@ pub record Dials (endpoint : HostAndPort) (old new : SocketGateState) : Type 0 w
   pub address : SocketAddr
   pub of : IsAddressOf endpoint address old.found new.found
   pub dialled : new.dialled ≡ old.dialled ++ address ∷ []
+
+-- the first of these addresses was dialled, and noted
+pub record NotesFirst (addresses was is : List SocketAddr) : Type 0 where
+  pub first : SocketAddr
+  pub rest : List SocketAddr
+  pub all : addresses ≡ first ∷ rest
+  pub dialled : is ≡ was ++ first ∷ []

@@ -5,5 +5,6 @@ pub mod Dials
 pub mod Laws
 pub mod Script
 pub mod Ready
+pub mod Dialling
 pub mod Said
 pub mod Notes

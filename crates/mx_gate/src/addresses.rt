@@ -1,15 +1,15 @@
-//! The address that is opened for an endpoint.
-ghost use Rattle.std.specs.Prelude.{◌≡◌, ℕ, true, [], ◌∷◌, ◌++◌, vec_items, IsOkAnd, IfOk, IfErr, OnErr};
+//! The addresses that are dialled for an endpoint.
+ghost use Rattle.std.specs.Prelude.{◌≡◌, ◌<◌, ℕ, true, ◌∷◌, ◌++◌, [], vec_items, length, IfOk, IfErr, OnErr};
 ghost use Rattle.std.specs.declared.net.IpAddr.{IpAddr};
-ghost use Rattle.std.specs.Net.ToAddrs.{IsHostAndPort};
 ghost use Rattle.std.specs.Net.Grammar.{IsIpText};
-ghost use Rattle.mx_gate.specs.Addresses.{chosen, unbracketed, is_lookup_code};
-ghost use Rattle.mx_gate.specs.Dials.{IsChosenAt, IsFound, IsAddressOf};
+ghost use Rattle.mx_types.specs.declared.code.Code.TheVariants as codes;
+ghost use Rattle.mx_gate.specs.Addresses.{in_order, unbracketed, is_lookup_code};
+ghost use Rattle.mx_gate.specs.Dials.{IsAt, AreAt, AreFound, AreAddressesOf};
 
 use crate::faults::lookup_code;
 use mx_request::Endpoint;
-use mx_types::{Code, History};
-use std::alloc::AllocGlobal;
+use mx_types::{Code, History, OutOfMemory};
+use std::alloc::{AllocGlobal, Global};
 use std::marker::Model;
 use std::net::{IpAddr, Net, SocketAddr, ToSocketAddrs};
 use std::snapshot::Snapshot;
@@ -25,18 +25,6 @@ pub fn unbracketed(host: &str) -> &str
         },
         None => host,
     }
-}
-
-/// The first IPv4 address, else the first address.
-pub fn choose(addresses: &[SocketAddr]) -> Option<SocketAddr>
-    ensures { result ≡ chosen addresses.now }
-{
-    for address in addresses {
-        if address.is_ipv4() {
-            return Some(*address);
-        }
-    }
-    addresses.first().copied()
 }
 
 /// The addresses that a lookup found, for contracts alone.
@@ -78,53 +66,112 @@ fn look_up<R: Net + AllocGlobal>(
     Ok(addresses)
 }
 
-// The address of these that is opened, at this port.
-fn choose_at(addresses: &[SocketAddr], port: u16) -> Result<SocketAddr, Code>
-    ensures chosen { IfOk result (IsChosenAt addresses.now port) }
-    ensures code { IfErr result (λ code. is_lookup_code code ≡ true) }
+// The IPv4 addresses first.
+fn in_order(alloc: Global, all: &[SocketAddr]) -> Result<Vec<SocketAddr>, OutOfMemory>
+    ensures { IfOk result (λ ordered. ordered.items ≡ in_order all.now) }
 {
-    let Some(mut address) = choose(addresses) else {
-        return Err(Code::CouldntResolveHost);
-    };
-    address.set_port(port);
-    Ok(address)
+    let first = all.iter().filter(|a| a.is_ipv4());
+    let then = all.iter().filter(|a| !a.is_ipv4());
+    let ordered = first
+        .chain(then)
+        .copied()
+        .collect::<Vec<SocketAddr>>(alloc)?;
+    Ok(ordered)
 }
 
-// The address that is opened of those that the lookup of a name gives, at this port.
+// The address, at this port.
+fn set_port(mut address: SocketAddr, port: u16) -> SocketAddr
+    ensures { IsAt port address result }
+{
+    address.set_port(port);
+    address
+}
+
+// These addresses, at this port.
+#[tactic(auto, using(crate::proofs::FirstLemmas::all_at_more))]
+pub(crate) fn at_port(
+    alloc: Global,
+    addresses: &[SocketAddr],
+    port: u16,
+) -> Result<Vec<SocketAddr>, OutOfMemory>
+    ensures { IfOk result (λ all. AreAt port addresses.now all.items) }
+{
+    let mut all = Vec::new(alloc);
+    for address in addresses {
+        let there = set_port(*address, port);
+        all.push(there)?;
+    }
+    Ok(all)
+}
+
+// The addresses that a lookup gave, in the order in which they are dialled, at this port.
+fn order_at(
+    alloc: Global,
+    addresses: &[SocketAddr],
+    port: u16,
+) -> Result<Vec<SocketAddr>, OutOfMemory>
+    ensures { IfOk result (λ all. AreAt port (in_order addresses.now) all.items) }
+{
+    let ordered = in_order(alloc, addresses)?;
+    let all = at_port(alloc, ordered.as_slice(), port)?;
+    Ok(all)
+}
+
+// What the lookup of a name gives, in the order in which it is dialled, at this port.
 fn find<R: Net + AllocGlobal>(
     rt: &R,
     name: &str,
     port: u16,
     found: &mut History<Found>,
-) -> Result<SocketAddr, Code>
-    ensures found { IfOk result (IsFound found.old found.new port) }
+) -> Result<Vec<SocketAddr>, Code>
+    ensures found { IfOk result (λ all. AreFound found.old found.new port all.items) }
+    ensures some { IfOk result (λ all. 0 < length all.items) }
     ensures code { IfErr result (λ code. is_lookup_code code ≡ true) }
 {
     let addresses = look_up(rt, name, port, found)?;
-    let address = choose_at(addresses.as_slice(), port)?;
-    Ok(address)
+    let Ok(all) = order_at(rt.alloc(), addresses.as_slice(), port) else {
+        return Err(Code::OutOfMemory);
+    };
+    if all.is_empty() {
+        return Err(Code::CouldntResolveHost);
+    }
+    Ok(all)
 }
 
-/// The address that is opened for an endpoint. A host that is an address is used as it is, and isn't looked up; of
-/// the addresses that the lookup of a name gives, which are added to those found, it is the first IPv4 address, else the
-/// first.
+// The one address.
+fn only(alloc: Global, address: SocketAddr) -> Result<Vec<SocketAddr>, Code>
+    ensures one { IfOk result (λ all. all.items ≡ address ∷ []) }
+    ensures code { IfErr result (λ code. code ≡ codes.OutOfMemory) }
+{
+    let mut all = Vec::new(alloc);
+    if all.push(address).is_err() {
+        return Err(Code::OutOfMemory);
+    }
+    Ok(all)
+}
+
+/// The addresses of an endpoint, at least one, in the order in which they are dialled. A host that spells an address has that one, and isn't
+/// looked up; of any other they are all that the lookup of its name gives, which are added to those found, the IPv4 ones first.
 ///
 /// `CouldntResolveHost` comes where the lookup fails or gives nothing, `OutOfMemory` where memory is wanting.
-pub fn address_of<R: Net + AllocGlobal>(
+pub fn addresses_of<R: Net + AllocGlobal>(
     rt: &R,
     endpoint: &Endpoint,
     found: &mut History<Found>,
-) -> Result<SocketAddr, Code>
-    ensures of { IfOk result (λ address. IsAddressOf endpoint.now address found.old found.new) }
-    ensures address { (ip : IpAddr) → IsIpText (unbracketed endpoint.now.host) ip
-        → IsOkAnd result (IsHostAndPort (unbracketed endpoint.now.host) endpoint.now.port) }
+) -> Result<Vec<SocketAddr>, Code>
+    ensures of { IfOk result (λ all. AreAddressesOf endpoint.now all.items found.old found.new) }
+    ensures some { IfOk result (λ all. 0 < length all.items) }
+    ensures spelled { (ip : IpAddr) → IsIpText (unbracketed endpoint.now.host) ip → IfErr result (λ code. code ≡ codes.OutOfMemory) }
     ensures code { IfErr result (λ code. is_lookup_code code ≡ true) }
 {
     let host = unbracketed(endpoint.host.as_str());
     match host.parse::<IpAddr>() {
-        Ok(ip) => Ok(SocketAddr::new(ip, endpoint.port)),
+        Ok(ip) => match only(rt.alloc(), SocketAddr::new(ip, endpoint.port)) {
+            Ok(all) => Ok(all),
+            Err(code) => Err(code),
+        },
         Err(_) => match find(rt, host, endpoint.port, found) {
-            Ok(address) => Ok(address),
+            Ok(all) => Ok(all),
             Err(code) => Err(code),
         },
     }

@@ -2,6 +2,7 @@
 #![tactic(auto)]
 
 mod addresses;
+mod dialling;
 mod faults;
 mod gate;
 pub mod laws;
@@ -11,11 +12,12 @@ mod scripted;
 mod signals;
 mod sockets;
 
-pub use crate::addresses::{Found, address_of, choose, unbracketed};
+pub use crate::addresses::{Found, addresses_of, unbracketed};
+pub use crate::dialling::{Dial, DialLink};
 pub use crate::faults::{connect_code, lookup_code};
 pub use crate::gate::{Gate, Turn};
 pub use crate::ready::ReadyLink;
 pub use crate::said::Said;
 pub use crate::scripted::ScriptGate;
 pub use crate::signals::Signals;
-pub use crate::sockets::{Bell, SocketGate, SocketLink};
+pub use crate::sockets::{Bell, SocketDial, SocketGate, SocketLink};

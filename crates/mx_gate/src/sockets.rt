@@ -1,13 +1,15 @@
 //! A gate to the network.
-ghost use Rattle.std.specs.Prelude.{◌≡◌, ◌≤◌, ◌/◌, ◌-◌, ◌^◌, ◌∷◌, ◌++◌, true, false, ◌||◌, ◌⊎◌, [], min, max, IfOk, IfErr, OnErr};
+ghost use Rattle.std.specs.Prelude.{◌≡◌, ◌≤◌, ◌<◌, ◌/◌, ◌-◌, ◌^◌, ◌∷◌, ◌++◌, true, false, ◌||◌, ◌⊎◌, [], length, min, max, IfOk, IfErr, OnErr};
 ghost use Rattle.std.specs.Duration.{as_nanos};
 ghost use Rattle.mio.specs.Event.{is_readable, is_writable, is_error, is_read_closed, is_write_closed};
 ghost use Rattle.mx_types.specs.Code.{is_link_code};
 ghost use Rattle.mx_gate.specs.Said.{told, asked, opened, waited, numbered, is_stop};
-ghost use Rattle.mx_gate.specs.Dials.{Dials};
+ghost use Rattle.mx_gate.specs.Dials.{Dials, AreAt, AreAddressesOf, NotesFirst};
+ghost use Rattle.mx_gate.specs.Dialling.{addresses_of};
 ghost use Rattle.mx_gate.specs.Gates.{moment_after, next_token, turn_of, is_start_code};
 
-use crate::addresses::{Found, address_of};
+use crate::addresses::{Found, addresses_of, at_port};
+use crate::dialling::{Dial, DialLink};
 use crate::faults::connect_code;
 use crate::gate::{Gate, Turn};
 use crate::ready::ReadyLink;
@@ -15,7 +17,7 @@ use crate::said::Said;
 use crate::signals::Signals;
 use mio::event::Event;
 use mio::net::TcpStream;
-use mio::{Events, Interest, Poll, Token, Waker};
+use mio::{Events, Interest, Poll, Registry, Token, Waker};
 use mx_link::TcpLink;
 use mx_request::Endpoint;
 use mx_types::{Code, History};
@@ -35,7 +37,54 @@ const MOST_EVENTS: usize = 128;
 const BELL: Token = Token(0);
 
 /// A link that a `SocketGate` opens.
-pub type SocketLink = ReadyLink<TcpLink>;
+pub type SocketLink<'r, R> = ReadyLink<DialLink<SocketDial<'r, R>>>;
+
+/// What opens the connections of one link of a `SocketGate`, and has its poll report when they are ready. Contracts see what it dialled.
+#[derive(Drop)]
+pub struct SocketDial<'r, R> {
+    rt: &'r R,
+    registry: Arc<Registry>,
+    dialled: History<SocketAddr>,
+}
+
+impl<'r, R> Model for SocketDial<'r, R> {
+    ghost use Rattle.std.specs.Prelude.{List};
+    ghost use Rattle.std.specs.declared.net.SocketAddr.{SocketAddr as Address};
+
+    ghost Value = { List Address };
+
+    ghost view = { λ d. d.dialled };
+}
+
+// Begins to connect, and has the poll report under this token when the connection is ready.
+fn connect<R: Net>(
+    rt: &R,
+    registry: &Registry,
+    address: SocketAddr,
+    token: u64,
+) -> io::Result<TcpStream> {
+    let mut stream = TcpStream::connect(rt, address)?;
+    registry.register(
+        &mut stream,
+        Token(token as usize),
+        Interest::READABLE | Interest::WRITABLE,
+    )?;
+    Ok(stream)
+}
+
+impl<R: Net> Dial for SocketDial<'_, R> {
+    type Link = TcpLink;
+
+    ghost dialled = { λ dial. dial };
+
+    fn dial(&mut self, address: SocketAddr, token: u64) -> Result<TcpLink, Code> {
+        self.dialled.note(address);
+        match connect(self.rt, &self.registry, address, token) {
+            Ok(stream) => Ok(TcpLink::new(stream, token)),
+            Err(error) => Err(connect_code(&error)),
+        }
+    }
+}
 
 /// Ends a wait of its gate from any thread.
 #[derive(Drop)]
@@ -59,6 +108,7 @@ impl Bell {
 pub struct SocketGate<'r, R> {
     rt: &'r R,
     poll: Poll,
+    registry: Arc<Registry>,
     events: Events<Global>,
     bell: Arc<Waker>,
     signals: Arc<Signals>,
@@ -81,6 +131,14 @@ impl<'r, R> Model for SocketGate<'r, R> {
 
     ghost view = { λ g. record { latest = g.latest; next_token = g.next_token; is_stopped = g.is_stopped; found = g.found; dialled = g.dialled; said = g.said } };
 }
+
+type Parts = (
+    Poll,
+    Arc<Registry>,
+    Events<Global>,
+    Arc<Waker>,
+    Arc<Signals>,
+);
 
 // What an event tells of its connection.
 #[derive(Clone, Copy)]
@@ -149,9 +207,10 @@ impl<'r, R: Net + Clock + AllocGlobal> SocketGate<'r, R> {
         ensures code { IfErr result (λ code. is_start_code code ≡ true) }
     {
         match SocketGate::parts(rt) {
-            Ok((poll, events, bell, signals)) => Ok(SocketGate {
+            Ok((poll, registry, events, bell, signals)) => Ok(SocketGate {
                 rt,
                 poll,
+                registry,
                 events,
                 bell,
                 signals,
@@ -170,12 +229,13 @@ impl<'r, R: Net + Clock + AllocGlobal> SocketGate<'r, R> {
         }
     }
 
-    fn parts(rt: &'r R) -> io::Result<(Poll, Events<Global>, Arc<Waker>, Arc<Signals>)> {
+    fn parts(rt: &'r R) -> io::Result<Parts> {
         let poll = Poll::new(rt)?;
+        let registry = Arc::new(rt.alloc(), poll.registry().try_clone()?)?;
         let events = Events::with_capacity(rt.alloc(), MOST_EVENTS)?;
         let bell = Arc::new(rt.alloc(), Waker::new(poll.registry(), BELL)?)?;
         let signals = Arc::new(rt.alloc(), Signals::new(rt.alloc())?)?;
-        Ok((poll, events, bell, signals))
+        Ok((poll, registry, events, bell, signals))
     }
 
     /// The moment at which the gate's clock started.
@@ -192,39 +252,116 @@ impl<'r, R: Net + Clock + AllocGlobal> SocketGate<'r, R> {
         })
     }
 
-    // Begins to connect, and has the poll report when the connection is ready. What is dialled is noted just before.
-    fn connect(&mut self, address: SocketAddr) -> io::Result<SocketLink>
-        ensures opened { IfOk result (λ link. (link.link.token ≡ self.old.next_token) × (link.history ≡ [])
-            × (self.new ≡ record self.old { next_token = next_token self.old.next_token; dialled = self.old.dialled ++ address ∷ [] })) }
-        ensures refused { OnErr result (self.new ≡ record self.old { dialled = self.old.dialled ++ address ∷ [] }) }
+    // What opens the connections of a link that has dialled nothing yet.
+    fn dialler(&self) -> Result<(SocketDial<'r, R>, Arc<Signals>), AllocError>
+        ensures { IfOk result (λ dialler. dialler.0 ≡ []) }
     {
-        self.dialled.note(address);
-        let mut stream = TcpStream::connect(self.rt, address)?;
+        let dial = SocketDial {
+            rt: self.rt,
+            registry: Arc::try_clone(&self.registry)?,
+            dialled: History::new(),
+        };
         let signals = Arc::try_clone(&self.signals)?;
-        let token = self.next_token;
-        self.poll.registry().register(
-            &mut stream,
-            Token(token as usize),
-            Interest::READABLE | Interest::WRITABLE,
-        )?;
-        self.next_token = token.saturating_add(1);
-        Ok(ReadyLink::over(TcpLink::new(stream, token), signals))
+        Ok((dial, signals))
     }
 
-    // Begins to connect to the address of the endpoint.
-    fn begin(&mut self, endpoint: &Endpoint) -> Result<SocketLink, Code>
+    // Begins to connect to the first of these addresses that isn't refused at once. The first of them is noted just before it is dialled.
+    #[tactic(auto, using(crate::proofs::FirstLemmas::notes_first))]
+    fn begin_at(&mut self, addresses: Vec<SocketAddr>) -> Result<SocketLink<'r, R>, Code>
+        ensures code { IfErr result (λ code. is_link_code code ≡ true) }
+        ensures opened { IfOk result (λ link. (link.link.token ≡ self.old.next_token) × (link.history ≡ [])
+            × (self.new ≡ record self.old { next_token = next_token self.old.next_token; dialled = self.new.dialled })) }
+        ensures addresses { IfOk result (λ link. addresses_of link.link ≡ addresses.items) }
+        ensures some { IfOk result (λ link. 0 < length link.link.dialled) }
+        ensures refused { OnErr result (self.new ≡ record self.old { dialled = self.new.dialled }) }
+        ensures dialled { IfOk result (λ _. NotesFirst addresses.items self.old.dialled self.new.dialled) }
+        ensures undialled { OnErr result ((self.new.dialled ≡ self.old.dialled) ⊎ NotesFirst addresses.items self.old.dialled self.new.dialled) }
+    {
+        let Ok((dial, signals)) = self.dialler() else {
+            return Err(Code::OutOfMemory);
+        };
+        let Some(first) = addresses.first().copied() else {
+            return Err(Code::CouldntConnect);
+        };
+        self.dialled.note(first);
+        let token = self.next_token;
+        match DialLink::over(dial, addresses, token) {
+            Ok(link) => {
+                self.next_token = token.saturating_add(1);
+                Ok(ReadyLink::over(link, signals))
+            }
+            Err(code) => Err(code),
+        }
+    }
+
+    // Begins to connect to the addresses of the endpoint.
+    fn begin(&mut self, endpoint: &Endpoint) -> Result<SocketLink<'r, R>, Code>
         ensures code { IfErr result (λ code. is_link_code code ≡ true) }
         ensures opened { IfOk result (λ link. (link.link.token ≡ self.old.next_token) × (link.history ≡ [])
             × (self.new ≡ record self.old { next_token = next_token self.old.next_token; found = self.new.found; dialled = self.new.dialled })) }
+        ensures addresses { IfOk result (λ link. AreAddressesOf endpoint.now (addresses_of link.link) self.old.found self.new.found) }
+        ensures some { IfOk result (λ link. 0 < length link.link.dialled) }
         ensures refused { OnErr result (self.new ≡ record self.old { found = self.new.found; dialled = self.new.dialled }) }
         ensures dialled { IfOk result (λ _. Dials endpoint.now self.old self.new) }
         ensures undialled { OnErr result ((self.new.dialled ≡ self.old.dialled) ⊎ Dials endpoint.now self.old self.new) }
     {
-        let address = address_of(self.rt, endpoint, &mut self.found)?;
-        match self.connect(address) {
+        let addresses = addresses_of(self.rt, endpoint, &mut self.found)?;
+        match self.begin_at(addresses) {
             Ok(link) => Ok(link),
-            Err(error) => Err(connect_code(&error)),
+            Err(code) => Err(code),
         }
+    }
+
+    // The same of these addresses, at the port of the endpoint.
+    fn begin_with(
+        &mut self,
+        endpoint: &Endpoint,
+        addresses: &[SocketAddr],
+    ) -> Result<SocketLink<'r, R>, Code>
+        ensures code { IfErr result (λ code. is_link_code code ≡ true) }
+        ensures opened { IfOk result (λ link. (link.link.token ≡ self.old.next_token) × (link.history ≡ [])
+            × (self.new ≡ record self.old { next_token = next_token self.old.next_token; dialled = self.new.dialled })) }
+        ensures addresses { IfOk result (λ link. AreAt endpoint.now.port addresses.now (addresses_of link.link)) }
+        ensures some { IfOk result (λ link. 0 < length link.link.dialled) }
+        ensures refused { OnErr result (self.new ≡ record self.old { dialled = self.new.dialled }) }
+        ensures dialled { IfOk result (λ link. NotesFirst (addresses_of link.link) self.old.dialled self.new.dialled) }
+    {
+        let Ok(all) = at_port(self.rt.alloc(), addresses, endpoint.port) else {
+            return Err(Code::OutOfMemory);
+        };
+        match self.begin_at(all) {
+            Ok(link) => Ok(link),
+            Err(code) => Err(code),
+        }
+    }
+
+    /// A link to the endpoint, over these addresses of its host in their order, at the endpoint's port. They are the caller's: nothing is
+    /// looked up. Without an address it is `CouldntConnect`.
+    pub fn open_at(
+        &mut self,
+        endpoint: &Endpoint,
+        addresses: &[SocketAddr],
+    ) -> Result<SocketLink<'r, R>, Code>
+        ensures fresh { IfOk result (λ link. link.history ≡ []) }
+        ensures code { IfErr result (λ code. is_link_code code ≡ true) }
+        ensures opened { IfOk result (λ link. (link.link.token ≡ self.old.next_token)
+            × (self.new ≡ record self.old { next_token = next_token self.old.next_token; dialled = self.new.dialled; said = self.new.said })) }
+        ensures addresses { IfOk result (λ link. AreAt endpoint.now.port addresses.now (addresses_of link.link)) }
+        ensures some { IfOk result (λ link. 0 < length link.link.dialled) }
+        ensures refused { OnErr result (self.new ≡ record self.old { dialled = self.new.dialled; said = self.new.said }) }
+        ensures dialled { IfOk result (λ link. NotesFirst (addresses_of link.link) self.old.dialled self.new.dialled) }
+        ensures noted { self.new.said ≡ self.old.said ++ opened endpoint.now (numbered (λ link. link.link.token) result) ∷ [] }
+    {
+        let answer = self.begin_with(endpoint, addresses);
+        self.said.note(Said::opened(endpoint, &answer));
+        answer
+    }
+
+    /// The latest moment told, 0 before the first.
+    pub fn latest(&self) -> u64
+        ensures { result ≡ self.now.latest }
+    {
+        self.latest
     }
 
     // Waits, and counts what that told. A wait that fails ends at once, as one that a signal ends, and tells nothing.
@@ -256,8 +393,8 @@ impl<'r, R: Net + Clock + AllocGlobal> SocketGate<'r, R> {
     }
 }
 
-impl<R: Net + Clock + AllocGlobal> Gate for SocketGate<'_, R> {
-    type Link = SocketLink;
+impl<'r, R: Net + Clock + AllocGlobal> Gate for SocketGate<'r, R> {
+    type Link = SocketLink<'r, R>;
 
     ghost said = { λ gate. gate.said };
 
@@ -288,14 +425,16 @@ impl<R: Net + Clock + AllocGlobal> Gate for SocketGate<'_, R> {
         true
     }
 
-    /// Begins to connect to the address of the endpoint (`address_of`).
-    fn open(&mut self, endpoint: &Endpoint) -> Result<SocketLink, Code>
+    /// Begins to connect to the addresses of the endpoint (`addresses_of`): to the first that isn't refused at once.
+    fn open(&mut self, endpoint: &Endpoint) -> Result<SocketLink<'r, R>, Code>
         ensures fresh { IfOk result (λ link. link.history ≡ []) }
         ensures code { IfErr result (λ code. is_link_code code ≡ true) }
         ensures moment { self.new.latest ≡ self.old.latest }
         ensures opened { IfOk result (λ link. (link.link.token ≡ self.old.next_token) × (link.history ≡ [])
             × (self.new ≡ record self.old { next_token = next_token self.old.next_token; found = self.new.found; dialled = self.new.dialled; said = self.new.said })) }
         ensures refused { OnErr result (self.new ≡ record self.old { found = self.new.found; dialled = self.new.dialled; said = self.new.said }) }
+        ensures addresses { IfOk result (λ link. AreAddressesOf endpoint.now (addresses_of link.link) self.old.found self.new.found) }
+        ensures some { IfOk result (λ link. 0 < length link.link.dialled) }
         ensures dialled { IfOk result (λ _. Dials endpoint.now self.old self.new) }
         ensures undialled { OnErr result ((self.new.dialled ≡ self.old.dialled) ⊎ Dials endpoint.now self.old self.new) }
         ensures noted { self.new.said ≡ self.old.said ++ opened endpoint.now (numbered (λ link. link.link.token) result) ∷ [] }

@@ -5,6 +5,8 @@
 #[cfg(test)]
 mod addresses;
 #[cfg(test)]
+mod dialling;
+#[cfg(test)]
 mod edges;
 #[cfg(test)]
 mod outside;

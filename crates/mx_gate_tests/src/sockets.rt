@@ -59,8 +59,8 @@ pub fn flag(alloc: Global) -> Result<Arc<AtomicBool>, AllocError> {
     Ok(Arc::new(alloc, AtomicBool::new(false))?)
 }
 
-// What a gate gives, or the number of the code with which it is refused.
-fn given<T>(given: Result<T, Code>) -> Result<T, Fail> {
+/// What a gate gives, or the number of the code with which it is refused.
+pub fn given<T>(given: Result<T, Code>) -> Result<T, Fail> {
     match given {
         Ok(value) => Ok(value),
         Err(code) => Err(Fail::from(code.number())),
@@ -75,7 +75,8 @@ fn gate_with<R: Net + Clock + AllocGlobal>(
     given(SocketGate::new(rt, stop))
 }
 
-fn gate<R: Net + Clock + AllocGlobal>(rt: &R) -> Result<SocketGate<'_, R>, Fail> {
+/// A gate that nothing stops.
+pub fn gate<R: Net + Clock + AllocGlobal>(rt: &R) -> Result<SocketGate<'_, R>, Fail> {
     gate_with(rt, flag(rt.alloc())?)
 }
 
@@ -97,15 +98,15 @@ fn link_to<G: Gate>(alloc: Global, gate: &mut G, port: u16) -> Result<G::Link, F
 pub fn gate_and_link<R: Net + Clock + AllocGlobal>(
     rt: &R,
     port: u16,
-) -> Result<(SocketGate<'_, R>, SocketLink), Fail> {
+) -> Result<(SocketGate<'_, R>, SocketLink<'_, R>), Fail> {
     let mut gate = gate(rt)?;
     let link = link_to(rt.alloc(), &mut gate, port)?;
     Ok((gate, link))
 }
 
-// Writes four bytes to a peer that sends them back, reads them and sees the end. It owns neither gate nor link, so that an assertion that
-// fails lets neither go.
-fn send_and_read<R: Abort, G: Gate>(rt: &R, gate: &mut G, link: &mut G::Link) {
+/// Writes four bytes to a peer that sends them back, reads them and sees the end. It owns neither gate nor link, so that an assertion that
+/// fails lets neither go.
+pub fn send_and_read<R: Abort, G: Gate>(rt: &R, gate: &mut G, link: &mut G::Link) {
     let connected = connect(gate, link);
     let written = link.try_write(b"ping");
     let came = read(gate, link);
@@ -146,8 +147,8 @@ pub fn listening<R: Net<Listener = TcpListener, Stream = TcpStream>>(
     Ok((listener, port))
 }
 
-// A thread that serves one connection, and its port.
-fn one_server<R: Net<Listener = TcpListener, Stream = TcpStream> + Threads>(
+/// A thread that serves one connection, and its port.
+pub fn one_server<R: Net<Listener = TcpListener, Stream = TcpStream> + Threads>(
     rt: &R,
 ) -> Result<(u16, JoinHandle<bool>), Fail> {
     let (listener, port) = listening(rt)?;
@@ -191,8 +192,8 @@ fn tokens_rise_from_1(rt: HostRuntime) -> Result<(), Fail> {
     Ok(())
 }
 
-// What becomes of a connection, or the code of an open that is refused.
-fn try_connect<G: Gate>(gate: &mut G, there: &Endpoint) -> Result<Connect, Code> {
+/// What becomes of a connection, or the code of an open that is refused.
+pub fn try_connect<G: Gate>(gate: &mut G, there: &Endpoint) -> Result<Connect, Code> {
     let mut link = gate.open(there)?;
     Ok(connect(gate, &mut link))
 }

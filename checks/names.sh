@@ -1,0 +1,31 @@
+#!/usr/bin/env bash
+# `mxfetch get` where names are slow, unknown, silent or have several addresses: from a name server of its own, on 127.0.0.1 in a network and
+# with an /etc/resolv.conf and /etc/hosts of its own. It compares every code, body and order, and times with bounds ten times as wide as what
+# is promised; and it prints the times. It ends with 1 where one isn't as it is to be.
+# Today's `get` holds what is said of addresses and of unknown names. What is said of slow and silent names waits for its workers' gates to be
+# those of mx_named_gate: until then these cases tell WRONG.
+#
+#     checks/names.sh [WORD]        all cases, or those whose names have the word
+#
+# It needs python3, unshare (util-linux) and ip (Debian: iproute2), and the right to make a namespace; it installs nothing and reaches no other
+# network. PROGRAM names the program, where it isn't the one that ./run builds.
+set -eu
+top=$(cd "$(dirname "$0")/.." && pwd)
+PATH=$PATH:/usr/sbin:/sbin
+for tool in python3 unshare ip; do
+    command -v "$tool" > /dev/null || { echo "checks/names.sh: there is no $tool" >&2; exit 1; }
+done
+if [ -z "${PROGRAM:-}" ]; then
+    "$top/run" --version > /dev/null
+    PROGRAM=$top/crates/mxfetch/out/mxfetch
+fi
+work=$(mktemp -d)
+trap 'rm -rf "$work"' EXIT
+echo 'nameserver 127.0.0.1' > "$work/resolv.conf"
+printf '127.0.0.1 localhost\n::1 localhost\n' > "$work/hosts"
+echo 'hosts: files dns' > "$work/nsswitch.conf"
+export PROGRAM WORK=$work TOP=$top
+unshare --mount --net sh -eu -c '
+    ip link set lo up
+    for file in resolv.conf hosts nsswitch.conf; do mount --bind "$WORK/$file" "/etc/$file"; done
+    exec python3 -B "$TOP/checks/names.py" "$@"' sh "$@"
