@@ -1,5 +1,6 @@
 //! What the lookup of a host came to.
-ghost use Rattle.std.specs.Prelude.{◌≡◌, string_bytes};
+ghost use Rattle.std.specs.Prelude.{◌≡◌, Err, string_bytes};
+ghost use Rattle.mx_types.specs.declared.code.Code.TheVariants as codes;
 ghost use Rattle.mx_names.specs.Names.{IsOutcome};
 
 use crate::addresses::Addresses;
@@ -48,6 +49,18 @@ impl<L: Lookup> Finding<L> {
         Finding {
             host,
             outcome,
+            by: PhantomData,
+        }
+    }
+
+    /// No lookup of the host could be made, for want of memory.
+    pub fn without_memory(host: String) -> Finding<L>
+        ensures host { result.host ≡ string_bytes host }
+        ensures outcome { result.outcome ≡ Err codes.OutOfMemory }
+    {
+        Finding {
+            host,
+            outcome: Err(Code::OutOfMemory),
             by: PhantomData,
         }
     }

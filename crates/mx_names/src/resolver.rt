@@ -15,10 +15,10 @@ use mx_types::{Code, OutOfMemory};
 use std::alloc::{AllocGlobal, Global};
 use std::net::{IpAddr, SocketAddr};
 use std::rt::Clock;
-use std::sync::{Arc, Mutex, Wait};
-use std::thread;
+use std::sync::{Arc, Condvar, Mutex, Wait};
 use std::thread::Threads;
 use std::time::Instant;
+use std::{mem, thread};
 
 /// What is rung where a lookup has ended.
 pub trait Ring {
@@ -26,18 +26,27 @@ pub trait Ring {
     fn ring(&self);
 }
 
+// A host whose lookup was begun and has no thread yet, and when that was.
+#[derive(Drop)]
+struct Wanted {
+    host: String,
+    now: u64,
+}
+
 // What the threads share.
 #[derive(Drop)]
 struct Shared<L: Lookup, B> {
     names: Mutex<Names<L>>,
     bells: Mutex<Vec<B>>,
+    wanted: Mutex<Vec<Wanted>>,
+    is_wanted: Condvar,
     lookup: L,
     start: Instant,
 }
 
 /// A resolver of hosts, for any number of threads. Lookups run on threads of their own, one for a lookup, so that none of its
-/// calls waits for a lookup; they wait for each other's look at the table alone. Nobody waits for these threads: a program ends
-/// without them.
+/// calls but `serve` waits for a lookup; they wait for each other's look at the table alone. Nobody waits for these threads: a program
+/// ends without them.
 #[derive(Drop)]
 pub struct Resolver<L: Lookup, B> {
     shared: Arc<Shared<L, B>>,
@@ -77,6 +86,14 @@ impl<L: Lookup, B: Ring> Shared<L, B> {
         self.names.lock(rt).learn(finding, now);
         self.ring(rt);
     }
+
+    // Learns that no thread was had for the lookup of the host, and rings.
+    fn fail<R: Wait>(&self, rt: &R, host: String, now: u64) {
+        self.names
+            .lock(rt)
+            .learn(Finding::without_memory(host), now);
+        self.ring(rt);
+    }
 }
 
 impl<L: Lookup, B> Shared<L, B> {
@@ -96,6 +113,78 @@ impl<L: Lookup, B> Shared<L, B> {
         let begins = names.begin(rt.alloc(), name, since, now)?;
         Ok((answer, begins))
     }
+
+    // Has the lookup of the name begun by whoever starts threads.
+    fn want<R: Wait + AllocGlobal>(&self, rt: &R, name: &str, now: u64) -> Result<(), OutOfMemory> {
+        let host = String::from_str(rt.alloc(), name)?;
+        self.wanted.lock(rt).push(Wanted { host, now })?;
+        self.is_wanted.notify_all();
+        Ok(())
+    }
+
+    // What is told of the name, whose lookup is wanted where one has to begin.
+    fn try_name<R: Wait + AllocGlobal>(
+        &self,
+        rt: &R,
+        name: &str,
+        since: u64,
+        now: u64,
+    ) -> Result<Answer, OutOfMemory>
+        requires { SpellsNone name.now }
+        ensures { IfOk result (IsTrueOf L.gives name.now) }
+    {
+        let (answer, begins) = self.look(rt, name, since, now)?;
+        if begins && self.want(rt, name, now).is_err() {
+            self.names.lock(rt).forget(name);
+            return Err(OutOfMemory);
+        }
+        Ok(answer)
+    }
+
+    fn ask_name<R: Wait + AllocGlobal>(&self, rt: &R, name: &str, since: u64, now: u64) -> Answer
+        requires { SpellsNone name.now }
+        ensures { IsTrueOf L.gives name.now result }
+    {
+        match self.try_name(rt, name, since, now) {
+            Ok(answer) => answer,
+            Err(_) => Answer::Failed(Code::OutOfMemory),
+        }
+    }
+}
+
+impl<L: Lookup, B> Resolver<L, B> {
+    /// What is known of the host now, to one who asks since a moment; of a name of which nothing is known a lookup is wanted from then on,
+    /// unless one of it is under way or 64 others are. `start_wanted` begins it, and so does `serve`, which waits for that. Who is told
+    /// `NotYet` asks again, with the same `since`, when the bell is rung. A host that spells an address, in brackets or not, is that address
+    /// and isn't looked up.
+    ///
+    /// `Failed(OutOfMemory)` is also told where memory isn't had. It starts no thread and waits for no lookup.
+    pub fn look<R: Wait + AllocGlobal>(&self, rt: &R, host: &str, since: u64, now: u64) -> Answer
+        ensures spelled { (ip : Ip) → IsIpText (unbracketed host.now) ip → IsSpelled (unbracketed host.now) result }
+        ensures looked_up { SpellsNone (unbracketed host.now) → IsTrueOf L.gives (unbracketed host.now) result }
+    {
+        let name = unbracketed(host);
+        match spelled(name) {
+            Some(ip) => ask_address(rt, ip),
+            None => self.shared.ask_name(rt, name, since, now),
+        }
+    }
+
+    /// The same resolver, for another thread.
+    pub fn share(&self) -> Result<Resolver<L, B>, OutOfMemory> {
+        Ok(Resolver {
+            shared: Arc::try_clone(&self.shared)?,
+        })
+    }
+
+    /// Rings this bell, too, where a lookup has ended.
+    pub fn add_bell<R: Wait>(&self, rt: &R, bell: B) -> Result<(), OutOfMemory>
+    where
+        B: Drop,
+    {
+        self.shared.bells.lock(rt).push(bell)?;
+        Ok(())
+    }
 }
 
 impl<L: Lookup + Send + Sync + Drop + 'static, B: Ring + Send + Sync + Drop + 'static> Resolver<
@@ -107,6 +196,8 @@ impl<L: Lookup + Send + Sync + Drop + 'static, B: Ring + Send + Sync + Drop + 's
         let shared = Shared {
             names: Mutex::new(Names::new(alloc)),
             bells: Mutex::new(Vec::new(alloc)),
+            wanted: Mutex::new(Vec::new(alloc)),
+            is_wanted: Condvar::new(),
             lookup,
             start,
         };
@@ -115,27 +206,14 @@ impl<L: Lookup + Send + Sync + Drop + 'static, B: Ring + Send + Sync + Drop + 's
         })
     }
 
-    /// The same resolver, for another thread.
-    pub fn share(&self) -> Result<Resolver<L, B>, OutOfMemory> {
-        Ok(Resolver {
-            shared: Arc::try_clone(&self.shared)?,
-        })
-    }
-
-    /// Rings this bell, too, where a lookup has ended.
-    pub fn add_bell<R: Wait>(&self, rt: &R, bell: B) -> Result<(), OutOfMemory> {
-        self.shared.bells.lock(rt).push(bell)?;
-        Ok(())
-    }
-
     // Starts a thread that looks the host up.
     fn start<R: Threads + Wait + Clock + AllocGlobal + Copy + Send + Drop + 'static>(
         &self,
         rt: &R,
-        name: &str,
+        host: &str,
         now: u64,
     ) -> Result<(), OutOfMemory> {
-        let host = String::from_str(rt.alloc(), name)?;
+        let host = String::from_str(rt.alloc(), host)?;
         let shared = Arc::try_clone(&self.shared)?;
         let there = *rt;
         match thread::spawn(rt, move || shared.resolve(&there, host, now)) {
@@ -145,46 +223,42 @@ impl<L: Lookup + Send + Sync + Drop + 'static, B: Ring + Send + Sync + Drop + 's
         }
     }
 
-    // What is told of the name, of which a lookup begins where one has to.
-    fn try_name<R: Threads + Wait + Clock + AllocGlobal + Copy + Send + Drop + 'static>(
-        &self,
-        rt: &R,
-        name: &str,
-        since: u64,
-        now: u64,
-    ) -> Result<Answer, OutOfMemory>
-        requires { SpellsNone name.now }
-        ensures { IfOk result (IsTrueOf L.gives name.now) }
-    {
-        let (answer, begins) = self.shared.look(rt, name, since, now)?;
-        if begins && self.start(rt, name, now).is_err() {
-            self.shared.names.lock(rt).forget(name);
-            return Err(OutOfMemory);
-        }
-        Ok(answer)
+    // The hosts whose lookups are wanted, which from then on are none.
+    fn take_wanted<R: Wait + AllocGlobal>(&self, rt: &R) -> Vec<Wanted> {
+        let none = Vec::new(rt.alloc());
+        mem::replace(&mut *self.shared.wanted.lock(rt), none)
     }
 
-    fn ask_name<R: Threads + Wait + Clock + AllocGlobal + Copy + Send + Drop + 'static>(
+    /// Begins the lookups that are wanted, each on a thread of its own. Where a thread isn't had the lookup has failed (`OutOfMemory`). It
+    /// waits for no lookup.
+    pub fn start_wanted<R: Threads + Wait + Clock + AllocGlobal + Copy + Send + Drop + 'static>(
         &self,
         rt: &R,
-        name: &str,
-        since: u64,
-        now: u64,
-    ) -> Answer
-        requires { SpellsNone name.now }
-        ensures { IsTrueOf L.gives name.now result }
-    {
-        match self.try_name(rt, name, since, now) {
-            Ok(answer) => answer,
-            Err(_) => Answer::Failed(Code::OutOfMemory),
+    ) {
+        for wanted in self.take_wanted(rt) {
+            if self.start(rt, wanted.host.as_str(), wanted.now).is_err() {
+                self.shared.fail(rt, wanted.host, wanted.now);
+            }
         }
     }
 
-    /// What is known of the host now, to one who asks since a moment; of a name of which nothing is known a lookup begins, unless one of it
-    /// is under way or 64 others are. Who is told `NotYet` asks again, with the same `since`, when the bell is rung. A host that spells an
-    /// address, in brackets or not, is that address and isn't looked up.
-    ///
-    /// `Failed(OutOfMemory)` is also told where memory or a thread isn't had. It waits for no lookup.
+    /// Begins each lookup that is wanted, from now on: it waits for the next without end.
+    pub fn serve<R: Threads + Wait + Clock + AllocGlobal + Copy + Send + Drop + 'static>(
+        &self,
+        rt: &R,
+    ) {
+        for _ in rt.forever() {
+            let shared = &self.shared;
+            drop(
+                shared
+                    .is_wanted
+                    .wait_while(rt, shared.wanted.lock(rt), |w| w.is_empty()),
+            );
+            self.start_wanted(rt);
+        }
+    }
+
+    /// As `look`, and a lookup that is wanted begins at once. `Failed(OutOfMemory)` is told later where no thread is had.
     pub fn ask<R: Threads + Wait + Clock + AllocGlobal + Copy + Send + Drop + 'static>(
         &self,
         rt: &R,
@@ -195,10 +269,8 @@ impl<L: Lookup + Send + Sync + Drop + 'static, B: Ring + Send + Sync + Drop + 's
         ensures spelled { (ip : Ip) → IsIpText (unbracketed host.now) ip → IsSpelled (unbracketed host.now) result }
         ensures looked_up { SpellsNone (unbracketed host.now) → IsTrueOf L.gives (unbracketed host.now) result }
     {
-        let name = unbracketed(host);
-        match spelled(name) {
-            Some(ip) => ask_address(rt, ip),
-            None => self.ask_name(rt, name, since, now),
-        }
+        let answer = self.look(rt, host, since, now);
+        self.start_wanted(rt);
+        answer
     }
 }

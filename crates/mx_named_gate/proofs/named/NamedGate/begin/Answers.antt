@@ -1,0 +1,7 @@
+use Rattle.std.proofs.Common.{rules}
+use Rattle.mx_named_gate.proofs.NamedLemmas.{are_told}
+use Rattle.mx_named_gate.proofs.named.NamedGate.begin.Goals as goal
+
+pub returns-in-Ok-clause-addresses : goal.returns-in-Ok-clause-addresses
+returns-in-Ok-clause-addresses g c =
+    are_told g.L.Lookup.gives c.args.endpoint.now c.in-Known.addresses _ _ _ (search rules) (search rules) (search rules)

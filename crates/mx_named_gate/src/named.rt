@@ -1,0 +1,250 @@
+//! A gate to the network that waits for no name.
+ghost use Rattle.std.specs.Prelude.{◌≡◌, ◌≤◌, ◌<◌, true, [], ◌∷◌, ◌++◌, length, IfOk, IfErr, IfSome};
+ghost use Rattle.mx_types.specs.Code.{is_link_code};
+ghost use Rattle.mx_names.specs.Addresses.{is_lookup_code};
+ghost use Rattle.mx_gate.specs.Said.{told, asked, opened, waited, numbered, is_stop};
+ghost use Rattle.mx_gate.specs.Gates.{next_token};
+ghost use Rattle.mx_gate.specs.Dialling.{addresses_of};
+ghost use Rattle.mx_named_gate.specs.Named.{IsToldOf, AreOf};
+
+use crate::bell::NameBell;
+use crate::waiting::Waiting;
+use mx_gate::{Gate, Said, SocketGate, SocketLink, Turn};
+use mx_names::{Answer, Lookup, Resolver};
+use mx_request::Endpoint;
+use mx_types::{Code, History, OutOfMemory};
+use std::alloc::{AllocGlobal, Global};
+use std::marker::{Model, PhantomData};
+use std::net::Net;
+use std::rt::Clock;
+use std::sync::Wait;
+
+// What a resolver told of a host.
+#[derive(Drop)]
+struct Told<L: Lookup> {
+    host: String,
+    answer: Answer,
+    by: PhantomData<L>,
+}
+
+impl<L: Lookup> Model for Told<L> {
+    ghost use Rattle.std.specs.Prelude.{string_bytes};
+    ghost use Rattle.mx_named_gate.specs.Named.{ToldState, IsToldOf};
+
+    ghost Value = { ToldState };
+
+    ghost view = { λ t. record { host = string_bytes t.host; answer = t.answer } };
+
+    ghost invariant = { λ t. IsToldOf L.gives (string_bytes t.host) t.answer };
+}
+
+// What was told of this host, if something was.
+fn answer_to<L: Lookup>(told: Option<Told<L>>, host: &str) -> Option<Answer>
+    ensures { IfSome result (IsToldOf L.gives host.now) }
+{
+    match told {
+        Some(told) => told.answer_to(host),
+        None => None,
+    }
+}
+
+impl<L: Lookup> Told<L> {
+    // The answer, where it was told of this host.
+    #[tactic(auto, using(crate::proofs::NamedLemmas::told_alike))]
+    fn answer_to(self, host: &str) -> Option<Answer>
+        ensures { IfSome result (IsToldOf L.gives host.now) }
+    {
+        if self.host.as_str() == host {
+            Some(self.answer)
+        } else {
+            None
+        }
+    }
+
+    // What was told of the host, unless memory is wanting.
+    fn of(alloc: Global, host: &str, answer: Answer) -> Option<Told<L>>
+        requires { IsToldOf L.gives host.now answer }
+    {
+        match String::from_str(alloc, host) {
+            Ok(host) => Some(Told {
+                host,
+                answer,
+                by: PhantomData,
+            }),
+            Err(_) => None,
+        }
+    }
+}
+
+/// A gate that opens TCP connections as a `SocketGate`, and has names looked up by a resolver, so that it waits for none. Contracts see
+/// the gate within, and all that was said.
+#[derive(Drop)]
+pub struct NamedGate<'r, R, L: Lookup> {
+    rt: &'r R,
+    gate: SocketGate<'r, R>,
+    resolver: Resolver<L, NameBell>,
+    waiting: Waiting,
+    told: Option<Told<L>>,
+    said: History<Said>,
+}
+
+impl<'r, R, L: Lookup> Model for NamedGate<'r, R, L> {
+    ghost use Rattle.mx_named_gate.specs.Named.{NamedGateState};
+
+    ghost Value = { NamedGateState };
+
+    ghost view = { λ g. record { gate = g.gate; said = g.said } };
+}
+
+// The code of a lookup that failed.
+fn failure(code: Code) -> Code
+    ensures link { is_link_code result ≡ true }
+    ensures same { is_lookup_code code ≡ true → result ≡ code }
+{
+    match code {
+        Code::OutOfMemory => Code::OutOfMemory,
+        _ => Code::CouldntResolveHost,
+    }
+}
+
+impl<'r, R: Net + Clock + AllocGlobal + Wait, L: Lookup> NamedGate<'r, R, L> {
+    /// A gate that opens links as this one, whose names this resolver looks up; it rings the gate's bell where a lookup has ended. Both are
+    /// to have one start: `SocketGate::start` of the gate, and the start that the resolver was made with. The gate starts no thread: somebody
+    /// is to begin the lookups that it wants, by `Resolver::serve`.
+    ///
+    /// The one error is that memory was wanting.
+    pub fn new(
+        rt: &'r R,
+        gate: SocketGate<'r, R>,
+        resolver: &Resolver<L, NameBell>,
+    ) -> Result<NamedGate<'r, R, L>, OutOfMemory>
+        ensures { IfOk result (λ named. named.said ≡ []) }
+    {
+        resolver.add_bell(rt, NameBell::of(gate.bell()?))?;
+        Ok(NamedGate {
+            rt,
+            gate,
+            resolver: resolver.share()?,
+            waiting: Waiting::new(rt.alloc()),
+            told: None,
+            said: History::new(),
+        })
+    }
+
+    // What the resolver tells of the host now.
+    #[tactic(auto, using(crate::proofs::NamedLemmas::is_told))]
+    fn ask(&self, host: &str) -> Answer
+        ensures { IsToldOf L.gives host.now result }
+    {
+        let now = self.gate.latest();
+        let since = self.waiting.since(host).unwrap_or(now);
+        self.resolver.look(self.rt, host, since, now)
+    }
+
+    // What the resolver tells of the host: what it told when it was asked last, if that was of this host.
+    fn answer_of(&mut self, host: &str) -> Answer
+        ensures told { IsToldOf L.gives host.now result }
+        ensures same { self.new ≡ self.old }
+    {
+        match answer_to(self.told.take(), host) {
+            Some(answer) => answer,
+            None => self.ask(host),
+        }
+    }
+
+    // Asks the resolver of the host, and keeps what it tells. The answer is whether it tells something.
+    fn hear(&mut self, host: &str) -> bool
+        ensures { self.new ≡ self.old }
+    {
+        let answer = self.ask(host);
+        if matches!(answer, Answer::NotYet) {
+            let now = self.gate.latest();
+            // Without memory it is asked for since later.
+            let _ = self.waiting.begin(self.rt.alloc(), host, now);
+            return false;
+        }
+        self.waiting.end(host);
+        self.told = Told::of(self.rt.alloc(), host, answer);
+        true
+    }
+
+    // Opens a link to what was told of the endpoint's host.
+    #[tactic(auto, using(crate::proofs::NamedLemmas::are_told, crate::proofs::NamedLemmas::are_own))]
+    fn begin(&mut self, endpoint: &Endpoint) -> Result<SocketLink<'r, R>, Code>
+        ensures code { IfErr result (λ code. is_link_code code ≡ true) }
+        ensures opened { IfOk result (λ link. (link.link.token ≡ self.old.gate.next_token) × (link.history ≡ [])) }
+        ensures moment { self.new.gate.latest ≡ self.old.gate.latest }
+        ensures addresses { IfOk result (λ link. AreOf L.gives endpoint.now (addresses_of link.link) self.old.gate.found self.new.gate.found) }
+        ensures some { IfOk result (λ link. 0 < length link.link.dialled) }
+        ensures said { self.new.said ≡ self.old.said }
+    {
+        match self.answer_of(endpoint.host.as_str()) {
+            Answer::Known(addresses) => {
+                match self.gate.open_at(endpoint, addresses.as_slice()) {
+                    Ok(link) => Ok(link),
+                    Err(code) => Err(code),
+                }
+            }
+            Answer::Failed(code) => Err(failure(code)),
+            Answer::NotYet => self.gate.open(endpoint),
+        }
+    }
+}
+
+impl<'r, R: Net + Clock + AllocGlobal + Wait, L: Lookup> Gate for NamedGate<'r, R, L> {
+    type Link = SocketLink<'r, R>;
+
+    ghost said = { λ gate. gate.said };
+
+    ghost latest = { λ gate. gate.gate.latest };
+
+    fn now(&mut self) -> u64
+        ensures told { result ≡ self.new.gate.latest }
+        ensures rises { self.old.gate.latest ≤ self.new.gate.latest }
+        ensures noted { self.new.said ≡ self.old.said ++ told result ∷ [] }
+    {
+        let now = self.gate.now();
+        self.said.note(Said::told(now));
+        now
+    }
+
+    /// It can where the resolver tells something of the host: its addresses, or why it has none. Else a lookup of it is wanted or under way,
+    /// and the resolver rings the bell of the gate where that has ended.
+    fn can_open(&mut self, endpoint: &Endpoint) -> bool
+        ensures moment { self.new.gate.latest ≡ self.old.gate.latest }
+        ensures others { self.new ≡ record self.old { said = self.new.said } }
+        ensures noted { self.new.said ≡ self.old.said ++ asked endpoint.now result ∷ [] }
+    {
+        let can = self.hear(endpoint.host.as_str());
+        self.said.note(Said::asked(endpoint, can));
+        can
+    }
+
+    /// Begins to connect to the addresses that the resolver told of the host, or answers why it has none. It uses what `can_open` was told just
+    /// before, and else asks now; where nothing is known yet it looks the name up itself, and waits for that.
+    fn open(&mut self, endpoint: &Endpoint) -> Result<SocketLink<'r, R>, Code>
+        ensures fresh { IfOk result (λ link. link.history ≡ []) }
+        ensures code { IfErr result (λ code. is_link_code code ≡ true) }
+        ensures moment { self.new.gate.latest ≡ self.old.gate.latest }
+        ensures token { IfOk result (λ link. link.link.token ≡ self.old.gate.next_token) }
+        ensures addresses { IfOk result (λ link. AreOf L.gives endpoint.now (addresses_of link.link) self.old.gate.found self.new.gate.found) }
+        ensures some { IfOk result (λ link. 0 < length link.link.dialled) }
+        ensures noted { self.new.said ≡ self.old.said ++ opened endpoint.now (numbered (λ link. link.link.token) result) ∷ [] }
+    {
+        let answer = self.begin(endpoint);
+        self.said.note(Said::opened(endpoint, &answer));
+        answer
+    }
+
+    /// As the turn of the gate within. Before it the hosts are forgotten of which the resolver told something: who asks of one that has no
+    /// address from then on has it looked up again.
+    fn turn(&mut self, wait_ms: u32) -> Turn
+        ensures moment { self.new.gate.latest ≡ self.old.gate.latest }
+        ensures noted { self.new.said ≡ self.old.said ++ waited wait_ms (is_stop result) ∷ [] }
+    {
+        self.waiting.forget_told();
+        let turn = self.gate.turn(wait_ms);
+        self.said.note(Said::waited(wait_ms, turn));
+        turn
+    }
+}
