@@ -4,6 +4,7 @@ ghost use Rattle.mx_exchange.specs.Order.{most_read};
 ghost use Rattle.mx_exchange.specs.Endings.{is_repeated};
 ghost use Rattle.mx_exchange.specs.Lines.{IsLine, IsOpen, IsGoing, StepsTo, ServesTo};
 
+use crate::buffers::{READ_BYTES, ReadBuffer};
 use crate::lines::Line;
 use mx_body::{Decoder, Stand};
 use mx_link::{Connect, Link, Read, Write};
@@ -18,9 +19,6 @@ const MOST_WRITES: usize = 64;
 
 /// The most calls in one turn: 63 reads and 63 writes, one to connect, and the one that ends it.
 const MOST_CALLS: usize = 128;
-
-/// The most bytes of one read.
-const READ_BYTES: usize = 16_384;
 
 /// What one call on a link comes to.
 #[derive(Clone, Copy)]
@@ -159,19 +157,19 @@ impl<L: Link> Line<L> {
         self.read_step(request, decoder, buffer)
     }
 
-    /// One turn: it connects, writes the request and reads the response, as far as the link goes.
-    pub(crate) fn serve(&mut self, request: &Request, decoder: &mut Decoder) -> Halt
+    /// One turn: it connects, writes the request and reads the response into this buffer, as far as the link goes.
+    fn serve_into(&mut self, request: &Request, decoder: &mut Decoder, buffer: &mut [u8]) -> Halt
         requires open { IsOpen self.old }
         requires going { IsGoing self.old.request.method self.old.answers decoder.old }
         requires about { self.old.request ≡ request.now }
+        requires room { length buffer.old ≡ most_read }
         ensures line { IsLine L.history L.asked L.token_of self.new }
         ensures turn { ServesTo self.old self.new result decoder.new }
     {
-        let mut buffer = [0; READ_BYTES];
         let mut reads = 0;
         let mut writes = 0;
         for turn in 0..MOST_CALLS {
-            match self.ask_next(request, decoder, &mut buffer) {
+            match self.ask_next(request, decoder, buffer) {
                 Step::Connected => {}
                 Step::Wrote => {
                     writes += 1;
@@ -191,5 +189,25 @@ impl<L: Link> Line<L> {
             }
         }
         unreachable!()
+    }
+
+    /// One turn: it connects, writes the request and reads the response, as far as the link goes. The buffer that is kept is used, and
+    /// made where it isn't yet; without memory for it one of this turn is.
+    pub(crate) fn serve(
+        &mut self,
+        request: &Request,
+        decoder: &mut Decoder,
+        kept: &mut ReadBuffer,
+    ) -> Halt
+        requires open { IsOpen self.old }
+        requires going { IsGoing self.old.request.method self.old.answers decoder.old }
+        requires about { self.old.request ≡ request.now }
+        ensures line { IsLine L.history L.asked L.token_of self.new }
+        ensures turn { ServesTo self.old self.new result decoder.new }
+    {
+        if kept.make() {
+            return self.serve_into(request, decoder, kept.bytes.as_mut_slice());
+        }
+        self.serve_into(request, decoder, &mut [0; READ_BYTES])
     }
 }

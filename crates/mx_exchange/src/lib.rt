@@ -1,6 +1,7 @@
 //! An exchange: one request over one link, turn by turn, and the hop that it ends as.
 #![tactic(auto)]
 
+mod buffers;
 mod calls;
 mod exchanges;
 mod hops;

@@ -95,6 +95,7 @@ impl<L: Link> Exchange<L> {
             request,
             decoder,
             line,
+            buffer: _,
         } = live;
         self.settle(Ended {
             code,
@@ -136,21 +137,24 @@ impl<L: Link> Exchange<L> {
             request,
             mut decoder,
             line,
+            mut buffer,
         } = live;
         let Some(mut line) = line else {
             self.go_on(Live {
                 request,
                 decoder,
                 line: None,
+                buffer,
             });
             return Turned::Waits;
         };
-        match line.serve(&request, &mut decoder) {
+        match line.serve(&request, &mut decoder, &mut buffer) {
             Halt::Blocked => {
                 self.go_on(Live {
                     request,
                     decoder,
                     line: Some(line),
+                    buffer,
                 });
                 Turned::Waits
             }
@@ -159,6 +163,7 @@ impl<L: Link> Exchange<L> {
                     request,
                     decoder,
                     line: Some(line),
+                    buffer,
                 });
                 Turned::Asks
             }

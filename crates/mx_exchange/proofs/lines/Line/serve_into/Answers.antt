@@ -1,7 +1,7 @@
 use Rattle.std.proofs.Common.{◌∙◌, arith, refl, inl, inr, rules}
 use Rattle.mx_exchange.proofs.Serves.{same_request, Serves-none, Serves-going, Serves-open, Serves-connected, Serves-wrote, Serves-heard, Serves-full, Serve-blocked, Serve-lost, Serve-over}
-use Rattle.mx_exchange.proofs.lines.Line.serve.Goals.{in-Connected, in-Wrote+else-writes-eq-MOST_WRITES, in-Heard+else-reads-eq-MOST_READS}
-use Rattle.mx_exchange.proofs.lines.Line.serve.Goals as goal
+use Rattle.mx_exchange.proofs.lines.Line.serve_into.Goals.{in-Connected, in-Wrote+else-writes-eq-MOST_WRITES, in-Heard+else-reads-eq-MOST_READS}
+use Rattle.mx_exchange.proofs.lines.Line.serve_into.Goals as goal
 
 pub loop-turn-preserved : goal.loop-turn-preserved
 loop-turn-preserved g c =
@@ -38,7 +38,7 @@ ask_next-requires-clause-about g c = same_request c.loop-turn.invariant.serves �
 
 pub loop-turn-init : goal.loop-turn-init
 loop-turn-init g c = record {
-  room = refl;
+  room = c.requires.room;
   reads = omega arith;
   writes = omega arith;
   serves = Serves-none _ _ c.requires.going;

@@ -1,7 +1,7 @@
 use Rattle.std.proofs.Common.{◌≡◌, ◌<◌, length}
 use Rattle.mx_exchange.specs.Order.{most_read}
 use Rattle.mx_exchange.proofs.Serves.{Serves}
-use Rattle.mx_exchange.proofs.lines.Line.serve.Given as goal
+use Rattle.mx_exchange.proofs.lines.Line.serve_into.Given as goal
 
 abbrev pub invariant-loop-turn : goal.invariant-loop-turn
 invariant-loop-turn g l = record {
