@@ -1,10 +1,10 @@
 //! What a worker looks at between two polls.
 
-use crate::responses::COUNTED;
 use mx_gate::ScriptGate;
 use mx_link::{ScriptLink, ScriptRead};
 use mx_types::{Code, OutOfMemory};
 use mx_worker_tests_base::desk::ScriptDesk;
+use mx_worker_tests_base::responses::COUNTED;
 use std::alloc::{AllocGlobal, Global};
 use std::random::RandomSource;
 use std::sync::Wait;

@@ -1,12 +1,12 @@
 //! What becomes of transfers that one worker holds.
 
-use crate::responses::{AT_ONCE, COUNTED, OTHER_AT_ONCE, SILENT};
 use crate::script::{Run, Step, play};
 use mx_link::ScriptRead;
 use mx_multi::Progress;
 use mx_types::{Call, Code, HandleId, Ticket};
 use mx_worker_tests_base::desk::ScriptDesk;
 use mx_worker_tests_base::gates::{gate_with, refusing_gate};
+use mx_worker_tests_base::responses::{AT_ONCE, COUNTED, OTHER_AT_ONCE, SILENT};
 use std::alloc::AllocGlobal;
 use std::random::RandomSource;
 use std::sync::Wait;

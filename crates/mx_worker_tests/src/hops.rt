@@ -1,9 +1,9 @@
 //! Which links a worker takes for the hops of a transfer.
 
-use crate::responses::{AT_ONCE, COUNTED, OTHER};
 use crate::script::{Run, Step, play};
 use mx_link::ScriptRead;
 use mx_types::Code;
+use mx_worker_tests_base::responses::{AT_ONCE, COUNTED, OTHER};
 use std::alloc::AllocGlobal;
 use std::random::RandomSource;
 use std::sync::Wait;

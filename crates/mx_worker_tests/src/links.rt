@@ -1,9 +1,9 @@
 //! Which links a worker takes for one transfer after another.
 
-use crate::responses::{COUNTED, OTHER, OTHER_AT_ONCE};
 use crate::script::{Run, Step, play};
 use mx_link::ScriptRead;
 use mx_types::Code;
+use mx_worker_tests_base::responses::{COUNTED, OTHER, OTHER_AT_ONCE};
 use std::test::Fail;
 
 /// Two responses over one link, with a look between them that finds nothing to read.

@@ -1,8 +1,8 @@
 //! What a seat is told of a transfer that is paused, resumed, and ended at its deadline.
 
-use crate::responses::SILENT;
 use crate::script::{Run, Step, play};
 use mx_types::{Call, HandleId};
+use mx_worker_tests_base::responses::SILENT;
 use std::test::Fail;
 
 const THREE: HandleId = HandleId(3);

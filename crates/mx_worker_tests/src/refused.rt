@@ -1,7 +1,6 @@
 //! A worker whose start is refused.
 ghost use Rattle.std.specs.Prelude.{◌≡◌, All};
 
-use crate::responses::AT_ONCE;
 use crate::script::{Step, desk_after};
 use mx_gate::ScriptGate;
 use mx_link::ScriptLink;
@@ -10,6 +9,7 @@ use mx_transfer::Outcome;
 use mx_worker::{Queued, run_worker};
 use mx_worker_tests_base::desk::Parts;
 use mx_worker_tests_base::gates::gate_with;
+use mx_worker_tests_base::responses::AT_ONCE;
 use mx_worker_tests_base::runs;
 use std::alloc::{Alloc, AllocGlobal, Global};
 use std::io;

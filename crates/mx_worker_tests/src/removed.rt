@@ -1,7 +1,6 @@
 //! Transfers whose handle is removed while a worker holds them.
 ghost use Rattle.std.specs.Prelude.{◌≡◌, All};
 
-use crate::responses::{AT_ONCE, SILENT};
 use crate::script::{Step, desk_after};
 use mx_gate::{Gate, Said, Turn};
 use mx_link::{ScriptLink, ScriptRead};
@@ -11,6 +10,7 @@ use mx_transfer::Outcome;
 use mx_types::{Call, Code, HandleId, History};
 use mx_worker::Queued;
 use mx_worker_tests_base::desk::Parts;
+use mx_worker_tests_base::responses::{AT_ONCE, SILENT};
 use mx_worker_tests_base::runs;
 use std::alloc::{AllocGlobal, Global};
 use std::random::RandomSource;

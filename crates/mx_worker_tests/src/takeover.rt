@@ -1,12 +1,12 @@
 //! A worker that is stopped, and another that takes over.
 
-use crate::responses::AT_ONCE;
 use crate::script::{Run, Step, play};
 use mx_gate::ScriptGate;
 use mx_link::{ScriptLink, ScriptRead};
 use mx_types::{Call, Code, HandleId, OutOfMemory};
 use mx_worker_tests_base::desk::ScriptDesk;
 use mx_worker_tests_base::gates::gate_with;
+use mx_worker_tests_base::responses::AT_ONCE;
 use std::alloc::{AllocGlobal, Global};
 use std::random::RandomSource;
 use std::sync::Wait;

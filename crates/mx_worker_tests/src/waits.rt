@@ -3,13 +3,13 @@ ghost use Rattle.std.specs.Prelude.{◌≡◌, ◌≤◌, true, [], ◌∷◌, �
 ghost use Rattle.mx_types.specs.Code.{is_link_code};
 ghost use Rattle.mx_gate.specs.Said.{told, asked, opened, waited, numbered, is_stop};
 
-use crate::responses::COUNTED;
 use mx_gate::{Gate, ScriptGate, Turn};
 use mx_link::{ScriptLink, ScriptRead};
 use mx_request::Endpoint;
 use mx_types::Code;
 use mx_worker_tests_base::desk::ScriptDesk;
 use mx_worker_tests_base::gates::gate_with;
+use mx_worker_tests_base::responses::COUNTED;
 use std::alloc::AllocGlobal;
 use std::random::RandomSource;
 use std::sync::Wait;

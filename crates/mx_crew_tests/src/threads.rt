@@ -5,11 +5,11 @@ ghost use Rattle.mx_gate.specs.Said.{told, asked, opened, waited, numbered, is_s
 
 use crate::beside::{Answer, Flags, Plan, run_plan};
 use crate::reader::LOOKS;
-use crate::responses::COUNTED;
 use mx_gate::{Gate, Said, Turn};
 use mx_link::{ScriptLink, ScriptRead};
 use mx_request::Endpoint;
 use mx_types::{Code, History};
+use mx_worker_tests_base::responses::COUNTED;
 use std::alloc::AllocGlobal;
 use std::rt::Clock;
 use std::sync::atomic::Ordering;
