@@ -2,6 +2,10 @@
 #![tactic(auto)]
 
 #[cfg(test)]
+mod open_requests;
+#[cfg(test)]
 mod server;
 #[cfg(test)]
 mod tests;
+#[cfg(test)]
+mod width_tests;

@@ -12,8 +12,8 @@ use std::thread::{JoinHandle, Threads};
 /// The most connections that the server takes, and the most bytes of a request that it reads.
 const MOST: u32 = 1000;
 
-// The byte behind `GET /` of the next request on a connection; None where there is none.
-fn next_request(stream: &mut TcpStream) -> Option<u8> {
+/// The byte behind `GET /` of the next request on a connection; None where there is none.
+pub fn next_request(stream: &mut TcpStream) -> Option<u8> {
     let mut path = b' ';
     let mut last = [0; 4];
     for at in 0..MOST {
