@@ -1,10 +1,11 @@
-//! Two threads that take turns, and poll until it is theirs.
+//! Two threads that take turns, and poll until it is theirs; and two that poll at the same time.
 
 use crate::checks::check;
 use crate::desk::{Desk, FOUR_SEATS, Scene, at_desk};
 use crate::script::{By, Step, take_steps};
-use mx_multi::Limits;
-use mx_multi_tests_base::client::Client;
+use mx_multi::{Application, Limits};
+use mx_multi_tests_base::client::{Client, Seats};
+use mx_multi_tests_base::sample::Handle;
 use mx_types::{Call, HandleId, Reply, State};
 use std::alloc::Global;
 use std::sync::Wait;
@@ -95,4 +96,70 @@ fn no_wake_up_is_lost(rt: HostRuntime) -> Result<(), Fail> {
         ..FOUR_SEATS
     };
     at_desk(&rt, rt.alloc(), limits, &PingPong)?
+}
+
+const ROUNDS: u32 = 300;
+
+// Two clients poll at the same time, each in a thread of its own. It answers whether each was woken.
+fn poll_both<R: Threads + Wait + Sync>(
+    rt: &R,
+    first: &mut Client,
+    second: &mut Client,
+) -> (bool, bool) {
+    join(
+        rt,
+        move || first.poll(rt).is_ok(),
+        move || second.poll(rt).is_ok(),
+    )
+}
+
+// Two clients poll, and a third wakes them once, in a thread of its own. It answers whether each was woken.
+fn wake_both<R: Threads + Wait + Sync>(
+    rt: &R,
+    first: &mut Client,
+    second: &mut Client,
+    third: &mut Client,
+) -> (bool, bool) {
+    let (woken, _made) = join(
+        rt,
+        move || poll_both(rt, first, second),
+        move || third.wakeup(rt).is_ok(),
+    );
+    woken
+}
+
+// At three of these seats two poll at a time, and the third wakes them, round after round.
+fn poll_and_wake<R: Threads + Wait + Sync>(
+    rt: &R,
+    seats: &mut Seats<'_, Application>,
+) -> Result<(), Fail> {
+    let (Some(mut first), Some(mut second)) = (seats.take(), seats.take()) else {
+        return Err("fewer seats than two".into());
+    };
+    let Some(mut third) = seats.take() else {
+        return Err("fewer seats than three".into());
+    };
+    for _ in 0..ROUNDS {
+        let woken = wake_both(rt, &mut first, &mut second, &mut third);
+        check(woken == (true, true), "a poll that isn't woken")?;
+    }
+    Ok(())
+}
+
+// Opens a multi handle with four seats, for this.
+fn poll_at_once<R: Threads + Wait + Sync>(rt: &R, alloc: Global) -> Result<(), Fail> {
+    let Ok((multi, seats, _workers)) = Handle::open(rt, alloc, FOUR_SEATS) else {
+        return Err("no multi handle".into());
+    };
+    let mut seats = Seats {
+        multi: &multi,
+        left: seats,
+    };
+    poll_and_wake(rt, &mut seats)
+}
+
+/// Two polls at a time, and one wake-up for both: where it wakes but one, the other stays asleep.
+#[test]
+fn one_wake_up_wakes_two_polls(rt: HostRuntime) -> Result<(), Fail> {
+    poll_at_once(&rt, rt.alloc())
 }
