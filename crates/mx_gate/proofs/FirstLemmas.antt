@@ -11,7 +11,9 @@ use Rattle.std.specs.Net.Grammar.{IsIpText}
 use Rattle.std.specs.Net.Socket.{socket_ip, socket_port, socket_flowinfo, socket_scope_id}
 use Rattle.std.specs.Net.ToAddrs.{IsHostAndPort}
 use Rattle.mx_request.specs.Endpoint.{HostAndPort}
-use Rattle.mx_gate.specs.Addresses.{is_v4, chosen, in_order, unbracketed}
+use Rattle.mx_names.specs.Addresses.{is_v4, in_order}
+use Rattle.mx_names.specs.Hosts.{unbracketed}
+use Rattle.mx_gate.specs.Addresses.{chosen}
 use Rattle.mx_gate.specs.Gates.{SocketGateState}
 use Rattle.mx_gate.specs.Dials.{IsAt, AreAt, IsAddressOf, spelled, looked_up, AreAddressesOf, one_spelled, all_looked_up, Dials, NotesFirst}
 

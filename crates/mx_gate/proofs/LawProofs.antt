@@ -1,10 +1,10 @@
--- The laws of addresses and of hosts.
+-- The laws of addresses.
 use Rattle.std.proofs.Common.{◌≡◌, true, false, List, [], ◌∷◌, ◌++◌, refl, ap}
 use Rattle.std.specs.Prelude.{Some, None, cond, MatchOption}
 use Rattle.std.specs.List.{find}
 use Rattle.std.specs.Option.{option_or}
 use Rattle.std.specs.declared.net.SocketAddr.{SocketAddr}
-use Rattle.mx_gate.specs.Addresses.{is_v4}
+use Rattle.mx_names.specs.Addresses.{is_v4}
 use Rattle.mx_gate.specs.Laws.{NoneIsV4, IsFirst, FirstIsChosen}
 
 -- y is an IPv4 address of the list, with none before it

@@ -1,4 +1,3 @@
-mod BracketLemmas
 mod DialLemmas
 mod FirstLemmas
 mod LawProofs

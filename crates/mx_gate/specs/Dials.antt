@@ -2,12 +2,13 @@
 use Rattle.std.specs.Prelude.{◌≡◌, ℕ, List, [], ◌∷◌, ◌++◌, Some}
 use Rattle.std.specs.List.{AllZip}
 use Rattle.std.specs.declared.net.SocketAddr.{SocketAddr}
-use Rattle.std.specs.declared.net.IpAddr.{IpAddr}
-use Rattle.std.specs.Net.Grammar.{IsIpText}
 use Rattle.std.specs.Net.Socket.{socket_ip, socket_port, socket_flowinfo, socket_scope_id}
 use Rattle.std.specs.Net.ToAddrs.{IsHostAndPort}
 use Rattle.mx_request.specs.Endpoint.{HostAndPort}
-use Rattle.mx_gate.specs.Addresses.{chosen, in_order, unbracketed}
+use Rattle.mx_names.specs.Addresses.{in_order}
+use Rattle.mx_names.specs.Hosts.{unbracketed}
+use Rattle.mx_names.specs.Names.{SpellsNone}
+use Rattle.mx_gate.specs.Addresses.{chosen}
 use Rattle.mx_gate.specs.Gates.{SocketGateState}
 
 -- the one address, at the port that was asked for
@@ -38,10 +39,6 @@ pub record IsFound (was is : List (List SocketAddr)) (asked : ℕ) (address : So
   pub found : List SocketAddr
   pub more : is ≡ was ++ found ∷ []
   pub choice : IsChosenAt found asked address
-
--- the text is no IP address
-abbrev pub SpellsNone : List ℕ → Type 0
-SpellsNone text = (ip : IpAddr) → IsIpText text ip → ⊥
 
 -- The addresses of an endpoint in the order in which they are dialled, where `was` is what the lookups before found, a list of addresses
 -- each, and `is` what all have since.

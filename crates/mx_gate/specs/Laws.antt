@@ -1,8 +1,9 @@
--- What holds of every list of addresses, and of every host.
-use Rattle.std.specs.Prelude.{◌≡◌, ℕ, false, List, [], ◌∷◌, ◌++◌, MatchOption}
+-- What holds of every list of addresses.
+use Rattle.std.specs.Prelude.{◌≡◌, false, List, [], ◌∷◌, ◌++◌, MatchOption}
 use Rattle.std.specs.List.{AllByRecursion}
 use Rattle.std.specs.declared.net.SocketAddr.{SocketAddr}
-use Rattle.mx_gate.specs.Addresses.{is_v4, chosen, unbracketed}
+use Rattle.mx_names.specs.Addresses.{is_v4}
+use Rattle.mx_gate.specs.Addresses.{chosen}
 
 abbrev pub NoneIsV4 : List SocketAddr → Type 0
 NoneIsV4 addresses = AllByRecursion (λ address. is_v4 address ≡ false) addresses
@@ -17,12 +18,3 @@ pub record IsFirst (addresses : List SocketAddr) (address : SocketAddr) : Type 0
 
 abbrev pub FirstIsChosen : Type 0
 FirstIsChosen = (addresses : List SocketAddr) → MatchOption (chosen addresses) (addresses ≡ []) (IsFirst addresses)
-
--- the host stands in brackets (91 and 93), with this between them
-abbrev pub IsBracketed : List ℕ → List ℕ → Type 0
-IsBracketed host inner = host ≡ 91 ∷ inner ++ 93 ∷ []
-
-abbrev pub BracketsAreTaken : Type 0
-BracketsAreTaken = (host : List ℕ)
-    → ((inner : List ℕ) → IsBracketed host inner → unbracketed host ≡ inner)
-    × (((inner : List ℕ) → IsBracketed host inner → ⊥) → unbracketed host ≡ host)

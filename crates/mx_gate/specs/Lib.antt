@@ -1,4 +1,3 @@
-pub mod Faults
 pub mod Addresses
 pub mod Gates
 pub mod Dials

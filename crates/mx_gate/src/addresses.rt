@@ -3,29 +3,17 @@ ghost use Rattle.std.specs.Prelude.{◌≡◌, ◌<◌, ℕ, true, ◌∷◌, �
 ghost use Rattle.std.specs.declared.net.IpAddr.{IpAddr};
 ghost use Rattle.std.specs.Net.Grammar.{IsIpText};
 ghost use Rattle.mx_types.specs.declared.code.Code.TheVariants as codes;
-ghost use Rattle.mx_gate.specs.Addresses.{in_order, unbracketed, is_lookup_code};
+ghost use Rattle.mx_names.specs.Addresses.{in_order, is_lookup_code};
+ghost use Rattle.mx_names.specs.Hosts.{unbracketed};
 ghost use Rattle.mx_gate.specs.Dials.{IsAt, AreAt, AreFound, AreAddressesOf};
 
-use crate::faults::lookup_code;
+use mx_names::{in_order, lookup_code, spelled, unbracketed};
 use mx_request::Endpoint;
 use mx_types::{Code, History, OutOfMemory};
 use std::alloc::{AllocGlobal, Global};
 use std::marker::Model;
-use std::net::{IpAddr, Net, SocketAddr, ToSocketAddrs};
+use std::net::{Net, SocketAddr, ToSocketAddrs};
 use std::snapshot::Snapshot;
-
-/// The host without the brackets round an IPv6 address (RFC 3986, section 3.2.2); any other host is as it is.
-pub fn unbracketed(host: &str) -> &str
-    ensures { result.now ≡ unbracketed host.now }
-{
-    match host.strip_prefix('[') {
-        Some(rest) => match rest.strip_suffix(']') {
-            Some(inner) => inner,
-            None => host,
-        },
-        None => host,
-    }
-}
 
 /// The addresses that a lookup found, for contracts alone.
 #[derive(Drop)]
@@ -64,19 +52,6 @@ fn look_up<R: Net + AllocGlobal>(
         addresses: Snapshot::of(&addresses),
     });
     Ok(addresses)
-}
-
-// The IPv4 addresses first.
-fn in_order(alloc: Global, all: &[SocketAddr]) -> Result<Vec<SocketAddr>, OutOfMemory>
-    ensures { IfOk result (λ ordered. ordered.items ≡ in_order all.now) }
-{
-    let first = all.iter().filter(|a| a.is_ipv4());
-    let then = all.iter().filter(|a| !a.is_ipv4());
-    let ordered = first
-        .chain(then)
-        .copied()
-        .collect::<Vec<SocketAddr>>(alloc)?;
-    Ok(ordered)
 }
 
 // The address, at this port.
@@ -165,12 +140,12 @@ pub fn addresses_of<R: Net + AllocGlobal>(
     ensures code { IfErr result (λ code. is_lookup_code code ≡ true) }
 {
     let host = unbracketed(endpoint.host.as_str());
-    match host.parse::<IpAddr>() {
-        Ok(ip) => match only(rt.alloc(), SocketAddr::new(ip, endpoint.port)) {
+    match spelled(host) {
+        Some(ip) => match only(rt.alloc(), SocketAddr::new(ip, endpoint.port)) {
             Ok(all) => Ok(all),
             Err(code) => Err(code),
         },
-        Err(_) => match find(rt, host, endpoint.port, found) {
+        None => match find(rt, host, endpoint.port, found) {
             Ok(all) => Ok(all),
             Err(code) => Err(code),
         },

@@ -1,17 +1,11 @@
-//! What holds of every list of addresses and of every host. Each law is a function that does nothing: its contract is
-//! the law.
-ghost use Rattle.mx_gate.specs.Laws.{FirstIsChosen, BracketsAreTaken};
+//! What holds of every list of addresses, and of every list of answers. Each law is a function that does nothing: its contract is the law.
+ghost use Rattle.mx_gate.specs.Laws.{FirstIsChosen};
 ghost use Rattle.mx_gate.specs.Ready.{WaitsTellNothing};
 
 /// The address chosen stands in the list, with no IPv4 address before it; one that isn't IPv4 is the first of a list
 /// without any. None is chosen from the empty list alone.
 pub fn first_is_chosen()
     ensures { FirstIsChosen }
-{}
-
-/// Of a host in brackets what stands between them is left, whatever that is, and any other host is left as it is.
-pub fn brackets_are_taken()
-    ensures { BracketsAreTaken }
 {}
 
 /// Answers that are the same but for those that a call would have waited give and take the same bytes, and have as many

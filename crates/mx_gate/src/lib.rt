@@ -12,9 +12,9 @@ mod scripted;
 mod signals;
 mod sockets;
 
-pub use crate::addresses::{Found, addresses_of, unbracketed};
+pub use crate::addresses::{Found, addresses_of};
 pub use crate::dialling::{Dial, DialLink};
-pub use crate::faults::{connect_code, lookup_code};
+pub use crate::faults::connect_code;
 pub use crate::gate::{Gate, Turn};
 pub use crate::ready::ReadyLink;
 pub use crate::said::Said;

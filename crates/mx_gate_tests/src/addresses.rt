@@ -1,5 +1,5 @@
 use crate::outside::{Outside, endpoint};
-use mx_gate::{addresses_of, connect_code, lookup_code, unbracketed};
+use mx_gate::{addresses_of, connect_code};
 use mx_types::{Code, History};
 use std::alloc::Global;
 use std::io::{Error, ErrorKind};
@@ -12,26 +12,6 @@ fn v4(last: u8, port: u16) -> SocketAddr {
 
 fn v6(last: u16, port: u16) -> SocketAddr {
     SocketAddr::from((Ipv6Addr::new(0x2001, 0xdb8, 0, 0, 0, 0, 0, last), port))
-}
-
-#[test]
-fn brackets_are_taken_in_pairs(rt: HostRuntime) {
-    let cases = [
-        ("[::1]", "::1"),
-        ("[2001:db8::7]", "2001:db8::7"),
-        ("192.0.2.1", "192.0.2.1"),
-        ("example.com", "example.com"),
-        ("[", "["),
-        ("]", "]"),
-        ("[]", ""),
-        ("[x", "[x"),
-        ("x]", "x]"),
-        ("[[x]]", "[x]"),
-        ("", ""),
-    ];
-    for (host, want) in cases {
-        assert_eq!(rt; unbracketed(host), want, "of {host}");
-    }
 }
 
 // The addresses of a host's port, where lookups give these addresses, or are refused so.
@@ -97,25 +77,13 @@ fn a_failed_lookup_has_its_code(rt: HostRuntime) -> Result<(), Fail> {
     Ok(())
 }
 
-// The codes of a lookup and of a connection that fail so.
-fn codes_of(kind: ErrorKind) -> (Code, Code) {
-    let error = Error::from(kind);
-    (lookup_code(&error), connect_code(&error))
-}
-
 #[test]
 fn want_of_memory_has_its_own_code(rt: HostRuntime) {
     let cases = [
-        (
-            ErrorKind::ConnectionRefused,
-            (Code::CouldntResolveHost, Code::CouldntConnect),
-        ),
-        (
-            ErrorKind::OutOfMemory,
-            (Code::OutOfMemory, Code::OutOfMemory),
-        ),
+        (ErrorKind::ConnectionRefused, Code::CouldntConnect),
+        (ErrorKind::OutOfMemory, Code::OutOfMemory),
     ];
     for (kind, want) in cases {
-        assert_eq!(rt; codes_of(kind), want);
+        assert_eq!(rt; connect_code(&Error::from(kind)), want);
     }
 }

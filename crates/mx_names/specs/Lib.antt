@@ -1,3 +1,5 @@
 pub mod Addresses
+pub mod Faults
+pub mod Laws
 pub mod Names
 pub mod Hosts

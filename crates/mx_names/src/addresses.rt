@@ -24,8 +24,8 @@ impl Model for Addresses {
     ghost invariant = { λ a. 0 < length a.all.items };
 }
 
-// The IPv4 addresses first.
-fn in_order(alloc: Global, all: &[SocketAddr]) -> Result<Vec<SocketAddr>, OutOfMemory>
+/// The IPv4 addresses first, and then the others; among each other both stay as they are.
+pub fn in_order(alloc: Global, all: &[SocketAddr]) -> Result<Vec<SocketAddr>, OutOfMemory>
     ensures { IfOk result (λ ordered. ordered.items ≡ in_order all.now) }
 {
     let first = all.iter().filter(|a| a.is_ipv4());
@@ -74,7 +74,7 @@ impl Addresses {
         Ok(Addresses { all })
     }
 
-    /// The IPv4 addresses first, and then the others; among each other both stay as they are.
+    /// The same addresses in the order of [`in_order`].
     pub fn in_order(&self, alloc: Global) -> Result<Addresses, OutOfMemory>
         ensures { IfOk result (λ ordered. ordered ≡ in_order self.now) }
     {

@@ -4,16 +4,19 @@
 mod addresses;
 mod answer;
 mod entry;
+mod faults;
 mod finding;
 mod hosts;
+pub mod laws;
 mod lookup;
 mod names;
 mod resolver;
 mod system;
 
-pub use crate::addresses::Addresses;
+pub use crate::addresses::{Addresses, in_order};
 pub use crate::answer::Answer;
 pub use crate::entry::Learnt;
+pub use crate::faults::{fault_code, lookup_code};
 pub use crate::finding::Finding;
 pub use crate::hosts::{spelled, unbracketed};
 pub use crate::lookup::Lookup;

@@ -1,12 +1,9 @@
 //! The system's lookup.
-ghost use Rattle.std.specs.Prelude.{◌≡◌, true};
-ghost use Rattle.mx_names.specs.Addresses.{is_lookup_code};
-
 use crate::addresses::Addresses;
+use crate::faults::lookup_code;
 use crate::lookup::Lookup;
 use mx_types::Code;
 use std::alloc::AllocGlobal;
-use std::io;
 use std::net::{Net, SocketAddr, ToSocketAddrs};
 
 /// The system's lookup, by whatever it is set up for: a file of hosts, name servers. What it gives of a host no contract can
@@ -19,15 +16,6 @@ pub struct SystemLookup<R> {
 impl<R> SystemLookup<R> {
     pub fn new(rt: R) -> SystemLookup<R> {
         SystemLookup { rt }
-    }
-}
-
-fn lookup_code(error: &io::Error) -> Code
-    ensures { is_lookup_code result ≡ true }
-{
-    match error.kind() {
-        io::ErrorKind::OutOfMemory => Code::OutOfMemory,
-        _ => Code::CouldntResolveHost,
     }
 }
 

@@ -4,6 +4,8 @@
 #[cfg(test)]
 mod fakes;
 #[cfg(test)]
+mod hosts_tests;
+#[cfg(test)]
 mod names_tests;
 #[cfg(test)]
 mod resolver_tests;
