@@ -1,5 +1,4 @@
-//! Gates over loopback connections, over a network and a clock of the tests' own, and from scripts. There is nothing in
-//! this crate but tests.
+//! Gates over loopback connections, and over a network and a clock of the tests' own. There is nothing in this crate but tests.
 #![tactic(auto)]
 
 #[cfg(test)]
@@ -10,10 +9,6 @@ mod dialling;
 mod edges;
 #[cfg(test)]
 mod outside;
-#[cfg(test)]
-mod ready;
-#[cfg(test)]
-mod scripted;
 #[cfg(test)]
 mod sockets;
 #[cfg(test)]

@@ -1,6 +1,5 @@
 ghost use Rattle.std.specs.Prelude.{◌≡◌, []};
 
-use crate::outside::endpoint;
 use mx_gate::{Gate, ScriptGate, Turn};
 use mx_link::{Link, ScriptLink};
 use mx_request::Endpoint;
@@ -46,7 +45,10 @@ fn open_all<R: Abort, L: Link>(
 
 #[test]
 fn a_script_is_answered_in_order(rt: HostRuntime) -> Result<(), Fail> {
-    let any = endpoint(rt.alloc(), "example.com", 80)?;
+    let any = Endpoint {
+        host: String::from_str(rt.alloc(), "example.com")?,
+        port: 80,
+    };
     let link = ScriptLink::new(rt.alloc(), &[], &[])?;
     let mut gate = ScriptGate::new(rt.alloc(), 2);
     open_all(&rt, &mut gate, link, &any)
