@@ -5,13 +5,20 @@ ghost use Rattle.mx_crew.specs.declared.error.CrewError.TheVariants as crew_erro
 
 use crate::error::CrewError;
 use mx_gate::{Bell, SocketGate};
+use mx_named_gate::{NameBell, NamedGate};
+use mx_names::{Lookup, Resolver, SystemLookup};
 use mx_types::{Code, OutOfMemory};
 use std::alloc::{AllocError, AllocGlobal, Global};
-use std::net::Net;
+use std::net::{Net, TcpListener, TcpStream};
 use std::rt::Clock;
-use std::sync::Arc;
 use std::sync::atomic::{AtomicBool, Ordering};
+use std::sync::{Arc, Wait};
+use std::thread;
+use std::thread::Threads;
 use std::time::Instant;
+
+/// A worker's gate: the system looks its names up, on threads of their own.
+pub type HostGate<'r, R> = NamedGate<'r, R, SystemLookup<R>>;
 
 /// What wakes workers, and what stops them; no clause says that it does.
 #[derive(Drop)]
@@ -63,34 +70,62 @@ impl Crew {
         Arc::try_clone(&self.stop)
     }
 
-    // A gate that this crew wakes and stops.
-    fn gate<'r, R: Net + Clock + AllocGlobal>(
+    // A gate that this crew wakes and stops, and whose names this resolver looks up.
+    fn gate<
+        'r,
+        R: Net<Listener = TcpListener, Stream = TcpStream> + Clock + AllocGlobal + Wait + Drop,
+    >(
         &mut self,
         rt: &'r R,
         start: Instant,
-    ) -> Result<SocketGate<'r, R>, CrewError> {
+        resolver: &Resolver<SystemLookup<R>, NameBell>,
+    ) -> Result<HostGate<'r, R>, CrewError> {
         let gate = match SocketGate::starting_at(rt, self.stop()?, start) {
             Ok(gate) => gate,
             Err(code) => return Err(no_gate(code)),
         };
         self.bells.push(gate.bell()?)?;
-        Ok(gate)
+        Ok(NamedGate::new(rt, gate, resolver)?)
     }
 
-    /// So many gates, which this crew wakes and stops. Their clocks have one start.
-    pub fn gates<'r, R: Net + Clock + AllocGlobal>(
-        &mut self,
-        rt: &'r R,
-        start: Instant,
-        count: u8,
-    ) -> Result<Vec<SocketGate<'r, R>>, CrewError>
+    /// So many gates, which this crew wakes and stops. They share a resolver, and their clocks and its own have one start. A thread begins
+    /// the lookups that they want, and nobody joins it, nor the threads of lookups: a program ends without them.
+    ///
+    /// `NoThread` comes where that thread couldn't be started, `NoPoll` and `OutOfMemory` as they say.
+    pub fn gates<
+        'r,
+        R: Net<Listener = TcpListener, Stream = TcpStream>
+            + Clock
+            + AllocGlobal
+            + Threads
+            + Wait
+            + Copy
+            + Send
+            + Sync
+            + Drop
+            + 'static,
+    >(&mut self, rt: &'r R, start: Instant, count: u8) -> Result<Vec<HostGate<'r, R>>, CrewError>
         ensures { IfOk result (λ gates. vec_len gates ≡ count) }
     {
         let mut gates = Vec::with_capacity(rt.alloc(), usize::from(count))?;
+        let resolver = Resolver::new(rt.alloc(), SystemLookup::new(*rt), start)?;
+        serve(rt, resolver.share()?)?;
         for made in 0..count {
             let _ = made;
-            gates.push(self.gate(rt, start)?)?;
+            gates.push(self.gate(rt, start, &resolver)?)?;
         }
         Ok(gates)
+    }
+}
+
+// Starts a thread that begins the lookups that are wanted.
+fn serve<
+    L: Lookup + Send + Sync + Drop + 'static,
+    R: Clock + AllocGlobal + Threads + Wait + Copy + Send + Drop + 'static,
+>(rt: &R, resolver: Resolver<L, NameBell>) -> Result<(), CrewError> {
+    let there = *rt;
+    match thread::spawn(rt, move || resolver.serve(&there)) {
+        Ok(_) => Ok(()),
+        Err(_) => Err(CrewError::NoThread),
     }
 }

@@ -7,6 +7,6 @@ mod error;
 mod post;
 
 pub use crate::beside::run_beside;
-pub use crate::crew::Crew;
+pub use crate::crew::{Crew, HostGate};
 pub use crate::error::CrewError;
 pub use crate::post::{Counts, NoPosts, Post, posts};

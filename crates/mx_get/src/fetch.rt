@@ -177,7 +177,11 @@ fn fetch_from<
         + Clock
         + RandomSource
         + AllocGlobal
-        + Sync,
+        + Copy
+        + Send
+        + Sync
+        + Drop
+        + 'static,
 >(rt: &R, urls: &[&str], options: Options, start: Instant) -> Result<Vec<Fetched>, FetchError>
     requires { are_within options ≡ true }
     ensures ends { IfOk result (λ ends. AreEndsOf options.timeout_ms options.max_redirects (map (λ u. u.now) urls.now) ends.items) }
@@ -207,7 +211,11 @@ pub fn fetch_all<
         + Clock
         + RandomSource
         + AllocGlobal
-        + Sync,
+        + Copy
+        + Send
+        + Sync
+        + Drop
+        + 'static,
 >(rt: &R, urls: &[&str], options: Options) -> Result<Vec<Fetched>, FetchError>
     requires { are_within options ≡ true }
     ensures ends { IfOk result (λ ends. AreEndsOf options.timeout_ms options.max_redirects (map (λ u. u.now) urls.now) ends.items) }

@@ -61,7 +61,11 @@ pub fn try_get<
         + Clock
         + RandomSource
         + AllocGlobal
-        + Sync,
+        + Copy
+        + Send
+        + Sync
+        + Drop
+        + 'static,
     W: Write,
 >(rt: &R, urls: &[&str], options: Options, output: &mut Output<W>) -> Result<u8, FetchError>
     requires { are_within options ≡ true }
@@ -95,7 +99,11 @@ pub fn run_get<
         + Clock
         + RandomSource
         + AllocGlobal
-        + Sync,
+        + Copy
+        + Send
+        + Sync
+        + Drop
+        + 'static,
     W: Write,
 >(rt: &R, urls: &[&str], options: Options, output: &mut Output<W>) -> u8
     requires { are_within options ≡ true }

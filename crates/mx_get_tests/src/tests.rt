@@ -25,7 +25,11 @@ fn get_two<
         + Clock
         + RandomSource
         + AllocGlobal
-        + Sync,
+        + Copy
+        + Send
+        + Sync
+        + Drop
+        + 'static,
 >(rt: &R, one: &str, two: &str, options: Options) -> Result<Ran, Fail> {
     let server = Server::start(rt)?;
     let port = server.address.port();

@@ -1,1 +1,2 @@
 mod NamedLemmas
+pub mod Sends

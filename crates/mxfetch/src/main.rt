@@ -78,7 +78,11 @@ fn fetch<
         + AllocGlobal
         + Print
         + Eprint
-        + Sync,
+        + Copy
+        + Send
+        + Sync
+        + Drop
+        + 'static,
 >(rt: &R, get: Get<'_>) -> u8
     requires { are_within get.options ≡ true }
     ensures many { MOST_URLS < length get.entry.urls.items → result ≡ REFUSED }

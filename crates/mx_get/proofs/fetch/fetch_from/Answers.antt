@@ -1,0 +1,7 @@
+use denote.Param.Send.{sendable}
+use Rattle.std.proofs.Crossing.{crosses}
+use Rattle.mx_named_gate.proofs.Sends.{named_send}
+use Rattle.mx_get.proofs.fetch.fetch_from.Goals as goal
+
+pub fetch_at-requires-send-G : goal.fetch_at-requires-send-G
+fetch_at-requires-send-G g c κs within = search (named_send, sendable, crosses) depth 40 fits 20000
