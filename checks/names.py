@@ -1,8 +1,10 @@
 """The cases of checks/names.sh: what a name server answers, and what is expected of `mxfetch get`."""
 
 import ipaddress
+import shutil
 import socket
 import struct
+import subprocess
 import sys
 import threading
 import time
@@ -15,6 +17,7 @@ ADDRESSES = {
     "never.test": (None, []),
     "half.test": (0, ["127.0.0.1", "127.0.0.2"]),
     "refused.test": (0, ["127.0.0.1", "127.0.0.3"]),
+    "refused3.test": (0, ["127.0.0.3", "127.0.0.4", "127.0.0.5"]),
 }
 ADDRESSES.update({f"s{number}.slow.test": (0.1, ["127.0.0.1"]) for number in range(60)})
 ADDRESSES.update({f"n{number}.never.test": (None, []) for number in range(64)})
@@ -72,6 +75,23 @@ def urls(server, names):
     return [f"http://{name}:{server.port}/{number}" for number, name in enumerate(names)]
 
 
+def tries():
+    """How many connections were begun in this network so far, whatever came of them."""
+    with open("/proc/self/net/snmp") as file:
+        names, numbers = [line.split() for line in file if line.startswith("Tcp:")]
+    return int(numbers[names.index("ActiveOpens")])
+
+
+def seconds_of_curl(urls):
+    """How long `curl --parallel` takes for these URLs; None where there is no curl."""
+    if not shutil.which("curl"):
+        return None
+    begun = time.monotonic()
+    words = [word for url in urls for word in ("-o", "/dev/null", url)]
+    subprocess.run(["curl", "-s", "--parallel", "--parallel-max", "64"] + words, stderr=subprocess.DEVNULL)
+    return time.monotonic() - begun
+
+
 def with_one(place, name, others):
     return others[:place] + [name] + others[place:]
 
@@ -105,7 +125,8 @@ def case_slow_names_are_looked_up_side_by_side():
             names = [f"s{number}.slow.test" for number in range(60)]
             run = Run(["--workers", workers] + urls(server, names))
             want_ends(run, [(0, 200, body_of(f"/{number}")) for number in range(60)])
-            print(f"    60 names of 100 ms, {workers} workers: {run.seconds:.2f} s")
+            curl = seconds_of_curl(urls(server, names))
+            print(f"    60 names of 100 ms, {workers} workers: {run.seconds:.2f} s" + (f", curl: {curl:.2f} s" if curl else ""))
             want(run.seconds < 3, f"it took {run.seconds:.2f} s")
 
 
@@ -128,6 +149,15 @@ def case_the_next_address():
     with Timed("127.0.0.2") as server:
         run = Run(["--workers", "2"] + urls(server, ["half.test", "refused.test", "half.test"]))
         want_ends(run, [(0, 200, body_of("/0")), (7, 0, b""), (0, 200, body_of("/2"))])
+
+
+def case_each_address_is_tried_once():
+    for name, codes, count in (("half.test", [0], 2), ("refused.test", [7], 2), ("refused3.test", [7], 3)):
+        with Timed("127.0.0.2") as server:
+            before = tries()
+            run = Run(urls(server, [name]))
+            want(run.codes() == codes, f"{name}: codes {run.codes()}")
+            want(tries() - before == count, f"{name}: {tries() - before} tries in place of {count}")
 
 
 def case_localhost_on_either_address():

@@ -2,8 +2,6 @@
 # `mxfetch get` where names are slow, unknown, silent or have several addresses: from a name server of its own, on 127.0.0.1 in a network and
 # with an /etc/resolv.conf and /etc/hosts of its own. It compares every code, body and order, and times with bounds ten times as wide as what
 # is promised; and it prints the times. It ends with 1 where one isn't as it is to be.
-# Today's `get` holds what is said of addresses and of unknown names. What is said of slow and silent names waits for its workers' gates to be
-# those of mx_named_gate: until then these cases tell WRONG.
 #
 #     checks/names.sh [WORD]        all cases, or those whose names have the word
 #
