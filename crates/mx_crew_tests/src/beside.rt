@@ -43,12 +43,11 @@ pub struct Answer<'a> {
     pub body: &'a [u8],
 }
 
-/// What is to come: two answers, and the URL, if there is one, that is added between them.
+/// What is to come.
 #[derive(Drop)]
 pub struct Plan<'a> {
     pub first: Answer<'a>,
     pub second: Answer<'a>,
-    pub later: Option<&'a str>,
 }
 
 /// What came of a run.
@@ -69,8 +68,8 @@ fn is_there(message: Option<Message>, answer: &Answer<'_>) -> bool {
     }
 }
 
-// Whether the two answers come. The workers are told of each; where a URL is to come later it is added between them.
-fn read_both<L: Link, R: Wait + Clock + AllocGlobal>(
+// Whether the two answers come. The workers are told of the first.
+fn read_both<L: Link, R: Wait + Clock>(
     rt: &R,
     seat: Seated<'_, Application, Queued<L>, Outcome>,
     flags: &Flags,
@@ -79,9 +78,6 @@ fn read_both<L: Link, R: Wait + Clock + AllocGlobal>(
     let mut reader = Reader::of(seat);
     let first = is_there(reader.await_message(rt), &plan.first);
     flags.is_read.store(true, Ordering::SeqCst);
-    if let Some(url) = plan.later {
-        reader.add(rt, 2, url);
-    }
     let second = is_there(reader.await_message(rt), &plan.second);
     (first, second)
 }

@@ -2,11 +2,9 @@
 use mx_link::Link;
 use mx_multi::{Application, Seated};
 use mx_transfer::Outcome;
-use mx_types::HandleId;
 use mx_worker::Queued;
+use mx_worker_tests_base::messages;
 use mx_worker_tests_base::messages::Message;
-use mx_worker_tests_base::{messages, runs};
-use std::alloc::AllocGlobal;
 use std::rt::Clock;
 use std::sync::Wait;
 use std::thread;
@@ -24,15 +22,6 @@ pub struct Reader<'m, L: Link> {
 impl<'m, L: Link> Reader<'m, L> {
     pub fn of(seat: Seated<'m, Application, Queued<L>, Outcome>) -> Reader<'m, L> {
         Reader { seat }
-    }
-
-    /// Adds a GET of the URL, which has five seconds, where there is memory for its request.
-    pub fn add<R: Wait + AllocGlobal>(&mut self, rt: &R, handle: u32, url: &str) {
-        let Ok(request) = runs::request_of(rt.alloc(), url, 5000) else {
-            return;
-        };
-        let work = Queued::new(rt.alloc(), request);
-        let _reply = self.seat.add(rt, HandleId(handle), work);
     }
 
     // The first message, if there is one.

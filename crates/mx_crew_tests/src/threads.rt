@@ -123,7 +123,6 @@ const PLAN: Plan<'static> = Plan {
         request: b"GET / HTTP/1.1\r\nHost: held.example\r\nAccept: */*\r\n\r\n",
         body: b"hello",
     },
-    later: None,
 };
 
 // A gate for each of two workers.
