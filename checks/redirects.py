@@ -429,8 +429,9 @@ def case_redirects_and_connections():
 
 
 def case_redirects_by_many_workers():
+    # a worker has 64 transfers in hand at most: so none of them loses the link of its last hop to the others' idle ones
     for workers in ("2", "4", "16"):
-        faults = follow(hop_chains() * 4, 5, workers)
+        faults = follow(hop_chains() * 4, 5, workers, max_connects="64")
         want(not faults, "\n    WRONG: ".join(faults))
 
 
