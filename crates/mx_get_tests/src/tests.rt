@@ -65,14 +65,6 @@ const NO_IDLE_LINKS: Options = Options {
     max_redirects: 0,
 };
 
-const FOUR_WORKERS: Options = Options {
-    workers: 4,
-    at_once: 256,
-    timeout_ms: 10_000,
-    max_connects: 4,
-    max_redirects: 0,
-};
-
 const TWO_REDIRECTS: Options = Options {
     workers: 1,
     at_once: 256,
@@ -108,7 +100,7 @@ fn without_idle_links_each_url_has_a_connection(rt: HostRuntime) -> Result<(), F
 /// A body that ends before its length is not printed: the code says why, and is the exit status.
 #[test]
 fn a_short_body_is_told_by_its_code(rt: HostRuntime) -> Result<(), Fail> {
-    let ran = get_two(&rt, "short", "one", FOUR_WORKERS)?;
+    let ran = get_two(&rt, "short", "one", ONE_WORKER)?;
     assert_eq!(rt;
         ran.printed.as_slice(),
         b"transfer 0 code 18 status 200 length 0\n\ntransfer 1 code 0 status 200 length 3\none\n".as_slice()
