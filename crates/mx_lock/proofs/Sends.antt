@@ -34,7 +34,9 @@ control_send Q O g h q o =
     search (sendable) depth 40 fits 20000
 
 engine_inside : (Q O : RattleType) (g : work.Ghosts Q.Denot) (h : ending.Ghosts O.Denot) → IsSend Q → IsSend O → IsSend (EngineInside.the_field Q O g h).row
-engine_inside Q O g h q o = struct_send (shape (EngineInside.the_type Q O g h)) (control_send Q O g h q o, (board_send, (ties_send Origin.the_row, tt)))
+engine_inside Q O g h q o =
+    let a = control_send Q O g h q o in
+    struct_send (shape (EngineInside.the_type Q O g h)) (search (sendable, crosses) depth 40 fits 20000, (board_send, (ties_send Origin.the_row, tt)))
 
 pub engine_send : (Q O : RattleType) (g : work.Ghosts Q.Denot) (h : ending.Ghosts O.Denot) → IsSend Q → IsSend O → IsSend (Engine.the_row Q O g h)
 engine_send Q O g h q o =

@@ -16,14 +16,6 @@ use mx_types::{Call, Ending, HandleId, Reply, Who, Work};
 use std::snapshot::Snapshot;
 use std::sync::Wait;
 
-/// What a call changes: the control state, the board, which is its log, and the ties of additions.
-#[derive(Drop)]
-pub struct Parts<Q: Work + Drop, O: Ending + Drop> {
-    pub core: Control<Q, O>,
-    pub log: BoardWriter,
-    pub ties: TieLog,
-}
-
 /// A call that is made under the lock: which call of the history it is, what its answer stands for, what comes back, of which
 /// request the answer tells that a ticket's addition is, and of which list of ties its claim is, where it has one.
 pub trait Deed<Q: Work + Drop, O: Ending + Drop> {
@@ -39,14 +31,21 @@ pub trait Deed<Q: Work + Drop, O: Ending + Drop> {
 
     ghost own: { Self → Book → Type 0 } = { λ deed list. Unit {0} };
 
-    /// Makes the core's call for a maker, with the board as its log, and puts in the tie of what it adds.
-    fn make<R: Wait>(self, rt: &R, who: Who, parts: &mut Parts<Q, O>) -> Self::Reply
+    /// Makes the control state's call for a maker, with the board as its log, and puts in the tie of what it adds.
+    fn make<R: Wait>(
+        self,
+        rt: &R,
+        who: Who,
+        core: &mut Control<Q, O>,
+        log: &mut BoardWriter,
+        ties: &mut TieLog,
+    ) -> Self::Reply
         requires maker { is_maker who ≡ true }
-        requires own { own self parts.old.ties.book }
-        requires tied { IsTied O.origin parts.old.core parts.old.ties.entries }
-        ensures makes { Makes O.origin who (call self) parts.old.core parts.new.core parts.old.log parts.new.log parts.old.ties parts.new.ties (reply result) }
+        requires own { own self ties.old.book }
+        requires tied { IsTied O.origin core.old ties.old.entries }
+        ensures makes { Makes O.origin who (call self) core.old core.new log.old log.new ties.old ties.new (reply result) }
         ensures back { back self result }
-        ensures tells { Tells (tie self result) parts.new.ties.entries }
+        ensures tells { Tells (tie self result) ties.new.entries }
         ensures quiet { is_poll (call self) ≡ false };
 
     /// Which call of the history it is, for its receipt.
@@ -81,11 +80,18 @@ impl<Q: Work + Drop, O: Ending + Drop> Deed<Q, O> for Addition<Q> {
 
     ghost tie = { λ d r. tie_added r (Q.origin d.work) };
 
-    fn make<R: Wait>(self, rt: &R, who: Who, parts: &mut Parts<Q, O>) -> AddReply<Q> {
-        parts.core.sound();
+    fn make<R: Wait>(
+        self,
+        rt: &R,
+        who: Who,
+        core: &mut Control<Q, O>,
+        log: &mut BoardWriter,
+        ties: &mut TieLog,
+    ) -> AddReply<Q> {
+        core.sound();
         let added = Snapshot::of(&self.work);
-        let reply = parts.core.add(&mut parts.log, who, self.handle, self.work);
-        tie_addition(rt, &mut parts.ties, &reply, &added);
+        let reply = core.add(log, who, self.handle, self.work);
+        tie_addition(rt, ties, &reply, &added);
         reply
     }
 
@@ -112,8 +118,15 @@ impl<Q: Work + Drop, O: Ending + Drop> Deed<Q, O> for Removal {
 
     ghost reply = { reply_of_remove };
 
-    fn make<R: Wait>(self, _rt: &R, who: Who, parts: &mut Parts<Q, O>) -> RemoveReply {
-        parts.core.remove(&mut parts.log, who, self.0)
+    fn make<R: Wait>(
+        self,
+        _rt: &R,
+        who: Who,
+        core: &mut Control<Q, O>,
+        log: &mut BoardWriter,
+        ties: &mut TieLog,
+    ) -> RemoveReply {
+        core.remove(log, who, self.0)
     }
 
     fn as_call(&self) -> Call {
@@ -141,11 +154,18 @@ impl<Q: Work + Drop, O: Ending + Drop> Deed<Q, O> for Pausing {
 
     ghost reply = { reply_of_pause };
 
-    fn make<R: Wait>(self, _rt: &R, who: Who, parts: &mut Parts<Q, O>) -> PauseReply {
+    fn make<R: Wait>(
+        self,
+        _rt: &R,
+        who: Who,
+        core: &mut Control<Q, O>,
+        log: &mut BoardWriter,
+        ties: &mut TieLog,
+    ) -> PauseReply {
         if self.pauses {
-            return parts.core.pause(&mut parts.log, who, self.handle);
+            return core.pause(log, who, self.handle);
         }
-        parts.core.unpause(&mut parts.log, who, self.handle)
+        core.unpause(log, who, self.handle)
     }
 
     fn as_call(&self) -> Call {
@@ -177,8 +197,15 @@ impl<Q: Work + Drop, O: Ending + Drop> Deed<Q, O> for Reading {
 
     ghost tie = { λ d r. tie_read O.origin r };
 
-    fn make<R: Wait>(self, _rt: &R, who: Who, parts: &mut Parts<Q, O>) -> InfoReply<O> {
-        parts.core.info_read(&mut parts.log, who)
+    fn make<R: Wait>(
+        self,
+        _rt: &R,
+        who: Who,
+        core: &mut Control<Q, O>,
+        log: &mut BoardWriter,
+        ties: &mut TieLog,
+    ) -> InfoReply<O> {
+        core.info_read(log, who)
     }
 
     fn as_call(&self) -> Call {
@@ -204,8 +231,15 @@ impl<Q: Work + Drop, O: Ending + Drop> Deed<Q, O> for Waking {
 
     ghost reply = { reply_of_wakeup };
 
-    fn make<R: Wait>(self, _rt: &R, who: Who, parts: &mut Parts<Q, O>) -> WakeupReply {
-        parts.core.wakeup(&mut parts.log, who)
+    fn make<R: Wait>(
+        self,
+        _rt: &R,
+        who: Who,
+        core: &mut Control<Q, O>,
+        log: &mut BoardWriter,
+        ties: &mut TieLog,
+    ) -> WakeupReply {
+        core.wakeup(log, who)
     }
 
     fn as_call(&self) -> Call {
@@ -244,16 +278,18 @@ impl<Q: Work + Drop, O: Ending + Drop> Deed<Q, O> for Finishing<Q, O> {
         self,
         _rt: &R,
         who: Who,
-        parts: &mut Parts<Q, O>,
+        core: &mut Control<Q, O>,
+        log: &mut BoardWriter,
+        ties: &mut TieLog,
     ) -> FinishReply<TiedClaim<Q>, O> {
         let Finishing { claim, ending } = self;
         let (claim, mark) = claim.into_parts();
-        let all = parts.ties.mark();
+        let all = ties.mark();
         all.are_of_one_list(&mark);
-        parts.core.sound();
+        core.sound();
         let given = Snapshot::of(&claim);
         let ended = Snapshot::of(&ending);
-        let reply = parts.core.finish(&mut parts.log, who, claim, ending);
+        let reply = core.finish(log, who, claim, ending);
         tied_again(reply, mark, given, ended)
     }
 

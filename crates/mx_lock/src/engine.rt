@@ -10,7 +10,6 @@ ghost use Rattle.mx_lock.specs.Engine.{IsLocked};
 ghost use Rattle.mx_lock.specs.Ties.{AreOfAdditions, IsTied};
 ghost use Rattle.mx_types.specs.Limits.{IsHistory};
 
-use crate::deeds::Parts;
 use crate::ties::{TieLog, TieMark};
 use mx_board::{BoardReader, BoardWriter, JournalMark, board};
 use mx_journal::{Control, Table};
@@ -24,7 +23,7 @@ use std::sync::Wait;
 /// stands of which request each addition is, for contracts alone.
 #[derive(Drop)]
 pub struct Engine<Q: Work + Drop, O: Ending + Drop> {
-    pub(crate) control: Control<Q, O>,
+    pub(crate) control: Box<Control<Q, O>>,
     pub(crate) board: BoardWriter,
     pub(crate) ties: TieLog,
 }
@@ -36,9 +35,9 @@ impl<Q: Work + Drop, O: Ending + Drop> Model for Engine<Q, O> {
 
     ghost Value = { EngineState Q O };
 
-    ghost view = { λ s. record { core = s.control; published = s.board.published; book = s.board.book; ties = s.ties } };
+    ghost view = { λ s. record { core = s.control.value; published = s.board.published; book = s.board.book; ties = s.ties } };
 
-    ghost invariant = { λ s. (s.board.events ≡ s.control.journal) × (s.board.published ≡ s.control.journal) × IsTied O.origin s.control s.ties.entries };
+    ghost invariant = { λ s. (s.board.events ≡ s.control.value.journal) × (s.board.published ≡ s.control.value.journal) × IsTied O.origin s.control.value s.ties.entries };
 }
 
 impl<Q: Work + Drop, O: Ending + Drop> Engine<Q, O> {
@@ -53,7 +52,7 @@ impl<Q: Work + Drop, O: Ending + Drop> Engine<Q, O> {
         requires readers { (0 < readers) × (readers < 65) }
         ensures { IfOk result (λ s. (s.core.journal ≡ []) × (s.core.opening ≡ record { history = history }) × (s.ties.entries ≡ [])) }
     {
-        let control = Control::new(alloc, history)?;
+        let control = Box::new(alloc, Control::new(alloc, history)?)?;
         let board = board(rt, alloc, readers)?;
         Ok(Engine {
             control,
@@ -63,16 +62,21 @@ impl<Q: Work + Drop, O: Ending + Drop> Engine<Q, O> {
     }
 
     // Publishes what a call has left.
-    pub(crate) fn publish<R: Wait>(rt: &R, parts: Parts<Q, O>) -> Engine<Q, O>
-        requires { (parts.log.events ≡ parts.core.journal) × IsTied O.origin parts.core parts.ties.entries }
-        ensures is { result ≡ record { core = parts.core; published = parts.core.journal; book = parts.log.book; ties = parts.ties } }
+    pub(crate) fn publish<R: Wait>(
+        rt: &R,
+        control: Box<Control<Q, O>>,
+        board: BoardWriter,
+        ties: TieLog,
+    ) -> Engine<Q, O>
+        requires { (board.events ≡ control.value.journal) × IsTied O.origin control.value ties.entries }
+        ensures is { result ≡ record { core = control.value; published = control.value.journal; book = board.book; ties = ties } }
         ensures legal { is_legal result.core.journal ≡ true }
     {
-        parts.core.sound();
+        control.sound();
         Engine {
-            board: parts.log.publish(rt),
-            control: parts.core,
-            ties: parts.ties,
+            board: board.publish(rt),
+            control,
+            ties,
         }
     }
 

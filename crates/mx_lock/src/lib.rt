@@ -13,7 +13,7 @@ mod ties;
 
 pub use crate::claim::TiedClaim;
 pub use crate::deeds::{
-    Addition, Deed, Finishing, Parts, Pausing, Reading, Removal, Waking, lets_polls_return,
+    Addition, Deed, Finishing, Pausing, Reading, Removal, Waking, lets_polls_return,
 };
 pub use crate::engine::Engine;
 pub use crate::key_view::{BookName, EngineName, KeyView};

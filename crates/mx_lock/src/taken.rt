@@ -13,7 +13,7 @@ ghost use Rattle.mx_lock.specs.Engine.{HasNoOther, Leaves, content};
 ghost use Rattle.mx_lock.specs.Ties.{Has, Tells, tie};
 
 use crate::claim::TiedClaim;
-use crate::deeds::{Deed, Parts};
+use crate::deeds::Deed;
 use crate::engine::Engine;
 use mx_board::BoardReader;
 use mx_journal::GiveBackReply;
@@ -66,13 +66,13 @@ impl<Q: Work + Drop, O: Ending + Drop> Taken<Q, O> {
         ensures quiet { is_poll (D.call deed) ≡ false }
     {
         let Taken { engine } = self;
-        let mut parts = Parts {
-            core: engine.control,
-            log: engine.board,
-            ties: engine.ties,
-        };
-        let reply = deed.make(rt, who, &mut parts);
-        let engine = Engine::publish(rt, parts);
+        let Engine {
+            mut control,
+            mut board,
+            mut ties,
+        } = engine;
+        let reply = deed.make(rt, who, &mut control, &mut board, &mut ties);
+        let engine = Engine::publish(rt, control, board, ties);
         (Taken { engine }, reply)
     }
 
