@@ -133,56 +133,38 @@ impl<L: Link> Exchange<L> {
         ensures turn { Exchanged L.history (alive self.old live) self.new (how_of result) }
         ensures token { KeepsToken L.token_of (link_of live.line) self.new.link }
     {
-        let Live {
-            request,
-            mut decoder,
-            line,
-            mut buffer,
-        } = live;
-        let Some(mut line) = line else {
-            self.go_on(Live {
-                request,
-                decoder,
-                line: None,
-                buffer,
-            });
+        let mut live = live;
+        let Some(mut line) = live.line.take() else {
+            self.go_on(live);
             return Turned::Waits;
         };
-        match line.serve(&request, &mut decoder, &mut buffer) {
+        match line.serve(&live.request, &mut live.decoder, &mut live.buffer) {
             Halt::Blocked => {
-                self.go_on(Live {
-                    request,
-                    decoder,
-                    line: Some(line),
-                    buffer,
-                });
+                live.line = Some(line);
+                self.go_on(live);
                 Turned::Waits
             }
             Halt::Unfinished => {
-                self.go_on(Live {
-                    request,
-                    decoder,
-                    line: Some(line),
-                    buffer,
-                });
+                live.line = Some(line);
+                self.go_on(live);
                 Turned::Asks
             }
             Halt::Lost => {
-                self.begin_again(request);
+                self.begin_again(live.request);
                 Turned::Waits
             }
             Halt::Over(code) => {
                 let answers = line.answers();
                 let is_reused = Snapshot::of(&line.is_reused());
-                let count = received(&decoder);
-                let is_kept = may_keep(&decoder);
+                let count = received(&live.decoder);
+                let is_kept = may_keep(&live.decoder);
                 self.settle(Ended {
                     code,
                     received: count,
                     line: Some(line),
                     is_kept,
                 });
-                Turned::Ended(end(request, decoder, code, answers, is_reused))
+                Turned::Ended(end(live.request, live.decoder, code, answers, is_reused))
             }
         }
     }
