@@ -1,7 +1,7 @@
 #!/usr/bin/env bash
 # `mxfetch get` beside `curl --parallel` with --parallel-max 64 and 16, from nginx over loopback: 1,000 small files in runs of 256,
-# and 4 files of 16 MiB, counted and chunked. Wall time and processor time, the least of five runs that take turns, and the system
-# calls a transfer of one run more under strace. curl writes a file for each body, or none ("to null"); mxfetch writes one for all,
+# and 4 files of 16 MiB, counted and chunked. Wall time, processor time and page faults, the least of five runs that take turns, and the
+# system calls a transfer of one run more under strace. curl writes a file for each body, or none ("to null"); mxfetch writes one for all,
 # and has the huge pages that ./run asks the C library for, or in the row "small pages" hasn't. Then heads of 6,000 and 60,000 bytes that
 # come whole, or byte by byte, from a server of its own: processor time, and how often the program waited. Prints only.
 #
@@ -66,8 +66,8 @@ http {{
             time.sleep(0.02)
     raise SystemExit("nginx doesn't answer")
 
-def get(workers):
-    return lambda urls: [[PROGRAM, "get", "--workers", str(workers)] + urls[at:at + 256] for at in range(0, len(urls), 256)]
+def get(workers, *options):
+    return lambda urls: [[PROGRAM, "get", "--workers", str(workers), *options] + urls[at:at + 256] for at in range(0, len(urls), 256)]
 
 def curl(most, keeps=True):
     def words(urls):
@@ -82,7 +82,7 @@ def environment(program):
     return {**os.environ, **tunables}
 
 def run(program, commands):
-    begun, processor, waits = time.monotonic(), 0.0, 0
+    begun, processor, waits, faults = time.monotonic(), 0.0, 0, 0
     for words in commands:
         with open(f"{WORK}/stdout", "wb") as out:
             child = subprocess.Popen(words, stdout=out, stderr=subprocess.DEVNULL, env=environment(program))
@@ -91,7 +91,8 @@ def run(program, commands):
             raise SystemExit(f"{words[:4]}: status {status}")
         processor += usage.ru_utime + usage.ru_stime
         waits += usage.ru_nvcsw
-    return time.monotonic() - begun, processor, waits
+        faults += usage.ru_minflt
+    return time.monotonic() - begun, processor, waits, faults
 
 def calls(program, commands):
     total = {}
@@ -110,14 +111,14 @@ def show(name, programs, urls):
     least = {}
     for _ in range(ROUNDS):
         for program, words in programs.items():
-            wall, processor, _ = run(program, words(urls))
-            before = least.get(program, (wall, processor))
-            least[program] = (min(before[0], wall), min(before[1], processor))
+            wall, processor, _, faults = run(program, words(urls))
+            found = (wall, processor, faults)
+            least[program] = tuple(map(min, least.get(program, found), found))
     for program, words in programs.items():
-        wall, processor = least[program]
+        wall, processor, faults = least[program]
         total = calls(program, words(urls))
         most = sorted(total.items(), key=lambda call: -call[1])[:6]
-        print(f"  {program:19} wall {wall:6.3f} s  processor {processor:6.3f} s  calls a transfer {sum(total.values()) / len(urls):7.2f}  "
+        print(f"  {program:19} wall {wall:6.3f} s  processor {processor:6.3f} s  faults {faults:5}  calls a transfer {sum(total.values()) / len(urls):7.2f}  "
               + ", ".join(f"{name} {count}" for name, count in most), flush=True)
 
 # --- heads ---
@@ -163,7 +164,7 @@ def show_heads(base):
             least = {}
             for _ in range(ROUNDS):
                 for program, words in {"curl": curl(1, False), "get, 1": get(1)}.items():
-                    _, *found = run(program, words([f"{base}/{how}/{length}"]))
+                    _, *found, _ = run(program, words([f"{base}/{how}/{length}"]))
                     least[program] = min(least.get(program, found), found)
             (by_curl, curl_waits), (by_get, get_waits) = least["curl"], least["get, 1"]
             print(f"a head of {length:6} bytes, {how:5}: curl {by_curl:6.3f} s ({curl_waits} waits), "
@@ -175,6 +176,7 @@ def show_files():
         programs = {"curl 64": curl(64), "curl 16": curl(16), "curl 16, to null": curl(16, False)}
         programs.update({f"get, {workers}": get(workers) for workers in (1, 2, 4, 16)})
         programs["get, 1, small pages"] = get(1)
+        programs["get, 2, 16 at once"] = get(2, "--at-once", "16")
         show("small files", programs, [f"{base}/small{number}" for number in range(1000)])
         show("16 MiB counted", programs, [f"{base}/large{number}" for number in range(4)])
         show("16 MiB chunked", programs, [f"{base}/chunked/large{number}" for number in range(4)])
