@@ -1,14 +1,18 @@
 -- What a reader of a chunked body needs beside what a scan does.
 use Rattle.std.proofs.Common.{◌≡◌, ℕ, ◌+◌, ◌-◌, ◌<◌, ◌≤◌, List, ◌++◌, length, take, drop, subst, arith, sym, ap, ◌∙◌}
-use Rattle.std.proofs.lemmas.List.{take_all, take-append-drop, length-drop, append-nil}
+use Rattle.std.proofs.lemmas.List.{take_all, take_rest, take-append-drop, length-drop, append-nil}
 use Rattle.mx_body.specs.declared.chunked.place.Place.{Place}
 use Rattle.mx_body.specs.declared.chunked.place.Place.TheVariants.{Start, Size, Extension, SizeLf, Data, DataCr, DataLf, TrailerStart, Trailer, TrailerLf, EndLf, Done, Bad, TooLarge}
 use Rattle.mx_body.specs.ChunkedPlace.{place_after, data_left, parts_begun}
 use Rattle.mx_body.specs.Chunked.{ChunkedBody, IsChunkedBody, chunked_bytes, chunk_parts}
 use Rattle.mx_body.proofs.ChunkedSound.{Reads, reads_input}
-use Rattle.mx_body.specs.ChunkedReader.{HasRead}
+use Rattle.mx_body.specs.ChunkedReader.{HasRead, ReadTo}
+use Rattle.mx_body.specs.ChunkedStretch.{IsStretch, part_begun}
+use Rattle.mx_body.specs.declared.part.Part.{Part}
+use Rattle.mx_body.specs.declared.chunked.stretch.Stretch.{Stretch}
 use Rattle.mx_body.specs.declared.chunked.reader.ChunkedReader.{ChunkedReader}
-use Rattle.mx_body.proofs.ChunkedParts.{all_parts}
+use Rattle.mx_body.proofs.ChunkedParts.{all_parts, further_begun}
+use Rattle.mx_body.proofs.ChunkedSteps.{further}
 use Rattle.mx_body.proofs.ChunkedRun.{place_after-append, parts_begun-append, data_part, data_begins_none}
 
 -- the data still to come are within the limit
@@ -61,3 +65,14 @@ data_passed limit body left n k r h is short rest_is end =
           ∙ sym (parts_begun-append limit Start r.at xs ys)
           ∙ ap (parts_begun limit Start r.at) (sym all);
     }
+
+-- a stretch further on
+pub led : (limit at : ℕ) (body : List ℕ) (read : ℕ) (place : Place) (parts : List Part) (s : Stretch) → ReadTo limit at body read place parts
+    → IsStretch limit place (take (length body - read) (drop read body)) s
+    → ReadTo limit at body (read + s.len) s.next (parts ++ part_begun s.ahead (at + (read + s.len)))
+led limit at body read place parts s r is = record {
+  inside = omega (arith, is.within, r.inside, ap length (take_rest body read) ∙ length-drop read body);
+  leads = further limit body read s.len place s.next r.leads (sym is.leads);
+  begins = ap (λ ps. ps ++ part_begun s.ahead (at + (read + s.len))) r.begins
+      ∙ sym (further_begun limit at body read s.len place (part_begun s.ahead) r.inside r.leads (is.part (at + read)));
+}

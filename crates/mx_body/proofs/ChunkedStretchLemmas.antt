@@ -210,3 +210,23 @@ module _ (limit : ℕ) where
       with_crlf (Data left) DataCr Start left None input within text
       (record { within = omega arith; leads = data_all limit (take left input) left some long; part = λ at. data_begins_none limit (take left input) left at (omega (arith, long)) })
       (two DataCr DataLf Start refl refl) (λ at. two_begin DataCr DataLf Start at refl refl refl) (λ left e. absurd (cc)) refl
+
+  -- the line of a chunk with data, which begins with a digit
+  line_of_data : (size : ℕ) → 0 < size → after_line size ≡ Data size
+  line_of_data size some = grind (arith, nat_tests)
+
+  some_digit : (size n : ℕ) (input : List ℕ) → 0 < size → GoesOn limit (Size 0) (Size size) n input → 0 < n
+  some_digit size zero input some g =
+      let same : Size 0 ≡ Size size = sym (place_after-nil limit (Size 0)) ∙ g.leads in
+      let none : 0 ≡ size = cc in
+      absurd (omega (arith, none))
+  some_digit size (suc n) input some g = omega arith
+
+  pub data_line_ends : (size n : ℕ) (input : List ℕ) → 0 < size → (0 < n → is_ascii_hexdigit (get_or input 0 0) ≡ true) → n + 2 ≤ length input → take (n + 2) input ≡ take n input ++ 13 ∷ 10 ∷ [] → GoesOn limit (Size 0) (Size size) n input
+      → IsStretch limit Start input (record { next = Data size; len = n + 2; ahead = Some size })
+  data_line_ends size n input some first within text g =
+      let digit = some_digit size n input some g in
+      let to_data = line_of_data size some in
+      with_crlf Start (Size size) (Data size) n (Some size) input within text (from_start size n input digit (first digit) g) (two (Size size) (SizeLf size) (Data size) refl to_data)
+      (λ at. let same : at + 1 + 1 ≡ at + 2 = omega arith in two_begin (Size size) (SizeLf size) (Data size) at refl to_data refl ∙ ap (part_begun (Some size)) same)
+      (λ left e. let same : size ≡ left = cc in ap Data same) refl

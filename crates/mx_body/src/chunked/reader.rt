@@ -1,6 +1,6 @@
 //! Reading a chunked body as its bytes come: each byte once, and no byte of data.
 
-ghost use Rattle.std.specs.Prelude.{◌≡◌, [], ◌+◌, ◌<◌, ◌^◌, ◌++◌, ℕ, length, false, Ok, IfOk, OnOk, OnErr, option_to_list};
+ghost use Rattle.std.specs.Prelude.{◌≡◌, [], ◌+◌, ◌<◌, ◌^◌, ℕ, length, false, Ok, IfOk, OnOk, OnErr};
 ghost use Rattle.mx_head.specs.Limits.{most_bytes};
 ghost use Rattle.mx_body.specs.ChunkedPlace.{is_settled};
 ghost use Rattle.mx_body.specs.declared.chunked.place.Place.TheVariants.{Start};
@@ -9,10 +9,9 @@ ghost use Rattle.mx_body.specs.declared.chunked.scan.ChunkedScan.TheVariants.{Wh
 ghost use Rattle.mx_body.specs.ChunkedReader.{HasRead};
 
 use crate::Part;
+use crate::chunked::chunks::pass;
 use crate::chunked::place::Place;
 use crate::chunked::scan::ChunkedScan;
-use crate::chunked::stretch::{go_over, part_at};
-use crate::limits::MOST_BYTES;
 use mx_types::OutOfMemory;
 use std::alloc::Global;
 
@@ -26,17 +25,6 @@ pub(crate) struct ChunkedReader {
     pub(crate) read: usize,
     /// One for each chunk whose size line was read, also where its data are still to come.
     pub(crate) parts: Vec<Part>,
-}
-
-/// Adds a part, if there is one. A refusal of memory leaves the parts as they were.
-fn add_part(parts: &mut Vec<Part>, part: Option<Part>) -> Result<(), OutOfMemory>
-    ensures added { OnOk result (parts.new.items ≡ parts.old.items ++ option_to_list part) }
-    ensures refused { OnErr result (parts.new.items ≡ parts.old.items) }
-{
-    if let Some(part) = part {
-        parts.push(part)?;
-    }
-    Ok(())
 }
 
 impl ChunkedReader {
@@ -81,19 +69,16 @@ impl ChunkedReader {
         let mut place = self.place;
         let mut read = self.read;
         while read < body.len() {
-            let stretch = go_over(place, MOST_BYTES as u32, &body[read..]);
-            read += stretch.len;
-            match add_part(
-                &mut self.parts,
-                part_at(stretch.ahead, self.at + read as u32),
-            ) {
-                Ok(()) => {}
+            match pass(&mut self.parts, self.at, body, place, read) {
+                Ok((next, end)) => {
+                    place = next;
+                    read = end;
+                }
                 Err(error) => {
                     self.parts.truncate(count);
                     return Err(error);
                 }
             }
-            place = stretch.next;
             match place {
                 Place::Done => {
                     self.go_to(place, read);

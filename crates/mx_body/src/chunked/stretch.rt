@@ -1,6 +1,6 @@
 //! Bytes of a chunked body that a reader goes over at once: a line up to its end, or data and the CRLF behind them.
 
-ghost use Rattle.std.specs.Prelude.{◌≡◌, ◌+◌, ◌<◌, ◌≤◌, ◌∷◌, ◌++◌, ℕ, [], length, take, slice_index, true, IsTrue, None, Some, ◌⊎◌, ◌==◌, ◌^◌, option_to_list, if◌then◌else◌};
+ghost use Rattle.std.specs.Prelude.{◌≡◌, ◌+◌, ◌<◌, ◌≤◌, ◌∷◌, ◌++◌, ℕ, [], length, take, slice_index, true, IsTrue, None, Some, ◌⊎◌, ◌==◌, ◌^◌, option_to_list, OnOk, OnErr, if◌then◌else◌};
 ghost use Rattle.std.specs.Char.{is_ascii_hexdigit};
 ghost use Rattle.mx_body.specs.declared.chunked.place.Place.{Place};
 ghost use Rattle.mx_body.specs.declared.chunked.place.Place.TheVariants.{Start, Size, Extension, Data, TrailerStart, Trailer};
@@ -12,6 +12,7 @@ use crate::Part;
 use crate::chunked::place::{Place, after_line};
 use httparse::parse_hex_digit;
 use memchr::memchr2;
+use mx_types::OutOfMemory;
 
 /// Some bytes that are gone over at once.
 #[derive(Clone, Copy, Debug, PartialEq, Eq)]
@@ -25,7 +26,7 @@ pub(crate) struct Stretch {
 }
 
 /// Whether CR LF stands at that offset.
-fn is_crlf_at(input: &[u8], at: usize) -> bool
+pub(crate) fn is_crlf_at(input: &[u8], at: usize) -> bool
     requires { at ≤ length input.now }
     ensures within { IsTrue result → at + 2 ≤ length input.now }
     ensures there { IsTrue result → take (at + 2) input.now ≡ take at input.now ++ 13 ∷ 10 ∷ [] }
@@ -35,7 +36,7 @@ fn is_crlf_at(input: &[u8], at: usize) -> bool
 
 /// The digits at the front, behind others that have the value `size`: the value of all, and how many are gone over. It
 /// stops before a digit with which the value is over the limit.
-fn digits(limit: u32, size: u32, input: &[u8]) -> (u32, usize)
+pub(crate) fn digits(limit: u32, size: u32, input: &[u8]) -> (u32, usize)
     ensures first { 0 < result.1 → is_ascii_hexdigit (slice_index input.now 0) ≡ true }
     ensures goes_on { GoesOn limit (Size size) (Size result.0) result.1 input.now }
 {
@@ -97,6 +98,17 @@ pub(crate) fn part_at(ahead: Option<u32>, at: u32) -> Option<Part>
         start: at,
         end: at + left,
     })
+}
+
+/// Adds a part, if there is one. A refusal of memory leaves the parts as they were.
+pub(crate) fn add_part(parts: &mut Vec<Part>, part: Option<Part>) -> Result<(), OutOfMemory>
+    ensures added { OnOk result (parts.new.items ≡ parts.old.items ++ option_to_list part) }
+    ensures refused { OnErr result (parts.new.items ≡ parts.old.items) }
+{
+    if let Some(part) = part {
+        parts.push(part)?;
+    }
+    Ok(())
 }
 
 /// How many bytes of data follow the line of a chunk of that size, if any do.

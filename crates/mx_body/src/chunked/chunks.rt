@@ -1,0 +1,101 @@
+//! Chunks of a chunked body that a reader goes over one after the other, where they stand there whole.
+
+ghost use Rattle.std.specs.Prelude.{◌≡◌, ◌+◌, ◌<◌, ◌≤◌, ◌^◌, ℕ, length, take, true, false, IsTrue, None, Some, IfSome, IfOk};
+ghost use Rattle.mx_head.specs.Limits.{most_bytes};
+ghost use Rattle.mx_body.specs.declared.chunked.place.Place.TheVariants.{Start, Data};
+ghost use Rattle.mx_body.specs.ChunkedPlace.{is_settled};
+ghost use Rattle.mx_body.specs.ChunkedReader.{ReadTo};
+ghost use Rattle.mx_body.specs.ChunkedStretch.{IsStretch};
+
+use crate::Part;
+use crate::chunked::place::Place;
+use crate::chunked::stretch::{add_part, digits, go_over, is_crlf_at, part_at};
+use crate::limits::MOST_BYTES;
+use mx_types::OutOfMemory;
+
+/// The line of a chunk with data at the front, where no extension stands in it: how many bytes it has with its CRLF, and
+/// the size.
+fn data_line(limit: u32, input: &[u8]) -> Option<(usize, u32)>
+    ensures within { IfSome result (λ r. r.0 ≤ length input.now) }
+    ensures some { IfSome result (λ r. 0 < r.1) }
+    ensures fits { IfSome result (λ r. r.1 ≤ limit) }
+    ensures line { IfSome result (λ r. IsStretch limit Start input.now (record { next = Data r.1; len = r.0; ahead = Some r.1 })) }
+{
+    let (size, n) = digits(limit, 0, input);
+    if size == 0 || !is_crlf_at(input, n) {
+        return None;
+    }
+    Some((n + 2, size))
+}
+
+/// Whether data of that size stand at the front with their CRLF.
+fn has_data(size: u32, input: &[u8]) -> bool
+    requires { 0 < size }
+    ensures within { IsTrue result → size + 2 ≤ length input.now }
+    ensures there { IsTrue result → (limit : ℕ) → IsStretch limit (Data size) input.now (record { next = Start; len = size + 2; ahead = None }) }
+{
+    let n = size as usize;
+    n <= input.len() && is_crlf_at(input, n)
+}
+
+/// Reads on before a chunk, over those that stand there whole, and the line of the next where data follow it.
+fn pass_chunks(
+    parts: &mut Vec<Part>,
+    at: u32,
+    body: &[u8],
+    from: usize,
+) -> Result<(Place, usize), OutOfMemory>
+    requires read { ReadTo most_bytes at body.now from Start parts.old.items }
+    requires room { at + length body.now + most_bytes < 2 ^ 32 }
+    ensures read { IfOk result (λ r. ReadTo most_bytes at body.now r.1 r.0 parts.new.items) }
+    ensures onward { IfOk result (λ r. from ≤ r.1) }
+    ensures open { IfOk result (λ r. is_settled r.0 ≡ false) }
+    ensures longer { length parts.old.items ≤ length parts.new.items }
+    ensures front { (n : ℕ) → n ≤ length parts.old.items → take n parts.new.items ≡ take n parts.old.items }
+{
+    let mut read = from;
+    while read < body.len() {
+        let Some((line, size)) = data_line(MOST_BYTES as u32, &body[read..]) else {
+            break;
+        };
+        read += line;
+        let start = at + read as u32;
+        parts.push(Part {
+            start,
+            end: start + size,
+        })?;
+        if !has_data(size, &body[read..]) {
+            return Ok((Place::Data(size), read));
+        }
+        read += size as usize + 2;
+    }
+    Ok((Place::Start, read))
+}
+
+/// Reads on over a stretch, and from a place before a chunk over those that stand there whole. A refusal of memory leaves
+/// the parts that were there.
+pub(crate) fn pass(
+    parts: &mut Vec<Part>,
+    at: u32,
+    body: &[u8],
+    place: Place,
+    read: usize,
+) -> Result<(Place, usize), OutOfMemory>
+    requires read { ReadTo most_bytes at body.now read place parts.old.items }
+    requires some { read < length body.now }
+    requires room { at + length body.now + most_bytes < 2 ^ 32 }
+    ensures read { IfOk result (λ r. ReadTo most_bytes at body.now r.1 r.0 parts.new.items) }
+    ensures onward { IfOk result (λ r. read < r.1) }
+    // what settles the bytes is one byte, so that nothing was settled before it
+    ensures by_one_byte { IfOk result (λ r. is_settled r.0 ≡ true → r.1 ≡ read + 1) }
+    ensures longer { length parts.old.items ≤ length parts.new.items }
+    ensures front { (n : ℕ) → n ≤ length parts.old.items → take n parts.new.items ≡ take n parts.old.items }
+{
+    let stretch = go_over(place, MOST_BYTES as u32, &body[read..]);
+    let end = read + stretch.len;
+    add_part(parts, part_at(stretch.ahead, at + end as u32))?;
+    match stretch.next {
+        Place::Start => pass_chunks(parts, at, body, end),
+        next => Ok((next, end)),
+    }
+}
