@@ -2,7 +2,6 @@
 use Rattle.std.proofs.Common.{◌≡◌, ◌≢◌, ℕ, ◌+◌, ◌<◌, ◌∙◌, sym, refl, ap, subst, List, [], ◌∷◌, ◌++◌, length, append_assoc, Bool, true, false, cond, arith, length-append}
 use Rattle.std.specs.Prelude.{◌==◌, Option, Result, Ok, Err, IfOk, OnOk}
 use Rattle.mx_run_io.specs.declared.output.WriteFailed.{WriteFailed}
-use Rattle.mx_run_play.specs.declared.player.Said.{Said}
 use Rattle.std.specs.Io.KnownBytes.{Appends}
 use Rattle.std.proofs.KnownBytes.{Appends-nil, Appends-trans}
 use Rattle.std.proofs.lemmas.Bool.{eqb-true}
@@ -14,7 +13,7 @@ use Rattle.mx_run_play.specs.declared.script.Line.{Line}
 use Rattle.mx_run_play.specs.declared.script.Line.TheVariants as line
 use Rattle.mx_types.specs.declared.call.Call.{Call}
 use Rattle.mx_run_play.specs.Script.{pieces, onto_first, lines_of, line_of}
-use Rattle.mx_run_play.specs.Texts.{said_text}
+use Rattle.mx_run_play.specs.Texts.{Said, said_text}
 use Rattle.mx_run_play.specs.Turns.{PlayerView, says, player_past, MakesEvent}
 use Rattle.mx_run_play.specs.Run.{Outcome, after, outcome, outcome_with, bad_line_text, past_line, past_lines, WantsEvent}
 use Rattle.mx_run_play.specs.Session.{IsUnended, rest_of, TellsLine, EndsLine, Plays}

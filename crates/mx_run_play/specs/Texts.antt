@@ -9,8 +9,12 @@ use Rattle.mx_types.specs.declared.reply.State.TheVariants as state
 use Rattle.mx_types.specs.declared.names.HandleId.{HandleId}
 use Rattle.mx_types.specs.declared.reply.Look.{Look}
 use Rattle.mx_types.specs.declared.reply.Look.TheVariants as look
-use Rattle.mx_run_play.specs.declared.player.Said.{Said}
-use Rattle.mx_run_play.specs.declared.player.Said.TheVariants as said
+
+-- what is said to a line: a reply of the core, that no claim is kept on its ticket, or that its poll would have to wait
+pub data Said : Type 0 where
+  replied : Reply → Said
+  unclaimed : Said
+  waits : Said
 
 abbrev pub state_text : State → List ℕ
 state_text state.NotAdded = codes "not-added"
@@ -54,6 +58,6 @@ reply_text (reply.Look l) = look_text l
 reply_text reply.OutOfMemory = codes "out-of-memory"
 
 abbrev pub said_text : Said → List ℕ
-said_text (said.Reply r) = reply_text r ++ 10 ∷ []
-said_text said.NoClaim = codes "no-claim" ++ 10 ∷ []
-said_text said.WouldWait = codes "would-wait" ++ 10 ∷ []
+said_text (replied r) = reply_text r ++ 10 ∷ []
+said_text unclaimed = codes "no-claim" ++ 10 ∷ []
+said_text waits = codes "would-wait" ++ 10 ∷ []

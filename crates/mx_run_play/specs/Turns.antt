@@ -11,8 +11,7 @@ use Rattle.mx_types.specs.declared.reply.Reply.{Reply}
 use Rattle.mx_types.specs.declared.reply.Reply.TheVariants as reply
 use Rattle.mx_journal.specs.History.{Opening, same_ticket, has_ticket}
 use Rattle.mx_journal.specs.Answers.{answer, is_ready}
-use Rattle.mx_run_play.specs.declared.player.Said.{Said}
-use Rattle.mx_run_play.specs.declared.player.Said.TheVariants as said
+use Rattle.mx_run_play.specs.Texts.{Said, replied, unclaimed, waits}
 
 -- the core's opening and journal, the tickets of the claims that are kept, and the mark of the next poll
 pub record PlayerView : Type 0 where
@@ -42,9 +41,9 @@ without_claim t [] = []
 without_claim t (u ∷ claims) = (if same_ticket t u then claims else u ∷ without_claim t claims)
 
 abbrev pub says : PlayerView → Call → Said
-says p call.Poll = (if is_ready p.mark p.journal then said.Reply reply.Woken else said.WouldWait)
-says p (call.Finish t c n) = (if has_ticket t p.claims then said.Reply (reply_to p (call.Finish t c n)) else said.NoClaim)
-says p c = said.Reply (reply_to p c)
+says p call.Poll = (if is_ready p.mark p.journal then replied reply.Woken else waits)
+says p (call.Finish t c n) = (if has_ticket t p.claims then replied (reply_to p (call.Finish t c n)) else unclaimed)
+says p c = replied (reply_to p c)
 
 abbrev pub player_past : PlayerView → Call → PlayerView
 player_past p call.Poll = (if is_ready p.mark p.journal then record p { mark = length p.journal } else p)

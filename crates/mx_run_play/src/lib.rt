@@ -4,6 +4,7 @@
 
 mod claims;
 mod player;
+mod reply;
 mod run;
 mod script;
 mod session;

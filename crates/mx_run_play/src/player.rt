@@ -1,13 +1,17 @@
 //! The one who plays a script: seat 0 of a control core of its own.
-ghost use Rattle.std.specs.Prelude.{◌≡◌, [], IfOk};
+ghost use Rattle.std.specs.Prelude.{◌≡◌, [], IfOk, map};
 ghost use Rattle.mx_types.specs.Limits.{IsHistory};
 ghost use Rattle.mx_types.specs.declared.call.Call.{Call};
+ghost use Rattle.mx_journal.specs.History.{added};
 ghost use Rattle.mx_run_play.specs.Turns.{says, player_past};
-ghost use Rattle.mx_run_play.specs.Players.{Passes, IsAnswered};
+ghost use Rattle.mx_run_play.specs.Players.{IsAnswered, said_of};
 
 use crate::claims::Claims;
+use crate::reply::{
+    ShortReply, short_add, short_finish, short_info, short_pause, short_remove, short_wakeup,
+};
 use mx_journal::{AddReply, Control, VecLog};
-use mx_types::{Call, Code, Ending, HandleId, OutOfMemory, Reply, Ticket, Who, Work};
+use mx_types::{AddedHandles, Call, Code, Ending, HandleId, OutOfMemory, Ticket, Who, Work};
 use std::alloc::Global;
 use std::marker::Model;
 
@@ -46,24 +50,17 @@ impl Ending for ToldEnd {
     }
 }
 
-/// What a line of a script is answered.
-#[derive(Drop)]
-pub enum Said {
-    Reply(Reply),
+/// What a line of a script is answered. The list of handles isn't in it, since each answer would then be as long as the
+/// longest list: it is printed from the player.
+#[derive(Clone, Copy)]
+pub enum LineReply {
+    Core(ShortReply),
+    /// The handles that are added.
+    Handles,
     /// A `done` of a ticket that no claim is kept of.
     NoClaim,
     /// A `poll` that would have to wait.
     WouldWait,
-}
-
-/// A reply as it is said, but for want of memory.
-fn pass(reply: Reply) -> Result<Said, OutOfMemory>
-    ensures { Passes reply result }
-{
-    match reply {
-        Reply::OutOfMemory => Err(OutOfMemory),
-        reply => Ok(Said::Reply(reply)),
-    }
 }
 
 const SEAT: Who = Who::Seat(0);
@@ -106,7 +103,7 @@ impl Player {
     }
 
     /// Makes a call. There is want of memory only at a call whose answer has an event, and it is for good: the run ends.
-    pub fn call(&mut self, call: Call) -> Result<Said, OutOfMemory>
+    pub fn call(&mut self, call: Call) -> Result<LineReply, OutOfMemory>
         ensures { IsAnswered self.old call result self.new }
     {
         match call {
@@ -117,16 +114,25 @@ impl Player {
             Call::InfoRead => self.info_read(),
             Call::Wakeup => self.wakeup(),
             Call::Poll => Ok(self.poll()),
-            Call::Handles => Ok(Said::Reply(Reply::Handles(self.control.handles()))),
-            Call::Running => Ok(Said::Reply(Reply::Running(self.control.running()))),
-            Call::State(handle) => Ok(Said::Reply(Reply::State(self.control.state(handle)))),
+            Call::Handles => Ok(LineReply::Handles),
+            Call::Running => Ok(LineReply::Core(ShortReply::Running(self.control.running()))),
+            Call::State(handle) => Ok(LineReply::Core(ShortReply::State(
+                self.control.state(handle),
+            ))),
             Call::Finish(ticket, code, size) => self.finish(ticket, ToldEnd { code, size }),
-            Call::Look(ticket) => Ok(Said::Reply(Reply::Look(self.control.look(ticket)))),
+            Call::Look(ticket) => Ok(LineReply::Core(ShortReply::Look(self.control.look(ticket)))),
         }
     }
 
+    /// The handles that are added, in the order of their addition.
+    pub fn handles(&self) -> AddedHandles
+        ensures { result ≡ map (λ a. a.handle) (added self.now.journal) }
+    {
+        self.control.handles()
+    }
+
     /// Adds a handle, and keeps the claim on its transfer.
-    fn add(&mut self, handle: HandleId) -> Result<Said, OutOfMemory>
+    fn add(&mut self, handle: HandleId) -> Result<LineReply, OutOfMemory>
         ensures { IsAnswered self.old (Call.Add handle) result self.new }
     {
         self.control.sound();
@@ -136,63 +142,65 @@ impl Player {
                     unreachable!()
                 };
                 self.claims.keep(claim);
-                Ok(Said::Reply(Reply::Added(ticket)))
+                Ok(LineReply::Core(ShortReply::Added(ticket)))
             }
-            refused => pass(refused.reply()),
+            refused => Ok(LineReply::Core(short_add(&refused)?)),
         }
     }
 
-    fn remove(&mut self, handle: HandleId) -> Result<Said, OutOfMemory>
+    fn remove(&mut self, handle: HandleId) -> Result<LineReply, OutOfMemory>
         ensures { IsAnswered self.old (Call.Remove handle) result self.new }
     {
-        pass(self.control.remove(&mut self.log, SEAT, handle).reply())
+        let reply = self.control.remove(&mut self.log, SEAT, handle);
+        Ok(LineReply::Core(short_remove(reply)?))
     }
 
-    fn pause(&mut self, handle: HandleId) -> Result<Said, OutOfMemory>
+    fn pause(&mut self, handle: HandleId) -> Result<LineReply, OutOfMemory>
         ensures { IsAnswered self.old (Call.Pause handle) result self.new }
     {
-        pass(self.control.pause(&mut self.log, SEAT, handle).reply())
+        let reply = self.control.pause(&mut self.log, SEAT, handle);
+        Ok(LineReply::Core(short_pause(reply)?))
     }
 
-    fn unpause(&mut self, handle: HandleId) -> Result<Said, OutOfMemory>
+    fn unpause(&mut self, handle: HandleId) -> Result<LineReply, OutOfMemory>
         ensures { IsAnswered self.old (Call.Unpause handle) result self.new }
     {
-        pass(self.control.unpause(&mut self.log, SEAT, handle).reply())
+        let reply = self.control.unpause(&mut self.log, SEAT, handle);
+        Ok(LineReply::Core(short_pause(reply)?))
     }
 
-    fn info_read(&mut self) -> Result<Said, OutOfMemory>
+    fn info_read(&mut self) -> Result<LineReply, OutOfMemory>
         ensures { IsAnswered self.old Call.InfoRead result self.new }
     {
-        pass(self.control.info_read(&mut self.log, SEAT).reply())
+        let reply = self.control.info_read(&mut self.log, SEAT);
+        Ok(LineReply::Core(short_info(&reply)?))
     }
 
-    fn wakeup(&mut self) -> Result<Said, OutOfMemory>
+    fn wakeup(&mut self) -> Result<LineReply, OutOfMemory>
         ensures { IsAnswered self.old Call.Wakeup result self.new }
     {
-        pass(self.control.wakeup(&mut self.log, SEAT).reply())
+        let reply = self.control.wakeup(&mut self.log, SEAT);
+        Ok(LineReply::Core(short_wakeup(reply)?))
     }
 
-    fn poll(&mut self) -> Said
-        ensures { (result ≡ says self.old Call.Poll) × (self.new ≡ player_past self.old Call.Poll) }
+    fn poll(&mut self) -> LineReply
+        ensures { (said_of self.new result ≡ says self.old Call.Poll) × (self.new ≡ player_past self.old Call.Poll) }
     {
         if !self.control.poll_ready(self.mark) {
-            return Said::WouldWait;
+            return LineReply::WouldWait;
         }
         self.mark = self.control.len();
-        Said::Reply(Reply::Woken)
+        LineReply::Core(ShortReply::Woken)
     }
 
     /// Tells the core the end of a transfer whose claim is kept, which is spent.
-    fn finish(&mut self, ticket: Ticket, ending: ToldEnd) -> Result<Said, OutOfMemory>
+    fn finish(&mut self, ticket: Ticket, ending: ToldEnd) -> Result<LineReply, OutOfMemory>
         ensures { IsAnswered self.old (Call.Finish ticket ending.code ending.size) result self.new }
     {
         let Some(claim) = self.claims.take(ticket) else {
-            return Ok(Said::NoClaim);
+            return Ok(LineReply::NoClaim);
         };
-        pass(
-            self.control
-                .finish(&mut self.log, SEAT, claim, ending)
-                .reply(),
-        )
+        let reply = self.control.finish(&mut self.log, SEAT, claim, ending);
+        Ok(LineReply::Core(short_finish(&reply)?))
     }
 }

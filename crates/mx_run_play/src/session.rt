@@ -61,7 +61,7 @@ impl Session {
             Line::Silent => {}
             Line::Bad => return self.bad_line(output),
             Line::Call(call) => match self.player.call(call) {
-                Ok(said) => write_said(output, &said)?,
+                Ok(said) => write_said(output, &self.player, said)?,
                 Err(_) => return Ok(Turn::NoMemory),
             },
         }

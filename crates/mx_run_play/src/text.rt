@@ -1,11 +1,14 @@
 //! The texts of a play: what a line of a script prints.
-ghost use Rattle.std.specs.Prelude.{◌≡◌, ◌++◌, ◌∷◌, [], true, IsErr, OnOk};
+ghost use Rattle.std.specs.Prelude.{◌≡◌, ◌++◌, ◌∷◌, [], true, map, IsErr, OnOk};
 ghost use Rattle.mx_run_io.specs.Ends.{has_failed_write, Wrote};
+ghost use Rattle.mx_journal.specs.History.{added};
 ghost use Rattle.mx_run_play.specs.Texts.{look_text, state_text, handles_text, reply_text, said_text};
+ghost use Rattle.mx_run_play.specs.Players.{reply_of, said_of};
 
-use crate::player::Said;
+use crate::player::{LineReply, Player};
+use crate::reply::ShortReply;
 use mx_run_io::{Output, WriteFailed};
-use mx_types::{AddedHandles, Look, Reply, State};
+use mx_types::{AddedHandles, Look, State};
 use std::io::Write;
 
 fn write_state<W: Write>(output: &mut Output<W>, state: State) -> Result<(), WriteFailed>
@@ -54,22 +57,31 @@ fn write_handles<W: Write>(
     output.print(format_args!("\n"))
 }
 
-fn write_reply<W: Write>(output: &mut Output<W>, reply: &Reply) -> Result<(), WriteFailed>
-    ensures bytes { OnOk result (Wrote W.contents output.old output.new (reply_text reply.now ++ 10 ∷ [])) }
+/// The list is made here, and printed from where it was made, so that no other line moves its kilobyte.
+fn write_handles_of<W: Write>(output: &mut Output<W>, player: &Player) -> Result<(), WriteFailed>
+    ensures bytes { OnOk result (Wrote W.contents output.old output.new
+        (handles_text (map (λ a. a.handle) (added player.now.journal)) ++ 10 ∷ [])) }
+    ensures failed { IsErr result → has_failed_write output.new ≡ true }
+{
+    write_handles(output, &player.handles())
+}
+
+fn write_reply<W: Write>(output: &mut Output<W>, reply: &ShortReply) -> Result<(), WriteFailed>
+    ensures bytes { OnOk result (Wrote W.contents output.old output.new (reply_text (reply_of reply.now) ++ 10 ∷ [])) }
     ensures failed { IsErr result → has_failed_write output.new ≡ true }
 {
     match reply {
-        Reply::Added(ticket) => output.print(format_args!("added {}\n", ticket.0)),
-        Reply::AddedAlready => output.print(format_args!("added-already\n")),
-        Reply::TableFull => output.print(format_args!("table-full\n")),
-        Reply::HistoryFull => output.print(format_args!("history-full\n")),
-        Reply::Removed => output.print(format_args!("removed\n")),
-        Reply::RemoveNotAdded => output.print(format_args!("not-added\n")),
-        Reply::Changed => output.print(format_args!("changed\n")),
-        Reply::NotAdded => output.print(format_args!("not-added\n")),
-        Reply::NotRunning => output.print(format_args!("not-running\n")),
-        Reply::NoChange => output.print(format_args!("no-change\n")),
-        Reply::Message {
+        ShortReply::Added(ticket) => output.print(format_args!("added {}\n", ticket.0)),
+        ShortReply::AddedAlready => output.print(format_args!("added-already\n")),
+        ShortReply::TableFull => output.print(format_args!("table-full\n")),
+        ShortReply::HistoryFull => output.print(format_args!("history-full\n")),
+        ShortReply::Removed => output.print(format_args!("removed\n")),
+        ShortReply::RemoveNotAdded => output.print(format_args!("not-added\n")),
+        ShortReply::Changed => output.print(format_args!("changed\n")),
+        ShortReply::NotAdded => output.print(format_args!("not-added\n")),
+        ShortReply::NotRunning => output.print(format_args!("not-running\n")),
+        ShortReply::NoChange => output.print(format_args!("no-change\n")),
+        ShortReply::Message {
             handle,
             ticket,
             code,
@@ -83,28 +95,31 @@ fn write_reply<W: Write>(output: &mut Output<W>, reply: &Reply) -> Result<(), Wr
             size,
             left
         )),
-        Reply::Empty => output.print(format_args!("empty\n")),
-        Reply::Ok => output.print(format_args!("ok\n")),
-        Reply::Failure => output.print(format_args!("failure\n")),
-        Reply::Woken => output.print(format_args!("woken\n")),
-        Reply::Handles(handles) => write_handles(output, handles),
-        Reply::Running(count) => output.print(format_args!("running {}\n", count)),
-        Reply::State(state) => write_state(output, *state),
-        Reply::Recorded => output.print(format_args!("recorded\n")),
-        Reply::Stale => output.print(format_args!("stale\n")),
-        Reply::Look(look) => write_look(output, *look),
-        Reply::OutOfMemory => output.print(format_args!("out-of-memory\n")),
+        ShortReply::Empty => output.print(format_args!("empty\n")),
+        ShortReply::Ok => output.print(format_args!("ok\n")),
+        ShortReply::Failure => output.print(format_args!("failure\n")),
+        ShortReply::Woken => output.print(format_args!("woken\n")),
+        ShortReply::Running(count) => output.print(format_args!("running {}\n", count)),
+        ShortReply::State(state) => write_state(output, *state),
+        ShortReply::Recorded => output.print(format_args!("recorded\n")),
+        ShortReply::Stale => output.print(format_args!("stale\n")),
+        ShortReply::Look(look) => write_look(output, *look),
     }
 }
 
-/// Prints what a line is answered, as one line.
-pub fn write_said<W: Write>(output: &mut Output<W>, said: &Said) -> Result<(), WriteFailed>
-    ensures bytes { OnOk result (Wrote W.contents output.old output.new (said_text said.now)) }
+/// Prints what a line is answered, as one line: the list of handles is that of the player.
+pub fn write_said<W: Write>(
+    output: &mut Output<W>,
+    player: &Player,
+    said: LineReply,
+) -> Result<(), WriteFailed>
+    ensures bytes { OnOk result (Wrote W.contents output.old output.new (said_text (said_of player.now said))) }
     ensures failed { IsErr result → has_failed_write output.new ≡ true }
 {
     match said {
-        Said::Reply(reply) => write_reply(output, reply),
-        Said::NoClaim => output.print(format_args!("no-claim\n")),
-        Said::WouldWait => output.print(format_args!("would-wait\n")),
+        LineReply::Core(reply) => write_reply(output, &reply),
+        LineReply::Handles => write_handles_of(output, player),
+        LineReply::NoClaim => output.print(format_args!("no-claim\n")),
+        LineReply::WouldWait => output.print(format_args!("would-wait\n")),
     }
 }

@@ -2,6 +2,7 @@ use Rattle.std.proofs.Common.{◌+◌, ap, sym, subst, ◌∙◌}
 use Rattle.std.specs.Io.KnownBytes.{Appends}
 use Rattle.mx_run_io.specs.Ends.{writer_of}
 use Rattle.mx_run_play.specs.Texts.{said_text}
+use Rattle.mx_run_play.specs.Players.{said_of}
 use Rattle.mx_run_play.specs.declared.session.Session.{Session}
 use Rattle.mx_run_play.proofs.Sessions.{silent_told, call_told, bad_told}
 use Rattle.mx_run_play.proofs.session.Session.end_line.Goals as goal
@@ -19,7 +20,7 @@ returns-clause-played g c =
           (ap (λ (z : Session). z.lines + 1) w.self-is) c.clear.ensures (ap (λ o. g.W.Write.contents (writer_of o)) w.output-is)
       | in-Call+in-Ok+in_ok-write_said-in-Ok w ↦
           call_told _ _ _ _ _ _ _ _ w.in-Call.is c.read_line.ensures c.as_slice.ensures.value w.in-Ok.ensures.0
-          (subst (λ o. Appends (g.W.Write.contents (writer_of c.args.output.now)) (g.W.Write.contents (writer_of o)) (said_text w.in-Ok.said)) (sym w.output-is)
+          (subst (λ o. Appends (g.W.Write.contents (writer_of c.args.output.now)) (g.W.Write.contents (writer_of o)) (said_text (said_of w.call.new.self w.in-Ok.said))) (sym w.output-is)
           w.in_ok-write_said-in-Ok.ensures.bytes)
           (ap (λ (z : Session). z.player) w.self-is ∙ w.in-Ok.ensures.1) (ap (λ (z : Session). z.lines + 1) w.self-is) c.clear.ensures
     ]
