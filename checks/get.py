@@ -391,6 +391,21 @@ def case_cut_short():
             want(run.codes() == [code], f"{sent!r}: codes {run.codes()}")
 
 
+def case_failed_wires_are_let_go():
+    # what came of a transfer that failed is let go when its message is read: kept, these 64 would take some 530 MiB
+    sent = b"HTTP/1.1 200 OK\r\nContent-Length: %d\r\n\r\n" % (16 * MIB) + bytes(8 * MIB)
+
+    def serve(connection, _):
+        read_request(connection)
+        connection.sendall(sent)
+
+    with Server(serve) as server:
+        run = Run(["--workers", "1"] + [server.url(f"/w{number}") for number in range(64)])
+        want_ends(run, [(18, 200, b"")] * 64)
+        want(run.peak <= 40 * MIB, f"{run.peak // MIB} MiB")
+        print(f"    64 x 8 MiB of a body that is cut short: {run.seconds:.2f} s, peak {run.peak // MIB} MiB")
+
+
 def main():
     cases = [(name[5:], case) for name, case in [*globals().items(), *vars(redirects).items()] if name.startswith("case_")]
     word = sys.argv[1] if len(sys.argv) > 1 else ""

@@ -17,7 +17,8 @@ use Rattle.mx_chain.specs.Outcomes.{OutcomeValue}
 use Rattle.mx_lock.specs.Ties.{Has, tie}
 use Rattle.mx_lock.proofs.Tying.{has_more}
 use Rattle.mx_run_get.specs.declared.fetched.Fetched.{Fetched}
-use Rattle.mx_run_get.specs.declared.fetched.Fetched.TheVariants.{Ended}
+use Rattle.mx_run_get.specs.Fetched.{fetched_of}
+use Rattle.mx_get.proofs.Ends.{asked_kept}
 use Rattle.mx_multi.specs.Seats.{SeatView, Stands}
 use Rattle.mx_append_log.proofs.Prefixes.{prefix_self, prefix_trans}
 use Rattle.mx_message.specs.Message.{IsNextMessage, Unread}
@@ -79,7 +80,7 @@ awaits_inside (p ∷ ps) (suc i) t is = let h = awaits_inside ps i t is in omega
 pub one_less : (places : List Place) (i : ℕ) (t : Ticket) (o : OutcomeValue) → awaits_at places i t ≡ true
     → count_by is_awaiting (noted_at places i o) + 1 ≡ count_by is_awaiting places
 one_less [] i t o is = let bad : false ≡ true = is in cc
-one_less (Awaited a ∷ ps) zero t o is = omega (arith, front (Awaited a) ps, front (Known (Ended o)) ps, weighs_one a, weighs_none (Ended o))
+one_less (Awaited a ∷ ps) zero t o is = omega (arith, front (Awaited a) ps, front (Known (fetched_of o)) ps, weighs_one a, weighs_none (fetched_of o))
 one_less (Known e ∷ ps) zero t o is = let bad : false ≡ true = is in cc
 one_less (p ∷ ps) (suc i) t o is = let h = one_less ps i t o is in omega (arith, front p ps, front p (noted_at ps i o), h)
 
@@ -104,7 +105,7 @@ pub note_keeps : OriginIsWholeRequest → (ties : List Origin) (places : List Pl
     → map asked_at (noted_at places i o) ≡ map asked_at places
 note_keeps law ties [] i t o is told all at = refl
 note_keeps law ties (p ∷ ps) zero t o is told all at =
-    ap (λ a. a ∷ map asked_at ps) (sym (asked_same law ties p t o is told (All-head (IsToldAt ties) p ps all) at))
+    ap (λ a. a ∷ map asked_at ps) (asked_kept o ∙ sym (asked_same law ties p t o is told (All-head (IsToldAt ties) p ps all) at))
 note_keeps law ties (p ∷ ps) (suc i) t o is told all at =
     ap (λ rest. asked_at p ∷ rest) (note_keeps law ties ps i t o is told (All-tail (IsToldAt ties) p ps all) at)
 
@@ -144,7 +145,7 @@ module _ {Q : Type 0} where
   pub desk_notes : (s : SeatView Q OutcomeValue) (places : List Place) (w n i : ℕ) (t : Ticket) (o : OutcomeValue) → awaits_at places i t ≡ true
       → IsDesk (record { seat = s; places = places; width = w }) n → IsDesk (record { seat = s; places = noted_at places i o; width = w }) (n - 1)
   desk_notes s places w n i t o at is = record {
-    told = All-set (IsToldAt s.ties) places i (Known (Ended o)) tt is.told;
+    told = All-set (IsToldAt s.ties) places i (Known (fetched_of o)) tt is.told;
     waiting = omega (arith, is.waiting, one_less places i t o at);
     width = omega (arith, is.width);
   }

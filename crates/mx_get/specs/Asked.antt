@@ -1,5 +1,5 @@
 -- What is asked for of URLs, and what an end is of.
-use Rattle.std.specs.Prelude.{◌≡◌, ℕ, List, map, Result, Ok, Err, All}
+use Rattle.std.specs.Prelude.{◌≡◌, ◌≢◌, ℕ, List, map, Result, Ok, Err, All}
 use Rattle.mx_types.specs.Settings.{no_settings}
 use Rattle.mx_types.specs.declared.code.Code.{Code}
 use Rattle.mx_types.specs.declared.code.Code.TheVariants as code
@@ -10,7 +10,7 @@ use Rattle.mx_request.specs.declared.error.RequestError.{RequestError}
 use Rattle.mx_exchange.specs.Hops.{HasContent}
 use Rattle.mx_chain.specs.Outcomes.{IsOutcome}
 use Rattle.mx_run_get.specs.declared.fetched.Fetched.{Fetched}
-use Rattle.mx_run_get.specs.declared.fetched.Fetched.TheVariants.{Refused, Ended}
+use Rattle.mx_run_get.specs.declared.fetched.Fetched.TheVariants.{Refused, Ended, Failed}
 
 -- a request, or the code of its refusal
 abbrev pub asked_or_code : Result RequestValue RequestError → Result RequestValue Code
@@ -26,13 +26,15 @@ asked_for timeout_ms max_redirects url =
 abbrev pub asked_of : Fetched → Result RequestValue Code
 asked_of (Refused code) = Err code
 asked_of (Ended outcome) = Ok outcome.request
+asked_of (Failed outcome) = Ok outcome.request
 
 -- What a transfer ended with is an outcome, with its truth: its hops are a chain that begins with its request, each ended as the answers of
--- its link come to, and its code, status and parts are those of the last one. With code 0 the first bytes that came in that one are a
--- response to the last request of the chain, whose content stands at the parts.
+-- its link come to, and its code, status and parts are those of the last one. Where it is kept whole, its code is 0, and the first bytes
+-- that came in that one are a response to the last request of the chain, whose content stands at the parts; else its code isn't 0.
 abbrev pub IsEnd : Fetched → Type 0
 IsEnd (Refused _) = Unit {0}
-IsEnd (Ended outcome) = IsOutcome outcome × (outcome.code ≡ code.Ok → HasContent outcome.last)
+IsEnd (Ended outcome) = IsOutcome outcome × (outcome.code ≡ code.Ok) × HasContent outcome.last
+IsEnd (Failed outcome) = IsOutcome outcome × (outcome.code ≢ code.Ok)
 
 -- One end for each URL, in their order: the code of its refusal, or what a transfer of its request ended with, with its truth.
 pub record AreEndsOf (timeout_ms max_redirects : ℕ) (urls : List (List ℕ)) (ends : List Fetched) : Type 0 where

@@ -5,7 +5,7 @@ use Rattle.mx_types.specs.declared.code.Code.{Code}
 use Rattle.mx_types.specs.declared.names.Ticket.{Ticket}
 use Rattle.mx_request.specs.Request.{RequestValue}
 use Rattle.mx_chain.specs.Outcomes.{OutcomeValue}
-use Rattle.mx_run_get.specs.declared.fetched.Fetched.TheVariants.{Ended}
+use Rattle.mx_run_get.specs.Fetched.{fetched_of}
 use Rattle.mx_get.specs.Asked.{asked_of}
 use Rattle.mx_get.specs.declared.place.Place.{Place}
 use Rattle.mx_get.specs.declared.place.Place.TheVariants.{Awaited, Known}
@@ -31,4 +31,4 @@ awaits_at places i t = option_map_or (awaits t) (slice_get places i) false
 
 -- the places once it is known there what its transfer ended with
 abbrev pub noted_at : List Place → ℕ → OutcomeValue → List Place
-noted_at places i outcome = slice_set places i (Known (Ended outcome))
+noted_at places i outcome = slice_set places i (Known (fetched_of outcome))

@@ -1,5 +1,6 @@
 //! What a URL ended with, with its truth.
 ghost use Rattle.std.specs.Prelude.{◌≡◌};
+ghost use Rattle.mx_run_get.specs.Fetched.{fetched_of};
 ghost use Rattle.mx_run_get.specs.declared.fetched.Fetched.TheVariants as fetched;
 ghost use Rattle.mx_get.specs.Asked.{IsEnd};
 
@@ -35,14 +36,14 @@ impl End {
         }
     }
 
-    /// A transfer of the URL's request ended.
+    /// A transfer of the URL's request ended. Of one that failed the bytes that came are let go.
     pub fn ended(outcome: Outcome) -> End
-        ensures { result ≡ fetched.Ended outcome }
+        ensures { result ≡ fetched_of outcome }
     {
         outcome.know();
         let _code = outcome.code();
         End {
-            fetched: Fetched::Ended(outcome),
+            fetched: Fetched::of(outcome),
         }
     }
 

@@ -1,7 +1,8 @@
 //! What a handle ended with.
 ghost use Rattle.std.specs.Prelude.{◌≡◌};
-ghost use Rattle.mx_run_get.specs.Fetched.{code_of, status_of};
+ghost use Rattle.mx_run_get.specs.Fetched.{code_of, status_of, fetched_of};
 
+use crate::failure::Failure;
 use mx_chain::Outcome;
 use mx_types::Code;
 
@@ -10,11 +11,23 @@ use mx_types::Code;
 pub enum Fetched {
     /// Its URL was refused.
     Refused(Code),
-    /// Its transfer ended.
+    /// Its transfer ended, and all that came is kept.
     Ended(Outcome),
+    /// Its transfer failed, and what came is let go.
+    Failed(Failure),
 }
 
 impl Fetched {
+    /// What a transfer ended with. Of one that failed the bytes that came are let go.
+    pub fn of(outcome: Outcome) -> Fetched
+        ensures { result ≡ fetched_of outcome }
+    {
+        match outcome.code() {
+            Code::Ok => Fetched::Ended(outcome),
+            _ => Fetched::Failed(Failure::of(outcome)),
+        }
+    }
+
     /// The code.
     pub fn code(&self) -> Code
         ensures { result ≡ code_of self.now }
@@ -22,6 +35,7 @@ impl Fetched {
         match self {
             Fetched::Refused(code) => *code,
             Fetched::Ended(outcome) => outcome.code(),
+            Fetched::Failed(failure) => failure.code(),
         }
     }
 
@@ -32,6 +46,7 @@ impl Fetched {
         match self {
             Fetched::Refused(_) => 0,
             Fetched::Ended(outcome) => outcome.status(),
+            Fetched::Failed(failure) => failure.status(),
         }
     }
 }

@@ -6,6 +6,7 @@ ghost use Rattle.mx_run_io.specs.Ends.{has_failed_write, Wrote};
 ghost use Rattle.mx_run_get.specs.Fetched.{content_of};
 ghost use Rattle.mx_run_get.specs.Texts.{transfer_line, transfer_text};
 
+use crate::failure::Failure;
 use crate::fetched::Fetched;
 use mx_chain::Outcome;
 use mx_run_io::{Output, WriteFailed};
@@ -62,6 +63,21 @@ fn print_outcome<W: Write>(
     }
 }
 
+// Prints the line of a transfer that failed.
+fn print_failure<W: Write>(
+    output: &mut Output<W>,
+    handle: usize,
+    failure: &Failure,
+) -> Result<(), WriteFailed>
+    ensures bytes { OnOk result (Wrote W.contents output.old output.new
+        (transfer_line handle (code_number failure.now.code) failure.now.status (length (content_of failure.now.code failure.now))
+        ++ content_of failure.now.code failure.now)) }
+    ensures failed { IsErr result ↔ (has_failed_write output.new ≡ true) }
+{
+    let code = failure.code();
+    print_line(output, handle, code.number(), failure.status(), 0)
+}
+
 /// Prints the text of a handle.
 pub fn print_transfer<W: Write>(
     output: &mut Output<W>,
@@ -74,6 +90,7 @@ pub fn print_transfer<W: Write>(
     match fetched {
         Fetched::Refused(code) => print_line(output, handle, code.number(), 0, 0)?,
         Fetched::Ended(outcome) => print_outcome(output, handle, outcome)?,
+        Fetched::Failed(failure) => print_failure(output, handle, failure)?,
     }
     output.write_all(b"\n")
 }

@@ -128,6 +128,41 @@ fn faults_have_no_body(rt: HostRuntime) -> Result<(), Fail> {
     Ok(())
 }
 
+// Of an end the code, the status, and how many bytes are told to have come, where it is a failure.
+fn failure_of(end: Fetched) -> Option<(Code, u16, usize)> {
+    match end {
+        Fetched::Failed(failure) => Some((failure.code(), failure.status(), failure.wire_len())),
+        _ => None,
+    }
+}
+
+#[test]
+fn failures_tell_how_much_came(rt: HostRuntime) -> Result<(), Fail> {
+    let ends = fetch_all(
+        &rt,
+        &[
+            Planned::Response(b"HTTP/1.1 200 OK\r\nContent-Length: 5\r\n\r\nhello"),
+            Planned::Response(b"HTTP/1.1 200 OK\r\nContent-Length: 5\r\n\r\nhell"),
+            Planned::Response(b"HTTP/1.1 20"),
+            Planned::Response(b""),
+            Planned::Refused(Code::UrlMalformat),
+        ],
+    )?;
+    let mut told = Vec::new(rt.alloc());
+    for end in ends {
+        told.push(failure_of(end))?;
+    }
+    let wanted = [
+        None,
+        Some((Code::PartialFile, 200, 42)),
+        Some((Code::WeirdServerReply, 0, 11)),
+        Some((Code::GotNothing, 0, 0)),
+        None,
+    ];
+    assert_eq!(rt; told.as_slice(), wanted.as_slice());
+    Ok(())
+}
+
 // Prints over writers that take few writes, or all of them.
 fn print_to_full<R: Abort>(rt: &R, alloc: Global, fetched: &[Fetched]) {
     let taken = [

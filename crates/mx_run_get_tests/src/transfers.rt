@@ -23,7 +23,7 @@ fn poll(task: &MockTask, transfer: &mut Transfer<ScriptLink>) -> Result<Fetched,
         return Err(Fail::from("a transfer that has ended"));
     }
     match task.poll(transfer) {
-        Poll::Ready(outcome) => Ok(Fetched::Ended(outcome)),
+        Poll::Ready(outcome) => Ok(Fetched::of(outcome)),
         Poll::Pending => Err(Fail::from("a transfer that waits")),
     }
 }
