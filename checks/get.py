@@ -7,9 +7,10 @@ import sys
 import threading
 import time
 
+import hostile
 import redirects
-from servers import (MIB, PROGRAM, WORK, Nginx, Run, Server, Wrong, body_of, chunked, counted, keeping, read_request, refuse_growths, reset,
-                     until_closed, want, want_ends)
+from servers import (MIB, PROGRAM, Nginx, Run, Server, Wrong, body_of, chunked, counted, keeping, read_request, refuse_growths, until_closed,
+                     want, want_ends)
 
 
 def files_256():
@@ -254,160 +255,8 @@ def case_refused_growths():
             refuse_growths(["--workers", workers] + [server.url(path) for path in paths], [(0, 200, body_of(path)) for path in paths])
 
 
-# hostile servers
-
-def case_endless_head():
-    def serve(connection, _):
-        read_request(connection)
-        connection.sendall(b"HTTP/1.1 200 OK\r\n")
-        while True:
-            connection.sendall(b"X-Field: " + b"y" * 1000 + b"\r\n")
-
-    with Server(serve) as server:
-        run = Run([server.url()])
-        want(run.codes() == [100], f"codes {run.codes()}")
-        want(run.peak < 256 * MIB, f"{run.peak // MIB} MiB")
-
-
-def case_endless_line():
-    def serve(connection, _):
-        read_request(connection)
-        while True:
-            connection.sendall(b"H" * 65536)
-
-    with Server(serve) as server:
-        run = Run([server.url()])
-        want(run.codes() == [8], f"codes {run.codes()}")
-        want(run.peak < 256 * MIB, f"{run.peak // MIB} MiB")
-
-
-def case_a_million_interim_heads():
-    def serve(connection, _):
-        read_request(connection)
-        for _ in range(1000):
-            connection.sendall(b"HTTP/1.1 103 Early Hints\r\n\r\n" * 1000)
-        connection.sendall(counted(b"late"))
-
-    with Server(serve) as server:
-        run = Run([server.url()])
-        want(run.codes() == [8], f"codes {run.codes()}")
-        want(run.peak < 256 * MIB, f"{run.peak // MIB} MiB")
-
-
-def case_chunk_bombs():
-    head = b"HTTP/1.1 200 OK\r\nTransfer-Encoding: chunked\r\n\r\n"
-
-    def huge(connection, _):
-        read_request(connection)
-        connection.sendall(head + b"ffffffffffffffff\r\nx")
-        until_closed(connection)
-
-    def long_size(connection, _):
-        read_request(connection)
-        connection.sendall(head)
-        while True:
-            connection.sendall(b"0" * 65536)
-
-    def long_extension(connection, _):
-        read_request(connection)
-        connection.sendall(head + b"1;")
-        while True:
-            connection.sendall(b"e" * 65536)
-
-    def endless_body(connection, _):
-        read_request(connection)
-        connection.sendall(head)
-        while True:
-            connection.sendall(b"10000\r\n" + b"b" * 65536 + b"\r\n")
-
-    for serve, codes in ((huge, {56, 63}), (long_size, {56, 63}), (long_extension, {56, 63}), (endless_body, {63})):
-        with Server(serve) as server:
-            run = Run(["--timeout-ms", "30000", server.url()])
-            want(run.codes()[0] in codes, f"{serve.__name__}: codes {run.codes()}")
-            want(run.peak < 512 * MIB, f"{serve.__name__}: {run.peak // MIB} MiB")
-
-
-def case_too_long_a_body():
-    def serve(connection, _):
-        read_request(connection)
-        connection.sendall(b"HTTP/1.1 200 OK\r\nContent-Length: 68719476736\r\n\r\n")
-        while True:
-            connection.sendall(b"b" * 65536)
-
-    with Server(serve) as server:
-        run = Run([server.url()])
-        want(run.codes() == [63], f"codes {run.codes()}")
-
-
-def case_one_byte_a_second():
-    def serve(connection, _):
-        read_request(connection)
-        for byte in counted(b"slow"):
-            connection.sendall(bytes([byte]))
-            time.sleep(1)
-
-    with Server(serve) as server:
-        run = Run(["--timeout-ms", "2500", server.url()], 20)
-        want(run.codes() == [28], f"codes {run.codes()}")
-        want(2.4 < run.seconds < 5, f"{run.seconds:.2f} s")
-
-
-def case_resets():
-    def at_once(connection, _):
-        reset(connection)
-
-    def after_request(connection, _):
-        read_request(connection)
-        reset(connection)
-
-    def within_head(connection, _):
-        read_request(connection)
-        connection.sendall(b"HTTP/1.1 200 OK\r\nContent-Le")
-        time.sleep(0.05)
-        reset(connection)
-
-    def within_body(connection, _):
-        read_request(connection)
-        connection.sendall(b"HTTP/1.1 200 OK\r\nContent-Length: 100\r\n\r\nhalf")
-        time.sleep(0.05)
-        reset(connection)
-
-    for serve, codes in ((at_once, {55, 56, 7}), (after_request, {56}), (within_head, {56}), (within_body, {56})):
-        with Server(serve) as server:
-            run = Run([server.url()], 20)
-            want(run.codes()[0] in codes, f"{serve.__name__}: codes {run.codes()}")
-
-
-def case_cut_short():
-    cuts = ((b"", 52), (b"HTTP/1.1 20", 8), (b"HTTP/1.1 200 OK\r\nContent-Length: 9\r\n\r\nshort", 18),
-            (b"HTTP/1.1 200 OK\r\nTransfer-Encoding: chunked\r\n\r\n5\r\nab", 18))
-    for sent, code in cuts:
-        def serve(connection, _, sent=sent):
-            read_request(connection)
-            connection.sendall(sent)
-
-        with Server(serve) as server:
-            run = Run([server.url()], 20)
-            want(run.codes() == [code], f"{sent!r}: codes {run.codes()}")
-
-
-def case_failed_wires_are_let_go():
-    # what came of a transfer that failed is let go when its message is read: kept, these 64 would take some 530 MiB
-    sent = b"HTTP/1.1 200 OK\r\nContent-Length: %d\r\n\r\n" % (16 * MIB) + bytes(8 * MIB)
-
-    def serve(connection, _):
-        read_request(connection)
-        connection.sendall(sent)
-
-    with Server(serve) as server:
-        run = Run(["--workers", "1"] + [server.url(f"/w{number}") for number in range(64)])
-        want_ends(run, [(18, 200, b"")] * 64)
-        want(run.peak <= 40 * MIB, f"{run.peak // MIB} MiB")
-        print(f"    64 x 8 MiB of a body that is cut short: {run.seconds:.2f} s, peak {run.peak // MIB} MiB")
-
-
 def main():
-    cases = [(name[5:], case) for name, case in [*globals().items(), *vars(redirects).items()] if name.startswith("case_")]
+    cases = [(name[5:], case) for name, case in [*globals().items(), *vars(hostile).items(), *vars(redirects).items()] if name.startswith("case_")]
     word = sys.argv[1] if len(sys.argv) > 1 else ""
     wrong = 0
     for name, case in cases:
