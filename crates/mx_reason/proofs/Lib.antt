@@ -1,0 +1,5 @@
+mod Fronts
+mod Walks
+mod Meeting
+mod Telling
+mod Cutting

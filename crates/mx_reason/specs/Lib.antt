@@ -1,0 +1,5 @@
+pub mod Lines
+pub mod Faults
+pub mod Cuts
+pub mod Reasons
+pub mod Steps
