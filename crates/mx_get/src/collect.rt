@@ -171,7 +171,13 @@ impl<'m, L: Link> Desk<'m, L> {
     }
 
     // Notes what the transfer of an addition ended with, where that addition's end is awaited at the place of its handle.
-    fn note(&mut self, handle: HandleId, ticket: Ticket, outcome: Outcome) -> Result<(), NoMessage>
+    fn note(
+        &mut self,
+        alloc: Global,
+        handle: HandleId,
+        ticket: Ticket,
+        outcome: Outcome,
+    ) -> Result<(), NoMessage>
         requires told { Has self.old.seat.ties (tie ticket (request_origin outcome.request)) }
         ensures seat { self.new.seat ≡ self.old.seat }
         ensures width { self.new.width ≡ self.old.width }
@@ -184,7 +190,7 @@ impl<'m, L: Link> Desk<'m, L> {
         outcome.request().know();
         origin_is_whole_request();
         if awaits(self.places.as_slice(), at, ticket) {
-            self.places[at] = Place::Known(End::ended(outcome));
+            self.places[at] = Place::Known(End::ended(alloc, outcome));
             self.waiting -= 1;
             return Ok(());
         }
@@ -192,18 +198,23 @@ impl<'m, L: Link> Desk<'m, L> {
     }
 
     // Waits for the next message and notes it.
-    fn await_one<R: Wait>(&mut self, rt: &R) -> Result<(), NoMessage>
+    fn await_one<R: Wait + AllocGlobal>(&mut self, rt: &R) -> Result<(), NoMessage>
         ensures notes { OnOk result (Notes self.old self.new) }
         ensures width { self.new.width ≡ self.old.width }
         ensures fewer { OnOk result (count_by is_awaiting self.new.places < count_by is_awaiting self.old.places) }
         ensures asked { map asked_at self.new.places ≡ map asked_at self.old.places }
     {
         let message = next_message(rt, &mut self.seat)?;
-        self.note(message.handle, message.ticket, message.outcome)
+        self.note(rt.alloc(), message.handle, message.ticket, message.outcome)
     }
 
     // Waits for messages until fewer ends than that are awaited. The workers are woken before: something may have been added since.
-    fn await_fewer<R: Wait>(&mut self, rt: &R, crew: &Crew, limit: usize) -> Result<(), NoMessage>
+    fn await_fewer<R: Wait + AllocGlobal>(
+        &mut self,
+        rt: &R,
+        crew: &Crew,
+        limit: usize,
+    ) -> Result<(), NoMessage>
         ensures few { OnOk result (count_by is_awaiting self.new.places < limit) }
         ensures width { self.new.width ≡ self.old.width }
         ensures asked { map asked_at self.new.places ≡ map asked_at self.old.places }

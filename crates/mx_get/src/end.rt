@@ -7,6 +7,7 @@ ghost use Rattle.mx_get.specs.Asked.{IsEnd};
 use mx_run_get::Fetched;
 use mx_transfer::Outcome;
 use mx_types::Code;
+use std::alloc::Global;
 use std::marker::Model;
 
 /// What a URL ended with. Contracts see it, and know that it is an outcome where a transfer ended.
@@ -37,13 +38,13 @@ impl End {
     }
 
     /// A transfer of the URL's request ended. Of one that failed the bytes that came are let go.
-    pub fn ended(outcome: Outcome) -> End
+    pub fn ended(alloc: Global, outcome: Outcome) -> End
         ensures { result ≡ fetched_of outcome }
     {
         outcome.know();
         let _code = outcome.code();
         End {
-            fetched: Fetched::of(outcome),
+            fetched: Fetched::of(alloc, outcome),
         }
     }
 

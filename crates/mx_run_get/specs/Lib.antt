@@ -1,3 +1,4 @@
 pub mod Fetched
+pub mod Failures
 pub mod Texts
 pub mod Laws

@@ -1,19 +1,24 @@
 //! What is kept of a transfer that failed.
 ghost use Rattle.std.specs.Prelude.{◌≡◌, ◌≢◌, length};
 ghost use Rattle.mx_types.specs.declared.code.Code.TheVariants as codes;
+ghost use Rattle.mx_chain.specs.Outcomes.{is_unfollowed_code};
+ghost use Rattle.mx_run_get.specs.Failures.{IsWhy};
 
 use mx_chain::Outcome;
-use mx_types::Code;
+use mx_reason::{Reason, reason_of};
+use mx_types::{Code, Method};
+use std::alloc::Global;
 use std::marker::Model;
 use std::snapshot::Snapshot;
 
-/// A transfer that failed: its code, its status, and how many bytes of a response came. The bytes themselves are let go, with those of the
-/// hops before; for contracts it is the whole outcome still.
+/// A transfer that failed: its code, its status, how many bytes of a response came, and what the decoder had against them. The bytes
+/// themselves are let go, with those of the hops before; for contracts it is the whole outcome still.
 #[derive(Drop)]
 pub struct Failure {
     code: Code,
     status: u16,
     len: usize,
+    why: Option<Reason>,
     outcome: Snapshot<Outcome>,
 }
 
@@ -21,6 +26,7 @@ impl Model for Failure {
     ghost use Rattle.std.specs.Prelude.{◌≡◌, ◌≢◌, length};
     ghost use Rattle.mx_types.specs.declared.code.Code.TheVariants as codes;
     ghost use Rattle.mx_chain.specs.Outcomes.{OutcomeValue, IsOutcome};
+    ghost use Rattle.mx_run_get.specs.Failures.{IsWhy};
 
     ghost Value = { OutcomeValue };
 
@@ -31,13 +37,44 @@ impl Model for Failure {
       failed : f.code ≢ codes.Ok;
       status : f.status ≡ f.outcome.value.status;
       len : f.len ≡ length f.outcome.value.wire;
+      why : IsWhy f.outcome.value f.why;
       outcome : IsOutcome f.outcome.value;
     } };
 }
 
+/// Whether the code may say why a hop wasn't followed. Then its bytes are a whole response, as a rule, and aren't looked through.
+fn is_unfollowed(code: Code) -> bool
+    ensures { result ≡ is_unfollowed_code code }
+{
+    matches!(
+        code,
+        Code::TooManyRedirects | Code::UrlMalformat | Code::UnsupportedProtocol | Code::OutOfMemory
+    )
+}
+
+/// The method of the last hop's request.
+fn last_method(outcome: &Outcome) -> Method
+    ensures { result ≡ outcome.now.last.request.method }
+{
+    match outcome.hop_request(outcome.hops() - 1) {
+        Some(request) => request.method(),
+        None => unreachable!(),
+    }
+}
+
+/// What the decoder has against the bytes of the last hop.
+fn why(alloc: Global, outcome: &Outcome) -> Option<Reason>
+    ensures { IsWhy outcome.now result }
+{
+    if is_unfollowed(outcome.code()) {
+        return None;
+    }
+    reason_of(alloc, last_method(outcome), outcome.wire())
+}
+
 impl Failure {
     /// What is kept of that outcome.
-    pub(crate) fn of(outcome: Outcome) -> Failure
+    pub(crate) fn of(alloc: Global, outcome: Outcome) -> Failure
         requires { outcome.code ≢ codes.Ok }
         ensures { result ≡ outcome }
     {
@@ -46,6 +83,7 @@ impl Failure {
             code: outcome.code(),
             status: outcome.status(),
             len: outcome.wire().len(),
+            why: why(alloc, &outcome),
             outcome: Snapshot::of(&outcome),
         }
     }
@@ -70,5 +108,13 @@ impl Failure {
         ensures { result ≡ length self.now.wire }
     {
         self.len
+    }
+
+    /// After how many bytes of it the decoder refused it, and what stood wrong there; or where it ended, if it was cut. `None` where it is a
+    /// whole response, and where the code may say why a whole one wasn't followed.
+    pub fn reason(&self) -> Option<Reason>
+        ensures { IsWhy self.now result }
+    {
+        self.why
     }
 }

@@ -5,6 +5,7 @@ ghost use Rattle.mx_run_get.specs.Fetched.{code_of, status_of, fetched_of};
 use crate::failure::Failure;
 use mx_chain::Outcome;
 use mx_types::Code;
+use std::alloc::Global;
 
 /// What a handle ended with.
 #[derive(Drop)]
@@ -19,12 +20,12 @@ pub enum Fetched {
 
 impl Fetched {
     /// What a transfer ended with. Of one that failed the bytes that came are let go.
-    pub fn of(outcome: Outcome) -> Fetched
+    pub fn of(alloc: Global, outcome: Outcome) -> Fetched
         ensures { result ≡ fetched_of outcome }
     {
         match outcome.code() {
             Code::Ok => Fetched::Ended(outcome),
-            _ => Fetched::Failed(Failure::of(outcome)),
+            _ => Fetched::Failed(Failure::of(alloc, outcome)),
         }
     }
 

@@ -1,4 +1,5 @@
 use crate::transfers::{Planned, fetch_all};
+use mx_reason::{Cut, Fault, Reason, What};
 use mx_run_get::{Fetched, print_get};
 use mx_run_io::Output;
 use mx_types::Code;
@@ -128,16 +129,26 @@ fn faults_have_no_body(rt: HostRuntime) -> Result<(), Fail> {
     Ok(())
 }
 
-// Of an end the code, the status, and how many bytes are told to have come, where it is a failure.
-fn failure_of(end: Fetched) -> Option<(Code, u16, usize)> {
+// Of an end the code, the status, how many bytes are told to have come, and the reason, where it is a failure.
+fn failure_of(end: Fetched) -> Option<(Code, u16, usize, Option<Reason>)> {
     match end {
-        Fetched::Failed(failure) => Some((failure.code(), failure.status(), failure.wire_len())),
+        Fetched::Failed(failure) => Some((
+            failure.code(),
+            failure.status(),
+            failure.wire_len(),
+            failure.reason(),
+        )),
         _ => None,
     }
 }
 
+// The reason, with that many bytes.
+fn reason(at: usize, what: What) -> Option<Reason> {
+    Some(Reason { at, what })
+}
+
 #[test]
-fn failures_tell_how_much_came(rt: HostRuntime) -> Result<(), Fail> {
+fn failures_tell_how_much_came_and_why(rt: HostRuntime) -> Result<(), Fail> {
     let ends = fetch_all(
         &rt,
         &[
@@ -145,6 +156,7 @@ fn failures_tell_how_much_came(rt: HostRuntime) -> Result<(), Fail> {
             Planned::Response(b"HTTP/1.1 200 OK\r\nContent-Length: 5\r\n\r\nhell"),
             Planned::Response(b"HTTP/1.1 20"),
             Planned::Response(b""),
+            Planned::Response(b"HTTP/1.1 200 OK\r\nNo Colon\r\n\r\n"),
             Planned::Refused(Code::UrlMalformat),
         ],
     )?;
@@ -154,9 +166,25 @@ fn failures_tell_how_much_came(rt: HostRuntime) -> Result<(), Fail> {
     }
     let wanted = [
         None,
-        Some((Code::PartialFile, 200, 42)),
-        Some((Code::WeirdServerReply, 0, 11)),
-        Some((Code::GotNothing, 0, 0)),
+        Some((
+            Code::PartialFile,
+            200,
+            42,
+            reason(42, What::Cut(Cut::Counted { came: 4, of: 5 })),
+        )),
+        Some((
+            Code::WeirdServerReply,
+            0,
+            11,
+            reason(11, What::Cut(Cut::Head)),
+        )),
+        Some((Code::GotNothing, 0, 0, reason(0, What::Cut(Cut::Head)))),
+        Some((
+            Code::WeirdServerReply,
+            0,
+            29,
+            reason(20, What::Fault(Fault::FieldLine)),
+        )),
         None,
     ];
     assert_eq!(rt; told.as_slice(), wanted.as_slice());

@@ -18,12 +18,16 @@ fn attach(transfer: &mut Transfer<ScriptLink>, link: ScriptLink) {
 }
 
 // The end that one poll gives.
-fn poll(task: &MockTask, transfer: &mut Transfer<ScriptLink>) -> Result<Fetched, Fail> {
+fn poll(
+    alloc: Global,
+    task: &MockTask,
+    transfer: &mut Transfer<ScriptLink>,
+) -> Result<Fetched, Fail> {
     if transfer.spent() {
         return Err(Fail::from("a transfer that has ended"));
     }
     match task.poll(transfer) {
-        Poll::Ready(outcome) => Ok(Fetched::of(outcome)),
+        Poll::Ready(outcome) => Ok(Fetched::of(alloc, outcome)),
         Poll::Pending => Err(Fail::from("a transfer that waits")),
     }
 }
@@ -34,7 +38,7 @@ fn end_in_task<R: RandomSource + AllocGlobal>(
     transfer: &mut Transfer<ScriptLink>,
 ) -> Result<Fetched, Fail> {
     let task = MockTask::new(rt)?;
-    poll(&task, transfer)
+    poll(rt.alloc(), &task, transfer)
 }
 
 // A GET whose link gives the response and then ends.
