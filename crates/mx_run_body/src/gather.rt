@@ -14,7 +14,12 @@ fn put(buffer: &mut [u8], held: usize, piece: &[u8]) -> usize
     ensures bytes { take result buffer.new ≡ take held buffer.old ++ piece.now }
 {
     let end = held + piece.len();
-    buffer[held..end].copy_from_slice(piece);
+    if piece.len() == 1 {
+        // without the call that a copy is
+        buffer[held] = piece[0];
+    } else {
+        buffer[held..end].copy_from_slice(piece);
+    }
     end
 }
 
