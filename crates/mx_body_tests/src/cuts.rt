@@ -1,4 +1,5 @@
-//! Heads cut anywhere: a decoder that is fed them in pieces says at each what the plain programs say of the same bytes.
+//! Heads and chunks cut anywhere: a decoder that is fed them in pieces says at each what the plain programs say of the same
+//! bytes.
 
 use crate::heads::{REFUSED, front, with_fields, with_long_field};
 use crate::pieces::{agrees, decoder, feed};
@@ -27,6 +28,23 @@ const HEADS: [&[u8]; 16] = [
     b"HTTP/1.1 100 Continue\r\n\r\nHTTP/1.1 20x",
     b"HTTP/1.1 200 OK\r\nA: b\r\n\rc",
     b"HTTP/1.1 200 OK\r\nA: b",
+];
+
+/// The head that stands before `BODIES`.
+const CHUNKED: &[u8] = b"HTTP/1.1 200 OK\r\nTransfer-Encoding: chunked\r\n\r\n";
+
+/// Chunks behind a chunk: at the end of the input, short and long, with an extension, with a byte that is wrong, and with
+/// the largest size and one above it.
+const BODIES: [&[u8]; 9] = [
+    b"1\r\na\r\n5\r\nhello\r\n",
+    b"1\r\na\r\n1\r\nb\r\n0\r\n\r\n",
+    b"1\r\na\r\nA\r\n0123456789\r\n2\r\nbc\r\na;x\r\n0123456789\r\n00\r\nB: c\r\n\r\n",
+    b"1\r\na\r\n5\r\nhelloX",
+    b"1\r\na\r\n5\r\nhello\rX",
+    b"1\r\na\r\n5\r\nhello\nX",
+    b"1\r\na\r\n5\nhello\r\n",
+    b"1\r\na\r\n4000000\r\nhello\r\n",
+    b"1\r\na\r\n5\r\nhello\r\n4000001\r\n",
 ];
 
 /// Whether the decoder says of a head what `read_head` says.
@@ -70,6 +88,13 @@ fn heads_cut_in_two(rt: HostRuntime) {
         for head in REFUSED {
             assert!(rt; agrees_at_each_cut(rt.alloc(), before, head), "{head:?}");
         }
+    }
+}
+
+#[test]
+fn chunks_cut_in_two(rt: HostRuntime) {
+    for body in BODIES {
+        assert!(rt; agrees_at_each_cut(rt.alloc(), CHUNKED, body), "{body:?}");
     }
 }
 
