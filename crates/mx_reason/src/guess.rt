@@ -28,7 +28,7 @@ fn settled_at(body: &[u8]) -> usize
 pub(crate) fn guess(method: Method, wire: &[u8]) -> usize {
     match walk(wire) {
         Walked::Final { head, end } => match framing(method, &head) {
-            Ok(Framing::Chunked) => end + settled_at(&wire[end..]),
+            Ok(Framing::Chunked) => (end + settled_at(&wire[end..])).min(MOST_BYTES + 1),
             Ok(Framing::Close) => MOST_BYTES + 1,
             _ => end,
         },

@@ -78,6 +78,25 @@ fn more_bytes_than_a_response_may_have(rt: HostRuntime) -> Result<(), Fail> {
     Ok(())
 }
 
+// A chunk of 64 KiB.
+fn chunk(alloc: Global) -> Result<Vec<u8>, AllocError> {
+    let mut chunk = repeated(alloc, b"10000\r\n", b"0123456789abcdef", 4096)?;
+    chunk.extend_from_slice(b"\r\n")?;
+    Ok(chunk)
+}
+
+#[test]
+fn more_chunks_than_a_response_may_have(rt: HostRuntime) -> Result<(), Fail> {
+    let front = b"HTTP/1.1 200 OK\r\nTransfer-Encoding: chunked\r\n\r\n";
+    let chunk = chunk(rt.alloc())?;
+    let wire = repeated(rt.alloc(), front, chunk.as_slice(), 1024)?;
+    assert_eq!(rt;
+        reason(rt.alloc(), wire.as_slice()),
+        fault(67_108_865, Fault::ManyBytes)
+    );
+    Ok(())
+}
+
 #[test]
 fn a_bad_byte_far_behind(rt: HostRuntime) -> Result<(), Fail> {
     let front = b"HTTP/1.1 200 OK\r\nTransfer-Encoding: chunked\r\n\r\n";

@@ -193,13 +193,14 @@ fn ended(alloc: Global, rows: &[Ended]) -> usize {
     rows.len()
 }
 
-// How many of them are whole.
+// The number of the first wire that has a reason; that of all, where none has.
 fn whole(alloc: Global, wires: &[&[u8]]) -> usize {
-    let mut count = 0;
-    for wire in wires {
-        count += usize::from(reason(alloc, *wire).is_none());
+    for (i, wire) in wires.iter().enumerate() {
+        if reason(alloc, *wire).is_some() {
+            return i;
+        }
     }
-    count
+    wires.len()
 }
 
 #[test]
