@@ -37,8 +37,8 @@ class Run:
                                      env={**os.environ, **(asked or {})})
             watch = threading.Timer(seconds, child.kill)
             watch.start()
-            self.descriptors = 0
-            counter = threading.Thread(target=self.count_descriptors, args=(child.pid,), daemon=True)
+            self.peak = self.descriptors = 0
+            counter = threading.Thread(target=self.count, args=(child.pid,), daemon=True)
             counter.start()
             _, status, usage = os.wait4(child.pid, 0)
             watch.cancel()
@@ -49,16 +49,19 @@ class Run:
             self.out, self.err = out.read(), err.read()
         self.status = child.returncode
         self.seconds = time.monotonic() - begun
-        self.peak = usage.ru_maxrss * 1024
         self.processor = usage.ru_utime + usage.ru_stime
         want(self.status >= 0, f"ended by signal {-self.status} after {self.seconds:.1f} s")
         self.ends = parse(self.out) if self.status not in (120, 121) and not self.out.startswith(b"FAULT") else []
 
-    def count_descriptors(self, pid):
-        """How many it has open, at the most, as looks 20 milliseconds apart see it."""
+    def count(self, pid):
+        """The most memory and descriptors that it has, as looks 20 milliseconds apart see them: what the system counts to its end is this
+        process's memory too, from which it was made."""
         try:
             while True:
                 self.descriptors = max(self.descriptors, len(os.listdir(f"/proc/{pid}/fd")))
+                with open(f"/proc/{pid}/status") as file:
+                    peak = re.search(r"VmHWM:\s+(\d+) kB", file.read())
+                self.peak = int(peak.group(1)) * 1024 if peak else self.peak
                 time.sleep(0.02)
         except OSError:
             pass
