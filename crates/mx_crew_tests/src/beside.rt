@@ -1,8 +1,9 @@
 //! Workers on threads of their own, and one more thread that reads the messages.
 ghost use Rattle.std.specs.Prelude.{◌≡◌, All};
 
+use crate::gate::Flags;
 use crate::reader::Reader;
-use mx_crew::{Counts, Crew, Post, posts, run_beside};
+use mx_crew::{Counts, Post, posts, run_beside};
 use mx_gate::Gate;
 use mx_link::Link;
 use mx_multi::{Application, Multi, Seat, Seated, WorkerSeat};
@@ -11,29 +12,13 @@ use mx_types::OutOfMemory;
 use mx_worker::Queued;
 use mx_worker_tests_base::desk::{Desk, Parts};
 use mx_worker_tests_base::messages::{Message, is_answer};
-use std::alloc::{AllocGlobal, Global};
+use std::alloc::AllocGlobal;
 use std::random::RandomSource;
 use std::rt::Clock;
 use std::sync::Wait;
-use std::sync::atomic::{AtomicBool, Ordering};
+use std::sync::atomic::Ordering;
 use std::test::Fail;
 use std::thread::Threads;
-
-/// What the threads tell each other: that a message was read, and that both were.
-#[derive(Drop)]
-pub struct Flags {
-    pub is_read: AtomicBool,
-    pub crew: Crew,
-}
-
-impl Flags {
-    pub fn new(alloc: Global) -> Result<Flags, OutOfMemory> {
-        Ok(Flags {
-            is_read: AtomicBool::new(false),
-            crew: Crew::new(alloc)?,
-        })
-    }
-}
 
 /// What a message is to be: of this ticket, with code 0, this request and this body.
 #[derive(Drop)]

@@ -1,9 +1,9 @@
-//! A crew: workers on threads of their own beside a thread that reads the messages, over scripted links. There is nothing in this crate but
-//! tests.
+//! A crew: workers on threads of their own beside a thread that reads the messages, over scripted links. Tests, and the gate that they use.
 #![tactic(auto)]
 
 #[cfg(test)]
 mod beside;
+pub mod gate;
 #[cfg(test)]
 mod reader;
 #[cfg(test)]

@@ -1,4 +1,5 @@
 //! A seat with its multi handle, for a thread of its own.
+use crate::gate::LOOKS;
 use mx_link::Link;
 use mx_multi::{Application, Seated};
 use mx_transfer::Outcome;
@@ -9,9 +10,6 @@ use std::rt::Clock;
 use std::sync::Wait;
 use std::thread;
 use std::time::Duration;
-
-/// The most looks at a flag or at the messages, one a millisecond.
-pub const LOOKS: u32 = 60_000;
 
 /// A seat that reads messages.
 #[derive(Drop)]

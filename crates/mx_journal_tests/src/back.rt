@@ -2,6 +2,7 @@
 ghost use Rattle.std.specs.Prelude.{◌≡◌};
 ghost use Rattle.mx_types.specs.Origin.{no_request};
 
+use crate::callers::claim_and_give_back;
 use crate::sample::End;
 use mx_journal::{
     AddReply, Claim, Control, FinishReply, GiveBackReply, PauseReply, RemoveReply, VecLog,
@@ -160,17 +161,6 @@ fn back_while_paused(rt: &impl Abort, control: &mut Control<Job, End>, log: &mut
         (back, first),
         (Some((PauseReply::Changed, None)), Some((0, 70)))
     );
-}
-
-/// Work that is given back right after its claim leaves the control state as it was, by the contracts of the two calls alone.
-fn claim_and_give_back(control: &mut Control<Job, End>)
-    ensures { control.new ≡ control.old }
-{
-    control.sound();
-    Control::<Job, End>::give_back_undoes_claim();
-    if let Some((claim, job)) = control.claim() {
-        let _ = control.give_back(claim, job);
-    }
 }
 
 #[test]

@@ -1,8 +1,9 @@
-//! The control core, by its public calls. There is nothing in this crate but tests.
+//! The control core, by its public calls: callers of it, and tests.
 #![tactic(auto)]
 
 #[cfg(test)]
 mod back;
+pub mod callers;
 #[cfg(test)]
 mod sample;
 #[cfg(test)]

@@ -2,9 +2,8 @@
 ghost use Rattle.std.specs.Prelude.{◌≡◌};
 ghost use Rattle.mx_types.specs.Origin.{no_request};
 
-use crate::desk::FOUR_SEATS;
 use mx_journal::{FinishReply, InfoReply};
-use mx_multi::{Application, AtWork, Seat, Seated, WorkerSeat};
+use mx_multi::{Application, AtWork, Limits, Seat, Seated, WorkerSeat};
 use mx_multi_tests_base::sample::{End, Handle, Job};
 use mx_types::{Code, HandleId, OutOfMemory};
 use std::alloc::Global;
@@ -33,8 +32,9 @@ fn fetch<R: Wait>(
     Ok((handle, ending.code))
 }
 
-// The same, with a seat and a worker's seat of this multi handle.
-fn fetch_at<R: Wait>(
+/// Adds work at a seat of this multi handle, has a worker's seat of it end the work, and reads the message: of which handle it is, and with
+/// which code. `OutOfMemory` stands for any refusal.
+pub fn fetch_at<R: Wait>(
     rt: &R,
     multi: &Handle,
     seat: Seat<Job, End>,
@@ -45,20 +45,17 @@ fn fetch_at<R: Wait>(
     fetch(rt, multi.at(seat), multi.at(worker))
 }
 
-// The same, at a new multi handle.
-fn open_and_fetch<R: Wait>(rt: &R, alloc: Global) -> Result<(HandleId, Code), Fail> {
-    let Ok((multi, mut seats, mut workers)) = Handle::open(rt, alloc, FOUR_SEATS) else {
+/// The same, at a new multi handle with these limits.
+pub fn open_and_fetch<R: Wait>(
+    rt: &R,
+    alloc: Global,
+    limits: Limits,
+) -> Result<(HandleId, Code), Fail> {
+    let Ok((multi, mut seats, mut workers)) = Handle::open(rt, alloc, limits) else {
         return Err(OutOfMemory.into());
     };
     match (seats.pop(), workers.pop()) {
         (Some(seat), Some(worker)) => fetch_at(rt, &multi, seat, worker),
         _ => Err("no seats".into()),
     }
-}
-
-/// What is added is claimed, ended, polled for and read.
-#[test]
-fn what_is_added_is_ended_and_read(rt: HostRuntime) -> Result<(), Fail> {
-    assert_eq!(rt; open_and_fetch(&rt, rt.alloc())?, (HandleId(1), Code::Ok));
-    Ok(())
 }

@@ -1,9 +1,10 @@
-//! A multi handle that threads share, by its public calls alone: what each of a script's calls answers, many threads' calls
-//! played again on one thread, and wake-ups that mustn't be lost. There is nothing in this crate but tests.
+//! A multi handle that threads share, by its public calls alone: the caller in the documentation of `mx_multi`; and tests of what each of a
+//! script's calls answers, many threads' calls played again on one thread, and wake-ups that mustn't be lost.
 #![tactic(auto)]
 
+pub mod caller;
 #[cfg(test)]
-mod caller;
+mod caller_tests;
 #[cfg(test)]
 mod checks;
 #[cfg(test)]

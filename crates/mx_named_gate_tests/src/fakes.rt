@@ -1,10 +1,9 @@
 //! A lookup of a few hosts.
-ghost use Rattle.std.specs.Prelude.{◌≡◌, true, IfErr};
-ghost use Rattle.mx_names.specs.Addresses.{is_lookup_code};
 
 use mx_names::{Addresses, Lookup};
+use mx_names_tests::hosts::addresses;
 use mx_types::Code;
-use std::alloc::{AllocGlobal, Global};
+use std::alloc::AllocGlobal;
 use std::net::{Ipv4Addr, Ipv6Addr, SocketAddr};
 use std::rt::Clock;
 use std::sync::atomic::{AtomicBool, AtomicU64, Ordering};
@@ -27,18 +26,6 @@ fn v4(last: u8) -> SocketAddr {
 
 fn v6() -> SocketAddr {
     SocketAddr::from((Ipv6Addr::LOCALHOST, 0))
-}
-
-fn addresses(alloc: Global, all: &[SocketAddr]) -> Result<Addresses, Code>
-    ensures { IfErr result (λ code. is_lookup_code code ≡ true) }
-{
-    let Ok(all) = all.iter().copied().collect::<Vec<SocketAddr>>(alloc) else {
-        return Err(Code::OutOfMemory);
-    };
-    match Addresses::new(all) {
-        Some(addresses) => Ok(addresses),
-        None => Err(Code::CouldntResolveHost),
-    }
 }
 
 impl<R: Clock + Wait + AllocGlobal> Fake<R> {

@@ -1,7 +1,6 @@
 //! A lookup of a few hosts, and answers as numbers.
-ghost use Rattle.std.specs.Prelude.{◌≡◌, true, IfErr};
-ghost use Rattle.mx_names.specs.Addresses.{is_lookup_code};
 
+use crate::hosts::addresses;
 use mx_names::{Addresses, Answer, Lookup};
 use mx_types::Code;
 use std::alloc::Global;
@@ -20,18 +19,6 @@ fn v4(last: u8) -> SocketAddr {
 
 fn v6(last: u16) -> SocketAddr {
     SocketAddr::from((Ipv6Addr::new(0x2001, 0xdb8, 0, 0, 0, 0, 0, last), 0))
-}
-
-fn addresses(alloc: Global, all: &[SocketAddr]) -> Result<Addresses, Code>
-    ensures { IfErr result (λ code. is_lookup_code code ≡ true) }
-{
-    let Ok(all) = all.iter().copied().collect::<Vec<SocketAddr>>(alloc) else {
-        return Err(Code::OutOfMemory);
-    };
-    match Addresses::new(all) {
-        Some(addresses) => Ok(addresses),
-        None => Err(Code::CouldntResolveHost),
-    }
 }
 
 impl Lookup for Fake {

@@ -1,8 +1,9 @@
-//! Tests of what is known of hosts, as callers see it. There is nothing in this crate but tests.
+//! Tests of what is known of hosts, as callers see it, and what lookups of tests give.
 #![tactic(auto)]
 
 #[cfg(test)]
 mod fakes;
+pub mod hosts;
 #[cfg(test)]
 mod hosts_tests;
 #[cfg(test)]

@@ -1,13 +1,13 @@
 //! A transfer that a worker's seat claims, and that is polled and ended by hand, with no worker.
-ghost use Rattle.std.specs.Prelude.{◌≡◌, All, None, IfSome, IfNone};
+ghost use Rattle.std.specs.Prelude.{◌≡◌, All};
 
+use crate::polls::outcome_of;
 use crate::script::{Step, desk_after};
-use futures::Future;
-use futures::task::{Doorbell, Poll, Solo};
+use futures::task::{Doorbell, Solo};
 use mx_journal::FinishReply;
 use mx_link::ScriptLink;
 use mx_multi::{AtWork, Multi, Seat, Seated, WorkerSeat};
-use mx_transfer::{Outcome, Transfer};
+use mx_transfer::Outcome;
 use mx_types::{Call, Code, HandleId, Look};
 use mx_worker::Queued;
 use mx_worker_tests_base::desk::Parts;
@@ -16,51 +16,6 @@ use std::alloc::AllocGlobal;
 use std::random::RandomSource;
 use std::sync::Wait;
 use std::test::Fail;
-
-// Polls a transfer once, at this moment, without a link: its outcome, if it ends.
-fn poll_at(
-    solo: &Solo,
-    transfer: &mut Transfer<ScriptLink>,
-    moment: u64,
-    is_paused: bool,
-) -> Option<Outcome>
-    requires running { transfer.old.chain.code ≡ None }
-    ensures request { IfSome result (λ outcome. outcome.request ≡ transfer.old.chain.request) }
-    ensures again { IfNone result (transfer.new.chain.code ≡ None) }
-    ensures kept { IfNone result (transfer.new.chain.request ≡ transfer.old.chain.request) }
-{
-    transfer.prepare(moment, is_paused);
-    let mut cx = solo.begin();
-    let polled = transfer.poll(&mut cx);
-    let _again: Poll<()> = cx.yield_now();
-    cx.park();
-    match polled {
-        Poll::Ready(outcome) => Some(outcome),
-        Poll::Pending => None,
-    }
-}
-
-// Polls a transfer at the moments 0 and 1: the outcome, if it ends at the second.
-fn poll_twice(solo: &Solo, transfer: &mut Transfer<ScriptLink>, is_paused: bool) -> Option<Outcome>
-    requires running { transfer.old.chain.code ≡ None }
-    ensures request { IfSome result (λ outcome. outcome.request ≡ transfer.old.chain.request) }
-{
-    if poll_at(solo, transfer, 0, is_paused).is_some() {
-        return None;
-    }
-    poll_at(solo, transfer, 1, is_paused)
-}
-
-// The same, of a transfer that was claimed.
-fn outcome_of(solo: &Solo, queued: Queued<ScriptLink>, is_paused: bool) -> Option<Outcome>
-    ensures request { IfSome result (λ outcome. outcome.request ≡ queued.chain.request) }
-{
-    let mut transfer = queued.into_transfer();
-    match poll_twice(solo, &mut transfer, is_paused) {
-        Some(outcome) => Some(outcome),
-        None => None,
-    }
-}
 
 // Claims a transfer, polls it at the moments 0 and 1 as the look at it says, and records its end. It says whether it was paused; None where
 // any of this went otherwise.

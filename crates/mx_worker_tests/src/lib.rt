@@ -1,4 +1,4 @@
-//! Workers over scripted links, on one thread. There is nothing in this crate but tests.
+//! Workers over scripted links, on one thread: tests, and polls by hand.
 #![tactic(auto)]
 
 #[cfg(test)]
@@ -13,6 +13,7 @@ mod hops;
 mod links;
 #[cfg(test)]
 mod paused;
+pub mod polls;
 #[cfg(test)]
 mod refused;
 #[cfg(test)]
