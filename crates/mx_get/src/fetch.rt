@@ -10,6 +10,7 @@ ghost use Rattle.mx_get.specs.declared.error.FetchError.TheVariants as fetch_err
 
 use crate::collect::Desk;
 use crate::error::FetchError;
+use crate::runtime::Runtime;
 use mx_crew::{Crew, Post, posts, run_beside};
 use mx_gate::Gate;
 use mx_link::Link;
@@ -22,7 +23,6 @@ use mx_worker::Queued;
 use std::alloc::AllocGlobal;
 use std::net::{Net, TcpListener, TcpStream};
 use std::random::RandomSource;
-use std::rt::Clock;
 use std::sync::Wait;
 use std::thread::Threads;
 use std::time::Instant;
@@ -170,19 +170,12 @@ fn fetch_at<
 }
 
 // Fetches with workers over sockets, whose clocks have one start.
-fn fetch_from<
-    R: Threads
-        + Wait
-        + Net<Listener = TcpListener, Stream = TcpStream>
-        + Clock
-        + RandomSource
-        + AllocGlobal
-        + Copy
-        + Send
-        + Sync
-        + Drop
-        + 'static,
->(rt: &R, urls: &[&str], options: Options, start: Instant) -> Result<Vec<Fetched>, FetchError>
+fn fetch_from<R: Runtime + Net<Listener = TcpListener, Stream = TcpStream>>(
+    rt: &R,
+    urls: &[&str],
+    options: Options,
+    start: Instant,
+) -> Result<Vec<Fetched>, FetchError>
     requires { are_within options ≡ true }
     ensures ends { IfOk result (λ ends. AreEndsOf options.timeout_ms options.max_redirects (map (λ u. u.now) urls.now) ends.items) }
     ensures cause { IfErr result (λ e. is_of_run e ≡ true) }
@@ -204,19 +197,11 @@ fn fetch_from<
 /// - `NotAdded`, `NoMessage` where a transfer wasn't added, or no message came of it.
 ///
 /// `Unwritten` is none of its answers.
-pub fn fetch_all<
-    R: Threads
-        + Wait
-        + Net<Listener = TcpListener, Stream = TcpStream>
-        + Clock
-        + RandomSource
-        + AllocGlobal
-        + Copy
-        + Send
-        + Sync
-        + Drop
-        + 'static,
->(rt: &R, urls: &[&str], options: Options) -> Result<Vec<Fetched>, FetchError>
+pub fn fetch_all<R: Runtime + Net<Listener = TcpListener, Stream = TcpStream>>(
+    rt: &R,
+    urls: &[&str],
+    options: Options,
+) -> Result<Vec<Fetched>, FetchError>
     requires { are_within options ≡ true }
     ensures ends { IfOk result (λ ends. AreEndsOf options.timeout_ms options.max_redirects (map (λ u. u.now) urls.now) ends.items) }
     ensures many { MOST_URLS < length urls.now → result ≡ Err fetch_error.TooManyUrls }

@@ -11,16 +11,12 @@ ghost use Rattle.mx_get.specs.declared.error.FetchError.TheVariants as fetch_err
 
 use crate::error::FetchError;
 use crate::fetch::{MOST_URLS, fetch_all};
+use crate::runtime::Runtime;
 use mx_run_get::{Fetched, print_get};
 use mx_run_io::{Options, Output, UNWRITTEN, end_with};
 use mx_types::Code;
-use std::alloc::AllocGlobal;
 use std::io::Write;
 use std::net::{Net, TcpListener, TcpStream};
-use std::random::RandomSource;
-use std::rt::Clock;
-use std::sync::Wait;
-use std::thread::Threads;
 
 // Prints the ends.
 fn print_ends<W: Write>(output: &mut Output<W>, ends: &[Fetched]) -> Result<u8, FetchError>
@@ -54,20 +50,12 @@ fn print_unfetched<W: Write>(output: &mut Output<W>) -> u8
 ///
 /// It answers `Unwritten` where the output couldn't be written; each other cause is one of `fetch_all`, and then nothing is
 /// printed. With more than `MOST_URLS` URLs it answers `TooManyUrls`.
-pub fn try_get<
-    R: Threads
-        + Wait
-        + Net<Listener = TcpListener, Stream = TcpStream>
-        + Clock
-        + RandomSource
-        + AllocGlobal
-        + Copy
-        + Send
-        + Sync
-        + Drop
-        + 'static,
-    W: Write,
->(rt: &R, urls: &[&str], options: Options, output: &mut Output<W>) -> Result<u8, FetchError>
+pub fn try_get<R: Runtime + Net<Listener = TcpListener, Stream = TcpStream>, W: Write>(
+    rt: &R,
+    urls: &[&str],
+    options: Options,
+    output: &mut Output<W>,
+) -> Result<u8, FetchError>
     requires { are_within options ≡ true }
     ensures printed { IfOk result (λ status. PrintsEnds options.timeout_ms options.max_redirects (map (λ u. u.now) urls.now)
         (Wrote W.contents output.old output.new) status) }
@@ -92,20 +80,12 @@ pub fn try_get<
 /// With one worker each URL is added after the message of the one before; with more `at_once` are added at first, and one more after each
 /// message. Where memory, a thread, a poll of the system's or its clock can't be had, a transfer wasn't added, no message came of one that
 /// was, or there are more URLs than `MOST_URLS`, `FAULT 27` is printed instead, once the workers have ended: `try_get` tells which.
-pub fn run_get<
-    R: Threads
-        + Wait
-        + Net<Listener = TcpListener, Stream = TcpStream>
-        + Clock
-        + RandomSource
-        + AllocGlobal
-        + Copy
-        + Send
-        + Sync
-        + Drop
-        + 'static,
-    W: Write,
->(rt: &R, urls: &[&str], options: Options, output: &mut Output<W>) -> u8
+pub fn run_get<R: Runtime + Net<Listener = TcpListener, Stream = TcpStream>, W: Write>(
+    rt: &R,
+    urls: &[&str],
+    options: Options,
+    output: &mut Output<W>,
+) -> u8
     requires { are_within options ≡ true }
     ensures ends { EndsRun output.new result }
     ensures answered { has_failed_write output.new ≢ true → AnswersUrls options.timeout_ms options.max_redirects (map (λ u. u.now) urls.now)

@@ -1,13 +1,8 @@
 use crate::server::Server;
-use mx_get::run_get;
+use mx_get::{Runtime, run_get};
 use mx_run_io::{Options, Output};
-use std::alloc::AllocGlobal;
 use std::net::{Net, TcpListener, TcpStream};
-use std::random::RandomSource;
-use std::rt::Clock;
-use std::sync::Wait;
 use std::test::Fail;
-use std::thread::Threads;
 
 /// What `get` printed, its exit status, and on how many connections requests came.
 #[derive(Drop)]
@@ -18,19 +13,12 @@ struct Ran {
 }
 
 // Two URLs of a server: these paths.
-fn get_two<
-    R: Threads
-        + Wait
-        + Net<Listener = TcpListener, Stream = TcpStream>
-        + Clock
-        + RandomSource
-        + AllocGlobal
-        + Copy
-        + Send
-        + Sync
-        + Drop
-        + 'static,
->(rt: &R, one: &str, two: &str, options: Options) -> Result<Ran, Fail> {
+fn get_two<R: Runtime + Net<Listener = TcpListener, Stream = TcpStream>>(
+    rt: &R,
+    one: &str,
+    two: &str,
+    options: Options,
+) -> Result<Ran, Fail> {
     let server = Server::start(rt)?;
     let port = server.address.port();
     let one = format!(in rt.alloc(); "http://127.0.0.1:{port}/{one}")?;

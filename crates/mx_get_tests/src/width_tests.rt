@@ -1,13 +1,9 @@
 use crate::open_requests::Counting;
-use mx_get::run_get;
+use mx_get::{Runtime, run_get};
 use mx_run_io::{Options, Output};
-use std::alloc::{AllocGlobal, Global};
+use std::alloc::Global;
 use std::net::{Net, TcpListener, TcpStream};
-use std::random::RandomSource;
-use std::rt::Clock;
-use std::sync::Wait;
 use std::test::Fail;
-use std::thread::Threads;
 
 /// What is asked for, one URL a byte.
 const PATHS: &[u8] = b"abcdefghijklmnopqrst";
@@ -34,19 +30,11 @@ fn expected(alloc: Global) -> Result<String, Fail> {
 }
 
 // What `get` prints of the URLs, and its exit status.
-fn get<
-    R: Threads
-        + Wait
-        + Net<Listener = TcpListener, Stream = TcpStream>
-        + Clock
-        + RandomSource
-        + AllocGlobal
-        + Copy
-        + Send
-        + Sync
-        + Drop
-        + 'static,
->(rt: &R, urls: &[String], options: Options) -> Result<(Vec<u8>, u8), Fail> {
+fn get<R: Runtime + Net<Listener = TcpListener, Stream = TcpStream>>(
+    rt: &R,
+    urls: &[String],
+    options: Options,
+) -> Result<(Vec<u8>, u8), Fail> {
     let mut words = Vec::new(rt.alloc());
     for url in urls {
         words.push(url.as_str())?;
@@ -66,19 +54,12 @@ fn get<
 }
 
 // Whether what is printed is as it is to be, and how many requests were open at a time, at most, where so many are waited for.
-fn get_counted<
-    R: Threads
-        + Wait
-        + Net<Listener = TcpListener, Stream = TcpStream>
-        + Clock
-        + RandomSource
-        + AllocGlobal
-        + Copy
-        + Send
-        + Sync
-        + Drop
-        + 'static,
->(rt: &R, workers: u8, at_once: u16, wanted: u64) -> Result<(bool, u64), Fail> {
+fn get_counted<R: Runtime + Net<Listener = TcpListener, Stream = TcpStream>>(
+    rt: &R,
+    workers: u8,
+    at_once: u16,
+    wanted: u64,
+) -> Result<(bool, u64), Fail> {
     let server = Counting::start(rt, wanted)?;
     let urls = urls(rt.alloc(), server.address.port())?;
     let options = Options {
@@ -95,19 +76,11 @@ fn get_counted<
 }
 
 // The first width with which something else is printed, or with which other than so many requests were open at a time, at most.
-fn first_wrong<
-    R: Threads
-        + Wait
-        + Net<Listener = TcpListener, Stream = TcpStream>
-        + Clock
-        + RandomSource
-        + AllocGlobal
-        + Copy
-        + Send
-        + Sync
-        + Drop
-        + 'static,
->(rt: &R, workers: u8, widths: &[(u16, u64)]) -> Result<Option<u16>, Fail> {
+fn first_wrong<R: Runtime + Net<Listener = TcpListener, Stream = TcpStream>>(
+    rt: &R,
+    workers: u8,
+    widths: &[(u16, u64)],
+) -> Result<Option<u16>, Fail> {
     for (at_once, wanted) in widths {
         let (is_right, most) = get_counted(rt, workers, *at_once, *wanted)?;
         if !is_right || most != *wanted {

@@ -10,17 +10,13 @@ ghost use Rattle.mx_command.specs.Asked.{IsTask};
 use clap::Error;
 use clap::error::ErrorKind;
 use mx_command::{Asked, Get, Task, read_command};
-use mx_get::{MOST_URLS, run_get};
+use mx_get::{MOST_URLS, Runtime, run_get};
 use mx_run_io::{Input, Output, UNWRITTEN, end_with};
 use mx_run_task::{most_reads, run_task};
 use mx_types::Code;
 use std::io::BufWriter;
 use std::net::{Net, TcpListener, TcpStream};
 use std::process::ExitCode;
-use std::random::RandomSource;
-use std::rt::Clock;
-use std::sync::Wait;
-use std::thread::Threads;
 use std::{env, io};
 
 /// The exit status of a command line that is refused.
@@ -69,21 +65,10 @@ fn run<R: io::Input + Print + AllocGlobal>(rt: &R, task: Task) -> u8
 }
 
 /// Fetches what `get` is asked for. More URLs than it takes are refused.
-fn fetch<
-    R: Threads
-        + Wait
-        + Net<Listener = TcpListener, Stream = TcpStream>
-        + Clock
-        + RandomSource
-        + AllocGlobal
-        + Print
-        + Eprint
-        + Copy
-        + Send
-        + Sync
-        + Drop
-        + 'static,
->(rt: &R, get: Get<'_>) -> u8
+fn fetch<R: Runtime + Net<Listener = TcpListener, Stream = TcpStream> + Print + Eprint>(
+    rt: &R,
+    get: Get<'_>,
+) -> u8
     requires { are_within get.options ≡ true }
     ensures many { MOST_URLS < length get.entry.urls.items → result ≡ REFUSED }
 {

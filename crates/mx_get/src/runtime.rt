@@ -1,0 +1,25 @@
+//! What a run takes of its runtime.
+
+use std::alloc::AllocGlobal;
+use std::random::RandomSource;
+use std::rt::Clock;
+use std::sync::Wait;
+use std::thread::Threads;
+
+/// A runtime that workers run on, each in a thread of its own. Every type that has these bounds is one. What a run takes of the network
+/// stands beside it: where a runtime of the host is handed over, the prover wants the network's types named in the signature.
+pub trait Runtime: Threads
+    + Wait
+    + Clock
+    + RandomSource
+    + AllocGlobal
+    + Copy
+    + Send
+    + Sync
+    + Drop
+    + 'static {}
+
+impl<R> Runtime for R
+where
+    R: Threads + Wait + Clock + RandomSource + AllocGlobal + Copy + Send + Sync + Drop + 'static,
+{}
