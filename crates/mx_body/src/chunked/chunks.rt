@@ -1,15 +1,16 @@
-//! Chunks of a chunked body that a reader goes over one after the other, where they stand there whole.
+//! Chunks of a chunked body, and trailer lines, that a reader goes over one after the other, where they stand there whole.
 
-ghost use Rattle.std.specs.Prelude.{◌≡◌, ◌+◌, ◌<◌, ◌≤◌, ◌^◌, ℕ, length, take, true, false, IsTrue, None, Some, IfSome, IfOk};
+ghost use Rattle.std.specs.Prelude.{◌≡◌, ◌+◌, ◌<◌, ◌≤◌, ◌^◌, ℕ, List, length, take, true, false, IsTrue, None, Some, IfSome, IfOk};
 ghost use Rattle.mx_head.specs.Limits.{most_bytes};
-ghost use Rattle.mx_body.specs.declared.chunked.place.Place.TheVariants.{Start, Data};
+ghost use Rattle.mx_body.specs.declared.part.Part.{Part};
+ghost use Rattle.mx_body.specs.declared.chunked.place.Place.TheVariants.{Start, Data, TrailerStart};
 ghost use Rattle.mx_body.specs.ChunkedPlace.{is_settled};
 ghost use Rattle.mx_body.specs.ChunkedReader.{ReadTo};
 ghost use Rattle.mx_body.specs.ChunkedStretch.{IsStretch};
 
 use crate::Part;
 use crate::chunked::place::Place;
-use crate::chunked::stretch::{add_part, digits, go_over, is_crlf_at, part_at};
+use crate::chunked::stretch::{add_part, digits, go_over, is_crlf_at, line_bytes, part_at};
 use crate::limits::MOST_BYTES;
 use mx_types::OutOfMemory;
 
@@ -72,8 +73,26 @@ fn pass_chunks(
     Ok((Place::Start, read))
 }
 
-/// Reads on over a stretch, and from a place before a chunk over those that stand there whole. A refusal of memory leaves
-/// the parts that were there.
+/// Where the trailer lines end that stand whole from an offset on, which is where the first of them begins.
+fn lines_end(body: &[u8], from: usize) -> usize
+    requires { from ≤ length body.now }
+    ensures onward { from ≤ result }
+    ensures read { (at : ℕ) (parts : List Part) → ReadTo most_bytes at body.now from TrailerStart parts → ReadTo most_bytes at body.now result TrailerStart parts }
+{
+    let mut end = from;
+    while end < body.len() {
+        let rest = &body[end..];
+        let n = line_bytes(rest);
+        if n == 0 || !is_crlf_at(rest, n) {
+            break;
+        }
+        end += n + 2;
+    }
+    end
+}
+
+/// Reads on over a stretch, from a place before a chunk over those that stand there whole, and from one before a trailer
+/// line likewise. A refusal of memory leaves the parts that were there.
 pub(crate) fn pass(
     parts: &mut Vec<Part>,
     at: u32,
@@ -96,6 +115,7 @@ pub(crate) fn pass(
     add_part(parts, part_at(stretch.ahead, at + end as u32))?;
     match stretch.next {
         Place::Start => pass_chunks(parts, at, body, end),
+        Place::TrailerStart => Ok((Place::TrailerStart, lines_end(body, end))),
         next => Ok((next, end)),
     }
 }

@@ -57,7 +57,7 @@ pub(crate) fn digits(limit: u32, size: u32, input: &[u8]) -> (u32, usize)
 }
 
 /// How many bytes other than CR and LF stand at the front.
-fn line_bytes(input: &[u8]) -> usize
+pub(crate) fn line_bytes(input: &[u8]) -> usize
     ensures within { result ≤ length input.now }
     ensures line { (k : ℕ) → k < result → is_line_byte (slice_index input.now k) ≡ true }
 {

@@ -26,6 +26,18 @@ pass_chunks-requires-clause-read c =
     subst (λ (p : Place). ReadTo most_bytes at body end p c.add_part.new.parts.items) c.in-Start.is
     (subst (λ (ps : List Part). ReadTo most_bytes at body end c.go_over-stretch.result.next ps) (sym items) here)
 
+pub returns-in-TrailerStart-clause-read : goal.returns-in-TrailerStart-clause-read
+returns-in-TrailerStart-clause-read c =
+    let at = c.args.at in
+    let body = c.args.body.now in
+    let old = c.args.parts.now.items in
+    let end = c.args.read + c.go_over-stretch.result.len in
+    let items = c.in_ok-add_part.ensures.added ∙ ap (λ ps. old ++ ps) c.part_at.ensures in
+    let here = led most_bytes at body c.args.read c.args.place old c.go_over-stretch.result c.requires.read c.go_over-stretch.ensures in
+    c.lines_end.ensures.read at c.add_part.new.parts.items
+    (subst (λ (p : Place). ReadTo most_bytes at body end p c.add_part.new.parts.items) c.in-TrailerStart.is
+    (subst (λ (ps : List Part). ReadTo most_bytes at body end c.go_over-stretch.result.next ps) (sym items) here))
+
 pub returns-in_default : goal.returns-in_default
 returns-in_default c =
     let at = c.args.at in
