@@ -133,38 +133,56 @@ impl<L: Link> Exchange<L> {
         ensures turn { Exchanged L.history (alive self.old live) self.new (how_of result) }
         ensures token { KeepsToken L.token_of (link_of live.line) self.new.link }
     {
-        let mut live = live;
-        let Some(mut line) = live.line.take() else {
-            self.go_on(live);
+        let Live {
+            request,
+            mut decoder,
+            line,
+            mut buffer,
+        } = live;
+        let Some(mut line) = line else {
+            self.go_on(Live {
+                request,
+                decoder,
+                line: None,
+                buffer,
+            });
             return Turned::Waits;
         };
-        match line.serve(&live.request, &mut live.decoder, &mut live.buffer) {
+        match line.serve(&request, &mut decoder, &mut buffer) {
             Halt::Blocked => {
-                live.line = Some(line);
-                self.go_on(live);
+                self.go_on(Live {
+                    request,
+                    decoder,
+                    line: Some(line),
+                    buffer,
+                });
                 Turned::Waits
             }
             Halt::Unfinished => {
-                live.line = Some(line);
-                self.go_on(live);
+                self.go_on(Live {
+                    request,
+                    decoder,
+                    line: Some(line),
+                    buffer,
+                });
                 Turned::Asks
             }
             Halt::Lost => {
-                self.begin_again(live.request);
+                self.begin_again(request);
                 Turned::Waits
             }
             Halt::Over(code) => {
                 let answers = line.answers();
                 let is_reused = Snapshot::of(&line.is_reused());
-                let count = received(&live.decoder);
-                let is_kept = may_keep(&live.decoder);
+                let count = received(&decoder);
+                let is_kept = may_keep(&decoder);
                 self.settle(Ended {
                     code,
                     received: count,
                     line: Some(line),
                     is_kept,
                 });
-                Turned::Ended(end(live.request, live.decoder, code, answers, is_reused))
+                Turned::Ended(end(request, decoder, code, answers, is_reused))
             }
         }
     }

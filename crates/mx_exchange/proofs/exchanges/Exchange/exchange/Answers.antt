@@ -1,4 +1,4 @@
-use Rattle.std.proofs.Common.{◌≡◌, Some, None, refl, sym, ap, ◌∙◌}
+use Rattle.std.proofs.Common.{◌≡◌, Some, refl, sym, ap, ◌∙◌}
 use Rattle.mx_exchange.specs.Lines.{LineState}
 use Rattle.mx_exchange.specs.Turns.{unserved}
 use Rattle.mx_exchange.proofs.Advanced.{Exchange-blocked, Exchange-unfinished, Exchange-lost, Exchange-ended}
@@ -6,13 +6,11 @@ use Rattle.mx_exchange.proofs.HopLemmas.{received_bounded, kept_ends}
 use Rattle.mx_exchange.proofs.exchanges.Exchange.exchange.Goals as goal
 
 pub returns-in_default-clause-turn : goal.returns-in_default-clause-turn
-returns-in_default-clause-turn g c =
-    let had : c.args.live.line ≡ None = sym c.take.ensures.value ∙ c.in_default.is in
-    rw (c.go_on.ensures, c.take.ensures.after, had) (unserved refl refl)
+returns-in_default-clause-turn g c = rw (c.go_on.ensures, c.in_default.is) (unserved refl refl)
 
 pub returns-in-Blocked-clause-turn : goal.returns-in-Blocked-clause-turn
 returns-in-Blocked-clause-turn g c =
-    let had : c.args.live.line ≡ Some c.in-Some.line = sym c.take.ensures.value ∙ c.in-Some.is in
+    let had : c.args.live.line ≡ Some c.in-Some.line = c.in-Some.is in
     let serves = rw had at c.requires.live.serves in
     let t = c.in-Blocked.ensures.turn in
     rw (c.go_on-in-Blocked.ensures, had, ap (λ (l : LineState _). l.attached) t.grows, ap (λ (l : LineState _). l.is_reused) t.grows, ap (λ (l : LineState _). l.needs_probe) t.grows)
@@ -20,7 +18,7 @@ returns-in-Blocked-clause-turn g c =
 
 pub returns-in-Unfinished-clause-turn : goal.returns-in-Unfinished-clause-turn
 returns-in-Unfinished-clause-turn g c =
-    let had : c.args.live.line ≡ Some c.in-Some.line = sym c.take.ensures.value ∙ c.in-Some.is in
+    let had : c.args.live.line ≡ Some c.in-Some.line = c.in-Some.is in
     let serves = rw had at c.requires.live.serves in
     let t = c.in-Unfinished.ensures.turn in
     rw (c.go_on-in-Unfinished.ensures, had, ap (λ (l : LineState _). l.attached) t.grows, ap (λ (l : LineState _). l.is_reused) t.grows, ap (λ (l : LineState _). l.needs_probe) t.grows)
@@ -28,7 +26,7 @@ returns-in-Unfinished-clause-turn g c =
 
 pub returns-in-Lost-clause-turn : goal.returns-in-Lost-clause-turn
 returns-in-Lost-clause-turn g c =
-    let had : c.args.live.line ≡ Some c.in-Some.line = sym c.take.ensures.value ∙ c.in-Some.is in
+    let had : c.args.live.line ≡ Some c.in-Some.line = c.in-Some.is in
     let serves = rw had at c.requires.live.serves in
     let t = c.in-Lost.ensures.turn in
     let fresh = ap (λ (l : LineState _). l.is_stale) t.grows ∙ serves.current in
@@ -37,7 +35,7 @@ returns-in-Lost-clause-turn g c =
 
 pub returns-in-Over-clause-turn : goal.returns-in-Over-clause-turn
 returns-in-Over-clause-turn g c =
-    let had : c.args.live.line ≡ Some c.in-Some.line = sym c.take.ensures.value ∙ c.in-Some.is in
+    let had : c.args.live.line ≡ Some c.in-Some.line = c.in-Some.is in
     let serves = rw had at c.requires.live.serves in
     let about = c.requires.live.about in
     let t = c.in-Over.ensures.turn in
@@ -46,7 +44,7 @@ returns-in-Over-clause-turn g c =
 
 pub settle-requires : goal.settle-requires
 settle-requires g c =
-    let had : c.args.live.line ≡ Some c.in-Some.line = sym c.take.ensures.value ∙ c.in-Some.is in
+    let had : c.args.live.line ≡ Some c.in-Some.line = c.in-Some.is in
     let serves = rw had at c.requires.live.serves in
     let t = c.in-Over.ensures.turn in
     let request = ap (λ (l : LineState _). l.request) t.grows in
