@@ -10,6 +10,7 @@ ghost use Rattle.mx_board.specs.Published.{CaughtUp, IsSound, IsWaiting, shown_b
 use crate::journal::JournalMark;
 use crate::operation::Operation;
 use crate::version::{CatchesUp, Tells, Version, VersionReader, VersionWriter};
+use core::mem::replace_with;
 use left_right::writer::Writer;
 use mx_append_log::{AppendLog, Itself};
 use mx_history::Log;
@@ -126,28 +127,37 @@ impl Log for BoardWriter {
     }
 }
 
+// Publishes what waits, where something does.
+fn published<R: Wait>(board: BoardWriter, rt: &R) -> (BoardWriter, ())
+    requires { is_legal board.events ≡ true }
+    ensures { result.0 ≡ record { events = board.events; published = board.events; book = board.book } }
+{
+    if board.broken || !board.writer.has_pending_operations() {
+        return (board, ());
+    }
+    let BoardWriter {
+        writer,
+        journal,
+        broken,
+    } = board;
+    let events = Snapshot::of(&journal);
+    let writer = publish_all(rt, ManuallyDrop::into_inner(writer), &events);
+    let board = BoardWriter {
+        writer: hold(writer),
+        journal,
+        broken,
+    };
+    (board, ())
+}
+
 impl BoardWriter {
     /// Publishes what was appended: it waits for the readers that still read the copy that it changes. Where nothing waits
     /// to be published, it does nothing.
-    pub fn publish<R: Wait>(self, rt: &R) -> BoardWriter
-        requires { is_legal self.events ≡ true }
-        ensures { result ≡ record { events = self.events; published = self.events; book = self.book } }
+    pub fn publish<R: Wait>(&mut self, rt: &R)
+        requires { is_legal self.old.events ≡ true }
+        ensures { self.new ≡ record { events = self.old.events; published = self.old.events; book = self.old.book } }
     {
-        if self.broken || !self.writer.has_pending_operations() {
-            return self;
-        }
-        let BoardWriter {
-            writer,
-            journal,
-            broken,
-        } = self;
-        let events = Snapshot::of(&journal);
-        let writer = publish_all(rt, ManuallyDrop::into_inner(writer), &events);
-        BoardWriter {
-            writer: hold(writer),
-            journal,
-            broken,
-        }
+        replace_with(self, rt, published::<R>)
     }
 
     /// The published version: the table of the published events.

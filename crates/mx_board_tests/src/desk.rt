@@ -58,10 +58,8 @@ impl Desk {
         if !definitions::is_legal(alloc, list.events())? {
             return Err(OutOfMemory);
         }
-        Ok(Desk {
-            list,
-            board: board.publish(rt),
-        })
+        board.publish(rt);
+        Ok(Desk { list, board })
     }
 
     pub fn reader(&mut self, who: Who) -> Option<BoardReader>
