@@ -14,6 +14,7 @@ use Rattle.atomic_table.proofs.badge.Badge.TheSendSync.{the_send as badge_send}
 use Rattle.atomic_table.proofs.shared.Shared.TheSendSync.{the_send as words_send, the_sync as words_sync}
 use Rattle.mx_board.proofs.writer.BoardWriter.TheSendSync.{the_send as board_send}
 use Rattle.mx_append_log.proofs.log.AppendLog.TheSendSync.{the_send as ties_send}
+use Rattle.mx_lock.specs.contracts.engine.Parts as Parts
 use Rattle.mx_lock.specs.contracts.engine.Engine as Engine
 use Rattle.mx_lock.specs.contracts.engine.Engine.TheInside as EngineInside
 use Rattle.mx_lock.specs.contracts.lock.Lock as Lock
@@ -33,10 +34,13 @@ control_send Q O g h q o =
     let a = inside_send Q O g h q o in
     search (sendable) depth 40 fits 20000
 
+parts_field : (Q O : RattleType) (g : work.Ghosts Q.Denot) (h : ending.Ghosts O.Denot) → IsSend Q → IsSend O → IsSend (Parts.the_field Q O g h).row
+parts_field Q O g h q o = struct_send (shape (Parts.the_type Q O g h)) (control_send Q O g h q o, (board_send, (ties_send Origin.the_row, tt)))
+
 engine_inside : (Q O : RattleType) (g : work.Ghosts Q.Denot) (h : ending.Ghosts O.Denot) → IsSend Q → IsSend O → IsSend (EngineInside.the_field Q O g h).row
 engine_inside Q O g h q o =
-    let a = control_send Q O g h q o in
-    struct_send (shape (EngineInside.the_type Q O g h)) (search (sendable, crosses) depth 40 fits 20000, (board_send, (ties_send Origin.the_row, tt)))
+    let a = parts_field Q O g h q o in
+    struct_send (shape (EngineInside.the_type Q O g h)) (search (sendable, crosses) depth 40 fits 20000, tt)
 
 pub engine_send : (Q O : RattleType) (g : work.Ghosts Q.Denot) (h : ending.Ghosts O.Denot) → IsSend Q → IsSend O → IsSend (Engine.the_row Q O g h)
 engine_send Q O g h q o =

@@ -9,9 +9,9 @@ ghost use Rattle.mx_lock.specs.Engine.{Makes, lets_polls_return};
 ghost use Rattle.mx_lock.specs.Ties.{IsTied, Tells, Tie};
 
 use crate::claim::{TiedClaim, tied_again};
-use crate::ties::{TieLog, tie_addition};
-use mx_board::BoardWriter;
-use mx_journal::{AddReply, Control, FinishReply, InfoReply, PauseReply, RemoveReply, WakeupReply};
+use crate::engine::Parts;
+use crate::ties::tie_addition;
+use mx_journal::{AddReply, FinishReply, InfoReply, PauseReply, RemoveReply, WakeupReply};
 use mx_types::{Call, Ending, HandleId, Reply, Who, Work};
 use std::snapshot::Snapshot;
 use std::sync::Wait;
@@ -31,21 +31,14 @@ pub trait Deed<Q: Work + Drop, O: Ending + Drop> {
 
     ghost own: { Self → Book → Type 0 } = { λ deed list. Unit {0} };
 
-    /// Makes the control state's call for a maker, with the board as its log, and puts in the tie of what it adds.
-    fn make<R: Wait>(
-        self,
-        rt: &R,
-        who: Who,
-        core: &mut Control<Q, O>,
-        log: &mut BoardWriter,
-        ties: &mut TieLog,
-    ) -> Self::Reply
+    /// Makes the core's call for a maker, with the board as its log, and puts in the tie of what it adds.
+    fn make<R: Wait>(self, rt: &R, who: Who, parts: &mut Parts<Q, O>) -> Self::Reply
         requires maker { is_maker who ≡ true }
-        requires own { own self ties.old.book }
-        requires tied { IsTied O.origin core.old ties.old.entries }
-        ensures makes { Makes O.origin who (call self) core.old core.new log.old log.new ties.old ties.new (reply result) }
+        requires own { own self parts.old.ties.book }
+        requires tied { IsTied O.origin parts.old.core parts.old.ties.entries }
+        ensures makes { Makes O.origin who (call self) parts.old.core parts.new.core parts.old.log parts.new.log parts.old.ties parts.new.ties (reply result) }
         ensures back { back self result }
-        ensures tells { Tells (tie self result) ties.new.entries }
+        ensures tells { Tells (tie self result) parts.new.ties.entries }
         ensures quiet { is_poll (call self) ≡ false };
 
     /// Which call of the history it is, for its receipt.
@@ -80,18 +73,11 @@ impl<Q: Work + Drop, O: Ending + Drop> Deed<Q, O> for Addition<Q> {
 
     ghost tie = { λ d r. tie_added r (Q.origin d.work) };
 
-    fn make<R: Wait>(
-        self,
-        rt: &R,
-        who: Who,
-        core: &mut Control<Q, O>,
-        log: &mut BoardWriter,
-        ties: &mut TieLog,
-    ) -> AddReply<Q> {
-        core.sound();
+    fn make<R: Wait>(self, rt: &R, who: Who, parts: &mut Parts<Q, O>) -> AddReply<Q> {
+        parts.core.sound();
         let added = Snapshot::of(&self.work);
-        let reply = core.add(log, who, self.handle, self.work);
-        tie_addition(rt, ties, &reply, &added);
+        let reply = parts.core.add(&mut parts.log, who, self.handle, self.work);
+        tie_addition(rt, &mut parts.ties, &reply, &added);
         reply
     }
 
@@ -118,15 +104,8 @@ impl<Q: Work + Drop, O: Ending + Drop> Deed<Q, O> for Removal {
 
     ghost reply = { reply_of_remove };
 
-    fn make<R: Wait>(
-        self,
-        _rt: &R,
-        who: Who,
-        core: &mut Control<Q, O>,
-        log: &mut BoardWriter,
-        ties: &mut TieLog,
-    ) -> RemoveReply {
-        core.remove(log, who, self.0)
+    fn make<R: Wait>(self, _rt: &R, who: Who, parts: &mut Parts<Q, O>) -> RemoveReply {
+        parts.core.remove(&mut parts.log, who, self.0)
     }
 
     fn as_call(&self) -> Call {
@@ -154,18 +133,11 @@ impl<Q: Work + Drop, O: Ending + Drop> Deed<Q, O> for Pausing {
 
     ghost reply = { reply_of_pause };
 
-    fn make<R: Wait>(
-        self,
-        _rt: &R,
-        who: Who,
-        core: &mut Control<Q, O>,
-        log: &mut BoardWriter,
-        ties: &mut TieLog,
-    ) -> PauseReply {
+    fn make<R: Wait>(self, _rt: &R, who: Who, parts: &mut Parts<Q, O>) -> PauseReply {
         if self.pauses {
-            return core.pause(log, who, self.handle);
+            return parts.core.pause(&mut parts.log, who, self.handle);
         }
-        core.unpause(log, who, self.handle)
+        parts.core.unpause(&mut parts.log, who, self.handle)
     }
 
     fn as_call(&self) -> Call {
@@ -197,15 +169,8 @@ impl<Q: Work + Drop, O: Ending + Drop> Deed<Q, O> for Reading {
 
     ghost tie = { λ d r. tie_read O.origin r };
 
-    fn make<R: Wait>(
-        self,
-        _rt: &R,
-        who: Who,
-        core: &mut Control<Q, O>,
-        log: &mut BoardWriter,
-        ties: &mut TieLog,
-    ) -> InfoReply<O> {
-        core.info_read(log, who)
+    fn make<R: Wait>(self, _rt: &R, who: Who, parts: &mut Parts<Q, O>) -> InfoReply<O> {
+        parts.core.info_read(&mut parts.log, who)
     }
 
     fn as_call(&self) -> Call {
@@ -231,15 +196,8 @@ impl<Q: Work + Drop, O: Ending + Drop> Deed<Q, O> for Waking {
 
     ghost reply = { reply_of_wakeup };
 
-    fn make<R: Wait>(
-        self,
-        _rt: &R,
-        who: Who,
-        core: &mut Control<Q, O>,
-        log: &mut BoardWriter,
-        ties: &mut TieLog,
-    ) -> WakeupReply {
-        core.wakeup(log, who)
+    fn make<R: Wait>(self, _rt: &R, who: Who, parts: &mut Parts<Q, O>) -> WakeupReply {
+        parts.core.wakeup(&mut parts.log, who)
     }
 
     fn as_call(&self) -> Call {
@@ -278,18 +236,16 @@ impl<Q: Work + Drop, O: Ending + Drop> Deed<Q, O> for Finishing<Q, O> {
         self,
         _rt: &R,
         who: Who,
-        core: &mut Control<Q, O>,
-        log: &mut BoardWriter,
-        ties: &mut TieLog,
+        parts: &mut Parts<Q, O>,
     ) -> FinishReply<TiedClaim<Q>, O> {
         let Finishing { claim, ending } = self;
         let (claim, mark) = claim.into_parts();
-        let all = ties.mark();
+        let all = parts.ties.mark();
         all.are_of_one_list(&mark);
-        core.sound();
+        parts.core.sound();
         let given = Snapshot::of(&claim);
         let ended = Snapshot::of(&ending);
-        let reply = core.finish(log, who, claim, ending);
+        let reply = parts.core.finish(&mut parts.log, who, claim, ending);
         tied_again(reply, mark, given, ended)
     }
 

@@ -19,13 +19,19 @@ use std::marker::Model;
 use std::snapshot::Snapshot;
 use std::sync::Wait;
 
+/// What a call changes: the control state, the board, which is its log, and the ties of additions.
+#[derive(Drop)]
+pub struct Parts<Q: Work + Drop, O: Ending + Drop> {
+    pub core: Control<Q, O>,
+    pub log: BoardWriter,
+    pub ties: TieLog,
+}
+
 /// The control state, and the board. The published version is always that of the control state's journal. Beside the journal
-/// stands of which request each addition is, for contracts alone.
+/// stands of which request each addition is, for contracts alone. All of it lies in a box, so that an engine is cheap to move.
 #[derive(Drop)]
 pub struct Engine<Q: Work + Drop, O: Ending + Drop> {
-    pub(crate) control: Box<Control<Q, O>>,
-    pub(crate) board: BoardWriter,
-    pub(crate) ties: TieLog,
+    pub(crate) parts: Box<Parts<Q, O>>,
 }
 
 impl<Q: Work + Drop, O: Ending + Drop> Model for Engine<Q, O> {
@@ -35,9 +41,9 @@ impl<Q: Work + Drop, O: Ending + Drop> Model for Engine<Q, O> {
 
     ghost Value = { EngineState Q O };
 
-    ghost view = { λ s. record { core = s.control.value; published = s.board.published; book = s.board.book; ties = s.ties } };
+    ghost view = { λ s. record { core = s.parts.value.core; published = s.parts.value.log.published; book = s.parts.value.log.book; ties = s.parts.value.ties } };
 
-    ghost invariant = { λ s. (s.board.events ≡ s.control.value.journal) × (s.board.published ≡ s.control.value.journal) × IsTied O.origin s.control.value s.ties.entries };
+    ghost invariant = { λ s. (s.parts.value.log.events ≡ s.parts.value.core.journal) × (s.parts.value.log.published ≡ s.parts.value.core.journal) × IsTied O.origin s.parts.value.core s.parts.value.ties.entries };
 }
 
 impl<Q: Work + Drop, O: Ending + Drop> Engine<Q, O> {
@@ -52,32 +58,30 @@ impl<Q: Work + Drop, O: Ending + Drop> Engine<Q, O> {
         requires readers { (0 < readers) × (readers < 65) }
         ensures { IfOk result (λ s. (s.core.journal ≡ []) × (s.core.opening ≡ record { history = history }) × (s.ties.entries ≡ [])) }
     {
-        let control = Box::new(alloc, Control::new(alloc, history)?)?;
-        let board = board(rt, alloc, readers)?;
-        Ok(Engine {
-            control,
-            board,
+        let parts = Parts {
+            core: Control::new(alloc, history)?,
+            log: board(rt, alloc, readers)?,
             ties: TieLog::new(),
-        })
+        };
+        match Box::new(alloc, parts) {
+            Ok(parts) => Ok(Engine { parts }),
+            Err(refused) => {
+                let _table = refused.value.log.close(rt);
+                Err(OutOfMemory)
+            }
+        }
     }
 
     // Publishes what a call has left.
-    pub(crate) fn publish<R: Wait>(
-        rt: &R,
-        control: Box<Control<Q, O>>,
-        board: BoardWriter,
-        ties: TieLog,
-    ) -> Engine<Q, O>
-        requires { (board.events ≡ control.value.journal) × IsTied O.origin control.value ties.entries }
-        ensures is { result ≡ record { core = control.value; published = control.value.journal; book = board.book; ties = ties } }
+    pub(crate) fn publish<R: Wait>(rt: &R, parts: Box<Parts<Q, O>>) -> Engine<Q, O>
+        requires { (parts.value.log.events ≡ parts.value.core.journal) × IsTied O.origin parts.value.core parts.value.ties.entries }
+        ensures is { result ≡ record { core = parts.value.core; published = parts.value.core.journal; book = parts.value.log.book; ties = parts.value.ties } }
         ensures legal { is_legal result.core.journal ≡ true }
     {
-        control.sound();
-        Engine {
-            board: board.publish(rt),
-            control,
-            ties,
-        }
+        let mut parts = parts;
+        parts.core.sound();
+        parts.log.publish(rt);
+        Engine { parts }
     }
 
     /// What holds of everything that lies in a lock, for contracts alone: the control state is sound, and the version that is
@@ -88,7 +92,7 @@ impl<Q: Work + Drop, O: Ending + Drop> Engine<Q, O> {
         ensures locked { IsLocked O.code_of O.size_of self.now }
         ensures tied { AreOfAdditions Q.origin O.origin self.now.core self.now.ties.entries }
     {
-        self.control.sound();
+        self.parts.core.sound();
         Snapshot::of(self)
     }
 
@@ -97,8 +101,8 @@ impl<Q: Work + Drop, O: Ending + Drop> Engine<Q, O> {
         ensures { IsTableOf self.now.core.journal result.now }
     {
         // For the prover alone: what holds of an engine is used.
-        let _ = &self.control;
-        self.board.table()
+        let _ = &self.parts;
+        self.parts.log.table()
     }
 
     /// A mark of the whole journal.
@@ -106,8 +110,8 @@ impl<Q: Work + Drop, O: Ending + Drop> Engine<Q, O> {
         ensures { result ≡ mark_of self.now.core.journal self.now.book }
     {
         // For the prover alone: what holds of an engine is used.
-        let _ = &self.control;
-        self.board.mark()
+        let _ = &self.parts;
+        self.parts.log.mark()
     }
 
     /// A mark of all ties.
@@ -115,8 +119,8 @@ impl<Q: Work + Drop, O: Ending + Drop> Engine<Q, O> {
         ensures { result ≡ self.now.ties }
     {
         // For the prover alone: what holds of an engine is used.
-        let _ = &self.control;
-        self.ties.mark()
+        let _ = &self.parts;
+        self.parts.ties.mark()
     }
 
     /// Tells a mark all ties.
@@ -127,8 +131,8 @@ impl<Q: Work + Drop, O: Ending + Drop> Engine<Q, O> {
         ensures all { IsPrefix self.now.ties.entries mark.new.entries }
     {
         // For the prover alone: what holds of an engine is used.
-        let _ = &self.control;
-        mark.learn(&self.ties.mark())
+        let _ = &self.parts;
+        mark.learn(&self.parts.ties.mark())
     }
 
     /// How many events the journal has.
@@ -136,15 +140,15 @@ impl<Q: Work + Drop, O: Ending + Drop> Engine<Q, O> {
         ensures length { result ≡ length self.now.core.journal }
         ensures legal { is_legal self.now.core.journal ≡ true }
     {
-        self.control.sound();
-        self.control.len()
+        self.parts.core.sound();
+        self.parts.core.len()
     }
 
     /// Whether an event at or after the mark lets a poll return.
     pub fn is_ready(&self, since: u32) -> bool
         ensures { result ≡ is_ready since self.now.core.journal }
     {
-        self.control.poll_ready(since)
+        self.parts.core.poll_ready(since)
     }
 
     /// How many events the maker made.
@@ -152,7 +156,7 @@ impl<Q: Work + Drop, O: Ending + Drop> Engine<Q, O> {
         requires { is_maker who ≡ true }
         ensures { result ≡ made_by who self.now.core.journal }
     {
-        self.control.made(who)
+        self.parts.core.made(who)
     }
 
     /// Whether the journal begins with what a reader has seen.
@@ -164,7 +168,7 @@ impl<Q: Work + Drop, O: Ending + Drop> Engine<Q, O> {
         if confirmed > self.len() as u64 {
             return false;
         }
-        let next = self.control.event(confirmed as u32);
+        let next = self.parts.core.event(confirmed as u32);
         reader.is_behind(&self.mark(), next)
     }
 
@@ -175,18 +179,19 @@ impl<Q: Work + Drop, O: Ending + Drop> Engine<Q, O> {
         ensures is { IfSome result (λ r. r ≡ caught_up who self.old.core.journal self.old.book) }
     {
         // For the prover alone: what holds of an engine is used.
-        let _ = &self.control;
-        self.board.reader(who)
+        let _ = &self.parts;
+        self.parts.log.reader(who)
     }
 
     /// Ends the board: it waits for the readers that read, and gives the memory of both copies back. The control state goes
     /// with its queue and its endings.
     pub fn close<R: Wait>(self, rt: &R) {
-        let Engine {
-            control: _control,
-            board,
+        let Engine { parts } = self;
+        let Parts {
+            core: _core,
+            log,
             ties: _ties,
-        } = self;
-        let _table = board.close(rt);
+        } = Box::into_inner(parts);
+        let _table = log.close(rt);
     }
 }

@@ -15,7 +15,7 @@ pub use crate::claim::TiedClaim;
 pub use crate::deeds::{
     Addition, Deed, Finishing, Pausing, Reading, Removal, Waking, lets_polls_return,
 };
-pub use crate::engine::Engine;
+pub use crate::engine::{Engine, Parts};
 pub use crate::key_view::{BookName, EngineName, KeyView};
 pub use crate::lock::{Key, Lock};
 pub use crate::taken::Taken;

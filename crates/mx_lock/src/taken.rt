@@ -14,7 +14,7 @@ ghost use Rattle.mx_lock.specs.Ties.{Has, Tells, tie};
 
 use crate::claim::TiedClaim;
 use crate::deeds::Deed;
-use crate::engine::Engine;
+use crate::engine::{Engine, Parts};
 use mx_board::BoardReader;
 use mx_journal::GiveBackReply;
 use mx_types::{Ending, Who, Work};
@@ -66,13 +66,9 @@ impl<Q: Work + Drop, O: Ending + Drop> Taken<Q, O> {
         ensures quiet { is_poll (D.call deed) ≡ false }
     {
         let Taken { engine } = self;
-        let Engine {
-            mut control,
-            mut board,
-            mut ties,
-        } = engine;
-        let reply = deed.make(rt, who, &mut control, &mut board, &mut ties);
-        let engine = Engine::publish(rt, control, board, ties);
+        let Engine { mut parts } = engine;
+        let reply = deed.make(rt, who, &mut parts);
+        let engine = Engine::publish(rt, parts);
         (Taken { engine }, reply)
     }
 
@@ -83,7 +79,7 @@ impl<Q: Work + Drop, O: Ending + Drop> Taken<Q, O> {
         ensures same { self.new ≡ self.old }
         ensures reader { reader.new ≡ caught_up reader.old.who self.old.core.journal self.old.book }
     {
-        reader.catch_up(&mut self.engine.board)
+        reader.catch_up(&mut self.engine.parts.log)
     }
 
     /// Takes the work of the lowest ticket in the queue.
@@ -101,10 +97,11 @@ impl<Q: Work + Drop, O: Ending + Drop> Taken<Q, O> {
         ensures handle { IfSome result (λ r. handle_of r.0.ticket self.old.core.journal ≡ Some r.0.handle) }
         ensures slot { IfSome result (λ r. slot_of r.0.ticket self.old.core.journal ≡ Some r.0.slot) }
     {
-        let Some((claim, work)) = self.engine.control.claim() else {
+        let parts: &mut Parts<Q, O> = &mut self.engine.parts;
+        let Some((claim, work)) = parts.core.claim() else {
             return None;
         };
-        Some((TiedClaim::of(claim, self.engine.ties.mark()), work))
+        Some((TiedClaim::of(claim, parts.ties.mark()), work))
     }
 
     /// Puts claimed work back into the queue, to the place of its ticket; `Stale` hands it back, and changes nothing.
@@ -120,10 +117,11 @@ impl<Q: Work + Drop, O: Ending + Drop> Taken<Q, O> {
         ensures handed { IsGivenBack work result }
         ensures claims { HasNoOther (content self.old).claimed (content self.new).claimed }
     {
+        let parts: &mut Parts<Q, O> = &mut self.engine.parts;
         let (claim, mark) = claim.into_parts();
-        let all = self.engine.ties.mark();
+        let all = parts.ties.mark();
         all.are_of_one_list(&mark);
-        self.engine.control.sound();
-        self.engine.control.give_back(claim, work)
+        parts.core.sound();
+        parts.core.give_back(claim, work)
     }
 }

@@ -11,7 +11,7 @@ use Rattle.mx_lock.proofs.deeds.FinishingDeed.make.Goals as goal
 pub returns-clause-makes : goal.returns-clause-makes
 returns-clause-makes g c =
     let e = c.finish-reply.ensures in
-    let x = c.args.core.now in
+    let x = c.args.parts.now.core in
     let y = c.finish-reply.new.self in
     let d = c.args.self in
     let code = g.O.Ending.code_of d.ending in
@@ -19,10 +19,10 @@ returns-clause-makes g c =
     let claim = c.into_parts-claim.result.0 in
     let marked = c.into_parts-claim.result.1.entries in
     let answer = reply_of_finish c.finish-reply.result in
-    let ties = c.args.ties.now in
+    let ties = c.args.parts.now.ties in
     let one : AreOfOneList ties.entries marked = subst (λ (s : TieState). AreOfOneList s.entries marked) c.mark-all.ensures c.are_of_one_list.ensures in
     let tied = tied_finished g.O.Ending.origin x.opening c.args.who claim.ticket code size c.finish-reply.result x y ties.entries marked claim.origin c.requires.tied c.sound.ensures.sound.kept.legal c.sound.ensures.origins.0 one
     c.into_parts-claim.ensures.known e.called.answers e.origins e.called.unchanged e.own in
-    let made = makes_running g.O.Ending.origin c.args.who (call.Finish claim.ticket code size) x y c.args.log.now c.finish-reply.new.log ties answer e.called refl e.queue tied in
-    subst (λ r. Makes g.O.Ending.origin c.args.who (call.Finish d.claim.ticket code size) x y c.args.log.now c.finish-reply.new.log ties ties r) (sym c.tied_again.ensures.same)
-    (subst (λ t. Makes g.O.Ending.origin c.args.who (call.Finish t code size) x y c.args.log.now c.finish-reply.new.log ties ties answer) c.into_parts-claim.ensures.ticket made)
+    let made = makes_running g.O.Ending.origin c.args.who (call.Finish claim.ticket code size) x y c.args.parts.now.log c.finish-reply.new.log ties answer e.called refl e.queue tied in
+    subst (λ r. Makes g.O.Ending.origin c.args.who (call.Finish d.claim.ticket code size) x y c.args.parts.now.log c.finish-reply.new.log ties ties r) (sym c.tied_again.ensures.same)
+    (subst (λ t. Makes g.O.Ending.origin c.args.who (call.Finish t code size) x y c.args.parts.now.log c.finish-reply.new.log ties ties answer) c.into_parts-claim.ensures.ticket made)

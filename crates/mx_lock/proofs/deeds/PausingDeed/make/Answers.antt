@@ -9,17 +9,17 @@ use Rattle.mx_lock.proofs.deeds.PausingDeed.make.Goals as goal
 pub returns-then-self-clause-makes : goal.returns-then-self-clause-makes
 returns-then-self-clause-makes g c =
     let e = c.pause.ensures in
-    let x = c.args.core.now in
-    let ties = c.args.ties.now in
+    let x = c.args.parts.now in
+    let ties = x.ties in
     let reply = reply_of_pause c.pause.result in
-    subst (λ (b : Bool). Makes g.O.Ending.origin c.args.who (pausing_call b c.args.self.handle) x c.pause.new.self c.args.log.now c.pause.new.log ties ties reply) (sym c.if-self.true)
+    subst (λ (b : Bool). Makes g.O.Ending.origin c.args.who (pausing_call b c.args.self.handle) x.core c.pause.new.self x.log c.pause.new.log ties ties reply) (sym c.if-self.true)
     (makes_same g.O.Ending.origin _ (call.Pause c.args.self.handle) _ _ _ _ ties reply e.called refl e.queue (tied_same g.O.Ending.origin _ _ ties.entries c.requires.tied e.origins e.endings))
 
 pub returns-clause-makes : goal.returns-clause-makes
 returns-clause-makes g c =
     let e = c.unpause.ensures in
-    let x = c.args.core.now in
-    let ties = c.args.ties.now in
+    let x = c.args.parts.now in
+    let ties = x.ties in
     let reply = reply_of_pause c.unpause.result in
-    subst (λ (b : Bool). Makes g.O.Ending.origin c.args.who (pausing_call b c.args.self.handle) x c.unpause.new.self c.args.log.now c.unpause.new.log ties ties reply) (sym c.if-self.false)
+    subst (λ (b : Bool). Makes g.O.Ending.origin c.args.who (pausing_call b c.args.self.handle) x.core c.unpause.new.self x.log c.unpause.new.log ties ties reply) (sym c.if-self.false)
     (makes_same g.O.Ending.origin _ (call.Unpause c.args.self.handle) _ _ _ _ ties reply e.called refl e.queue (tied_same g.O.Ending.origin _ _ ties.entries c.requires.tied e.origins e.endings))

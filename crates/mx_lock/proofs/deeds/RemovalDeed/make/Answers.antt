@@ -9,4 +9,4 @@ pub returns-clause-makes : goal.returns-clause-makes
 returns-clause-makes g c =
     let e = c.remove.ensures in
     makes_running g.O.Ending.origin _ (call.Remove c.args.self.0) _ _ _ _ _ (reply_of_remove c.remove.result) e.called refl e.queue
-    (tied_on g.O.Ending.origin _ _ c.args.ties.now.entries c.requires.tied e.origins e.own)
+    (tied_on g.O.Ending.origin _ _ c.args.parts.now.ties.entries c.requires.tied e.origins e.own)

@@ -9,4 +9,4 @@ pub returns-clause-makes : goal.returns-clause-makes
 returns-clause-makes g c =
     let e = c.wakeup.ensures in
     makes_same g.O.Ending.origin _ call.Wakeup _ _ _ _ _ (reply_of_wakeup c.wakeup.result) e.called refl e.queue
-    (tied_same g.O.Ending.origin _ _ c.args.ties.now.entries c.requires.tied e.origins e.endings)
+    (tied_same g.O.Ending.origin _ _ c.args.parts.now.ties.entries c.requires.tied e.origins e.endings)

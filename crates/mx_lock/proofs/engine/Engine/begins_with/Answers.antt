@@ -1,4 +1,4 @@
-use Rattle.std.proofs.Common.{arith, length, subst}
+use Rattle.std.proofs.Common.{arith, subst}
 use Rattle.mx_append_log.specs.Log.{DecidesBeginning, Mark}
 use Rattle.mx_append_log.proofs.Prefixes.{prefix_fits}
 use Rattle.mx_types.specs.declared.event.Event.{Event}

@@ -5,7 +5,8 @@ use Rattle.mx_lock.proofs.taken.Taken.run.Goals as goal
 
 pub make-reply-requires-clause-own : goal.make-reply-requires-clause-own
 make-reply-requires-clause-own g c =
-    subst (λ (x : EngineState g.row.Q.Denot g.row.O.Denot). g.D.Deed.own c.args.deed x.ties.book) (sym (c.engine.view_is ∙ c.self.view_is)) c.requires.own
+    rw c.deref_mut.ensures.value
+    (subst (λ (x : EngineState g.row.Q.Denot g.row.O.Denot). g.D.Deed.own c.args.deed x.ties.book) (sym (c.engine.view_is ∙ c.self.view_is)) c.requires.own)
 
 pub publish-engine-requires : goal.publish-engine-requires
 publish-engine-requires g c =
