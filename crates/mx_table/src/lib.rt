@@ -2,7 +2,9 @@
 #![tactic(auto)]
 
 mod makers;
+mod places;
 mod rows;
+mod slots;
 mod table;
 mod waits;
 

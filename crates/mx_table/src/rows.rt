@@ -1,29 +1,207 @@
-//! The rows of the table, over slices.
-ghost use Rattle.std.specs.Prelude.{◌≡◌, ◌==◌, ◌<◌, ◌≤◌, ℕ, length, map, count_by, vec_capacity, vec_len, if◌then◌else◌};
-ghost use Rattle.std.specs.List.{find, filter, list_any, sum_by};
+//! The rows of the table, and what is kept beside them so that no call goes through all of them.
+ghost use Rattle.std.specs.Prelude.{◌≡◌, ◌<◌, ◌≤◌, ◌++◌, ◌∷◌, [], ℕ, not, true, false, length, map, count_by, slice_index_or, slice_set, remove, if◌then◌else◌, IfOk, IfSome, IfNone};
+ghost use Rattle.std.specs.List.{find, filter};
+ghost use Rattle.mx_history.specs.declared.row.Row.{Row as RowValue};
+ghost use Rattle.mx_history.specs.declared.row.Phase.{Phase as PhaseValue};
 ghost use Rattle.mx_history.specs.History.{same_handle, same_ticket, wakes};
 ghost use Rattle.mx_history.specs.Slots.{lowest_free};
-ghost use Rattle.mx_history.specs.Rows.{is_open, places, turned, rows_after, slots_in, Marks};
+ghost use Rattle.mx_history.specs.Rows.{is_open, places, turned, rows_after, slots_in};
 ghost use Rattle.mx_types.specs.declared.names.HandleId.{HandleId};
 ghost use Rattle.mx_types.specs.declared.names.Ticket.{Ticket};
+ghost use Rattle.mx_table.specs.Kept.{IsOf};
 
+use crate::places::place_of;
+use crate::slots::lowest_free;
 use arrayvec::ArrayVec;
 use mx_history::definitions::wakes;
 use mx_history::{Phase, Row};
-use mx_types::{HandleId, MOST_HANDLES, Ticket, What};
+use mx_types::{HandleId, MOST_HANDLES, OutOfMemory, Ticket, What};
+use std::alloc::Global;
+use std::marker::Model;
 
-/// The row of a handle.
-pub fn row_of_handle(rows: &[Row], handle: HandleId) -> Option<Row>
-    ensures { result ≡ find (λ r. same_handle handle r.handle) rows.now }
-{
-    rows.iter().copied().find(|r| handle == r.handle)
+/// The rows of the added handles, in order: at most [`MOST_HANDLES`].
+///
+/// The numbers of their handles and tickets stand in vectors of their own, in which sixteen are looked at at once. How many
+/// events the rows have to come is kept, and for each slot how many rows have it: after lawful events one at most, but rows
+/// take in any event.
+#[derive(Drop)]
+pub struct Rows {
+    rows: Vec<Row>,
+    handles: Vec<u32>,
+    tickets: Vec<u32>,
+    due: u32,
+    slot_counts: Vec<u32>,
 }
 
-/// The row of a ticket.
-pub fn row_of_ticket(rows: &[Row], ticket: Ticket) -> Option<Row>
-    ensures { result ≡ find (λ r. same_ticket ticket r.ticket) rows.now }
-{
-    rows.iter().copied().find(|r| ticket == r.ticket)
+impl Model for Rows {
+    ghost use Rattle.std.specs.Prelude.{List, ◌≤◌, vec_capacity};
+    ghost use Rattle.mx_types.specs.Limits.{most_handles};
+    ghost use Rattle.mx_history.specs.declared.row.Row.{Row};
+    ghost use Rattle.mx_table.specs.Kept.{AreKept};
+
+    ghost Value = { List Row };
+
+    ghost view = { λ t. t.rows.items };
+
+    ghost invariant = { λ t. AreKept t.rows.items t.handles.items t.tickets.items t.due t.slot_counts.items × (most_handles ≤ vec_capacity t.rows) × (most_handles ≤ vec_capacity t.handles) × (most_handles ≤ vec_capacity t.tickets) };
+}
+
+impl Rows {
+    /// No rows, with space for all that there can ever be; `OutOfMemory` where that is refused.
+    pub fn new(alloc: Global) -> Result<Rows, OutOfMemory>
+        ensures { IfOk result (λ r. r ≡ []) }
+    {
+        Ok(Rows {
+            rows: Vec::with_capacity(alloc, MOST_HANDLES)?,
+            handles: Vec::with_capacity(alloc, MOST_HANDLES)?,
+            tickets: Vec::with_capacity(alloc, MOST_HANDLES)?,
+            due: 0,
+            slot_counts: vec![in alloc; 0; MOST_HANDLES]?,
+        })
+    }
+
+    /// How many rows there are.
+    pub fn len(&self) -> usize
+        ensures value { result ≡ length self.now }
+        ensures few { result ≤ MOST_HANDLES }
+    {
+        self.rows.len()
+    }
+
+    /// The row of a handle.
+    pub fn row_of_handle(&self, handle: HandleId) -> Option<Row>
+        ensures { result ≡ find (λ r. same_handle handle r.handle) self.now }
+    {
+        let at = place_of(&self.handles, handle.0)?;
+        Some(self.rows[at])
+    }
+
+    /// The row of a ticket.
+    pub fn row_of_ticket(&self, ticket: Ticket) -> Option<Row>
+        ensures { result ≡ find (λ r. same_ticket ticket r.ticket) self.now }
+    {
+        let at = place_of(&self.tickets, ticket.0)?;
+        Some(self.rows[at])
+    }
+
+    /// The handles of the rows.
+    pub fn handles(&self) -> ArrayVec<HandleId, MOST_HANDLES>
+        ensures { result.items ≡ map (λ r. r.handle) self.now }
+    {
+        let mut list = ArrayVec::new();
+        for row in &self.rows {
+            list.push(row.handle);
+        }
+        list
+    }
+
+    /// How many rows run.
+    pub fn running(&self) -> u32
+        ensures { result ≡ count_by (λ r. is_open r.phase) self.now }
+    {
+        self.rows.iter().filter(|r| r.phase.is_open()).count() as u32
+    }
+
+    /// How many events the additions have to come.
+    pub fn due(&self) -> u32
+        ensures { result ≡ places self.now }
+    {
+        self.due
+    }
+
+    /// The rows after an event. An addition has room.
+    pub fn enter(&mut self, what: &What)
+        requires { (handle : HandleId) (ticket : Ticket) → what.now ≡ What.Added handle ticket → length self.old < MOST_HANDLES }
+        ensures { self.new ≡ rows_after self.old what.now }
+    {
+        match what {
+            What::Added(handle, ticket) => self.add(*handle, *ticket),
+            What::Removed(_, ticket) => self.remove(*ticket),
+            What::Done(ticket, ..)
+            | What::Read(ticket)
+            | What::Paused(ticket)
+            | What::Resumed(ticket) => self.turn(*ticket, what),
+            What::Wake => {}
+        }
+    }
+
+    // Adds a row under the lowest free slot. There is room.
+    fn add(&mut self, handle: HandleId, ticket: Ticket)
+        requires { length self.old < MOST_HANDLES }
+        ensures { self.new ≡ self.old ++ (record { handle = handle; ticket = ticket; slot = lowest_free (slots_in self.old); phase = PhaseValue.Running }) ∷ [] }
+    {
+        let slot = lowest_free(&self.slot_counts);
+        let row = Row {
+            handle,
+            ticket,
+            slot,
+            phase: Phase::Running,
+        };
+        self.rows.push_reserved(row);
+        self.handles.push_reserved(handle.0);
+        self.tickets.push_reserved(ticket.0);
+        self.due += row.phase.places();
+        self.slot_counts[usize::from(slot)] += 1;
+    }
+
+    // Removes each row of the ticket.
+    fn remove(&mut self, ticket: Ticket)
+        ensures { self.new ≡ filter (λ r. not (same_ticket r.ticket ticket)) self.old }
+    {
+        let mut from = 0;
+        while let Some(at) = self.next_of(ticket, from) {
+            self.remove_at(at);
+            from = at;
+        }
+    }
+
+    // Takes each row of the ticket past an event that adds and removes nothing, and changes no other row.
+    fn turn(&mut self, ticket: Ticket, what: &What)
+        requires { IsOf ticket what.now }
+        ensures { self.new ≡ map (turned what.now) self.old }
+    {
+        let mut from = 0;
+        while let Some(at) = self.next_of(ticket, from) {
+            self.turn_at(at, what);
+            from = at + 1;
+        }
+    }
+
+    // Where the ticket's first row stands, from a place on.
+    fn next_of(&self, ticket: Ticket, from: usize) -> Option<usize>
+        requires { from ≤ length self.now }
+        ensures few { length self.now ≤ MOST_HANDLES }
+        ensures within { IfSome result (λ i. (from ≤ i) × (i < length self.now)) }
+        ensures there { IfSome result (λ i. (d : RowValue) → same_ticket (slice_index_or self.now i d).ticket ticket ≡ true) }
+        ensures first { IfSome result (λ i. (k : ℕ) (d : RowValue) → from ≤ k → k < i → same_ticket (slice_index_or self.now k d).ticket ticket ≡ false) }
+        ensures none { IfNone result ((k : ℕ) (d : RowValue) → from ≤ k → k < length self.now → same_ticket (slice_index_or self.now k d).ticket ticket ≡ false) }
+    {
+        let after = place_of(&self.tickets[from..], ticket.0)?;
+        Some(from + after)
+    }
+
+    // Removes the row at a place.
+    fn remove_at(&mut self, at: usize)
+        requires { at < length self.old }
+        ensures { self.new ≡ remove self.old at }
+    {
+        let row = self.rows.remove(at);
+        self.handles.remove(at);
+        self.tickets.remove(at);
+        self.due -= row.phase.places();
+        self.slot_counts[usize::from(row.slot)] -= 1;
+    }
+
+    // Takes the row at a place past an event that adds and removes nothing.
+    fn turn_at(&mut self, at: usize, what: &What)
+        requires { at < length self.old }
+        ensures { (d : RowValue) → self.new ≡ slice_set self.old at (turned what.now (slice_index_or self.old at d)) }
+    {
+        let before = self.rows[at];
+        let after = before.after(what);
+        self.due = self.due - before.phase.places() + after.phase.places();
+        self.rows[at] = after;
+    }
 }
 
 /// How many events there were after the last Wake or Done, with the event, which makes them `events`.
@@ -31,85 +209,4 @@ pub fn woken_after(what: &What, woken: u32, events: u32) -> u32
     ensures { result ≡ (if wakes what.now then events else woken) }
 {
     if wakes(what) { events } else { woken }
-}
-
-/// The handles of the rows.
-pub fn handles(rows: &[Row]) -> ArrayVec<HandleId, MOST_HANDLES>
-    requires { length rows.now ≤ MOST_HANDLES }
-    ensures { result.items ≡ map (λ r. r.handle) rows.now }
-{
-    let mut list = ArrayVec::new();
-    for row in rows {
-        list.push(row.handle);
-    }
-    list
-}
-
-/// How many rows run.
-pub fn running(rows: &[Row]) -> usize
-    ensures { result ≡ count_by (λ r. is_open r.phase) rows.now }
-{
-    rows.iter().filter(|r| r.phase.is_open()).count()
-}
-
-/// How many events the additions have to come.
-pub fn places(rows: &[Row]) -> u32
-    requires { length rows.now ≤ MOST_HANDLES }
-    ensures { result ≡ places rows.now }
-{
-    rows.iter().map(|r| r.phase.places()).sum()
-}
-
-// Which of the slots the rows have.
-fn taken_slots(rows: &[Row]) -> [bool; MOST_HANDLES]
-    ensures { Marks result rows.now }
-{
-    let mut taken = [false; MOST_HANDLES];
-    for row in rows {
-        taken[row.slot as usize] = true;
-    }
-    taken
-}
-
-/// The lowest slot that no row has; 255 where each is taken.
-pub fn free_slot(rows: &[Row]) -> u8
-    ensures { result ≡ lowest_free (slots_in rows.now) }
-{
-    let taken = taken_slots(rows);
-    let mut slot: u8 = 0;
-    while slot < 255 && taken[slot as usize] {
-        slot += 1;
-    }
-    slot
-}
-
-/// Takes each row past an event that adds and removes nothing.
-fn turn(rows: &mut [Row], what: &What)
-    ensures { rows.new ≡ map (turned what.now) rows.old }
-{
-    for row in rows.iter_mut() {
-        *row = row.after(what);
-    }
-}
-
-/// The rows after an event. An addition has room.
-pub fn enter(rows: &mut Vec<Row>, what: &What)
-    requires { (handle : HandleId) (ticket : Ticket) → what.now ≡ What.Added handle ticket → vec_len rows.old < vec_capacity rows.old }
-    ensures items { rows.new.items ≡ rows_after rows.old.items what.now }
-    ensures capacity { vec_capacity rows.new ≡ vec_capacity rows.old }
-{
-    match what {
-        What::Added(handle, ticket) => {
-            let slot = free_slot(rows);
-            rows.push_reserved(Row {
-                handle: *handle,
-                ticket: *ticket,
-                slot,
-                phase: Phase::Running,
-            });
-        }
-        What::Removed(_, ticket) => rows.retain(|r| r.ticket != *ticket),
-        What::Wake => {}
-        _ => turn(rows, what),
-    }
 }

@@ -8,7 +8,8 @@ ghost use Rattle.mx_history.specs.Slots.{slot_of};
 ghost use Rattle.mx_history.specs.Table.{IsTableOf, IsRow, empty_table, has_space_for, has_space, table_after};
 
 use crate::makers::MakerCounts;
-use crate::{rows, waits};
+use crate::rows::{Rows, woken_after};
+use crate::waits;
 use mx_history::Row;
 use mx_history::definitions::additions_by;
 use mx_types::{
@@ -22,7 +23,7 @@ use std::marker::Model;
 /// which this is the table.
 #[derive(Drop)]
 pub struct Table {
-    rows: Vec<Row>,
+    rows: Rows,
     waiting: Vec<Ticket>,
     added: u32,
     events: u32,
@@ -31,15 +32,15 @@ pub struct Table {
 }
 
 impl Model for Table {
-    ghost use Rattle.std.specs.Prelude.{◌≤◌, length, vec_capacity};
+    ghost use Rattle.std.specs.Prelude.{◌≤◌, vec_capacity};
     ghost use Rattle.mx_types.specs.Limits.{most_handles};
     ghost use Rattle.mx_history.specs.Table.{TableView};
 
     ghost Value = { TableView };
 
-    ghost view = { λ t. record { rows = t.rows.items; waiting = t.waiting.items; added = t.added; events = t.events; woken = t.woken; makers = t.makers } };
+    ghost view = { λ t. record { rows = t.rows; waiting = t.waiting.items; added = t.added; events = t.events; woken = t.woken; makers = t.makers } };
 
-    ghost invariant = { λ t. (length t.rows.items ≤ most_handles) × (most_handles ≤ vec_capacity t.rows) × (most_handles ≤ vec_capacity t.waiting) };
+    ghost invariant = { λ t. most_handles ≤ vec_capacity t.waiting };
 }
 
 impl Table {
@@ -49,7 +50,7 @@ impl Table {
         ensures fresh { IfOk result (λ t. t ≡ empty_table) }
     {
         Ok(Table {
-            rows: Vec::with_capacity(alloc, MOST_HANDLES)?,
+            rows: Rows::new(alloc)?,
             waiting: Vec::with_capacity(alloc, MOST_HANDLES)?,
             added: 0,
             events: 0,
@@ -65,7 +66,7 @@ impl Table {
         ensures row { (j : List Event) → IsTableOf j self.now → IfSome result (IsRow j) }
         ensures same { IfSome result (λ r. r.handle ≡ handle) }
     {
-        rows::row_of_handle(&self.rows, handle)
+        self.rows.row_of_handle(handle)
     }
 
     /// The row of a ticket that is added.
@@ -76,7 +77,7 @@ impl Table {
         ensures same { IfSome result (λ r. r.ticket ≡ ticket) }
         ensures none { (j : List Event) → IsTableOf j self.now → IfNone result (has_ticket ticket (running j) ≡ false) }
     {
-        rows::row_of_ticket(&self.rows, ticket)
+        self.rows.row_of_ticket(ticket)
     }
 
     /// Where a handle stands.
@@ -104,7 +105,7 @@ impl Table {
     pub fn handles(&self) -> AddedHandles
         ensures { (j : List Event) → IsTableOf j self.now → result ≡ map (λ a. a.handle) (added j) }
     {
-        AddedHandles::new(rows::handles(&self.rows))
+        AddedHandles::new(self.rows.handles())
     }
 
     /// The tickets whose message waits to be read, in the order of their ends: at most [`MOST_HANDLES`], each once.
@@ -118,7 +119,7 @@ impl Table {
     pub fn running(&self) -> u32
         ensures { (j : List Event) → IsTableOf j self.now → result ≡ length (running j) }
     {
-        rows::running(&self.rows) as u32
+        self.rows.running()
     }
 
     /// Whether as many handles are added as can be.
@@ -132,7 +133,7 @@ impl Table {
     pub fn due(&self) -> u32
         ensures { (j : List Event) → IsTableOf j self.now → result ≡ due j }
     {
-        rows::places(&self.rows)
+        self.rows.due()
     }
 
     /// The ticket of the next addition.
@@ -196,10 +197,10 @@ impl Table {
             return;
         }
         self.events += 1;
-        self.woken = rows::woken_after(&event.what, self.woken, self.events);
+        self.woken = woken_after(&event.what, self.woken, self.events);
         self.added += additions_by(&event.what);
         self.makers.count(event.who);
-        rows::enter(&mut self.rows, &event.what);
+        self.rows.enter(&event.what);
         waits::enter(&mut self.waiting, &event.what);
     }
 }

@@ -6,4 +6,4 @@ use Rattle.mx_table.proofs.table.Table.due.Goals as goal
 pub returns : goal.returns
 returns c j x =
     let y = rw (← c.self.view_is) at x in
-    c.places.ensures ∙ ap places (c.deref.ensures.value ∙ y.rowed) ∙ sym (due-table j x.legal)
+    c.due.ensures ∙ ap places y.rowed ∙ sym (due-table j x.legal)

@@ -8,4 +8,4 @@ use Rattle.mx_table.proofs.table.Table.handles.Goals as goal
 pub returns : goal.returns
 returns c j x =
     let y = rw (← c.self.view_is) at x in
-    c.new.ensures ∙ c.handles.ensures ∙ ap (map (λ (r : Row). r.handle)) (c.deref.ensures.value ∙ y.rowed) ∙ handles-rows j (table_of j) (tabled j x.legal)
+    c.new.ensures ∙ c.handles.ensures ∙ ap (map (λ (r : Row). r.handle)) y.rowed ∙ handles-rows j (table_of j) (tabled j x.legal)

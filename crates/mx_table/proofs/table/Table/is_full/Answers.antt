@@ -9,4 +9,4 @@ use Rattle.mx_table.proofs.table.Table.is_full.Goals as goal
 pub returns : goal.returns
 returns c j x =
     let y = rw (← c.self.view_is) at x in
-    ap (λ n. nat_le most_handles n) (c.len.ensures ∙ c.self.inside.rows.ok.0 ∙ ap length y.rowed ∙ sym (length-rows j (table_of j) (tabled j x.legal)))
+    ap (λ n. nat_le most_handles n) (c.len.ensures.value ∙ ap length y.rowed ∙ sym (length-rows j (table_of j) (tabled j x.legal)))

@@ -9,22 +9,22 @@ use Rattle.mx_table.proofs.table.Table.row_of_ticket.Goals as goal
 pub returns-clause-handle : goal.returns-clause-handle
 returns-clause-handle c j x =
     let y = rw (← c.self.view_is) at x in
-    ticket_found j x.legal c.args.ticket c.row_of_ticket.result (c.row_of_ticket.ensures ∙ ap (find (λ (r : Row). same_ticket c.args.ticket r.ticket)) (c.deref.ensures.value ∙ y.rowed))
+    ticket_found j x.legal c.args.ticket c.row_of_ticket.result (c.row_of_ticket.ensures ∙ ap (find (λ (r : Row). same_ticket c.args.ticket r.ticket)) y.rowed)
 
 pub returns-clause-slot : goal.returns-clause-slot
 returns-clause-slot c j x =
     let y = rw (← c.self.view_is) at x in
-    slot_found j c.args.ticket c.row_of_ticket.result (c.row_of_ticket.ensures ∙ ap (find (λ (r : Row). same_ticket c.args.ticket r.ticket)) (c.deref.ensures.value ∙ y.rowed))
+    slot_found j c.args.ticket c.row_of_ticket.result (c.row_of_ticket.ensures ∙ ap (find (λ (r : Row). same_ticket c.args.ticket r.ticket)) y.rowed)
 
 pub returns-clause-row : goal.returns-clause-row
 returns-clause-row c j x =
     let y = rw (← c.self.view_is) at x in
-    row_only j x.legal (λ r. same_ticket c.args.ticket r.ticket) c.row_of_ticket.result (c.row_of_ticket.ensures ∙ ap (find (λ (r : Row). same_ticket c.args.ticket r.ticket)) (c.deref.ensures.value ∙ y.rowed))
+    row_only j x.legal (λ r. same_ticket c.args.ticket r.ticket) c.row_of_ticket.result (c.row_of_ticket.ensures ∙ ap (find (λ (r : Row). same_ticket c.args.ticket r.ticket)) y.rowed)
 
 pub returns-clause-same : goal.returns-clause-same
-returns-clause-same c = same_only c.args.ticket c.deref.result.now c.row_of_ticket.result c.row_of_ticket.ensures
+returns-clause-same c = same_only c.args.ticket c.self.inside.rows c.row_of_ticket.result c.row_of_ticket.ensures
 
 pub returns-clause-none : goal.returns-clause-none
 returns-clause-none c j x =
     let y = rw (← c.self.view_is) at x in
-    none_only j x.legal c.args.ticket c.row_of_ticket.result (c.row_of_ticket.ensures ∙ ap (find (λ (r : Row). same_ticket c.args.ticket r.ticket)) (c.deref.ensures.value ∙ y.rowed))
+    none_only j x.legal c.args.ticket c.row_of_ticket.result (c.row_of_ticket.ensures ∙ ap (find (λ (r : Row). same_ticket c.args.ticket r.ticket)) y.rowed)

@@ -8,4 +8,4 @@ use Rattle.mx_table.proofs.table.Table.running.Goals as goal
 pub returns : goal.returns
 returns c j x =
     let y = rw (← c.self.view_is) at x in
-    c.running.ensures ∙ ap (count_by (λ (r : Row). is_open r.phase)) (c.deref.ensures.value ∙ y.rowed) ∙ sym (running-table j x.legal)
+    c.running.ensures ∙ ap (count_by (λ (r : Row). is_open r.phase)) y.rowed ∙ sym (running-table j x.legal)

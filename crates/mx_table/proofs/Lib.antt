@@ -1,0 +1,4 @@
+pub mod Kept
+pub mod Lookups
+pub mod Lanes
+pub mod SlotCounts
