@@ -7,7 +7,7 @@ use crate::limits::MOST_BYTES;
 use mx_types::OutOfMemory;
 
 /// From so much room on a body whose length wasn't told gets all that a response may need: room that isn't touched costs
-/// address space alone, and bytes that aren't moved keep their pages.
+/// address space alone.
 const LARGE: usize = 1_048_576;
 
 /// How much room is best, where there has to be more than there is.
@@ -21,6 +21,40 @@ fn best_room(room: usize, told: usize) -> usize
     } else {
         MOST_BYTES + 1
     }
+}
+
+/// Moves the bytes to memory of their own, with room for `more` behind them. Large pages, where the system gives them, are for
+/// memory that is asked for at once, and not for memory that grew to its size. A refusal leaves the bytes where they are.
+fn move_to_room(wire: &mut Vec<u8>, more: usize) -> Result<(), OutOfMemory>
+    ensures items { wire.new.items ≡ wire.old.items }
+    ensures room { OnOk result (vec_capacity wire.new ≡ vec_len wire.old + more) }
+    ensures refused { OnErr result (vec_capacity wire.new ≡ vec_capacity wire.old) }
+{
+    let Some(room) = wire.len().checked_add(more) else {
+        return Err(OutOfMemory);
+    };
+    let mut moved = Vec::with_capacity(*wire.allocator(), room)?;
+    moved.extend_from_slice(wire)?;
+    // There was room, so that it is as it was asked for; no clause of the library says so.
+    if moved.capacity() != room {
+        return Err(OutOfMemory);
+    }
+    *wire = moved;
+    Ok(())
+}
+
+/// Adds room for `more` bytes, in place where it can be, or elsewhere. A refusal leaves the bytes as they were.
+fn add_room(wire: &mut Vec<u8>, more: usize, elsewhere: bool) -> Result<(), OutOfMemory>
+    requires { vec_capacity wire.old < vec_len wire.old + more }
+    ensures items { wire.new.items ≡ wire.old.items }
+    ensures room { OnOk result (vec_capacity wire.new ≡ vec_len wire.old + more) }
+    ensures refused { OnErr result (vec_capacity wire.new ≡ vec_capacity wire.old) }
+{
+    if elsewhere {
+        return move_to_room(wire, more);
+    }
+    wire.reserve_exact(more)?;
+    Ok(())
 }
 
 /// Makes room for `more` bytes behind those that are there. `told` is how many there will be in all, where a
@@ -41,7 +75,7 @@ pub(crate) fn make_room(wire: &mut Vec<u8>, more: usize, told: usize) -> Result<
         return Ok(());
     }
     let wanted = best_room(room, told).saturating_sub(len).max(more);
-    if wire.reserve_exact(wanted).is_ok() {
+    if add_room(wire, wanted, told == 0 && room >= LARGE).is_ok() {
         return Ok(());
     }
     wire.reserve_exact(more)?;
