@@ -79,7 +79,9 @@ fn add_transfer<L: Link, R: Wait + AllocGlobal>(
 {
     request.know();
     let asked = Snapshot::of(&request);
-    let work = Queued::new(rt.alloc(), request);
+    let Ok(work) = Queued::new(rt.alloc(), request) else {
+        return Err(FetchError::OutOfMemory);
+    };
     let ticket = added(seat.add(rt, handle, work))?;
     Ok(Addition::new(ticket, asked))
 }

@@ -166,12 +166,12 @@ impl<L: Link, C: Right, E: Engine<L, C>> Desk<L, C, E> {
     }
 
     // Holds on to a transfer that was polled, which could go on at once, or couldn't.
-    fn hold_on(&mut self, right: C, transfer: Transfer<L>, could: bool)
+    fn hold_on(&mut self, right: C, transfer: Box<Transfer<L>>, could: bool)
         requires room { in_hand self.old.worker < most_transfers }
         requires own { C.of right ≡ self.old.of }
-        requires running { transfer.chain.code ≡ None }
-        requires origin { request_origin transfer.chain.request ≡ C.origin_of right }
-        ensures held { self.new.worker ≡ holds (record self.old.worker { can_go_on = (self.old.worker.can_go_on || could) }) (record { ticket = C.ticket_of right; slot = C.slot_of right; transfer = transfer.chain }) }
+        requires running { transfer.value.chain.code ≡ None }
+        requires origin { request_origin transfer.value.chain.request ≡ C.origin_of right }
+        ensures held { self.new.worker ≡ holds (record self.old.worker { can_go_on = (self.old.worker.can_go_on || could) }) (record { ticket = C.ticket_of right; slot = C.slot_of right; transfer = transfer.value.chain }) }
         ensures same { self.new ≡ record self.old { worker = self.new.worker } }
     {
         self.go_on_if(could);
@@ -258,10 +258,11 @@ impl<L: Link, C: Right, E: Engine<L, C>> Desk<L, C, E> {
         ensures same { self.new ≡ record self.old { worker = self.new.worker } }
     {
         let (right, mut transfer) = held.into_parts();
-        let delayed = self.make_ready(gate, now, goes, &mut transfer);
-        match self.poll(&right, &mut transfer) {
+        let lent: &mut Transfer<L> = &mut transfer;
+        let delayed = self.make_ready(gate, now, goes, lent);
+        match self.poll(&right, lent) {
             Stepped::Waits => {
-                let wants = wants_link(&transfer);
+                let wants = wants_link(lent);
                 self.hold_on(right, transfer, could_go_on(goes, delayed, wants));
             }
             Stepped::Asks => self.hold_on(right, transfer, goes),

@@ -35,11 +35,11 @@ pub trait Right: Tied + Drop {
 }
 
 /// A claimed transfer, which has not ended, and the right to it, which is of its request. Contracts see the ticket, the slot, how the
-/// transfer stands, and of which list of ties the right is.
+/// transfer stands, and of which list of ties the right is. The transfer lies in a box, since it goes from list to list in each turn.
 #[derive(Drop)]
 pub struct Held<L: Link, C: Right> {
     pub(crate) right: C,
-    pub(crate) transfer: Transfer<L>,
+    pub(crate) transfer: Box<Transfer<L>>,
 }
 
 impl<L: Link, C: Right> Model for Held<L, C> {
@@ -49,9 +49,9 @@ impl<L: Link, C: Right> Model for Held<L, C> {
 
     ghost Value = { HeldView L };
 
-    ghost view = { λ h. record { held = record { ticket = C.ticket_of h.right; slot = C.slot_of h.right; transfer = h.transfer.chain }; of = C.of h.right } };
+    ghost view = { λ h. record { held = record { ticket = C.ticket_of h.right; slot = C.slot_of h.right; transfer = h.transfer.value.chain }; of = C.of h.right } };
 
-    ghost invariant = { λ h. (h.transfer.chain.code ≡ None) × (request_origin h.transfer.chain.request ≡ C.origin_of h.right) };
+    ghost invariant = { λ h. (h.transfer.value.chain.code ≡ None) × (request_origin h.transfer.value.chain.request ≡ C.origin_of h.right) };
 }
 
 impl<L: Link, C: Right> Tied for Held<L, C> {
@@ -60,19 +60,19 @@ impl<L: Link, C: Right> Tied for Held<L, C> {
 
 impl<L: Link, C: Right> Held<L, C> {
     /// A transfer with the right to it.
-    pub fn new(right: C, transfer: Transfer<L>) -> Held<L, C>
-        requires running { transfer.chain.code ≡ None }
-        requires origin { request_origin transfer.chain.request ≡ C.origin_of right }
-        ensures { result ≡ record { held = record { ticket = C.ticket_of right; slot = C.slot_of right; transfer = transfer.chain }; of = C.of right } }
+    pub fn new(right: C, transfer: Box<Transfer<L>>) -> Held<L, C>
+        requires running { transfer.value.chain.code ≡ None }
+        requires origin { request_origin transfer.value.chain.request ≡ C.origin_of right }
+        ensures { result ≡ record { held = record { ticket = C.ticket_of right; slot = C.slot_of right; transfer = transfer.value.chain }; of = C.of right } }
     {
         Held { right, transfer }
     }
 
     /// The right and the transfer, by move.
-    pub fn into_parts(self) -> (C, Transfer<L>)
-        ensures parts { self ≡ record { held = record { ticket = C.ticket_of result.0; slot = C.slot_of result.0; transfer = result.1.chain }; of = C.of result.0 } }
-        ensures running { result.1.chain.code ≡ None }
-        ensures origin { request_origin result.1.chain.request ≡ C.origin_of result.0 }
+    pub fn into_parts(self) -> (C, Box<Transfer<L>>)
+        ensures parts { self ≡ record { held = record { ticket = C.ticket_of result.0; slot = C.slot_of result.0; transfer = result.1.value.chain }; of = C.of result.0 } }
+        ensures running { result.1.value.chain.code ≡ None }
+        ensures origin { request_origin result.1.value.chain.request ≡ C.origin_of result.0 }
     {
         (self.right, self.transfer)
     }

@@ -1,17 +1,18 @@
 //! The work of a multi handle with workers.
-ghost use Rattle.std.specs.Prelude.{◌≡◌, None, false};
+ghost use Rattle.std.specs.Prelude.{◌≡◌, None, false, IfOk, IfErr};
 
 use mx_link::Link;
 use mx_request::Request;
 use mx_transfer::Transfer;
 use mx_types::Work;
-use std::alloc::Global;
+use std::alloc::{AllocFailed, Global};
 use std::marker::Model;
 
-/// A transfer that has not ended, as it waits for a worker. Contracts see the transfer.
+/// A transfer that has not ended, as it waits for a worker. It lies in a box, since it goes through the multi handle and from list to list
+/// of a worker. Contracts see the transfer.
 #[derive(Drop)]
 pub struct Queued<L: Link> {
-    transfer: Transfer<L>,
+    transfer: Box<Transfer<L>>,
 }
 
 impl<L: Link> Model for Queued<L> {
@@ -20,9 +21,9 @@ impl<L: Link> Model for Queued<L> {
 
     ghost Value = { TransferState L };
 
-    ghost view = { λ q. q.transfer };
+    ghost view = { λ q. q.transfer.value };
 
-    ghost invariant = { λ q. q.transfer.chain.code ≡ None };
+    ghost invariant = { λ q. q.transfer.value.chain.code ≡ None };
 }
 
 impl<L: Link> Work for Queued<L> {
@@ -32,13 +33,18 @@ impl<L: Link> Work for Queued<L> {
 }
 
 impl<L: Link> Queued<L> {
-    /// A transfer of the request, which has not started. It takes no memory; what its polls grow comes from `alloc`.
-    pub fn new(alloc: Global, request: Request) -> Queued<L>
-        ensures request { result.chain.request ≡ request }
-        ensures unstarted { (result.chain.now.is_started ≡ false) × (result.chain.code ≡ None) × (result.chain.now.deadline ≡ None) }
+    /// A transfer of the request, which has not started. What its polls grow comes from `alloc`, as the transfer itself does. Where
+    /// that memory is refused, the request comes back.
+    pub fn new(alloc: Global, request: Request) -> Result<Queued<L>, AllocFailed<Request>>
+        ensures request { IfOk result (λ q. q.chain.request ≡ request) }
+        ensures unstarted { IfOk result (λ q. (q.chain.now.is_started ≡ false) × (q.chain.code ≡ None) × (q.chain.now.deadline ≡ None)) }
+        ensures refused { IfErr result (λ e. e.value ≡ request) }
     {
-        Queued {
-            transfer: Transfer::new(alloc, request),
+        match Box::new(alloc, Transfer::new(alloc, request)) {
+            Ok(transfer) => Ok(Queued { transfer }),
+            Err(refused) => Err(AllocFailed {
+                value: refused.value.into_request(),
+            }),
         }
     }
 
@@ -46,21 +52,21 @@ impl<L: Link> Queued<L> {
     pub fn into_request(self) -> Request
         ensures { result ≡ self.chain.request }
     {
-        self.transfer.into_request()
+        Box::into_inner(self.transfer).into_request()
     }
 
     /// A transfer that a worker has claimed and polled, to be given back. It has not ended.
-    pub fn of(transfer: Transfer<L>) -> Queued<L>
-        requires { transfer.chain.code ≡ None }
-        ensures { result ≡ transfer }
+    pub fn of(transfer: Box<Transfer<L>>) -> Queued<L>
+        requires { transfer.value.chain.code ≡ None }
+        ensures { result ≡ transfer.value }
     {
         Queued { transfer }
     }
 
     /// The transfer, by move, for a worker that polls it itself. It has not ended.
-    pub fn into_transfer(self) -> Transfer<L>
-        ensures same { result ≡ self }
-        ensures running { result.chain.code ≡ None }
+    pub fn into_transfer(self) -> Box<Transfer<L>>
+        ensures same { result.value ≡ self }
+        ensures running { result.value.chain.code ≡ None }
     {
         self.transfer
     }

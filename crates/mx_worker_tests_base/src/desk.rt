@@ -143,7 +143,9 @@ impl<L: Link> Desk<L> {
         handle: u32,
         request: Request,
     ) -> Result<(), Fail> {
-        let work = Queued::new(alloc, request);
+        let Ok(work) = Queued::new(alloc, request) else {
+            return Err(OutOfMemory.into());
+        };
         added(self.multi.add(rt, &mut self.seat, HandleId(handle), work))
     }
 
