@@ -13,3 +13,5 @@ mod locations;
 mod pieces;
 #[cfg(test)]
 mod responses;
+#[cfg(test)]
+mod rows;

@@ -2,6 +2,7 @@
 //!
 //! Each call stands in a function of its own with no contract, which keeps the proof of the tests short.
 
+use crate::rows::{RESPONSES, bytes_of};
 use mx_body::{Decoder, Part, Stand, Verdict, decode_whole};
 use mx_types::{Code, Method};
 use std::alloc::{AllocError, Global};
@@ -41,7 +42,7 @@ pub(crate) fn feed(decoder: &mut Decoder, piece: &[u8]) -> Option<Stand> {
 }
 
 /// `None` for want of memory.
-fn end(decoder: &mut Decoder) -> Option<Stand> {
+pub(crate) fn end(decoder: &mut Decoder) -> Option<Stand> {
     decoder.end().ok()
 }
 
@@ -341,35 +342,37 @@ fn agrees_in_pieces(alloc: Global, method: Method, bytes: &[u8], len: usize) -> 
     end(&mut decoder).is_some() && agrees(&decoder, method, decoder.wire(), alloc, !decided)
 }
 
-#[test]
-fn both_decoders_agree(rt: HostRuntime) {
-    let responses: [&[u8]; 16] = [
-        CHUNKED,
-        CLOSE,
-        b"",
-        b"HTTP/1.1 20",
-        b"HTTP/1.1 204 No Content\r\n\r\nHTTP",
-        b"HTTP/1.1 200 OK\r\nContent-Length: 5\r\n\r\nhelloHTTP",
-        b"HTTP/1.1 200 OK\r\nContent-Length: 5\r\n\r\nhell",
-        b"HTTP/1.1 200 OK\r\nContent-Length: 5, 6\r\n\r\nhello",
-        b"HTTP/1.1 200 OK\r\nContent-Length: 67108864\r\n\r\nhello",
-        b"HTTP/1.1 200 OK\r\nTransfer-Encoding: gzip\r\n\r\nhello",
-        b"HTTP/1.1 100 Continue\r\n\r\nHTTP/1.1 103 Early Hints\r\n\r\nHTTP/1.1 200 OK\r\nTransfer-Encoding: chunked\r\n\r\n2\r\nhe\r\n3\r\nllo\r\n0\r\n\r\nHTTP",
-        b"HTTP/1.1 101 Switching Protocols\r\n\r\n",
-        b"HTTP/1.1 200 OK\r\nTransfer-Encoding: chunked\r\n\r\n5\r\nhelloX",
-        b"HTTP/1.1 200 OK\r\nTransfer-Encoding: chunked\r\n\r\n5 ;a\r\nhello\r\n4000001\r\n",
-        b"HTTP/1.1 200 OK\r\nTransfer-Encoding: chunked\r\n\r\n5\r\nhello\r\n00\r\nA: b\r\nC: d\r\n",
-        b"HTTP/1.1 200 OK\r\nFoo bar\r\n\r\n",
-    ];
-    for bytes in responses {
-        for method in [Method::Get, Method::Head] {
-            for len in [1, 2, 7, 600] {
-                assert!(rt;
-                    agrees_in_pieces(rt.alloc(), method, bytes, len),
-                    "pieces of {len}"
-                );
+/// Responses beside the rows of the table.
+static OTHERS: [&[u8]; 7] = [
+    b"HTTP/1.1 204 No Content\r\n\r\nHTTP",
+    b"HTTP/1.1 200 OK\r\nContent-Length: 67108864\r\n\r\nhello",
+    b"HTTP/1.1 200 OK\r\nTransfer-Encoding: gzip\r\n\r\nhello",
+    b"HTTP/1.1 100 Continue\r\n\r\nHTTP/1.1 103 Early Hints\r\n\r\nHTTP/1.1 200 OK\r\nTransfer-Encoding: chunked\r\n\r\n2\r\nhe\r\n3\r\nllo\r\n0\r\n\r\nHTTP",
+    b"HTTP/1.1 200 OK\r\nTransfer-Encoding: chunked\r\n\r\n5 ;a\r\nhello\r\n4000001\r\n",
+    b"HTTP/1.1 200 OK\r\nTransfer-Encoding: chunked\r\n\r\n5\r\nhello\r\n00\r\nA: b\r\nC: d\r\n",
+    b"HTTP/1.1 200 OK\r\nFoo bar\r\n\r\n",
+];
+
+/// Whether they agree on the bytes as the answer to two methods, in pieces of each length.
+fn agrees_in_all_pieces(alloc: Global, bytes: &[u8]) -> bool {
+    for method in [Method::Get, Method::Head] {
+        for len in [1, 2, 7, 600] {
+            if !agrees_in_pieces(alloc, method, bytes, len) {
+                return false;
             }
         }
+    }
+    true
+}
+
+#[test]
+fn both_decoders_agree(rt: HostRuntime) {
+    for row in &RESPONSES {
+        let bytes = bytes_of(rt.alloc(), row).expect(&rt, "memory");
+        assert!(rt; agrees_in_all_pieces(rt.alloc(), &bytes), "{bytes:?}");
+    }
+    for bytes in OTHERS {
+        assert!(rt; agrees_in_all_pieces(rt.alloc(), bytes), "{bytes:?}");
     }
 }
 
