@@ -5,4 +5,6 @@ pub mod callers;
 #[cfg(test)]
 mod connecting;
 #[cfg(test)]
+mod faults;
+#[cfg(test)]
 mod tests;

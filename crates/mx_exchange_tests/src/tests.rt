@@ -15,7 +15,7 @@ use std::test::Fail;
 const HERE: &str = "http://127.0.0.1:8080/a/longer/path?b";
 
 /// 72 bytes, with the body at 54.
-const CHUNKED: &[u8] =
+pub(crate) const CHUNKED: &[u8] =
     b"HTTP/1.1 200 OK\r\nTransfer-Encoding: chunked\r\n\r\n5;x=y\r\nhello\r\n0\r\nA: b\r\n\r\n";
 
 /// 47 bytes, four of them behind the response.
@@ -34,7 +34,7 @@ const SERVED: Waiting = Waiting {
 };
 
 /// It has dropped its link, and wants a fresh one.
-const LOST: Waiting = Waiting {
+pub(crate) const LOST: Waiting = Waiting {
     asks: false,
     wants: Wanted::Fresh,
     started: true,
@@ -54,7 +54,7 @@ fn unserved(asks: bool, deadline: Option<u64>) -> Waiting {
 }
 
 /// Reads of one byte each.
-fn one_by_one(alloc: Global, bytes: &[u8]) -> Result<Vec<ScriptRead<'_>>, AllocError> {
+pub(crate) fn one_by_one(alloc: Global, bytes: &[u8]) -> Result<Vec<ScriptRead<'_>>, AllocError> {
     let mut reads = Vec::new(alloc);
     for i in 0..bytes.len() {
         reads.push(ScriptRead::Bytes(&bytes[i..i + 1]))?;
