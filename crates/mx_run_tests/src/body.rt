@@ -3,7 +3,7 @@
 //! It is called in one function, which has no contract, and what a test owns is owned by functions that end in one place: so the
 //! proof of the tests is short.
 use crate::fakes::{Filler, Full, Trickle, Unflushed};
-use crate::long::{Long, add_long, bytes_of, front};
+use crate::long::{Long, add_long, bytes_of};
 use crate::rows::{first_false, none_is_wrong};
 use mx_run_body::{MOST_READS, run_body};
 use mx_run_io::{Input, Output};
@@ -511,41 +511,96 @@ fn random_bytes(rt: HostRuntime) {
     none_is_wrong(&rt, first_unrefused_random(rt.alloc()));
 }
 
-/// 43 bytes.
-const WHOLE: &[u8] = b"HTTP/1.1 200 OK\r\nContent-Length: 5\r\n\r\nhello";
+/// A body with a length, one of two chunks, one that goes on to the end, and no response.
+static READ_AND_WRITTEN: [Row<'static>; 4] = [
+    (
+        Method::Get,
+        b"HTTP/1.1 200 OK\r\nContent-Length: 5\r\n\r\nhello",
+        0,
+        b"OK status=200 body=5 keep=yes left=0\nhello",
+    ),
+    (
+        Method::Get,
+        b"HTTP/1.1 200 OK\r\nTransfer-Encoding: chunked\r\n\r\n2\r\nhe\r\n3\r\nllo\r\n0\r\n\r\n",
+        0,
+        b"OK status=200 body=5 keep=yes left=0\nhello",
+    ),
+    (
+        Method::Get,
+        b"HTTP/1.0 200 OK\r\n\r\nabc",
+        0,
+        b"OK status=200 body=3 keep=no left=0\nabc",
+    ),
+    (Method::Get, b"HTTP/1.1 20", 8, b"FAULT 8\n"),
+];
 
-/// The first front of `WHOLE` behind which a failed read isn't told.
-fn first_untold(alloc: Global) -> Option<usize> {
-    for cut in 0..=43 {
-        let reader = Trickle {
-            bytes: front(WHOLE, cut),
-            fails: true,
-        };
-        if !prints(alloc, Method::Get, reader, 56, b"FAULT 56\n") {
-            return Some(cut);
+/// The number of reads behind which something else is printed than a failed read, or the row where all went well: one read for each byte,
+/// and one for the end.
+fn first_untold(alloc: Global, row: Row<'_>) -> Option<usize> {
+    let (method, bytes, status, output) = row;
+    for reads in 0..=bytes.len() {
+        if !prints(alloc, method, Trickle { bytes, reads }, 56, b"FAULT 56\n") {
+            return Some(reads);
         }
     }
-    None
+    let reads = bytes.len().saturating_add(1);
+    if prints(alloc, method, Trickle { bytes, reads }, status, output) {
+        return None;
+    }
+    Some(reads)
 }
 
 #[test]
 fn reads_that_fail(rt: HostRuntime) {
-    none_is_wrong(&rt, first_untold(rt.alloc()));
+    for row in &READ_AND_WRITTEN {
+        none_is_wrong(&rt, first_untold(rt.alloc(), *row));
+    }
+}
+
+/// What `body` ends with where the writer takes so many writes; `None` where it took other bytes than it should.
+fn ends_full(alloc: Global, row: Row<'_>, writes: u8) -> Option<u8> {
+    let (method, bytes, status, output) = row;
+    let mut taken = Vec::new(alloc);
+    let ended = run(
+        alloc,
+        method,
+        bytes,
+        Full {
+            taken: &mut taken,
+            writes,
+        },
+    );
+    let is_whole = ended == status && taken.as_slice() == output;
+    if is_whole || ended == 121 && output.starts_with(&taken) {
+        Some(ended)
+    } else {
+        None
+    }
+}
+
+/// The first number of writes whose end is wrong: the first of them fails where there may be none, and none fails where there may be 40.
+fn first_wrong_writes(alloc: Global, row: Row<'_>) -> Option<usize> {
+    let mut last = None;
+    for writes in 0..40 {
+        last = ends_full(alloc, row, writes);
+        if last.is_none() || writes == 0 && last != Some(121) {
+            return Some(writes as usize);
+        }
+    }
+    if last == Some(row.2) { None } else { Some(40) }
 }
 
 #[test]
-fn bytes_that_trickle_in(rt: HostRuntime) {
-    let reader = Trickle {
-        bytes: WHOLE,
-        fails: false,
-    };
-    let answer = b"OK status=200 body=5 keep=yes left=0\nhello";
-    assert!(rt; prints(rt.alloc(), Method::Get, reader, 0, answer));
+fn writes_that_fail(rt: HostRuntime) {
+    for row in &READ_AND_WRITTEN {
+        none_is_wrong(&rt, first_wrong_writes(rt.alloc(), *row));
+    }
 }
 
 /// Whether a writer answers to the worked example that it couldn't be written.
 fn is_unwritten<W: Write + Drop>(alloc: Global, writer: W) -> bool {
-    run(alloc, Method::Get, WHOLE, writer) == 121
+    let (method, bytes, ..) = READ_AND_WRITTEN[0];
+    run(alloc, method, bytes, writer) == 121
 }
 
 /// Whether it does with a buffer before it.
@@ -556,25 +611,7 @@ fn is_unwritten_behind<W: Write + Drop>(alloc: Global, writer: W) -> bool {
     }
 }
 
-/// Whether a writer does that takes so many writes.
-fn is_full(alloc: Global, writes: u8) -> bool {
-    let mut taken = Vec::new(alloc);
-    let taken = &mut taken;
-    is_unwritten(alloc, Full { taken, writes })
-}
-
-#[test]
-fn writes_that_fail(rt: HostRuntime) {
-    let full = [
-        is_full(rt.alloc(), 0),
-        is_full(rt.alloc(), 1),
-        is_full(rt.alloc(), 2),
-        is_full(rt.alloc(), 3),
-    ];
-    none_is_wrong(&rt, first_false(&full));
-}
-
-/// Whether it does with a buffer before it.
+/// Whether it does with a buffer before a writer that takes so many writes.
 fn is_full_behind(alloc: Global, writes: u8) -> bool {
     let mut taken = Vec::new(alloc);
     let taken = &mut taken;

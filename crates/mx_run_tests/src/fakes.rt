@@ -2,22 +2,25 @@
 use std::io;
 use std::io::{Error, ErrorKind, Read, Write};
 
-/// Gives its bytes one at a time, and then fails, or ends.
+/// Gives its bytes one at a time, and then ends; but after so many reads it fails.
 #[derive(Drop)]
 pub struct Trickle<'a> {
     pub bytes: &'a [u8],
-    pub fails: bool,
+    pub reads: usize,
 }
 
 impl Read for Trickle<'_> {
     fn read(&mut self, buffer: &mut [u8]) -> io::Result<usize> {
+        if self.reads == 0 {
+            return Err(Error::from(ErrorKind::ConnectionReset));
+        }
+        self.reads -= 1;
         match self.bytes.split_first() {
             Some((first, rest)) if !buffer.is_empty() => {
                 buffer[0] = *first;
                 self.bytes = rest;
                 Ok(1)
             }
-            _ if self.fails => Err(Error::from(ErrorKind::ConnectionReset)),
             _ => Ok(0),
         }
     }

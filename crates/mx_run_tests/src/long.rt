@@ -21,8 +21,3 @@ pub(crate) fn bytes_of(alloc: Global, long: Long<'_>) -> Result<Vec<u8>, AllocEr
     add_long(&mut bytes, long)?;
     Ok(bytes)
 }
-
-/// The first bytes, as many of them as there are.
-pub(crate) fn front(bytes: &[u8], len: usize) -> &[u8] {
-    &bytes[..len.min(bytes.len())]
-}

@@ -4,7 +4,6 @@
 //! the proof of the tests is short.
 
 use crate::fakes::{Full, Trickle, Unflushed};
-use crate::long::front;
 use crate::rows::{first_false, none_is_wrong};
 use mx_run_io::{Input, Output};
 use mx_run_play::{MOST_READS, run_play};
@@ -219,8 +218,8 @@ static FAULTS: [(usize, usize, &str); 4] = [
 fn first_wrong_cut(alloc: Global, first: usize, last: usize, printed: &str) -> Option<usize> {
     for cut in first..=last {
         let reader = Trickle {
-            bytes: front(SCRIPT.as_bytes(), cut),
-            fails: true,
+            bytes: SCRIPT.as_bytes(),
+            reads: cut,
         };
         if !plays(alloc, 1024, reader, MOST_READS, printed, 56) {
             return Some(cut);
@@ -250,7 +249,7 @@ fn reads_that_fail(rt: HostRuntime) {
 fn bytes_that_trickle_in(rt: HostRuntime) {
     let reader = Trickle {
         bytes: SCRIPT.as_bytes(),
-        fails: false,
+        reads: 35,
     };
     assert!(rt; plays(rt.alloc(), 1024, reader, MOST_READS, REPLIES, 0));
 }
@@ -272,7 +271,7 @@ fn first_wrong_most(alloc: Global) -> Option<usize> {
         let (printed, status) = printed_by(most);
         let reader = Trickle {
             bytes: b"add 1\nx",
-            fails: false,
+            reads: 8,
         };
         if !plays(alloc, 1024, reader, most, printed, status) {
             return Some(most as usize);
@@ -299,44 +298,54 @@ fn answers_behind<W: Write + Drop>(alloc: Global, writer: W) -> Option<u8> {
     }
 }
 
-/// Whether the bytes are those that are printed where this is answered.
-fn are_taken(taken: &[u8], answer: Option<u8>) -> bool {
-    let replies = REPLIES.as_bytes();
-    answer == Some(0) && taken == replies || answer == Some(121) && replies.starts_with(taken)
-}
+/// A number of reads of `SCRIPT`, a byte each, behind which one fails, what is printed, and the exit status.
+type Written<'a> = (usize, &'a str, u8);
 
-/// What a writer answers that takes so many writes; `None` where it took other bytes than it should.
-fn answers_full(alloc: Global, writes: u8) -> Option<u8> {
+/// The whole script, its first line, and nothing of it.
+static WRITTEN: [Written<'static>; 3] = [
+    (35, REPLIES, 0),
+    (6, "added 0\nFAULT 56\n", 56),
+    (0, "FAULT 56\n", 56),
+];
+
+/// What is answered where the writer takes so many writes; `None` where it took other bytes than it should.
+fn answers_full(alloc: Global, row: Written<'_>, writes: u8) -> Option<u8> {
+    let (reads, printed, status) = row;
+    let reader = Trickle {
+        bytes: SCRIPT.as_bytes(),
+        reads,
+    };
     let mut taken = Vec::new(alloc);
-    let answer = answers(
-        alloc,
-        Full {
-            taken: &mut taken,
-            writes,
-        },
-    );
-    if are_taken(&taken, answer) {
+    let writer = Full {
+        taken: &mut taken,
+        writes,
+    };
+    let answer = run(alloc, 1024, reader, MOST_READS, writer);
+    let is_whole = answer == Some(status) && taken.as_slice() == printed.as_bytes();
+    if is_whole || answer == Some(121) && printed.as_bytes().starts_with(&taken) {
         answer
     } else {
         None
     }
 }
 
-/// The first number of writes whose answer is wrong. The last has to be 0.
-fn first_wrong_writes(alloc: Global) -> Option<usize> {
+/// The first number of writes whose answer is wrong: the first of them fails where there may be none, and none fails where there may be 40.
+fn first_wrong_writes(alloc: Global, row: Written<'_>) -> Option<usize> {
     let mut last = None;
     for writes in 0..40 {
-        last = answers_full(alloc, writes);
-        if last.is_none() {
+        last = answers_full(alloc, row, writes);
+        if last.is_none() || writes == 0 && last != Some(121) {
             return Some(writes as usize);
         }
     }
-    if last == Some(0) { None } else { Some(40) }
+    if last == Some(row.2) { None } else { Some(40) }
 }
 
 #[test]
 fn writes_that_fail(rt: HostRuntime) {
-    none_is_wrong(&rt, first_wrong_writes(rt.alloc()));
+    for row in &WRITTEN {
+        none_is_wrong(&rt, first_wrong_writes(rt.alloc(), *row));
+    }
 }
 
 /// Whether a writer that takes so many writes, with a buffer before it, answers that it couldn't be written.
