@@ -119,25 +119,58 @@ fn counted_bodies(rt: HostRuntime) {
     none_is_wrong(&rt, first_wrong(rt.alloc(), &COUNTED_BODIES));
 }
 
-static ENDED_BODIES: [LongRow<'static>; 2] = [
-    (
-        (b"HTTP/1.0 200 OK\r\n\r\nabc", b"", 0, b""),
-        0,
-        b"OK status=200 body=3 keep=no left=0\nabc",
-    ),
+/// The most field lines and the most bytes that a head may have, 65,536, of which 43 aren't letters; and one more.
+static LONG_HEADS: [LongRow<'static>; 5] = [
     (
         (b"HTTP/1.1 200 OK\r\n", b"A: b\r\n", 128, b"\r\n"),
         0,
         b"OK status=200 body=0 keep=no left=0\n",
     ),
+    (
+        (b"HTTP/1.1 200 OK\r\n", b"A: b\r\n", 129, b"\r\n"),
+        100,
+        b"FAULT 100\n",
+    ),
+    (
+        (b"HTTP/1.1 200 OK\r\n", b"A: b\r\n", 128, b":"),
+        100,
+        b"FAULT 100\n",
+    ),
+    (
+        (
+            b"HTTP/1.1 200 OK\r\nA: ",
+            b"v",
+            65_493,
+            b"\r\nContent-Length: 0\r\n\r\n",
+        ),
+        0,
+        b"OK status=200 body=0 keep=yes left=0\n",
+    ),
+    (
+        (
+            b"HTTP/1.1 200 OK\r\nA: ",
+            b"v",
+            65_494,
+            b"\r\nContent-Length: 0\r\n\r\n",
+        ),
+        100,
+        b"FAULT 100\n",
+    ),
 ];
 
 #[test]
-fn bodies_that_the_end_ends(rt: HostRuntime) {
-    none_is_wrong(&rt, first_long_wrong(rt.alloc(), &ENDED_BODIES));
+fn heads_at_their_limits(rt: HostRuntime) {
+    none_is_wrong(&rt, first_long_wrong(rt.alloc(), &LONG_HEADS));
 }
 
-static CHUNKED_BODIES: [Row<'static>; 8] = [
+static CHUNKED_BODIES: [Row<'static>; 9] = [
+    // no body is no chunked one, but a coding keeps no connection of HTTP/1.0
+    (
+        Method::Get,
+        b"HTTP/1.0 304 Not Modified\r\nTransfer-Encoding: chunked\r\nConnection: keep-alive\r\n\r\n",
+        0,
+        b"OK status=304 body=0 keep=no left=0\n",
+    ),
     (
         Method::Get,
         b"HTTP/1.1 200 OK\r\nTransfer-Encoding: chunked\r\n\r\n5;x=y\r\nhello\r\n0\r\nA: b\r\n\r\n",
@@ -301,59 +334,32 @@ fn interim_heads(rt: HostRuntime) {
     none_is_wrong(&rt, first_long_wrong(rt.alloc(), &INTERIM_HEADS));
 }
 
-static REFUSED_HEADS: [LongRow<'static>; 8] = [
-    ((b"", b"", 0, b""), 52, b"FAULT 52\n"),
-    ((b"HTTP/1.1 20", b"", 0, b""), 8, b"FAULT 8\n"),
+static REFUSED_HEADS: [Row<'static>; 5] = [
+    (Method::Get, b"", 52, b"FAULT 52\n"),
+    (Method::Get, b"HTTP/1.1 20", 8, b"FAULT 8\n"),
     (
-        (
-            b"HTTP/1.1 200 OK\r\nContent-Length: 5, 6\r\n\r\nhello",
-            b"",
-            0,
-            b"",
-        ),
+        Method::Get,
+        b"HTTP/1.1 200 OK\r\nContent-Length: 5, 6\r\n\r\nhello",
         8,
         b"FAULT 8\n",
     ),
     (
-        (
-            b"HTTP/1.1 200 OK\r\nTransfer-Encoding: gzip, chunked\r\n\r\n",
-            b"",
-            0,
-            b"",
-        ),
+        Method::Get,
+        b"HTTP/1.1 200 OK\r\nTransfer-Encoding: gzip, chunked\r\n\r\n",
         61,
         b"FAULT 61\n",
     ),
     (
-        (
-            b"HTTP/1.0 200 OK\r\nTransfer-Encoding: chunked\r\n\r\n",
-            b"",
-            0,
-            b"",
-        ),
+        Method::Get,
+        b"HTTP/1.0 200 OK\r\nTransfer-Encoding: chunked\r\n\r\n",
         8,
         b"FAULT 8\n",
-    ),
-    (
-        (b"HTTP/1.1 200 OK\r\n", b"A: b\r\n", 129, b"\r\n"),
-        100,
-        b"FAULT 100\n",
-    ),
-    (
-        (b"HTTP/1.1 200 OK\r\n", b"A: b\r\n", 128, b":"),
-        100,
-        b"FAULT 100\n",
-    ),
-    (
-        (b"HTTP/1.1 200 OK\r\nA: ", b"v", 70_000, b""),
-        100,
-        b"FAULT 100\n",
     ),
 ];
 
 #[test]
 fn refused_heads(rt: HostRuntime) {
-    none_is_wrong(&rt, first_long_wrong(rt.alloc(), &REFUSED_HEADS));
+    none_is_wrong(&rt, first_wrong(rt.alloc(), &REFUSED_HEADS));
 }
 
 /// What nginx 1.22 and Python's `http.server` sent on loopback: with a length, until the end, and in chunks.
@@ -396,7 +402,32 @@ fn captures_of_real_servers(rt: HostRuntime) {
     none_is_wrong(&rt, first_wrong(rt.alloc(), &CAPTURES));
 }
 
-static LENGTHS: [Row<'static>; 5] = [
+static LENGTHS: [Row<'static>; 9] = [
+    (
+        Method::Get,
+        b"HTTP/1.1 200 OK\r\nContent-Length: 05, 5\r\n\r\nhello",
+        0,
+        b"OK status=200 body=5 keep=yes left=0\nhello",
+    ),
+    (
+        Method::Get,
+        b"HTTP/1.1 200 OK\r\nContent-Length: +5\r\n\r\nhello",
+        8,
+        b"FAULT 8\n",
+    ),
+    // of two numbers that differ one is past 64 bits
+    (
+        Method::Get,
+        b"HTTP/1.1 200 OK\r\nContent-Length: 18446744073709551616, 18446744073709551615\r\n\r\nhello",
+        8,
+        b"FAULT 8\n",
+    ),
+    (
+        Method::Get,
+        b"HTTP/1.1 200 OK\r\nContent-Length: 18446744073709551615, 18446744073709551616\r\n\r\nhello",
+        8,
+        b"FAULT 8\n",
+    ),
     (
         Method::Get,
         b"HTTP/1.1 200 OK\r\nContent-Length: 5,,5\r\n\r\nhello",
@@ -430,7 +461,7 @@ static LENGTHS: [Row<'static>; 5] = [
 ];
 
 #[test]
-fn lengths_that_are_no_numbers(rt: HostRuntime) {
+fn lengths(rt: HostRuntime) {
     none_is_wrong(&rt, first_wrong(rt.alloc(), &LENGTHS));
 }
 

@@ -386,12 +386,18 @@ fn numbered(alloc: Global, word: &str, end: &str) -> Result<String, AllocError> 
     Ok(text)
 }
 
-/// 256 handles can be added; then one has no room, and one is there.
+/// What follows 256 additions: one more has no room, and one is there. With the three events that each may still bring they fill a history
+/// of 1,024, so that nothing but these is written down.
+const BEHIND: &str = "add 256\nadd 0\npause 0\nwakeup\ndone 0 0 1\nread\nremove 0\nadd 256\n";
+
+/// What is printed of it.
+const PRINTED_BEHIND: &str =
+    "table-full\nadded-already\nhistory-full\nfailure\nrecorded\nmessage 0 0 0 1 left 0\nremoved\nhistory-full\n";
+
 #[test]
-fn the_table_is_full(rt: HostRuntime) {
-    let script = numbered(rt.alloc(), "add", "add 256\nadd 0\n").expect(&rt, "memory");
-    let end = "table-full\nadded-already\n";
-    let printed = numbered(rt.alloc(), "added", end).expect(&rt, "memory");
+fn the_table_and_the_history_are_full(rt: HostRuntime) {
+    let script = numbered(rt.alloc(), "add", BEHIND).expect(&rt, "memory");
+    let printed = numbered(rt.alloc(), "added", PRINTED_BEHIND).expect(&rt, "memory");
     let reader = script.as_bytes();
-    assert!(rt; plays(rt.alloc(), 2048, reader, MOST_READS, printed.as_str(), 0));
+    assert!(rt; plays(rt.alloc(), 1024, reader, MOST_READS, printed.as_str(), 0));
 }
