@@ -1,78 +1,12 @@
 //! Work that is given back to the queue.
-ghost use Rattle.std.specs.Prelude.{◌≡◌};
-ghost use Rattle.mx_types.specs.Origin.{no_request};
 
 use crate::callers::claim_and_give_back;
-use crate::sample::End;
-use mx_journal::{
-    AddReply, Claim, Control, FinishReply, GiveBackReply, PauseReply, RemoveReply, VecLog,
-};
-use mx_types::{Code, HandleId, Who, Work};
+use crate::sample::{End, Job, SEAT, claim, next};
+use mx_journal::{AddReply, Control, PauseReply, RemoveReply, VecLog};
+use mx_types::{Code, HandleId};
 use std::alloc::Global;
-use std::marker::Model;
 use std::process::Abort;
 use std::test::Fail;
-
-const SEAT: Who = Who::Seat(0);
-
-const WORKER: Who = Who::Worker(0);
-
-/// Work that is known by its number, without a request.
-#[derive(Drop)]
-struct Job {
-    number: u32,
-}
-
-impl Work for Job {
-    ghost use Rattle.mx_types.specs.Origin.{no_request};
-
-    ghost origin = { λ _. no_request };
-}
-
-/// A claim with its work.
-#[derive(Drop)]
-struct Held {
-    claim: Claim<Job>,
-    job: Job,
-}
-
-impl Model for Held {
-    ghost use Rattle.std.specs.Prelude.{◌≡◌};
-    ghost use Rattle.mx_types.specs.Origin.{no_request};
-
-    ghost Value = { Unit {0} };
-
-    ghost view = { λ _. tt };
-
-    ghost invariant = { λ h. h.claim.origin ≡ no_request };
-}
-
-/// The next claim.
-fn claim(control: &mut Control<Job, End>) -> Option<Held> {
-    let (claim, job) = control.claim()?;
-    Some(Held { claim, job })
-}
-
-impl Held {
-    fn ticket(&self) -> u32 {
-        self.claim.ticket().0
-    }
-
-    /// Gives the work back; its number where it is stale.
-    fn give_back(self, control: &mut Control<Job, End>) -> Option<u32> {
-        match control.give_back(self.claim, self.job) {
-            GiveBackReply::Back => None,
-            GiveBackReply::Stale(job) => Some(job.number),
-        }
-    }
-
-    /// Whether the end is recorded.
-    fn finish(self, control: &mut Control<Job, End>, log: &mut VecLog) -> bool {
-        let end = End { code: Code::Ok };
-        let reply = control.finish(log, WORKER, self.claim, end);
-        matches!(reply, FinishReply::Recorded)
-    }
-}
 
 /// A control state with two additions: handle 7 with work 70, and handle 8 with work 80.
 fn two_added(alloc: Global, log: &mut VecLog) -> Result<Control<Job, End>, Fail> {
@@ -89,17 +23,12 @@ fn two_added(alloc: Global, log: &mut VecLog) -> Result<Control<Job, End>, Fail>
     Ok(control)
 }
 
-/// The ticket and the number of the work that is claimed next.
-fn next(control: &mut Control<Job, End>) -> Option<(u32, u32)> {
-    let held = claim(control)?;
-    Some((held.ticket(), held.job.number))
-}
-
 /// As `next`, and whether the end of it is recorded.
 fn finish_next(control: &mut Control<Job, End>, log: &mut VecLog) -> Option<(u32, u32, bool)> {
     let held = claim(control)?;
-    let (ticket, number) = (held.ticket(), held.job.number);
-    Some((ticket, number, held.finish(control, log)))
+    let (ticket, number) = held.numbers();
+    let stale = held.finish(control, log, Code::Ok);
+    Some((ticket, number, stale.is_none()))
 }
 
 /// Claims two, and gives them back in the other order: whether there is a third, and the numbers of stale work.

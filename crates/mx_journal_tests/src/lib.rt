@@ -5,6 +5,8 @@
 mod back;
 pub mod callers;
 #[cfg(test)]
+mod removals;
+#[cfg(test)]
 mod sample;
 #[cfg(test)]
 mod tests;
