@@ -24,7 +24,10 @@ case ${1-} in
 esac
 command -v python3 > /dev/null || { echo "bench/play.sh: there is no python3" >&2; exit 2; }
 [ "$unit" = ns ] || command -v valgrind > /dev/null || { echo "bench/play.sh: there is no valgrind" >&2; exit 2; }
-"$top/run" --version > /dev/null
+if [ -z "${PROGRAM:-}" ]; then # else it names the program
+  "$top/run" --version > /dev/null
+  PROGRAM=$top/crates/mxfetch/out/mxfetch
+fi
 work=$(mktemp -d)
 trap 'rm -rf "$work"' EXIT
 
@@ -56,7 +59,7 @@ if cc -O2 -o "$work/cycles" "$work/cycles.c" -l:libcurl.so.4 2> "$work/cc.log"; 
 else
   echo "without libcurl, since this doesn't compile with it: $(head -n 1 "$work/cc.log")" >&2
 fi
-PROGRAM=$top/crates/mxfetch/out/mxfetch LIBCURL=$libcurl UNIT=$unit WORK=$work python3 - <<'P'
+PROGRAM=$PROGRAM LIBCURL=$libcurl UNIT=$unit WORK=$work python3 - <<'P'
 import os, re, subprocess, sys
 
 PROGRAM, LIBCURL, UNIT, WORK = (os.environ[name] for name in ("PROGRAM", "LIBCURL", "UNIT", "WORK"))
