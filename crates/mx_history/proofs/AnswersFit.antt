@@ -17,7 +17,7 @@ use Rattle.mx_types.specs.declared.call.Receipt.{Receipt}
 use Rattle.mx_types.specs.declared.reply.Reply.{Reply}
 use Rattle.mx_types.specs.declared.reply.Reply.TheVariants as reply
 use Rattle.mx_history.specs.History.{Message, Opening, added, waiting, running, paused, has_ticket, has_room}
-use Rattle.mx_history.specs.Answers.{Answer, only, ticket_of, next_ticket, pausing_answer, read_answer, answer, is_ready}
+use Rattle.mx_history.specs.Answers.{Answer, only, ticket_of, next_ticket, are_spent, pausing_answer, read_answer, answer, is_ready}
 use Rattle.mx_history.specs.Receipts.{comes_with_event, lacks_memory, is_poll, mark, Fits}
 use Rattle.mx_history.specs.Laws.{AnswersFit}
 
@@ -25,12 +25,13 @@ use Rattle.mx_history.specs.Laws.{AnswersFit}
 abbrev pub Tells : Answer → Type 0
 Tells a = (comes_with_event a.0 ≡ is_some a.1) × (lacks_memory a.0 ≡ false)
 
-add_tells : (o : Option Ticket) (full room : Bool) (h : HandleId) (t : Ticket)
-    → Tells (elim o [ Some _ ↦ only reply.AddedAlready | None ↦ cond full (only reply.TableFull) (cond room (reply.Added t, Some (what.Added h t)) (only reply.HistoryFull)) ])
-add_tells (Some u) full room h t = (refl, refl)
-add_tells None true room h t = (refl, refl)
-add_tells None false true h t = (refl, refl)
-add_tells None false false h t = (refl, refl)
+add_tells : (o : Option Ticket) (full spent room : Bool) (h : HandleId) (t : Ticket)
+    → Tells (elim o [ Some _ ↦ only reply.AddedAlready | None ↦ cond full (only reply.TableFull) (cond spent (only reply.TicketsSpent) (cond room (reply.Added t, Some (what.Added h t)) (only reply.HistoryFull))) ])
+add_tells (Some u) full spent room h t = (refl, refl)
+add_tells None true spent room h t = (refl, refl)
+add_tells None false true room h t = (refl, refl)
+add_tells None false false true h t = (refl, refl)
+add_tells None false false false h t = (refl, refl)
 
 remove_tells : (o : Option Ticket) (h : HandleId) → Tells (elim o [ None ↦ only reply.RemoveNotAdded | Some t ↦ (reply.Removed, Some (what.Removed h t)) ])
 remove_tells None h = (refl, refl)
@@ -61,7 +62,7 @@ either_tells true r s e x y = x
 either_tells false r s e x y = y
 
 pub tells : (opening : Opening) (j : List Event) (c : Call) → Tells (answer opening j c)
-tells opening j (call.Add h) = add_tells (ticket_of h j) (nat_le most_handles (length (added j))) (has_room opening.history j 4) h (next_ticket j)
+tells opening j (call.Add h) = add_tells (ticket_of h j) (nat_le most_handles (length (added j))) (are_spent opening j) (has_room opening.history j 4) h (next_ticket opening j)
 tells opening j (call.Remove h) = remove_tells (ticket_of h j) h
 tells opening j (call.Pause h) = pause_tells opening j (ticket_of h j)
 tells opening j (call.Unpause h) = unpause_tells opening j (ticket_of h j)
@@ -90,17 +91,17 @@ At k c r = record { cut = length k; call = c; reply = r }
 
 -- with no event
 fits_none : (opening : Opening) (w : Who) (earlier : List Receipt) (c : Call) (r : Reply) (j : List Event) → r ≡ (answer opening j c).0 → comes_with_event r ≡ false → lacks_memory r ≡ false
-    → (is_poll c ≡ true → is_ready (mark earlier) j ≡ true) → Fits opening w earlier (At j c r) j
+    → (is_poll c ≡ true → is_ready (mark opening.from earlier) j ≡ true) → Fits opening w earlier (At j c r) j
 fits_none opening w earlier c r j is none some ready = record {
   with_event = λ h. absurd (false≢true (sym none ∙ h));
   no_memory = λ h. absurd (false≢true (sym some ∙ h));
   without_event = λ _. is ∙ ap (λ z. (answer opening z c).0) (sym (whole j));
-  ready = λ h. ap (is_ready (mark earlier)) (whole j) ∙ ready h;
+  ready = λ h. ap (is_ready (mark opening.from earlier)) (whole j) ∙ ready h;
 }
 
 -- with an event
 fits_made : (opening : Opening) (w : Who) (earlier : List Receipt) (c : Call) (r : Reply) (j : List Event) (e : What) → answer opening j c ≡ (r, Some e) → comes_with_event r ≡ true → lacks_memory r ≡ false
-    → (is_poll c ≡ true → is_ready (mark earlier) (j ++ record { who = w; what = e } ∷ []) ≡ true) → Fits opening w earlier (At (j ++ record { who = w; what = e } ∷ []) c r) (j ++ record { who = w; what = e } ∷ [])
+    → (is_poll c ≡ true → is_ready (mark opening.from earlier) (j ++ record { who = w; what = e } ∷ []) ≡ true) → Fits opening w earlier (At (j ++ record { who = w; what = e } ∷ []) c r) (j ++ record { who = w; what = e } ∷ [])
 fits_made opening w earlier c r j e is made some ready =
     let x : Event = record { who = w; what = e } in
     let k : List Event = j ++ x ∷ [] in
@@ -114,14 +115,14 @@ fits_made opening w earlier c r j e is made some ready =
       };
       no_memory = λ h. absurd (false≢true (sym some ∙ h));
       without_event = λ h. absurd (or_off (comes_with_event r) (lacks_memory r) made h);
-      ready = λ h. ap (is_ready (mark earlier)) (whole k) ∙ ready h;
+      ready = λ h. ap (is_ready (mark opening.from earlier)) (whole k) ∙ ready h;
     }
 
 pair_is : (a : Answer) (r : Reply) (e : What) → r ≡ a.0 → a.1 ≡ Some e → a ≡ (r, Some e)
 pair_is (r', o) r e x y = cc
 
 fits_answer : (opening : Opening) (w : Who) (earlier : List Receipt) (c : Call) (r : Reply) (j k : List Event) → r ≡ (answer opening j c).0
-    → k ≡ j ++ map (λ e. record { who = w; what = e }) (option_to_list (answer opening j c).1) → (is_poll c ≡ true → is_ready (mark earlier) k ≡ true) → Fits opening w earlier (At k c r) k
+    → k ≡ j ++ map (λ e. record { who = w; what = e }) (option_to_list (answer opening j c).1) → (is_poll c ≡ true → is_ready (mark opening.from earlier) k ≡ true) → Fits opening w earlier (At k c r) k
 fits_answer opening w earlier c r j k is left ready = go (answer opening j c).1 refl where
   t : Tells (answer opening j c)
   t = tells opening j c
@@ -130,21 +131,21 @@ fits_answer opening w earlier c r j k is left ready = go (answer opening j c).1 
   go None none =
       let same : j ≡ k = sym (left ∙ ap (λ o. j ++ map (λ (e : What). record { who = w; what = e }) (option_to_list o)) none ∙ append-nil j) in
       subst (λ (z : List Event). Fits opening w earlier (At z c r) z) same
-      (fits_none opening w earlier c r j is (ap comes_with_event is ∙ t.0 ∙ ap is_some none) (ap lacks_memory is ∙ t.1) (λ h. ap (is_ready (mark earlier)) same ∙ ready h))
+      (fits_none opening w earlier c r j is (ap comes_with_event is ∙ t.0 ∙ ap is_some none) (ap lacks_memory is ∙ t.1) (λ h. ap (is_ready (mark opening.from earlier)) same ∙ ready h))
   go (Some e) made =
       let same : j ++ record { who = w; what = e } ∷ [] ≡ k = sym (left ∙ ap (λ o. j ++ map (λ (e : What). record { who = w; what = e }) (option_to_list o)) made) in
       subst (λ (z : List Event). Fits opening w earlier (At z c r) z) same
       (fits_made opening w earlier c r j e (pair_is (answer opening j c) r e is made) (ap comes_with_event is ∙ t.0 ∙ ap is_some made) (ap lacks_memory is ∙ t.1)
-      (λ h. ap (is_ready (mark earlier)) same ∙ ready h))
+      (λ h. ap (is_ready (mark opening.from earlier)) same ∙ ready h))
 
 -- with no memory for the event
 fits_no_memory : (opening : Opening) (w : Who) (earlier : List Receipt) (c : Call) (j k : List Event) → IsSome (answer opening j c).1 → k ≡ j
-    → (is_poll c ≡ true → is_ready (mark earlier) k ≡ true) → Fits opening w earlier (At k c reply.OutOfMemory) k
+    → (is_poll c ≡ true → is_ready (mark opening.from earlier) k ≡ true) → Fits opening w earlier (At k c reply.OutOfMemory) k
 fits_no_memory opening w earlier c j k some same ready = record {
   with_event = λ h. absurd (false≢true h);
   no_memory = λ _. subst (λ (z : List Event). IsSome (answer opening z c).1) (sym (whole k ∙ same)) some;
   without_event = λ h. absurd (true≢false h);
-  ready = λ h. ap (is_ready (mark earlier)) (whole k) ∙ ready h;
+  ready = λ h. ap (is_ready (mark opening.from earlier)) (whole k) ∙ ready h;
 }
 
 pub answers_fit : AnswersFit

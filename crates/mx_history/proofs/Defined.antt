@@ -1,6 +1,6 @@
 -- Lists of events read off by plain programs.
 use Rattle.std.proofs.Common.{◌≡◌, ℕ, ◌+◌, ◌<◌, ◌≤◌, ◌∙◌, sym, refl, ap, arith, List, [], ◌∷◌, ◌++◌, length, length-append, Bool, true, false, cond, map, take, drop, get_or}
-use Rattle.std.specs.Prelude.{not, ◌&&◌, ◌||◌, ◌==◌, nat_lt, Option, Some, None}
+use Rattle.std.specs.Prelude.{max, not, ◌&&◌, ◌||◌, nat_lt, nat_le, Option, Some, None}
 use Rattle.std.specs.List.{filter, find, list_any, sum_by}
 use Rattle.std.specs.Option.{option_map, option_to_list}
 use Rattle.std.proofs.lemmas.Bool.{and_parts, and_from, false_from_ne_true, false≢true}
@@ -11,12 +11,13 @@ use Rattle.mx_types.specs.declared.names.HandleId.{HandleId}
 use Rattle.mx_types.specs.declared.names.Ticket.{Ticket}
 use Rattle.mx_types.specs.declared.event.What.TheVariants as what
 use Rattle.mx_types.specs.declared.event.Event.{Event}
-use Rattle.mx_history.specs.History.{Addition, addition_of, due, due_of, same_handle, same_ticket, occurs, removes, pauses, resumes, added, additions, last_is_pause, may_follow, is_legal}
+use Rattle.mx_history.specs.History.{Addition, addition_of, due, due_of, same_handle, same_ticket, occurs, removes, pauses, resumes, added, past, beyond, last_is_pause, may_follow, is_legal}
 use Rattle.mx_history.specs.Definitions.{addition_pair}
 use Rattle.mx_history.specs.Answers.{ticket_of}
 use Rattle.mx_history.specs.Slots.{slots, slots_after}
 use Rattle.mx_history.proofs.SlotLaws.{slots_from-snoc}
 use Rattle.mx_history.proofs.Tables.{find-map, option_map_map, sum-mapped}
+use Rattle.mx_history.proofs.Histories.{beyond-then}
 use Rattle.mx_history.proofs.Snoc.{last_is_pause-snoc, legal-snoc}
 use Rattle.mx_history.proofs.LegalLaws.{prefix_is_legal}
 
@@ -44,9 +45,9 @@ pub tickets_paired : (xs : List Addition) → map (λ (x : HandleId × Ticket). 
 tickets_paired [] = refl
 tickets_paired (x ∷ xs) = ap (λ z. x.ticket ∷ z) (tickets_paired xs)
 
-pub may_add_by : (j : List Event) (h : HandleId) (t : Ticket) (list : List (HandleId × Ticket)) (made : ℕ) → list ≡ map addition_pair (added j) → made ≡ additions j
-    → (not (list_any (λ (a : HandleId × Ticket). same_handle h a.0) list) && nat_lt (length list) most_handles && (t.0 == made)) ≡ may_follow j (what.Added h t)
-may_add_by j h t list made e n =
+pub may_add_by : (j : List Event) (h : HandleId) (t : Ticket) (list : List (HandleId × Ticket)) (above : ℕ) → list ≡ map addition_pair (added j) → above ≡ beyond j
+    → (not (list_any (λ (a : HandleId × Ticket). same_handle h a.0) list) && nat_lt (length list) most_handles && nat_le above t.0) ≡ may_follow j (what.Added h t)
+may_add_by j h t list above e n =
     rw (e, n, any_mapped (λ (a : HandleId × Ticket). same_handle h a.0) (added j), length-map (added j) addition_pair) refl
 
 pub may_remove_by : (j : List Event) (h : HandleId) (t : Ticket) (list : List (HandleId × Ticket)) → list ≡ map addition_pair (added j)
@@ -99,3 +100,7 @@ added_few j = omega (arith, length-map (added j) (λ (a : Addition). a.ticket), 
 -- the slots with one event more
 pub slots_next : (j : List Event) (i : ℕ) (d : Event) → i < length j → slots (take (i + 1) j) ≡ slots_after (slots (take i j)) (get_or j i d).what
 slots_next j i d lt = ap slots (take_next j i d lt) ∙ slots_from-snoc [] (take i j) (get_or j i d)
+
+-- the greatest ticket with one event more
+pub beyond_next : (j : List Event) (i : ℕ) (d : Event) → i < length j → beyond (take (i + 1) j) ≡ max (beyond (take i j)) (past (get_or j i d).what)
+beyond_next j i d lt = ap beyond (take_next j i d lt) ∙ beyond-then (take i j) (get_or j i d).who (get_or j i d).what

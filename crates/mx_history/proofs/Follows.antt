@@ -1,7 +1,6 @@
 -- The table takes in what may follow.
 use Rattle.std.proofs.Common.{◌≡◌, ℕ, ◌+◌, ◌<◌, ◌≤◌, ◌∙◌, sym, refl, ap, subst, List, [], ◌∷◌, ◌++◌, length, length-append, Bool, true, false, cond, arith}
-use Rattle.std.specs.Prelude.{not, ◌&&◌, ◌==◌, nat_lt, slice_index, slice_set}
-use Rattle.std.specs.Option.{is_some}
+use Rattle.std.specs.Prelude.{max, not, ◌&&◌, ◌==◌, nat_lt, slice_index, slice_set}
 use Rattle.std.proofs.lemmas.Bool.{ltb-true, lt-ltb, and_parts, and_from, eqb-true, eq-eqb, false≢true}
 use Rattle.std.proofs.lemmas.List.{length-map, length-set, get_or-set_same, get_or-set_other}
 use Rattle.std.proofs.lemmas.List.Sums.{length-filter, count_by-le-length}
@@ -12,7 +11,7 @@ use Rattle.mx_types.specs.declared.event.What.{What}
 use Rattle.mx_types.specs.declared.event.What.TheVariants as what
 use Rattle.mx_types.specs.declared.event.Event.{Event}
 use Rattle.mx_history.specs.declared.row.Row.{Row}
-use Rattle.mx_history.specs.History.{wakes, addition_of, same_ticket, is_maker, same_maker, may_follow}
+use Rattle.mx_history.specs.History.{wakes, past, same_ticket, is_maker, same_maker, may_follow}
 use Rattle.mx_history.specs.Rows.{rows_after, waits_after, turned}
 use Rattle.mx_history.specs.Table.{Counts, TableView, count_of, IsTableOf, HasCounters, count_one, counts_after, has_space_for, has_space, table_after}
 use Rattle.mx_history.specs.Laws.{TableFollows}
@@ -48,8 +47,7 @@ space_for j t what.Wake x m = refl
 has : (j : List Event) (t : TableView) (e : What) → IsTableOf j t → may_follow j e ≡ true → length j < 4294967295 → has_space t e ≡ true
 has j t e x m few =
     let events : t.events < 4294967295 = omega (arith, x.counted) in
-    let added : t.added < 4294967295 = omega (arith, x.numbered, count_by-le-length (λ (y : Event). is_some (addition_of y.what)) j) in
-    and_from (has_space_for t e) _ (space_for j t e x m) (and_from (nat_lt t.events 4294967295) _ (lt-ltb t.events 4294967295 events) (lt-ltb t.added 4294967295 added))
+    and_from (has_space_for t e) _ (space_for j t e x m) (lt-ltb t.events 4294967295 events)
 
 -- 3. The counts of makers.
 
@@ -91,7 +89,7 @@ abbrev entered : TableView → Event → TableView
 entered t e = record {
   rows = rows_after t.rows e.what;
   waiting = waits_after t.waiting e.what;
-  added = t.added + cond (is_some (addition_of e.what)) 1 0;
+  beyond = max t.beyond (past e.what);
   events = t.events + 1;
   woken = cond (wakes e.what) (t.events + 1) t.woken;
   makers = counts_after e.who t.makers;

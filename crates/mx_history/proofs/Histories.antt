@@ -1,12 +1,10 @@
 -- What every legal history keeps.
-use Rattle.std.proofs.Common.{◌≡◌, ◌+◌, ◌<◌, ◌≤◌, ◌∙◌, sym, refl, ap, List, [], ◌∷◌, ◌++◌, append-nil, append_assoc, zero-add, add-zero, inl, inr, length, Bool, true, false, cond, map, arith}
-use Rattle.std.specs.Prelude.{not, ◌&&◌, ◌||◌, ◌==◌, nat_lt, Option, Some, None}
+use Rattle.std.proofs.Common.{◌≡◌, ◌+◌, ◌<◌, ◌≤◌, ◌∙◌, sym, refl, ap, List, [], ◌∷◌, ◌++◌, append-nil, append_assoc, inl, inr, length, Bool, true, false, cond, map, arith}
+use Rattle.std.specs.Prelude.{max, not, ◌&&◌, ◌||◌, nat_lt, nat_le, Option, Some, None}
 use Rattle.std.specs.List.{filter, list_any, AllByRecursion}
 use Rattle.std.specs.Option.{is_some, option_or, option_to_list}
-use Rattle.std.proofs.lemmas.Bool.{eqb-true, ne_eqb, false≢true, or_left, or_right, and_parts, not-true, not-false, or_cases, not_from_false}
+use Rattle.std.proofs.lemmas.Bool.{leb-true, ne_eqb, false≢true, or_left, or_right, and_parts, not-true, not-false, or_cases, not_from_false}
 use Rattle.std.proofs.lemmas.List.{map-append}
-use Rattle.std.proofs.lemmas.List.Sums.{sum_by-append}
-use Rattle.mx_types.specs.Limits.{most_handles}
 use Rattle.mx_types.specs.declared.code.Code.{Code}
 use Rattle.mx_types.specs.declared.names.HandleId.{HandleId}
 use Rattle.mx_types.specs.declared.names.Ticket.{Ticket}
@@ -14,7 +12,8 @@ use Rattle.mx_types.specs.declared.event.Who.{Who}
 use Rattle.mx_types.specs.declared.event.What.{What}
 use Rattle.mx_types.specs.declared.event.What.TheVariants as what
 use Rattle.mx_types.specs.declared.event.Event.{Event}
-use Rattle.mx_history.specs.History.{Addition, Message, same_ticket, same_handle, occurs, addition_of, message_of, removes, ends, reads, added, waiting, running, paused, additions, has_ticket, has_handle, is_first, last_is_pause, end_by, end_of, phase_by, phase_of, may_follow, is_legal_after, is_legal}
+use Rattle.mx_types.specs.Limits.{most_handles}
+use Rattle.mx_history.specs.History.{Addition, Message, same_ticket, same_handle, occurs, addition_of, past, message_of, removes, ends, reads, added, waiting, running, paused, beyond, has_ticket, has_handle, is_first, last_is_pause, end_by, end_of, phase_by, phase_of, may_follow, is_legal_after, is_legal}
 use Rattle.mx_history.specs.declared.row.Phase.{Phase}
 use Rattle.mx_history.specs.declared.row.Phase.TheVariants as phase
 use Rattle.mx_history.specs.Rows.{phase_after, ended_phase, read_phase, is_open, is_read}
@@ -61,15 +60,18 @@ pub waiting-then : (j : List Event) (w : Who) (e : What)
     → waiting (then j w e) ≡ filter (λ m. not (reads m.ticket e || removes m.ticket e)) (waiting j) ++ option_to_list (message_of e)
 waiting-then j w e = standing-snoc message_of (λ m x. reads m.ticket x || removes m.ticket x) j (record { who = w; what = e })
 
-pub additions-then : (j : List Event) (w : Who) (e : What) → additions (then j w e) ≡ additions j + cond (is_some (addition_of e)) 1 0
-additions-then j w e =
-    sum_by-append (λ (x : Event). cond (is_some (addition_of x.what)) 1 0) j (record { who = w; what = e } ∷ [])
-    ∙ ap (λ n. additions j + n) (zero-add _)
+pub beyond-then : (j : List Event) (w : Who) (e : What) → beyond (then j w e) ≡ max (beyond j) (past e)
+beyond-then [] w e = omega arith
+beyond-then (x ∷ j) w e = let k = beyond-then j w e in omega arith
+
+-- an event that adds nothing
+pub beyond_stays : (j : List Event) (w : Who) (e : What) → past e ≡ 0 → beyond (then j w e) ≡ beyond j
+beyond_stays j w e none = let k = beyond-then j w e in omega arith
 
 pub record Laws (j : List Event) : Type 0 where
   pub late : (t : Ticket) → occurs (reads t) j ≡ is_read (phase_of t j)
-  pub fresh : (t : Ticket) → additions j ≤ t.0 → (phase_of t j ≡ phase.Running) × (occurs (removes t) j ≡ false)
-  pub kept : AllByRecursion (λ t. (t.0 < additions j) × (occurs (removes t) j ≡ false)) (tickets j)
+  pub fresh : (t : Ticket) → beyond j ≤ t.0 → (phase_of t j ≡ phase.Running) × (occurs (removes t) j ≡ false)
+  pub kept : AllByRecursion (λ t. (t.0 < beyond j) × (occurs (removes t) j ≡ false)) (tickets j)
   pub waits : AllByRecursion (λ m. (phase_of m.ticket j ≡ phase.Done m.code) × (has_ticket m.ticket (tickets j) ≡ true)) (waiting j)
 
 read_ended : (b : Bool) (new p : Phase) → is_read new ≡ false → (is_read p || false) ≡ is_read (cond b (ended_phase new p) p)
@@ -123,7 +125,7 @@ unread_then j w e m ts us r more u =
     (phase_of-snoc m.ticket j (record { who = w; what = e }) ∙ ap (phase_after m.ticket e) u.0 ∙ done_stays e m.ticket m.code r, more u.1)
 
 -- a ticket that was never added
-fresh_then : (j : List Event) (w : Who) (e : What) → Laws j → (t : Ticket) → additions j ≤ t.0
+fresh_then : (j : List Event) (w : Who) (e : What) → Laws j → (t : Ticket) → beyond j ≤ t.0
     → removes t e ≡ false → phase_after t e phase.Running ≡ phase.Running
     → (phase_of t (then j w e) ≡ phase.Running) × (occurs (removes t) (then j w e) ≡ false)
 fresh_then j w e l t new r p =
@@ -132,19 +134,19 @@ fresh_then j w e l t new r p =
       occurs-snoc (removes t) j (record { who = w; what = e }) ∙ ap (λ b. b || removes t e) f.1 ∙ r,
     )
 
--- an added ticket is below the number of additions
-pub below : (j : List Event) → Laws j → (t : Ticket) → has_ticket t (tickets j) ≡ true → t.0 < additions j
-below j l t h = (at_ticket (λ u. (u.0 < additions j) × (occurs (removes u) j ≡ false)) t (tickets j) l.kept h).0
+-- an added ticket is below
+pub below : (j : List Event) → Laws j → (t : Ticket) → has_ticket t (tickets j) ≡ true → t.0 < beyond j
+below j l t h = (at_ticket (λ u. (u.0 < beyond j) × (occurs (removes u) j ≡ false)) t (tickets j) l.kept h).0
 
 -- and differs from one that was never added
-differs : (j : List Event) → Laws j → (t u : Ticket) → has_ticket u (tickets j) ≡ true → additions j ≤ t.0 → same_ticket t u ≡ false
+differs : (j : List Event) → Laws j → (t u : Ticket) → has_ticket u (tickets j) ≡ true → beyond j ≤ t.0 → same_ticket t u ≡ false
 differs j l t u h new = let k = below j l u h in ne_eqb t.0 u.0 (λ e. omega arith)
 
 -- an event that adds and removes nothing
 laws-same : (j : List Event) (w : Who) (e : What) → Laws j
-    → added (then j w e) ≡ added j → additions (then j w e) ≡ additions j → ((t : Ticket) → removes t e ≡ false)
+    → added (then j w e) ≡ added j → beyond (then j w e) ≡ beyond j → ((t : Ticket) → removes t e ≡ false)
     → ((t : Ticket) → reads t e ≡ true → is_done (phase_of t j) ≡ true)
-    → ((t : Ticket) → additions j ≤ t.0 → phase_after t e phase.Running ≡ phase.Running)
+    → ((t : Ticket) → beyond j ≤ t.0 → phase_after t e phase.Running ≡ phase.Running)
     → AllByRecursion (IsUnread (then j w e) (tickets j)) (waiting (then j w e))
     → Laws (then j w e)
 laws-same j w e l same count rem lat fr wait =
@@ -152,7 +154,7 @@ laws-same j w e l same count rem lat fr wait =
       late = late-then j w e l lat;
       fresh = λ t new. fresh_then j w e l t (rw (← count) new) (rem t) (fr t (rw (← count) new));
       kept = rw (same, count)
-          (Each-map (λ t. (t.0 < additions j) × (occurs (removes t) j ≡ false)) (λ t. (t.0 < additions j) × (occurs (removes t) (then j w e) ≡ false))
+          (Each-map (λ t. (t.0 < beyond j) × (occurs (removes t) j ≡ false)) (λ t. (t.0 < beyond j) × (occurs (removes t) (then j w e) ≡ false))
           (λ t k. (k.0, occurs-snoc (removes t) j (record { who = w; what = e }) ∙ ap (λ b. b || removes t e) k.1 ∙ rem t)) (tickets j) l.kept);
       waits = rw same wait;
     }
@@ -233,29 +235,29 @@ has_addition t h (a ∷ xs) k =
 pub laws-then : (j : List Event) (w : Who) (e : What) → Laws j → may_follow j e ≡ true → Laws (then j w e)
 laws-then j w (what.Added h t) l m =
     let e = what.Added h t in
-    let k = and_parts (not (has_handle h (added j)) && nat_lt (length (added j)) most_handles) (t.0 == additions j) m in
-    let n : t.0 ≡ additions j = eqb-true t.0 (additions j) k.1 in
-    let count : additions (then j w e) ≡ additions j + 1 = additions-then j w e in
+    let k = and_parts (not (has_handle h (added j)) && nat_lt (length (added j)) most_handles) (nat_le (beyond j) t.0) m in
+    let n : beyond j ≤ t.0 = leb-true (beyond j) t.0 k.1 in
+    let count : beyond (then j w e) ≡ t.0 + 1 = let q = beyond-then j w e in omega arith in
     let us : tickets (then j w e) ≡ tickets j ++ t ∷ [] =
     ap (map (λ a. a.ticket)) (added-then j w e ∙ ap (λ z. z ++ record { handle = h; ticket = t } ∷ []) (filter_true (added j))) ∙ map-append (λ (a : Addition). a.ticket) (added j) _ in
     record {
       late = late-then j w e l (λ u r. quiet u false j refl r);
       fresh = λ u new. fresh_then j w e l u (omega (arith, count, new)) refl refl;
-      kept = rw (us, count) (Each-append (λ u. (u.0 < additions j + 1) × (occurs (removes u) (then j w e) ≡ false)) (tickets j) (t ∷ [])
-          (Each-map (λ u. (u.0 < additions j) × (occurs (removes u) j ≡ false)) (λ u. (u.0 < additions j + 1) × (occurs (removes u) (then j w e) ≡ false))
+      kept = rw (us, count) (Each-append (λ u. (u.0 < t.0 + 1) × (occurs (removes u) (then j w e) ≡ false)) (tickets j) (t ∷ [])
+          (Each-map (λ u. (u.0 < beyond j) × (occurs (removes u) j ≡ false)) (λ u. (u.0 < t.0 + 1) × (occurs (removes u) (then j w e) ≡ false))
           (λ u x. let lt = x.0 in (omega arith, occurs-snoc (removes u) j (record { who = w; what = e }) ∙ or_false _ ∙ x.1)) (tickets j) l.kept)
           ((omega arith, occurs-snoc (removes t) j (record { who = w; what = e }) ∙ or_false _ ∙ (l.fresh t (omega arith)).1), tt));
       waits = rw us (waits-then j w e l (tickets j ++ t ∷ []) (λ x _ i. has-append_left x.ticket (tickets j) (t ∷ []) i) tt);
     }
 laws-then j w (what.Removed h t) l m =
     let e = what.Removed h t in
-    let count : additions (then j w e) ≡ additions j = additions-then j w e ∙ add-zero _ in
+    let count : beyond (then j w e) ≡ beyond j = beyond_stays j w e refl in
     let us = tickets-removed j w h t in
     let has = has_addition t h (added j) m in
     record {
       late = late-then j w e l (λ u r. quiet u false j refl r);
       fresh = λ u new. fresh_then j w e l u (rw (← count) new) (differs j l u t has (rw (← count) new)) refl;
-      kept = rw (us, count) (Each-filter (λ u. not (same_ticket u t)) (λ u. (u.0 < additions j) × (occurs (removes u) j ≡ false)) (λ u. (u.0 < additions j) × (occurs (removes u) (then j w e) ≡ false))
+      kept = rw (us, count) (Each-filter (λ u. not (same_ticket u t)) (λ u. (u.0 < beyond j) × (occurs (removes u) j ≡ false)) (λ u. (u.0 < beyond j) × (occurs (removes u) (then j w e) ≡ false))
           (λ u keep x. (x.0, occurs-snoc (removes u) j (record { who = w; what = e }) ∙ ap (λ b. b || same_ticket u t) x.1 ∙ not-true _ keep)) (tickets j) l.kept);
       waits = rw us (waits-then j w e l (filter (λ u. not (same_ticket u t)) (tickets j))
           (λ x gone i. has-stays x.ticket (λ u. not (same_ticket u t)) (tickets j) i (not_from_false _ gone)) tt);
@@ -265,30 +267,30 @@ laws-then j w (what.Done t c n) l m =
     let r = running-has j t m in
     let became : phase_of t (then j w e) ≡ phase.Done c =
     phase_of-snoc t j (record { who = w; what = e }) ∙ ap (λ b. cond b (ended_phase (phase.Done c) (phase_of t j)) (phase_of t j)) (same-refl t) ∙ ended_open (phase.Done c) (phase_of t j) r.1 in
-    laws-same j w e l (added-then j w e ∙ filter_idle (added j)) (additions-then j w e ∙ add-zero _) (λ u. refl) (λ u x. quiet u false j refl x)
+    laws-same j w e l (added-then j w e ∙ filter_idle (added j)) (beyond_stays j w e refl) (λ u. refl) (λ u x. quiet u false j refl x)
     (λ u new. ap (λ b. cond b (phase.Done c) phase.Running) (differs j l u t r.0 new))
     (waits-then j w e l (tickets j) (λ x _ i. i) ((became, r.0), tt))
 laws-then j w (what.Read t) l m =
     let e = what.Read t in
     let f = first_unread j t (waiting j) l.waits m in
-    laws-same j w e l (added-then j w e ∙ filter_idle (added j)) (additions-then j w e ∙ add-zero _) (λ u. refl)
+    laws-same j w e l (added-then j w e ∙ filter_idle (added j)) (beyond_stays j w e refl) (λ u. refl)
     (λ u x. rw (same-is u t x) f.0)
     (λ u new. cond_same (same_ticket u t) phase.Running)
     (waits-then j w e l (tickets j) (λ x _ i. i) tt)
 laws-then j w (what.Paused t) l m =
     let e = what.Paused t in
     let r = running-has j t (and_parts (has_ticket t (running j)) (not (has_ticket t (paused j))) m).0 in
-    laws-same j w e l (added-then j w e ∙ filter_idle (added j)) (additions-then j w e ∙ add-zero _) (λ u. refl) (λ u x. quiet u false j refl x)
+    laws-same j w e l (added-then j w e ∙ filter_idle (added j)) (beyond_stays j w e refl) (λ u. refl) (λ u x. quiet u false j refl x)
     (λ u new. ap (λ b. cond b phase.Paused phase.Running) (differs j l u t r.0 new))
     (waits-then j w e l (tickets j) (λ x _ i. i) tt)
 laws-then j w (what.Resumed t) l m =
     let e = what.Resumed t in
-    laws-same j w e l (added-then j w e ∙ filter_idle (added j)) (additions-then j w e ∙ add-zero _) (λ u. refl) (λ u x. quiet u false j refl x)
+    laws-same j w e l (added-then j w e ∙ filter_idle (added j)) (beyond_stays j w e refl) (λ u. refl) (λ u x. quiet u false j refl x)
     (λ u new. cond_same (same_ticket u t) phase.Running)
     (waits-then j w e l (tickets j) (λ x _ i. i) tt)
 laws-then j w what.Wake l m =
     let e = what.Wake in
-    laws-same j w e l (added-then j w e ∙ filter_idle (added j)) (additions-then j w e ∙ add-zero _) (λ u. refl) (λ u x. quiet u false j refl x)
+    laws-same j w e l (added-then j w e ∙ filter_idle (added j)) (beyond_stays j w e refl) (λ u. refl) (λ u x. quiet u false j refl x)
     (λ u new. refl)
     (waits-then j w e l (tickets j) (λ x _ i. i) tt)
 

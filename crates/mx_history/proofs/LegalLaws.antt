@@ -1,9 +1,9 @@
 -- The laws of legal histories.
-use Rattle.std.proofs.Common.{◌≡◌, ℕ, ◌+◌, ◌<◌, ◌≤◌, ◌∙◌, sym, refl, ap, subst, List, [], ◌∷◌, ◌++◌, append-nil, append_assoc, length, Bool, true, false, cond, map, drop, arith, add-zero, zero-add, inl, inr}
-use Rattle.std.specs.Prelude.{zero, suc, not, ◌&&◌, ◌||◌, ◌==◌, nat_lt, nat_le, IfSome, Option, Some, None}
+use Rattle.std.proofs.Common.{◌≡◌, ℕ, ◌+◌, ◌<◌, ◌≤◌, ◌∙◌, sym, refl, ap, subst, List, [], ◌∷◌, ◌++◌, append-nil, append_assoc, length, Bool, true, false, cond, map, drop, arith, zero-add, inl, inr}
+use Rattle.std.specs.Prelude.{zero, suc, not, ◌&&◌, ◌||◌, nat_lt, nat_le, IfSome, Option, Some, None}
 use Rattle.std.specs.List.{filter, list_any}
 use Rattle.std.specs.Option.{is_some, option_to_list}
-use Rattle.std.proofs.lemmas.Bool.{eqb-true, eqb-false, ne_eqb, and_parts, and_from, false_from_ne_true, false≢true, true≢false, not-true, not-false, not_from_false, cases_Bool, or_left}
+use Rattle.std.proofs.lemmas.Bool.{eqb-true, leb-true, eqb-false, ne_eqb, and_parts, and_from, false_from_ne_true, false≢true, true≢false, not-true, not-false, not_from_false, cases_Bool, or_cases, or_left}
 use Rattle.std.proofs.lemmas.List.{map-append}
 use Rattle.std.proofs.lemmas.List.Folds.{list_any-append}
 use Rattle.std.proofs.lemmas.List.Sums.{sum_by_push, sum_by-cons}
@@ -17,17 +17,17 @@ use Rattle.mx_types.specs.declared.event.What.TheVariants as what
 use Rattle.mx_types.specs.declared.event.Event.{Event}
 use Rattle.mx_history.specs.declared.row.Phase.{Phase}
 use Rattle.mx_history.specs.declared.row.Phase.TheVariants as phase
-use Rattle.mx_history.specs.History.{Addition, Message, HasRoomForDue, Opening, is_first, last_is_pause, same_handle, same_ticket, occurs, wakes, addition_of, removes, ends, reads, added, waiting, running, paused, additions, has_handle, has_ticket, phase_of, may_follow, is_legal, is_legal_after, has_room, needs}
-use Rattle.mx_history.specs.Answers.{Answer, only, ticket_of, handle_of, next_ticket, pausing_answer, read_answer}
+use Rattle.mx_history.specs.History.{Addition, Message, HasRoomForDue, Opening, is_first, last_is_pause, same_handle, same_ticket, occurs, wakes, addition_of, removes, ends, reads, added, waiting, running, paused, past, beyond, has_handle, has_ticket, phase_of, may_follow, is_legal, is_legal_after, has_room, needs}
+use Rattle.mx_history.specs.Answers.{Answer, only, ticket_of, handle_of, next_ticket, are_spent, pausing_answer, read_answer}
 use Rattle.mx_types.specs.declared.call.Call.TheVariants as call
 use Rattle.mx_types.specs.declared.reply.Reply.TheVariants as reply
 use Rattle.mx_history.specs.Rows.{is_open, is_read}
-use Rattle.mx_history.specs.Laws.{then, adds, count_of_events, is_of, IsOnceEach, AnswerIsLegal, PrefixIsLegal, ClosingFindsRoom, EachAtMostOnce, NothingAfterRemoval, LegalIsTidy, ReadyStays}
+use Rattle.mx_history.specs.Laws.{then, adds, count_of_events, is_of, IsOnceEach, NeverRunsAgain, AnswerIsLegal, PrefixIsLegal, ClosingFindsRoom, EachAtMostOnce, NothingAfterRemoval, LegalIsTidy, ReadyStays}
 use Rattle.mx_history.proofs.Snoc.{occurs-snoc}
-use Rattle.mx_history.proofs.Lists.{Each-map, filter_idle, has-filter, at_ticket, same-is, same-refl}
-use Rattle.mx_history.proofs.Histories.{tickets, Laws, laws, laws-then, laws_none, added-then, additions-then, running-has, first_unread, has_addition, is_done, ends-phase, below, tickets-removed}
+use Rattle.mx_history.proofs.Lists.{Each-map, filter_idle, has-filter, has-stays, at_ticket, same-is, same-refl}
+use Rattle.mx_history.proofs.Histories.{tickets, Laws, laws, laws-then, laws_none, added-then, beyond-then, running-has, first_unread, has_addition, is_done, ends-phase, below, beyond_stays, tickets-removed}
 use Rattle.mx_history.proofs.TableLaws.{kept-then, few}
-use Rattle.mx_history.proofs.Tickets.{room_none, ordered, once, none_added, tickets-then, may_add, found_any}
+use Rattle.mx_history.proofs.Tickets.{room_none, ordered, once, none_added, tickets-then, may_add, found_any, parts_false}
 
 -- 1. A prefix.
 
@@ -101,7 +101,7 @@ once_push (x ∷ xs) h o off = (last_off o.0 (handle_flip h x (split off).0), on
 
 handles-then : (j : List Event) (w : Who) (e : What) → may_follow j e ≡ true → IsOnceEach (map (λ a. a.handle) (added j)) → IsOnceEach (map (λ a. a.handle) (added (then j w e)))
 handles-then j w (what.Added h t) m o =
-    let k = and_parts (not (has_handle h (added j))) (nat_lt (length (added j)) most_handles) (and_parts (not (has_handle h (added j)) && nat_lt (length (added j)) most_handles) (t.0 == additions j) m).0 in
+    let k = and_parts (not (has_handle h (added j))) (nat_lt (length (added j)) most_handles) (and_parts (not (has_handle h (added j)) && nat_lt (length (added j)) most_handles) (nat_le (beyond j) t.0) m).0 in
     rw (added-then j w (what.Added h t), map-append (λ (a : Addition). a.handle) (filter (λ a. true) (added j)) (record { handle = h; ticket = t } ∷ []))
     (once_push (map (λ a. a.handle) (filter (λ a. true) (added j))) h (once_filter (λ a. true) (added j) o)
     (has_handles h (filter (λ a. true) (added j)) ∙ ap (has_handle h) (filter_all (added j)) ∙ not-true _ k.0))
@@ -201,7 +201,7 @@ reads_first t f l what.Wake m is = absurd (false≢true is)
 
 -- an added ticket was not removed
 pub unremoved : (f : List Event) → Laws f → (t : Ticket) → has_ticket t (tickets f) ≡ true → occurs (removes t) f ≡ false
-unremoved f l t h = (at_ticket (λ u. (u.0 < additions f) × (occurs (removes u) f ≡ false)) t (tickets f) l.kept h).1
+unremoved f l t h = (at_ticket (λ u. (u.0 < beyond f) × (occurs (removes u) f ≡ false)) t (tickets f) l.kept h).1
 
 removes_first : (t : Ticket) (f : List Event) → Laws f → (e : What) → may_follow f e ≡ true → removes t e ≡ true → occurs (removes t) f ≡ false
 removes_first t f l (what.Removed h u) m is = unremoved f l t (rw (same-is t u is) (has_addition u h (added f) m))
@@ -212,13 +212,13 @@ removes_first t f l (what.Paused _) m is = absurd (false≢true is)
 removes_first t f l (what.Resumed _) m is = absurd (false≢true is)
 removes_first t f l what.Wake m is = absurd (false≢true is)
 
--- a ticket that was added is below the number of additions
+-- a ticket that was added is below
 abbrev AddsBelow : Ticket → List Event → Type 0
-AddsBelow t f = (additions f ≤ t.0 → occurs (adds t) f ≡ false) × (count_of_events (adds t) f ≤ 1)
+AddsBelow t f = (beyond f ≤ t.0 → occurs (adds t) f ≡ false) × (count_of_events (adds t) f ≤ 1)
 
-adds_idle : (t : Ticket) (f : List Event) (w : Who) (e : What) → adds t e ≡ false → is_some (addition_of e) ≡ false → AddsBelow t f → AddsBelow t (then f w e)
+adds_idle : (t : Ticket) (f : List Event) (w : Who) (e : What) → adds t e ≡ false → past e ≡ 0 → AddsBelow t f → AddsBelow t (then f w e)
 adds_idle t f w e off none a =
-    let same : additions (then f w e) ≡ additions f = additions-then f w e ∙ ap (λ b. additions f + one b) none ∙ add-zero _ in (
+    let same : beyond (then f w e) ≡ beyond f = beyond_stays f w e none in (
       (λ le. occurs-snoc (adds t) f (record { who = w; what = e }) ∙ ap (λ b. b || adds t e) (a.0 (omega (arith, same, le))) ∙ off),
       omega (arith, counted (adds t) f w e, ap one off, a.1),
     )
@@ -226,9 +226,9 @@ adds_idle t f w e off none a =
 adds-then : (t : Ticket) (f : List Event) (w : Who) (e : What) → may_follow f e ≡ true → AddsBelow t f → AddsBelow t (then f w e)
 adds-then t f w (what.Added h u) m a =
     let e = what.Added h u in
-    let n : u.0 ≡ additions f = eqb-true u.0 (additions f) (and_parts (not (has_handle h (added f)) && nat_lt (length (added f)) most_handles) (u.0 == additions f) m).1 in
-    let more = additions-then f w e in
-    let off : additions (then f w e) ≤ t.0 → occurs (adds t) (then f w e) ≡ false =
+    let n : beyond f ≤ u.0 = leb-true (beyond f) u.0 (and_parts (not (has_handle h (added f)) && nat_lt (length (added f)) most_handles) (nat_le (beyond f) u.0) m).1 in
+    let more = beyond-then f w e in
+    let off : beyond (then f w e) ≤ t.0 → occurs (adds t) (then f w e) ≡ false =
     λ le. occurs-snoc (adds t) f (record { who = w; what = e }) ∙ ap (λ b. b || same_ticket t u) (a.0 (omega (arith, more, le))) ∙ ne_eqb t.0 u.0 (λ q. omega (arith, more, le, n, q)) in (
       off,
       elim (cases_Bool (same_ticket t u)) [
@@ -264,7 +264,7 @@ each_at_most_once j l t = (
 -- 6. After a removal.
 
 abbrev IsGone : Ticket → List Event → Type 0
-IsGone t f = (has_ticket t (tickets f) ≡ false) × (t.0 < additions f)
+IsGone t f = (has_ticket t (tickets f) ≡ false) × (t.0 < beyond f)
 
 -- a ticket that stands in the list is another one
 other : (t u : Ticket) (f : List Event) → IsGone t f → has_ticket u (tickets f) ≡ true → same_ticket t u ≡ false
@@ -272,7 +272,7 @@ other t u f g h = false_from_ne_true _ (λ s. false≢true (sym g.0 ∙ ap (λ v
 
 gone_off : (t : Ticket) (f : List Event) → Laws f → IsGone t f → (e : What) → may_follow f e ≡ true → is_of t e ≡ false
 gone_off t f l g (what.Added h u) m =
-    let n : u.0 ≡ additions f = eqb-true u.0 (additions f) (and_parts (not (has_handle h (added f)) && nat_lt (length (added f)) most_handles) (u.0 == additions f) m).1 in
+    let n : beyond f ≤ u.0 = leb-true (beyond f) u.0 (and_parts (not (has_handle h (added f)) && nat_lt (length (added f)) most_handles) (nat_le (beyond f) u.0) m).1 in
     let s : same_ticket t u ≡ false = ne_eqb t.0 u.0 (λ q. omega (arith, g.1, n, q)) in
     ap (λ b. b || false) s
 gone_off t f l g (what.Removed h u) m = ap (λ b. b || false) (other t u f g (has_addition u h (added f) m))
@@ -297,7 +297,7 @@ gone-then t f w e g off =
     false_from_ne_true _ (λ k. false≢true (sym g.0 ∙ (has-filter t (λ u. not (removes u e)) (tickets f) k).0)) in (
       ap (has_ticket t) (tickets-then f w e) ∙ list_any-append (same_ticket t) (filter (λ u. not (removes u e)) (tickets f)) (map (λ a. a.ticket) (option_to_list (addition_of e)))
           ∙ ap (λ b. b || has_ticket t (map (λ a. a.ticket) (option_to_list (addition_of e)))) kept ∙ added_off t e off,
-      omega (arith, g.1, additions-then f w e),
+      omega (arith, g.1, beyond-then f w e),
     )
 
 none_later : (t : Ticket) (f later : List Event) → Laws f → IsGone t f → is_legal_after f later ≡ true → occurs (is_of t) later ≡ false
@@ -315,9 +315,46 @@ nothing_after_removal f later w h t l =
     let k = and_parts (may_follow f e) (is_legal_after (then f w e) later) (after_split [] f (record { who = w; what = e } ∷ later) l) in
     let gone : has_ticket t (tickets (then f w e)) ≡ false =
     ap (has_ticket t) (tickets-removed f w h t) ∙ false_from_ne_true _ (λ y. true≢false (sym (same-refl t) ∙ not-true _ (has-filter t (λ u. not (same_ticket u t)) (tickets f) y).1)) in
-    none_later t (then f w e) later (laws-then f w e x k.0) (gone, omega (arith, below f x t (has_addition t h (added f) k.0), additions-then f w e)) k.1
+    none_later t (then f w e) later (laws-then f w e x k.0) (gone, omega (arith, below f x t (has_addition t h (added f) k.0), beyond-then f w e)) k.1
 
--- 7. Answers.
+-- 7. What runs no more.
+
+-- tickets only rise
+not_again : (t : Ticket) (f : List Event) (e : What) → t.0 < beyond f → may_follow f e ≡ true → adds t e ≡ false
+not_again t f (what.Added h u) given m =
+    let n : beyond f ≤ u.0 = leb-true (beyond f) u.0 (and_parts (not (has_handle h (added f)) && nat_lt (length (added f)) most_handles) (nat_le (beyond f) u.0) m).1 in
+    ne_eqb t.0 u.0 (λ q. omega (arith, given, n, q))
+not_again t f (what.Removed h u) given m = refl
+not_again t f (what.Done u c n) given m = refl
+not_again t f (what.Read u) given m = refl
+not_again t f (what.Paused u) given m = refl
+not_again t f (what.Resumed u) given m = refl
+not_again t f what.Wake given m = refl
+
+-- what runs after an event that doesn't add it ran before
+ran_before : (t : Ticket) (f : List Event) (w : Who) (e : What) → adds t e ≡ false → has_ticket t (running (then f w e)) ≡ true → has_ticket t (running f) ≡ true
+ran_before t f w e off h =
+    let k = has-filter t (λ u. not (occurs (ends u) (then f w e))) (tickets (then f w e)) h in
+    let unended = parts_false (occurs (ends t) f) (ends t e) (sym (occurs-snoc (ends t) f (record { who = w; what = e })) ∙ not-true _ k.1) in
+    let split : (has_ticket t (filter (λ u. not (removes u e)) (tickets f)) || has_ticket t (map (λ a. a.ticket) (option_to_list (addition_of e)))) ≡ true =
+    sym (list_any-append (same_ticket t) (filter (λ u. not (removes u e)) (tickets f)) (map (λ a. a.ticket) (option_to_list (addition_of e)))) ∙ sym (ap (has_ticket t) (tickets-then f w e)) ∙ k.0 in
+    let there : has_ticket t (tickets f) ≡ true = elim (or_cases _ _ split) [
+      | inl old ↦ (has-filter t (λ u. not (removes u e)) (tickets f) old).0
+      | inr new ↦ absurd (false≢true (sym (added_off t e off) ∙ new))
+    ] in
+    has-stays t (λ u. not (occurs (ends u) f)) (tickets f) there (not_from_false _ unended.0)
+
+runs_no_more : (t : Ticket) (f later : List Event) → t.0 < beyond f → has_ticket t (running f) ≡ false → is_legal_after f later ≡ true → has_ticket t (running (f ++ later)) ≡ false
+runs_no_more t f [] given off h = rw (append-nil f) off
+runs_no_more t f (e ∷ later) given off h =
+    let k = and_parts (may_follow f e.what) (is_legal_after (f ++ e ∷ []) later) h in
+    let still : has_ticket t (running (f ++ e ∷ [])) ≡ false = false_from_ne_true _ (λ x. false≢true (sym off ∙ ran_before t f e.who e.what (not_again t f e.what given k.0) x)) in
+    rw (← append_assoc f (e ∷ []) later) (runs_no_more t (f ++ e ∷ []) later (omega (arith, given, beyond-then f e.who e.what)) still k.1)
+
+pub never_runs_again : NeverRunsAgain
+never_runs_again f later t l given off = runs_no_more t f later given off (after_split [] f later l)
+
+-- 8. Answers.
 
 abbrev Grants : Opening → List Event → What → Type 0
 Grants opening j e = (may_follow j e ≡ true) × ((w : Who) → HasRoomForDue opening.history (then j w e))
@@ -325,9 +362,9 @@ Grants opening j e = (may_follow j e ≡ true) × ((w : Who) → HasRoomForDue o
 grant : (opening : Opening) (j : List Event) (e : What) → HasRoomForDue opening.history j → may_follow j e ≡ true → has_room opening.history j (needs e) ≡ true → Grants opening j e
 grant opening j e k m r = (m, λ w. kept-then opening.history j w e k m r)
 
-abbrev add_by : Option Ticket → Bool → Bool → HandleId → Ticket → Answer
-add_by o full room h t =
-    elim o [ Some _ ↦ only reply.AddedAlready | None ↦ cond full (only reply.TableFull) (cond room (reply.Added t, Some (what.Added h t)) (only reply.HistoryFull)) ]
+abbrev add_by : Option Ticket → Bool → Bool → Bool → HandleId → Ticket → Answer
+add_by o full spent room h t =
+    elim o [ Some _ ↦ only reply.AddedAlready | None ↦ cond full (only reply.TableFull) (cond spent (only reply.TicketsSpent) (cond room (reply.Added t, Some (what.Added h t)) (only reply.HistoryFull))) ]
 
 abbrev remove_by : Option Ticket → HandleId → Answer
 remove_by o h = elim o [ None ↦ only reply.RemoveNotAdded | Some t ↦ (reply.Removed, Some (what.Removed h t)) ]
@@ -338,13 +375,14 @@ pause_by opening j o = elim o [ None ↦ only reply.NotAdded | Some t ↦ pausin
 abbrev unpause_by : Opening → List Event → Option Ticket → Answer
 unpause_by opening j o = elim o [ None ↦ only reply.NotAdded | Some t ↦ pausing_answer opening j t (not (has_ticket t (paused j))) (what.Resumed t) ]
 
-add_parts : (o : Option Ticket) (full room : Bool) (h : HandleId) (t : Ticket) (e : What)
-    → (add_by o full room h t).1 ≡ Some e
+add_parts : (o : Option Ticket) (full spent room : Bool) (h : HandleId) (t : Ticket) (e : What)
+    → (add_by o full spent room h t).1 ≡ Some e
     → (None ≡ o) × (full ≡ false) × (room ≡ true) × (what.Added h t ≡ e)
-add_parts (Some u) full room h t e x = cc
-add_parts None true room h t e x = cc
-add_parts None false false h t e x = cc
-add_parts None false true h t e x = (refl, refl, refl, cc)
+add_parts (Some u) full spent room h t e x = cc
+add_parts None true spent room h t e x = cc
+add_parts None false true room h t e x = cc
+add_parts None false false false h t e x = cc
+add_parts None false false true h t e x = (refl, refl, refl, cc)
 
 remove_parts : (o : Option Ticket) (h : HandleId) (e : What) → (remove_by o h).1 ≡ Some e
     → IfSome o (λ t. what.Removed h t ≡ e) × (is_some o ≡ true)
@@ -398,8 +436,9 @@ finishing opening j t c n e k true is x =
 
 pub answer_is_legal : AnswerIsLegal
 answer_is_legal opening j (call.Add h) e k x =
-    let p = add_parts (ticket_of h j) (nat_le most_handles (length (added j))) (has_room opening.history j 4) h (next_ticket j) e x in
-    subst (Grants opening j) p.3 (grant opening j (what.Added h (next_ticket j)) k (may_add j h (next_ticket j) None refl p.0 p.1 refl) p.2)
+    let t = next_ticket opening j in
+    let p = add_parts (ticket_of h j) (nat_le most_handles (length (added j))) (are_spent opening j) (has_room opening.history j 4) h t e x in
+    subst (Grants opening j) p.3 (grant opening j (what.Added h t) k (may_add j h t None refl p.0 p.1 (omega arith)) p.2)
 answer_is_legal opening j (call.Remove h) e k x = removal opening j h e k (ticket_of h j) refl (remove_parts (ticket_of h j) h e x)
 answer_is_legal opening j (call.Pause h) e k x = pausing opening j h e k (ticket_of h j) x
 answer_is_legal opening j (call.Unpause h) e k x = unpausing opening j h e k (ticket_of h j) x

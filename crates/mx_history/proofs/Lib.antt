@@ -16,3 +16,4 @@ pub mod Follows
 pub mod Placing
 pub mod Pinned
 pub mod States
+pub mod Retiring

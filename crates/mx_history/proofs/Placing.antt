@@ -1,6 +1,6 @@
 -- Receipts stay placed as the journal grows, and a new one is placed at its end.
 use Rattle.std.proofs.Common.{◌≡◌, inl, inr, ℕ, zero, suc, ◌+◌, ◌-◌, ◌<◌, ◌≤◌, ◌∙◌, sym, refl, ap, subst, List, [], ◌∷◌, ◌++◌, append-nil, append_assoc, length, length-append, Bool, true, false, cond, map, arith}
-use Rattle.std.specs.Prelude.{take, slice_get, Option, Some, None}
+use Rattle.std.specs.Prelude.{take, drop, slice_get, Option, Some, None}
 use Rattle.std.specs.List.{AllByRecursion, cons_option}
 use Rattle.std.specs.Option.{is_some, option_to_list}
 use Rattle.std.proofs.lemmas.Bool.{false≢true, eq-eqb}
@@ -17,7 +17,7 @@ use Rattle.mx_types.specs.declared.reply.Reply.TheVariants as reply
 use Rattle.mx_history.specs.History.{Opening, same_maker, made_by}
 use Rattle.mx_history.specs.Answers.{answer, Answers, is_ready}
 use Rattle.mx_history.specs.Receipts.{comes_with_event, is_poll, mark, Fits, FitInTurn, CutsRise, with_events, events_of, events_by, IsPlaced}
-use Rattle.mx_history.specs.Laws.{HasAtMostOneMore, CallAddsAtMostOne, PlacedStays, CallIsPlaced}
+use Rattle.mx_history.specs.Laws.{HasAtMostOneMore, CallAddsAtMostOne, PlacedStays, CallIsPlaced, FirstIsPlaced}
 use Rattle.mx_history.proofs.Lists.{Each-map, Each-append}
 use Rattle.mx_history.proofs.ReceiptLaws.{fits_by_its_cut}
 use Rattle.mx_history.proofs.AnswersFit.{answers_fit, tells}
@@ -28,6 +28,15 @@ take_more : (j rest : List Event) (c : ℕ) → c ≤ length j → take c (j ++ 
 take_more j rest zero le = refl
 take_more [] rest (suc c) le = absurd (omega arith)
 take_more (x ∷ j) rest (suc c) le = ap (λ t. x ∷ t) (take_more j rest c (omega arith))
+
+drop_more : (j rest : List Event) (n : ℕ) → n ≤ length j → drop n (j ++ rest) ≡ drop n j ++ rest
+drop_more j rest zero le = refl
+drop_more [] rest (suc n) le = absurd (omega arith)
+drop_more (x ∷ j) rest (suc n) le = drop_more j rest n (omega arith)
+
+drop_all : (j : List Event) → drop (length j) j ≡ []
+drop_all [] = refl
+drop_all (x ∷ j) = drop_all j
 
 get_more : (j rest : List Event) (i : ℕ) → i < length j → slice_get (j ++ rest) i ≡ slice_get j i
 get_more [] rest i lt = absurd (omega arith)
@@ -79,8 +88,9 @@ placed_later opening w mine j rest p same =
     record {
       fit = fit_later opening w [] mine j rest p.within p.fit;
       within = within_later j rest mine p.within;
+      begun = omega (arith, p.begun, length-append j rest);
       rise = p.rise;
-      each_once = filter-append (λ (e : Event). same_maker e.who w) j rest ∙ ap (λ l. events_by w j ++ l) (by_none w rest none) ∙ append-nil (events_by w j) ∙ p.each_once
+      each_once = ap (events_by w) (drop_more j rest opening.from p.begun) ∙ filter-append (λ (e : Event). same_maker e.who w) (drop opening.from j) rest ∙ ap (λ l. events_by w (drop opening.from j) ++ l) (by_none w rest none) ∙ append-nil (events_by w (drop opening.from j)) ∙ p.each_once
           ∙ sym (events_later (with_events mine) j rest (inside opening w [] mine j p.within p.fit));
     }
 
@@ -106,7 +116,8 @@ placed_quiet : (opening : Opening) (w : Who) (mine : List Receipt) (r : Receipt)
 placed_quiet opening w mine r j p at quiet f = record {
   fit = fit_more opening w [] mine r j p.fit f;
   within = Each-append (λ (x : Receipt). x.cut ≤ length j) mine (r ∷ []) p.within ((omega (arith, at)), tt);
-  rise = rise_more 0 (length j) mine r p.within (omega arith) (omega (arith, at)) (λ is. absurd (false≢true (sym quiet ∙ is))) p.rise;
+  begun = p.begun;
+  rise = rise_more opening.from (length j) mine r p.within p.begun (omega (arith, at)) (λ is. absurd (false≢true (sym quiet ∙ is))) p.rise;
   each_once = p.each_once ∙ ap (λ rs. events_of rs j) (sym (events_with mine r false quiet ∙ append-nil (with_events mine)));
 }
 
@@ -123,8 +134,9 @@ placed_event opening w mine r j e p at made own f =
     record {
       fit = fit_more opening w [] mine r k (fit_later opening w [] mine j (e ∷ []) p.within p.fit) f;
       within = Each-append (λ (x : Receipt). x.cut ≤ length k) mine (r ∷ []) (within_later j (e ∷ []) mine p.within) ((omega (arith, at)), tt);
-      rise = rise_more 0 (length j) mine r p.within (omega arith) (omega (arith, at, long)) (λ _. omega (arith, at, long)) p.rise;
-      each_once = filter-append (λ (x : Event). same_maker x.who w) j (e ∷ []) ∙ ap (λ l. events_by w j ++ l) mine' ∙ ap (λ l. l ++ e ∷ []) (p.each_once ∙ sym (events_later (with_events mine) j (e ∷ []) in_))
+      begun = omega (arith, p.begun, long);
+      rise = rise_more opening.from (length j) mine r p.within p.begun (omega (arith, at, long)) (λ _. omega (arith, at, long)) p.rise;
+      each_once = ap (events_by w) (drop_more j (e ∷ []) opening.from p.begun) ∙ filter-append (λ (x : Event). same_maker x.who w) (drop opening.from j) (e ∷ []) ∙ ap (λ l. events_by w (drop opening.from j) ++ l) mine' ∙ ap (λ l. l ++ e ∷ []) (p.each_once ∙ sym (events_later (with_events mine) j (e ∷ []) in_))
           ∙ ap (λ l. events_of (with_events mine) k ++ l) (sym last) ∙ sym (filter_map-append (λ (x : Receipt). slice_get k (x.cut - 1)) (with_events mine) (r ∷ []))
           ∙ ap (λ rs. events_of rs k) (sym (events_with mine r true made));
     }
@@ -157,7 +169,7 @@ answered_by opening w mine j k call r (Some x) p e comes f =
     let P : List Event → Type 0 = λ l. Fits opening w mine (record { cut = length l; call = call; reply = r }) l → IsPlaced opening w (mine ++ record { cut = length l; call = call; reply = r } ∷ []) l in
     subst P (sym e) (λ g. placed_event opening w mine (record { cut = length (j ++ y ∷ []); call = call; reply = r }) j y p refl comes (own w) g) f
 
-placed_at : (opening : Opening) (w : Who) (mine : List Receipt) (j k : List Event) (call : Call) (r : Reply) → IsPlaced opening w mine j → Answers opening w call j r k → (is_poll call ≡ true → is_ready (mark mine) k ≡ true)
+placed_at : (opening : Opening) (w : Who) (mine : List Receipt) (j k : List Event) (call : Call) (r : Reply) → IsPlaced opening w mine j → Answers opening w call j r k → (is_poll call ≡ true → is_ready (mark opening.from mine) k ≡ true)
     → IsPlaced opening w (mine ++ record { cut = length k; call = call; reply = r } ∷ []) k
 placed_at opening w mine j k call reply.OutOfMemory p a ready =
     answered_by opening w mine j k call reply.OutOfMemory None p (a.1 ∙ sym (append-nil j)) refl (answers_fit opening w mine call reply.OutOfMemory j k a ready)
@@ -166,3 +178,12 @@ placed_at opening w mine j k call r p a ready =
 
 pub call_is_placed : CallIsPlaced
 call_is_placed opening w mine seen j k call r p pre same a ready = placed_at opening w mine j k call r (placed_stays opening w mine seen j p pre same) a ready
+
+pub first_is_placed : FirstIsPlaced
+first_is_placed opening w j is = record {
+  fit = tt;
+  within = tt;
+  begun = omega (arith, is);
+  rise = tt;
+  each_once = ap (λ n. events_by w (drop n j)) is ∙ ap (events_by w) (drop_all j);
+}

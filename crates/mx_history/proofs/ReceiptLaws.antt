@@ -1,6 +1,6 @@
 -- Receipts and the journal.
 use Rattle.std.proofs.Common.{◌≡◌, ℕ, ◌+◌, ◌-◌, ◌<◌, ◌≤◌, ◌∙◌, sym, refl, ap, subst, List, [], ◌∷◌, length, Bool, true, false, cond, arith, inl, inr, zero-add}
-use Rattle.std.specs.Prelude.{zero, suc, take, slice_get, Option, Some}
+use Rattle.std.specs.Prelude.{zero, suc, take, drop, slice_get, Option, Some}
 use Rattle.std.specs.List.{filter_map, cons_option, AllByRecursion}
 use Rattle.std.specs.Option.{IsSome, IsSomeAnd}
 use Rattle.std.proofs.lemmas.Bool.{cases_eq}
@@ -46,7 +46,7 @@ fits_by_its_cut opening w earlier r j k e f = record {
   with_event = λ is. answered_by_cut opening w r j k e (f.with_event is);
   no_memory = λ is. subst (λ (z : List Event). IsSome (answer opening z r.call).1) e (f.no_memory is);
   without_event = λ is. f.without_event is ∙ ap (λ z. (answer opening z r.call).0) e;
-  ready = λ is. ap (λ z. is_ready (mark earlier) z) (sym e) ∙ f.ready is;
+  ready = λ is. ap (λ z. is_ready (mark opening.from earlier) z) (sym e) ∙ f.ready is;
 }
 
 -- 2. Each once, by count. The cuts of receipts are counted from `n` on, the number of events before the list.
@@ -158,14 +158,25 @@ all_with (r ∷ mine) = go (comes_with_event r.reply) refl (all_with mine) where
   go true is a = (is, a)
   go false is a = a
 
-from_zero : (j : List Event) (rs : List Receipt) → events_at 0 rs j ≡ events_of rs j
-from_zero j [] = refl
-from_zero j (r ∷ rs) = let e : r.cut - 1 - 0 ≡ r.cut - 1 = omega arith in ap (λ i. cons_option (slice_get j i) (events_at 0 rs j)) e ∙ ap (cons_option (slice_get j (r.cut - 1))) (from_zero j rs)
+-- the event right before a cut, in the list from a place below the cut on
+get_dropped : (n i : ℕ) (j : List Event) → slice_get (drop n j) i ≡ slice_get j (n + i)
+get_dropped zero i j = ap (slice_get j) (sym (zero-add i))
+get_dropped (suc n) i [] = refl
+get_dropped (suc n) i (x ∷ j) = get_dropped n i j ∙ ap (slice_get (x ∷ j)) (let e : suc (n + i) ≡ suc n + i = omega arith in e)
+
+get_at : (from : ℕ) (j : List Event) (r : Receipt) → from < r.cut → slice_get (drop from j) (r.cut - 1 - from) ≡ slice_get j (r.cut - 1)
+get_at from j r lt = get_dropped from (r.cut - 1 - from) j ∙ ap (slice_get j) (let e : from + (r.cut - 1 - from) ≡ r.cut - 1 = omega arith in e)
+
+events_from : (from : ℕ) (j : List Event) (rs : List Receipt) → Above from rs → events_at from rs (drop from j) ≡ events_of rs j
+events_from from j [] a = refl
+events_from from j (r ∷ rs) a = ap (λ q. cons_option q (events_at from rs (drop from j))) (get_at from j r a.0) ∙ ap (cons_option (slice_get j (r.cut - 1))) (events_from from j rs a.1)
 
 pub each_once_by_count : EachOnceByCount
-each_once_by_count w mine j c o count =
+each_once_by_count from w mine j c o count =
     let rs = with_events mine in
-    let zero_of : OfMaker w j 0 rs = Each-map (IsOfMaker w j) (λ (r : Receipt). IsSomeAnd (slice_get j (r.cut - 1 - 0)) (λ e. same_maker e.who w ≡ true))
-    (λ r h. let e : r.cut - 1 ≡ r.cut - 1 - 0 = omega arith in subst (λ i. IsSomeAnd (slice_get j i) (λ e. same_maker e.who w ≡ true)) e h) rs o in
-    let k = counted w j 0 rs (strictly 0 mine c (all_with mine)) zero_of in
-    k.1 (omega (arith, count)) ∙ from_zero j rs
+    let up = strictly from mine c (all_with mine) in
+    let above = rising_above from rs up in
+    let of : OfMaker w (drop from j) from rs = Each-both (λ (r : Receipt). from < r.cut) (IsOfMaker w j) (λ (r : Receipt). IsSomeAnd (slice_get (drop from j) (r.cut - 1 - from)) (λ e. same_maker e.who w ≡ true))
+    (λ r lt h. subst (λ (q : Option Event). IsSomeAnd q (λ e. same_maker e.who w ≡ true)) (sym (get_at from j r lt)) h) rs above o in
+    let k = counted w (drop from j) from rs up of in
+    k.1 (omega (arith, count)) ∙ events_from from j rs above

@@ -1,9 +1,9 @@
 -- The slots of a legal history.
 use Rattle.std.proofs.Common.{◌≡◌, ℕ, ◌+◌, ◌<◌, ◌≤◌, ◌∙◌, sym, refl, ap, subst, List, [], ◌∷◌, ◌++◌, append-nil, append_assoc, length, Bool, true, false, cond, map, arith, inl, inr}
-use Rattle.std.specs.Prelude.{zero, suc, not, ◌&&◌, ◌||◌, ◌==◌, nat_lt, Option, Some, None}
+use Rattle.std.specs.Prelude.{nat_le, zero, suc, not, ◌&&◌, ◌||◌, ◌==◌, nat_lt, Option, Some, None}
 use Rattle.std.specs.List.{filter, list_any, find}
 use Rattle.std.specs.Option.{IsSomeAnd, option_map, unwrap_or}
-use Rattle.std.proofs.lemmas.Bool.{cases_eq, cases_Bool, eqb-true, eqb-false, ne_eqb, ltb-true, and_parts, false_from_ne_true, false≢true, or_left, or_right}
+use Rattle.std.proofs.lemmas.Bool.{cases_eq, cases_Bool, eqb-true, eqb-false, ne_eqb, ltb-true, leb-true, and_parts, false_from_ne_true, false≢true, or_left, or_right}
 use Rattle.std.proofs.lemmas.List.{map-append, length-map}
 use Rattle.std.proofs.lemmas.List.Folds.{list_any-append}
 use Rattle.std.proofs.lemmas.List.Sums.{length-filter, count_by-le-length}
@@ -14,7 +14,7 @@ use Rattle.mx_types.specs.declared.event.Who.{Who}
 use Rattle.mx_types.specs.declared.event.What.{What}
 use Rattle.mx_types.specs.declared.event.What.TheVariants as what
 use Rattle.mx_types.specs.declared.event.Event.{Event}
-use Rattle.mx_history.specs.History.{Addition, same_ticket, added, additions, has_handle, has_ticket, may_follow, is_legal, is_legal_after}
+use Rattle.mx_history.specs.History.{Addition, same_ticket, added, beyond, has_handle, has_ticket, may_follow, is_legal, is_legal_after}
 use Rattle.mx_history.specs.Slots.{has_slot, free_from, lowest_free, slots_after, slots_from, slots, slot_of}
 use Rattle.mx_history.specs.Laws.{then, IsOncePerSlot, HasOwnSlots, SlotsDiffer, IsLeastFree, AdditionTakesLeastSlot}
 use Rattle.mx_history.proofs.Snoc.{legal-snoc}
@@ -133,10 +133,10 @@ slots_few : (j : List Event) → HasOwnSlots j → length (slots j) ≡ length (
 slots_few j o =
     sym (length-map (slots j) (λ (x : Ticket × ℕ). x.0)) ∙ ap length o.tickets ∙ length-map (added j) (λ (a : Addition). a.ticket)
 
-pub may_add_few : (j : List Event) (h : HandleId) (t : Ticket) → may_follow j (what.Added h t) ≡ true → (length (added j) < most_handles) × (t.0 ≡ additions j)
+pub may_add_few : (j : List Event) (h : HandleId) (t : Ticket) → may_follow j (what.Added h t) ≡ true → (length (added j) < most_handles) × (beyond j ≤ t.0)
 may_add_few j h t m =
-    let k = and_parts (not (has_handle h (added j)) && nat_lt (length (added j)) most_handles) (t.0 == additions j) m in
-    (ltb-true (length (added j)) most_handles (and_parts (not (has_handle h (added j))) (nat_lt (length (added j)) most_handles) k.0).1, eqb-true t.0 (additions j) k.1)
+    let k = and_parts (not (has_handle h (added j)) && nat_lt (length (added j)) most_handles) (nat_le (beyond j) t.0) m in
+    (ltb-true (length (added j)) most_handles (and_parts (not (has_handle h (added j))) (nat_lt (length (added j)) most_handles) k.0).1, leb-true (beyond j) t.0 k.1)
 
 -- an event that adds and removes nothing
 own_same : (j : List Event) (w : Who) (e : What) → slots_after (slots j) e ≡ slots j → tickets (then j w e) ≡ tickets j → HasOwnSlots j → HasOwnSlots (then j w e)

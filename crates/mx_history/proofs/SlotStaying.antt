@@ -1,19 +1,19 @@
 -- An added ticket keeps its slot.
-use Rattle.std.proofs.Common.{◌≡◌, ℕ, ◌+◌, ◌<◌, ◌∙◌, ◌⊎◌, inl, inr, sym, refl, ap, List, [], ◌∷◌, ◌++◌, append-nil, append_assoc, Bool, true, false, cond, map, arith}
+use Rattle.std.proofs.Common.{◌≡◌, ℕ, ◌<◌, ◌∙◌, ◌⊎◌, inl, inr, sym, refl, ap, List, [], ◌∷◌, ◌++◌, append-nil, append_assoc, Bool, true, false, cond, map, arith}
 use Rattle.std.specs.Prelude.{not, ◌||◌, Option, Some, None}
 use Rattle.std.specs.List.{filter, find}
 use Rattle.std.specs.Option.{is_some, option_map, unwrap_or}
-use Rattle.std.proofs.lemmas.Bool.{cases_Bool, eqb-true, ne_eqb, and_parts, false≢true, or_left, or_right}
+use Rattle.std.proofs.lemmas.Bool.{cases_Bool, ne_eqb, and_parts, false≢true, or_left, or_right}
 use Rattle.mx_types.specs.declared.names.Ticket.{Ticket}
 use Rattle.mx_types.specs.declared.event.Who.{Who}
 use Rattle.mx_types.specs.declared.event.What.{What}
 use Rattle.mx_types.specs.declared.event.What.TheVariants as what
 use Rattle.mx_types.specs.declared.event.Event.{Event}
-use Rattle.mx_history.specs.History.{same_ticket, added, additions, addition_of, has_ticket, may_follow, is_legal, is_legal_after}
+use Rattle.mx_history.specs.History.{same_ticket, beyond, has_ticket, may_follow, is_legal_after}
 use Rattle.mx_history.specs.Slots.{slots, slots_after, slot_of, lowest_free}
 use Rattle.mx_history.specs.Laws.{then, SlotStays}
-use Rattle.mx_history.proofs.Lists.{same-is, same-refl}
-use Rattle.mx_history.proofs.Histories.{tickets, laws, below, additions-then}
+use Rattle.mx_history.proofs.Lists.{same-is}
+use Rattle.mx_history.proofs.Histories.{laws, below, beyond-then}
 use Rattle.mx_history.proofs.LegalLaws.{prefix_is_legal, after_split}
 use Rattle.mx_history.proofs.SlotLaws.{slots_differ, slots-then, may_add_few}
 use Rattle.mx_history.proofs.Tickets.{same-sym}
@@ -64,14 +64,14 @@ has_at t n (y ∷ s) h = go (same_ticket t y.0) refl h (has_at t n s) where
 
 -- the ticket was added; it has this slot, or none any more
 record Keeps (t : Ticket) (n : ℕ) (j : List Event) : Type 0 where
-  made : t.0 < additions j
+  made : t.0 < beyond j
   at : (slot_of t j ≡ Some n) ⊎ (slot_of t j ≡ None)
 
 keeps_by : (t : Ticket) (n : ℕ) (j : List Event) (w : Who) (e : What) → Keeps t n j → at_slots t (slots_after (slots j) e) ≡ slot_of t j → Keeps t n (then j w e)
 keeps_by t n j w e k same =
     let at : slot_of t (then j w e) ≡ slot_of t j = ap (at_slots t) (slots-then j w e) ∙ same in
     record {
-      made = omega (arith, k.made, additions-then j w e);
+      made = omega (arith, k.made, beyond-then j w e);
       at = elim k.at [ inl h ↦ inl (at ∙ h) | inr h ↦ inr (at ∙ h) ];
     }
 
@@ -81,7 +81,7 @@ keeps-then t n j w (what.Added h u) k m =
 keeps-then t n j w (what.Removed h u) k m =
     elim (cases_Bool (same_ticket t u)) [
       | inl same ↦ record {
-        made = omega (arith, k.made, additions-then j w (what.Removed h u));
+        made = omega (arith, k.made, beyond-then j w (what.Removed h u));
         at = inr (ap (at_slots t) (slots-then j w (what.Removed h u)) ∙ ap (λ v. at_slots t (filter (λ x. not (same_ticket x.0 v)) (slots j))) (sym (same-is t u same)) ∙ at_none t (slots j));
       }
       | inr other ↦ keeps_by t n j w (what.Removed h u) k (at_less t u (slots j) other)

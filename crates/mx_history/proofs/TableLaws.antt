@@ -1,8 +1,8 @@
 -- What a book's table says of its journal, and what an event keeps.
 use Rattle.std.proofs.Common.{◌≡◌, ℕ, ◌+◌, ◌<◌, ◌≤◌, ◌∙◌, sym, refl, ap, List, [], ◌∷◌, ◌++◌, append-nil, append_assoc, length, Bool, true, false, cond, map, arith, zero-add, length-append, inl, inr}
-use Rattle.std.specs.Prelude.{zero, suc, not, ◌&&◌, ◌||◌, ◌==◌, Option, Some, None, nat_lt, IfSome, IfNone}
+use Rattle.std.specs.Prelude.{max, nat_le, zero, suc, not, ◌&&◌, ◌||◌, Option, Some, None, nat_lt, IfSome, IfNone}
 use Rattle.std.specs.List.{filter, list_any, find, AllByRecursion, count_by, sum_by}
-use Rattle.std.specs.Option.{is_some, is_none, option_map, option_to_list}
+use Rattle.std.specs.Option.{is_none, option_map, option_to_list}
 use Rattle.std.proofs.lemmas.Bool.{ltb-true, ltb-false, and_parts, and_from, false_from_ne_true, false≢true, leb-true, or_right, or_cases, or_left}
 use Rattle.std.proofs.lemmas.List.{map-append}
 use Rattle.std.proofs.lemmas.List.Sums.{sum_by-cons, sum_by_push, length-filter, count_by-le-length}
@@ -14,7 +14,7 @@ use Rattle.mx_types.specs.declared.event.Who.{Who}
 use Rattle.mx_types.specs.declared.event.What.{What}
 use Rattle.mx_types.specs.declared.event.What.TheVariants as what
 use Rattle.mx_types.specs.declared.event.Event.{Event}
-use Rattle.mx_history.specs.History.{Addition, Message, same_ticket, same_handle, occurs, wakes, addition_of, message_of, removes, reads, ends, added, waiting, running, paused, additions, has_ticket, has_handle, last_is_pause, end_of, phase_by, phase_of, due, may_follow, is_legal, is_legal_after, has_room, HasRoomForDue, is_maker, same_maker, made_by, needs}
+use Rattle.mx_history.specs.History.{Addition, Message, same_ticket, same_handle, occurs, wakes, past, message_of, removes, reads, ends, added, waiting, running, paused, beyond, has_ticket, has_handle, last_is_pause, end_of, phase_by, phase_of, due, may_follow, is_legal, is_legal_after, has_room, HasRoomForDue, is_maker, same_maker, made_by, needs}
 use Rattle.mx_history.specs.declared.row.Row.{Row}
 use Rattle.mx_history.specs.declared.row.Phase.{Phase}
 use Rattle.mx_history.specs.declared.row.Phase.TheVariants as phase
@@ -24,7 +24,7 @@ use Rattle.mx_history.specs.Slots.{lowest_free}
 use Rattle.mx_history.specs.Table.{TableView, IsTableOf, IsRow, count_of}
 use Rattle.mx_history.proofs.Snoc.{legal-snoc}
 use Rattle.mx_history.proofs.Lists.{Each-map, filter_idle, filter_true, has-filter, same-refl, same-is}
-use Rattle.mx_history.proofs.Histories.{tickets, Laws, laws, laws_none, laws-then, added-then, additions-then, ends-phase, has_addition, running-has, first_unread, is_done, waiting-then, filter_messages}
+use Rattle.mx_history.proofs.Histories.{tickets, Laws, laws, laws_none, laws-then, added-then, beyond-then, ends-phase, has_addition, running-has, first_unread, is_done, waiting-then, filter_messages}
 use Rattle.mx_history.specs.Laws.{then}
 use Rattle.mx_history.proofs.Tables.{Tabled, tabled-then, table-then, tickets-rows, ticket_of-rows, handle_of-rows, due-rows, length-rows, found, not_found, has-kept, runs-phase, both, sum-agrees, not_not}
 
@@ -43,7 +43,7 @@ tabled j h = tabled_from [] j [] laws_none (record { adds = refl; phases = tt })
 -- at most 256 are added
 few_then : (f : List Event) (w : Who) (e : What) → length (added f) ≤ most_handles → may_follow f e ≡ true → length (added (then f w e)) ≤ most_handles
 few_then f w (what.Added h t) few m =
-    let k = and_parts (not (has_handle h (added f))) (nat_lt (length (added f)) most_handles) (and_parts (not (has_handle h (added f)) && nat_lt (length (added f)) most_handles) (t.0 == additions f) m).0 in
+    let k = and_parts (not (has_handle h (added f))) (nat_lt (length (added f)) most_handles) (and_parts (not (has_handle h (added f)) && nat_lt (length (added f)) most_handles) (nat_le (beyond f) t.0) m).0 in
     let lt = ltb-true (length (added f)) most_handles k.1 in
     rw (added-then f w (what.Added h t), filter_true (added f)) (omega (arith, length-append (added f) (record { handle = h; ticket = t } ∷ [])))
 few_then f w (what.Removed h t) few m =
@@ -368,14 +368,14 @@ woke-then j e woken k mark = go (wakes e.what) refl
 
 -- the table of one more event
 pub table-of-then : (j : List Event) (w : Who) (e : What) (t u : TableView) → IsTableOf j t → may_follow j e ≡ true
-    → u.rows ≡ rows_after t.rows e → u.waiting ≡ waits_after t.waiting e → u.added ≡ t.added + cond (is_some (addition_of e)) 1 0 → u.events ≡ t.events + 1 → u.woken ≡ cond (wakes e) (t.events + 1) t.woken
+    → u.rows ≡ rows_after t.rows e → u.waiting ≡ waits_after t.waiting e → u.beyond ≡ max t.beyond (past e) → u.events ≡ t.events + 1 → u.woken ≡ cond (wakes e) (t.events + 1) t.woken
     → ((v : Who) → is_maker v ≡ true → count_of v u.makers ≡ count_of v t.makers + cond (same_maker w v) 1 0)
     → IsTableOf (then j w e) u
 table-of-then j w e t u x m rows waits adds events woken made = record {
   legal = legal-then j w e x.legal m;
   rowed = rows ∙ ap (λ r. rows_after r e) x.rowed ∙ sym (table-then j w e);
   waits = waits ∙ ap (λ ts. waits_after ts e) x.waits ∙ waits-then j w e;
-  numbered = adds ∙ ap (λ n. n + cond (is_some (addition_of e)) 1 0) x.numbered ∙ sym (additions-then j w e);
+  numbered = adds ∙ ap (λ n. max n (past e)) x.numbered ∙ sym (beyond-then j w e);
   counted = events ∙ ap (λ n. n + 1) x.counted ∙ sym (length-append j (record { who = w; what = e } ∷ []));
   woke = λ mark. ap (nat_lt mark) (woken ∙ ap (λ n. cond (wakes e) (n + 1) t.woken) x.counted) ∙ woke-then j (record { who = w; what = e }) t.woken x.woke mark;
   made = λ v h. made v h ∙ ap (λ n. n + cond (same_maker w v) 1 0) (x.made v h) ∙ sym (made-then v j w e);
@@ -384,7 +384,7 @@ table-of-then j w e t u x m rows waits adds events woken made = record {
 -- an addition finds room in the table, and an event in the journal
 pub row_fits : (j : List Event) (h : HandleId) (t : Ticket) → is_legal j ≡ true → may_follow j (what.Added h t) ≡ true → length (table_of j) < most_handles
 row_fits j h t l m =
-    let k = and_parts (not (has_handle h (added j))) (nat_lt (length (added j)) most_handles) (and_parts (not (has_handle h (added j)) && nat_lt (length (added j)) most_handles) (t.0 == additions j) m).0 in
+    let k = and_parts (not (has_handle h (added j))) (nat_lt (length (added j)) most_handles) (and_parts (not (has_handle h (added j)) && nat_lt (length (added j)) most_handles) (nat_le (beyond j) t.0) m).0 in
     let lt = ltb-true (length (added j)) most_handles k.1 in
     omega (arith, length-rows j (table_of j) (tabled j l))
 

@@ -1,9 +1,9 @@
 -- The table agrees with the history.
-use Rattle.std.proofs.Common.{◌≡◌, ℕ, ◌+◌, ◌∙◌, sym, refl, ap, subst, List, [], ◌∷◌, ◌++◌, append-nil, length, Bool, true, false, cond, map, arith, ◌<◌}
-use Rattle.std.specs.Prelude.{not, ◌&&◌, ◌||◌, ◌==◌, Option, Some, None}
+use Rattle.std.proofs.Common.{◌≡◌, ℕ, ◌+◌, ◌∙◌, sym, refl, ap, subst, List, [], ◌∷◌, ◌++◌, append-nil, length, Bool, true, false, cond, map, arith, ◌<◌, ◌≤◌}
+use Rattle.std.specs.Prelude.{nat_le, not, ◌&&◌, ◌||◌, Option, Some, None}
 use Rattle.std.specs.List.{filter, list_any, find, AllByRecursion, sum_by}
 use Rattle.std.specs.Option.{is_none, option_map}
-use Rattle.std.proofs.lemmas.Bool.{eqb-true, and_parts, false_from_ne_true, false≢true}
+use Rattle.std.proofs.lemmas.Bool.{leb-true, and_parts, false_from_ne_true, false≢true}
 use Rattle.std.proofs.lemmas.List.{map-append, length-map}
 use Rattle.std.proofs.lemmas.List.Sums.{sum_by-cons}
 use Rattle.mx_types.specs.declared.code.Code.{Code}
@@ -13,7 +13,7 @@ use Rattle.mx_types.specs.declared.event.Who.{Who}
 use Rattle.mx_types.specs.declared.event.What.{What}
 use Rattle.mx_types.specs.declared.event.What.TheVariants as what
 use Rattle.mx_types.specs.declared.event.Event.{Event}
-use Rattle.mx_history.specs.History.{Addition, same_ticket, same_handle, occurs, removes, ends, added, running, additions, has_ticket, phase_by, phase_of, due_of, due, may_follow}
+use Rattle.mx_history.specs.History.{Addition, same_ticket, same_handle, occurs, removes, ends, added, running, beyond, has_ticket, phase_by, phase_of, due_of, due, may_follow}
 use Rattle.mx_history.specs.declared.row.Row.{Row}
 use Rattle.mx_history.specs.declared.row.Phase.{Phase}
 use Rattle.mx_history.specs.declared.row.Phase.TheVariants as phase
@@ -69,7 +69,7 @@ same_phase j w e idle r p = p ∙ sym (phase_of-snoc r.ticket j (record { who = 
 pub tabled-then : (j : List Event) (w : Who) (e : What) (rows : List Row) → Laws j → may_follow j e ≡ true → Tabled j rows → Tabled (then j w e) (rows_after rows e)
 tabled-then j w (what.Added h t) rows l m tab =
     let e = what.Added h t in
-    let n : t.0 ≡ additions j = eqb-true t.0 (additions j) (and_parts _ (t.0 == additions j) m).1 in
+    let n : beyond j ≤ t.0 = leb-true (beyond j) t.0 (and_parts _ (nat_le (beyond j) t.0) m).1 in
     record {
       adds = map-append addition_in rows _ ∙ ap (λ z. z ++ record { handle = h; ticket = t } ∷ []) (tab.adds ∙ sym (filter_true (added j))) ∙ sym (added-then j w e);
       phases = Each-append (λ r. r.phase ≡ phase_of r.ticket (then j w e)) rows _
@@ -150,10 +150,10 @@ tickets-rows j rows t = ap (map (λ (a : Addition). a.ticket)) (sym t.adds) ∙ 
 
 pub due-rows : (j : List Event) (rows : List Row) → Laws j → Tabled j rows → due j ≡ places rows
 due-rows j rows l t =
-    let kept = Each-unmapped (λ (r : Row). r.ticket) (λ u. (u.0 < additions j) × (occurs (removes u) j ≡ false)) rows (rw (← tickets-rows j rows t) l.kept) in
+    let kept = Each-unmapped (λ (r : Row). r.ticket) (λ u. (u.0 < beyond j) × (occurs (removes u) j ≡ false)) rows (rw (← tickets-rows j rows t) l.kept) in
     ap (sum_by (λ (a : Addition). due_of a.ticket j)) (sym t.adds) ∙ sum-mapped addition_in (λ a. due_of a.ticket j) rows
     ∙ sum-agrees (λ r. due_of r.ticket j) (λ r. places_of r.phase) rows
-    (Each-map (λ r. (r.phase ≡ phase_of r.ticket j) × ((r.ticket.0 < additions j) × (occurs (removes r.ticket) j ≡ false))) (λ r. due_of r.ticket j ≡ places_of r.phase)
+    (Each-map (λ r. (r.phase ≡ phase_of r.ticket j) × ((r.ticket.0 < beyond j) × (occurs (removes r.ticket) j ≡ false))) (λ r. due_of r.ticket j ≡ places_of r.phase)
     (λ r x. due_one j l r.ticket r.phase x.0 x.1.1) rows (both _ _ rows t.phases kept))
 
 pub length-rows : (j : List Event) (rows : List Row) → Tabled j rows → length (added j) ≡ length rows

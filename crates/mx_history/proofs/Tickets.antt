@@ -1,9 +1,9 @@
 -- The tickets of a history: those that are added, in order, and those whose message waits, each once.
 use Rattle.std.proofs.Common.{◌≡◌, ℕ, ◌+◌, ◌<◌, ◌≤◌, ◌∙◌, sym, refl, ap, subst, List, [], ◌∷◌, ◌++◌, append-nil, append_assoc, inl, inr, length, Bool, true, false, cond, map, arith}
-use Rattle.std.specs.Prelude.{not, ◌&&◌, ◌||◌, ◌==◌, Option, Some, None, nat_le}
+use Rattle.std.specs.Prelude.{not, ◌&&◌, ◌||◌, Option, Some, None, nat_le}
 use Rattle.std.specs.List.{filter, list_any, find, AllByRecursion}
 use Rattle.std.specs.Option.{is_some, is_none, option_map, option_to_list}
-use Rattle.std.proofs.lemmas.Bool.{eqb-false, le-leb, false_from_ne_true, ne_eqb, cases_Bool, true≢false, and_from, eq-eqb, or_left, false≢true, not_from_false, eqb-true, and_parts}
+use Rattle.std.proofs.lemmas.Bool.{eqb-false, le-leb, leb-true, false_from_ne_true, ne_eqb, cases_Bool, true≢false, and_from, or_left, false≢true, not_from_false, and_parts}
 use Rattle.std.proofs.lemmas.List.{map-append, length-map}
 use Rattle.std.proofs.lemmas.List.Sums.{length-filter, count_by-le-length}
 use Rattle.mx_types.specs.Limits.{most_handles}
@@ -13,8 +13,8 @@ use Rattle.mx_types.specs.declared.event.Who.{Who}
 use Rattle.mx_types.specs.declared.event.What.{What}
 use Rattle.mx_types.specs.declared.event.What.TheVariants as what
 use Rattle.mx_types.specs.declared.event.Event.{Event}
-use Rattle.mx_history.specs.History.{Addition, Message, same_ticket, occurs, addition_of, message_of, removes, ends, reads, added, waiting, running, additions, has_ticket, may_follow, is_legal, is_legal_after, has_room, same_handle, HasRoomForDue, IsInOrder, phase_of}
-use Rattle.mx_history.specs.Answers.{ticket_of, handle_of, next_ticket}
+use Rattle.mx_history.specs.History.{Addition, Message, same_ticket, occurs, addition_of, message_of, removes, ends, reads, added, waiting, running, beyond, has_ticket, may_follow, is_legal, is_legal_after, has_room, same_handle, HasRoomForDue, IsInOrder, phase_of}
+use Rattle.mx_history.specs.Answers.{ticket_of, handle_of}
 use Rattle.mx_history.specs.declared.row.Row.{Row}
 use Rattle.std.proofs.lemmas.Bool.Decides.{nat_tests}
 use Rattle.mx_history.proofs.Snoc.{occurs-snoc, or_false}
@@ -94,10 +94,10 @@ fewer (x ∷ xs) (y ∷ ys) a b h =
 
 ordered-then : (j : List Event) (w : Who) (e : What) → Laws j → may_follow j e ≡ true → IsInOrder (tickets j) → IsInOrder (tickets (then j w e))
 ordered-then j w (what.Added h t) l m o =
-    let new : t.0 ≡ additions j = eqb-true t.0 (additions j) (and_parts _ (t.0 == additions j) m).1 in
+    let new : beyond j ≤ t.0 = leb-true (beyond j) t.0 (and_parts _ (nat_le (beyond j) t.0) m).1 in
     rw (tickets-then j w (what.Added h t))
     (in_order-push (filter (λ u. true) (tickets j)) t (in_order-filter (λ u. true) (tickets j) o)
-    (Each-filter (λ u. true) (λ u. (u.0 < additions j) × (occurs (removes u) j ≡ false)) (λ u. u.0 < t.0) (λ u _ x. let b = x.0 in omega arith) (tickets j) l.kept))
+    (Each-filter (λ u. true) (λ u. (u.0 < beyond j) × (occurs (removes u) j ≡ false)) (λ u. u.0 < t.0) (λ u _ x. let b = x.0 in omega arith) (tickets j) l.kept))
 ordered-then j w (what.Removed h t) l m o = rw (tickets-then j w (what.Removed h t)) (rw (append-nil (filter (λ u. not (same_ticket u t)) (tickets j))) (in_order-filter _ (tickets j) o))
 ordered-then j w (what.Done t c n) l m o = rw (tickets-then j w (what.Done t c n)) (rw (append-nil (filter (λ u. true) (tickets j))) (in_order-filter (λ u. true) (tickets j) o))
 ordered-then j w (what.Read t) l m o = rw (tickets-then j w (what.Read t)) (rw (append-nil (filter (λ u. true) (tickets j))) (in_order-filter (λ u. true) (tickets j) o))
@@ -124,9 +124,9 @@ none_is p None xs h e = go (find p xs) refl e where
   go (Some a) is k = cc
 
 pub may_add : (j : List Event) (h : HandleId) (t : Ticket) (o : Option Row) → is_some o ≡ false → option_map (λ r. r.ticket) o ≡ ticket_of h j
-    → nat_le most_handles (length (added j)) ≡ false → t ≡ next_ticket j → may_follow j (what.Added h t) ≡ true
+    → nat_le most_handles (length (added j)) ≡ false → beyond j ≤ t.0 → may_follow j (what.Added h t) ≡ true
 may_add j h t o none is full new =
-    and_from _ _ (and_from _ _ (not_from_false _ (none_is (λ a. same_handle h a.handle) o (added j) none is)) (grind (arith, nat_tests))) (eq-eqb t.0 (additions j) (ap (λ u. u.0) new))
+    and_from _ _ (and_from _ _ (not_from_false _ (none_is (λ a. same_handle h a.handle) o (added j) none is)) (grind (arith, nat_tests))) (le-leb (beyond j) t.0 new)
 
 pub room_none : (history : ℕ) (j : List Event) → HasRoomForDue history j → has_room history j 0 ≡ true
 room_none history j k = let r = k.room in le-leb _ history (omega arith)

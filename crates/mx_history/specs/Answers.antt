@@ -1,8 +1,8 @@
 -- What each call is answered after a list of events, and the event that it makes there.
-use Rattle.std.specs.Prelude.{ℕ, nat_le, Bool, not, if◌then◌else◌, List, [], ◌∷◌, ◌++◌, length, map, drop, Option, Some, None, ◌≡◌}
+use Rattle.std.specs.Prelude.{ℕ, max, nat_le, nat_lt, Bool, not, if◌then◌else◌, List, [], ◌∷◌, ◌++◌, length, map, drop, Option, Some, None, ◌≡◌}
 use Rattle.std.specs.List.{find}
 use Rattle.std.specs.Option.{unwrap_or, option_map, option_to_list, IsSome}
-use Rattle.mx_types.specs.Limits.{most_handles}
+use Rattle.mx_types.specs.Limits.{greatest_ticket, most_handles}
 use Rattle.mx_types.specs.declared.names.HandleId.{HandleId}
 use Rattle.mx_types.specs.declared.names.Ticket.{Ticket}
 use Rattle.mx_types.specs.declared.event.Who.{Who}
@@ -19,7 +19,7 @@ use Rattle.mx_types.specs.declared.reply.State.{State}
 use Rattle.mx_types.specs.declared.reply.State.TheVariants as state
 use Rattle.mx_history.specs.declared.row.Phase.{Phase}
 use Rattle.mx_history.specs.declared.row.Phase.TheVariants as phase
-use Rattle.mx_history.specs.History.{Message, Opening, same_handle, same_ticket, occurs, wakes, added, waiting, running, paused, additions, has_ticket, has_room, phase_of}
+use Rattle.mx_history.specs.History.{Message, Opening, same_handle, same_ticket, occurs, wakes, added, waiting, running, paused, beyond, has_ticket, has_room, phase_of}
 
 -- a reply, and the event that comes with it
 abbrev pub Answer : Type 0
@@ -52,9 +52,13 @@ look_of t j =
     else if has_ticket t (paused j) then look.Paused
     else look.Go)
 
--- the next addition's ticket
-abbrev pub next_ticket : List Event → Ticket
-next_ticket j = record { 0 = additions j }
+-- the next addition's ticket: greater than each that was given, in older history too
+abbrev pub next_ticket : Opening → List Event → Ticket
+next_ticket opening j = record { 0 = max opening.first (beyond j) }
+
+-- the greatest ticket, 4,294,967,294, was given
+abbrev pub are_spent : Opening → List Event → Bool
+are_spent opening j = nat_lt greatest_ticket (next_ticket opening j).0
 
 abbrev pub add_answer : Opening → List Event → HandleId → Answer
 add_answer opening j h =
@@ -62,7 +66,8 @@ add_answer opening j h =
       | Some _ ↦ only reply.AddedAlready
       | None ↦
           (if nat_le most_handles (length (added j)) then only reply.TableFull
-          else if has_room opening.history j 4 then (reply.Added (next_ticket j), Some (what.Added h (next_ticket j)))
+          else if are_spent opening j then only reply.TicketsSpent
+          else if has_room opening.history j 4 then (reply.Added (next_ticket opening j), Some (what.Added h (next_ticket opening j)))
           else only reply.HistoryFull)
     ]
 

@@ -1,9 +1,9 @@
 -- What a multi handle is after a list of events (libcurl-multi(3), curl_multi_add_handle(3), curl_multi_remove_handle(3),
 -- curl_multi_info_read(3), curl_multi_get_handles(3), curl_multi_wakeup(3)). Everything is read off the whole list.
 -- In `e ∷ later` the list `later` has the events after e.
-use Rattle.std.specs.Prelude.{ℕ, ◌+◌, ◌<◌, ◌≤◌, ◌≡◌, ◌==◌, nat_lt, nat_le, Bool, true, false, not, ◌&&◌, ◌||◌, if◌then◌else◌, List, [], ◌∷◌, ◌++◌, length, map, Option, Some, None}
+use Rattle.std.specs.Prelude.{ℕ, max, ◌+◌, ◌<◌, ◌≤◌, ◌≡◌, ◌==◌, nat_lt, nat_le, Bool, true, false, not, ◌&&◌, ◌||◌, if◌then◌else◌, List, [], ◌∷◌, ◌++◌, length, map, Option, Some, None}
 use Rattle.std.specs.List.{AllByRecursion, filter, list_any, count_by, sum_by}
-use Rattle.std.specs.Option.{is_some, option_or, option_to_list}
+use Rattle.std.specs.Option.{option_or, option_to_list}
 use Rattle.mx_types.specs.Limits.{most_history, most_handles, most_seats}
 use Rattle.mx_types.specs.declared.code.Code.{Code}
 use Rattle.mx_types.specs.declared.names.HandleId.{HandleId}
@@ -18,7 +18,7 @@ use Rattle.mx_history.specs.declared.row.Phase.TheVariants as phase
 
 -- 1. What one event says.
 
--- a handle that was added, with the number of its addition
+-- a handle that was added, with the ticket of its addition
 pub record Addition : Type 0 where
   pub handle : HandleId
   pub ticket : Ticket
@@ -105,9 +105,15 @@ last_is_pause t (e ∷ later) =
 abbrev pub paused : List Event → List Ticket
 paused j = filter (λ t. last_is_pause t j) (running j)
 
--- how many additions were made
-abbrev pub additions : List Event → ℕ
-additions j = count_by (λ e. is_some (addition_of e.what)) j
+-- one more than the ticket that an addition was given; 0 for what adds nothing
+abbrev pub past : What → ℕ
+past (what.Added _ t) = t.0 + 1
+past _ = 0
+
+-- one more than the greatest ticket that an addition was given, or 0 where there is none
+abbrev pub beyond : List Event → ℕ
+beyond [] = 0
+beyond (e ∷ later) = max (past e.what) (beyond later)
 
 -- 3. Legal histories.
 
@@ -127,13 +133,13 @@ abbrev pub IsInOrder : List Ticket → Type 0
 IsInOrder [] = Unit {0}
 IsInOrder (t ∷ ts) = AllByRecursion (λ u. t.0 < u.0) ts × IsInOrder ts
 
--- additions are numbered in their order
-abbrev pub is_next_ticket : Ticket → List Event → Bool
-is_next_ticket t f = t.0 == additions f
+-- tickets only rise: it is greater than each that an addition was given
+abbrev pub is_new_ticket : Ticket → List Event → Bool
+is_new_ticket t f = nat_le (beyond f) t.0
 
 -- the event is allowed after the events f
 abbrev pub may_follow : List Event → What → Bool
-may_follow f (what.Added h t) = not (has_handle h (added f)) && nat_lt (length (added f)) most_handles && is_next_ticket t f
+may_follow f (what.Added h t) = not (has_handle h (added f)) && nat_lt (length (added f)) most_handles && is_new_ticket t f
 may_follow f (what.Removed h t) = list_any (λ a. same_handle h a.handle && same_ticket t a.ticket) (added f)
 may_follow f (what.Done t _ _) = has_ticket t (running f)
 may_follow f (what.Read t) = is_first t (waiting f)
@@ -151,9 +157,12 @@ is_legal j = is_legal_after [] j
 
 -- 4. Room: each addition has a place kept for its end, its reading and its removal.
 
--- what a multi handle is opened with: how many events its history may have
+-- what a multi handle is opened with, and what retiring changes of it: how many events its history may have; the ticket from
+-- which on additions are numbered; and how many events of its history were kept at the last retiring
 pub record Opening : Type 0 where
   pub history : ℕ
+  pub first : ℕ
+  pub from : ℕ
 
 abbrev pub missing : (What → Bool) → List Event → ℕ
 missing test j = (if occurs test j then 0 else 1)
@@ -214,3 +223,27 @@ same_maker _ _ = false
 -- how many of the events the maker made
 abbrev pub made_by : Who → List Event → ℕ
 made_by w j = count_by (λ e. same_maker e.who w) j
+
+-- 7. Retiring.
+
+-- the ticket that the event is of; a Wake is of none
+abbrev pub ticket_in : What → Option Ticket
+ticket_in (what.Added _ t) = Some t
+ticket_in (what.Removed _ t) = Some t
+ticket_in (what.Done t _ _) = Some t
+ticket_in (what.Read t) = Some t
+ticket_in (what.Paused t) = Some t
+ticket_in (what.Resumed t) = Some t
+ticket_in what.Wake = None
+
+-- the event is of a ticket that passes
+abbrev pub is_of_such : (Ticket → Bool) → What → Bool
+is_of_such p e = elim (ticket_in e) [ None ↦ false | Some t ↦ p t ]
+
+-- the events of such tickets, in order
+abbrev pub only_of : (Ticket → Bool) → List Event → List Event
+only_of p j = filter (λ e. is_of_such p e.what) j
+
+-- what retiring keeps: the events of the tickets that are added, in order
+abbrev pub retire : List Event → List Event
+retire j = only_of (λ t. has_ticket t (map (λ a. a.ticket) (added j))) j

@@ -1,6 +1,6 @@
 -- What every legal history keeps: the statements of the laws.
 use mathlib.Core.List.{IsPrefix}
-use Rattle.std.specs.Prelude.{◌⊎◌, ℕ, ◌<◌, ◌≤◌, ◌≡◌, ◌||◌, Bool, true, false, Some, None, Option, List, [], ◌∷◌, ◌++◌, length, map, take, not, ◌&&◌}
+use Rattle.std.specs.Prelude.{◌⊎◌, ℕ, ◌<◌, ◌≤◌, ◌≡◌, ◌||◌, Bool, true, false, Some, None, Option, List, [], ◌∷◌, ◌++◌, length, map, take, drop, not, ◌&&◌}
 use Rattle.std.specs.List.{AllByRecursion, count_by, filter, find, flat_map, list_any}
 use Rattle.std.specs.Option.{is_some, option_map, option_to_list, IsSomeAnd}
 use Rattle.mx_types.specs.Limits.{most_handles}
@@ -13,7 +13,7 @@ use Rattle.mx_types.specs.declared.event.What.TheVariants as what
 use Rattle.mx_types.specs.declared.event.Event.{Event}
 use Rattle.mx_types.specs.declared.call.Call.{Call}
 use Rattle.mx_types.specs.declared.call.Receipt.{Receipt}
-use Rattle.mx_history.specs.History.{IsInOrder, HasRoomForDue, Opening, same_handle, same_ticket, occurs, removes, ends, reads, pauses, resumes, added, waiting, running, paused, is_legal, may_follow, has_ticket, made_by}
+use Rattle.mx_history.specs.History.{IsInOrder, HasRoomForDue, Opening, same_handle, same_ticket, occurs, removes, ends, reads, pauses, resumes, added, waiting, running, paused, beyond, due, retire, is_legal, may_follow, has_ticket, made_by}
 use Rattle.mx_history.specs.Receipts.{is_poll, mark, Fits, IsPlaced, CutsRise, with_events, events_of, events_by, IsOfMaker}
 use Rattle.mx_history.specs.Slots.{has_slot, slots, slot_of}
 use Rattle.mx_history.specs.Answers.{answer, Answers, ticket_of, handle_of, state_of, look_of, is_ready}
@@ -70,6 +70,11 @@ is_of t e = adds t e || (removes t e || (ends t e || (reads t e || (pauses t e |
 abbrev pub NothingAfterRemoval : Type 0
 NothingAfterRemoval = (f later : List Event) (w : Who) (h : HandleId) (t : Ticket)
     → is_legal (f ++ record { who = w; what = what.Removed h t } ∷ later) ≡ true → occurs (is_of t) later ≡ false
+
+-- a ticket that was given, and doesn't run, never runs again
+abbrev pub NeverRunsAgain : Type 0
+NeverRunsAgain = (f later : List Event) (t : Ticket) → is_legal (f ++ later) ≡ true → t.0 < beyond f → has_ticket t (running f) ≡ false
+    → has_ticket t (running (f ++ later)) ≡ false
 
 -- no handle stands twice
 abbrev pub IsOnceEach : List HandleId → Type 0
@@ -198,16 +203,16 @@ abbrev pub FitsByItsCut : Type 0
 FitsByItsCut = (opening : Opening) (w : Who) (earlier : List Receipt) (r : Receipt) (j k : List Event) → take r.cut j ≡ take r.cut k
     → Fits opening w earlier r j → Fits opening w earlier r k
 
--- where cuts rise along the receipts with an event, an event of the maker stands before each, and they are as many as
--- the maker's events, then these are the maker's events, each once, in order
+-- where cuts rise along the receipts with an event, from a place in the journal on, an event of the maker stands before each,
+-- and they are as many as the maker's events behind that place, then these are those events, each once, in order
 abbrev pub EachOnceByCount : Type 0
-EachOnceByCount = (w : Who) (mine : List Receipt) (j : List Event) → CutsRise 0 (with_events mine) → AllByRecursion (IsOfMaker w j) (with_events mine)
-    → length (with_events mine) ≡ made_by w j → events_by w j ≡ events_of (with_events mine) j
+EachOnceByCount = (from : ℕ) (w : Who) (mine : List Receipt) (j : List Event) → CutsRise from (with_events mine) → AllByRecursion (IsOfMaker w j) (with_events mine)
+    → length (with_events mine) ≡ made_by w (drop from j) → events_by w (drop from j) ≡ events_of (with_events mine) j
 
 -- a call that was answered after j, and left k, has a receipt that fits k with the cut at its end; a poll where it might return
 abbrev pub AnswersFit : Type 0
 AnswersFit = (opening : Opening) (w : Who) (earlier : List Receipt) (call : Call) (reply : Reply) (j k : List Event) → Answers opening w call j reply k
-    → (is_poll call ≡ true → is_ready (mark earlier) k ≡ true) → Fits opening w earlier (record { cut = length k; call = call; reply = reply }) k
+    → (is_poll call ≡ true → is_ready (mark opening.from earlier) k ≡ true) → Fits opening w earlier (record { cut = length k; call = call; reply = reply }) k
 
 -- the table takes in what may follow, and is then the table with that event behind the others
 abbrev pub TableFollows : Type 0
@@ -229,5 +234,25 @@ PlacedStays = (opening : Opening) (w : Who) (mine : List Receipt) (j k : List Ev
 -- and a call that is answered after such a journal is placed behind them, with its cut at the end of what it left
 abbrev pub CallIsPlaced : Type 0
 CallIsPlaced = (opening : Opening) (w : Who) (mine : List Receipt) (seen j k : List Event) (call : Call) (reply : Reply) → IsPlaced opening w mine seen → IsPrefix seen j → made_by w j ≡ made_by w seen
-    → Answers opening w call j reply k → (is_poll call ≡ true → is_ready (mark mine) k ≡ true)
+    → Answers opening w call j reply k → (is_poll call ≡ true → is_ready (mark opening.from mine) k ≡ true)
     → IsPlaced opening w (mine ++ record { cut = length k; call = call; reply = reply } ∷ []) k
+
+-- what retiring leaves of a legal history: a legal one, with the same additions, running and paused tickets, and messages that
+-- wait; each added handle's state is as it was; it is no longer, the same is due, and no greater ticket was given
+pub record IsRetired (j k : List Event) : Type 0 where
+  pub legal : is_legal k ≡ true
+  pub added : added k ≡ added j
+  pub running : running k ≡ running j
+  pub paused : paused k ≡ paused j
+  pub waiting : waiting k ≡ waiting j
+  pub states : (h : HandleId) → state_of h k ≡ state_of h j
+  pub due : due k ≡ due j
+  pub shorter : length k ≤ length j
+  pub tickets : beyond k ≤ beyond j
+
+abbrev pub RetiringKeeps : Type 0
+RetiringKeeps = (j : List Event) → is_legal j ≡ true → IsRetired j (retire j)
+
+-- before its first call a caller is placed in what was kept
+abbrev pub FirstIsPlaced : Type 0
+FirstIsPlaced = (opening : Opening) (w : Who) (j : List Event) → opening.from ≡ length j → IsPlaced opening w [] j

@@ -1,5 +1,5 @@
 -- What the receipts of a seat or a worker say of the journal: each call was answered at its place in it.
-use Rattle.std.specs.Prelude.{ℕ, ◌-◌, ◌<◌, ◌≤◌, ◌≡◌, ◌||◌, Bool, true, false, if◌then◌else◌, List, [], ◌∷◌, ◌++◌, length, take, Some, slice_get}
+use Rattle.std.specs.Prelude.{ℕ, ◌-◌, ◌<◌, ◌≤◌, ◌≡◌, ◌||◌, Bool, true, false, if◌then◌else◌, List, [], ◌∷◌, ◌++◌, length, take, drop, Some, slice_get}
 use Rattle.std.specs.List.{AllByRecursion, filter, filter_map, fold}
 use Rattle.std.specs.Option.{IsSome, IsSomeAnd}
 use Rattle.mx_types.specs.declared.event.Who.{Who}
@@ -32,9 +32,9 @@ abbrev pub is_poll : Call → Bool
 is_poll call.Poll = true
 is_poll _ = false
 
--- the mark of the next poll: the cut of the last one, or 0
-abbrev pub mark : List Receipt → ℕ
-mark earlier = fold (λ m (r : Receipt). (if is_poll r.call then r.cut else m)) 0 earlier
+-- the mark of the next poll: the cut of the last one; before the first, how many events were kept from older history
+abbrev pub mark : ℕ → List Receipt → ℕ
+mark from earlier = fold (λ m (r : Receipt). (if is_poll r.call then r.cut else m)) from earlier
 
 -- the event of a call stands right before its cut, made by the caller; with the reply it is the answer before it
 pub record IsAnsweredWithEvent (opening : Opening) (who : Who) (r : Receipt) (j : List Event) : Type 0 where
@@ -49,7 +49,7 @@ pub record Fits (opening : Opening) (who : Who) (earlier : List Receipt) (r : Re
   pub with_event : comes_with_event r.reply ≡ true → IsAnsweredWithEvent opening who r j
   pub no_memory : lacks_memory r.reply ≡ true → IsSome (answer opening (take r.cut j) r.call).1
   pub without_event : (comes_with_event r.reply || lacks_memory r.reply) ≡ false → r.reply ≡ (answer opening (take r.cut j) r.call).0
-  pub ready : is_poll r.call ≡ true → is_ready (mark earlier) (take r.cut j) ≡ true
+  pub ready : is_poll r.call ≡ true → is_ready (mark opening.from earlier) (take r.cut j) ≡ true
 
 -- each receipt fits, with those before it as the earlier ones
 abbrev pub FitInTurn : Opening → Who → List Receipt → List Receipt → List Event → Type 0
@@ -72,13 +72,14 @@ events_of mine j = filter_map (λ r. slice_get j (r.cut - 1)) mine
 abbrev pub events_by : Who → List Event → List Event
 events_by who j = filter (λ e. same_maker e.who who) j
 
--- the receipts of a caller stand in the journal: each fits, at a cut within it, in their order; and the caller's
--- events are those of its receipts, each once, in order
+-- the receipts of a caller stand in the journal behind the events that were kept from older history: each fits, at a cut
+-- within it, in their order; and the caller's events behind those are the ones of its receipts, each once, in order
 pub record IsPlaced (opening : Opening) (who : Who) (mine : List Receipt) (j : List Event) : Type 0 where
   pub fit : FitInTurn opening who [] mine j
   pub within : AllByRecursion (λ r. r.cut ≤ length j) mine
-  pub rise : CutsRise 0 mine
-  pub each_once : events_by who j ≡ events_of (with_events mine) j
+  pub begun : opening.from ≤ length j
+  pub rise : CutsRise opening.from mine
+  pub each_once : events_by who (drop opening.from j) ≡ events_of (with_events mine) j
 
 -- the event right before the receipt's cut is the maker's
 abbrev pub IsOfMaker : Who → List Event → Receipt → Type 0

@@ -1,6 +1,5 @@
 -- What a table has, and of which events it is the table.
-use Rattle.std.specs.Prelude.{ℕ, ◌+◌, ◌≡◌, ◌&&◌, nat_lt, if◌then◌else◌, Bool, List, [], length, map, replicate, true, slice_index, slice_set}
-use Rattle.std.specs.Option.{is_some}
+use Rattle.std.specs.Prelude.{ℕ, max, ◌+◌, ◌≡◌, ◌&&◌, nat_lt, if◌then◌else◌, Bool, List, [], length, map, replicate, true, slice_index, slice_set}
 use Rattle.mx_types.specs.Limits.{most_handles, most_seats}
 use Rattle.mx_types.specs.declared.event.What.{What}
 use Rattle.mx_types.specs.declared.event.What.TheVariants as what
@@ -9,7 +8,7 @@ use Rattle.mx_types.specs.declared.event.Who.{Who}
 use Rattle.mx_types.specs.declared.event.Who.TheVariants as maker
 use Rattle.mx_types.specs.declared.event.Event.{Event}
 use Rattle.mx_history.specs.declared.row.Row.{Row}
-use Rattle.mx_history.specs.History.{addition_of, is_maker, is_legal, additions, made_by, waiting, running, paused, has_ticket, phase_of, wakes}
+use Rattle.mx_history.specs.History.{past, is_maker, is_legal, beyond, made_by, waiting, running, paused, has_ticket, phase_of, wakes}
 use Rattle.mx_history.specs.Answers.{is_ready}
 use Rattle.mx_history.specs.Rows.{rows_after, waits_after, table_of, is_open, is_paused}
 
@@ -18,12 +17,12 @@ pub record Counts : Type 0 where
   pub seats : List ℕ
   pub workers : List ℕ
 
--- the rows of the added handles, the tickets whose message waits, how many additions and events there were, how many
--- events there were after the last Wake or Done, and who made how many
+-- the rows of the added handles, the tickets whose message waits, one more than the greatest ticket that was given, how many
+-- events there were, how many there were after the last Wake or Done, and who made how many
 pub record TableView : Type 0 where
   pub rows : List Row
   pub waiting : List Ticket
-  pub added : ℕ
+  pub beyond : ℕ
   pub events : ℕ
   pub woken : ℕ
   pub makers : Counts
@@ -37,7 +36,7 @@ pub record IsTableOf (j : List Event) (t : TableView) : Type 0 where
   pub legal : is_legal j ≡ true
   pub rowed : t.rows ≡ table_of j
   pub waits : t.waiting ≡ map (λ m. m.ticket) (waiting j)
-  pub numbered : t.added ≡ additions j
+  pub numbered : t.beyond ≡ beyond j
   pub counted : t.events ≡ length j
   pub woke : (mark : ℕ) → nat_lt mark t.woken ≡ is_ready mark j
   pub made : (w : Who) → is_maker w ≡ true → count_of w t.makers ≡ made_by w j
@@ -64,7 +63,7 @@ no_counts = record { seats = zeros; workers = zeros }
 
 -- the table of no events
 abbrev pub empty_table : TableView
-empty_table = record { rows = []; waiting = []; added = 0; events = 0; woken = 0; makers = no_counts }
+empty_table = record { rows = []; waiting = []; beyond = 0; events = 0; woken = 0; makers = no_counts }
 
 -- there is a count for each seat and each worker
 abbrev pub HasCounters : Counts → Type 0
@@ -77,7 +76,7 @@ has_space_for t (what.Done _ _ _) = nat_lt (length t.waiting) most_handles
 has_space_for t _ = true
 
 abbrev pub has_space : TableView → What → Bool
-has_space t e = has_space_for t e && (nat_lt t.events 4294967295 && nat_lt t.added 4294967295)
+has_space t e = has_space_for t e && nat_lt t.events 4294967295
 
 -- the table after an event, whatever the event: as it was where there is no space for it
 abbrev pub table_after : TableView → Event → TableView
@@ -85,7 +84,7 @@ table_after t e =
     (if has_space t e.what then record {
       rows = rows_after t.rows e.what;
       waiting = waits_after t.waiting e.what;
-      added = t.added + (if is_some (addition_of e.what) then 1 else 0);
+      beyond = max t.beyond (past e.what);
       events = t.events + 1;
       woken = (if wakes e.what then t.events + 1 else t.woken);
       makers = counts_after e.who t.makers;

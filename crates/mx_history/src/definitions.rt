@@ -1,13 +1,13 @@
 //! What a list of events comes to, read off the whole list by plain, slow programs. The contract of each is the
 //! definition itself, in whose words the other contracts of this crate speak; the table keeps the same event by event.
-ghost use Rattle.std.specs.Prelude.{◌≡◌, ◌==◌, ◌<◌, ◌≤◌, ◌&&◌, ◌||◌, if◌then◌else◌, length, map, nat_lt, not, IfOk, OnOk};
+ghost use Rattle.std.specs.Prelude.{◌≡◌, ◌==◌, ◌<◌, ◌≤◌, ◌&&◌, ◌||◌, if◌then◌else◌, length, map, max, nat_lt, nat_le, not, IfOk, OnOk};
 ghost use Rattle.std.specs.List.{filter, find, list_any};
-ghost use Rattle.std.specs.Option.{is_some, option_to_list};
+ghost use Rattle.std.specs.Option.{option_to_list};
 ghost use Rattle.mx_types.specs.declared.event.Event.{Event};
 ghost use Rattle.mx_types.specs.declared.event.What.{What};
 ghost use Rattle.mx_types.specs.declared.names.Ticket.{Ticket};
 ghost use Rattle.mx_types.specs.declared.names.HandleId.{HandleId};
-ghost use Rattle.mx_history.specs.History.{same_handle, same_ticket, addition_of, message_of, wakes, removes, ends, reads, pauses, resumes, occurs, added, waiting, running, paused, additions, last_is_pause, may_follow, is_legal, has_ticket, same_maker, made_by, missing, due_of, due, has_room, end_by, end_of, phase_of};
+ghost use Rattle.mx_history.specs.History.{same_handle, same_ticket, addition_of, message_of, wakes, removes, ends, reads, pauses, resumes, occurs, added, waiting, running, paused, past, beyond, retire, only_of, is_of_such, ticket_in, last_is_pause, may_follow, is_legal, has_ticket, same_maker, made_by, missing, due_of, due, has_room, end_by, end_of, phase_of};
 ghost use Rattle.mx_history.specs.Answers.{is_ready, look_of, state_of, ticket_of};
 ghost use Rattle.mx_history.specs.Slots.{has_slot, lowest_free, slot_of, slots, slots_after};
 ghost use Rattle.mx_history.specs.Definitions.{addition_pair, message_parts};
@@ -53,13 +53,13 @@ pub fn wakes(what: &What) -> bool
     matches!(what, What::Wake | What::Done(..))
 }
 
-/// How many additions the event makes, 1 or 0.
-pub fn additions_by(what: &What) -> u32
-    ensures value { result ≡ (if is_some (addition_of what.now) then 1 else 0) }
-    ensures few { result ≤ 1 }
+/// One more than the ticket that an addition was given; 0 for what adds nothing.
+pub fn past(what: &What) -> u64
+    ensures value { result ≡ past what.now }
+    ensures few { result ≤ 4294967296 }
 {
     match what {
-        What::Added(..) => 1,
+        What::Added(_, ticket) => ticket.0 as u64 + 1,
         _ => 0,
     }
 }
@@ -207,11 +207,23 @@ pub fn paused(alloc: Global, events: &[Event]) -> Result<Vec<Ticket>, OutOfMemor
     Ok(list)
 }
 
-/// How many additions were made.
-pub fn additions(events: &[Event]) -> usize
-    ensures { result ≡ additions events.now }
+/// One more than the greatest ticket that an addition was given, or 0 where there is none.
+#[tactic(auto, using(crate::proofs::Defined::beyond_next))]
+pub fn beyond(events: &[Event]) -> u64
+    ensures { result ≡ beyond events.now }
 {
-    events.iter().filter(|e| additions_by(&e.what) == 1).count()
+    let mut most: u64 = 0;
+    for event in events {
+        most = greater(most, past(&event.what));
+    }
+    most
+}
+
+/// The greater of two numbers.
+pub fn greater(one: u64, other: u64) -> u64
+    ensures { result ≡ max one other }
+{
+    if one < other { other } else { one }
 }
 
 fn has_handle(list: &[(HandleId, Ticket)], handle: HandleId) -> bool
@@ -220,9 +232,9 @@ fn has_handle(list: &[(HandleId, Ticket)], handle: HandleId) -> bool
     list.iter().any(|a| handle == a.0)
 }
 
-// Whether a handle may be added under the ticket, where these are added and so many additions were made.
-fn may_be_added(list: &[(HandleId, Ticket)], made: usize, handle: HandleId, ticket: Ticket) -> bool
-    ensures { result ≡ (not (list_any (λ a. same_handle handle a.0) list.now) && nat_lt (length list.now) MOST_HANDLES && (ticket.0 == made)) }
+// Whether a handle may be added under the ticket, where these are added and no greater ticket than before `beyond` was given.
+fn may_be_added(list: &[(HandleId, Ticket)], beyond: u64, handle: HandleId, ticket: Ticket) -> bool
+    ensures { result ≡ (not (list_any (λ a. same_handle handle a.0) list.now) && nat_lt (length list.now) MOST_HANDLES && nat_le beyond ticket.0) }
 {
     if has_handle(list, handle) {
         return false;
@@ -230,7 +242,7 @@ fn may_be_added(list: &[(HandleId, Ticket)], made: usize, handle: HandleId, tick
     if list.len() >= MOST_HANDLES {
         return false;
     }
-    ticket.0 as usize == made
+    beyond <= ticket.0 as u64
 }
 
 fn is_added(list: &[(HandleId, Ticket)], handle: HandleId, ticket: Ticket) -> bool
@@ -245,7 +257,7 @@ pub fn may_follow(alloc: Global, events: &[Event], what: &What) -> Result<bool, 
 {
     Ok(match what {
         What::Added(handle, ticket) => {
-            may_be_added(&added(alloc, events)?, additions(events), *handle, *ticket)
+            may_be_added(&added(alloc, events)?, beyond(events), *handle, *ticket)
         }
         What::Removed(handle, ticket) => is_added(&added(alloc, events)?, *handle, *ticket),
         What::Done(ticket, _, _) => has_ticket(&running(alloc, events)?, *ticket),
@@ -484,4 +496,43 @@ pub fn look_of(alloc: Global, events: &[Event], ticket: Ticket) -> Result<Look, 
         return Ok(Look::Paused);
     }
     Ok(Look::Go)
+}
+
+// The ticket that the event is of; a Wake is of none.
+fn ticket_in(what: &What) -> Option<Ticket>
+    ensures { result ≡ ticket_in what.now }
+{
+    match what {
+        What::Added(_, ticket)
+        | What::Removed(_, ticket)
+        | What::Done(ticket, _, _)
+        | What::Read(ticket)
+        | What::Paused(ticket)
+        | What::Resumed(ticket) => Some(*ticket),
+        What::Wake => None,
+    }
+}
+
+// Whether the event is of one of the tickets.
+fn is_of_one(tickets: &[Ticket], what: &What) -> bool
+    ensures { result ≡ is_of_such (λ t. has_ticket t tickets.now) what.now }
+{
+    match ticket_in(what) {
+        None => false,
+        Some(ticket) => has_ticket(tickets, ticket),
+    }
+}
+
+/// What retiring keeps: the events of the tickets that are added, in order.
+pub fn retire(alloc: Global, events: &[Event]) -> Result<Vec<Event>, OutOfMemory>
+    ensures { IfOk result (λ v. v.items ≡ retire events.now) }
+{
+    let list = tickets(alloc, events)?;
+    let mut kept = Vec::new(alloc);
+    for event in events {
+        if is_of_one(&list, &event.what) {
+            kept.push(*event)?;
+        }
+    }
+    Ok(kept)
 }

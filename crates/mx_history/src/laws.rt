@@ -1,6 +1,6 @@
 //! What every legal history keeps. Each law is the contract of a function that does nothing: a caller that calls it
 //! may use it in its own proof.
-ghost use Rattle.mx_history.specs.Laws.{AdditionTakesLeastSlot, AnswerIsLegal, AnswersFit, CallAddsAtMostOne, CallIsPlaced, ClosingFindsRoom, EachAtMostOnce, EachOnceByCount, FirstInFirstOut, FitsByItsCut, LegalIsTidy, NothingAfterRemoval, PlacedStays, PrefixIsLegal, ReadyStays, SlotStays, SlotsDiffer, StateAndLookAgree, TableFollows};
+ghost use Rattle.mx_history.specs.Laws.{AdditionTakesLeastSlot, AnswerIsLegal, AnswersFit, CallAddsAtMostOne, CallIsPlaced, ClosingFindsRoom, EachAtMostOnce, EachOnceByCount, FirstInFirstOut, FirstIsPlaced, FitsByItsCut, LegalIsTidy, NeverRunsAgain, NothingAfterRemoval, PlacedStays, PrefixIsLegal, ReadyStays, RetiringKeeps, SlotStays, SlotsDiffer, StateAndLookAgree, TableFollows};
 
 /// What comes first in a legal history is one.
 pub fn prefix_is_legal()
@@ -25,6 +25,11 @@ pub fn each_at_most_once()
 /// After its removal a ticket has no event: no message, and none is read.
 pub fn nothing_after_removal()
     ensures { NothingAfterRemoval }
+{}
+
+/// A ticket that was given, and doesn't run, never runs again: it ended or was removed.
+pub fn never_runs_again()
+    ensures { NeverRunsAgain }
 {}
 
 /// At most 256 handles are added, each once, by rising tickets; each message that waits is of one of them, and
@@ -98,4 +103,15 @@ pub fn placed_stays()
 /// A call that is answered is placed behind the receipts that were.
 pub fn call_is_placed()
     ensures { CallIsPlaced }
+{}
+
+/// What retiring keeps of a legal history is one, with the same handles added, running, paused and done, and the same
+/// messages waiting.
+pub fn retiring_keeps()
+    ensures { RetiringKeeps }
+{}
+
+/// Before its first call a caller is placed in the history that was kept.
+pub fn first_is_placed()
+    ensures { FirstIsPlaced }
 {}

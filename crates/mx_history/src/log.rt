@@ -52,6 +52,13 @@ impl VecLog {
     {
         self.list.as_slice()
     }
+
+    /// Lets go of all events, and of no space.
+    pub fn clear(&mut self)
+        ensures { self.new ≡ [] }
+    {
+        self.list.clear();
+    }
 }
 
 impl Log for VecLog {

@@ -20,6 +20,10 @@ most_seats = 16
 abbrev pub most_transfers : ℕ
 most_transfers = 64
 
+-- the greatest ticket: one more still is a number of 32 bits
+abbrev pub greatest_ticket : ℕ
+greatest_ticket = 4294967294
+
 -- a history may have room for so many events
 abbrev pub IsHistory : ℕ → Type 0
 IsHistory history = (least_history ≤ history) × (history ≤ most_history)

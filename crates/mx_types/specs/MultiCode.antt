@@ -16,11 +16,13 @@ multi_number multi.TableFull = 100
 multi_number multi.HistoryFull = 101
 multi_number multi.NotRunning = 102
 multi_number multi.NotAdded = 103
+multi_number multi.TicketsSpent = 104
 
 -- the code of a reply
 abbrev pub reply_code : Reply → MCode
 reply_code reply.AddedAlready = multi.AddedAlready
 reply_code reply.TableFull = multi.TableFull
+reply_code reply.TicketsSpent = multi.TicketsSpent
 reply_code reply.HistoryFull = multi.HistoryFull
 reply_code reply.NotAdded = multi.NotAdded
 reply_code reply.NotRunning = multi.NotRunning

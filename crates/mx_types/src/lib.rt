@@ -19,7 +19,9 @@ pub use crate::call::{Call, Receipt};
 pub use crate::code::Code;
 pub use crate::event::{Event, What, Who};
 pub use crate::history::History;
-pub use crate::limits::{LEAST_HISTORY, MOST_HANDLES, MOST_HISTORY, MOST_SEATS, MOST_TRANSFERS};
+pub use crate::limits::{
+    GREATEST_TICKET, LEAST_HISTORY, MOST_HANDLES, MOST_HISTORY, MOST_SEATS, MOST_TRANSFERS,
+};
 pub use crate::memory::OutOfMemory;
 pub use crate::method::{Method, ParseMethodError};
 pub use crate::multi_code::MCode;

@@ -14,3 +14,6 @@ pub const MOST_SEATS: usize = 16;
 
 /// The most transfers that a worker holds at one time.
 pub const MOST_TRANSFERS: usize = 64;
+
+/// The greatest ticket: after it `add` is refused.
+pub const GREATEST_TICKET: u32 = 4_294_967_294;

@@ -21,6 +21,8 @@ pub enum MCode {
     NotRunning,
     /// 103, this engine's own: the handle isn't added.
     NotAdded,
+    /// 104, this engine's own: each ticket was given.
+    TicketsSpent,
 }
 
 impl MCode {
@@ -37,6 +39,7 @@ impl MCode {
             MCode::HistoryFull => 101,
             MCode::NotRunning => 102,
             MCode::NotAdded => 103,
+            MCode::TicketsSpent => 104,
         }
     }
 }

@@ -4,7 +4,8 @@
 #[derive(Clone, Copy, Debug, Default, PartialEq, Eq, PartialOrd, Ord, Hash)]
 pub struct HandleId(pub u32);
 
-/// The number of an addition: additions are numbered 0, 1, 2 and so on. A handle that is added again gets
-/// another ticket.
+/// The number of an addition. Tickets only rise: that of an addition is greater than each that was given before it, where
+/// older history was retired, too. They begin at 0, or where the multi handle was told to begin, and end at
+/// `GREATEST_TICKET`. A handle that is added again gets another ticket.
 #[derive(Clone, Copy, Debug, Default, PartialEq, Eq, PartialOrd, Ord, Hash)]
 pub struct Ticket(pub u32);

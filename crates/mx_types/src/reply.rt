@@ -69,6 +69,8 @@ pub enum Reply {
     Added(Ticket),
     AddedAlready,
     TableFull,
+    /// of `add`: each ticket was given
+    TicketsSpent,
     /// of `add`, `pause` and `unpause`
     HistoryFull,
     /// of `remove`
@@ -117,6 +119,7 @@ impl Reply {
         match self {
             Reply::AddedAlready => MCode::AddedAlready,
             Reply::TableFull => MCode::TableFull,
+            Reply::TicketsSpent => MCode::TicketsSpent,
             Reply::HistoryFull => MCode::HistoryFull,
             Reply::NotAdded => MCode::NotAdded,
             Reply::NotRunning => MCode::NotRunning,
