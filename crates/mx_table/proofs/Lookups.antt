@@ -1,7 +1,8 @@
 -- Rows by a number among the rows' numbers, and a change of each row of one ticket.
 use Rattle.std.proofs.Common.{◌≡◌, ◌≢◌, ℕ, ◌+◌, ◌-◌, ◌<◌, ◌≤◌, ◌∙◌, sym, refl, ap, arith, length, get_or, take, drop, List, [], ◌∷◌, Bool, true, false, cond, map, inl, inr}
-use Rattle.std.specs.Prelude.{zero, suc, ◌==◌, slice_index, slice_set, Option, Some, None}
-use Rattle.std.specs.List.{filter, find, remove}
+use Rattle.std.specs.Prelude.{zero, suc, ◌==◌, ◌||◌, slice_index, slice_set, Option, Some, None}
+use Rattle.std.specs.List.{filter, find, list_any, remove}
+use Rattle.std.specs.Option.{is_some}
 use Rattle.std.proofs.lemmas.Bool.{cases_lt, eq-eqb, ne_eqb}
 use Rattle.std.proofs.lemmas.List.{get_or-drop, get_or-map, get_or-set_other, get_or-set_same, length-drop, length-map, map-set, set-get_or, take_rest}
 use Rattle.mx_types.specs.declared.event.What.{What}
@@ -36,6 +37,15 @@ row_found key w rows keys i row kept lt there first at = found key w rows i row 
 
 pub row_missing : (key : Row → ℕ) (w : ℕ) (rows : List Row) (keys : List ℕ) → keys ≡ map key rows → ((k : ℕ) → k < length keys → slice_index keys k ≢ w) → None ≡ find (λ r. w == key r) rows
 row_missing key w rows keys kept none = missing key w rows (rw kept at none)
+
+-- one is found where one passes
+pub is_found : (p : Row → Bool) (rows : List Row) → is_some (find p rows) ≡ list_any p rows
+is_found p [] = refl
+is_found p (r ∷ rows) = go (p r) (is_found p rows)
+  where
+    go : (b : Bool) → is_some (find p rows) ≡ list_any p rows → is_some (cond {A = Option Row} b (Some r) (find p rows)) ≡ (b || list_any p rows)
+    go true k = refl
+    go false k = k
 
 -- 2. The next row of a ticket.
 

@@ -8,4 +8,5 @@ mod slots;
 mod table;
 mod waits;
 
+pub use crate::makers::MakerCounts;
 pub use crate::table::Table;

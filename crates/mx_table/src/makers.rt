@@ -7,7 +7,7 @@ ghost use Rattle.mx_types.specs.declared.event.Who.{Who};
 use mx_types::{MOST_SEATS, Who};
 use std::marker::Model;
 
-/// How many events each seat and each worker made.
+/// How many events each seat and each worker made, each held at the greatest `u32`.
 #[derive(Drop)]
 pub struct MakerCounts {
     seats: [u32; MOST_SEATS],
@@ -23,6 +23,7 @@ impl Model for MakerCounts {
 }
 
 impl MakerCounts {
+    /// None of any maker.
     pub fn new() -> MakerCounts
         ensures zero { (w : Who) → is_maker w ≡ true → count_of w result ≡ 0 }
         ensures none { result ≡ no_counts }
@@ -33,6 +34,17 @@ impl MakerCounts {
         }
     }
 
+    /// The same counts again.
+    pub fn copied(&self) -> MakerCounts
+        ensures { result ≡ self.now }
+    {
+        MakerCounts {
+            seats: self.seats,
+            workers: self.workers,
+        }
+    }
+
+    /// How many events the maker made.
     pub fn get(&self, who: Who) -> u32
         requires { is_maker who ≡ true }
         ensures { result ≡ count_of who self.now }

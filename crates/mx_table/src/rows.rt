@@ -1,6 +1,6 @@
 //! The rows of the table, and what is kept beside them so that no call goes through all of them.
 ghost use Rattle.std.specs.Prelude.{◌≡◌, ◌<◌, ◌≤◌, ◌++◌, ◌∷◌, [], ℕ, not, true, false, length, map, count_by, slice_index_or, slice_set, remove, if◌then◌else◌, IfOk, IfSome, IfNone};
-ghost use Rattle.std.specs.List.{find, filter};
+ghost use Rattle.std.specs.List.{find, filter, list_any};
 ghost use Rattle.mx_history.specs.declared.row.Row.{Row as RowValue};
 ghost use Rattle.mx_history.specs.declared.row.Phase.{Phase as PhaseValue};
 ghost use Rattle.mx_history.specs.History.{same_handle, same_ticket, wakes};
@@ -84,6 +84,13 @@ impl Rows {
         Some(self.rows[at])
     }
 
+    /// Whether there is a row of the ticket.
+    pub fn has_ticket(&self, ticket: Ticket) -> bool
+        ensures { result ≡ list_any (λ r. same_ticket ticket r.ticket) self.now }
+    {
+        self.row_of_ticket(ticket).is_some()
+    }
+
     /// The handles of the rows.
     pub fn handles(&self) -> ArrayVec<HandleId, MOST_HANDLES>
         ensures { result.items ≡ map (λ r. r.handle) self.now }
@@ -107,6 +114,17 @@ impl Rows {
         ensures { result ≡ places self.now }
     {
         self.due
+    }
+
+    /// Lets go of all rows, and of no space.
+    pub fn clear(&mut self)
+        ensures { self.new ≡ [] }
+    {
+        self.rows.clear();
+        self.handles.clear();
+        self.tickets.clear();
+        self.due = 0;
+        self.slot_counts.fill(0);
     }
 
     /// The rows after an event. An addition has room.

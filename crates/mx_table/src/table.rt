@@ -1,9 +1,10 @@
 //! The table of a multi handle: what its events come to.
 ghost use Rattle.std.specs.Prelude.{◌≡◌, ◌++◌, ◌∷◌, [], List, length, true, false, map, IfOk, IfSome, IfNone, nat_le};
+ghost use Rattle.std.specs.List.{list_any};
 ghost use Rattle.std.specs.Option.{option_map};
 ghost use Rattle.mx_types.specs.declared.event.Event.{Event};
-ghost use Rattle.mx_history.specs.History.{added, waiting, running, due, has_ticket, may_follow, is_maker, made_by};
-ghost use Rattle.mx_history.specs.Answers.{ticket_of, handle_of, next_ticket, is_ready, state_of, look_of};
+ghost use Rattle.mx_history.specs.History.{added, beyond, waiting, running, due, has_ticket, same_ticket, may_follow, is_maker, made_by};
+ghost use Rattle.mx_history.specs.Answers.{ticket_of, handle_of, is_ready, state_of, look_of};
 ghost use Rattle.mx_history.specs.Slots.{slot_of};
 ghost use Rattle.mx_history.specs.Table.{IsTableOf, IsRow, empty_table, has_space_for, has_space, table_after};
 
@@ -11,7 +12,7 @@ use crate::makers::MakerCounts;
 use crate::rows::{Rows, woken_after};
 use crate::waits;
 use mx_history::Row;
-use mx_history::definitions::additions_by;
+use mx_history::definitions::{greater, past};
 use mx_types::{
     AddedHandles, Event, HandleId, Look, MOST_HANDLES, OutOfMemory, State, Ticket, What, Who,
 };
@@ -19,13 +20,13 @@ use std::alloc::Global;
 use std::marker::Model;
 
 /// The fold of events: the added handles in order with their tickets, slots and phases, the tickets whose message
-/// waits to be read, in order, how many events there were, and who made how many. Each answer speaks of any events of
-/// which this is the table.
+/// waits to be read, in order, how many events there were, and who made how many; and one more than the greatest ticket
+/// that was given. Each answer speaks of any events of which this is the table.
 #[derive(Drop)]
 pub struct Table {
     rows: Rows,
     waiting: Vec<Ticket>,
-    added: u32,
+    beyond: u64,
     events: u32,
     woken: u32,
     makers: MakerCounts,
@@ -38,7 +39,7 @@ impl Model for Table {
 
     ghost Value = { TableView };
 
-    ghost view = { λ t. record { rows = t.rows; waiting = t.waiting.items; added = t.added; events = t.events; woken = t.woken; makers = t.makers } };
+    ghost view = { λ t. record { rows = t.rows; waiting = t.waiting.items; beyond = t.beyond; events = t.events; woken = t.woken; makers = t.makers } };
 
     ghost invariant = { λ t. most_handles ≤ vec_capacity t.waiting };
 }
@@ -52,7 +53,7 @@ impl Table {
         Ok(Table {
             rows: Rows::new(alloc)?,
             waiting: Vec::with_capacity(alloc, MOST_HANDLES)?,
-            added: 0,
+            beyond: 0,
             events: 0,
             woken: 0,
             makers: MakerCounts::new(),
@@ -78,6 +79,13 @@ impl Table {
         ensures none { (j : List Event) → IsTableOf j self.now → IfNone result (has_ticket ticket (running j) ≡ false) }
     {
         self.rows.row_of_ticket(ticket)
+    }
+
+    /// Whether there is a row of the ticket.
+    pub fn has_ticket(&self, ticket: Ticket) -> bool
+        ensures { result ≡ list_any (λ r. same_ticket ticket r.ticket) self.now.rows }
+    {
+        self.rows.has_ticket(ticket)
     }
 
     /// Where a handle stands.
@@ -136,11 +144,11 @@ impl Table {
         self.rows.due()
     }
 
-    /// The ticket of the next addition.
-    pub fn next_ticket(&self) -> Ticket
-        ensures { (j : List Event) → IsTableOf j self.now → result ≡ next_ticket j }
+    /// One more than the greatest ticket that an addition was given, or 0 where none was.
+    pub fn beyond(&self) -> u64
+        ensures { (j : List Event) → IsTableOf j self.now → result ≡ beyond j }
     {
-        Ticket(self.added)
+        self.beyond
     }
 
     /// How many events there were.
@@ -165,6 +173,25 @@ impl Table {
         self.makers.get(who)
     }
 
+    /// Who made how many events: a copy of the counts.
+    pub fn makers(&self) -> MakerCounts
+        ensures { result ≡ self.now.makers }
+    {
+        self.makers.copied()
+    }
+
+    /// Makes it the table of no events. It keeps its space, so that it takes in the next events without growing.
+    pub fn clear(&mut self)
+        ensures { self.new ≡ empty_table }
+    {
+        self.rows.clear();
+        self.waiting.clear();
+        self.beyond = 0;
+        self.events = 0;
+        self.woken = 0;
+        self.makers = MakerCounts::new();
+    }
+
     // Whether there is space for a row or a waiting ticket, where the event brings one.
     fn has_space_for(&self, what: &What) -> bool
         ensures { result ≡ has_space_for self.now what.now }
@@ -182,10 +209,7 @@ impl Table {
         if !self.has_space_for(what) {
             return false;
         }
-        if self.events == u32::MAX {
-            return false;
-        }
-        self.added < u32::MAX
+        self.events < u32::MAX
     }
 
     /// Takes in any event that there is space for. What may follow has space, so that the table is then the one with the
@@ -198,7 +222,7 @@ impl Table {
         }
         self.events += 1;
         self.woken = woken_after(&event.what, self.woken, self.events);
-        self.added += additions_by(&event.what);
+        self.beyond = greater(self.beyond, past(&event.what));
         self.makers.count(event.who);
         self.rows.enter(&event.what);
         waits::enter(&mut self.waiting, &event.what);
