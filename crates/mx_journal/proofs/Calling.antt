@@ -16,8 +16,8 @@ use Rattle.mx_types.specs.declared.reply.Reply.TheVariants as reply
 use Rattle.mx_history.specs.Answers.{Answer, Answers, answer, only, pausing_answer, ticket_of}
 use Rattle.mx_history.specs.History.{Opening, has_room, has_ticket, paused, running}
 use Rattle.mx_history.specs.Receipts.{comes_with_event, lacks_memory}
-use Rattle.mx_journal.specs.Called.{Called}
-use Rattle.mx_journal.specs.Core.{Core}
+use Rattle.mx_journal.specs.Called.{Called, out_after}
+use Rattle.mx_journal.specs.Core.{Core, with_out}
 use Rattle.mx_journal.specs.Replies.{answer_with_room, pausing_call}
 
 idle : (before j : List Event) → before ≡ before ++ drop (length j) j
@@ -27,13 +27,14 @@ grown : (before after j k : List Event) (e : Event) → k ≡ j ++ e ∷ [] → 
 grown before after j k e is more = more ∙ ap (λ z. before ++ z) (sym (ap (drop (length j)) is ∙ drop-append_seam j (e ∷ [])))
 
 pub called_none : {L Q O : Type 0} (events : L → List Event) (name : L → List ℕ) (may_refuse : L → Type 0) (who : Who) (call : Call) (x : Core Q O) (log : L) (r : Reply)
-    → Answers x.opening who call x.journal r x.journal → lacks_memory r ≡ false → Called events name may_refuse who call x x log log r
-called_none events name may_refuse who call x log r answers had = record {
+    → Answers x.opening who call x.journal r x.journal → lacks_memory r ≡ false → out_after r x.out ≡ x.out → Called events name may_refuse who call x x log log r
+called_none events name may_refuse who call x log r answers had kept = record {
   answers = answers;
   logged = idle (events log) x.journal;
   same_log = refl;
   memory = λ lacks. absurd (false≢true (sym had ∙ lacks));
-  unchanged = λ _. refl;
+  out = sym kept;
+  unchanged = λ _. ap (λ n. with_out n x) (sym kept);
   opening = refl;
 }
 
@@ -45,18 +46,20 @@ called_refused events name may_refuse who call x before after some same named ma
   logged = same ∙ idle (events before) x.journal;
   same_log = named;
   memory = λ _. may;
+  out = refl;
   unchanged = λ _. refl;
   opening = refl;
 }
 
 pub called_with : {L Q O : Type 0} (events : L → List Event) (name : L → List ℕ) (may_refuse : L → Type 0) (who : Who) (call : Call) (x y : Core Q O) (before after : L) (e : What) (r : Reply)
     → Answers x.opening who call x.journal r y.journal → comes_with_event r ≡ true → lacks_memory r ≡ false → y.journal ≡ x.journal ++ record { who = who; what = e } ∷ []
-    → events after ≡ events before ++ record { who = who; what = e } ∷ [] → name after ≡ name before → y.opening ≡ x.opening → Called events name may_refuse who call x y before after r
-called_with events name may_refuse who call x y before after e r answers comes had journal more named opening = record {
+    → events after ≡ events before ++ record { who = who; what = e } ∷ [] → name after ≡ name before → y.out ≡ out_after r x.out → y.opening ≡ x.opening → Called events name may_refuse who call x y before after r
+called_with events name may_refuse who call x y before after e r answers comes had journal more named out opening = record {
   answers = answers;
   logged = grown (events before) (events after) x.journal y.journal (record { who = who; what = e }) journal more;
   same_log = named;
   memory = λ lacks. absurd (false≢true (sym had ∙ lacks));
+  out = out;
   unchanged = λ idle. absurd (false≢true (sym idle ∙ comes));
   opening = opening;
 }

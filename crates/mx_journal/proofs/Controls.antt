@@ -1,10 +1,10 @@
 -- What an event keeps of a control state.
 use Rattle.std.proofs.Common.{◌≡◌, ℕ, ◌<◌, ◌≤◌, ◌∙◌, sym, refl, ap, subst, List, [], ◌∷◌, ◌++◌, append-nil, length, Bool, true, false, cond, map, arith}
-use Rattle.std.specs.Prelude.{not, ◌||◌, ◌==◌, Option, None, Some, IfNone, IfSome, slice_get, slice_index_or}
+use Rattle.std.specs.Prelude.{nat_le, not, ◌||◌, Option, None, Some, IfNone, IfSome, slice_get, slice_index_or}
 use Rattle.std.specs.List.{filter, AllByRecursion, remove}
 use Rattle.mx_journal.specs.Replies.{is_pausing}
 use Rattle.std.specs.Option.{is_some, option_map, option_to_list}
-use Rattle.std.proofs.lemmas.Bool.{ne_eqb, or_left, or_right, false≢true, not-true, eqb-true, and_parts}
+use Rattle.std.proofs.lemmas.Bool.{ne_eqb, or_left, or_right, false≢true, not-true, leb-true, and_parts}
 use Rattle.std.proofs.lemmas.List.{map-append, length-map}
 use Rattle.mx_types.specs.Limits.{most_handles}
 use Rattle.mx_types.specs.declared.code.Code.{Code}
@@ -15,7 +15,7 @@ use Rattle.mx_types.specs.declared.event.What.{What}
 use Rattle.mx_types.specs.declared.event.What.TheVariants as what
 use Rattle.mx_types.specs.declared.event.Event.{Event}
 use Rattle.mx_history.specs.declared.row.Row.{Row}
-use Rattle.mx_history.specs.History.{Message, same_ticket, message_of, removes, ends, reads, added, waiting, running, additions, has_ticket, may_follow, is_legal, has_room, needs, HasRoomForDue, IsInOrder}
+use Rattle.mx_history.specs.History.{Message, same_ticket, message_of, removes, ends, reads, added, waiting, running, beyond, has_ticket, may_follow, is_legal, has_room, needs, HasRoomForDue, IsInOrder}
 use Rattle.mx_history.specs.Answers.{handle_of}
 use Rattle.mx_journal.specs.Core.{queued, claimed, message, IsControl, IsTabled}
 use Rattle.mx_history.proofs.Snoc.{phase_of-snoc}
@@ -67,7 +67,7 @@ control-added code size history j w h t queue endings work cq ce c m r =
     let e = what.Added h t in
     let s = c.sound in
     let l = laws j s.kept.legal in
-    let new : t.0 ≡ additions j = eqb-true t.0 (additions j) (and_parts _ (t.0 == additions j) m).1 in
+    let new : beyond j ≤ t.0 = leb-true (beyond j) t.0 (and_parts _ (nat_le (beyond j) t.0) m).1 in
     let qs = map-append (λ x. x.0) queue ((t, work) ∷ []) in
     let more = queue-quiet j w e (λ _. refl) (λ _. refl) (queued queue) s.runs in
     let lower = Each-map (λ u. has_ticket u (running j) ≡ true) (λ u. u.0 < t.0)

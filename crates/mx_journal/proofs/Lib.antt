@@ -1,5 +1,6 @@
 pub mod Controls
 pub mod Remains
-pub mod Origins
+pub mod OriginLists
 pub mod Returns
+pub mod Retirings
 pub mod Calling

@@ -10,11 +10,11 @@ use Rattle.mx_types.specs.declared.code.Code.{Code}
 use Rattle.mx_types.specs.declared.names.Ticket.{Ticket}
 use Rattle.mx_types.specs.declared.event.Event.{Event}
 use Rattle.mx_types.specs.declared.origin.Origin.{Origin}
-use Rattle.mx_history.specs.History.{Message, IsInOrder, same_ticket, has_ticket, running, waiting, is_legal}
-use Rattle.mx_journal.specs.Core.{queued, claimed, message, origin_of, AreOwn, IsControl, KeepsOrigins}
+use Rattle.mx_history.specs.History.{Message, IsInOrder, Opening, same_ticket, has_ticket, running, waiting, is_legal}
+use Rattle.mx_journal.specs.Core.{queued, claimed, message, origin_of, AreOwn, IsControl, KeepsOrigins, OriginList}
 use Rattle.mx_journal.specs.Replies.{in_place, GiveBackUndoesClaim}
-use Rattle.mx_history.proofs.Lists.{Each-map, has-filter}
-use Rattle.mx_history.proofs.Histories.{laws, below, running-has}
+use Rattle.mx_history.proofs.Lists.{Each-map, at_ticket, has-filter}
+use Rattle.mx_history.proofs.Histories.{tickets, laws, below, running-has}
 use Rattle.mx_history.proofs.TableLaws.{few}
 use Rattle.mx_history.proofs.Tables.{has-kept}
 use Rattle.mx_history.proofs.Tickets.{parts_false, runs_unread}
@@ -168,21 +168,25 @@ own_in_place {X} origin origins t w (x ∷ xs) e a = go (nat_lt x.0.0 t.0) (own_
     go true r = (a.0, r)
     go false r = (e, a)
 
--- a running ticket has its origin
-pub within : {Q : Type 0} (origin : Q → Origin) (history : ℕ) (j : List Event) (t : Ticket) (origins : List Origin) (queue : List (Ticket × Q)) (space : ℕ)
-    → KeepsOrigins origin history j origins queue space → is_legal j ≡ true → has_ticket t (claimed j queue) ≡ true → t.0 < length origins
-within origin history j t origins queue space k l h =
-    let b = below j (laws j l) t (running-has j t (claimed_parts j t queue h).0).0 in omega (arith, b, k.each)
+-- a running ticket has its origin, and had work
+pub within : {Q : Type 0} (origin : Q → Origin) (opening : Opening) (j : List Event) (t : Ticket) (origins : OriginList) (queue : List (Ticket × Q))
+    → KeepsOrigins origin opening j origins queue → is_legal j ≡ true → has_ticket t (claimed j queue) ≡ true → (origins.begun ≤ t.0) × (t.0 < length origins.all)
+within origin opening j t origins queue k l h =
+    let added = (running-has j t (claimed_parts j t queue h).0).0 in
+    let b = below j (laws j l) t added in (at_ticket (λ u. origins.begun ≤ u.0) t (tickets j) k.since added, omega (arith, b, k.each))
 
-pub origins-given : {Q : Type 0} (origin : Q → Origin) (history : ℕ) (j : List Event) (t : Ticket) (work : Q) (origins : List Origin) (queue : List (Ticket × Q)) (space : ℕ)
-    → KeepsOrigins origin history j origins queue space → is_legal j ≡ true → has_ticket t (claimed j queue) ≡ true
-    → KeepsOrigins origin history j (slice_set origins t.0 (origin work)) (in_place t work queue) space
-origins-given origin history j t work origins queue space k l h = record {
-  each = length-set origins t.0 (origin work) ∙ k.each;
-  own = own_in_place origin (slice_set origins t.0 (origin work)) t work queue (set_same origins t.0 (origin work) (within origin history j t origins queue space k l h))
-      (own_apart origin origins t (origin work) queue (claimed_parts j t queue h).1 k.own);
-  fits = k.fits;
-}
+pub origins-given : {Q : Type 0} (origin : Q → Origin) (opening : Opening) (j : List Event) (t : Ticket) (work : Q) (origins : OriginList) (queue : List (Ticket × Q))
+    → KeepsOrigins origin opening j origins queue → is_legal j ≡ true → has_ticket t (claimed j queue) ≡ true
+    → KeepsOrigins origin opening j (record { begun = origins.begun; all = slice_set origins.all t.0 (origin work) }) (in_place t work queue)
+origins-given origin opening j t work origins queue k l h =
+    let long = length-set origins.all t.0 (origin work) in
+    record {
+      each = long ∙ k.each;
+      own = own_in_place origin (slice_set origins.all t.0 (origin work)) t work queue (set_same origins.all t.0 (origin work) (within origin opening j t origins queue k l h).1)
+          (own_apart origin origins.all t (origin work) queue (claimed_parts j t queue h).1 k.own);
+      begins = omega (arith, long, k.begins);
+      since = k.since;
+    }
 
 ended_tickets : {O : Type 0} (code : O → Code) (size : O → ℕ) (endings : List (Ticket × O)) → queued endings ≡ map (λ m. m.ticket) (map (message code size) endings)
 ended_tickets code size [] = refl

@@ -1,5 +1,5 @@
 -- The reply that a call's answer stands for.
-use Rattle.std.specs.Prelude.{ℕ, ◌≡◌, nat_lt, slice_set, if◌then◌else◌, Bool, true, false, List, [], ◌∷◌, ◌++◌, Option, Some, None}
+use Rattle.std.specs.Prelude.{ℕ, ◌<◌, ◌≡◌, length, nat_lt, slice_set, if◌then◌else◌, Bool, true, false, List, [], ◌∷◌, ◌++◌, Option, Some, None}
 use Rattle.mx_types.specs.declared.code.Code.{Code}
 use Rattle.mx_types.specs.declared.names.HandleId.{HandleId}
 use Rattle.mx_types.specs.declared.call.Call.{Call}
@@ -10,7 +10,7 @@ use Rattle.mx_journal.specs.declared.replies.InfoReply.{InfoReply}
 use Rattle.mx_journal.specs.declared.replies.InfoReply.TheVariants as info
 use Rattle.mx_journal.specs.declared.replies.FinishReply.{FinishReply}
 use Rattle.mx_journal.specs.declared.replies.FinishReply.TheVariants as finish
-use Rattle.mx_journal.specs.Core.{queued}
+use Rattle.mx_journal.specs.Core.{Core, queued, retired}
 use Rattle.mx_history.specs.Answers.{Answer, only}
 use Rattle.mx_history.specs.History.{IsInOrder}
 use Rattle.mx_journal.specs.declared.replies.GiveBackReply.{GiveBackReply}
@@ -25,6 +25,8 @@ use Rattle.mx_journal.specs.declared.replies.RemoveReply.{RemoveReply}
 use Rattle.mx_journal.specs.declared.replies.RemoveReply.TheVariants as remove
 use Rattle.mx_journal.specs.declared.replies.PauseReply.{PauseReply}
 use Rattle.mx_journal.specs.declared.replies.PauseReply.TheVariants as pausing
+use Rattle.mx_journal.specs.declared.replies.RetireReply.{RetireReply}
+use Rattle.mx_journal.specs.declared.replies.RetireReply.TheVariants as retiring
 use Rattle.mx_journal.specs.declared.replies.WakeupReply.{WakeupReply}
 use Rattle.mx_journal.specs.declared.replies.WakeupReply.TheVariants as wakeup
 
@@ -32,6 +34,7 @@ abbrev pub reply_of_add : {Q : Type 0} → AddReply Q → Reply
 reply_of_add (add.Added t) = reply.Added t
 reply_of_add (add.AddedAlready _) = reply.AddedAlready
 reply_of_add (add.TableFull _) = reply.TableFull
+reply_of_add (add.TicketsSpent _) = reply.TicketsSpent
 reply_of_add (add.HistoryFull _) = reply.HistoryFull
 reply_of_add (add.OutOfMemory _) = reply.OutOfMemory
 
@@ -50,6 +53,7 @@ abbrev pub handed_back : {Q : Type 0} → AddReply Q → Option Q
 handed_back (add.Added t) = None
 handed_back (add.AddedAlready work) = Some work
 handed_back (add.TableFull work) = Some work
+handed_back (add.TicketsSpent work) = Some work
 handed_back (add.HistoryFull work) = Some work
 handed_back (add.OutOfMemory work) = Some work
 
@@ -145,3 +149,8 @@ is_pausing _ = false
 abbrev pub answer_with_room : Bool → What → Answer
 answer_with_room true event = (reply.Changed, Some event)
 answer_with_room false event = only reply.HistoryFull
+
+-- no claim was out, the core is retired, and so many events are kept; or a claim is out, and nothing changes
+abbrev pub IsRetiring : {Q O : Type 0} → Core Q O → RetireReply → Core Q O → Type 0
+IsRetiring old (retiring.Retired n) new = (old.out ≡ 0) × (new ≡ retired old) × (n ≡ length new.journal)
+IsRetiring old retiring.ClaimOut new = (0 < old.out) × (new ≡ old)

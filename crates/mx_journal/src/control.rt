@@ -1,85 +1,117 @@
 //! The control state of a multi handle.
-ghost use Rattle.std.specs.Prelude.{map, ◌≡◌, ◌≤◌, ◌++◌, ◌∷◌, [], List, length, true, false, IfOk, IfSome, IfNone, slice_get, vec_capacity};
+ghost use Rattle.std.specs.Prelude.{map, ◌≡◌, ◌≤◌, ◌+◌, ◌-◌, ◌++◌, ◌∷◌, [], List, drop, length, nat_lt, replicate, true, false, IfOk, IfSome, IfNone, MatchOption, slice_get, vec_capacity};
 ghost use Rattle.std.specs.List.{AllByRecursion};
-ghost use Rattle.mx_types.specs.Limits.{IsHistory};
+ghost use Rattle.mx_types.specs.Limits.{IsHistory, greatest_ticket};
+ghost use Rattle.mx_types.specs.Origin.{no_request};
 ghost use Rattle.mx_types.specs.declared.call.Call.{Call};
-ghost use Rattle.mx_history.specs.History.{HasRoomForDue, additions, may_follow, has_room, needs, has_ticket, is_maker, made_by, running, added, waiting};
-ghost use Rattle.mx_history.specs.Answers.{answer, handle_of, is_ready, look_of, state_of};
+ghost use Rattle.mx_history.specs.History.{HasRoomForDue, may_follow, has_room, needs, has_ticket, is_maker, made_by, running, added, retire, waiting};
+ghost use Rattle.mx_history.specs.Answers.{answer, handle_of, is_ready, look_of, next_ticket, state_of};
 ghost use Rattle.mx_journal.specs.Called.{Called};
-ghost use Rattle.mx_journal.specs.Core.{claimed, queued, still_running, still_waiting, origin_of, AreOwn, IsSound, IsTabled};
-ghost use Rattle.mx_journal.specs.Replies.{pausing_call, is_back, queue_given, origins_given, IsGivenBack, GiveBackUndoesClaim, is_pausing, answer_with_room, reply_of_info, ending_read, ending_recorded, IsHandedBack, reply_of_finish, origins_added, queue_added, handed_back, work_back, reply_of_add, reply_of_remove, reply_of_pause, reply_of_wakeup};
+ghost use Rattle.mx_journal.specs.Core.{claimed, queued, one_out, still_running, still_waiting, origin_of, with_out, AreOwn, IsSound, IsTabled};
+ghost use Rattle.mx_journal.specs.Replies.{pausing_call, is_back, queue_given, origins_given, IsGivenBack, IsRetiring, GiveBackUndoesClaim, is_pausing, answer_with_room, reply_of_info, ending_read, ending_recorded, IsHandedBack, reply_of_finish, origins_added, queue_added, handed_back, work_back, reply_of_add, reply_of_remove, reply_of_pause, reply_of_wakeup};
 ghost use Rattle.mx_history.specs.Slots.{slot_of};
 
 use crate::claim::Claim;
+use crate::origins::Origins;
 use crate::pairs::{drop_ticket, has_ticket, insert_ticket};
 use crate::replies::{
-    AddReply, FinishReply, GiveBackReply, InfoReply, PauseReply, RemoveReply, WakeupReply,
+    AddReply, FinishReply, GiveBackReply, InfoReply, PauseReply, RemoveReply, RetireReply,
+    WakeupReply,
 };
+use crate::retiring::{keep_the_added, kept_of};
+use mx_history::definitions::greater;
 use mx_history::{Log, Row};
-use mx_table::Table;
+use mx_table::{MakerCounts, Table};
 use mx_types::{
-    AddedHandles, Ending, Event, HandleId, Look, MOST_HANDLES, OutOfMemory, State, Ticket, What,
-    Who, Work,
+    AddedHandles, Ending, Event, GREATEST_TICKET, HandleId, Look, MOST_HANDLES, OutOfMemory, State,
+    Ticket, What, Who, Work,
 };
 use std::alloc::Global;
 use std::marker::Model;
-use std::snapshot::Snapshot;
 
 /// A multi handle on one thread: which handles are added and how far each is, the work that waits for a worker, and the
-/// endings that wait to be read.
+/// endings that wait to be read. Old history is retired by `retire`.
 #[derive(Drop)]
 pub struct Control<Q: Work, O: Ending> {
     history: u32,
+    /// The ticket from which on additions are numbered.
+    first: u32,
+    /// How many events of the journal were kept at the last retiring, and who made how many of them.
+    from: u32,
+    before: MakerCounts,
     journal: Vec<Event>,
     table: Table,
-    /// The work that was queued last for each addition, as it was then, for contracts alone: it has no size.
-    origins: Vec<Snapshot<Q>>,
+    /// For contracts alone: the works have no size.
+    origins: Origins<Q>,
     queue: Vec<(Ticket, Q)>,
     endings: Vec<(Ticket, O)>,
+    /// How many claims were made that haven't come back.
+    out: u64,
 }
 
 impl<Q: Work, O: Ending> Model for Control<Q, O> {
-    ghost use Rattle.std.specs.Prelude.{map, vec_capacity};
-    ghost use Rattle.mx_journal.specs.Core.{Core, IsControl, IsTabled, KeepsOrigins};
+    ghost use Rattle.std.specs.Prelude.{vec_capacity};
+    ghost use Rattle.mx_journal.specs.Core.{Core, IsBegun, IsControl, IsTabled, KeepsOrigins};
 
     ghost Value = { Core Q O };
 
-    ghost view = { λ c. record { opening = record { history = c.history }; journal = c.journal.items; origins = map (λ s. Q.origin s.value) c.origins.items; queue = c.queue.items; endings = c.endings.items } };
+    ghost view = { λ c. record { opening = record { history = c.history; first = c.first; from = c.from }; journal = c.journal.items; origins = c.origins.all; queue = c.queue.items; endings = c.endings.items; out = c.out } };
 
     ghost invariant = { λ c. record {
       tabled : IsTabled c.history c.journal.items c.table (vec_capacity c.journal);
       kept : IsControl O.code_of O.size_of c.history c.journal.items c.queue.items c.endings.items (vec_capacity c.queue) (vec_capacity c.endings);
-      origins : KeepsOrigins Q.origin c.history c.journal.items (map (λ s. Q.origin s.value) c.origins.items) c.queue.items (vec_capacity c.origins);
+      begun : IsBegun (record { history = c.history; first = c.first; from = c.from }) c.journal.items c.before;
+      origins : KeepsOrigins Q.origin (record { history = c.history; first = c.first; from = c.from }) c.journal.items c.origins c.queue.items;
     } };
 }
 
 impl<Q: Work + Drop, O: Ending + Drop> Control<Q, O> {
     /// An empty control state, with the space for so many events: from `mx_types::LEAST_HISTORY`, which one addition
-    /// needs, to `mx_types::MOST_HISTORY`.
+    /// needs, to `mx_types::MOST_HISTORY`. Its first ticket is 0.
     ///
     /// # Errors
     ///
     /// `OutOfMemory` where that space is refused.
     pub fn new(alloc: Global, history: u32) -> Result<Control<Q, O>, OutOfMemory>
         requires { IsHistory history }
-        ensures { IfOk result (λ c. c ≡ record { opening = record { history = history }; journal = []; origins = []; queue = []; endings = [] }) }
+        ensures { IfOk result (λ c. c ≡ record { opening = record { history = history; first = 0; from = 0 }; journal = []; origins = []; queue = []; endings = []; out = 0 }) }
+    {
+        Control::starting(alloc, history, 0)
+    }
+
+    /// As `new`, but its first ticket is `first`. At one more than `mx_types::GREATEST_TICKET` no ticket is left.
+    ///
+    /// # Errors
+    ///
+    /// `OutOfMemory` where the space is refused.
+    pub fn starting(alloc: Global, history: u32, first: u32) -> Result<Control<Q, O>, OutOfMemory>
+        requires { IsHistory history }
+        ensures { IfOk result (λ c. c ≡ record { opening = record { history = history; first = first; from = 0 }; journal = []; origins = replicate first no_request; queue = []; endings = []; out = 0 }) }
     {
         Ok(Control {
             history,
+            first,
+            from: 0,
+            before: MakerCounts::new(),
             journal: Vec::with_capacity(alloc, history as usize)?,
             table: Table::new(alloc)?,
-            origins: Vec::with_capacity(alloc, history as usize)?,
+            origins: Origins::new(alloc, first)?,
             queue: Vec::with_capacity(alloc, MOST_HANDLES)?,
             endings: Vec::with_capacity(alloc, MOST_HANDLES)?,
+            out: 0,
         })
     }
 
     /// What is true of every core: its journal is legal and has room for what is due; its queue has running tickets,
-    /// each once, by ticket; its endings are those of the messages that wait, in their order. That the table is the
-    /// one of the journal is seen through `state`, `look`, `made` and the slots of claims.
+    /// each once, by ticket; its endings are those of the messages that wait, in their order; there is an origin for
+    /// each ticket below the next one, and no ticket above the greatest was given; and its journal begins with what was
+    /// kept of older history. That the table is the one of the journal is seen through `state`, `look`, `made` and the
+    /// slots of claims.
     pub fn sound(&self)
         ensures sound { IsSound O.code_of O.size_of self.now.opening.history self.now.journal self.now.queue self.now.endings }
-        ensures origins { (length self.now.origins ≡ additions self.now.journal) × AreOwn Q.origin self.now.origins self.now.queue }
+        ensures origins { (length self.now.origins ≡ (next_ticket self.now.opening self.now.journal).0) × AreOwn Q.origin self.now.origins self.now.queue }
+        ensures tickets { (next_ticket self.now.opening self.now.journal).0 ≤ greatest_ticket + 1 }
+        ensures begun { self.now.opening.from ≤ length self.now.journal }
     {
         // For the prover alone: what holds of a core is used.
         let _ = &self.table;
@@ -94,6 +126,7 @@ impl<Q: Work + Drop, O: Ending + Drop> Control<Q, O> {
     ///
     /// - `AddedAlready`: the handle is added;
     /// - `TableFull`: as many handles are added as can be;
+    /// - `TicketsSpent`: the next ticket would be above the greatest, `mx_types::GREATEST_TICKET`;
     /// - `HistoryFull`: beside the events so far and those that are due there is no room for 4 more, the addition and
     ///   its end, reading and removal;
     /// - `OutOfMemory`: the log refused the event.
@@ -112,10 +145,13 @@ impl<Q: Work + Drop, O: Ending + Drop> Control<Q, O> {
         if self.table.is_full() {
             return AddReply::TableFull(work);
         }
+        let ticket = Ticket(self.next());
+        if ticket.0 > GREATEST_TICKET {
+            return AddReply::TicketsSpent(work);
+        }
         if !self.has_room(4) {
             return AddReply::HistoryFull(work);
         }
-        let ticket = self.table.next_ticket();
         let event = Event {
             who,
             what: What::Added(handle, ticket),
@@ -124,7 +160,7 @@ impl<Q: Work + Drop, O: Ending + Drop> Control<Q, O> {
             return AddReply::OutOfMemory(work);
         }
         enter(self.history, &mut self.journal, &mut self.table, event);
-        self.origins.push_reserved(Snapshot::of(&work));
+        self.origins.push(&work);
         self.queue.push_reserved((ticket, work));
         AddReply::Added(ticket)
     }
@@ -228,6 +264,13 @@ impl<Q: Work + Drop, O: Ending + Drop> Control<Q, O> {
             What::Resumed(row.ticket)
         };
         self.append_pausing(log, Event { who, what })
+    }
+
+    // The number of the next ticket: one more than the greatest that was given, in older history too.
+    fn next(&self) -> u32
+        ensures { result ≡ (next_ticket self.now.opening self.now.journal).0 }
+    {
+        greater(u64::from(self.first), self.table.beyond()) as u32
     }
 
     // Whether there is room for so many events beside those so far and those that are due.
@@ -336,14 +379,15 @@ impl<Q: Work + Drop, O: Ending + Drop> Control<Q, O> {
     }
 
     /// Records the end of a claimed transfer: its message waits behind those that wait (curl_multi_info_read(3)). The claim
-    /// is spent. It always finds room.
+    /// is spent, and one claim less is out. It always finds room.
     ///
     /// # Refusals
     ///
     /// The first that applies, in this order; each changes nothing, here and in the log:
     ///
-    /// - `Stale`: the claimed addition was removed, or has ended; the ending is handed back, and the claim is spent;
-    /// - `OutOfMemory`: the log refused the event; claim and ending are handed back.
+    /// - `Stale`: the claimed addition was removed, or has ended; the ending is handed back, the claim is spent, one claim
+    ///   less is out, and nothing else changes;
+    /// - `OutOfMemory`: the log refused the event; claim and ending are handed back, and nothing changes.
     pub fn finish<L: Log>(
         &mut self,
         log: &mut L,
@@ -362,6 +406,7 @@ impl<Q: Work + Drop, O: Ending + Drop> Control<Q, O> {
     {
         let ticket = claim.ticket();
         if !self.runs(&claim) {
+            self.out = self.out.saturating_sub(1);
             return FinishReply::Stale(ending);
         }
         let event = Event {
@@ -374,16 +419,18 @@ impl<Q: Work + Drop, O: Ending + Drop> Control<Q, O> {
         enter(self.history, &mut self.journal, &mut self.table, event);
         drop_ticket(&mut self.queue, ticket);
         self.endings.push_reserved((ticket, ending));
+        self.out = self.out.saturating_sub(1);
         FinishReply::Recorded
     }
 
-    /// Takes the work of the lowest ticket in the queue, paused or not; the ticket is then claimed. None where the
-    /// queue is empty. It makes no event.
+    /// Takes the work of the lowest ticket in the queue, paused or not; the ticket is then claimed, and one claim more is
+    /// out, of which 2^64 - 1 are counted at most. None where the queue is empty. It makes no event.
     pub fn claim(&mut self) -> Option<(Claim<Q>, Q)>
         ensures opening { self.new.opening ≡ self.old.opening }
         ensures origins { self.new.origins ≡ self.old.origins }
         ensures journal { self.new.journal ≡ self.old.journal }
         ensures endings { self.new.endings ≡ self.old.endings }
+        ensures out { MatchOption result (self.new.out ≡ self.old.out) (λ _. self.new.out ≡ one_out self.old.out) }
         ensures none { IfNone result ((self.old.queue ≡ []) × (self.new.queue ≡ [])) }
         ensures some { IfSome result (λ r. self.old.queue ≡ (r.0.ticket, r.1) ∷ self.new.queue) }
         ensures least { IfSome result (λ r. AllByRecursion (λ t. r.0.ticket.0 ≤ t.0) (queued self.old.queue)) }
@@ -400,17 +447,18 @@ impl<Q: Work + Drop, O: Ending + Drop> Control<Q, O> {
         let Some(row) = self.table.row_of_ticket(ticket) else {
             unreachable!()
         };
+        self.out = self.out.saturating_add(1);
         let claim = Claim::of(row.handle, ticket, row.slot, &work);
         Some((claim, work))
     }
 
-    /// Puts claimed work back into the queue, to the place of its ticket. It makes no event, and can't be refused for want
-    /// of memory, since its place was kept.
+    /// Puts claimed work back into the queue, to the place of its ticket; one claim less is out. It makes no event, and
+    /// can't be refused for want of memory, since its place was kept.
     ///
     /// # Refusals
     ///
     /// `Stale`: the claimed addition was removed, or has ended, or its work is queued. The work is handed back, the claim is
-    /// spent, and nothing changes.
+    /// spent, one claim less is out, and nothing else changes.
     pub fn give_back(&mut self, claim: Claim<Q>, work: Q) -> GiveBackReply<Q>
         requires origin { Q.origin work ≡ claim.origin }
         ensures opening { self.new.opening ≡ self.old.opening }
@@ -419,16 +467,19 @@ impl<Q: Work + Drop, O: Ending + Drop> Control<Q, O> {
         ensures back { is_back result ≡ has_ticket claim.ticket (claimed self.old.journal self.old.queue) }
         ensures queue { self.new.queue ≡ queue_given result self.old.queue claim.ticket work }
         ensures handed { IsGivenBack work result }
-        ensures unchanged { is_back result ≡ false → self.new ≡ self.old }
+        ensures out { self.new.out ≡ self.old.out - 1 }
+        ensures unchanged { is_back result ≡ false → self.new ≡ with_out (self.old.out - 1) self.old }
         ensures origins { self.new.origins ≡ origins_given result self.old.origins claim.ticket claim.origin }
         ensures same { origin_of claim.ticket self.old.origins ≡ Some claim.origin → self.new.origins ≡ self.old.origins }
         ensures own { AreOwn O.origin self.old.origins self.old.endings → AreOwn O.origin self.new.origins self.new.endings }
     {
         let ticket = claim.ticket();
-        if !self.is_claimed(&claim) {
+        let is_claimed = self.is_claimed(&claim);
+        self.out = self.out.saturating_sub(1);
+        if !is_claimed {
             return GiveBackReply::Stale(work);
         }
-        self.origins[ticket.0 as usize] = Snapshot::of(&work);
+        self.origins.set(ticket, &work);
         insert_ticket(&mut self.queue, ticket, work);
         GiveBackReply::Back
     }
@@ -467,6 +518,13 @@ impl<Q: Work + Drop, O: Ending + Drop> Control<Q, O> {
         ensures { result ≡ slice_get self.now.journal index }
     {
         self.journal.get(index as usize).copied()
+    }
+
+    /// The ticket from which on additions are numbered.
+    pub fn first(&self) -> u32
+        ensures { result ≡ self.now.opening.first }
+    {
+        self.first
     }
 
     /// How many events the journal has.
@@ -511,12 +569,53 @@ impl<Q: Work + Drop, O: Ending + Drop> Control<Q, O> {
         self.table.look(ticket)
     }
 
-    /// How many events the maker made.
+    /// How many events the maker made since the last retiring, or since the beginning where there was none.
     pub fn made(&self, who: Who) -> u32
         requires { is_maker who ≡ true }
-        ensures { result ≡ made_by who self.now.journal }
+        ensures { result ≡ made_by who (drop self.now.opening.from self.now.journal) }
     {
-        self.table.made(who)
+        self.table.made(who) - self.before.get(who)
+    }
+
+    /// What retiring would keep: the events of the tickets that are added, in order.
+    ///
+    /// # Errors
+    ///
+    /// `OutOfMemory` where the space for them is refused.
+    pub fn kept(&self, alloc: Global) -> Result<Vec<Event>, OutOfMemory>
+        ensures { IfOk result (λ v. v.items ≡ retire self.now.journal) }
+    {
+        kept_of(alloc, &self.journal, &self.table)
+    }
+
+    /// Whether a claim is out, so that `retire` would be refused: one was made that hasn't come back, by `finish`, recorded
+    /// or stale, or by `give_back`. Where each claim comes back to the control state that made it, that is exact.
+    pub fn claim_out(&self) -> bool
+        ensures { result ≡ nat_lt 0 self.now.out }
+    {
+        self.out > 0
+    }
+
+    /// Retires old history: of the journal it keeps the events of the tickets that are added, in order, and says how many they
+    /// are. Handles, work and endings stay as they were, and so does the next ticket; makers' events are counted from there. It
+    /// makes no event, and has no want of memory to answer.
+    ///
+    /// # Refusals
+    ///
+    /// `ClaimOut`: a claim is out (`claim_out`). Nothing changes.
+    pub fn retire(&mut self) -> RetireReply
+        ensures retired { IsRetiring self.old result self.new }
+        ensures next { next_ticket self.new.opening self.new.journal ≡ next_ticket self.old.opening self.old.journal }
+    {
+        if self.claim_out() {
+            return RetireReply::ClaimOut;
+        }
+        let first = self.next();
+        keep_the_added(self.history, &mut self.journal, &mut self.table);
+        self.before = self.table.makers();
+        self.first = first;
+        self.from = self.table.len();
+        RetireReply::Retired(self.from)
     }
 }
 

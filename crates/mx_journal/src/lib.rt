@@ -3,13 +3,16 @@
 
 mod claim;
 mod control;
+mod origins;
 mod pairs;
 mod replies;
+mod retiring;
 
 pub use crate::claim::Claim;
 pub use crate::control::Control;
 pub use crate::replies::{
-    AddReply, FinishReply, GiveBackReply, InfoReply, PauseReply, RemoveReply, WakeupReply,
+    AddReply, FinishReply, GiveBackReply, InfoReply, PauseReply, RemoveReply, RetireReply,
+    WakeupReply,
 };
 pub use mx_history::{Log, Phase, Row, VecLog, definitions, laws};
 pub use mx_table::Table;

@@ -10,6 +10,7 @@ pub enum AddReply<Q> {
     Added(Ticket),
     AddedAlready(Q),
     TableFull(Q),
+    TicketsSpent(Q),
     HistoryFull(Q),
     OutOfMemory(Q),
 }
@@ -67,6 +68,13 @@ pub enum GiveBackReply<Q> {
     Stale(Q),
 }
 
+/// Of `retire`: how many events are kept, or that a claim is out.
+#[derive(Clone, Copy, Debug, PartialEq, Eq)]
+pub enum RetireReply {
+    Retired(u32),
+    ClaimOut,
+}
+
 impl<Q> AddReply<Q> {
     /// The reply, without what it hands back.
     pub fn reply(&self) -> Reply
@@ -76,6 +84,7 @@ impl<Q> AddReply<Q> {
             AddReply::Added(ticket) => Reply::Added(*ticket),
             AddReply::AddedAlready(_) => Reply::AddedAlready,
             AddReply::TableFull(_) => Reply::TableFull,
+            AddReply::TicketsSpent(_) => Reply::TicketsSpent,
             AddReply::HistoryFull(_) => Reply::HistoryFull,
             AddReply::OutOfMemory(_) => Reply::OutOfMemory,
         }

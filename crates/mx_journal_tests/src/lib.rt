@@ -7,6 +7,8 @@ pub mod callers;
 #[cfg(test)]
 mod removals;
 #[cfg(test)]
+mod retirings;
+#[cfg(test)]
 mod sample;
 #[cfg(test)]
 mod tests;

@@ -215,10 +215,12 @@ fn agrees(rt: &impl Abort, alloc: Global, caller: &Caller) -> Result<(), Fail> {
 /// Makes a call behind so many events: whether it found no memory. Then it changed nothing, and is made again.
 fn makes(rt: &impl Abort, caller: &mut Caller, step: Step, events: u32) -> Result<bool, Fail> {
     let before = caller.control.handles();
+    let is_out = caller.control.claim_out();
     if !caller.lacks_memory(step)? {
         return Ok(false);
     }
     assert_eq!(rt; caller.control.handles().as_slice(), before.as_slice());
+    assert_eq!(rt; caller.control.claim_out(), is_out);
     let left = caller.log.list.events().len();
     let lacks_again = caller.lacks_memory(step)?;
     assert_eq!(rt; (left, lacks_again), (events as usize, false));
@@ -312,7 +314,7 @@ fn tells_histories(rt: &impl Abort, alloc: Global) -> Result<(), Fail> {
         let found = definitions::is_legal(alloc, events)?;
         assert_eq!(rt; found, is_legal, "{events:?}");
     }
-    assert_eq!(rt; definitions::additions(&whole), 2);
+    assert_eq!(rt; definitions::beyond(&whole), 2);
     Ok(())
 }
 

@@ -1,7 +1,10 @@
 use Rattle.std.proofs.Common.{refl, arith, rules}
+use Rattle.std.proofs.lemmas.Grind.{common_steps}
 use Rattle.mx_journal.proofs.Controls.{control-read_first, may_read_first, endings_few}
 use Rattle.mx_types.specs.declared.event.What.TheVariants as what
-use Rattle.mx_journal.proofs.Origins.{origins-then}
+use Rattle.mx_journal.proofs.OriginLists.{begun-then, origins-then}
+use Rattle.mx_types.specs.declared.call.Call.TheVariants as call
+use Rattle.mx_journal.proofs.Calling.{called_refused}
 use Rattle.mx_journal.proofs.control.Control.info_read.Goals as goal
 
 pub overflow_cast-left : goal.overflow_cast-left
@@ -17,8 +20,9 @@ invariant_of-self g c =
       kept = rw (c.enter.ensures.items, c.remove-ending.ensures.items, c.remove-ending.ensures.capacity)
           (control-read_first g.O.Ending.code_of g.O.Ending.size_of c.self.inside.history c.self.inside.journal.items c.args.who c.in-Some.row.ticket c.self.inside.endings.items c.self.inside.queue.items _ _
           c.self.invariant.kept (rw (← c.self.view_is) at c.in-Some.ensures.ticket));
+      begun = rw c.enter.ensures.items (begun-then _ c.self.inside.journal.items c.args.who (what.Read c.in-Some.row.ticket) c.self.inside.before c.self.invariant.begun (omega arith));
       origins = rw c.enter.ensures.items
-          (origins-then g.Q.Work.origin c.self.inside.history c.self.inside.journal.items c.args.who (what.Read c.in-Some.row.ticket) _ c.self.inside.queue.items c.self.inside.queue.items _
+          (origins-then g.Q.Work.origin _ c.self.inside.journal.items c.args.who (what.Read c.in-Some.row.ticket) _ c.self.inside.queue.items c.self.inside.queue.items
           c.self.invariant.origins refl c.self.invariant.origins.own);
     }
 
@@ -31,3 +35,10 @@ returns-clause-endings g c = search rules
 
 pub returns-clause-own : goal.returns-clause-own
 returns-clause-own g c = search rules
+
+pub returns-then-is_err-clause-called : goal.returns-then-is_err-clause-called
+returns-then-is_err-clause-called g c =
+    called_refused g.L.Log.events g.L.Log.name g.L.Log.may_refuse c.args.who call.InfoRead c.args.self.now c.args.log.now c.append.new.self (grind (arith, common_steps)) (search rules) c.append.ensures.same (search rules)
+
+pub returns-clause-called : goal.returns-clause-called
+returns-clause-called g c = grind (arith, common_steps)
