@@ -94,6 +94,31 @@ pub fn board<R: Wait>(rt: &R, alloc: Global, readers: usize) -> Result<BoardWrit
     })
 }
 
+/// A board with these events, all of them published, and places for so many readers at a time. It waits for nobody, since
+/// it has no readers yet. Where memory is refused, the board that was begun is closed.
+#[tactic(auto, using(crate::proofs::Filling::next_is_legal))]
+pub fn board_of<R: Wait>(
+    rt: &R,
+    alloc: Global,
+    readers: usize,
+    events: &[Event],
+) -> Result<BoardWriter, OutOfMemory>
+    requires places { (0 < readers) × (readers < 65) }
+    requires legal { is_legal events.now ≡ true }
+    requires few { length events.now < 4294967295 }
+    ensures { IfOk result (λ w. (w.events ≡ events.now) × (w.published ≡ events.now)) }
+{
+    let mut board = board(rt, alloc, readers)?;
+    for event in events {
+        if board.append(*event).is_err() {
+            let _ = board.close(rt);
+            return Err(OutOfMemory);
+        }
+        board.publish(rt);
+    }
+    Ok(board)
+}
+
 // The greatest length of a journal: the table counts its events in a u32.
 const MOST_EVENTS: u64 = 4294967294;
 
@@ -198,8 +223,8 @@ impl BoardWriter {
         }
     }
 
-    // How many of the published events the maker made.
-    pub(crate) fn made(&self, who: Who) -> u32
+    /// How many of the published events the maker made.
+    pub fn made(&self, who: Who) -> u32
         requires { is_maker who ≡ true }
         ensures { result ≡ made_by who self.now.published }
     {

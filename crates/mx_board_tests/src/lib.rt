@@ -6,6 +6,8 @@
 mod boards;
 #[cfg(test)]
 mod desk;
+#[cfg(test)]
+mod kept;
 pub mod notes;
 #[cfg(test)]
 mod words;
