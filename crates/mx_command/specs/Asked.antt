@@ -10,7 +10,7 @@ use Rattle.mx_command.specs.declared.task.Task.TheVariants.{Body, Play}
 -- a history is within its limits
 abbrev pub IsTask : Tasks → Type 0
 IsTask (Body method) = Unit {0}
-IsTask (Play history) = IsHistory history
+IsTask (Play history first) = IsHistory history
 
 -- a task that is one, or options within their limits
 abbrev pub IsAsked : Asked → Type 0

@@ -33,11 +33,18 @@ fn play_command<'a>(alloc: Global) -> Result<Command<'a>, AllocError> {
         .value_parser(value_parser!(u32).range(i64::from(LEAST_HISTORY)..=i64::from(MOST_HISTORY)))
         .default_value("1024")
         .help("How many events the journal has room for: 4 to 1048576");
+    let first_ticket = Arg::new(alloc, "first-ticket")
+        .long("first-ticket")
+        .value_name("N")
+        .value_parser(value_parser!(u32))
+        .default_value("0")
+        .help("The ticket of the first addition: 0 to 4294967295; with the last no ticket is left");
     Command::new(alloc, "play")
         .about(help::PLAY)
         .long_about(help::LONG_PLAY)
         .after_help(help::MORE_PLAY)
-        .arg(history)
+        .arg(history)?
+        .arg(first_ticket)
 }
 
 fn get_command<'a>(alloc: Global) -> Result<Command<'a>, AllocError> {
@@ -113,7 +120,8 @@ fn task_of(matches: &ArgMatches<'_>) -> Option<Task>
     if !(LEAST_HISTORY..=MOST_HISTORY).contains(&history) {
         return None;
     }
-    Some(Task::Play(history))
+    let first = play.get_one::<u32>("first-ticket")?;
+    Some(Task::Play { history, first })
 }
 
 /// How the URLs of `get` are fetched, if its values are there. Their ranges are tested here too.

@@ -99,9 +99,9 @@ pub const PLAY: &str = "Play a script of calls on the control core, on one threa
 /// What `play` does.
 pub const LONG_PLAY: &str =
     "Play a script of calls on the control core of a multi handle, on one thread. Each line of standard
-input is a call, in words with one space between them, and prints one of these answers:
+input is a call, or `retire`, in words with one space between them, and prints one of these answers:
 
-    add H            added T, added-already, table-full, history-full
+    add H            added T, added-already, table-full, tickets-spent, history-full
     remove H         removed, not-added
     pause H          changed, not-added, not-running, no-change, history-full
     unpause H        changed, not-added, not-running, no-change, history-full
@@ -112,12 +112,15 @@ input is a call, in words with one space between them, and prints one of these a
     handles          handles, and the added handles
     running          running N
     state H          not-added, running T, paused T, done T CODE, read T CODE
+    retire           retired L, claim-out
 
 H is a handle, and T the ticket of one addition of it. `done` tells the end of an addition: the
-number of a CURLcode (libcurl-errors(3)), and the length of its body. A number is 1 to 10 digits, of
-at most 4294967295; at most 256 handles are added at a time; a line has at most 64 bytes before its
-LF. Empty lines, and lines that begin with `#`, print nothing. Any other line prints `bad-line K`,
-with its number from 1 on, and ends the run.";
+number of a CURLcode (libcurl-errors(3)), and the length of its body. `retire` drops the events of
+handles that aren't added any more, and the wakeups, from the history, where each addition's end was
+told; L is how many are kept. Tickets only rise, and the greatest is 4294967294. A number is 1 to 10
+digits, of at most 4294967295; at most 256 handles are added at a time; a line has at most 64 bytes
+before its LF. Empty lines, and lines that begin with `#`, print nothing. Any other line prints
+`bad-line K`, with its number from 1 on, and ends the run.";
 
 /// The exit statuses of `play`, and an example.
 pub const MORE_PLAY: &str = "Exit status:
@@ -126,7 +129,7 @@ pub const MORE_PLAY: &str = "Exit status:
    56  a read of the input failed: `FAULT 56` is printed
   120  the command line is refused
   121  the output couldn't be written
-  122  a line of the script is no call
+  122  a line of the script is neither a call nor `retire`
 
 Example:
     $ printf 'add 7\\ndone 0 0 5\\nread\\n' | mxfetch play

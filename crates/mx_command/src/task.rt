@@ -6,6 +6,11 @@ use mx_types::Method;
 pub enum Task {
     /// Decode the response that is read, as the answer to that method.
     Body(Method),
-    /// Play the script that is read, on a control core whose history has room for so many events.
-    Play(u32),
+    /// Play the script that is read, on a control core.
+    Play {
+        /// How many events its history has room for.
+        history: u32,
+        /// The ticket of its first addition. At 4294967295 no ticket is left.
+        first: u32,
+    },
 }

@@ -1,7 +1,7 @@
--- The claims of a player, at the places of their tickets.
+-- The claims of a player, each at a place by its ticket.
 use Rattle.std.proofs.Common.{◌≡◌, ℕ, ◌+◌, ◌<◌, ◌≤◌, ◌∙◌, sym, refl, ap, List, [], ◌∷◌, ◌++◌, length, length-append, set, true, false, cond, arith}
 use Rattle.std.specs.Prelude.{suc, zero, ◌==◌, ◌||◌, Option, Some, None, IfNone, IfSome, slice_index_or}
-use Rattle.std.proofs.lemmas.Bool.{eq-eqb, ne_eqb}
+use Rattle.std.proofs.lemmas.Bool.{eq-eqb, false≢true, ne_eqb}
 use Rattle.std.proofs.lemmas.List.{length-set}
 use Rattle.mx_types.specs.declared.names.Ticket.{Ticket}
 use Rattle.mx_types.specs.Origin.{no_request}
@@ -17,7 +17,7 @@ differ_above : (a b : ℕ) → b < a → (a == b) ≡ false
 differ_above a b lt = ne_eqb a b (λ e. omega (arith, lt, e))
 
 -- a ticket below the first place, or above the last, has no claim
-below : (n : ℕ) (xs : List (Option Claimed)) (t : Ticket) → AreAtTheirPlaces n xs → t.0 < n → has_ticket t (tickets_at xs) ≡ false
+pub below : (n : ℕ) (xs : List (Option Claimed)) (t : Ticket) → AreAtTheirPlaces n xs → t.0 < n → has_ticket t (tickets_at xs) ≡ false
 below n [] t h lt = refl
 below n (None ∷ xs) t h lt = below (n + 1) xs t h (omega (arith, lt))
 below n (Some claim ∷ xs) t h lt =
@@ -42,6 +42,8 @@ pub record IsTaken (n : ℕ) (xs : List (Option Claimed)) (t : Ticket) (i : ℕ)
   pub origin : claim.origin ≡ no_request
   pub has : has_ticket t (tickets_at xs) ≡ true
   pub rest : tickets_at (set xs i None) ≡ without_claim t (tickets_at xs)
+  pub count : length (tickets_at xs) ≡ length (tickets_at (set xs i None)) + 1
+  pub gone : has_ticket t (tickets_at (set xs i None)) ≡ false
   pub places : AreAtTheirPlaces n (set xs i None)
 
 same_ticket_is : (t u : Ticket) → t.0 ≡ u.0 → same_ticket t u ≡ true
@@ -79,11 +81,13 @@ taken n (Some c ∷ xs) t zero d claim h at lt is =
       origin = ap (λ (x : Claimed). x.origin) (sym e) ∙ h.1;
       has = ap (λ b. b || has_ticket t (tickets_at xs)) same;
       rest = sym (ap (λ b. cond b (tickets_at xs) (c.ticket ∷ without_claim t (tickets_at xs))) same);
+      count = omega arith;
+      gone = below (n + 1) xs t h.2 (omega (arith, at));
       places = h.2;
     }
 taken n (None ∷ xs) t (suc i) d claim h at lt is =
     let r = taken (n + 1) xs t i d claim h (omega (arith, at)) (omega (arith, lt)) is in
-    record { its = r.its; origin = r.origin; has = r.has; rest = r.rest; places = r.places }
+    record { its = r.its; origin = r.origin; has = r.has; rest = r.rest; count = r.count; gone = r.gone; places = r.places }
 taken n (Some c ∷ xs) t (suc i) d claim h at lt is =
     let r = taken (n + 1) xs t i d claim h.2 (omega (arith, at)) (omega (arith, lt)) is in
     let other = differ_above t.0 c.ticket.0 (omega (arith, at, h.0)) in
@@ -92,6 +96,8 @@ taken n (Some c ∷ xs) t (suc i) d claim h at lt is =
       origin = r.origin;
       has = ap (λ b. b || has_ticket t (tickets_at xs)) other ∙ r.has;
       rest = ap (λ z. c.ticket ∷ z) r.rest ∙ sym (ap (λ b. cond b (tickets_at xs) (c.ticket ∷ without_claim t (tickets_at xs))) other);
+      count = omega (arith, r.count);
+      gone = ap (λ b. b || has_ticket t (tickets_at (set xs i None))) other ∙ r.gone;
       places = (h.0, h.1, r.places);
     }
 
@@ -107,51 +113,71 @@ kept_places n [] claim h next origin = (omega (arith, next), origin, tt)
 kept_places n (None ∷ xs) claim h next origin = kept_places (n + 1) xs claim h (omega (arith, next)) origin
 kept_places n (Some c ∷ xs) claim h next origin = (h.0, h.1, kept_places (n + 1) xs claim h.2 (omega (arith, next)) origin)
 
--- from the first place on: what `take` and `keep` leave, and give
-abbrev pub view_of : List (Option Claimed) → ℕ → Kept
-view_of xs space = record { made = length xs; tickets = tickets_at xs; space = space }
+-- a claim stands in its empty place again
+pub record IsAgain (n : ℕ) (xs : List (Option Claimed)) (i : ℕ) (claim : Claimed) : Type 0 where
+  pub count : length (tickets_at (set xs i (Some claim))) ≡ length (tickets_at xs) + 1
+  pub places : AreAtTheirPlaces n (set xs i (Some claim))
 
-pub record Took (xs : List (Option Claimed)) (t : Ticket) (given : Option Claimed) (after : Option Claimed) : Type 0 where
-  pub places : AreAtTheirPlaces 0 (set xs t.0 after)
-  pub none : IfNone given ((has_ticket t (tickets_at xs) ≡ false) × (tickets_at (set xs t.0 after) ≡ tickets_at xs))
-  pub some : IfSome given (λ claim. (has_ticket t (tickets_at xs) ≡ true) × (tickets_at (set xs t.0 after) ≡ without_claim t (tickets_at xs)))
+pub again : (n : ℕ) (xs : List (Option Claimed)) (i : ℕ) (claim : Claimed) → AreAtTheirPlaces n xs → claim.ticket.0 ≡ n + i → i < length xs
+    → has_ticket claim.ticket (tickets_at xs) ≡ false → claim.origin ≡ no_request → IsAgain n xs i claim
+again n [] i claim h at lt gone origin = absurd (omega (arith, lt))
+again n (None ∷ xs) zero claim h at lt gone origin = record { count = omega arith; places = (omega (arith, at), origin, h) }
+again n (Some c ∷ xs) zero claim h at lt gone origin =
+    let same : same_ticket claim.ticket c.ticket ≡ true = same_ticket_is claim.ticket c.ticket (omega (arith, at, h.0)) in
+    absurd (false≢true (sym gone ∙ ap (λ b. b || has_ticket claim.ticket (tickets_at xs)) same))
+again n (None ∷ xs) (suc i) claim h at lt gone origin =
+    let r = again (n + 1) xs i claim h (omega (arith, at)) (omega (arith, lt)) gone origin in
+    record { count = r.count; places = r.places }
+again n (Some c ∷ xs) (suc i) claim h at lt gone origin =
+    let other = differ_above claim.ticket.0 c.ticket.0 (omega (arith, at, h.0)) in
+    let r = again (n + 1) xs i claim h.2 (omega (arith, at)) (omega (arith, lt)) (sym (ap (λ b. b || has_ticket claim.ticket (tickets_at xs)) other) ∙ gone) origin in
+    record { count = omega (arith, r.count); places = (h.0, h.1, r.places) }
+
+-- a place has one claim at most
+pub few_kept : (xs : List (Option Claimed)) → length (tickets_at xs) ≤ length xs
+few_kept [] = omega arith
+few_kept (None ∷ xs) = omega (arith, few_kept xs)
+few_kept (Some c ∷ xs) = omega (arith, few_kept xs)
+
+-- what `take`, `keep` and `keep_again` leave, and give
+abbrev pub view_of : ℕ → List (Option Claimed) → ℕ → Kept
+view_of n xs space = record { first = n; made = length xs; tickets = tickets_at xs; space = space }
+
+pub record Took (n : ℕ) (xs : List (Option Claimed)) (t : Ticket) (i : ℕ) (given : Option Claimed) (after : Option Claimed) : Type 0 where
+  pub places : AreAtTheirPlaces n (set xs i after)
+  pub none : IfNone given ((has_ticket t (tickets_at xs) ≡ false) × (tickets_at (set xs i after) ≡ tickets_at xs))
+  pub some : IfSome given (λ claim. (has_ticket t (tickets_at xs) ≡ true) × (tickets_at (set xs i after) ≡ without_claim t (tickets_at xs)))
   pub its : IfSome given (λ claim. (claim.ticket ≡ t) × (claim.origin ≡ no_request))
+  pub once : IfSome given (λ claim. (length (tickets_at xs) ≡ length (tickets_at (set xs i after)) + 1) × (has_ticket t (tickets_at (set xs i after)) ≡ false))
 
-pub took : (xs : List (Option Claimed)) (t : Ticket) (now given after : Option Claimed) → AreAtTheirPlaces 0 xs → t.0 < length xs
-    → now ≡ slice_index_or xs t.0 now → given ≡ now → after ≡ None → Took xs t given after
-took xs t now None after h lt is e f =
-    let r = empty 0 xs t t.0 now h (omega arith) lt (sym is ∙ sym e) in
-    record { places = rw f r.places; none = (r.has, rw f r.same); some = tt; its = tt }
-took xs t now (Some claim) after h lt is e f =
-    let r = taken 0 xs t t.0 now claim h (omega arith) lt (sym is ∙ sym e) in
-    record { places = rw f r.places; none = tt; some = (r.has, rw f r.rest); its = (r.its, r.origin) }
+pub took : (n : ℕ) (xs : List (Option Claimed)) (t : Ticket) (i : ℕ) (now given after : Option Claimed) → AreAtTheirPlaces n xs → t.0 ≡ n + i → i < length xs
+    → now ≡ slice_index_or xs i now → given ≡ now → after ≡ None → Took n xs t i given after
+took n xs t i now None after h at lt is e f =
+    let r = empty n xs t i now h at lt (sym is ∙ sym e) in
+    record { places = rw f r.places; none = (r.has, rw f r.same); some = tt; its = tt; once = tt }
+took n xs t i now (Some claim) after h at lt is e f =
+    let r = taken n xs t i now claim h at lt (sym is ∙ sym e) in
+    record { places = rw f r.places; none = tt; some = (r.has, rw f r.rest); its = (r.its, r.origin); once = (rw f r.count, rw f r.gone) }
 
-same_view : (xs ys : List (Option Claimed)) (ts : List Ticket) (space : ℕ) → length ys ≡ length xs → tickets_at ys ≡ ts
-    → view_of ys space ≡ record { made = length xs; tickets = ts; space = space }
-same_view xs ys ts space e f = rw (e, f) refl
+same_view : (n : ℕ) (xs ys : List (Option Claimed)) (ts : List Ticket) (space : ℕ) → length ys ≡ length xs → tickets_at ys ≡ ts
+    → view_of n ys space ≡ record { first = n; made = length xs; tickets = ts; space = space }
+same_view n xs ys ts space e f = rw (e, f) refl
 
-pub took_none : (xs : List (Option Claimed)) (t : Ticket) (given after : Option Claimed) (space : ℕ) (p : Kept) → Took xs t given after
-    → p ≡ view_of xs space → IfNone given ((has_ticket t p.tickets ≡ false) × (view_of (set xs t.0 after) space ≡ p))
-took_none xs t None after space p h is =
-    rw is (h.none.0, same_view xs (set xs t.0 after) (tickets_at xs) space (length-set xs t.0 after) h.none.1)
-took_none xs t (Some claim) after space p h is = tt
+pub took_none : (n : ℕ) (xs : List (Option Claimed)) (t : Ticket) (i : ℕ) (given after : Option Claimed) (space : ℕ) (p : Kept) → Took n xs t i given after
+    → p ≡ view_of n xs space → IfNone given ((has_ticket t p.tickets ≡ false) × (view_of n (set xs i after) space ≡ p))
+took_none n xs t i None after space p h is =
+    rw is (h.none.0, same_view n xs (set xs i after) (tickets_at xs) space (length-set xs i after) h.none.1)
+took_none n xs t i (Some claim) after space p h is = tt
 
-pub took_some : (xs : List (Option Claimed)) (t : Ticket) (given after : Option Claimed) (space : ℕ) (p : Kept) → Took xs t given after
-    → p ≡ view_of xs space
-    → IfSome given (λ claim. (has_ticket t p.tickets ≡ true) × (view_of (set xs t.0 after) space ≡ record p { tickets = without_claim t p.tickets }))
-took_some xs t None after space p h is = tt
-took_some xs t (Some claim) after space p h is =
-    rw is (h.some.0, same_view xs (set xs t.0 after) (without_claim t (tickets_at xs)) space (length-set xs t.0 after) h.some.1)
+pub took_some : (n : ℕ) (xs : List (Option Claimed)) (t : Ticket) (i : ℕ) (given after : Option Claimed) (space : ℕ) (p : Kept) → Took n xs t i given after
+    → p ≡ view_of n xs space
+    → IfSome given (λ claim. (has_ticket t p.tickets ≡ true) × (view_of n (set xs i after) space ≡ record p { tickets = without_claim t p.tickets }))
+took_some n xs t i None after space p h is = tt
+took_some n xs t i (Some claim) after space p h is =
+    rw is (h.some.0, same_view n xs (set xs i after) (without_claim t (tickets_at xs)) space (length-set xs i after) h.some.1)
 
-pub past_all : (xs : List (Option Claimed)) (t : Ticket) → AreAtTheirPlaces 0 xs → length xs ≤ t.0 → has_ticket t (tickets_at xs) ≡ false
-past_all xs t h le = above 0 xs t h (omega (arith, le))
-
-pub kept_next : (xs : List (Option Claimed)) (claim : Claimed) → AreAtTheirPlaces 0 xs → claim.ticket.0 ≡ length xs → claim.origin ≡ no_request
-    → AreAtTheirPlaces 0 (xs ++ Some claim ∷ [])
-kept_next xs claim h next origin = kept_places 0 xs claim h (omega (arith, next)) origin
-
-pub kept_view : (xs ys : List (Option Claimed)) (claim : Claimed) (space after : ℕ) (p : Kept) → ys ≡ xs ++ Some claim ∷ [] → after ≡ space
-    → p ≡ view_of xs space → view_of ys after ≡ record p { made = p.made + 1; tickets = p.tickets ++ claim.ticket ∷ [] }
-kept_view xs ys claim space after p e f is =
+pub kept_view : (n : ℕ) (xs ys : List (Option Claimed)) (claim : Claimed) (space after : ℕ) (p : Kept) → ys ≡ xs ++ Some claim ∷ [] → after ≡ space
+    → p ≡ view_of n xs space → view_of n ys after ≡ record p { made = p.made + 1; tickets = p.tickets ++ claim.ticket ∷ [] }
+kept_view n xs ys claim space after p e f is =
     let longer : length (xs ++ Some claim ∷ []) ≡ length xs + 1 = omega (arith, length-append xs (Some claim ∷ [])) in
     rw (is, e, f, longer, kept xs claim) refl

@@ -14,7 +14,7 @@ use Rattle.mx_run_play.specs.declared.script.Line.TheVariants as line
 use Rattle.mx_types.specs.declared.call.Call.{Call}
 use Rattle.mx_run_play.specs.Script.{pieces, onto_first, lines_of, line_of}
 use Rattle.mx_run_play.specs.Texts.{Said, said_text}
-use Rattle.mx_run_play.specs.Turns.{PlayerView, says, player_past, MakesEvent}
+use Rattle.mx_run_play.specs.Turns.{PlayerView, says, player_past, says_retiring, past_retiring, MakesEvent}
 use Rattle.mx_run_play.specs.Run.{Outcome, after, outcome, outcome_with, bad_line_text, past_line, past_lines, WantsEvent}
 use Rattle.mx_run_play.specs.Session.{IsUnended, rest_of, TellsLine, EndsLine, Plays}
 
@@ -56,7 +56,7 @@ run_with : (text : List ℕ) (is : Line) (more : List (List ℕ)) (p : PlayerVie
 unfolding outcome
 run_with text is more p n e = ap (λ x. outcome_with p n x (λ q. outcome more q (n + 1))) (sym e)
 
--- the three ways in which a line ends
+-- the ways in which a line ends
 pub line_silent_ends : (s t : Session) (a : Option (List ℕ)) → line.Silent ≡ line_of s.line.items → t.player ≡ s.player → t.lines ≡ s.lines + 1
     → t.line.items ≡ [] → EndsLine s turn.On t (Appends a a)
 line_silent_ends s t a is player counted empty = record {
@@ -85,6 +85,21 @@ line_call_ends s t call a b is player counted empty written = record {
   empty = empty;
 }
 
+pub line_retire_ends : (s t : Session) (a b : Option (List ℕ)) → line.Retire ≡ line_of s.line.items
+    → t.player ≡ past_retiring s.player → t.lines ≡ s.lines + 1 → t.line.items ≡ []
+    → Appends a b (said_text (says_retiring s.player)) → EndsLine s turn.On t (Appends a b)
+line_retire_ends s t a b is player counted empty written = record {
+  printed = said_text (says_retiring s.player);
+  written = written;
+  tells = record {
+    player = player ∙ ap (past_line s.player) is;
+    run = λ more. run_with s.line.items line.Retire more s.player (s.lines + 1) is
+        ∙ ap (λ n. after (said_text (says_retiring s.player)) (outcome more (past_retiring s.player) (n + 1))) (sym counted)
+        ∙ ap (λ p. after (said_text (says_retiring s.player)) (outcome more p (t.lines + 1))) (sym player);
+  };
+  empty = empty;
+}
+
 pub line_bad_ends : (s t : Session) (a b : Option (List ℕ)) → line.Bad ≡ line_of s.line.items
     → Appends a b (bad_line_text (s.lines + 1)) → EndsLine s turn.Bad t (Appends a b)
 line_bad_ends s t a b is written = record {
@@ -109,6 +124,12 @@ pub call_told : (s t : Session) (l : Line) (call : Call) (says_it : Said) (text 
     → t.lines ≡ s.lines + 1 → t.line.items ≡ [] → TellsLine s t (Appends a b)
 call_told s t l call says_it text a b is its same told written player counted empty =
     line_call_ends s t call a b (sym is ∙ its ∙ ap line_of same) player counted empty (subst (λ z. Appends a b (said_text z)) told written)
+
+pub retire_told : (s t : Session) (l : Line) (says_it : Said) (text : List ℕ) (a b : Option (List ℕ)) → l ≡ line.Retire → l ≡ line_of text
+    → text ≡ s.line.items → says_it ≡ says_retiring s.player → Appends a b (said_text says_it) → t.player ≡ past_retiring s.player
+    → t.lines ≡ s.lines + 1 → t.line.items ≡ [] → TellsLine s t (Appends a b)
+retire_told s t l says_it text a b is its same told written player counted empty =
+    line_retire_ends s t a b (sym is ∙ its ∙ ap line_of same) player counted empty (subst (λ z. Appends a b (said_text z)) told written)
 
 pub bad_told : (s t : Session) (r : Result Turn WriteFailed) (l : Line) (text : List ℕ) (a b : Option (List ℕ)) → l ≡ line.Bad → l ≡ line_of text
     → text ≡ s.line.items → IfOk r (λ n. n ≡ turn.Bad) → OnOk r (Appends a b (bad_line_text (s.lines + 1))) → IfOk r (λ n. EndsLine s n t (Appends a b))

@@ -13,7 +13,7 @@ use Rattle.mx_types.specs.declared.code.Code.{Code}
 use Rattle.mx_types.specs.declared.code.Code.TheVariants as code
 use Rattle.mx_run_play.specs.declared.script.Name.{Name}
 use Rattle.mx_run_play.specs.declared.script.Name.TheVariants as name
-use Rattle.mx_run_play.specs.Script.{pieces, onto_first, IsNameOf, IsCodeOf, named, coded, name_text, names, all_codes, number_of, is_numeral, value_of, is_silent, line_of, call_or_bad, call_of, call_with, words_of}
+use Rattle.mx_run_play.specs.Script.{pieces, onto_first, IsNameOf, IsCodeOf, named, coded, name_text, names, all_codes, number_of, is_numeral, value_of, is_silent, line_of, retire_or_bad, call_or, call_of, call_with, words_of}
 use Rattle.mx_types.specs.declared.call.Call.{Call}
 use Rattle.mx_run_play.specs.declared.script.Line.TheVariants as line
 
@@ -200,22 +200,22 @@ pub line_silent : (text : List ℕ) → length text ≤ 64 → is_silent text �
 unfolding line_of
 line_silent text few does =
     sym
-    (ap (λ b. cond b line.Bad (cond (is_silent text) line.Silent (call_or_bad (call_of (words_of text))))) (short _ few)
-    ∙ ap (λ b. cond b line.Silent (call_or_bad (call_of (words_of text)))) does)
+    (ap (λ b. cond b line.Bad (cond (is_silent text) line.Silent (call_or (retire_or_bad text) (call_of (words_of text))))) (short _ few)
+    ∙ ap (λ b. cond b line.Silent (call_or (retire_or_bad text) (call_of (words_of text)))) does)
 
-pub line_other : (text : List ℕ) (o : Option Call) → length text ≤ 64 → is_silent text ≡ false → o ≡ call_of (words_of text) → call_or_bad o ≡ line_of text
+pub line_other : (text : List ℕ) (o : Option Call) → length text ≤ 64 → is_silent text ≡ false → o ≡ call_of (words_of text) → call_or (retire_or_bad text) o ≡ line_of text
 unfolding line_of
 line_other text o few nots is =
-    ap call_or_bad is
+    ap (call_or (retire_or_bad text)) is
     ∙ sym
-    (ap (λ b. cond b line.Bad (cond (is_silent text) line.Silent (call_or_bad (call_of (words_of text))))) (short _ few)
-    ∙ ap (λ b. cond b line.Silent (call_or_bad (call_of (words_of text)))) nots)
+    (ap (λ b. cond b line.Bad (cond (is_silent text) line.Silent (call_or (retire_or_bad text) (call_of (words_of text))))) (short _ few)
+    ∙ ap (λ b. cond b line.Silent (call_or (retire_or_bad text) (call_of (words_of text)))) nots)
 
 pub line_long : (text : List ℕ) → 64 < length text → line.Bad ≡ line_of text
 unfolding line_of
 line_long text long =
     let e : nat_lt 64 (length text) ≡ true = grind (arith, nat_tests) in
-    sym (ap (λ b. cond b line.Bad (cond (is_silent text) line.Silent (call_or_bad (call_of (words_of text))))) e)
+    sym (ap (λ b. cond b line.Bad (cond (is_silent text) line.Silent (call_or (retire_or_bad text) (call_of (words_of text))))) e)
 
 -- the number of some digits is at most that of all
 grows : (n : ℕ) (ds : List ℕ) → n ≤ fold (λ n digit. 10 * n + (digit - 48)) n ds

@@ -1,4 +1,4 @@
--- How a player keeps its claims, each at the place of its ticket, and what its functions promise one another.
+-- How a player keeps its claims, each at a place by its ticket, and what its functions promise one another.
 use Rattle.std.specs.Prelude.{◌≡◌, ℕ, ◌+◌, false, List, [], ◌∷◌, map, Option, Some, None, Result, Ok, Err}
 use Rattle.mx_types.specs.declared.memory.OutOfMemory.{OutOfMemory}
 use Rattle.mx_types.specs.declared.names.Ticket.{Ticket}
@@ -13,11 +13,13 @@ use Rattle.mx_run_play.specs.declared.reply.ShortReply.{ShortReply}
 use Rattle.mx_run_play.specs.declared.reply.ShortReply.TheVariants as short
 use Rattle.mx_run_play.specs.declared.player.LineReply.{LineReply}
 use Rattle.mx_run_play.specs.declared.player.LineReply.TheVariants as told
-use Rattle.mx_run_play.specs.Texts.{Said, replied, unclaimed, waits}
+use Rattle.mx_run_play.specs.Texts.{Said, replied, unclaimed, waits, retired, claim_out}
 use Rattle.mx_run_play.specs.Turns.{PlayerView, says, player_past, MakesEvent}
 
--- how many additions were made, the tickets whose claim is kept, and how many additions there is space for
+-- the ticket of the first place, how many additions were made from there on, the tickets whose claim is kept, and how many places there is
+-- space for
 pub record Kept : Type 0 where
+  pub first : ℕ
   pub made : ℕ
   pub tickets : List Ticket
   pub space : ℕ
@@ -39,6 +41,7 @@ abbrev pub reply_of : ShortReply → Reply
 reply_of (short.Added t) = reply.Added t
 reply_of short.AddedAlready = reply.AddedAlready
 reply_of short.TableFull = reply.TableFull
+reply_of short.TicketsSpent = reply.TicketsSpent
 reply_of short.HistoryFull = reply.HistoryFull
 reply_of short.Removed = reply.Removed
 reply_of short.RemoveNotAdded = reply.RemoveNotAdded
@@ -63,6 +66,8 @@ said_of p (told.Core s) = replied (reply_of s)
 said_of p told.Handles = replied (reply.Handles (map (λ a. a.handle) (added p.journal)))
 said_of p told.NoClaim = unclaimed
 said_of p told.WouldWait = waits
+said_of p (told.Retired kept) = retired kept
+said_of p told.ClaimOut = claim_out
 
 -- the short reply is this one of the core, or its want of memory is passed on
 abbrev pub Passes : Reply → Result ShortReply OutOfMemory → Type 0

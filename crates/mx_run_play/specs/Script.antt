@@ -1,4 +1,4 @@
--- The lines of a script for `mxfetch play`, and the calls that they are.
+-- The lines of a script for `mxfetch play`, and what they are.
 use Rattle.std.specs.Prelude.{◌≡◌, ◌≢◌, ℕ, ◌+◌, ◌*◌, ◌-◌, ◌==◌, ◌&&◌, nat_eq, nat_lt, nat_le, Bool, true, if◌then◌else◌, List, [], ◌∷◌, length, fold, codes, Option, Some, None, option_and_then}
 use Rattle.std.specs.List.{find, list_all}
 use Rattle.std.specs.Char.{is_ascii_digit}
@@ -118,10 +118,13 @@ abbrev pub call_of : List (List ℕ) → Option Call
 call_of [] = None
 call_of (word ∷ more) = option_and_then (call_with more) (named word)
 
--- what a line is: nothing or a comment, a call, or a bad line
-abbrev pub call_or_bad : Option Call → Line
-call_or_bad (Some c) = line.Call c
-call_or_bad None = line.Bad
+-- what a line is: nothing or a comment, a call, `retire`, or a bad line
+abbrev pub retire_or_bad : List ℕ → Line
+retire_or_bad text = (if pointwise nat_eq text (codes "retire") then line.Retire else line.Bad)
+
+abbrev pub call_or : Line → Option Call → Line
+call_or other (Some c) = line.Call c
+call_or other None = other
 
 abbrev pub is_silent : List ℕ → Bool
 is_silent [] = true
@@ -129,4 +132,4 @@ is_silent (b ∷ bs) = b == 35
 
 unfoldable pub line_of : List ℕ → Line
 line_of text =
-    (if nat_lt 64 (length text) then line.Bad else (if is_silent text then line.Silent else call_or_bad (call_of (words_of text))))
+    (if nat_lt 64 (length text) then line.Bad else (if is_silent text then line.Silent else call_or (retire_or_bad text) (call_of (words_of text))))

@@ -10,11 +10,14 @@ use Rattle.mx_types.specs.declared.names.HandleId.{HandleId}
 use Rattle.mx_types.specs.declared.reply.Look.{Look}
 use Rattle.mx_types.specs.declared.reply.Look.TheVariants as look
 
--- what is said to a line: a reply of the core, that no claim is kept on its ticket, or that its poll would have to wait
+-- what is said to a line: a reply of the core; that no claim is kept on its ticket; that its poll would have to wait; that old
+-- history was retired, and so many events were kept; or that a claim is out
 pub data Said : Type 0 where
   replied : Reply → Said
   unclaimed : Said
   waits : Said
+  retired : ℕ → Said
+  claim_out : Said
 
 abbrev pub state_text : State → List ℕ
 state_text state.NotAdded = codes "not-added"
@@ -36,6 +39,7 @@ abbrev pub reply_text : Reply → List ℕ
 reply_text (reply.Added t) = codes "added " ++ decimal t.0
 reply_text reply.AddedAlready = codes "added-already"
 reply_text reply.TableFull = codes "table-full"
+reply_text reply.TicketsSpent = codes "tickets-spent"
 reply_text reply.HistoryFull = codes "history-full"
 reply_text reply.Removed = codes "removed"
 reply_text reply.RemoveNotAdded = codes "not-added"
@@ -61,3 +65,5 @@ abbrev pub said_text : Said → List ℕ
 said_text (replied r) = reply_text r ++ 10 ∷ []
 said_text unclaimed = codes "no-claim" ++ 10 ∷ []
 said_text waits = codes "would-wait" ++ 10 ∷ []
+said_text (retired kept) = codes "retired " ++ decimal kept ++ 10 ∷ []
+said_text claim_out = codes "claim-out" ++ 10 ∷ []

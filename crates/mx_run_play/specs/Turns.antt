@@ -1,6 +1,6 @@
--- What a player of `mxfetch play` says to a call, and what it then has. It calls as seat 0, claims each addition at
+-- What a player of `mxfetch play` says to a call and to a retiring, and what it then has. It calls as seat 0, claims each addition at
 -- once, and keeps the claim until its end is told.
-use Rattle.std.specs.Prelude.{ℕ, if◌then◌else◌, List, [], ◌∷◌, ◌++◌, length, map, IsSome}
+use Rattle.std.specs.Prelude.{ℕ, ◌==◌, if◌then◌else◌, List, [], ◌∷◌, ◌++◌, length, map, IsSome}
 use Rattle.std.specs.Option.{option_to_list}
 use Rattle.mx_types.specs.declared.names.Ticket.{Ticket}
 use Rattle.mx_types.specs.declared.event.Who.TheVariants as maker
@@ -9,9 +9,9 @@ use Rattle.mx_types.specs.declared.call.Call.{Call}
 use Rattle.mx_types.specs.declared.call.Call.TheVariants as call
 use Rattle.mx_types.specs.declared.reply.Reply.{Reply}
 use Rattle.mx_types.specs.declared.reply.Reply.TheVariants as reply
-use Rattle.mx_journal.specs.History.{Opening, same_ticket, has_ticket}
-use Rattle.mx_journal.specs.Answers.{answer, is_ready}
-use Rattle.mx_run_play.specs.Texts.{Said, replied, unclaimed, waits}
+use Rattle.mx_journal.specs.History.{Opening, same_ticket, has_ticket, retire}
+use Rattle.mx_journal.specs.Answers.{answer, is_ready, next_ticket}
+use Rattle.mx_run_play.specs.Texts.{Said, replied, unclaimed, waits, retired, claim_out}
 
 -- the core's opening and journal, the tickets of the claims that are kept, and the mark of the next poll
 pub record PlayerView : Type 0 where
@@ -51,6 +51,22 @@ player_past p (call.Finish t c n) =
     (if has_ticket t p.claims then record (past p (call.Finish t c n)) { claims = without_claim t p.claims } else p)
 player_past p (call.Add h) = record (past p (call.Add h)) { claims = with_claim (reply_to p (call.Add h)) p.claims }
 player_past p c = past p c
+
+-- the player with old history retired: what is kept counts as older history, the next ticket stays the one that it was, and the next poll
+-- looks at what comes behind
+abbrev pub player_retired : PlayerView → PlayerView
+player_retired p = record p {
+  opening = record { history = p.opening.history; first = (next_ticket p.opening p.journal).0; from = length (retire p.journal) };
+  journal = retire p.journal;
+  mark = length (retire p.journal);
+}
+
+-- old history is retired where no claim is kept
+abbrev pub says_retiring : PlayerView → Said
+says_retiring p = (if length p.claims == 0 then retired (length (retire p.journal)) else claim_out)
+
+abbrev pub past_retiring : PlayerView → PlayerView
+past_retiring p = (if length p.claims == 0 then player_retired p else p)
 
 -- the answer of the call has an event
 abbrev pub MakesEvent : PlayerView → Call → Type 0

@@ -3,14 +3,13 @@ ghost use Rattle.std.specs.Prelude.{◌≡◌, [], IfOk, map};
 ghost use Rattle.mx_types.specs.Limits.{IsHistory};
 ghost use Rattle.mx_types.specs.declared.call.Call.{Call};
 ghost use Rattle.mx_journal.specs.History.{added};
-ghost use Rattle.mx_run_play.specs.Turns.{says, player_past};
+ghost use Rattle.mx_run_play.specs.Turns.{says, player_past, says_retiring, past_retiring};
 ghost use Rattle.mx_run_play.specs.Players.{IsAnswered, said_of};
+ghost use Rattle.mx_run_play.specs.Run.{fresh};
 
 use crate::claims::Claims;
-use crate::reply::{
-    ShortReply, short_add, short_finish, short_info, short_pause, short_remove, short_wakeup,
-};
-use mx_journal::{AddReply, Control, VecLog};
+use crate::reply::{ShortReply, short_add, short_info, short_pause, short_remove, short_wakeup};
+use mx_journal::{AddReply, Control, FinishReply, RetireReply, VecLog};
 use mx_types::{AddedHandles, Call, Code, Ending, HandleId, OutOfMemory, Ticket, Who, Work};
 use std::alloc::Global;
 use std::marker::Model;
@@ -61,6 +60,10 @@ pub enum LineReply {
     NoClaim,
     /// A `poll` that would have to wait.
     WouldWait,
+    /// Old history was retired, and so many events were kept.
+    Retired(u32),
+    /// A claim is out, so that old history isn't retired.
+    ClaimOut,
 }
 
 const SEAT: Who = Who::Seat(0);
@@ -75,7 +78,7 @@ pub struct Player {
 }
 
 impl Model for Player {
-    ghost use Rattle.std.specs.Prelude.{◌≡◌, ◌≤◌, [], length};
+    ghost use Rattle.std.specs.Prelude.{◌≡◌, ◌+◌, ◌≤◌, [], length};
     ghost use Rattle.mx_run_play.specs.Turns.{PlayerView};
 
     ghost Value = { PlayerView };
@@ -84,20 +87,22 @@ impl Model for Player {
 
     ghost invariant = { λ p. record {
       queue : p.control.queue ≡ [];
-      made : p.claims.made ≡ length p.control.origins;
+      out : p.control.out ≡ length p.claims.tickets;
+      next : p.claims.first + p.claims.made ≡ length p.control.origins;
+      few : p.claims.made ≤ length p.control.journal;
       space : p.control.opening.history ≤ p.claims.space;
     } };
 }
 
 impl Player {
-    pub fn new(alloc: Global, history: u32) -> Result<Player, OutOfMemory>
+    pub fn new(alloc: Global, history: u32, first: u32) -> Result<Player, OutOfMemory>
         requires { IsHistory history }
-        ensures { IfOk result (λ p. p ≡ record { opening = record { history = history }; journal = []; claims = []; mark = 0 }) }
+        ensures { IfOk result (λ p. p ≡ fresh history first) }
     {
         Ok(Player {
-            control: Control::new(alloc, history)?,
+            control: Control::starting(alloc, history, first)?,
             log: VecLog::new(alloc),
-            claims: Claims::new(alloc, history)?,
+            claims: Claims::new(alloc, first, history)?,
             mark: 0,
         })
     }
@@ -121,6 +126,22 @@ impl Player {
             ))),
             Call::Finish(ticket, code, size) => self.finish(ticket, ToldEnd { code, size }),
             Call::Look(ticket) => Ok(LineReply::Core(ShortReply::Look(self.control.look(ticket)))),
+        }
+    }
+
+    /// Retires old history, unless a claim is out.
+    pub fn retire(&mut self) -> LineReply
+        ensures { (said_of self.new result ≡ says_retiring self.old) × (self.new ≡ past_retiring self.old) }
+    {
+        match self.control.retire() {
+            RetireReply::Retired(kept) => {
+                // Nothing reads the log, so that it needn't have what was retired.
+                self.log.clear();
+                self.claims.clear();
+                self.mark = kept;
+                LineReply::Retired(kept)
+            }
+            RetireReply::ClaimOut => LineReply::ClaimOut,
         }
     }
 
@@ -193,14 +214,20 @@ impl Player {
         LineReply::Core(ShortReply::Woken)
     }
 
-    /// Tells the core the end of a transfer whose claim is kept, which is spent.
+    /// Tells the core the end of a transfer whose claim is kept, which is spent, unless there is want of memory.
     fn finish(&mut self, ticket: Ticket, ending: ToldEnd) -> Result<LineReply, OutOfMemory>
         ensures { IsAnswered self.old (Call.Finish ticket ending.code ending.size) result self.new }
     {
         let Some(claim) = self.claims.take(ticket) else {
             return Ok(LineReply::NoClaim);
         };
-        let reply = self.control.finish(&mut self.log, SEAT, claim, ending);
-        Ok(LineReply::Core(short_finish(&reply)?))
+        match self.control.finish(&mut self.log, SEAT, claim, ending) {
+            FinishReply::Recorded => Ok(LineReply::Core(ShortReply::Recorded)),
+            FinishReply::Stale(_) => Ok(LineReply::Core(ShortReply::Stale)),
+            FinishReply::OutOfMemory(claim, _) => {
+                self.claims.keep_again(claim);
+                Err(OutOfMemory)
+            }
+        }
     }
 }

@@ -1,8 +1,8 @@
 //! The replies of the core, but for the list of handles: so none is longer than a message.
-ghost use Rattle.mx_journal.specs.Replies.{reply_of_add, reply_of_finish, reply_of_info, reply_of_pause, reply_of_remove, reply_of_wakeup};
+ghost use Rattle.mx_journal.specs.Replies.{reply_of_add, reply_of_info, reply_of_pause, reply_of_remove, reply_of_wakeup};
 ghost use Rattle.mx_run_play.specs.Players.{Passes};
 
-use mx_journal::{AddReply, FinishReply, InfoReply, PauseReply, RemoveReply, WakeupReply};
+use mx_journal::{AddReply, InfoReply, PauseReply, RemoveReply, WakeupReply};
 use mx_types::{Code, Ending, HandleId, Look, OutOfMemory, State, Ticket};
 
 /// A reply of the core that is neither the list of handles nor the want of memory.
@@ -11,6 +11,7 @@ pub enum ShortReply {
     Added(Ticket),
     AddedAlready,
     TableFull,
+    TicketsSpent,
     HistoryFull,
     Removed,
     RemoveNotAdded,
@@ -44,6 +45,7 @@ pub fn short_add<Q>(reply: &AddReply<Q>) -> Result<ShortReply, OutOfMemory>
         AddReply::Added(ticket) => Ok(ShortReply::Added(*ticket)),
         AddReply::AddedAlready(_) => Ok(ShortReply::AddedAlready),
         AddReply::TableFull(_) => Ok(ShortReply::TableFull),
+        AddReply::TicketsSpent(_) => Ok(ShortReply::TicketsSpent),
         AddReply::HistoryFull(_) => Ok(ShortReply::HistoryFull),
         AddReply::OutOfMemory(_) => Err(OutOfMemory),
     }
@@ -104,16 +106,5 @@ pub fn short_wakeup(reply: WakeupReply) -> Result<ShortReply, OutOfMemory>
         WakeupReply::Ok => Ok(ShortReply::Ok),
         WakeupReply::Failure => Ok(ShortReply::Failure),
         WakeupReply::OutOfMemory => Err(OutOfMemory),
-    }
-}
-
-/// The reply to an end, but for want of memory.
-pub fn short_finish<C, O>(reply: &FinishReply<C, O>) -> Result<ShortReply, OutOfMemory>
-    ensures { Passes (reply_of_finish reply.now) result }
-{
-    match reply {
-        FinishReply::Recorded => Ok(ShortReply::Recorded),
-        FinishReply::Stale(_) => Ok(ShortReply::Stale),
-        FinishReply::OutOfMemory(_, _) => Err(OutOfMemory),
     }
 }

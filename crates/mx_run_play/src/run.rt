@@ -2,7 +2,7 @@
 ghost use Rattle.std.specs.Prelude.{◌≡◌, ◌≢◌, ◌+◌, ◌≤◌, true, IsErr, IfOk};
 ghost use Rattle.mx_types.specs.Limits.{IsHistory};
 ghost use Rattle.mx_run_io.specs.Ends.{reader_of, reads_of, most_reads_of, has_failed_read, has_failed_write, Wrote, EndsRun};
-ghost use Rattle.mx_run_play.specs.Run.{PrintsUnread, AnswersScript, WasAsked};
+ghost use Rattle.mx_run_play.specs.Run.{PrintsUnread, AnswersScript, WasAsked, fresh};
 
 use crate::player::Player;
 use crate::session::{Session, Turn};
@@ -18,6 +18,7 @@ const BAD_LINE: u8 = 122;
 fn play_script<R: Read, W: Write>(
     alloc: Global,
     history: u32,
+    first: u32,
     input: &mut Input<R>,
     output: &mut Output<W>,
 ) -> Result<u8, WriteFailed>
@@ -27,15 +28,15 @@ fn play_script<R: Read, W: Write>(
     ensures asked { has_failed_read input.new ≡ true → WasAsked (has_failed_read input.old)
         (most_reads_of input.old) (reads_of input.old) (reads_of input.new) }
     ensures unread { has_failed_read input.old ≢ true → has_failed_read input.new ≡ true
-        → IfOk result (PrintsUnread history
+        → IfOk result (PrintsUnread (fresh history first)
         (R.remaining (reader_of input.old)) (R.remaining (reader_of input.new))
         (Wrote W.contents output.old output.new)) }
-    ensures answered { has_failed_read input.new ≢ true → IfOk result (AnswersScript history
+    ensures answered { has_failed_read input.new ≢ true → IfOk result (AnswersScript (fresh history first)
         (reads_of input.old) (reads_of input.new) (R.remaining (reader_of input.old)) (Wrote W.contents output.old output.new)) }
     ensures written { IfOk result (λ status. status ≢ 121) }
     ensures failed { IsErr result → has_failed_write output.new ≡ true }
 {
-    let Ok(player) = Player::new(alloc, history) else {
+    let Ok(player) = Player::new(alloc, history, first) else {
         return end_with(output, Code::OutOfMemory);
     };
     let mut session = Session::new(player);
@@ -47,9 +48,10 @@ fn play_script<R: Read, W: Write>(
     }
 }
 
-/// Plays a script of calls, as seat 0, on a control core with a history of so many events, and prints what each
-/// line is answered. The answer is the exit status: 0; 122 after a bad line, whose number is printed; 56 where a
-/// read failed, and 27 where there was no memory; 121 where the output couldn't be written.
+/// Plays a script of calls, as seat 0, on a control core with a history of so many events and `first` as its first ticket,
+/// and prints what each line is answered. At a `first` of 4294967295 no ticket is left. The answer is the exit status: 0; 122
+/// after a bad line, whose number is printed; 56 where a read failed, and 27 where there was no memory; 121 where the output
+/// couldn't be written.
 ///
 /// The script is read to its end or to a bad line, by at most 4,294,967,295 reads, and no more may be allowed to the
 /// input: one more counts as failed. A read that fails prints `FAULT 56` after the replies to the lines that ended
@@ -60,6 +62,7 @@ fn play_script<R: Read, W: Write>(
 pub fn run_play<R: Read, W: Write>(
     alloc: Global,
     history: u32,
+    first: u32,
     input: &mut Input<R>,
     output: &mut Output<W>,
 ) -> u8
@@ -71,12 +74,12 @@ pub fn run_play<R: Read, W: Write>(
     ensures ends { EndsRun output.new result }
     ensures unread { has_failed_write output.new ≢ true
         → has_failed_read input.old ≢ true → has_failed_read input.new ≡ true
-        → PrintsUnread history (R.remaining (reader_of input.old)) (R.remaining (reader_of input.new))
+        → PrintsUnread (fresh history first) (R.remaining (reader_of input.old)) (R.remaining (reader_of input.new))
         (Wrote W.contents output.old output.new) result }
     ensures answered { has_failed_write output.new ≢ true → has_failed_read input.new ≢ true
-        → AnswersScript history (reads_of input.old) (reads_of input.new) (R.remaining (reader_of input.old))
+        → AnswersScript (fresh history first) (reads_of input.old) (reads_of input.new) (R.remaining (reader_of input.old))
         (Wrote W.contents output.old output.new) result }
 {
-    let status = play_script(alloc, history, input, output);
+    let status = play_script(alloc, history, first, input, output);
     output.end(status)
 }

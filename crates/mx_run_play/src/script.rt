@@ -1,9 +1,9 @@
-//! The lines of a script: which call a line is.
+//! The lines of a script: what each is.
 ghost use Rattle.std.specs.Prelude.{◌≡◌, ◌==◌, ◌≤◌, nat_le, if◌then◌else◌, Some, None, length, ◌∷◌, []};
 ghost use Rattle.std.specs.List.{position, list_all};
 ghost use Rattle.std.specs.Char.{is_ascii_digit};
 ghost use Rattle.std.specs.Option.{option_copied};
-ghost use Rattle.mx_run_play.specs.Script.{IsNameOf, IsCodeOf, named, coded, value_of, is_numeral, is_silent, number_of, plain_call, handle_call, end_call, call_with, call_of, words_of, words_behind, line_of};
+ghost use Rattle.mx_run_play.specs.Script.{IsNameOf, IsCodeOf, named, coded, value_of, is_numeral, is_silent, number_of, plain_call, handle_call, end_call, call_with, call_of, words_of, words_behind, retire_or_bad, line_of};
 
 use mx_types::{Call, Code, HandleId, Ticket};
 use std::str;
@@ -13,6 +13,8 @@ pub enum Line {
     /// An empty line or a comment.
     Silent,
     Call(Call),
+    /// Old history is to be retired.
+    Retire,
     Bad,
 }
 
@@ -233,6 +235,16 @@ fn is_silent(line: &[u8]) -> bool
     line.is_empty() || line[0] == b'#'
 }
 
+/// What a line is that is no call.
+fn retire_or_bad(line: &[u8]) -> Line
+    ensures { result ≡ retire_or_bad line.now }
+{
+    if line == b"retire".as_slice() {
+        return Line::Retire;
+    }
+    Line::Bad
+}
+
 /// What a line of at most 64 bytes is.
 pub fn read_line(line: &[u8]) -> Line
     requires { length line.now ≤ 64 }
@@ -243,6 +255,6 @@ pub fn read_line(line: &[u8]) -> Line
     }
     match call_of(line) {
         Some(call) => Line::Call(call),
-        None => Line::Bad,
+        None => retire_or_bad(line),
     }
 }

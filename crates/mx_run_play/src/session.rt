@@ -64,6 +64,10 @@ impl Session {
                 Ok(said) => write_said(output, &self.player, said)?,
                 Err(_) => return Ok(Turn::NoMemory),
             },
+            Line::Retire => {
+                let said = self.player.retire();
+                write_said(output, &self.player, said)?
+            }
         }
         self.line.clear();
         self.lines += 1;

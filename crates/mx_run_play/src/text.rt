@@ -74,6 +74,7 @@ fn write_reply<W: Write>(output: &mut Output<W>, reply: &ShortReply) -> Result<(
         ShortReply::Added(ticket) => output.print(format_args!("added {}\n", ticket.0)),
         ShortReply::AddedAlready => output.print(format_args!("added-already\n")),
         ShortReply::TableFull => output.print(format_args!("table-full\n")),
+        ShortReply::TicketsSpent => output.print(format_args!("tickets-spent\n")),
         ShortReply::HistoryFull => output.print(format_args!("history-full\n")),
         ShortReply::Removed => output.print(format_args!("removed\n")),
         ShortReply::RemoveNotAdded => output.print(format_args!("not-added\n")),
@@ -121,5 +122,7 @@ pub fn write_said<W: Write>(
         LineReply::Handles => write_handles_of(output, player),
         LineReply::NoClaim => output.print(format_args!("no-claim\n")),
         LineReply::WouldWait => output.print(format_args!("would-wait\n")),
+        LineReply::Retired(kept) => output.print(format_args!("retired {}\n", kept)),
+        LineReply::ClaimOut => output.print(format_args!("claim-out\n")),
     }
 }

@@ -6,27 +6,27 @@ use Rattle.mx_head.specs.Limits.{most_bytes}
 use Rattle.mx_run_io.specs.Faults.{PrintsFault}
 use Rattle.mx_run_body.specs.Reading.{ReadsUpTo}
 use Rattle.mx_run_body.specs.Run.{AnswersRead}
-use Rattle.mx_run_play.specs.Run.{AnswersScript, PrintsUnread}
+use Rattle.mx_run_play.specs.Run.{AnswersScript, PrintsUnread, fresh}
 use Rattle.mx_command.specs.declared.task.Task.{Task as Tasks}
 use Rattle.mx_command.specs.declared.task.Task.TheVariants.{Body, Play}
 
 -- how often a task reads at most
 abbrev pub most_reads : Tasks → ℕ
 most_reads (Body method) = most_bytes + 2
-most_reads (Play history) = 4294967295
+most_reads (Play history first) = 4294967295
 
 -- what a run prints and ends with where no read and no write failed
 abbrev pub AnswersTask : Tasks → ℕ → ℕ → Option (List ℕ) → Option (List ℕ) → (List ℕ → Type 0) → ℕ → Type 0
 AnswersTask (Body method) reads_before reads_after known left Written ends_with = AnswersRead method known left Written ends_with
-AnswersTask (Play history) reads_before reads_after known left Written ends_with =
-    AnswersScript history reads_before reads_after known Written ends_with
+AnswersTask (Play history first) reads_before reads_after known left Written ends_with =
+    AnswersScript (fresh history first) reads_before reads_after known Written ends_with
 
 -- what it prints and ends with where a read failed
 abbrev pub PrintsFailedRead : Tasks → Option (List ℕ) → Option (List ℕ) → (List ℕ → Type 0) → ℕ → Type 0
 PrintsFailedRead (Body method) known left Written ends_with = PrintsFault (code_number codes.RecvError) Written ends_with
-PrintsFailedRead (Play history) known left Written ends_with = PrintsUnread history known left Written ends_with
+PrintsFailedRead (Play history first) known left Written ends_with = PrintsUnread (fresh history first) known left Written ends_with
 
 -- how far it reads
 abbrev pub StopsReading : Tasks → Bool → Option (List ℕ) → Option (List ℕ) → Type 0
 StopsReading (Body method) failed known left = ReadsUpTo most_bytes failed known left
-StopsReading (Play history) failed known left = Unit {0}
+StopsReading (Play history first) failed known left = Unit {0}

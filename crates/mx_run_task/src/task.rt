@@ -18,13 +18,13 @@ pub fn most_reads(task: Task) -> u64
 {
     match task {
         Task::Body(_) => mx_run_body::MOST_READS,
-        Task::Play(_) => mx_run_play::MOST_READS,
+        Task::Play { .. } => mx_run_play::MOST_READS,
     }
 }
 
 /// Runs a task over an input that wasn't read yet, and that may be read as often as the task may need. The answer is
 /// the exit status, and what is printed goes with it: that of `run_body` for the task's method, or that of `run_play`
-/// for its history; 121 exactly where the output couldn't be written, and else nothing is left pending in it.
+/// for its history and first ticket; 121 exactly where the output couldn't be written, and else nothing is left pending in it.
 pub fn run_task<R: Read, W: Write>(
     alloc: Global,
     task: Task,
@@ -51,6 +51,6 @@ pub fn run_task<R: Read, W: Write>(
 {
     match task {
         Task::Body(method) => run_body(alloc, method, input, output),
-        Task::Play(history) => run_play(alloc, history, input, output),
+        Task::Play { history, first } => run_play(alloc, history, first, input, output),
     }
 }

@@ -14,6 +14,7 @@ use std::io::{BufWriter, Read, Write};
 fn run<R: Read + Drop, W: Write + Drop>(
     alloc: Global,
     history: u32,
+    first: u32,
     reader: R,
     most: u64,
     writer: W,
@@ -24,12 +25,13 @@ fn run<R: Read + Drop, W: Write + Drop>(
     Some(run_play(
         alloc,
         history,
+        first,
         &mut Input::new(reader, most),
         &mut Output::new(writer),
     ))
 }
 
-/// Whether `play` ends with that status, and prints that.
+/// Whether `play` ends with that status, and prints that, where its first ticket is 0.
 fn plays<R: Read + Drop>(
     alloc: Global,
     history: u32,
@@ -38,8 +40,21 @@ fn plays<R: Read + Drop>(
     printed: &str,
     status: u8,
 ) -> bool {
+    plays_from(alloc, history, 0, reader, most, printed, status)
+}
+
+/// The same, with that first ticket.
+fn plays_from<R: Read + Drop>(
+    alloc: Global,
+    history: u32,
+    first: u32,
+    reader: R,
+    most: u64,
+    printed: &str,
+    status: u8,
+) -> bool {
     let mut written = Vec::new(alloc);
-    let ended = run(alloc, history, reader, most, &mut written);
+    let ended = run(alloc, history, first, reader, most, &mut written);
     ended == Some(status) && written.as_slice() == printed.as_bytes()
 }
 
@@ -126,6 +141,71 @@ static SCRIPTS: [Row<'static>; 8] = [
 #[test]
 fn scripts(rt: HostRuntime) {
     none_is_wrong(&rt, first_wrong(rt.alloc(), &SCRIPTS));
+}
+
+static RETIRINGS: [Row<'static>; 4] = [
+    // what is kept makes room; a claim that is out blocks it; the next poll looks at what comes behind
+    (
+        8,
+        "add 1\ndone 0 0 5\nread\nremove 1\nwakeup\nadd 2\nretire\nadd 2\nretire\ndone 1 0 3\nretire\npoll\nhandles\nread\n",
+        "added 0\nrecorded\nmessage 1 0 0 5 left 0\nremoved\nok\nhistory-full\nretired 0\nadded 1\nclaim-out\nrecorded\nretired 2\nwould-wait\nhandles 2\nmessage 2 1 0 3 left 0\n",
+        0,
+    ),
+    // a claim of a removed addition is out until its end is told; later claims are found by their tickets
+    (
+        1024,
+        "add 1\nadd 2\ndone 1 0 1\nremove 1\nretire\ndone 0 0 0\nretire\nadd 3\ndone 0 0 1\ndone 1 0 1\ndone 2 0 7\nread\nread\nstate 2\nhandles\n",
+        "added 0\nadded 1\nrecorded\nremoved\nclaim-out\nstale\nretired 2\nadded 2\nno-claim\nno-claim\nrecorded\nmessage 2 1 0 1 left 1\nmessage 3 2 0 7 left 0\nread 1 0\nhandles 2 3\n",
+        0,
+    ),
+    // what was paused, resumed, ended and read stays so, and a retiring right after it keeps all
+    (
+        1024,
+        "add 1\nadd 2\npause 1\nunpause 1\npause 2\ndone 1 0 4\ndone 0 28 0\nread\nretire\nretire\nstate 1\nstate 2\nread\nwakeup\npoll\nremove 1\nremove 2\nretire\nadd 2\n",
+        "added 0\nadded 1\nchanged\nchanged\nchanged\nrecorded\nrecorded\nmessage 2 1 0 4 left 1\nretired 8\nretired 8\ndone 0 28\nread 1 0\nmessage 1 0 28 0 left 0\nok\nwoken\nremoved\nremoved\nretired 0\nadded 2\n",
+        0,
+    ),
+    // a retiring is one word
+    (4, "retire\nretire 1\n", "retired 0\nbad-line 2\n", 122),
+];
+
+#[test]
+fn retirings(rt: HostRuntime) {
+    none_is_wrong(&rt, first_wrong(rt.alloc(), &RETIRINGS));
+}
+
+/// A first ticket, a script over a history of 4, and what it prints.
+static LAST_TICKETS: [(u32, &str, &str); 4] = [
+    (
+        4294967294,
+        "add 1\nadd 1\nremove 1\nadd 2\n",
+        "added 4294967294\nadded-already\nremoved\ntickets-spent\n",
+    ),
+    // the refusal comes before that for want of room
+    (
+        4294967295,
+        "wakeup\nadd 1\nhandles\n",
+        "ok\ntickets-spent\nhandles\n",
+    ),
+    // retiring gives no ticket anew
+    (
+        4294967294,
+        "add 1\ndone 4294967294 0 0\nremove 1\nretire\nadd 1\n",
+        "added 4294967294\nrecorded\nremoved\nretired 0\ntickets-spent\n",
+    ),
+    (
+        7,
+        "add 1\ndone 6 0 0\ndone 8 0 0\ndone 7 0 0\n",
+        "added 7\nno-claim\nno-claim\nrecorded\n",
+    ),
+];
+
+#[test]
+fn last_tickets(rt: HostRuntime) {
+    for (first, script, printed) in LAST_TICKETS {
+        let reader = script.as_bytes();
+        assert!(&rt; plays_from(rt.alloc(), 4, first, reader, MOST_READS, printed, 0));
+    }
 }
 
 /// Lines of 64 bytes, and of 65, with and without their LF.
@@ -287,7 +367,7 @@ fn a_read_past_the_most(rt: HostRuntime) {
 
 /// What a writer answers to a short script.
 fn answers<W: Write + Drop>(alloc: Global, writer: W) -> Option<u8> {
-    run(alloc, 1024, SCRIPT.as_bytes(), MOST_READS, writer)
+    run(alloc, 1024, 0, SCRIPT.as_bytes(), MOST_READS, writer)
 }
 
 /// What it answers with a buffer before it; `None` for want of memory, too.
@@ -320,7 +400,7 @@ fn answers_full(alloc: Global, row: Written<'_>, writes: u8) -> Option<u8> {
         taken: &mut taken,
         writes,
     };
-    let answer = run(alloc, 1024, reader, MOST_READS, writer);
+    let answer = run(alloc, 1024, 0, reader, MOST_READS, writer);
     let is_whole = answer == Some(status) && taken.as_slice() == printed.as_bytes();
     if is_whole || answer == Some(121) && printed.as_bytes().starts_with(&taken) {
         answer

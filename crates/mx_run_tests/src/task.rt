@@ -116,28 +116,60 @@ fn each_method(rt: HostRuntime) {
     none_is_wrong(&rt, first_wrong(rt.alloc(), &METHODS));
 }
 
-static HISTORIES: [Row<'static>; 4] = [
+static PLAYS: [Row<'static>; 6] = [
     (
         &["play", "--history", "4"],
         &[],
-        Answer::Task(Task::Play(4)),
+        Answer::Task(Task::Play {
+            history: 4,
+            first: 0,
+        }),
     ),
     (
         &["play", "--history", "1024"],
         &[],
-        Answer::Task(Task::Play(1024)),
+        Answer::Task(Task::Play {
+            history: 1024,
+            first: 0,
+        }),
     ),
     (
         &["play", "--history", "1048576"],
         &[],
-        Answer::Task(Task::Play(1_048_576)),
+        Answer::Task(Task::Play {
+            history: 1_048_576,
+            first: 0,
+        }),
     ),
-    (&["play"], &[], Answer::Task(Task::Play(1024))),
+    (
+        &["play", "--first-ticket", "4294967295"],
+        &[],
+        Answer::Task(Task::Play {
+            history: 1024,
+            first: 4_294_967_295,
+        }),
+    ),
+    (
+        &["play", "--first-ticket=0", "--history=8"],
+        &[],
+        Answer::Task(Task::Play {
+            history: 8,
+            first: 0,
+        }),
+    ),
+    (
+        &["play"],
+        &[],
+        Answer::Task(Task::Play {
+            history: 1024,
+            first: 0,
+        }),
+    ),
 ];
 
 #[test]
-fn histories(rt: HostRuntime) {
-    none_is_wrong(&rt, first_wrong(rt.alloc(), &HISTORIES));
+fn histories_and_first_tickets(rt: HostRuntime) {
+    none_is_wrong(&rt, first_wrong(rt.alloc(), &PLAYS));
 }
 
 /// With the options that are usual, the greatest, and the least.
@@ -227,7 +259,7 @@ fn options_of_get(rt: HostRuntime) {
     none_is_wrong(&rt, first_wrong(rt.alloc(), &GETS));
 }
 
-static REFUSED: [Row<'static>; 25] = [
+static REFUSED: [Row<'static>; 27] = [
     (&[], &[], Answer::Refused),
     (&["body"], &[], Answer::Refused),
     (&["body", "get"], &[], Answer::Refused),
@@ -235,6 +267,12 @@ static REFUSED: [Row<'static>; 25] = [
     (&["body", "GET", "HEAD"], &[], Answer::Refused),
     (&["play", "--history", "3"], &[], Answer::Refused),
     (&["play", "--history", "1048577"], &[], Answer::Refused),
+    (
+        &["play", "--first-ticket", "4294967296"],
+        &[],
+        Answer::Refused,
+    ),
+    (&["play", "--first-ticket"], &[], Answer::Refused),
     (&["play", "GET"], &[], Answer::Refused),
     (&["get"], &[], Answer::Refused),
     (
@@ -361,10 +399,18 @@ fn runs_of_play(rt: HostRuntime) {
     let alloc = rt.alloc();
     let script = b"add 1\nwakeup\n";
     let without_room = b"added 0\nfailure\n";
+    let short = Task::Play {
+        history: 4,
+        first: 0,
+    };
+    let later = Task::Play {
+        history: 5,
+        first: 7,
+    };
     let right = [
-        runs(alloc, Task::Play(4), script, 0, without_room),
-        runs(alloc, Task::Play(5), script, 0, b"added 0\nok\n"),
-        runs(alloc, Task::Play(4), b"add\n", 122, b"bad-line 1\n"),
+        runs(alloc, short, script, 0, without_room),
+        runs(alloc, later, script, 0, b"added 7\nok\n"),
+        runs(alloc, short, b"add\n", 122, b"bad-line 1\n"),
     ];
     none_is_wrong(&rt, first_false(&right));
 }

@@ -4,9 +4,9 @@ use Rattle.mx_run_io.specs.Ends.{writer_of}
 use Rattle.mx_run_play.specs.Texts.{said_text}
 use Rattle.mx_run_play.specs.Players.{said_of}
 use Rattle.mx_run_play.specs.declared.session.Session.{Session}
-use Rattle.mx_run_play.proofs.Sessions.{silent_told, call_told, bad_told}
+use Rattle.mx_run_play.proofs.Sessions.{silent_told, call_told, retire_told, bad_told}
 use Rattle.mx_run_play.proofs.session.Session.end_line.Goals as goal
-use Rattle.mx_run_play.proofs.session.Session.end_line.Goals.{in-Silent, in-Call+in-Ok+in_ok-write_said-in-Ok}
+use Rattle.mx_run_play.proofs.session.Session.end_line.Goals.{in-Silent, in-Call+in-Ok+in_ok-write_said-in-Ok, in-Retire+in_ok-write_said-in-Retire}
 
 pub returns-in-Bad-clause-played : goal.returns-in-Bad-clause-played
 returns-in-Bad-clause-played g c =
@@ -23,4 +23,9 @@ returns-clause-played g c =
           (subst (λ o. Appends (g.W.Write.contents (writer_of c.args.output.now)) (g.W.Write.contents (writer_of o)) (said_text (said_of w.call.new.self w.in-Ok.said))) (sym w.output-is)
           w.in_ok-write_said-in-Ok.ensures.bytes)
           (ap (λ (z : Session). z.player) w.self-is ∙ w.in-Ok.ensures.1) (ap (λ (z : Session). z.lines + 1) w.self-is) c.clear.ensures
+      | in-Retire+in_ok-write_said-in-Retire w ↦
+          retire_told _ _ _ _ _ _ _ w.in-Retire.is c.read_line.ensures c.as_slice.ensures.value w.retire-said.ensures.0
+          (subst (λ o. Appends (g.W.Write.contents (writer_of c.args.output.now)) (g.W.Write.contents (writer_of o)) (said_text (said_of w.retire-said.new.self w.retire-said.result))) (sym w.output-is)
+          w.in_ok-write_said-in-Retire.ensures.bytes)
+          (ap (λ (z : Session). z.player) w.self-is ∙ w.retire-said.ensures.1) (ap (λ (z : Session). z.lines + 1) w.self-is) c.clear.ensures
     ]
