@@ -21,7 +21,7 @@ use Rattle.mx_journal.specs.declared.replies.GiveBackReply.TheVariants as giving
 use Rattle.mx_journal.specs.declared.replies.AddReply.{AddReply}
 use Rattle.mx_journal.specs.declared.replies.AddReply.TheVariants as add
 use Rattle.mx_journal.specs.History.{Addition, Message, Opening, same_ticket, has_ticket, occurs, ends, removes, addition_of, waiting, running, paused, has_room}
-use Rattle.mx_journal.specs.Answers.{Answer, only, answer, read_answer, ticket_of, next_ticket, pausing_answer, Answers}
+use Rattle.mx_journal.specs.Answers.{Answer, only, answer, are_spent, read_answer, ticket_of, next_ticket, pausing_answer, Answers}
 use Rattle.mx_journal.specs.Core.{queued, claimed, still_running}
 use Rattle.mx_journal.specs.Replies.{in_place, queue_given, queue_added, reply_of_add}
 use Rattle.mx_journal.specs.Laws.{then}
@@ -41,7 +41,7 @@ first_off false b h = refl
 
 -- 1. What runs after an event ran before it, or was added by it.
 
-abbrev pub MadeBy : Who → Option What → List Event
+abbrev MadeBy : Who → Option What → List Event
 MadeBy w o = map (λ e. record { who = w; what = e }) (option_to_list o)
 
 abbrev AddedBy : What → List Ticket
@@ -153,36 +153,38 @@ abbrev pub is_added : Reply → Bool
 is_added (reply.Added _) = true
 is_added _ = false
 
-abbrev pub adding : HandleId → Ticket → Option Ticket → Bool → Bool → Answer
-adding h n o full room =
+abbrev pub adding : HandleId → Ticket → Option Ticket → Bool → Bool → Bool → Answer
+adding h n o full spent room =
     elim o as (λ _. Answer) [
       | Some _ ↦ only reply.AddedAlready
-      | None ↦ cond full (only reply.TableFull) (cond room (reply.Added n, Some (what.Added h n)) (only reply.HistoryFull))
+      | None ↦ cond full (only reply.TableFull) (cond spent (only reply.TicketsSpent) (cond room (reply.Added n, Some (what.Added h n)) (only reply.HistoryFull)))
     ]
 
-no_event : (h : HandleId) (n : Ticket) (o : Option Ticket) (full room : Bool) → is_added (adding h n o full room).0 ≡ false → IsQuiet (adding h n o full room).1
-no_event h n (Some t) full room e = tt
-no_event h n None true room e = tt
-no_event h n None false true e = absurd (false≢true (sym e))
-no_event h n None false false e = tt
+no_event : (h : HandleId) (n : Ticket) (o : Option Ticket) (full spent room : Bool) → is_added (adding h n o full spent room).0 ≡ false → IsQuiet (adding h n o full spent room).1
+no_event h n (Some t) full spent room e = tt
+no_event h n None true spent room e = tt
+no_event h n None false true room e = tt
+no_event h n None false false true e = absurd (false≢true (sym e))
+no_event h n None false false false e = tt
 
-pub its_event : (h : HandleId) (n : Ticket) (o : Option Ticket) (full room : Bool) (t : Ticket) → reply.Added t ≡ (adding h n o full room).0 → (adding h n o full room).1 ≡ Some (what.Added h t)
-its_event h n (Some u) full room t e = absurd (false≢true (sym (ap is_added e)))
-its_event h n None true room t e = absurd (false≢true (sym (ap is_added e)))
-its_event h n None false true t e = let same : n ≡ t = cc in ap (λ x. Some (what.Added h x)) same
-its_event h n None false false t e = absurd (false≢true (sym (ap is_added e)))
+its_event : (h : HandleId) (n : Ticket) (o : Option Ticket) (full spent room : Bool) (t : Ticket) → reply.Added t ≡ (adding h n o full spent room).0 → (adding h n o full spent room).1 ≡ Some (what.Added h t)
+its_event h n (Some u) full spent room t e = absurd (false≢true (sym (ap is_added e)))
+its_event h n None true spent room t e = absurd (false≢true (sym (ap is_added e)))
+its_event h n None false true room t e = absurd (false≢true (sym (ap is_added e)))
+its_event h n None false false true t e = let same : n ≡ t = cc in ap (λ x. Some (what.Added h x)) same
+its_event h n None false false false t e = absurd (false≢true (sym (ap is_added e)))
 
 not_added : {Q : Type 0} (opening : Opening) (w : Who) (h : HandleId) (j : List Event) (r : Reply) (k : List Event) (before : List (Ticket × Q)) → is_added r ≡ false → Answers opening w (call.Add h) j r k → HasNoOther (claimed j before) (claimed k before)
 not_added {Q} opening w h j reply.OutOfMemory k before not_it a = subst (λ l. HasNoOther (claimed j before) (claimed l before)) (sym a.1) (λ t has. has)
 not_added {Q} opening w h j r k before not_it a =
     claimed_by j k before before
-    (λ t runs out. ran_quiet w (answer opening j (call.Add h)).1 j k t (no_event h (next_ticket j) (ticket_of h j) _ _ (ap is_added (sym a.0) ∙ not_it)) a.1 runs)
+    (λ t runs out. ran_quiet w (answer opening j (call.Add h)).1 j k t (no_event h (next_ticket opening j) (ticket_of h j) _ (are_spent opening j) _ (ap is_added (sym a.0) ∙ not_it)) a.1 runs)
     (λ t runs in_. in_)
 
 pub claims_added : {Q : Type 0} (opening : Opening) (w : Who) (h : HandleId) (j : List Event) (r : AddReply Q) (k : List Event) (before : List (Ticket × Q)) (work : Q) → Answers opening w (call.Add h) j (reply_of_add r) k
     → HasNoOther (claimed j before) (claimed k (queue_added r before work))
 claims_added {Q} opening w h j (add.Added t) k before work a =
-    let is : (answer opening j (call.Add h)).1 ≡ Some (what.Added h t) = its_event h (next_ticket j) (ticket_of h j) _ _ t a.0 in
+    let is : (answer opening j (call.Add h)).1 ≡ Some (what.Added h t) = its_event h (next_ticket opening j) (ticket_of h j) _ (are_spent opening j) _ t a.0 in
     let grown : k ≡ then j w (what.Added h t) = a.1 ∙ ap (λ o. j ++ MadeBy w o) is in
     let all : queued (before ++ (t, work) ∷ []) ≡ queued before ++ t ∷ [] = map-append (λ (x : Ticket × Q). x.0) before ((t, work) ∷ []) in
     let had : (u : Ticket) → has_ticket u (queued (before ++ (t, work) ∷ [])) ≡ (has_ticket u (queued before) || has_ticket u (t ∷ [])) = λ u. ap (has_ticket u) all ∙ list_any-append (same_ticket u) (queued before) (t ∷ []) in
@@ -193,6 +195,7 @@ claims_added {Q} opening w h j (add.Added t) k before work a =
     (λ u runs in_. had u ∙ or_left _ _ in_)
 claims_added opening w h j (add.AddedAlready x) k before work a = not_added opening w h j reply.AddedAlready k before refl a
 claims_added opening w h j (add.TableFull x) k before work a = not_added opening w h j reply.TableFull k before refl a
+claims_added opening w h j (add.TicketsSpent x) k before work a = not_added opening w h j reply.TicketsSpent k before refl a
 claims_added opening w h j (add.HistoryFull x) k before work a = not_added opening w h j reply.HistoryFull k before refl a
 claims_added opening w h j (add.OutOfMemory x) k before work a = not_added opening w h j reply.OutOfMemory k before refl a
 

@@ -20,7 +20,7 @@ use Rattle.mx_history.proofs.Lists.{has-stays, has-append_left}
 use Rattle.mx_append_log.proofs.Prefixes.{prefix_self, prefix_trans}
 use Rattle.mx_lock.specs.Engine.{Content}
 use Rattle.mx_lock.specs.declared.key_view.KeyView.{KeyView}
-use Rattle.mx_lock.specs.Lock.{maker, engine_of, first_key, newly, Agrees, IsOwned, Lies, Keeps, Took, given, released, founded, parent, child}
+use Rattle.mx_lock.specs.Lock.{maker, engine_of, first_key, newly, Agrees, HasSeenAll, IsOwned, Lies, Keeps, Took, given, released, founded, parent, child}
 
 abbrev Views : Type 0
 Views = List KeyView
@@ -145,9 +145,10 @@ module _ {X : Type 0} (content : X → Content) (s : ℕ) (v : KeyView) where
       → ((c : Content) (views : Views) → Agrees c (length views) s v → v.held ≡ c.journal → ((content x).engine ≡ c.engine) ⊎ (length views ≡ 1))
       → ((c : Content) → v.held ≡ c.journal → HasAtMostOneMore (maker s) c.journal (content x).journal)
       → ((c : Content) (m : ℕ) → v.held ≡ c.journal → Agrees c m s v → Agrees (content x) m s w)
+      → ((c : Content) (m : ℕ) → v.held ≡ c.journal → made_by (maker m) c.journal ≡ made_by (maker m) v.seen → made_by (maker m) (content x).journal ≡ made_by (maker m) w.seen)
       → Pushes (Keeps content) n s v x (λ u. u ≡ w)
-  puts n x w h free cover one grow self (y ∷ items) views few k at = absurd (cc (h, k.1.2 s v at))
-  puts n x w h free cover one grow self [] views few k at =
+  puts n x w h free cover one grow self shown (y ∷ items) views few k at = absurd (cc (h, k.1.2 s v at))
+  puts n x w h free cover one grow self shown [] views few k at =
       let c = k.0 in
       let d = content x in
       let mine = k.2 s v at in
@@ -164,8 +165,10 @@ module _ {X : Type 0} (content : X → Content) (s : ℕ) (v : KeyView) where
       λ j u e. subst (λ m. Agrees d m j u) (sym len)
       (⊎_elim (λ (t : (j ≡ s) × (w ≡ u)). subst (λ z. Agrees d (length views) j z) t.1 (subst (λ i. Agrees d (length views) i w) (sym t.0) new))
       (λ (t : (j ≢ s) × (get_elem? views j ≡ some u)). old j u t.0 t.1) (at_set views s j w u e)) in
-      let none : (m : ℕ) → length (slice_set views s w) ≤ m → made_by (maker m) d.journal ≡ 0 =
-      λ m le. others s m c.journal d.journal g (λ e. omega (arith, len, in_, le, e)) ∙ k.3 m (omega (arith, len, le)) in
+      let none : HasSeenAll (slice_set views s w) d =
+      λ m le j u e. let far : length views ≤ m = omega (arith, len, le) in
+      ⊎_elim (λ (t : (j ≡ s) × (w ≡ u)). shown c m only.0 (k.3 m far s v at) ∙ ap (λ (z : KeyView). made_by (maker m) z.seen) t.1)
+      (λ (t : (j ≢ s) × (get_elem? views j ≡ some u)). others s m c.journal d.journal g (λ same. omega (arith, far, in_, same)) ∙ k.3 m far j u t.1) (at_set views s j w u e) in
       let owned : IsOwned d.claimed (slice_set views s w) = owned_after views s v w c.claimed d.claimed at only.1 cover k.4 in
       (w, (d, (refl, refl, out), all, none, owned), refl)
 
@@ -178,6 +181,7 @@ module _ {X : Type 0} (content : X → Content) (s : ℕ) (v : KeyView) where
       (λ c vs a e. inl (sym same ∙ a.engine told))
       (λ c e. subst (λ j. HasAtMostOneMore (maker s) j (content x).journal) e (subst (λ (m : ℕ). HasAtMostOneMore (maker m) v.held (content x).journal) number g))
       (λ c m e a. record { number = a.number; later = prefix_self (content x).journal; own = refl; next = a.next; engine = λ _. same; alone = a.alone })
+      (λ c m e had. refl)
       items views few k at
 
   pub puts_back : (n : ℕ) (x : X) → v.holding ≡ true → v.told ≡ true → engine_of v ≡ (content x).engine → (content x).journal ≡ v.held → (content x).claimed ≡ v.found → Pushes (Keeps content) n s v x (λ w. w ≡ released v)
@@ -193,6 +197,7 @@ module _ {X : Type 0} (content : X → Content) (s : ℕ) (v : KeyView) where
         engine = λ _. same;
         alone = a.alone;
       })
+      (λ c m e had. ap (made_by (maker m)) (is ∙ e) ∙ had)
 
   pub pops : v.holding ≡ false → v.told ≡ true → Pops (Keeps content) s v (Took content v)
   pops h told x items views k at =
@@ -212,7 +217,9 @@ module _ {X : Type 0} (content : X → Content) (s : ℕ) (v : KeyView) where
       let here : get_elem? (slice_set views s w) s ≡ some w = set_here views s w (near views s v at) in
       let out : Lies content c [] (slice_set views s w) = (s, w, here, refl, ap (λ (d : Content). d.journal) is, ap (λ (d : Content). d.claimed) is, only) in
       let owned : IsOwned c.claimed (slice_set views s w) = λ t has. owner_stays views s v w t (at) (λ had. had) (k.4 t has) in
-      let none : (m : ℕ) → length (slice_set views s w) ≤ m → made_by (maker m) c.journal ≡ 0 = λ m le. k.3 m (omega (arith, len, le)) in
+      let none : HasSeenAll (slice_set views s w) c =
+      λ m le j u e. let far : length views ≤ m = omega (arith, len, le) in
+      ⊎_elim (λ (t : (j ≡ s) × (w ≡ u)). k.3 m far s v at ∙ ap (λ (z : KeyView). made_by (maker m) z.seen) t.1) (λ (t : (j ≢ s) × (get_elem? views j ≡ some u)). k.3 m far j u t.1) (at_set views s j w u e) in
       let took : Took content v x w = record {
         later = subst (λ (d : Content). IsPrefix v.seen d.journal) (sym is) mine.later;
         own = ap (λ (d : Content). made_by (maker v.number) d.journal) is ∙ subst (λ m. made_by (maker m) c.journal ≡ made_by (maker m) v.seen) (sym mine.number) mine.own;
@@ -239,7 +246,7 @@ module _ {X : Type 0} (content : X → Content) (s : ℕ) (v : KeyView) where
       let len : length now ≡ length views = same_length views s l in
       let all_len : length (now ++ r ∷ []) ≡ suc (length views) = omega (arith, len, length-append now (r ∷ [])) in
       let self : Agrees c (suc (length views)) s l = record { number = mine.number; later = mine.later; own = mine.own; next = λ _. (omega (arith, root.0), root.1); engine = mine.engine; alone = λ e. absurd (cc (e, told)) } in
-      let new : Agrees c (suc (length views)) (length now) r = record { number = root.0 ∙ sym len; later = (c.journal, refl); own = k.3 (length now) (omega (arith, len)); next = λ n. absurd (n refl); engine = mine.engine; alone = λ e. absurd (cc (e, told)) } in
+      let new : Agrees c (suc (length views)) (length now) r = record { number = root.0 ∙ sym len; later = mine.later; own = k.3 (length now) (omega (arith, len)) s v at; next = λ n. absurd (n refl); engine = mine.engine; alone = λ e. absurd (cc (e, told)) } in
       let old : (j : ℕ) (u : KeyView) → j ≢ s → get_elem? views j ≡ some u → Agrees c (suc (length views)) j u =
       λ j u ne e. let a = k.2 j u e in let there = near views j u e in
       record { number = a.number; later = a.later; own = a.own; next = λ n. absurd (ne ((a.next n).1 ∙ sym root.1)); engine = a.engine; alone = λ f. let one = a.alone f in absurd (ne (omega arith)) } in
@@ -248,7 +255,11 @@ module _ {X : Type 0} (content : X → Content) (s : ℕ) (v : KeyView) where
       (⊎_elim (λ (t : (j ≢ length now) × (get_elem? now j ≡ some u)).
       ⊎_elim (λ (a : (j ≡ s) × (l ≡ u)). subst (λ z. Agrees c (suc (length views)) j z) a.1 (subst (λ i. Agrees c (suc (length views)) i l) (sym a.0) self)) (λ (a : (j ≢ s) × (get_elem? views j ≡ some u)). old j u a.0 a.1) (at_set views s j l u t.1))
       (λ (t : (j ≡ length now) × (r ≡ u)). subst (λ z. Agrees c (suc (length views)) j z) t.1 (subst (λ i. Agrees c (suc (length views)) i r) (sym t.0) new)) (at_end now r u j e)) in
-      let none : (m : ℕ) → length (now ++ r ∷ []) ≤ m → made_by (maker m) c.journal ≡ 0 = λ m le. k.3 m (omega (arith, all_len, le)) in
+      let none : HasSeenAll (now ++ r ∷ []) c =
+      λ m le j u e. let far : length views ≤ m = omega (arith, all_len, le) in let here = k.3 m far s v at in
+      ⊎_elim (λ (t : (j ≢ length now) × (get_elem? now j ≡ some u)).
+      ⊎_elim (λ (a : (j ≡ s) × (l ≡ u)). here ∙ ap (λ (z : KeyView). made_by (maker m) z.seen) a.1) (λ (a : (j ≢ s) × (get_elem? views j ≡ some u)). k.3 m far j u a.1) (at_set views s j l u t.1))
+      (λ (t : (j ≡ length now) × (r ≡ u)). here ∙ ap (λ (z : KeyView). made_by (maker m) z.seen) t.1) (at_end now r u j e) in
       let owned : IsOwned c.claimed (now ++ r ∷ []) = λ t has. let o = owner_stays views s v l t at (λ had. had) (k.4 t has) in (o.0, o.1, at_longer now (r ∷ []) o.0 o.1 o.2, o.3) in
       (c, stays items k.1, all, none, owned)
     where
@@ -285,20 +296,27 @@ module _ {X : Type 0} (content : X → Content) where
         c,
         (0, first_key, refl, refl, refl, refl, λ j u e t. (one_key j u e).0),
         (λ j u e. let o = one_key j u e in subst (λ z. Agrees c 1 j z) o.1 (subst (λ i. Agrees c 1 i first_key) (sym o.0) (record { number = refl; later = ([], refl); own = refl; next = λ _. (refl, refl); engine = λ t. absurd (cc (t)); alone = λ _. refl }))),
-        (λ m le. refl),
+        (λ m le j u e. ap (λ (z : KeyView). made_by (maker m) z.seen) (one_key j u e).1),
         λ t h. absurd (false≢true h),
       )
 
-  pub founds : (n s : ℕ) (x : X) → (content x).journal ≡ [] → (content x).claimed ≡ [] → Pushes (Keeps content) n s first_key x (λ w. w ≡ founded (content x).engine)
-  founds n s x none idle =
-      puts content s first_key n x (founded (content x).engine) refl refl (record { stay = λ t had. absurd (false≢true had); new = λ t now. absurd (false≢true (ap (has_ticket t) (sym idle) ∙ now)) })
-      (λ c vs a e. inr (a.alone refl))
-      (λ c e. inl (none ∙ e))
-      (λ c m e a. record {
-        number = a.number;
-        later = ((content x).journal, refl);
-        own = ap (made_by (maker s)) none;
-        next = a.next;
-        engine = λ _. refl;
-        alone = λ f. absurd (cc (f));
-      })
+  -- the only key puts in the engine that it founds with
+  pub founds : (n s : ℕ) (x : X) → Pushes (Keeps content) n s first_key x (λ w. w ≡ founded (content x))
+  founds n s x (y ∷ items) views few k at = absurd (false≢true (sym (k.1.2 s first_key at)))
+  founds n s x [] views few k at =
+      let d = content x in
+      let w = founded d in
+      let mine = k.2 s first_key at in
+      let single : length views ≡ 1 = mine.alone refl in
+      let first : s ≡ 0 = sym mine.number in
+      let len = same_length views s w in
+      let in_ = near views s first_key at in
+      let alone : (j : ℕ) (u : KeyView) → j ≢ s → get_elem? views j ≡ some u → ⊥ = λ j u ne e. let there = near views j u e in ne (omega (arith, there, single, first)) in
+      let only : (j : ℕ) (u : KeyView) → get_elem? (slice_set views s w) j ≡ some u → (j ≡ s) × (w ≡ u) =
+      λ j u e. ⊎_elim (λ (t : (j ≡ s) × (w ≡ u)). t) (λ (t : (j ≢ s) × (get_elem? views j ≡ some u)). absurd (alone j u t.0 t.1)) (at_set views s j w u e) in
+      let self : Agrees d 1 0 w = record { number = refl; later = prefix_self d.journal; own = refl; next = λ _. (refl, refl); engine = λ _. refl; alone = λ f. absurd (cc (f)) } in
+      let all : (j : ℕ) (u : KeyView) → get_elem? (slice_set views s w) j ≡ some u → Agrees d (length (slice_set views s w)) j u =
+      λ j u e. let o = only j u e in subst (λ m. Agrees d m j u) (sym (len ∙ single)) (subst (λ z. Agrees d 1 j z) o.1 (subst (λ i. Agrees d 1 i w) (sym (o.0 ∙ first)) self)) in
+      let none : HasSeenAll (slice_set views s w) d = λ m le j u e. ap (λ (z : KeyView). made_by (maker m) z.seen) (only j u e).1 in
+      let free : Free (slice_set views s w) = λ j u e. ap (λ (z : KeyView). z.holding) (sym (only j u e).1) in
+      (w, (d, (refl, refl, free), all, none, λ t has. (s, w, set_here views s w in_, has)), refl)

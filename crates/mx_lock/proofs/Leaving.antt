@@ -57,5 +57,6 @@ module _ {Q O : Type 0} (ending : O → Origin) where
         ties = ap (λ (z : EngineState Q O). z.ties.book) is ∙ m.list;
         legal = legal;
         claims = subst (λ (z : EngineState Q O). HasNoOther (claimed a.journal a.queue) (content z).claimed) (sym is) m.claims;
+        out = ap (λ (z : EngineState Q O). z.core.out) is ∙ m.called.out;
         unchanged = λ none. ap (λ (z : EngineState Q O). z.core) is ∙ m.called.unchanged none;
       })

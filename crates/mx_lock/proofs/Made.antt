@@ -1,5 +1,5 @@
 -- What the answer of an addition, and of an end, says of the journal.
-use Rattle.std.proofs.Common.{◌≡◌, ℕ, ◌+◌, ◌∙◌, sym, refl, ap, List, ◌++◌, Bool, true, false, cond}
+use Rattle.std.proofs.Common.{◌≡◌, ℕ, sym, refl, ap, List, Bool, true, false, cond}
 use Rattle.std.specs.Prelude.{Option, Some, None}
 use Rattle.std.proofs.lemmas.Bool.{false≢true}
 use Rattle.mx_types.specs.declared.names.HandleId.{HandleId}
@@ -11,24 +11,20 @@ use Rattle.mx_types.specs.declared.event.Event.{Event}
 use Rattle.mx_types.specs.declared.call.Call.TheVariants as call
 use Rattle.mx_types.specs.declared.reply.Reply.{Reply}
 use Rattle.mx_types.specs.declared.reply.Reply.TheVariants as reply
-use Rattle.mx_journal.specs.History.{Opening, additions, has_ticket, running}
-use Rattle.mx_journal.specs.Answers.{Answers, next_ticket, only, ticket_of}
-use Rattle.mx_journal.specs.Laws.{then}
-use Rattle.mx_history.proofs.Histories.{additions-then}
-use Rattle.mx_lock.proofs.Claims.{MadeBy, adding, is_added, its_event}
+use Rattle.mx_journal.specs.History.{Opening, has_ticket, running}
+use Rattle.mx_journal.specs.Answers.{Answers, are_spent, next_ticket, only, ticket_of}
+use Rattle.mx_lock.proofs.Claims.{adding, is_added}
 
-its_ticket : (h : HandleId) (n : Ticket) (o : Option Ticket) (full room : Bool) (t : Ticket) → reply.Added t ≡ (adding h n o full room).0 → t ≡ n
-its_ticket h n (Some u) full room t e = absurd (false≢true (sym (ap is_added e)))
-its_ticket h n None true room t e = absurd (false≢true (sym (ap is_added e)))
-its_ticket h n None false true t e = cc
-its_ticket h n None false false t e = absurd (false≢true (sym (ap is_added e)))
+its_ticket : (h : HandleId) (n : Ticket) (o : Option Ticket) (full spent room : Bool) (t : Ticket) → reply.Added t ≡ (adding h n o full spent room).0 → t ≡ n
+its_ticket h n (Some u) full spent room t e = absurd (false≢true (sym (ap is_added e)))
+its_ticket h n None true spent room t e = absurd (false≢true (sym (ap is_added e)))
+its_ticket h n None false true room t e = absurd (false≢true (sym (ap is_added e)))
+its_ticket h n None false false true t e = cc
+its_ticket h n None false false false t e = absurd (false≢true (sym (ap is_added e)))
 
--- an addition has the next ticket, and is one addition more
-pub added_as : (opening : Opening) (w : Who) (h : HandleId) (j : List Event) (t : Ticket) (k : List Event) → Answers opening w (call.Add h) j (reply.Added t) k → (t.0 ≡ additions j) × (additions k ≡ additions j + 1)
-added_as opening w h j t k a =
-    let next : t ≡ next_ticket j = its_ticket h (next_ticket j) (ticket_of h j) _ _ t a.0 in
-    let grown : k ≡ then j w (what.Added h t) = a.1 ∙ ap (λ o. j ++ MadeBy w o) (its_event h (next_ticket j) (ticket_of h j) _ _ t a.0) in
-    (ap (λ (u : Ticket). u.0) next, ap additions grown ∙ additions-then j w (what.Added h t))
+-- an addition has the next ticket
+pub added_as : (opening : Opening) (w : Who) (h : HandleId) (j : List Event) (t : Ticket) (k : List Event) → Answers opening w (call.Add h) j (reply.Added t) k → t ≡ next_ticket opening j
+added_as opening w h j t k a = its_ticket h (next_ticket opening j) (ticket_of h j) _ (are_spent opening j) _ t a.0
 
 abbrev is_recorded : Reply → Bool
 is_recorded reply.Recorded = true

@@ -5,7 +5,10 @@ use denote.Param.Send.{IsSend, IsSync, struct_send, struct_sync, sendable}
 use denote.Struct.Declared.{shape}
 use Rattle.std.proofs.Crossing.{crosses}
 use Rattle.mx_types.proofs.event.Event.TheSendSync.{the_send as event_send}
+use Rattle.mx_table.proofs.makers.MakerCounts.TheSendSync.{the_send as counts_send}
 use Rattle.mx_table.proofs.table.Table.TheSendSync.{the_send as table_send}
+use Rattle.mx_journal.specs.contracts.origins.Origins as Origins
+use Rattle.mx_journal.specs.contracts.origins.Origins.TheInside as OriginsInside
 use Rattle.mx_journal.specs.contracts.control.Control as Control
 use Rattle.mx_journal.specs.contracts.control.Control.TheInside as Inside
 use Rattle.crossbeam_channel.proofs.flavors.array.ruled.Both.TheSendSync.{the_send as both_send, the_sync as both_sync}
@@ -23,10 +26,33 @@ use Rattle.mx_types.specs.contracts.origin.Origin as Origin
 use Rattle.mx_types.specs.declared.work.Work as work
 use Rattle.mx_types.specs.declared.work.Ending as ending
 
+origins_inside : (Q : RattleType) (g : work.Ghosts Q.Denot) → IsSend Q → IsSend (OriginsInside.the_field Q g).row
+origins_inside Q g q = struct_send (shape (OriginsInside.the_type Q g)) (search (sendable, crosses) depth 40, (search (sendable, crosses) depth 40, tt))
+
+origins_send : (Q : RattleType) (g : work.Ghosts Q.Denot) → IsSend Q → IsSend (Origins.the_field Q g).row
+origins_send Q g q =
+    let a = origins_inside Q g q in
+    search (sendable) depth 40 fits 20000
+
 inside_send : (Q O : RattleType) (g : work.Ghosts Q.Denot) (h : ending.Ghosts O.Denot) → IsSend Q → IsSend O → IsSend (Inside.the_field Q O g h).row
 inside_send Q O g h q o = struct_send (shape (Inside.the_type Q O g h)) (
   search (sendable, crosses) depth 40,
-  (search (event_send, sendable, crosses) depth 40, (search (table_send, sendable, crosses) depth 40, (search (sendable, crosses) depth 40, (search (sendable, crosses) depth 40, (search (sendable, crosses) depth 40, tt))))),
+  (
+    search (sendable, crosses) depth 40,
+    (
+      search (sendable, crosses) depth 40,
+      (
+        search (counts_send, sendable, crosses) depth 40,
+        (
+          search (event_send, sendable, crosses) depth 40,
+          (
+            search (table_send, sendable, crosses) depth 40,
+            (origins_send Q g q, (search (sendable, crosses) depth 40, (search (sendable, crosses) depth 40, (search (sendable, crosses) depth 40, tt)))),
+          ),
+        ),
+      ),
+    ),
+  ),
 )
 
 pub control_send : (Q O : RattleType) (g : work.Ghosts Q.Denot) (h : ending.Ghosts O.Denot) → IsSend Q → IsSend O → IsSend (Control.the_row Q O g h)

@@ -18,10 +18,11 @@ use Rattle.mx_journal.specs.declared.replies.GiveBackReply.{GiveBackReply}
 use Rattle.mx_journal.specs.declared.replies.GiveBackReply.TheVariants as giving
 use Rattle.mx_journal.specs.declared.replies.InfoReply.{InfoReply}
 use Rattle.mx_journal.specs.declared.replies.InfoReply.TheVariants as info
-use Rattle.mx_journal.specs.History.{Opening, additions, has_ticket, is_legal, running}
-use Rattle.mx_journal.specs.Answers.{Answers}
+use Rattle.mx_journal.specs.History.{Opening, beyond, has_ticket, is_legal, running}
+use Rattle.mx_journal.specs.Answers.{Answers, next_ticket}
 use Rattle.mx_journal.specs.Receipts.{comes_with_event}
-use Rattle.mx_journal.specs.Core.{AreOwn, Core, claimed, origin_of}
+use Rattle.mx_journal.specs.Called.{out_after}
+use Rattle.mx_journal.specs.Core.{AreOwn, Core, claimed, origin_of, with_out}
 use Rattle.mx_journal.specs.Replies.{ending_read, is_back, origins_added, origins_given, reply_of_add, reply_of_finish}
 use Rattle.mx_history.proofs.Lists.{has-filter}
 use Rattle.mx_history.proofs.Histories.{below, laws}
@@ -54,10 +55,10 @@ had origins marked t origin (inl p) lt e = gets_less origins p.0 t.0 origin lt (
 had origins marked t origin (inr p) lt e = has_more marked origins t origin p e
 
 -- what a mark knows of a ticket that runs is so
-pub known : (j : List Event) (origins marked : List Origin) (t : Ticket) (origin : Origin) → is_legal j ≡ true → length origins ≡ additions j → AreOfOneList origins marked → origin_of t marked ≡ Some origin
+pub known : (opening : Opening) (j : List Event) (origins marked : List Origin) (t : Ticket) (origin : Origin) → is_legal j ≡ true → length origins ≡ (next_ticket opening j).0 → AreOfOneList origins marked → origin_of t marked ≡ Some origin
     → has_ticket t (running j) ≡ true → origin_of t origins ≡ Some origin
-known j origins marked t origin legal each one e runs =
-    let lt : t.0 < additions j = below j (laws j legal) t (has-filter t _ _ runs).0 in
+known opening j origins marked t origin legal each one e runs =
+    let lt : t.0 < beyond j = below j (laws j legal) t (has-filter t _ _ runs).0 in
     had origins marked t origin one (omega (arith, lt, each)) e
 
 -- 2. Of control states.
@@ -85,40 +86,41 @@ module _ {Q O : Type 0} (ending : O → Origin) where
       let is : y.origins ≡ origins_added r ties origin = grown ∙ ap (λ l. origins_added r l origin) h.same in
       record { same = is; endings = subst (λ l. AreOwn ending l y.endings) is (own (subst (λ l. AreOwn ending l x.endings) (sym h.same) h.endings)) }
 
-  pub added_tells : (opening : Opening) (w : Who) (handle : HandleId) (x : Core Q O) (k : List Event) (ties : List Origin) (r : AddReply Q) (origin : Origin) → IsTied ending x ties → length x.origins ≡ additions x.journal
-      → Answers opening w (call.Add handle) x.journal (reply_of_add r) k → Tells (tie_added r origin) (origins_added r ties origin)
-  added_tells opening w handle x k ties (add.Added t) origin h each a =
-      let at : t.0 ≡ length ties = (added_as opening w handle x.journal t k a).0 ∙ sym each ∙ ap length h.same in
+  pub added_tells : (w : Who) (handle : HandleId) (x : Core Q O) (k : List Event) (ties : List Origin) (r : AddReply Q) (origin : Origin) → IsTied ending x ties → length x.origins ≡ (next_ticket x.opening x.journal).0
+      → Answers x.opening w (call.Add handle) x.journal (reply_of_add r) k → Tells (tie_added r origin) (origins_added r ties origin)
+  added_tells w handle x k ties (add.Added t) origin h each a =
+      let at : t.0 ≡ length ties = ap (λ (u : Ticket). u.0) (added_as x.opening w handle x.journal t k a) ∙ sym each ∙ ap length h.same in
       ap (slice_get (ties ++ origin ∷ [])) at ∙ gets_last ties origin
-  added_tells opening w handle x k ties (add.AddedAlready b) origin h each a = tt
-  added_tells opening w handle x k ties (add.TableFull b) origin h each a = tt
-  added_tells opening w handle x k ties (add.HistoryFull b) origin h each a = tt
-  added_tells opening w handle x k ties (add.OutOfMemory b) origin h each a = tt
+  added_tells w handle x k ties (add.AddedAlready b) origin h each a = tt
+  added_tells w handle x k ties (add.TableFull b) origin h each a = tt
+  added_tells w handle x k ties (add.TicketsSpent b) origin h each a = tt
+  added_tells w handle x k ties (add.HistoryFull b) origin h each a = tt
+  added_tells w handle x k ties (add.OutOfMemory b) origin h each a = tt
 
   -- an end, by a claim whose mark knows its ticket's addition
   pub tied_finished : {C : Type 0} (opening : Opening) (w : Who) (t : Ticket) (code : Code) (size : ℕ) (r : FinishReply C O) (x y : Core Q O) (ties marked : List Origin) (origin : Origin)
-      → IsTied ending x ties → is_legal x.journal ≡ true → length x.origins ≡ additions x.journal → AreOfOneList ties marked → origin_of t marked ≡ Some origin
-      → Answers opening w (call.Finish t code size) x.journal (reply_of_finish r) y.journal → y.origins ≡ x.origins → (comes_with_event (reply_of_finish r) ≡ false → y ≡ x)
+      → IsTied ending x ties → is_legal x.journal ≡ true → length x.origins ≡ (next_ticket x.opening x.journal).0 → AreOfOneList ties marked → origin_of t marked ≡ Some origin
+      → Answers opening w (call.Finish t code size) x.journal (reply_of_finish r) y.journal → y.origins ≡ x.origins → (comes_with_event (reply_of_finish r) ≡ false → y ≡ with_out (out_after (reply_of_finish r) x.out) x)
       → (AreOwn ending x.origins x.endings → origin_of t x.origins ≡ Some origin → AreOwn ending y.origins y.endings) → IsTied ending y ties
   tied_finished opening w t code size finish.Recorded x y ties marked origin h legal each one known_ a same unchanged own =
       let one_ : AreOfOneList x.origins marked = subst (λ l. AreOfOneList l marked) (sym h.same) one in
-      let is : origin_of t x.origins ≡ Some origin = known x.journal x.origins marked t origin legal each one_ known_ (recorded_runs opening w t code size x.journal y.journal a) in
+      let is : origin_of t x.origins ≡ Some origin = known x.opening x.journal x.origins marked t origin legal each one_ known_ (recorded_runs opening w t code size x.journal y.journal a) in
       tied_on x y ties h same (λ e. own e is)
-  tied_finished opening w t code size (finish.Stale b) x y ties marked origin h legal each one known_ a same unchanged own = subst (λ (z : Core Q O). IsTied ending z ties) (sym (unchanged refl)) h
-  tied_finished opening w t code size (finish.OutOfMemory b o) x y ties marked origin h legal each one known_ a same unchanged own = subst (λ (z : Core Q O). IsTied ending z ties) (sym (unchanged refl)) h
+  tied_finished opening w t code size (finish.Stale b) x y ties marked origin h legal each one known_ a same unchanged own = subst (λ (z : Core Q O). IsTied ending z ties) (sym (unchanged refl)) (record { same = h.same; endings = h.endings })
+  tied_finished opening w t code size (finish.OutOfMemory b o) x y ties marked origin h legal each one known_ a same unchanged own = subst (λ (z : Core Q O). IsTied ending z ties) (sym (unchanged refl)) (record { same = h.same; endings = h.endings })
 
   -- work that was given back, by such a claim
   pub tied_given : (r : GiveBackReply Q) (x y : Core Q O) (ties marked : List Origin) (t : Ticket) (origin : Origin)
-      → IsTied ending x ties → is_legal x.journal ≡ true → length x.origins ≡ additions x.journal → AreOfOneList ties marked → origin_of t marked ≡ Some origin
+      → IsTied ending x ties → is_legal x.journal ≡ true → length x.origins ≡ (next_ticket x.opening x.journal).0 → AreOfOneList ties marked → origin_of t marked ≡ Some origin
       → is_back r ≡ has_ticket t (claimed x.journal x.queue) → y.endings ≡ x.endings → y.origins ≡ origins_given r x.origins t origin → (origin_of t x.origins ≡ Some origin → y.origins ≡ x.origins) → IsTied ending y ties
   tied_given giving.Back x y ties marked t origin h legal each one known_ back endings given same =
       let one_ : AreOfOneList x.origins marked = subst (λ l. AreOfOneList l marked) (sym h.same) one in
-      let is : origin_of t x.origins ≡ Some origin = known x.journal x.origins marked t origin legal each one_ known_ (claimed_runs t x.journal x.queue (sym back)) in
+      let is : origin_of t x.origins ≡ Some origin = known x.opening x.journal x.origins marked t origin legal each one_ known_ (claimed_runs t x.journal x.queue (sym back)) in
       tied_same x y ties h (same is) endings
   tied_given (giving.Stale _) x y ties marked t origin h legal each one known_ back endings given same = tied_same x y ties h given endings
 
   -- what lies in the lock is of its tickets' additions
-  pub of_additions : (work : Q → Origin) (x : Core Q O) (ties : List Origin) → IsTied ending x ties → length x.origins ≡ additions x.journal → AreOwn work x.origins x.queue → AreOfAdditions work ending x ties
+  pub of_additions : (work : Q → Origin) (x : Core Q O) (ties : List Origin) → IsTied ending x ties → length x.origins ≡ (next_ticket x.opening x.journal).0 → AreOwn work x.origins x.queue → AreOfAdditions work ending x ties
   of_additions work x ties h each own = record {
     each = ap length (sym h.same) ∙ each;
     queue = subst (λ l. AreOwn work l x.queue) h.same own;

@@ -10,8 +10,8 @@ use Rattle.mx_types.specs.declared.reply.Reply.{Reply}
 use Rattle.mx_types.specs.declared.reply.Reply.TheVariants as reply
 use Rattle.mx_journal.specs.Answers.{Answers}
 use Rattle.mx_journal.specs.Receipts.{comes_with_event}
-use Rattle.mx_journal.specs.Called.{Called}
-use Rattle.mx_journal.specs.Core.{Core, IsSound, claimed}
+use Rattle.mx_journal.specs.Called.{Called, out_after}
+use Rattle.mx_journal.specs.Core.{Core, IsSound, claimed, with_out}
 use Rattle.mx_board.specs.Board.{BoardState, name_of}
 use Rattle.mx_types.specs.declared.code.Code.{Code}
 use Rattle.mx_types.specs.declared.origin.Origin.{Origin}
@@ -67,7 +67,8 @@ pub record Makes {Q O : Type 0} (ending : O → Origin) (who : Who) (call : Call
   pub tied : IsTied ending new grown.entries
 
 -- The call was answered after the journal that the engine had, and left the engine with that journal or one event more.
--- It is the same engine, and legal; and no work left the queue but that which runs no more. A call that comes with no event changes nothing.
+-- It is the same engine, and legal; and no work left the queue but that which runs no more. A call that comes with no event changes nothing
+-- but, where its claim was stale, the number of claims that are out.
 pub record Leaves {Q O : Type 0} (who : Who) (call : Call) (x : EngineState Q O) (reply : Reply) (y : EngineState Q O) : Type 0 where
   pub answers : Answers x.core.opening who call x.core.journal reply y.core.journal
   pub opening : y.core.opening ≡ x.core.opening
@@ -75,7 +76,8 @@ pub record Leaves {Q O : Type 0} (who : Who) (call : Call) (x : EngineState Q O)
   pub ties : y.ties.book ≡ x.ties.book
   pub legal : is_legal y.core.journal ≡ true
   pub claims : HasNoOther (content x).claimed (content y).claimed
-  pub unchanged : comes_with_event reply ≡ false → y.core ≡ x.core
+  pub out : y.core.out ≡ out_after reply x.core.out
+  pub unchanged : comes_with_event reply ≡ false → y.core ≡ with_out (out_after reply x.core.out) x.core
 
 -- the engine was left with the journal that was found
 pub record IsLeft {Q O : Type 0} (x y : EngineState Q O) : Type 0 where

@@ -44,16 +44,16 @@ abbrev pub no_book : BookName
 no_book = record { number = 0; log_name = 0; cells_name = 0 }
 
 abbrev pub name_of : EngineId → EngineName
-name_of e = record { journal = book_name e.book; ties = book_name e.ties; history = e.opening.history }
+name_of e = record { journal = book_name e.book; ties = book_name e.ties; history = e.opening.history; first = e.opening.first; from = e.opening.from }
 
 abbrev pub named : EngineName → EngineId
-named n = record { book = book_named n.journal; opening = record { history = n.history }; ties = book_named n.ties }
+named n = record { book = book_named n.journal; opening = record { history = n.history; first = n.first; from = n.from }; ties = book_named n.ties }
 
 abbrev pub engine_of : KeyView → EngineId
 engine_of v = named v.engine
 
 abbrev pub no_name : EngineName
-no_name = record { journal = no_book; ties = no_book; history = 0 }
+no_name = record { journal = no_book; ties = no_book; history = 0; first = 0; from = 0 }
 
 abbrev pub first_key : KeyView
 first_key = record { number = 0; next = 1; told = false; engine = no_name; holding = true; held = []; found = []; seen = []; claims = [] }
@@ -75,15 +75,19 @@ newly before after = filter (λ t. not (has_ticket t before)) after
 abbrev pub IsOwned : List Ticket → List KeyView → Type 0
 IsOwned claimed views = (t : Ticket) → has_ticket t claimed ≡ true → (j : ℕ) × (u : KeyView) × (get_elem? views j ≡ some u) × (has_ticket t u.claims ≡ true)
 
+-- what a maker that has no key made, each key has seen
+abbrev pub HasSeenAll : List KeyView → Content → Type 0
+HasSeenAll views c = (k : ℕ) → length views ≤ k → (j : ℕ) (v : KeyView) → get_elem? views j ≡ some v → made_by (maker k) c.journal ≡ made_by (maker k) v.seen
+
 module _ {X : Type 0} (content : X → Content) where
   -- one key holds the engine, with the journal that it found; or the engine lies in the lock
   abbrev pub Lies : Content → List X → List KeyView → Type 0
   Lies c [] views = (k : ℕ) × (v : KeyView) × (get_elem? views k ≡ some v) × (v.holding ≡ true) × (v.held ≡ c.journal) × (v.found ≡ c.claimed) × ((j : ℕ) (u : KeyView) → get_elem? views j ≡ some u → u.holding ≡ true → j ≡ k)
   Lies c (x ∷ rest) views = (rest ≡ []) × (content x ≡ c) × ((j : ℕ) (u : KeyView) → get_elem? views j ≡ some u → u.holding ≡ false)
 
-  -- there is one engine with one journal, in which each event is of a maker that has a key; and what runs and isn't queued a key has claimed
+  -- there is one engine with one journal; what a maker that has no key made, each key has seen; and what runs and isn't queued a key has claimed
   abbrev pub Keeps : List X → List KeyView → Type 0
-  Keeps items views = (c : Content) × Lies c items views × ((j : ℕ) (v : KeyView) → get_elem? views j ≡ some v → Agrees c (length views) j v) × ((k : ℕ) → length views ≤ k → made_by (maker k) c.journal ≡ 0) × IsOwned c.claimed views
+  Keeps items views = (c : Content) × Lies c items views × ((j : ℕ) (v : KeyView) → get_elem? views j ≡ some v → Agrees c (length views) j v) × HasSeenAll views c × IsOwned c.claimed views
 
   -- what is taken: a journal that begins with what the key left last, and has no event more of its maker
   pub record Took (v : KeyView) (x : X) (w : KeyView) : Type 0 where
@@ -106,15 +110,21 @@ given v c = record v { holding = false; held = []; found = []; seen = c.journal;
 abbrev pub released : KeyView → KeyView
 released v = record v { holding = false; held = []; found = [] }
 
--- the founder's key, which makes the others, once it has put the engine in; the next key gets the number n
-abbrev pub founder_at : EngineId → ℕ → KeyView
-founder_at e n = record { number = 0; next = n; told = true; engine = name_of e; holding = false; held = []; found = []; seen = []; claims = [] }
+-- the founder's key, which makes the others, once it has put the engine in: it has seen the journal that it put in, and what is
+-- claimed there is its; the next key gets the number n
+abbrev pub founder_at : Content → ℕ → KeyView
+founder_at c n = record { number = 0; next = n; told = true; engine = name_of c.engine; holding = false; held = []; found = []; seen = c.journal; claims = c.claimed }
 
-abbrev pub founded : EngineId → KeyView
-founded e = founder_at e 1
+abbrev pub founded : Content → KeyView
+founded c = founder_at c 1
+
+-- what a key knows of the engine
+abbrev pub known_of : KeyView → Content
+known_of v = record { journal = v.seen; engine = engine_of v; claimed = v.claims }
 
 abbrev pub parent : KeyView → KeyView
 parent v = record v { next = v.next + 1 }
 
+-- a new key has seen what its parent has seen
 abbrev pub child : KeyView → KeyView
-child v = record { number = v.next; next = 0; told = v.told; engine = v.engine; holding = false; held = []; found = []; seen = []; claims = [] }
+child v = record { number = v.next; next = 0; told = v.told; engine = v.engine; holding = false; held = []; found = []; seen = v.seen; claims = [] }

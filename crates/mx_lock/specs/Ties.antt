@@ -1,12 +1,12 @@
--- Of which request each addition is: a list that only grows, beside the journal. Tickets number the additions, so the request of a ticket
--- stands at its number.
+-- Of which request each addition is: a list that only grows, beside the journal and over all retirings. Tickets number the additions, so the
+-- request of a ticket stands at its number.
 use Rattle.std.specs.Prelude.{ℕ, ◌≡◌, List, length, Option, Some, None}
 use Rattle.logbook.specs.Pages.{Book}
 use Rattle.mx_append_log.specs.Log.{Mark}
 use Rattle.mx_types.specs.declared.names.HandleId.{HandleId}
 use Rattle.mx_types.specs.declared.names.Ticket.{Ticket}
 use Rattle.mx_types.specs.declared.origin.Origin.{Origin}
-use Rattle.mx_journal.specs.History.{additions}
+use Rattle.mx_journal.specs.Answers.{next_ticket}
 use Rattle.mx_journal.specs.Core.{AreOwn, Claimed, Core, origin_of}
 use Rattle.mx_journal.specs.declared.replies.AddReply.{AddReply}
 use Rattle.mx_journal.specs.declared.replies.AddReply.TheVariants as add
@@ -58,8 +58,8 @@ pub record IsTied {Q O : Type 0} (ending : O → Origin) (core : Core Q O) (ties
   pub same : core.origins ≡ ties
   pub endings : AreOwn ending ties core.endings
 
--- There is a tie for each addition; and work that is queued, and endings that wait, are of the request of their ticket's addition.
+-- There is a tie for each ticket below the next; and work that is queued, and endings that wait, are of the request of their ticket's addition.
 pub record AreOfAdditions {Q O : Type 0} (work : Q → Origin) (ending : O → Origin) (core : Core Q O) (ties : List Origin) : Type 0 where
-  pub each : length ties ≡ additions core.journal
+  pub each : length ties ≡ (next_ticket core.opening core.journal).0
   pub queue : AreOwn work ties core.queue
   pub endings : AreOwn ending ties core.endings

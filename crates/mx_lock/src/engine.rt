@@ -1,8 +1,9 @@
 //! What the lock keeps: the control state, and the board that is published of it.
-ghost use Rattle.std.specs.Prelude.{◌≡◌, ◌<◌, [], length, true, IfOk, IfSome};
+ghost use Rattle.std.specs.Prelude.{◌≡◌, [], length, nat_lt, true, IfOk, IfSome};
 ghost use mathlib.Core.List.{IsPrefix};
 ghost use Rattle.mx_append_log.specs.Log.{DecidesBeginning};
-ghost use Rattle.mx_journal.specs.History.{is_legal, is_maker, made_by};
+ghost use Rattle.mx_journal.specs.Core.{retired};
+ghost use Rattle.mx_journal.specs.History.{is_legal, is_maker, made_by, retire};
 ghost use Rattle.mx_journal.specs.Answers.{is_ready};
 ghost use Rattle.mx_journal.specs.Table.{IsTableOf};
 ghost use Rattle.mx_board.specs.Board.{caught_up, mark_of};
@@ -11,11 +12,12 @@ ghost use Rattle.mx_lock.specs.Ties.{AreOfAdditions, IsTied};
 ghost use Rattle.mx_types.specs.Limits.{IsHistory};
 
 use crate::ties::{TieLog, TieMark};
-use mx_board::{BoardReader, BoardWriter, JournalMark, board};
+use mx_board::{BoardReader, BoardWriter, JournalMark};
 use mx_journal::{Control, Table};
-use mx_types::{Ending, OutOfMemory, Who, Work};
+use mx_types::{Ending, Event, OutOfMemory, Who, Work};
 use std::alloc::Global;
 use std::marker::Model;
+use std::mem;
 use std::snapshot::Snapshot;
 use std::sync::Wait;
 
@@ -47,29 +49,60 @@ impl<Q: Work + Drop, O: Ending + Drop> Model for Engine<Q, O> {
 }
 
 impl<Q: Work + Drop, O: Ending + Drop> Engine<Q, O> {
-    /// With no events, and so many places for readers.
-    pub fn new<R: Wait>(
-        rt: &R,
-        alloc: Global,
-        history: u32,
-        readers: usize,
-    ) -> Result<Engine<Q, O>, OutOfMemory>
+    /// With no events, over a board that has none. The board comes back where a growth is refused.
+    pub fn new(alloc: Global, history: u32, log: BoardWriter) -> Result<Engine<Q, O>, BoardWriter>
         requires history { IsHistory history }
-        requires readers { (0 < readers) × (readers < 65) }
-        ensures { IfOk result (λ s. (s.core.journal ≡ []) × (s.core.opening ≡ record { history = history }) × (s.ties.entries ≡ [])) }
+        requires log { (log.events ≡ []) × (log.published ≡ []) }
+        ensures { IfOk result (λ s. (s.core.journal ≡ []) × (s.core.opening ≡ record { history = history; first = 0; from = 0 }) × (s.ties.entries ≡ []) × (s.book ≡ log.book)) }
     {
+        let core = match Control::new(alloc, history) {
+            Ok(core) => core,
+            Err(OutOfMemory) => return Err(log),
+        };
         let parts = Parts {
-            core: Control::new(alloc, history)?,
-            log: board(rt, alloc, readers)?,
+            core,
+            log,
             ties: TieLog::new(),
         };
         match Box::new(alloc, parts) {
             Ok(parts) => Ok(Engine { parts }),
             Err(refused) => {
-                let _table = refused.value.log.close(rt);
-                Err(OutOfMemory)
+                let Parts { log, .. } = refused.value;
+                Err(log)
             }
         }
+    }
+
+    /// What retiring would keep of the journal: the events of the handles that are added, in order.
+    ///
+    /// # Errors
+    ///
+    /// `OutOfMemory` where the space for them is refused.
+    pub fn kept(&self, alloc: Global) -> Result<Vec<Event>, OutOfMemory>
+        ensures { IfOk result (λ v. v.items ≡ retire self.now.core.journal) }
+    {
+        self.parts.core.kept(alloc)
+    }
+
+    /// Whether a claim was made that hasn't come back.
+    pub fn claim_out(&self) -> bool
+        ensures { result ≡ nat_lt 0 self.now.core.out }
+    {
+        self.parts.core.claim_out()
+    }
+
+    /// Retires old history, over a board of what is kept. The board that was there ends: it waits for the readers that read, and
+    /// every read of it answers None from then on. The list of ties stays.
+    pub fn retire<R: Wait>(self, rt: &R, log: BoardWriter) -> Engine<Q, O>
+        requires none { self.core.out ≡ 0 }
+        requires log { (log.events ≡ retire self.core.journal) × (log.published ≡ retire self.core.journal) }
+        ensures { result ≡ record { core = retired self.core; published = retire self.core.journal; book = log.book; ties = self.ties } }
+    {
+        let Engine { mut parts } = self;
+        let _reply = parts.core.retire();
+        let old = mem::replace(&mut parts.log, log);
+        let _table = old.close(rt);
+        Engine { parts }
     }
 
     // Publishes what a call has left.
@@ -144,6 +177,13 @@ impl<Q: Work + Drop, O: Ending + Drop> Engine<Q, O> {
         self.parts.core.len()
     }
 
+    /// The ticket from which on additions are numbered.
+    pub fn first(&self) -> u32
+        ensures { result ≡ self.now.core.opening.first }
+    {
+        self.parts.core.first()
+    }
+
     /// Whether an event at or after the mark lets a poll return.
     pub fn is_ready(&self, since: u32) -> bool
         ensures { result ≡ is_ready since self.now.core.journal }
@@ -156,7 +196,9 @@ impl<Q: Work + Drop, O: Ending + Drop> Engine<Q, O> {
         requires { is_maker who ≡ true }
         ensures { result ≡ made_by who self.now.core.journal }
     {
-        self.parts.core.made(who)
+        // For the prover alone: what holds of an engine is used.
+        let _ = &self.parts;
+        self.parts.log.made(who)
     }
 
     /// Whether the journal begins with what a reader has seen.

@@ -8,11 +8,14 @@ pub struct BookName {
     pub cells_name: u64,
 }
 
-/// Which engine: its journal, its list of ties, and what it was opened with. No value of it is made.
+/// Which engine: its journal, its list of ties, and what it was opened with; the last two are the base of its tickets, and how
+/// many events were kept at the last retiring. No value of it is made.
 pub struct EngineName {
     pub journal: BookName,
     pub ties: BookName,
     pub history: u64,
+    pub first: u64,
+    pub from: u64,
 }
 
 /// What a key of the lock knows. No value of it is made.

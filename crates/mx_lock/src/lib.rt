@@ -17,6 +17,6 @@ pub use crate::deeds::{
 };
 pub use crate::engine::{Engine, Parts};
 pub use crate::key_view::{BookName, EngineName, KeyView};
-pub use crate::lock::{Key, Lock};
+pub use crate::lock::{EmptyLock, Key, Lock};
 pub use crate::taken::Taken;
 pub use crate::ties::{TieLog, TieMark};

@@ -5,7 +5,7 @@ ghost use Rattle.crossbeam_channel.specs.Claims.{view};
 ghost use Rattle.mx_journal.specs.Laws.{HasAtMostOneMore};
 ghost use Rattle.mx_board.specs.Board.{caught_up};
 ghost use Rattle.mx_lock.specs.Engine.{content};
-ghost use Rattle.mx_lock.specs.Lock.{maker, engine_of, IsFoundBy, IsKeyOf, Took, given, released, founded, parent, child};
+ghost use Rattle.mx_lock.specs.Lock.{maker, engine_of, first_key, IsFoundBy, IsKeyOf, Took, given, released, founded, parent, child};
 
 use crate::engine::Engine;
 use crate::key_view::KeyView;
@@ -44,25 +44,70 @@ impl<Q: Work + Drop, O: Ending + Drop> Model for Lock<Q, O> {
     ghost invariant = { λ l. (receives_on l.from ≡ sends_on l.into) × IsKeyed (sends_on l.into) };
 }
 
-impl<Q: Work + Drop, O: Ending + Drop> Lock<Q, O> {
-    /// The lock with an engine that has no events, and the key that makes keys.
-    pub fn new<R: Wait>(
-        rt: &R,
-        alloc: Global,
-        engine: Engine<Q, O>,
-    ) -> Result<(Lock<Q, O>, Key<Q, O>), OutOfMemory>
-        requires { engine.core.journal ≡ [] }
-        ensures { IfOk result (λ r. IsKeyOf r.0 r.1 × (view r.1 ≡ founded (content engine).engine)) }
-    {
-        let Ok((into, from, mut key)) = bounded_with::<Engine<Q, O>, KeyView, LockRule, Global>(
+/// A lock in which no engine lies yet, with its only key: all that a lock asks of memory. Contracts see which lock it is.
+#[derive(Drop)]
+pub struct EmptyLock<Q: Work + Drop, O: Ending + Drop> {
+    lock: Lock<Q, O>,
+    key: Key<Q, O>,
+}
+
+impl<Q: Work + Drop, O: Ending + Drop> Model for EmptyLock<Q, O> {
+    ghost use Rattle.std.specs.Prelude.{◌≡◌};
+    ghost use Rattle.mx_lock.specs.Engine.{EngineState};
+    ghost use Rattle.mx_lock.specs.Lock.{LockView, IsKeyOf, first_key};
+
+    ghost Value = { LockView (EngineState Q O) };
+
+    ghost view = { λ e. e.lock };
+
+    ghost invariant = { λ e. IsKeyOf e.lock e.key × (e.key.me.0.client ≡ first_key) };
+}
+
+impl<Q: Work + Drop, O: Ending + Drop> EmptyLock<Q, O> {
+    /// The place for an engine.
+    ///
+    /// # Errors
+    ///
+    /// `OutOfMemory` where it is refused.
+    pub fn new(alloc: Global) -> Result<EmptyLock<Q, O>, OutOfMemory> {
+        let Ok((into, from, key)) = bounded_with::<Engine<Q, O>, KeyView, LockRule, Global>(
             alloc, 1,
         ) else {
             return Err(OutOfMemory);
         };
-        match into.send_as::<Founds, R>(rt, &mut key, engine) {
-            Ok(()) => Ok((Lock { into, from }, key)),
-            Err(_) => Err(OutOfMemory),
+        Ok(EmptyLock {
+            lock: Lock { into, from },
+            key,
+        })
+    }
+
+    /// The lock with an engine, and the key that makes keys, which has seen its journal.
+    pub fn found<R: Wait>(self, rt: &R, engine: Engine<Q, O>) -> (Lock<Q, O>, Key<Q, O>)
+        ensures lock { result.0 ≡ self }
+        ensures key { IsKeyOf result.0 result.1 × (view result.1 ≡ founded (content engine)) }
+    {
+        let EmptyLock { lock, mut key } = self;
+        lock.put_first(rt, &mut key, engine);
+        (lock, key)
+    }
+}
+
+impl<Q: Work + Drop, O: Ending + Drop> Lock<Q, O> {
+    // Puts the first engine in.
+    fn put_first<R: Wait>(&self, rt: &R, key: &mut Key<Q, O>, engine: Engine<Q, O>)
+        requires own { IsKeyOf self.now key.old }
+        requires first { view key.old ≡ first_key }
+        ensures kept { IsKeyOf self.now key.new }
+        ensures founded { view key.new ≡ founded (content engine) }
+    {
+        let mut engine = engine;
+        for _ in rt.forever() {
+            match self.into.send_as::<Founds, R>(rt, key, engine) {
+                Ok(()) => return,
+                Err(refused) => engine = refused.into_inner(),
+            }
         }
+        unreachable!()
     }
 
     /// One more key.

@@ -68,14 +68,14 @@ impl<Q: Work + Drop, O: Ending + Drop> Outcome<Engine<Q, O>, KeyView> for Founds
     ghost use Rattle.mx_lock.specs.Engine.{content};
     ghost use Rattle.mx_lock.specs.Lock.{founded};
 
-    ghost then = { λ v x w. w ≡ founded (content x).engine };
+    ghost then = { λ v x w. w ≡ founded (content x) };
 }
 
 impl<Q: Work + Drop, O: Ending + Drop> Lesson<Engine<Q, O>, KeyView> for Founds {
     ghost fact = { λ v items. Unit {0} };
 }
 
-/// A new key has seen nothing.
+/// A new key has seen what the key that made it has seen.
 pub struct NewKey;
 
 impl Split<KeyView> for NewKey {

@@ -1,10 +1,10 @@
 //! The engine, taken out of the lock.
-ghost use Rattle.std.specs.Prelude.{◌≡◌, ◌≤◌, ◌∷◌, [], false, true, Some, IfNone, IfSome};
+ghost use Rattle.std.specs.Prelude.{◌≡◌, ◌≤◌, ◌-◌, ◌∷◌, [], false, true, Some, IfNone, IfSome, MatchOption};
 ghost use Rattle.std.specs.List.{AllByRecursion};
 ghost use mathlib.Core.List.{IsPrefix};
-ghost use Rattle.mx_journal.specs.History.{has_ticket, is_maker, running};
+ghost use Rattle.mx_journal.specs.History.{has_ticket, is_maker, retire, running};
 ghost use Rattle.mx_journal.specs.Answers.{handle_of};
-ghost use Rattle.mx_journal.specs.Core.{claimed, queued};
+ghost use Rattle.mx_journal.specs.Core.{claimed, one_out, queued, retired};
 ghost use Rattle.mx_journal.specs.Replies.{IsGivenBack, is_back, queue_given};
 ghost use Rattle.mx_journal.specs.Receipts.{is_poll};
 ghost use Rattle.mx_journal.specs.Slots.{slot_of};
@@ -15,7 +15,7 @@ ghost use Rattle.mx_lock.specs.Ties.{Has, Tells, tie};
 use crate::claim::TiedClaim;
 use crate::deeds::Deed;
 use crate::engine::{Engine, Parts};
-use mx_board::BoardReader;
+use mx_board::{BoardReader, BoardWriter};
 use mx_journal::GiveBackReply;
 use mx_types::{Ending, Who, Work};
 use std::marker::Model;
@@ -72,6 +72,16 @@ impl<Q: Work + Drop, O: Ending + Drop> Taken<Q, O> {
         (Taken { engine }, reply)
     }
 
+    /// Retires its old history, over a board of what is kept; it goes into a lock of its own.
+    pub fn retire<R: Wait>(self, rt: &R, log: BoardWriter) -> Engine<Q, O>
+        requires none { self.core.out ≡ 0 }
+        requires log { (log.events ≡ retire self.core.journal) × (log.published ≡ retire self.core.journal) }
+        ensures { result ≡ record { core = retired self.core; published = retire self.core.journal; book = log.book; ties = self.ties } }
+    {
+        let Taken { engine } = self;
+        engine.retire(rt, log)
+    }
+
     /// Brings a reader up to the journal.
     pub fn refresh(&mut self, reader: &mut BoardReader)
         requires begins { IsPrefix reader.old.seen self.old.core.journal }
@@ -90,6 +100,7 @@ impl<Q: Work + Drop, O: Ending + Drop> Taken<Q, O> {
         ensures own { IfSome result (λ r. r.0.of ≡ self.new.ties.book) }
         ensures request { IfSome result (λ r. Has self.new.ties.entries (tie r.0.ticket r.0.origin)) }
         ensures endings { self.new.core.endings ≡ self.old.core.endings }
+        ensures out { MatchOption result (self.new.core.out ≡ self.old.core.out) (λ _. self.new.core.out ≡ one_out self.old.core.out) }
         ensures none { IfNone result ((self.old.core.queue ≡ []) × (self.new.core.queue ≡ [])) }
         ensures some { IfSome result (λ r. self.old.core.queue ≡ (r.0.ticket, r.1) ∷ self.new.core.queue) }
         ensures claimed { IfSome result (λ r. has_ticket r.0.ticket (claimed self.new.core.journal self.new.core.queue) ≡ true) }
@@ -104,13 +115,14 @@ impl<Q: Work + Drop, O: Ending + Drop> Taken<Q, O> {
         Some((TiedClaim::of(claim, parts.ties.mark()), work))
     }
 
-    /// Puts claimed work back into the queue, to the place of its ticket; `Stale` hands it back, and changes nothing.
+    /// Puts claimed work back into the queue, to the place of its ticket; `Stale` hands it back. The claim is spent.
     pub fn give_back(&mut self, claim: TiedClaim<Q>, work: Q) -> GiveBackReply<Q>
         requires origin { Q.origin work ≡ claim.origin }
         requires own { claim.of ≡ self.old.ties.book }
         ensures journal { (self.new.core.journal ≡ self.old.core.journal) × (self.new.core.opening ≡ self.old.core.opening) × (self.new.book ≡ self.old.book) }
         ensures ties { self.new.ties ≡ self.old.ties }
         ensures endings { self.new.core.endings ≡ self.old.core.endings }
+        ensures out { self.new.core.out ≡ self.old.core.out - 1 }
         ensures back { is_back result ≡ has_ticket claim.ticket (claimed self.old.core.journal self.old.core.queue) }
         ensures runs { is_back result ≡ true → has_ticket claim.ticket (running self.old.core.journal) ≡ true }
         ensures queue { self.new.core.queue ≡ queue_given result self.old.core.queue claim.ticket work }

@@ -32,4 +32,4 @@ returns-clause-tells g c =
     let ties : c.tie_addition.new.ties.entries ≡ origins_added c.add-reply.result c.args.parts.now.ties.entries origin =
     c.tie_addition.ensures.ties ∙ ap (λ (w : g.row.Q.Denot). origins_added c.add-reply.result c.args.parts.now.ties.entries (g.Q.Work.origin w)) c.of-added.ensures in
     subst (Tells (tie_added c.add-reply.result origin)) (sym ties)
-    (added_tells g.O.Ending.origin x.opening c.args.who c.args.self.handle x c.add-reply.new.self.journal c.args.parts.now.ties.entries c.add-reply.result origin c.requires.tied c.sound.ensures.origins.0 c.add-reply.ensures.called.answers)
+    (added_tells g.O.Ending.origin c.args.who c.args.self.handle x c.add-reply.new.self.journal c.args.parts.now.ties.entries c.add-reply.result origin c.requires.tied c.sound.ensures.origins.0 c.add-reply.ensures.called.answers)

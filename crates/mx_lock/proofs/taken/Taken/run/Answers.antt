@@ -11,7 +11,7 @@ make-reply-requires-clause-own g c =
 pub publish-engine-requires : goal.publish-engine-requires
 publish-engine-requires g c =
     let m = rw c.deref_mut.ensures.value at c.make-reply.ensures.makes in
-    (log_is _ _ _ _ _ _ _ _ m.called.answers c.engine.invariant.0 m.called.logged, m.tied)
+    (log_is c.engine.inside.parts.value.core.opening _ _ _ _ _ _ _ m.called.answers c.engine.invariant.0 m.called.logged, m.tied)
 
 pub returns-clause-leaves : goal.returns-clause-leaves
 returns-clause-leaves g c = leaves_by g.O.Ending.origin c.args.who _ _ c.args.self _ _ _ _ _ _ _ (c.engine.view_is ∙ c.self.view_is) c.publish-engine.ensures.is (rw c.deref_mut.ensures.value at c.make-reply.ensures.makes) c.publish-engine.ensures.legal
