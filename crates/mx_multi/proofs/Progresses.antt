@@ -1,5 +1,5 @@
 -- Progress never falls.
-use Rattle.std.proofs.Common.{◌≡◌, ℕ, ◌+◌, ◌*◌, ◌<◌, ◌≤◌, ◌∙◌, ◌⊎◌, inl, inr, sym, refl, ap, subst, List, [], ◌∷◌, ◌++◌, Bool, true, false, cond, max, arith}
+use Rattle.std.proofs.Common.{◌≡◌, ℕ, ◌<◌, ◌≤◌, ◌∙◌, ◌⊎◌, inl, inr, sym, refl, ap, subst, List, [], ◌∷◌, ◌++◌, Bool, true, false, cond, max, arith}
 use Rattle.std.proofs.Math.Nat.{le-max_left, le-max_right}
 use Rattle.std.specs.Prelude.{◌==◌, nat_lt, Option, Some, None}
 use Rattle.std.specs.Option.{is_some, unwrap_or}

@@ -1,7 +1,9 @@
 -- Runs of calls.
-use Rattle.std.proofs.Common.{◌≡◌, ℕ, ◌+◌, ◌<◌, ◌∙◌, sym, refl, ap, subst, List, [], ◌∷◌, ◌++◌, append-nil, append_assoc, length, map, take, get_or}
+use Rattle.std.proofs.Common.{◌≡◌, ℕ, ◌+◌, ◌<◌, ◌∙◌, sym, refl, ap, subst, List, [], ◌∷◌, ◌++◌, append-nil, append_assoc, length, take, get_or}
 use Rattle.std.proofs.lemmas.List.{take_more, map-append}
+use Rattle.mx_types.specs.declared.event.Event.{Event}
 use Rattle.mx_types.specs.declared.event.Who.{Who}
+use Rattle.mx_types.specs.declared.origin.Origin.{Origin}
 use Rattle.mx_types.specs.declared.call.Call.{Call}
 use Rattle.mx_types.specs.declared.call.Receipt.{Receipt}
 use Rattle.mx_types.specs.declared.reply.Reply.{Reply}
@@ -67,10 +69,11 @@ script_met s t u script r h claims = record {
 }
 
 -- a new seat has no receipts, so its first call is placed alone
-pub first_is_placed : {Q O : Type 0} (m : MultiView Q O) (w : Who) (s t : SeatView Q O) (call : Call) (reply : Reply) → IsNew m w s → Stands s t call reply
+pub first_is_placed : {Q O : Type 0} (m : MultiView Q O) (j : List Event) (ties : List Origin) (w : Who) (s t : SeatView Q O) (call : Call) (reply : Reply) → m.engine.opening.from ≡ length j → IsNew m j ties w s → Stands s t call reply
     → IsPlaced m.engine.opening w (record { cut = length t.seen; call = call; reply = reply } ∷ []) t.seen
-first_is_placed {Q} {O} m w s t call reply new h =
+first_is_placed {Q} {O} m j ties w s t call reply begun new h =
     let mine : List Receipt = record { cut = length t.seen; call = call; reply = reply } ∷ [] in
+    let from = ap (λ (z : MultiView Q O). z.engine.opening.from) new.of in
     subst (λ (z : MultiView Q O). IsPlaced z.engine.opening w mine t.seen) (h.of ∙ new.of)
     (subst (λ x. IsPlaced t.of.engine.opening x mine t.seen) (h.who ∙ new.who)
-    (subst (λ l. IsPlaced t.of.engine.opening t.who l t.seen) (h.mine ∙ ap (λ l. l ++ mine) new.mine) (h.placed (new_received s new.seen new.polled new.mine)).placed))
+    (subst (λ l. IsPlaced t.of.engine.opening t.who l t.seen) (h.mine ∙ ap (λ l. l ++ mine) new.mine) (h.placed (new_received s (from ∙ begun ∙ sym (ap length new.seen)) (new.polled ∙ sym from) new.mine)).placed))

@@ -46,7 +46,7 @@ at_work_send = search (sendable, crosses) depth 40
 multi_inside : (Q O : RattleType) (g : work.Ghosts Q.Denot) (h : ending.Ghosts O.Denot) → IsSend Q → IsSend O → IsSync (MultiInside.the_field Q O g h).row
 multi_inside Q O g h q o = struct_sync (shape (MultiInside.the_type Q O g h)) (
   lock_sync Q O g h q o,
-  (mark_sync Event.the_row, (tie_sync Origin.the_row, (words_sync, (search (sendable, crosses) depth 40, (search (sendable, crosses) depth 40, (search (sendable, crosses) depth 40, (search (sendable, crosses) depth 40, tt))))))),
+  (mark_sync Event.the_row, (tie_sync Origin.the_row, (words_sync, (search (sendable, crosses) depth 40, (search (sendable, crosses) depth 40, (search (sendable, crosses) depth 40, (search (sendable, crosses) depth 40, (search (sendable, crosses) depth 40, tt)))))))),
 )
 
 pub multi_sync : (Q O : RattleType) (g : work.Ghosts Q.Denot) (h : ending.Ghosts O.Denot) → IsSend Q → IsSend O → IsSync (Multi.the_row Q O g h)

@@ -1,6 +1,6 @@
 -- What a call says of its seat.
 use Rattle.std.proofs.Common.{◌≡◌, inl, inr, ℕ, ◌∙◌, sym, refl, ap, subst, List, [], ◌∷◌, ◌+◌, ◌≤◌, ◌++◌, append-nil, length, length-append, Bool, MatchBool, true, false, cond, arith}
-use Rattle.std.specs.Prelude.{not, ◌||◌, Option, Some, None}
+use Rattle.std.specs.Prelude.{not, Option, Some, None}
 use Rattle.std.specs.List.{filter}
 use Rattle.std.specs.Option.{unwrap_or}
 use mathlib.Core.List.{IsPrefix}
@@ -17,11 +17,11 @@ use Rattle.mx_types.specs.declared.call.Call.TheVariants as call
 use Rattle.mx_types.specs.declared.reply.Reply.{Reply}
 use Rattle.mx_types.specs.declared.reply.Reply.TheVariants as reply
 use Rattle.mx_journal.specs.Core.{claimed}
-use Rattle.mx_journal.specs.History.{has_ticket, is_legal, made_by, same_ticket}
+use Rattle.mx_journal.specs.History.{has_ticket, is_legal, made_by}
 use Rattle.mx_journal.specs.Answers.{Answers, is_ready}
 use Rattle.mx_journal.specs.Receipts.{is_poll, mark, IsPlaced}
 use Rattle.mx_journal.specs.Laws.{HasAtMostOneMore}
-use Rattle.mx_history.proofs.Lists.{same-is, same-refl}
+use Rattle.mx_history.proofs.Lists.{same-refl}
 use Rattle.mx_history.proofs.Placing.{call_adds_at_most_one, call_is_placed, placed_stays}
 use Rattle.mx_board.specs.Board.{ReaderState, Reads, caught_up}
 use Rattle.mx_board.specs.Progress.{NoteState}
@@ -50,8 +50,8 @@ polled_after call n p = cond (is_poll call) n p
 pub receipt_is : (new old : List Receipt) (n k : ℕ) (c d : Call) (r q : Reply) → new ≡ old ++ record { cut = n; call = c; reply = r } ∷ [] → n ≡ k → c ≡ d → r ≡ q → new ≡ old ++ record { cut = k; call = d; reply = q } ∷ []
 receipt_is new old n k c d r q is cut call reply = is ∙ (λ i. old ++ record { cut = cut i; call = call i; reply = reply i } ∷ [])
 
-mark_more : (mine : List Receipt) (call : Call) (reply : Reply) (n : ℕ) → mark (mine ++ record { cut = n; call = call; reply = reply } ∷ []) ≡ polled_after call n (mark mine)
-mark_more mine call reply n = fold-append (λ m (r : Receipt). cond (is_poll r.call) r.cut m) 0 mine (record { cut = n; call = call; reply = reply } ∷ [])
+mark_more : (from : ℕ) (mine : List Receipt) (call : Call) (reply : Reply) (n : ℕ) → mark from (mine ++ record { cut = n; call = call; reply = reply } ∷ []) ≡ polled_after call n (mark from mine)
+mark_more from mine call reply n = fold-append (λ m (r : Receipt). cond (is_poll r.call) r.cut m) from mine (record { cut = n; call = call; reply = reply } ∷ [])
 
 module _ {Q O : Type 0} where
   pub stands_at : (s t : SeatView Q O) (j : List Event) (call : Call) (reply : Reply) → t.of ≡ s.of → t.who ≡ s.who → Finds s j → Answers s.of.engine.opening s.who call j reply t.seen → is_legal t.seen ≡ true
@@ -78,7 +78,7 @@ module _ {Q O : Type 0} where
               (subst (λ w. IsPlaced t.of.engine.opening w (s.mine ++ new ∷ []) t.seen) (sym who)
               (subst (λ (o : MultiView Q O). IsPlaced o.engine.opening s.who (s.mine ++ new ∷ []) t.seen) (sym same)
               (call_is_placed s.of.engine.opening s.who s.mine s.seen j t.seen call reply h.placed f.later f.own a (λ is. ap (λ m. is_ready m t.seen) h.polled ∙ ready is))));
-          polled = ap mark mine ∙ mark_more s.mine call reply (length t.seen) ∙ ap (λ m. polled_after call (length t.seen) m) h.polled ∙ sym at;
+          polled = ap (λ (o : MultiView Q O). mark o.engine.opening.from t.mine) same ∙ ap (mark s.of.engine.opening.from) mine ∙ mark_more s.of.engine.opening.from s.mine call reply (length t.seen) ∙ ap (λ m. polled_after call (length t.seen) m) h.polled ∙ sym at;
         };
       }
 
@@ -97,7 +97,7 @@ module _ {Q O : Type 0} where
       placed = subst (λ l. IsPlaced t.of.engine.opening t.who l t.seen) (sym mine)
           (subst (λ w. IsPlaced t.of.engine.opening w s.mine t.seen) (sym who)
           (subst (λ (o : MultiView Q O). IsPlaced o.engine.opening s.who s.mine t.seen) (sym same) (placed_stays s.of.engine.opening s.who s.mine s.seen t.seen h.placed f.later f.own)));
-      polled = ap mark mine ∙ h.polled ∙ sym polled;
+      polled = ap (λ (o : MultiView Q O). mark o.engine.opening.from t.mine) same ∙ ap (mark s.of.engine.opening.from) mine ∙ h.polled ∙ sym polled;
     };
   }
 
@@ -113,11 +113,11 @@ module _ {Q O : Type 0} where
   pub sees_from : (old s t : SeatView Q O) → old ≡ s → Sees old t → Sees s t
   sees_from old s t e h = subst (λ (z : SeatView Q O). Sees z t) e h
 
-  of_is : (a b : MultiView Q O) → a.table ≡ b.table → a.keys ≡ b.keys → a.engine ≡ b.engine → a.words ≡ b.words → a.max_connects ≡ b.max_connects → a ≡ b
-  of_is a b p q r w n i = record { table = p i; keys = q i; engine = r i; words = w i; max_connects = n i }
+  of_is : (a b : MultiView Q O) → a.table ≡ b.table → a.keys ≡ b.keys → a.engine ≡ b.engine → a.words ≡ b.words → a.limits ≡ b.limits → a ≡ b
+  of_is a b p q r w n i = record { table = p i; keys = q i; engine = r i; words = w i; limits = n i }
 
   -- a key that stays at its lock is of the same engine
-  pub same_of : (old new inner multi : MultiView Q O) (s : SeatView Q O) → s.of ≡ multi → inner ≡ multi → old ≡ s.of → new.table ≡ inner.table → new.keys ≡ inner.keys → new.engine ≡ old.engine → new.words ≡ old.words → new.max_connects ≡ old.max_connects → new ≡ old
+  pub same_of : (old new inner multi : MultiView Q O) (s : SeatView Q O) → s.of ≡ multi → inner ≡ multi → old ≡ s.of → new.table ≡ inner.table → new.keys ≡ inner.keys → new.engine ≡ old.engine → new.words ≡ old.words → new.limits ≡ old.limits → new ≡ old
   same_of old new inner multi s own in_ was t k e w n =
       let all : inner ≡ old = in_ ∙ sym own ∙ sym was in
       of_is new old (t ∙ ap (λ (m : MultiView Q O). m.table) all) (k ∙ ap (λ (m : MultiView Q O). m.keys) all) e w n
@@ -369,7 +369,7 @@ pub ready_as : {Q O : Type 0} (b : Bool) (n : ℕ) (x y : EngineState Q O) → x
 ready_as {Q} {O} b n x y e h = subst (λ (z : EngineState Q O). b ≡ is_ready n z.core.journal) e h
 
 pub woken : {Q O : Type 0} (who : Who) (x : EngineState Q O) → is_legal x.core.journal ≡ true → Leaves who call.Poll x reply.Woken x
-woken who x legal = record { answers = (refl, sym (append-nil x.core.journal)); opening = refl; book = refl; ties = refl; legal = legal; claims = λ t h. h; unchanged = λ none. refl }
+woken who x legal = record { answers = (refl, sym (append-nil x.core.journal)); opening = refl; book = refl; ties = refl; legal = legal; claims = λ t h. h; out = refl; unchanged = λ none. refl }
 
 pub caught_confirmed : {Q O : Type 0} (who : Who) (t : ReaderState) (y : EngineState Q O) → t ≡ at_end who y → t.confirmed ≡ length t.seen
 caught_confirmed who t y got = ap (λ (z : ReaderState). z.confirmed) got ∙ ap length (sym (ap (λ (z : ReaderState). z.seen) got))
@@ -380,7 +380,7 @@ quiet_mark c n p quiet = ap (λ b. cond b n p) (sym quiet)
 -- a seat whose key put back what it took
 pub received_released : {Q O : Type 0} (v u : KeyView) (r : ReaderState) (of of' : MultiView Q O) (p : ℕ) (n : NoteState) (k : List Origin) (m : List Receipt) (back : List Ticket) → of'.engine ≡ of.engine → HasReceipts (seat_of of v r p n k m back) → HasReceipts (seat_of of' u r p n k m back)
 received_released v u r of of' p n k m back same h =
-    record { placed = subst (λ (e : EngineId). IsPlaced e.opening r.who m r.seen) (sym same) h.placed; polled = h.polled }
+    record { placed = subst (λ (e : EngineId). IsPlaced e.opening r.who m r.seen) (sym same) h.placed; polled = ap (λ (e : EngineId). mark e.opening.from m) same ∙ h.polled }
 
 pub left_from : {Q O : Type 0} (code : O → Code) (size : O → ℕ) (old s t : SeatView Q O) (reply : Reply) → old ≡ s → LeavesState code size old t reply → LeavesState code size s t reply
 left_from {Q} {O} code size old s t reply e h = subst (λ (z : SeatView Q O). LeavesState code size z t reply) e h
@@ -414,7 +414,7 @@ sees_version {Q} {O} of of' v r t p n m k mine back same h = record {
   placed = λ q. record {
     placed = subst (λ (o : MultiView Q O). IsPlaced o.engine.opening t.who mine t.seen) (sym same)
         (subst (λ w. IsPlaced of.engine.opening w mine t.seen) (sym h.who) (placed_stays of.engine.opening r.who mine r.seen t.seen q.placed h.later h.own));
-    polled = q.polled;
+    polled = ap (λ (o : MultiView Q O). mark o.engine.opening.from mine) same ∙ q.polled;
   };
 }
 

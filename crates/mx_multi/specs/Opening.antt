@@ -1,10 +1,13 @@
--- Opening a multi handle.
+-- Opening a multi handle, and founding it anew.
 use Rattle.std.specs.Prelude.{◌≡◌, ℕ, ◌+◌, nat_le, ◌&&◌, Bool, true, false, if◌then◌else◌, List, [], ◌∷◌, length, All}
 use Rattle.logbook.specs.Pages.{Book}
 use Rattle.mx_types.specs.Limits.{least_history, most_history, most_seats}
+use Rattle.mx_types.specs.declared.event.Event.{Event}
 use Rattle.mx_types.specs.declared.event.Who.{Who}
 use Rattle.mx_types.specs.declared.event.Who.TheVariants as who
+use Rattle.mx_types.specs.declared.origin.Origin.{Origin}
 use Rattle.mx_board.specs.Board.{ReaderState, caught_up}
+use Rattle.mx_lock.specs.Engine.{EngineState, content}
 use Rattle.mx_multi.specs.declared.open.Limits.{Limits}
 use Rattle.mx_multi.specs.declared.open.OpenError.{OpenError}
 use Rattle.mx_multi.specs.declared.open.OpenError.TheVariants as refusal
@@ -31,23 +34,35 @@ maker_of worker n = if worker then who.Worker n else who.Seat n
 abbrev pub first_of : Bool → ℕ
 first_of worker = if worker then 17 else 1
 
--- readers for the makers from the nth on, which have seen an empty journal
-abbrev pub AreReaders : Bool → ℕ → Book → List ReaderState → Type 0
-AreReaders worker n book [] = Unit {0}
-AreReaders worker n book (r ∷ rs) = (r ≡ caught_up (maker_of worker n) [] book) × AreReaders worker (n + 1) book rs
+-- readers for the makers from the nth on, which have seen the journal
+abbrev pub AreReaders : Bool → ℕ → List Event → Book → List ReaderState → Type 0
+AreReaders worker n j book [] = Unit {0}
+AreReaders worker n j book (r ∷ rs) = (r ≡ caught_up (maker_of worker n) j book) × AreReaders worker (n + 1) j book rs
 
 -- new seats of the makers from the nth on
-abbrev pub AreNew : {Q O : Type 0} → MultiView Q O → Bool → ℕ → List (SeatView Q O) → Type 0
-AreNew m worker n [] = Unit {0}
-AreNew m worker n (s ∷ ss) = IsNew m (maker_of worker n) s × AreNew m worker (n + 1) ss
+abbrev pub AreNew : {Q O : Type 0} → MultiView Q O → List Event → List Origin → Bool → ℕ → List (SeatView Q O) → Type 0
+AreNew m j ties worker n [] = Unit {0}
+AreNew m j ties worker n (s ∷ ss) = IsNew m j ties (maker_of worker n) s × AreNew m j ties worker (n + 1) ss
+
+-- a multi handle over this engine, with these limits: its seats and its workers' seats, each with a maker of its own, have seen the
+-- journal with which the engine began, and know its ties
+pub record IsFounded {Q O : Type 0} (l : Limits) (x : EngineState Q O) (m : MultiView Q O) (seats workers : List (SeatView Q O)) : Type 0 where
+  pub engine : m.engine ≡ (content x).engine
+  pub limits : m.limits ≡ l
+  pub seats_new : AreNew m x.core.journal x.ties.entries false 0 seats
+  pub seats_all : length seats ≡ l.seats
+  pub workers_new : AreNew m x.core.journal x.ties.entries true 0 workers
+  pub workers_all : length workers ≡ l.workers
+  pub seats_own : All (λ (s : SeatView Q O). s.of ≡ m) seats
+  pub workers_own : All (λ (s : SeatView Q O). s.of ≡ m) workers
 
 -- what was opened, with these limits: the seats and the workers' seats, each with a maker of its own, have seen nothing
 pub record IsOpened {Q O : Type 0} (l : Limits) (m : MultiView Q O) (seats workers : List (SeatView Q O)) : Type 0 where
-  pub history : m.engine.opening ≡ record { history = l.history }
-  pub max_connects : m.max_connects ≡ l.max_connects
-  pub seats_new : AreNew m false 0 seats
+  pub opening : m.engine.opening ≡ record { history = l.history; first = 0; from = 0 }
+  pub limits : m.limits ≡ l
+  pub seats_new : AreNew m [] [] false 0 seats
   pub seats_all : length seats ≡ l.seats
-  pub workers_new : AreNew m true 0 workers
+  pub workers_new : AreNew m [] [] true 0 workers
   pub workers_all : length workers ≡ l.workers
   pub seats_own : All (λ (s : SeatView Q O). s.of ≡ m) seats
   pub workers_own : All (λ (s : SeatView Q O). s.of ≡ m) workers

@@ -1,5 +1,5 @@
 -- What a seat has seen, and what a call says of it.
-use Rattle.std.specs.Prelude.{◌≡◌, ℕ, ◌+◌, ◌≤◌, if◌then◌else◌, true, false, List, [], ◌∷◌, ◌++◌, length}
+use Rattle.std.specs.Prelude.{◌≡◌, ℕ, ◌+◌, ◌-◌, ◌≤◌, if◌then◌else◌, true, false, List, [], ◌∷◌, ◌++◌, length}
 use Rattle.std.specs.List.{AllByRecursion}
 use mathlib.Core.List.{IsPrefix}
 use Rattle.atomic_table.specs.Seated.{TableId}
@@ -18,21 +18,22 @@ use Rattle.mx_journal.specs.Answers.{Answers, is_ready}
 use Rattle.mx_journal.specs.Receipts.{comes_with_event, is_poll, mark, IsPlaced}
 use Rattle.mx_journal.specs.declared.replies.GiveBackReply.{GiveBackReply}
 use Rattle.mx_journal.specs.Replies.{is_back, queue_given}
-use Rattle.mx_journal.specs.Core.{claimed, queued}
+use Rattle.mx_journal.specs.Called.{out_after}
+use Rattle.mx_journal.specs.Core.{claimed, one_out, queued, with_out}
 use Rattle.mx_board.specs.Board.{ReaderState, ConfirmsAllButLast}
 use Rattle.mx_board.specs.Progress.{NoteState}
 use Rattle.mx_lock.specs.Engine.{EngineState, EngineId, IsLocked, content}
 use Rattle.mx_lock.specs.Lock.{maker, engine_of}
 use Rattle.mx_lock.specs.declared.key_view.KeyView.{KeyView}
+use Rattle.mx_multi.specs.declared.open.Limits.{Limits}
 
--- which engine it is: its lock, its journal, what it was opened with, its progress words, and how many idle connections a worker of
--- it keeps at most
+-- which engine it is: its lock, its journal and what that began with, its progress words, and the limits that it was opened with
 pub record MultiView (Q O : Type 0) : Type 0 where
   pub table : TableId
   pub keys : Badge (Key (EngineState Q O))
   pub engine : EngineId
   pub words : TableId
-  pub max_connects : ℕ
+  pub limits : Limits
 
 -- a seat: of which engine it is, which maker, the events that it has seen, how many of these are confirmed by more than a
 -- read, how many they were at its last poll, the tickets that it has claimed and those that it has given back, the progress words
@@ -66,7 +67,7 @@ IsAhead r j = IsPrefix r.seen j × (made_by r.who j ≡ made_by r.who r.seen)
 -- the seat's receipts are those of its calls: they stand in what it has seen, and the last poll among them is its last poll
 pub record HasReceipts {Q O : Type 0} (s : SeatView Q O) : Type 0 where
   pub placed : IsPlaced s.of.engine.opening s.who s.mine s.seen
-  pub polled : mark s.mine ≡ s.polled
+  pub polled : mark s.of.engine.opening.from s.mine ≡ s.polled
 
 -- a journal that begins with what the seat has seen, and has no event more of its own
 pub record Finds {Q O : Type 0} (s : SeatView Q O) (j : List Event) : Type 0 where
@@ -147,7 +148,8 @@ pub record FindsNoneReady {Q O : Type 0} (code : O → Code) (size : O → ℕ) 
   pub none : is_ready s.polled found.core.journal ≡ false
 
 -- A call of a seat left the engine so, with this reply: it found a state whose journal begins with what the seat had seen, and left one with the
--- journal that the seat has then seen. Where the call came with no event, queue and endings are as they were.
+-- journal that the seat has then seen. Where the call came with no event, queue and endings are as they were. An end that isn't refused for want
+-- of memory spends its claim.
 pub record LeavesState {Q O : Type 0} (code : O → Code) (size : O → ℕ) (s t : SeatView Q O) (reply : Reply) : Type 0 where
   pub found : EngineState Q O
   pub engine : (content found).engine ≡ s.of.engine
@@ -155,10 +157,11 @@ pub record LeavesState {Q O : Type 0} (code : O → Code) (size : O → ℕ) (s 
   pub locked : IsLocked code size found
   pub after : EngineState Q O
   pub left : FoundState code size t after
-  pub unchanged : comes_with_event reply ≡ false → after.core ≡ found.core
+  pub out : after.core.out ≡ out_after reply found.core.out
+  pub unchanged : comes_with_event reply ≡ false → after.core ≡ with_out (out_after reply found.core.out) found.core
 
 -- What was claimed came first in the queue that was found there, under the least ticket. The queue that was left is the rest, the ticket is then
--- claimed, and the endings are as they were.
+-- claimed, the endings are as they were, and one claim more is out.
 pub record ClaimsLeast {Q O : Type 0} (code : O → Code) (size : O → ℕ) (s : SeatView Q O) (ticket : Ticket) (work : Q) : Type 0 where
   pub found : EngineState Q O
   pub is : FoundState code size s found
@@ -168,9 +171,10 @@ pub record ClaimsLeast {Q O : Type 0} (code : O → Code) (size : O → ℕ) (s 
   pub first : found.core.queue ≡ (ticket, work) ∷ after.core.queue
   pub claimed : has_ticket ticket (claimed after.core.journal after.core.queue) ≡ true
   pub endings : after.core.endings ≡ found.core.endings
+  pub out : after.core.out ≡ one_out found.core.out
 
 -- Work was given back: where its ticket ran and wasn't queued, it stands at its place by ticket in the queue that was left.
--- Else the queue was left as it was found
+-- Else the queue was left as it was found. The claim is spent.
 pub record GivesBack {Q O : Type 0} (code : O → Code) (size : O → ℕ) (s : SeatView Q O) (ticket : Ticket) (work : Q) (reply : GiveBackReply Q) : Type 0 where
   pub found : EngineState Q O
   pub is : FoundState code size s found
@@ -179,6 +183,7 @@ pub record GivesBack {Q O : Type 0} (code : O → Code) (size : O → ℕ) (s : 
   pub left : FoundState code size s after
   pub queue : after.core.queue ≡ queue_given reply found.core.queue ticket work
   pub endings : after.core.endings ≡ found.core.endings
+  pub out : after.core.out ≡ found.core.out - 1
 
 -- the tickets that a seat has given back, once work of this one went back, or didn't
 abbrev pub given_with : {Q : Type 0} → GiveBackReply Q → Ticket → List Ticket → List Ticket
@@ -190,16 +195,16 @@ pub record ClaimsNothing {Q O : Type 0} (code : O → Code) (size : O → ℕ) (
   pub is : FoundState code size s found
   pub none : found.core.queue ≡ []
 
--- a seat of the engine that has seen nothing
-pub record IsNew {Q O : Type 0} (m : MultiView Q O) (w : Who) (s : SeatView Q O) : Type 0 where
+-- a new seat of the engine: it has seen the journal with which the engine began, knows its ties, and has made no call
+pub record IsNew {Q O : Type 0} (m : MultiView Q O) (j : List Event) (known : List Origin) (w : Who) (s : SeatView Q O) : Type 0 where
   pub of : s.of ≡ m
   pub who : s.who ≡ w
-  pub seen : s.seen ≡ []
-  pub confirmed : s.confirmed ≡ 0
-  pub polled : s.polled ≡ 0
+  pub seen : s.seen ≡ j
+  pub confirmed : s.confirmed ≡ length j
+  pub polled : s.polled ≡ m.engine.opening.from
   pub claims : s.claims ≡ []
   pub given : s.given ≡ []
-  pub ties : s.ties ≡ []
+  pub ties : s.ties ≡ known
   pub mine : s.mine ≡ []
   pub noted : s.words.noted ≡ []
   pub read : s.words.read ≡ []

@@ -2,7 +2,9 @@
 ghost use Rattle.std.specs.Prelude.{List, ◌≡◌, ◌∷◌, ◌++◌, [], length, take, MatchOption};
 ghost use Rattle.mx_types.specs.declared.call.Call.{Call};
 ghost use Rattle.mx_types.specs.declared.call.Receipt.{Receipt};
+ghost use Rattle.mx_types.specs.declared.event.Event.{Event};
 ghost use Rattle.mx_types.specs.declared.event.Who.{Who};
+ghost use Rattle.mx_types.specs.declared.origin.Origin.{Origin};
 ghost use Rattle.mx_types.specs.declared.reply.Reply.{Reply};
 ghost use Rattle.mx_journal.specs.Receipts.{IsPlaced};
 ghost use Rattle.mx_multi.specs.Seats.{IsNew, Later, SeatView, Sees, Stands};
@@ -18,7 +20,7 @@ use std::thread::{Threads, join};
 impl<Q: Work + Drop, O: Ending + Drop> Multi<Q, O> {
     /// The first answered call of a new seat is placed, alone, in what the seat has then seen.
     pub fn first_call_is_placed(&self)
-        ensures { (who : Who) (s t : SeatView Q O) (call : Call) (reply : Reply) → IsNew self.now who s → Stands s t call reply → IsPlaced self.now.engine.opening who (record { cut = length t.seen; call = call; reply = reply } ∷ []) t.seen }
+        ensures { (j : List Event) (ties : List Origin) (who : Who) (s t : SeatView Q O) (call : Call) (reply : Reply) → self.now.engine.opening.from ≡ length j → IsNew self.now j ties who s → Stands s t call reply → IsPlaced self.now.engine.opening who (record { cut = length t.seen; call = call; reply = reply } ∷ []) t.seen }
     {
         // For the prover alone: a law needs something to be a law of.
         let _ = &self.lock;

@@ -19,10 +19,13 @@
 //! Each `?` stands for what a caller does where a call is refused. A seat and a worker's seat may go to threads of their own.
 #![tactic(auto)]
 
+mod founding;
 mod laws;
+mod meet;
 mod multi;
 mod open;
 mod progress;
+mod retire;
 mod seat;
 mod seated;
 mod surface;
@@ -31,5 +34,6 @@ pub use crate::laws::run_two;
 pub use crate::multi::{HandleList, Multi, WrongSeat};
 pub use crate::open::{Limits, MOST_CONNECTS, OpenError};
 pub use crate::progress::{Progress, progress_never_falls};
-pub use crate::seat::{Application, AtWork, Seat, SeatOf, WorkerSeat};
+pub use crate::retire::{Handle, Refusal, Retiring};
+pub use crate::seat::{Application, AtWork, HistoryUse, Seat, SeatOf, WorkerSeat};
 pub use crate::seated::Seated;

@@ -7,6 +7,7 @@ ghost use Rattle.mx_board.specs.Board.{AreOfOneJournal, OneBeginsOther};
 ghost use Rattle.mx_lock.specs.Ties.{AreOfAdditions, Tells};
 ghost use Rattle.mx_multi.specs.Seats.{IsAhead, Stands, Sees, FindsNoneReady, FindsOther, FoundState, LeavesState};
 
+use crate::open::Limits;
 use crate::seat::{Seat, SeatOf, note_receipt};
 use mx_board::{BoardReader, JournalMark, ProgressTable, are_of_one_journal};
 use mx_lock::{Deed, Engine, Lock, TieMark, lets_polls_return};
@@ -31,30 +32,39 @@ pub struct HandleList {
 #[derive(Drop)]
 pub struct Multi<Q: Work + Drop, O: Ending + Drop> {
     pub(crate) lock: Lock<Q, O>,
-    /// The beginning of the journal, which tells journals apart.
+    /// The journal with which it began, which tells journals apart.
     pub(crate) start: JournalMark,
-    /// The beginning of the list of ties, which tells such lists apart, for contracts alone: it has no size.
-    pub(crate) no_ties: TieMark,
+    /// The ties with which it began, which tell such lists apart, for contracts alone: they have no size.
+    pub(crate) ties: TieMark,
     /// How many bytes each transfer has received.
     pub(crate) words: ProgressTable,
-    pub(crate) history: u32,
-    /// How many idle connections a worker keeps at most.
-    pub(crate) max_connects: u8,
+    pub(crate) limits: Limits,
+    /// The ticket from which on additions are numbered.
+    pub(crate) first: u32,
+    /// How many events were kept at the last retiring.
+    pub(crate) from: u32,
     /// How many wake-ups and ends there were, for those that wait.
     pub(crate) changes: Mutex<u64>,
     pub(crate) changed: Condvar,
 }
 
 impl<Q: Work + Drop, O: Ending + Drop> Model for Multi<Q, O> {
+    ghost use Rattle.std.specs.Prelude.{◌≡◌, true};
+    ghost use Rattle.mx_multi.specs.Opening.{are_within};
     ghost use Rattle.mx_multi.specs.Seats.{MultiView};
 
     ghost Value = { MultiView Q O };
 
-    ghost view = { λ m. record { table = m.lock.table; keys = m.lock.keys; engine = record { book = m.start.book; opening = record { history = m.history }; ties = m.no_ties.book }; words = m.words.id; max_connects = m.max_connects } };
+    ghost view = { λ m. record { table = m.lock.table; keys = m.lock.keys; engine = record { book = m.start.book; opening = record { history = m.limits.history; first = m.first; from = m.from }; ties = m.ties.book }; words = m.words.id; limits = m.limits } };
+
+    ghost invariant = { λ m. are_within m.limits ≡ true };
 }
 
 // Whether the journal begins with what a reader has seen, and has no event more of its maker.
-fn fits<Q: Work + Drop, O: Ending + Drop>(found: &Engine<Q, O>, reader: &BoardReader) -> bool
+pub(crate) fn fits<Q: Work + Drop, O: Ending + Drop>(
+    found: &Engine<Q, O>,
+    reader: &BoardReader,
+) -> bool
     requires { reader.now.book ≡ found.now.book }
     ensures { MatchBool result (IsAhead reader.now found.now.core.journal) (IsAhead reader.now found.now.core.journal → ⊥) }
 {

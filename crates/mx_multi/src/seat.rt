@@ -2,12 +2,12 @@
 ghost use Rattle.std.specs.Prelude.{◌≡◌, ◌++◌, ◌∷◌, [], length};
 ghost use Rattle.mx_multi.specs.Seats.{HasReceipts, given_with};
 
+use crate::open::Limits;
 use mx_board::{BoardReader, NoteSeat};
 use mx_journal::GiveBackReply;
 use mx_lock::{Key, TieMark};
 use mx_types::{Call, Ending, History, Receipt, Reply, Ticket, Work};
 use std::marker::{Model, PhantomData};
-use std::snapshot::Snapshot;
 
 /// The role of an application's thread: it adds, removes, pauses and reads.
 pub struct Application;
@@ -20,6 +20,13 @@ pub type Seat<Q, O> = SeatOf<Application, Q, O>;
 
 /// A worker's seat.
 pub type WorkerSeat<Q, O> = SeatOf<AtWork, Q, O>;
+
+/// How many events a history has, those that the last retiring kept among them, and the most that it may have.
+#[derive(Clone, Copy, Debug, PartialEq, Eq)]
+pub struct HistoryUse {
+    pub events: u32,
+    pub most: u32,
+}
 
 /// A thread's seat, in a role: its key to the lock, and what it has seen. Contracts see of which multi handle it is, whose
 /// it is, the events that it has seen and how many of them are confirmed, how many they were at its last poll, the tickets
@@ -34,8 +41,8 @@ pub struct SeatOf<K, Q: Work + Drop, O: Ending + Drop> {
     pub(crate) polled: u32,
     /// Its right to the progress words.
     pub(crate) notes: NoteSeat,
-    /// How many idle connections a worker of its multi handle keeps at most, for contracts alone: it has no size.
-    pub(crate) max_connects: Snapshot<u8>,
+    /// What its multi handle was opened with.
+    pub(crate) limits: Limits,
     /// Of which requests additions are, for contracts alone: it has no size.
     pub(crate) ties: TieMark,
     /// The receipts of its answered calls, for contracts alone: it has no size.
@@ -51,9 +58,9 @@ impl<K, Q: Work + Drop, O: Ending + Drop> Model for SeatOf<K, Q, O> {
 
     ghost Value = { SeatView Q O };
 
-    ghost view = { λ s. record { of = record { table = s.key.table_id; keys = s.key.me.0.of; engine = engine_of s.key.me.0.client; words = s.notes.of; max_connects = s.max_connects.value }; who = s.reader.who; seen = s.reader.seen; confirmed = s.reader.confirmed; polled = s.polled; claims = s.key.me.0.client.claims; given = s.given; words = s.notes; ties = s.ties.entries; mine = s.mine } };
+    ghost view = { λ s. record { of = record { table = s.key.table_id; keys = s.key.me.0.of; engine = engine_of s.key.me.0.client; words = s.notes.of; limits = s.limits }; who = s.reader.who; seen = s.reader.seen; confirmed = s.reader.confirmed; polled = s.polled; claims = s.key.me.0.client.claims; given = s.given; words = s.notes; ties = s.ties.entries; mine = s.mine } };
 
-    ghost invariant = { λ s. IsSeat s.key.me.0.client s.reader × (s.key.me.1 ≡ []) × HasReceipts (record { of = record { table = s.key.table_id; keys = s.key.me.0.of; engine = engine_of s.key.me.0.client; words = s.notes.of; max_connects = s.max_connects.value }; who = s.reader.who; seen = s.reader.seen; confirmed = s.reader.confirmed; polled = s.polled; claims = s.key.me.0.client.claims; given = s.given; words = s.notes; ties = s.ties.entries; mine = s.mine }) × (s.ties.book ≡ (engine_of s.key.me.0.client).ties) };
+    ghost invariant = { λ s. IsSeat s.key.me.0.client s.reader × (s.key.me.1 ≡ []) × HasReceipts (record { of = record { table = s.key.table_id; keys = s.key.me.0.of; engine = engine_of s.key.me.0.client; words = s.notes.of; limits = s.limits }; who = s.reader.who; seen = s.reader.seen; confirmed = s.reader.confirmed; polled = s.polled; claims = s.key.me.0.client.claims; given = s.given; words = s.notes; ties = s.ties.entries; mine = s.mine }) × (s.ties.book ≡ (engine_of s.key.me.0.client).ties) };
 }
 
 impl<K, Q: Work + Drop, O: Ending + Drop> SeatOf<K, Q, O> {
@@ -62,6 +69,16 @@ impl<K, Q: Work + Drop, O: Ending + Drop> SeatOf<K, Q, O> {
         ensures { result ≡ length self.now.seen }
     {
         self.reader.cut()
+    }
+
+    /// How full the history was when the seat last saw it, and how much it holds: it looks at nothing.
+    pub fn history(&self) -> HistoryUse
+        ensures { (result.events ≡ length self.now.seen) × (result.most ≡ self.now.of.limits.history) }
+    {
+        HistoryUse {
+            events: self.reader.cut(),
+            most: self.limits.history,
+        }
     }
 
     /// Each seat is placed: the receipts of all its calls stand in what it has seen.

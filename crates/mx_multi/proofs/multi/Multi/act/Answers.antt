@@ -73,5 +73,6 @@ returns-clause-left g c =
       after = y;
       left = found_left _ _ c.seat.inside.reader x c.seat.invariant.0 took g.O.Ending.code_of g.O.Ending.size_of _ y leaves.book leaves.opening leaves.ties (sym (ap (λ (t : ReaderState). t.seen) c.leave.ensures.reader))
           (engine_kept _ _ c.seat.inside.reader x c.seat.invariant.0 took _ y c.leave.ensures.gave) (locked_as _ _ _ _ c.engine-left.ensures c.know-left.ensures.locked);
+      out = leaves.out;
       unchanged = leaves.unchanged;
     })

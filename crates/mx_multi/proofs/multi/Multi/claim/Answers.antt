@@ -112,6 +112,7 @@ returns-clause-queue g c =
       first = c.in-Some.ensures.some;
       claimed = c.in-Some.ensures.claimed;
       endings = c.claim-claimed.ensures.endings;
+      out = c.in-Some.ensures.out;
     }
 
 pub returns-clause-request : goal.returns-clause-request

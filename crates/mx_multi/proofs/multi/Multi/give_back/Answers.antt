@@ -54,6 +54,7 @@ returns-clause-queue g c =
       left = found_left _ _ c.seat.inside.reader x c.seat.invariant.0 took g.O.Ending.code_of g.O.Ending.size_of _ y same.2 same.1 (ap (λ (z : TieState). z.book) c.give_back-reply.ensures.ties) (sym seen) engine (locked_as _ _ _ _ c.engine-left.ensures c.know-left.ensures.locked);
       queue = c.give_back-reply.ensures.queue;
       endings = c.give_back-reply.ensures.endings;
+      out = c.give_back-reply.ensures.out;
     }
 
 pub returns-clause-claims : goal.returns-clause-claims

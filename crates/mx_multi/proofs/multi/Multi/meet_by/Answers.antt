@@ -1,0 +1,70 @@
+use Rattle.std.proofs.Common.{◌≡◌, ◌∙◌, ap, refl, sym, subst}
+use Rattle.crossbeam_channel.specs.Claims.{view}
+use Rattle.mx_lock.specs.Lock.{IsKeyOf}
+use Rattle.mx_board.specs.Board.{ReaderState}
+use Rattle.mx_lock.specs.Engine.{EngineState, IsLeft}
+use Rattle.mx_multi.specs.Meeting.{AllSee}
+use Rattle.mx_multi.specs.Retiring.{AllFind}
+use Rattle.mx_multi.specs.Seats.{SeatView}
+use Rattle.mx_multi.proofs.Standing.{list_kept, list_released, seat_after, seat_released, received_same, received_released, lock_sees, same_of, engine_kept, engine_released, sees_from, claims_after, left_same, no_other, legal_as}
+use Rattle.mx_multi.proofs.multi.Multi.meet_by.Goals as goal
+
+pub see_each-requires-clause-find : goal.see_each-requires-clause-find
+see_each-requires-clause-find g c =
+    subst (λ (z : EngineState g.row.Q.Denot g.row.O.Denot). AllFind z.core.journal c.args.seats.now) c.engine-found.ensures c.if-all_find.ensures.0
+
+pub see_each-requires-then-all_find-2-clause-find : goal.see_each-requires-then-all_find-2-clause-find
+see_each-requires-then-all_find-2-clause-find g c =
+    subst (λ (z : EngineState g.row.Q.Denot g.row.O.Denot). AllFind z.core.journal c.args.workers.now) (c.engine-found.ensures ∙ sym c.see_each.ensures.same) c.if-all_find-2.ensures.0
+
+pub invariant_of-one-then-all_find-2 : goal.invariant_of-one-then-all_find-2
+invariant_of-one-then-all_find-2 g c =
+    let k : IsKeyOf c.self.inside.lock c.leave.new.key = c.leave.ensures.kept in
+    let took = c.in-Ok.ensures.entered.0 in
+    let x = c.in-Ok.taken in
+    let y = c.see_each-then-all_find-2.new.taken in
+    let same : y ≡ x = c.see_each-then-all_find-2.ensures.same ∙ c.see_each.ensures.same in
+    let left : IsLeft x y = left_same x y same (legal_as _ _ c.engine-found.ensures c.len-cut.ensures.legal) in (
+      seat_after _ _ c.one.inside.reader x c.one.invariant.0 took _ _ y c.leave.ensures.gave c.leave.ensures.reader left.book,
+      k.2,
+      received_same _ _
+          (lock_sees _ _ c.one.inside.reader x c.one.invariant.0 took _ c.leave.new.reader y c.leave.ensures.gave c.leave.ensures.reader _ _ c.one.inside.polled c.one.inside.notes c.one.inside.ties.entries c.leave.new.ties.entries c.one.inside.mine c.one.inside.given c.one.inside.given c.leave.ensures.told.1 (same_of _ _ _ c.args.self.now c.args.one.now c.requires.own.0 c.self.view_is (ap (λ (s : SeatView g.row.Q.Denot g.row.O.Denot). s.of) c.one.view_is) k.0 k.1 (engine_kept _ _ c.one.inside.reader x c.one.invariant.0 took _ y c.leave.ensures.gave) refl refl) c.in-Ok.ensures.entered.1 left)
+          c.one.invariant.2,
+      list_kept _ _ c.one.inside.reader x c.one.invariant.0 took _ y _ _ c.leave.ensures.gave c.leave.ensures.told.0 c.one.invariant.3,
+    )
+
+pub invariant_of-one-2 : goal.invariant_of-one-2
+invariant_of-one-2 g c =
+    let k : IsKeyOf c.self.inside.lock c.put_back.new.key = c.put_back.ensures.kept in
+    let took = c.in-Ok.ensures.entered.0 in
+    let x = c.in-Ok.taken in (
+      seat_released _ _ c.one.inside.reader x c.one.invariant.0 took _ c.put_back.ensures.gave,
+      k.2,
+      received_released (view c.one.inside.key) (view c.put_back.new.key) c.one.inside.reader _ _ c.one.inside.polled c.one.inside.notes c.one.inside.ties.entries c.one.inside.mine c.one.inside.given (engine_released _ _ c.one.inside.reader x c.one.invariant.0 took _ c.put_back.ensures.gave) c.one.invariant.2,
+      list_released _ _ c.one.inside.reader x c.one.invariant.0 took _ _ c.put_back.ensures.gave c.one.invariant.3,
+    )
+
+pub returns-then-all_find-2 : goal.returns-then-all_find-2
+returns-then-all_find-2 g c =
+    let k : IsKeyOf c.self.inside.lock c.leave.new.key = c.leave.ensures.kept in
+    let took = c.in-Ok.ensures.entered.0 in
+    let x = c.in-Ok.taken in
+    let y = c.see_each-then-all_find-2.new.taken in
+    let first : c.see_each.new.taken ≡ x = c.see_each.ensures.same in
+    let same : y ≡ x = c.see_each-then-all_find-2.ensures.same ∙ first in
+    let left : IsLeft x y = left_same x y same (legal_as _ _ c.engine-found.ensures c.len-cut.ensures.legal) in
+    let found : c.leave.new.reader.seen ≡ x.core.journal = ap (λ (t : ReaderState). t.seen) c.leave.ensures.reader ∙ ap (λ (z : EngineState g.row.Q.Denot g.row.O.Denot). z.core.journal) same in
+    let found_first : c.leave.new.reader.seen ≡ c.see_each.new.taken.core.journal = found ∙ sym (ap (λ (z : EngineState g.row.Q.Denot g.row.O.Denot). z.core.journal) first) in
+    record {
+      meets = (
+        record {
+          sees = sees_from _ _ _ c.one.view_is
+              (lock_sees _ _ c.one.inside.reader x c.one.invariant.0 took _ c.leave.new.reader y c.leave.ensures.gave c.leave.ensures.reader _ _ c.one.inside.polled c.one.inside.notes c.one.inside.ties.entries c.leave.new.ties.entries c.one.inside.mine c.one.inside.given c.one.inside.given c.leave.ensures.told.1 (same_of _ _ _ c.args.self.now c.args.one.now c.requires.own.0 c.self.view_is (ap (λ (s : SeatView g.row.Q.Denot g.row.O.Denot). s.of) c.one.view_is) k.0 k.1 (engine_kept _ _ c.one.inside.reader x c.one.invariant.0 took _ y c.leave.ensures.gave) refl refl) c.in-Ok.ensures.entered.1 left);
+          seen = refl;
+          claims = claims_after _ _ c.one.inside.reader x c.one.invariant.0 took _ _ y c.leave.ensures.gave c.leave.ensures.reader (no_other x y same) ∙ ap (λ (s : SeatView g.row.Q.Denot g.row.O.Denot). s.claims) c.one.view_is;
+          given = ap (λ (s : SeatView g.row.Q.Denot g.row.O.Denot). s.given) c.one.view_is;
+        },
+        subst (λ j. AllSee j c.args.seats.now c.see_each.new.seats) (sym found) c.see_each.ensures.see,
+        subst (λ j. AllSee j c.args.workers.now c.see_each-then-all_find-2.new.seats) (sym found_first) c.see_each-then-all_find-2.ensures.see,
+      );
+    }

@@ -1,0 +1,24 @@
+-- A meeting of all seats.
+use Rattle.std.specs.Prelude.{◌≡◌, ℕ, ◌<◌, true, List, length, slice_index_or}
+use Rattle.mx_types.specs.declared.event.Event.{Event}
+use Rattle.mx_journal.specs.History.{is_legal}
+use Rattle.mx_multi.specs.Seats.{SeatView, Sees}
+
+-- the seat has seen this journal, with no receipt for that, and has claimed and given back nothing
+pub record SeesAll {Q O : Type 0} (j : List Event) (s t : SeatView Q O) : Type 0 where
+  pub sees : Sees s t
+  pub seen : t.seen ≡ j
+  pub claims : t.claims ≡ s.claims
+  pub given : t.given ≡ s.given
+
+-- each of the seats has
+abbrev pub AllSee : {Q O : Type 0} → List Event → List (SeatView Q O) → List (SeatView Q O) → Type 0
+AllSee {Q} {O} j before after = (length after ≡ length before) × ((k : ℕ) (d : SeatView Q O) → k < length before → SeesAll j (slice_index_or before k d) (slice_index_or after k d))
+
+-- each seat and each worker's seat has then seen one legal journal, with so many events
+pub record Meets {Q O : Type 0} (seats met workers met_workers : List (SeatView Q O)) (n : ℕ) : Type 0 where
+  pub list : List Event
+  pub legal : is_legal list ≡ true
+  pub count : n ≡ length list
+  pub for_seats : AllSee list seats met
+  pub for_workers : AllSee list workers met_workers

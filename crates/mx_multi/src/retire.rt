@@ -1,0 +1,250 @@
+//! Retiring old history: the multi handle goes on as it was, over a history that has room again.
+ghost use Rattle.std.specs.Prelude.{◌≡◌, ◌≤◌, ◌+◌, ◌++◌, ◌∷◌, [], false, length, true, vec_capacity, vec_len, IfErr, IfOk, MatchBool, MatchOption, MatchResult};
+ghost use Rattle.std.specs.List.{All};
+ghost use Rattle.std.specs.VecDeque.{deque_len};
+ghost use Rattle.mx_append_log.specs.Log.{AreOfOneList};
+ghost use Rattle.mx_board.specs.Progress.{new_seat};
+ghost use Rattle.mx_journal.specs.History.{retire};
+ghost use Rattle.mx_lock.specs.Engine.{content};
+ghost use Rattle.mx_multi.specs.Opening.{AreReaders};
+ghost use Rattle.mx_multi.specs.Retiring.{refusal_number, AllFind, AllToldOf, Hinders, IsRefused, IsRetiredTo, MatchRetiring, MayRetire, OneFindsOther};
+ghost use Rattle.mx_multi.specs.Seats.{Finds};
+
+use crate::founding::{Rooms, found, make_rooms};
+use crate::multi::{Multi, fits};
+use crate::seat::{Seat, SeatOf, WorkerSeat};
+use mx_board::{BoardWriter, board_of};
+use mx_journal::laws::retiring_keeps;
+use mx_lock::Engine;
+use mx_types::{Ending, OutOfMemory, Work};
+use std::alloc::Global;
+use std::sync::Wait;
+use thiserror::Error;
+
+/// Why a multi handle isn't retired: the first of these that holds.
+#[derive(Clone, Copy, Debug, PartialEq, Eq, Error)]
+pub enum Refusal {
+    /// A seat has seen a journal that isn't the beginning of this one.
+    #[error("a seat is of another multi handle")]
+    WrongSeat,
+    /// There are fewer seats, or fewer workers' seats, than `open` gave.
+    #[error("a seat is missing")]
+    SeatsMissing,
+    /// A claim was made that hasn't come back.
+    #[error("a claim hasn't come back")]
+    ClaimOut,
+    /// A growth was refused.
+    #[error("out of memory")]
+    OutOfMemory,
+}
+
+impl Refusal {
+    /// The number of the refusal.
+    pub fn number(self) -> u32
+        ensures { result ≡ refusal_number self }
+    {
+        match self {
+            Refusal::WrongSeat => 0,
+            Refusal::SeatsMissing => 1,
+            Refusal::ClaimOut => 2,
+            Refusal::OutOfMemory => 3,
+        }
+    }
+}
+
+/// What a retiring answers: the handle with its seats anew, or why not, with what was handed in.
+#[derive(Drop)]
+pub enum Retiring<T> {
+    Retired(T),
+    Refused(Refusal, T),
+}
+
+/// A multi handle with its seats and its workers' seats.
+pub type Handle<Q, O> = (Multi<Q, O>, Vec<Seat<Q, O>>, Vec<WorkerSeat<Q, O>>);
+
+// Whether the journal begins with what the seat has seen, and has no event more of its own. What the seat was told of requests
+// and the engine's list are beginnings of one.
+pub(crate) fn finds<K, Q: Work + Drop, O: Ending + Drop>(
+    found: &Engine<Q, O>,
+    seat: &SeatOf<K, Q, O>,
+) -> bool
+    requires { seat.now.of.engine ≡ (content found.now).engine }
+    ensures finds { MatchBool result (Finds seat.now found.now.core.journal) (Finds seat.now found.now.core.journal → ⊥) }
+    ensures told { AreOfOneList seat.now.ties found.now.ties.entries }
+{
+    seat.ties.are_of_one_list(&found.tie_mark());
+    fits(found, &seat.reader)
+}
+
+// Whether that holds of each of the seats.
+pub(crate) fn all_find<K, Q: Work + Drop, O: Ending + Drop>(
+    found: &Engine<Q, O>,
+    seats: &[SeatOf<K, Q, O>],
+) -> bool
+    requires { All (λ s. s.of.engine ≡ (content found.now).engine) seats.now }
+    ensures { MatchBool result (AllFind found.now.core.journal seats.now × AllToldOf found.now.ties.entries seats.now) (OneFindsOther found.now.core.journal seats.now) }
+{
+    for seat in seats {
+        if !finds(found, seat) {
+            return false;
+        }
+    }
+    true
+}
+
+impl<Q: Work + Drop, O: Ending + Drop> Multi<Q, O> {
+    /// Retires old history: of the journal only the events of the handles that are added are kept, and the multi handle goes on with
+    /// new seats, which have seen those. Handles, their work, their messages and pauses stay as they are. No ticket that
+    /// was given is given again, and the list of requests goes on. Progress words, and the numbers of events that makers made, begin anew; a wake-up
+    /// that no poll has seen is gone, also that of an unread message: read messages before the next poll.
+    ///
+    /// It takes all seats and workers' seats, so no call is under way: each `run_worker` has returned. It waits for nothing else but reads
+    /// that were begun.
+    ///
+    /// # Refusals
+    ///
+    /// The first that applies, in this order; each hands everything back as it was:
+    ///
+    /// - `WrongSeat`: a seat has seen a journal that isn't the beginning of this one. Where there is no application's seat,
+    ///   this isn't looked at;
+    /// - `SeatsMissing`: there are fewer seats, or fewer workers' seats, than `open` gave;
+    /// - `ClaimOut`: a claim was made that hasn't come back by `finish`, recorded or stale, or by `give_back`. One that
+    ///   was dropped hinders retiring for good;
+    /// - `OutOfMemory`: a growth was refused. All of them come before the first change.
+    pub fn retire<R: Wait>(
+        self,
+        rt: &R,
+        alloc: Global,
+        seats: Vec<Seat<Q, O>>,
+        workers: Vec<WorkerSeat<Q, O>>,
+    ) -> Retiring<Handle<Q, O>>
+        requires own { All (λ s. s.of ≡ self) seats.items × All (λ s. s.of ≡ self) workers.items }
+        ensures { MatchRetiring result (λ r. IsRetiredTo O.code_of O.size_of self seats.items workers.items r.0 r.1.items r.2.items) (λ why r. (r.0 ≡ self) × (r.1.items ≡ seats.items) × (r.2.items ≡ workers.items) × IsRefused O.code_of O.size_of self seats.items workers.items why) }
+    {
+        let mut seats = seats;
+        let Some(last) = seats.pop() else {
+            return Retiring::Refused(Refusal::SeatsMissing, (self, seats, workers));
+        };
+        match self.retire_by(rt, alloc, last, &seats, &workers) {
+            Ok(retired) => Retiring::Retired(retired),
+            Err((why, last)) => {
+                seats.push_reserved(last);
+                Retiring::Refused(why, (self, seats, workers))
+            }
+        }
+    }
+
+    // Retires through one seat beside the others. A refusal hands it back.
+    fn retire_by<R: Wait>(
+        &self,
+        rt: &R,
+        alloc: Global,
+        last: Seat<Q, O>,
+        seats: &[Seat<Q, O>],
+        workers: &[WorkerSeat<Q, O>],
+    ) -> Result<Handle<Q, O>, (Refusal, Seat<Q, O>)>
+        requires own { (last.of ≡ self.now) × All (λ s. s.of ≡ self.now) seats.now × All (λ s. s.of ≡ self.now) workers.now }
+        ensures retired { IfOk result (λ r. IsRetiredTo O.code_of O.size_of self.now (seats.now ++ last ∷ []) workers.now r.0 r.1.items r.2.items) }
+        ensures last { IfErr result (λ r. r.1 ≡ last) }
+        ensures refused { IfErr result (λ r. IsRefused O.code_of O.size_of self.now (seats.now ++ last ∷ []) workers.now r.0) }
+    {
+        let mut last = last;
+        let taken = match self.lock.enter(rt, &mut last.key, &last.reader) {
+            Ok(taken) => taken,
+            Err(_found) => return Err((Refusal::WrongSeat, last)),
+        };
+        let engine = taken.engine();
+        let _known = engine.know();
+        last.ties.are_of_one_list(&engine.tie_mark());
+        match self.prepare(rt, alloc, engine, seats, workers) {
+            Ok((rooms, log)) => {
+                let retired = taken.retire(rt, log);
+                Ok(found(rt, rooms, retired, self.limits))
+            }
+            Err(why) => {
+                self.lock.put_back(rt, &mut last.key, taken);
+                Err((why, last))
+            }
+        }
+    }
+
+    // What hinders retiring, with one seat beside these; else all growths for it.
+    fn prepare<R: Wait>(
+        &self,
+        rt: &R,
+        alloc: Global,
+        engine: &Engine<Q, O>,
+        seats: &[Seat<Q, O>],
+        workers: &[WorkerSeat<Q, O>],
+    ) -> Result<(Rooms<Q, O>, BoardWriter), Refusal>
+        requires engine { (content engine.now).engine ≡ self.now.engine }
+        requires own { All (λ s. s.of ≡ self.now) seats.now × All (λ s. s.of ≡ self.now) workers.now }
+        ensures may { MatchResult result (λ _. MayRetire engine.now self.now.limits seats.now workers.now) (λ why. Hinders engine.now self.now.limits seats.now workers.now why) }
+        ensures log { IfOk result (λ r. (r.1.events ≡ retire engine.now.core.journal) × (r.1.published ≡ retire engine.now.core.journal)) }
+        ensures seats { IfOk result (λ r. AreReaders false 0 (retire engine.now.core.journal) r.1.book r.0.for_seats.items × (deque_len r.0.for_seats ≡ self.now.limits.seats)) }
+        ensures workers { IfOk result (λ r. AreReaders true 0 (retire engine.now.core.journal) r.1.book r.0.for_workers.items × (deque_len r.0.for_workers ≡ self.now.limits.workers)) }
+        ensures notes { IfOk result (λ r. All (λ s. s ≡ new_seat r.0.words) r.0.notes.items × (vec_len r.0.notes ≡ self.now.limits.seats + self.now.limits.workers)) }
+        ensures places { IfOk result (λ r. (r.0.seats.items ≡ []) × (self.now.limits.seats ≤ vec_capacity r.0.seats) × (r.0.workers.items ≡ []) × (self.now.limits.workers ≤ vec_capacity r.0.workers)) }
+    {
+        if let Some(why) = self.hinders(engine, seats, workers) {
+            return Err(why);
+        }
+        match self.grow(rt, alloc, engine) {
+            Ok(grown) => Ok(grown),
+            Err(OutOfMemory) => Err(Refusal::OutOfMemory),
+        }
+    }
+
+    // What hinders retiring, with one seat beside these, but for want of memory.
+    fn hinders(
+        &self,
+        engine: &Engine<Q, O>,
+        seats: &[Seat<Q, O>],
+        workers: &[WorkerSeat<Q, O>],
+    ) -> Option<Refusal>
+        requires engine { (content engine.now).engine ≡ self.now.engine }
+        requires own { All (λ s. s.of ≡ self.now) seats.now × All (λ s. s.of ≡ self.now) workers.now }
+        ensures { MatchOption result (MayRetire engine.now self.now.limits seats.now workers.now) (λ why. Hinders engine.now self.now.limits seats.now workers.now why) }
+    {
+        if !all_find(engine, seats) || !all_find(engine, workers) {
+            return Some(Refusal::WrongSeat);
+        }
+        if seats.len() + 1 < usize::from(self.limits.seats)
+            || workers.len() < usize::from(self.limits.workers)
+        {
+            return Some(Refusal::SeatsMissing);
+        }
+        if engine.claim_out() {
+            return Some(Refusal::ClaimOut);
+        }
+        None
+    }
+
+    // All growths of a retiring: a board of what is kept, and rooms with readers of it.
+    fn grow<R: Wait>(
+        &self,
+        rt: &R,
+        alloc: Global,
+        engine: &Engine<Q, O>,
+    ) -> Result<(Rooms<Q, O>, BoardWriter), OutOfMemory>
+        requires engine { (content engine.now).engine ≡ self.now.engine }
+        ensures log { IfOk result (λ r. (r.1.events ≡ retire engine.now.core.journal) × (r.1.published ≡ retire engine.now.core.journal)) }
+        ensures seats { IfOk result (λ r. AreReaders false 0 (retire engine.now.core.journal) r.1.book r.0.for_seats.items × (deque_len r.0.for_seats ≡ self.now.limits.seats)) }
+        ensures workers { IfOk result (λ r. AreReaders true 0 (retire engine.now.core.journal) r.1.book r.0.for_workers.items × (deque_len r.0.for_workers ≡ self.now.limits.workers)) }
+        ensures notes { IfOk result (λ r. All (λ s. s ≡ new_seat r.0.words) r.0.notes.items × (vec_len r.0.notes ≡ self.now.limits.seats + self.now.limits.workers)) }
+        ensures places { IfOk result (λ r. (r.0.seats.items ≡ []) × (self.now.limits.seats ≤ vec_capacity r.0.seats) × (r.0.workers.items ≡ []) × (self.now.limits.workers ≤ vec_capacity r.0.workers)) }
+    {
+        let _known = engine.know();
+        retiring_keeps();
+        let kept = engine.kept(alloc)?;
+        let places = usize::from(self.limits.seats) + usize::from(self.limits.workers);
+        let mut log = board_of(rt, alloc, places, &kept)?;
+        match make_rooms(alloc, &mut log, self.limits) {
+            Ok(rooms) => Ok((rooms, log)),
+            Err(OutOfMemory) => {
+                let _table = log.close(rt);
+                Err(OutOfMemory)
+            }
+        }
+    }
+}
