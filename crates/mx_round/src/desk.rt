@@ -5,7 +5,7 @@ ghost use Rattle.mx_request.specs.Request.{request_origin};
 ghost use Rattle.mx_exchange.specs.Exchanges.{WantsLink};
 ghost use Rattle.mx_chain.specs.Steps.{IfEnded, IfGoing, Steps, how_of};
 ghost use Rattle.mx_gate.specs.Said.{is_stop};
-ghost use Rattle.mx_turn.specs.Workers.{in_hand, holds, IsOver};
+ghost use Rattle.mx_turn.specs.Workers.{Return, gives_back, in_hand, does, holds, IsOver};
 ghost use Rattle.mx_turn.specs.Turn.{Each, Claims, Retries, LooksAt, GivesBack, GoesThrough, Stops, WorkerTurn, longest_wait, prepared, time_left, wait_of};
 ghost use Rattle.mx_round.specs.Desks.{Advances, HandsIn, IsReadied, Polls, beside};
 
@@ -270,7 +270,17 @@ impl<L: Link, C: Right, E: Engine<L, C>> Desk<L, C, E> {
         }
     }
 
-    // Looks at a transfer, and polls it unless it runs no more: then it is dropped with its link.
+    // Gives a transfer back as it stands, with its link. It is held no more, whatever comes of that.
+    fn give_back<R: Wait>(&mut self, rt: &R, held: Held<L, C>)
+        requires own { held.of ≡ self.old.of }
+        ensures gives { (r : Return) × (self.new.worker ≡ does self.old.worker (gives_back held.held r)) }
+        ensures same { self.new ≡ record self.old { worker = self.new.worker } }
+    {
+        let mut place = Some(held);
+        self.engine.give_back(rt, &mut place);
+    }
+
+    // Looks at a transfer, and polls it unless it is gone: then it is given back.
     fn look_at<R: Wait, G: Gate<Link = L>>(
         &mut self,
         rt: &R,
@@ -284,7 +294,7 @@ impl<L: Link, C: Right, E: Engine<L, C>> Desk<L, C, E> {
         ensures same { self.new ≡ record self.old { worker = self.new.worker } }
     {
         match self.engine.look(held.ticket()) {
-            Some(Look::Gone) => {}
+            Some(Look::Gone) => self.give_back(rt, held),
             Some(Look::Go) => self.advance(rt, gate, now, held, true),
             Some(Look::Paused) => self.advance(rt, gate, now, held, false),
             None => self.advance(rt, gate, now, held, false),
@@ -302,8 +312,7 @@ impl<L: Link, C: Right, E: Engine<L, C>> Desk<L, C, E> {
             self.hold(held);
             return;
         }
-        let mut place = Some(held);
-        self.engine.give_back(rt, &mut place);
+        self.give_back(rt, held);
     }
 
     // Hands in the ends again that were set aside, in order.

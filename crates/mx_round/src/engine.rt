@@ -1,5 +1,5 @@
 //! What a worker calls on, and what it has of it.
-ghost use Rattle.std.specs.Prelude.{◌≡◌, ◌↔◌, ℕ, List, [], None, false, ◌∷◌, ◌++◌, option_map, IsTrue, IfSome, min};
+ghost use Rattle.std.specs.Prelude.{◌≡◌, ◌↔◌, ℕ, List, [], None, ◌∷◌, ◌++◌, option_map, IsTrue, IfSome, min};
 ghost use Rattle.logbook.specs.Pages.{Book};
 ghost use Rattle.mx_types.specs.declared.names.Ticket.{Ticket as OneTicket};
 ghost use Rattle.mx_types.specs.declared.origin.Origin.{Origin};
@@ -209,10 +209,9 @@ pub trait Engine<L: Link, C: Right>: Tied + Drop {
         ensures did { IfSome finished.old (λ f. HandsIn (did self.old) (did self.new) f finished.new) }
         ensures same { (Self.of self.new ≡ Self.of self.old) × (start self.new ≡ start self.old) };
 
-    /// Gives a transfer back that has not started.
+    /// Gives a transfer back.
     fn give_back<R: Wait>(&mut self, rt: &R, held: &mut Option<Held<L, C>>)
         requires own { IfSome held.old (λ h. h.of ≡ Self.of self.old) }
-        requires unstarted { IfSome held.old (λ h. h.held.transfer.now.is_started ≡ false) }
         ensures did { IfSome held.old (λ h. (r : Return) × (did self.new ≡ did self.old ++ gives_back h.held r ∷ [])) }
         ensures same { (Self.of self.new ≡ Self.of self.old) × (start self.new ≡ start self.old) };
 }

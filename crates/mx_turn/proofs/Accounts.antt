@@ -1,5 +1,5 @@
 -- Each claim of a worker comes to one end.
-use Rattle.std.proofs.Common.{◌≡◌, ◌≢◌, ℕ, ◌+◌, Bool, true, false, cond, List, [], ◌∷◌, ◌++◌, Option, Some, None, refl, sym, ap, subst, ◌∙◌, arith, append-nil}
+use Rattle.std.proofs.Common.{◌≡◌, ℕ, ◌+◌, Bool, true, false, cond, List, [], ◌∷◌, ◌++◌, Option, Some, None, refl, sym, ap, subst, ◌∙◌, arith, append-nil}
 use Rattle.std.specs.Prelude.{count_by, sum_by, filter_map, ◌||◌, ◌&&◌, not}
 use Rattle.std.specs.List.{cons_option}
 use Rattle.std.proofs.lemmas.List.Sums.{sum_by-append, sum_by-cons, sum_by_push}
@@ -11,7 +11,7 @@ use Rattle.mx_chain.specs.Chains.{received_of}
 use Rattle.mx_chain.specs.Outcomes.{OutcomeValue}
 use Rattle.mx_chain.specs.Steps.{How, waits, asks, ends}
 use Rattle.mx_gate.specs.Said.{told, waited}
-use Rattle.mx_turn.specs.Workers.{Held, SetAside, Worker, Finish, recorded, stale, lacking, unseated, returned, ended_before, unreturned, Deed, claims, looks, notes, gives_back, hears, does, holds, starts}
+use Rattle.mx_turn.specs.Workers.{Held, SetAside, Worker, Finish, recorded, stale, lacking, unseated, Return, returned, ended_before, unreturned, Deed, claims, looks, notes, gives_back, hears, does, holds, starts}
 use Rattle.mx_turn.specs.Turn.{Each, Claims, keeps, finds_none, claims_one, handed_in, Retries, Settles, LooksAt, lets_go, serves, unlinked, GoesThrough, through, due, asks_time, next, GivesBack, holds_on, returns, Stops, wait_of, WorkerTurn, Runs, begins, turns}
 use Rattle.mx_turn.specs.Laws.{claimed_by, recorded_by, stale_by, given_back_by, gone_by, unseated_by, many, EachClaimIsAccounted}
 
@@ -80,11 +80,8 @@ module _ (p : Ticket → Bool) where
       settles_none = omega (arith, settled-append ds es, q.settles_none, r.settles_none);
     }
 
-    quiet-looks : (t : Ticket) (seen : Option Look) → seen ≢ Some look.Gone → IsQuiet (looks t seen ∷ [])
-    quiet-looks t None ne = record { claims_none = refl; settles_none = refl }
-    quiet-looks t (Some look.Go) ne = record { claims_none = refl; settles_none = refl }
-    quiet-looks t (Some look.Paused) ne = record { claims_none = refl; settles_none = refl }
-    quiet-looks t (Some look.Gone) ne = absurd (ne refl)
+    quiet-looks : (t : Ticket) (seen : Option Look) → IsQuiet (looks t seen ∷ [])
+    quiet-looks t seen = record { claims_none = refl; settles_none = refl }
 
     quiet-notes : (t : Ticket) (slot n : ℕ) → IsQuiet (notes t slot n ∷ [])
     quiet-notes t slot n = record { claims_none = refl; settles_none = refl }
@@ -119,13 +116,17 @@ module _ (p : Ticket → Bool) where
     retries_step : (s : SetAside) (w v : Worker L) (n : ℕ) → Retries s w v → Owes w (one s.ticket + n) → Owes v n
     retries_step s w v n (f, e) o = subst (λ x. Owes x n) (sym e) (hands_in s.ticket s.outcome f w n o)
 
+    -- one that is given back is settled, whatever comes of it
+    gives_back_step : (h : Held L) (r : Return) (w : Worker L) (n : ℕ) → Owes w (one h.ticket + n) → Owes (does w (gives_back h r)) n
+    gives_back_step h returned w n o = owes_more w (does w (gives_back h returned)) (one h.ticket + n) n _ o refl (omega arith)
+    gives_back_step h ended_before w n o = owes_more w (does w (gives_back h ended_before)) (one h.ticket + n) n _ o refl (omega arith)
+    gives_back_step h unreturned w n o = owes_more w (does w (gives_back h unreturned)) (one h.ticket + n) n _ o refl (omega arith)
+
     gives_step : (h : Held L) (w v : Worker L) (n : ℕ) → GivesBack h w v → Owes w (one h.ticket + n) → Owes v n
     gives_step h w v n (holds_on started e) o =
         let push : of_held (w.held ++ h ∷ []) ≡ of_held w.held + one h.ticket = sum_by_push (λ (k : Held L). cond (p k.ticket) 1 0) w.held h in
         subst (λ x. Owes x n) (sym e) (owes_more w (holds w h) (one h.ticket + n) n [] o (sym (append-nil w.did)) (omega (arith, push)))
-    gives_step h w v n (returns returned unstarted e) o = subst (λ x. Owes x n) (sym e) (owes_more w (does w (gives_back h returned)) (one h.ticket + n) n _ o refl (omega arith))
-    gives_step h w v n (returns ended_before unstarted e) o = subst (λ x. Owes x n) (sym e) (owes_more w (does w (gives_back h ended_before)) (one h.ticket + n) n _ o refl (omega arith))
-    gives_step h w v n (returns unreturned unstarted e) o = subst (λ x. Owes x n) (sym e) (owes_more w (does w (gives_back h unreturned)) (one h.ticket + n) n _ o refl (omega arith))
+    gives_step h w v n (returns r unstarted e) o = subst (λ x. Owes x n) (sym e) (gives_back_step h r w n o)
 
     stops_step : (stop already : Bool) (w v : Worker L) → Stops stop already w v → Owes w 0 → Owes v 0
     stops_step false already w v e o = subst (λ x. Owes x 0) (sym e) o
@@ -145,10 +146,13 @@ module _ (p : Ticket → Bool) where
 
     module _ (history : L → List Answer) (token_of : L → ℕ) where
       looks_step : (now : ℕ) (h : Held L) (w v : Worker L) (n : ℕ) → LooksAt history token_of now h w v → Owes w (one h.ticket + n) → Owes v n
-      looks_step now h w v n (lets_go e) o = subst (λ x. Owes x n) (sym e) (owes_more w (does w (looks h.ticket (Some look.Gone))) (one h.ticket + n) n _ o refl (omega arith))
+      looks_step now h w v n (lets_go r e) o =
+          let mid : Worker L = does w (looks h.ticket (Some look.Gone)) in
+          let q = quiet-looks h.ticket (Some look.Gone) in
+          subst (λ x. Owes x n) (sym e) (gives_back_step h r mid n (owes_quiet w mid (one h.ticket + n) _ q o refl refl refl))
       looks_step now h w v n (serves seen ready new idle left said how ne ready_is steps keeping settles) o =
           let ds = looks h.ticket seen ∷ notes h.ticket h.slot (received_of new) ∷ [] in
-          let q : IsQuiet ds = quiet-append (looks h.ticket seen ∷ []) _ (quiet-looks h.ticket seen ne) (quiet-notes h.ticket h.slot (received_of new)) in
+          let q : IsQuiet ds = quiet-append (looks h.ticket seen ∷ []) _ (quiet-looks h.ticket seen) (quiet-notes h.ticket h.slot (received_of new)) in
           let mid : Worker L = record w { idle = left; did = w.did ++ ds; said = w.said ++ said } in
           settles_step (record h { transfer = unlinked new }) _ _ mid v how n settles (owes_quiet w mid (one h.ticket + n) ds q o refl refl refl)
 

@@ -4,12 +4,13 @@ use Rattle.std.specs.Prelude.{All, count_by, ◌||◌, ◌&&◌, not}
 use Rattle.std.proofs.lemmas.List.Elements.{All-nil, All-push}
 use Rattle.std.proofs.lemmas.List.Sums.{sum_by-append, sum_by-cons, sum_by_push}
 use Rattle.mx_types.specs.declared.names.Ticket.{Ticket}
+use Rattle.mx_types.specs.declared.reply.Look.TheVariants as look
 use Rattle.mx_link.specs.declared.answers.Answer.{Answer}
 use Rattle.mx_chain.specs.Chains.{received_of}
 use Rattle.mx_chain.specs.Outcomes.{OutcomeValue}
 use Rattle.mx_chain.specs.Steps.{How, waits, asks, ends}
 use Rattle.mx_gate.specs.Said.{told, waited}
-use Rattle.mx_turn.specs.Workers.{Held, SetAside, Worker, Finish, recorded, stale, lacking, unseated, Deed, claims, looks, notes, finishes, gives_back, hears, does, holds}
+use Rattle.mx_turn.specs.Workers.{Held, SetAside, Worker, Finish, recorded, stale, lacking, unseated, Return, Deed, claims, looks, notes, finishes, gives_back, hears, does, holds}
 use Rattle.mx_turn.specs.Turn.{Each, Claims, keeps, finds_none, claims_one, handed_in, Retries, Settles, LooksAt, lets_go, serves, unlinked, GoesThrough, through, due, asks_time, next, GivesBack, holds_on, returns, Stops, wait_of, WorkerTurn}
 use Rattle.mx_turn.specs.Laws.{claimed_by, looked_at_by, many, EachIsLookedAt, ClaimsNoneOnceStopping, HoldsWhatHasStarted}
 use Rattle.mx_turn.proofs.Accounts.{many-append}
@@ -68,12 +69,15 @@ module _ (p : Ticket → Bool) where
         let then = retried ss mid v rest in
         (looked_on w mid v 0 0 0 refl first then.0, then.1 ∙ ap (λ x. x.held) e ∙ hands_held s.ticket s.outcome f w)
 
+    gave : (h : Held L) (r : Return) (w : Worker L) → Looked w (does w (gives_back h r)) 0
+    gave h r w = did_more w _ (gives_back h r ∷ []) 0 refl refl refl
+
     given : (hs : List (Held L)) (w v : Worker L) → Each GivesBack hs w v → Looked w v 0
     given [] w v e = looked_as w w v 0 e (none_looked w)
     given (h ∷ hs) w v (mid, holds_on started e, rest) =
         looked_on w mid v 0 0 0 refl (looked_as w _ mid 0 e (same_did w (holds w h) refl)) (given hs mid v rest)
     given (h ∷ hs) w v (mid, returns r unstarted e, rest) =
-        looked_on w mid v 0 0 0 refl (looked_as w _ mid 0 e (did_more w _ (gives_back h r ∷ []) 0 refl refl refl)) (given hs mid v rest)
+        looked_on w mid v 0 0 0 refl (looked_as w _ mid 0 e (gave h r w)) (given hs mid v rest)
 
     stopped : (stop already : Bool) (w v : Worker L) → Stops stop already w v → Looked w v 0
     stopped false already w v e = looked_as w w v 0 e (none_looked w)
@@ -106,7 +110,10 @@ module _ (p : Ticket → Bool) where
 
     module _ (history : L → List Answer) (token_of : L → ℕ) where
       looked : (now : ℕ) (h : Held L) (w v : Worker L) → LooksAt history token_of now h w v → Looked w v (one h.ticket)
-      looked now h w v (lets_go e) = looked_as w _ v (one h.ticket) e (did_more w _ (looks h.ticket (Some _) ∷ []) (one h.ticket) refl (omega arith) refl)
+      looked now h w v (lets_go r e) =
+          let mid : Worker L = does w (looks h.ticket (Some look.Gone)) in
+          let first = did_more w mid (looks h.ticket (Some look.Gone) ∷ []) (one h.ticket) refl (omega arith) refl in
+          looked_as w _ v (one h.ticket) e (looked_on w mid (does mid (gives_back h r)) (one h.ticket) 0 (one h.ticket) (omega arith) first (gave h r mid))
       looked now h w v (serves seen ready new idle left said how ne ready_is steps keeping settles) =
           let ds = looks h.ticket seen ∷ notes h.ticket h.slot (received_of new) ∷ [] in
           let mid : Worker L = record w { idle = left; did = w.did ++ ds; said = w.said ++ said } in
@@ -200,7 +207,7 @@ module _ {L : Type 0} where
 
   module _ (history : L → List Answer) (token_of : L → ℕ) where
     looks_stopping : (now : ℕ) (h : Held L) (w v : Worker L) → LooksAt history token_of now h w v → v.is_stopping ≡ w.is_stopping
-    looks_stopping now h w v (lets_go e) = ap (λ x. x.is_stopping) e
+    looks_stopping now h w v (lets_go r e) = ap (λ x. x.is_stopping) e
     looks_stopping now h w v (serves seen ready new idle left said how ne ready_is steps keeping settles) = settles_stopping _ _ _ _ v how settles
 
     through_stopping : (last : ℕ) (v : Worker L) (at : ℕ) (new : Bool) (todo : List (Held L)) (w : Worker L) → GoesThrough history token_of last v at new todo w → v.is_stopping ≡ w.is_stopping

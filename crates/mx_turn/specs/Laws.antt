@@ -28,9 +28,8 @@ abbrev pub given_back_by : {L : Type 0} → Deed L → Option Ticket
 given_back_by (gives_back h returned) = Some h.ticket
 given_back_by _ = None
 
--- which was let go, as it ran no more
+-- which was given back too late, as it had ended before, or was removed
 abbrev pub gone_by : {L : Type 0} → Deed L → Option Ticket
-gone_by (looks t (Some look.Gone)) = Some t
 gone_by (gives_back h ended_before) = Some h.ticket
 gone_by _ = None
 

@@ -119,8 +119,8 @@ Readies history token_of false t new idle left said = (new ≡ t) × (left ≡ i
 
 -- It looks at a transfer.
 pub data LooksAt {L : Type 0} (history : L → List Answer) (token_of : L → ℕ) (now : ℕ) (h : Held L) (w v : Worker L) : Type 0 where
-  -- one that is gone is let go with its link
-  lets_go : v ≡ does w (looks h.ticket (Some look.Gone)) → LooksAt history token_of now h w v
+  -- one that is gone is given back as it stands, with its link, and is held no more
+  lets_go : (r : Return) → v ≡ does (does w (looks h.ticket (Some look.Gone))) (gives_back h r) → LooksAt history token_of now h w v
   -- Any other is prepared, comes by a link where it goes on, and is polled once. The count of its bytes is noted, the link that a hop left
   -- is kept, and it is held on or its end is handed in.
   serves : (seen : Option Look) (ready new : ChainState L) (idle left : Idle L) (said : List Said) (how : How) → seen ≢ Some look.Gone

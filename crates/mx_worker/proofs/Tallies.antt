@@ -237,7 +237,7 @@ lacks was is e back did b = record { f = lacking; did = did; comes_back = λ _. 
 
 -- a run of an engine that was a seat, from its start on
 pub ran : {L Q : Type 0} (history : L → List Answer) (token_of : L → ℕ) (s t : Seat Q) (limit : ℕ) (did : List (Deed L)) (was is : List Said) (r k g : ℕ)
-    → limit ≡ s.of.max_connects → HasRun history token_of limit [] did was is → IsDone s t did → AreCounted did r k g → WorkerRan history token_of s t was is r k g
+    → limit ≡ s.of.limits.max_connects → HasRun history token_of limit [] did was is → IsDone s t did → AreCounted did r k g → WorkerRan history token_of s t was is r k g
 ran history token_of s t limit did was is r k g e h done counted =
     let run = subst (λ n. Runs history token_of (record (starts n) { said = was }) h.last) e h.run in
     record {
@@ -246,6 +246,6 @@ ran history token_of s t limit did was is r k g e h done counted =
       over = h.over;
       said = h.said_is;
       done = subst (IsDone s t) h.did_is done;
-      accounted = accounted history token_of s.of.max_connects was h.last run h.over;
+      accounted = accounted history token_of s.of.limits.max_connects was h.last run h.over;
       counted = subst (λ d. AreCounted d r k g) h.did_is counted;
     }

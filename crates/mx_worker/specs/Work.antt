@@ -74,7 +74,7 @@ pub record AreCounted {L : Type 0} (did : List (Deed L)) (recorded_count stale_c
 -- seat did is what the worker did in those turns, and what the gate said is what it was told there. Each claim came to one end.
 pub record WorkerRan {L Q : Type 0} (history : L → List Answer) (token_of : L → ℕ) (s t : SeatView Q OutcomeValue) (was is : List Said) (recorded_count stale_count given_back_count : ℕ) : Type 0 where
   pub last : Worker L
-  pub run : Runs history token_of (record (starts s.of.max_connects) { said = was }) last
+  pub run : Runs history token_of (record (starts s.of.limits.max_connects) { said = was }) last
   pub over : IsOver last
   pub said : is ≡ last.said
   pub done : IsDone s t last.did

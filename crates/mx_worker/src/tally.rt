@@ -1,5 +1,5 @@
 //! A worker's calls on the multi handle, with the count of its recorded and stale ends, and of what it gave back.
-ghost use Rattle.std.specs.Prelude.{◌≡◌, ◌∷◌, ◌++◌, [], false, option_map, IfSome};
+ghost use Rattle.std.specs.Prelude.{◌≡◌, ◌∷◌, ◌++◌, [], option_map, IfSome};
 ghost use Rattle.mx_turn.specs.Workers.{Return, claims, looks, notes, finishes, gives_back, recorded, stale, lacking, unseated, returned, ended_before, unreturned};
 ghost use Rattle.mx_round.specs.Desks.{HandsIn};
 ghost use Rattle.mx_worker.specs.Work.{AreCounted, IsDone};
@@ -102,10 +102,9 @@ impl<'m, L: Link> Tally<'m, L> {
         }
     }
 
-    // Gives a transfer back that has not started.
+    // Gives a transfer back. One that doesn't go back to the queue is dropped.
     fn hand_back<R: Wait>(&mut self, rt: &R, held: Held<L, WorkerClaim<L>>)
         requires own { held.of ≡ self.old.start.of.engine.ties }
-        requires unstarted { held.held.transfer.now.is_started ≡ false }
         ensures did { (r : Return) × (self.new.did ≡ self.old.did ++ gives_back held.held r ∷ []) }
         ensures same { self.new.start ≡ self.old.start }
     {
@@ -187,7 +186,6 @@ impl<'m, L: Link> Engine<L, WorkerClaim<L>> for Tally<'m, L> {
 
     fn give_back<R: Wait>(&mut self, rt: &R, held: &mut Option<Held<L, WorkerClaim<L>>>)
         requires own { IfSome held.old (λ h. h.of ≡ self.old.start.of.engine.ties) }
-        requires unstarted { IfSome held.old (λ h. h.held.transfer.now.is_started ≡ false) }
         ensures did { IfSome held.old (λ h. (r : Return) × (self.new.did ≡ self.old.did ++ gives_back h.held r ∷ [])) }
         ensures same { (self.new.start.of.engine.ties ≡ self.old.start.of.engine.ties) × (self.new.start ≡ self.old.start) }
     {

@@ -44,12 +44,13 @@ fn end<'m, L: Link>(tally: Tally<'m, L>, refused: bool) -> WorkerEnd<'m, L>
 }
 
 /// Runs a worker at a multi handle: it claims transfers, polls them over links of its gate, notes how many bytes they have received, and
-/// records their ends. Once its gate answers `Stop` it claims nothing more, gives back what has not started, and goes on with the rest.
+/// records their ends. What is gone it gives back. Once its gate answers `Stop` it claims nothing more, gives back what has not started,
+/// and goes on with the rest.
 ///
 /// What it does is turn after turn of the worker that mx_turn defines, from a start with nothing in hand to its end; the seat's further
-/// receipts, claims and written words are those of these turns, and each claim has come to one end: recorded, stale, given back, gone, or,
-/// where the seat isn't the multi handle's any more, lost. Where memory for the start is refused, nothing was claimed, and the seat is as
-/// it was.
+/// receipts, claims and written words are those of these turns. Each claim has come back, once: with an end, which was recorded or stale,
+/// or with its transfer, which went back to the queue, or had ended before or was removed; or, where the seat isn't the multi handle's any
+/// more, it is lost. Where memory for the start is refused, nothing was claimed, and the seat is as it was.
 ///
 /// No clause says that it ends: one that has started and stays paused keeps it.
 pub fn run_worker<'m, L: Link, R: Wait + RandomSource + AllocGlobal, G: Gate<Link = L>>(
