@@ -6,7 +6,7 @@ ghost use Rattle.mx_journal.specs.History.{is_maker};
 
 use crate::entries::{Entry, text_of};
 use crate::sample::{End, Job};
-use mx_journal::{Claim, Control, VecLog};
+use mx_journal::{Claim, Control, RetireReply, VecLog};
 use mx_types::{Call, Code, HandleId, OutOfMemory, Reply, Ticket, Who};
 use std::alloc::Global;
 
@@ -136,5 +136,38 @@ impl OneThread {
             }
         }
         Ok(None)
+    }
+
+    // Gives all work back that is claimed.
+    fn give_all_back(&mut self) {
+        for place in 0..self.held.len() {
+            if let Some(Held { claim }) = self.held[place].take() {
+                let _reply = self.control.give_back(claim, Job);
+            }
+        }
+    }
+
+    // Holds the claims on all that waits.
+    fn claim_all(&mut self) {
+        for _ in 0..self.held.len() {
+            let Some((claim, _work)) = self.control.claim() else {
+                return;
+            };
+            if let Some(place) = self.held.get_mut(claim.ticket().0 as usize) {
+                *place = Some(Held { claim });
+            }
+        }
+    }
+
+    /// Retires old history, as all makers' seats begin anew. False where it was refused.
+    pub fn retire(&mut self) -> bool {
+        self.give_all_back();
+        let RetireReply::Retired(kept) = self.control.retire() else {
+            return false;
+        };
+        self.claim_all();
+        self.marks = [kept; 32];
+        self.calls = [0; 32];
+        true
     }
 }

@@ -36,8 +36,8 @@ impl Chance {
         ((x >> 33) % u64::from(limit)) as u32
     }
 
-    // A call of an application thread.
-    fn call(&mut self) -> Call {
+    /// A call of an application thread.
+    pub fn call(&mut self) -> Call {
         let handle = HandleId(self.below(HANDLES));
         match self.below(20) {
             0..=4 => Call::Add(handle),

@@ -22,7 +22,7 @@ const LIMITS: Limits = Limits {
     max_connects: 0,
 };
 
-fn notes_of(alloc: Global, who: Who) -> Notes {
+pub(crate) fn notes_of(alloc: Global, who: Who) -> Notes {
     Notes {
         alloc,
         who,
@@ -139,10 +139,19 @@ fn order_of(entry: &Entry) -> (u32, bool) {
     (entry.cut, !entry.makes_event)
 }
 
-/// Puts the calls into the order of their cuts, at one cut the call that made the event first, and makes them on one thread. The place
-/// of the first that differs there.
-pub fn differs(alloc: Global, entries: &mut Vec<Entry>) -> Result<Option<usize>, OutOfMemory> {
+/// Puts the calls into the order of their cuts, at one cut the call that made the event first, and makes them on one thread, behind those
+/// that it has made. The place of the first that differs there.
+pub fn differs_from(
+    alloc: Global,
+    one: &mut OneThread,
+    entries: &mut Vec<Entry>,
+) -> Result<Option<usize>, OutOfMemory> {
     entries.sort_by_key(order_of)?;
-    let mut one = OneThread::new(alloc, LIMITS.history)?;
     one.first_that_differs(alloc, entries.as_slice())
+}
+
+/// The same on one thread that has made no call yet.
+pub fn differs(alloc: Global, entries: &mut Vec<Entry>) -> Result<Option<usize>, OutOfMemory> {
+    let mut one = OneThread::new(alloc, LIMITS.history)?;
+    differs_from(alloc, &mut one, entries)
 }

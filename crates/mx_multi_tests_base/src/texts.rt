@@ -28,6 +28,7 @@ fn word_of(reply: &Reply) -> &'static str {
     match reply {
         Reply::AddedAlready => "added-already",
         Reply::TableFull => "table-full",
+        Reply::TicketsSpent => "tickets-spent",
         Reply::HistoryFull => "history-full",
         Reply::Removed => "removed",
         Reply::RemoveNotAdded | Reply::NotAdded => "not-added",
