@@ -1,5 +1,0 @@
-use Rattle.std.proofs.Common.{rules}
-use Rattle.mx_multi.proofs.open.maker.Goals as goal
-
-pub returns-then-worker : goal.returns-then-worker
-returns-then-worker c = search rules

@@ -1,5 +1,0 @@
-use Rattle.std.proofs.Common.{rules}
-use Rattle.mx_table.proofs.table.Table.next_ticket.Goals as goal
-
-pub returns : goal.returns
-returns c = search rules
