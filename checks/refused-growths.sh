@@ -19,7 +19,7 @@ mx_request_tests    src/[a-z_]*_tests\.rt
 mx_link_tests       src/\(scripted\|sockets\)\.rt
 mx_exchange_tests   src/connecting\.rt
 mx_chain_tests      src/hops\.rt
-mx_multi_tests      src/seats\.rt                                      scripts\|meetings\|seats
+mx_multi_tests      src/seats\.rt                                      scripts\|meetings\|seats\|retirings
 mx_worker_tests     src/\(ends\|links\|waits\)\.rt                       ^ends\|^links\|^paused\|^takeover\|^waits
 '
 

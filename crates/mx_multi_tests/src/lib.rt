@@ -14,6 +14,10 @@ mod held;
 #[cfg(test)]
 mod meetings;
 #[cfg(test)]
+mod retirings;
+#[cfg(test)]
+mod rounds;
+#[cfg(test)]
 mod script;
 #[cfg(test)]
 mod scripts;
