@@ -1,8 +1,11 @@
 -- A meeting of all seats.
-use Rattle.std.specs.Prelude.{◌≡◌, ℕ, ◌<◌, true, List, length, slice_index_or}
+use Rattle.std.specs.Prelude.{◌≡◌, ◌⊎◌, ℕ, ◌<◌, true, List, length, slice_index_or}
+use Rattle.mx_types.specs.declared.code.Code.{Code}
 use Rattle.mx_types.specs.declared.event.Event.{Event}
 use Rattle.mx_journal.specs.History.{is_legal}
-use Rattle.mx_multi.specs.Seats.{SeatView, Sees}
+use Rattle.mx_lock.specs.Engine.{EngineState}
+use Rattle.mx_multi.specs.Retiring.{FoundIn, OneFindsOther}
+use Rattle.mx_multi.specs.Seats.{Finds, MultiView, SeatView, Sees}
 
 -- the seat has seen this journal, with no receipt for that, and has claimed and given back nothing
 pub record SeesAll {Q O : Type 0} (j : List Event) (s t : SeatView Q O) : Type 0 where
@@ -22,3 +25,8 @@ pub record Meets {Q O : Type 0} (seats met workers met_workers : List (SeatView 
   pub count : n ≡ length list
   pub for_seats : AllSee list seats met
   pub for_workers : AllSee list workers met_workers
+
+-- a seat, or one of those beside it, isn't the multi handle's
+abbrev pub OneIsWrong : {Q O : Type 0} → (O → Code) → (O → ℕ) → MultiView Q O → SeatView Q O → List (SeatView Q O) → List (SeatView Q O) → Type 0
+OneIsWrong {Q} {O} code size m one seats workers =
+    (x : EngineState Q O) × FoundIn code size m x × ((Finds one x.core.journal → ⊥) ⊎ (OneFindsOther x.core.journal seats ⊎ OneFindsOther x.core.journal workers))

@@ -1,5 +1,6 @@
 -- Opening a multi handle, and founding it anew.
-use Rattle.std.specs.Prelude.{◌≡◌, ℕ, ◌+◌, nat_le, ◌&&◌, Bool, true, false, if◌then◌else◌, List, [], ◌∷◌, length, All}
+use Rattle.std.specs.Prelude.{◌≡◌, ℕ, ◌+◌, ◌≤◌, nat_le, vec_capacity, vec_len, ◌&&◌, Bool, true, false, if◌then◌else◌, List, [], ◌∷◌, length, All}
+use Rattle.std.specs.VecDeque.{deque_len}
 use Rattle.logbook.specs.Pages.{Book}
 use Rattle.mx_types.specs.Limits.{least_history, most_history, most_seats}
 use Rattle.mx_types.specs.declared.event.Event.{Event}
@@ -7,7 +8,9 @@ use Rattle.mx_types.specs.declared.event.Who.{Who}
 use Rattle.mx_types.specs.declared.event.Who.TheVariants as who
 use Rattle.mx_types.specs.declared.origin.Origin.{Origin}
 use Rattle.mx_board.specs.Board.{ReaderState, caught_up}
+use Rattle.mx_board.specs.Progress.{new_seat}
 use Rattle.mx_lock.specs.Engine.{EngineState, content}
+use Rattle.mx_multi.specs.declared.founding.Rooms.{Rooms}
 use Rattle.mx_multi.specs.declared.open.Limits.{Limits}
 use Rattle.mx_multi.specs.declared.open.OpenError.{OpenError}
 use Rattle.mx_multi.specs.declared.open.OpenError.TheVariants as refusal
@@ -38,6 +41,14 @@ first_of worker = if worker then 17 else 1
 abbrev pub AreReaders : Bool → ℕ → List Event → Book → List ReaderState → Type 0
 AreReaders worker n j book [] = Unit {0}
 AreReaders worker n j book (r ∷ rs) = (r ≡ caught_up (maker_of worker n) j book) × AreReaders worker (n + 1) j book rs
+
+-- rooms for a multi handle with these limits, whose readers have seen the journal: a reader, a place and progress words for each seat
+pub record AreRooms {Q O : Type 0} (l : Limits) (j : List Event) (book : Book) (r : Rooms Q O) : Type 0 where
+  pub seats : AreReaders false 0 j book r.for_seats.items × (deque_len r.for_seats ≡ l.seats)
+  pub workers : AreReaders true 0 j book r.for_workers.items × (deque_len r.for_workers ≡ l.workers)
+  pub notes : All (λ s. s ≡ new_seat r.words) r.notes.items × (vec_len r.notes ≡ l.seats + l.workers)
+  pub seat_places : (r.seats.items ≡ []) × (l.seats ≤ vec_capacity r.seats)
+  pub worker_places : (r.workers.items ≡ []) × (l.workers ≤ vec_capacity r.workers)
 
 -- new seats of the makers from the nth on
 abbrev pub AreNew : {Q O : Type 0} → MultiView Q O → List Event → List Origin → Bool → ℕ → List (SeatView Q O) → Type 0

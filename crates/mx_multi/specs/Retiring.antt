@@ -1,5 +1,5 @@
 -- Retiring a multi handle, and a meeting of all its seats.
-use Rattle.std.specs.Prelude.{◌≡◌, ◌⊎◌, ℕ, ◌+◌, ◌<◌, ◌≤◌, List, length, slice_index_or}
+use Rattle.std.specs.Prelude.{◌≡◌, ◌⊎◌, ℕ, ◌+◌, ◌<◌, ◌≤◌, List, [], length, slice_index_or}
 use Rattle.std.specs.List.{All}
 use Rattle.mx_types.specs.declared.code.Code.{Code}
 use Rattle.mx_types.specs.declared.event.Event.{Event}
@@ -32,9 +32,14 @@ pub record FoundIn {Q O : Type 0} (code : O → Code) (size : O → ℕ) (m : Mu
   pub engine : (content x).engine ≡ m.engine
   pub locked : IsLocked code size x
 
--- The multi handle n, with new seats, is m retired: its engine is what was found in the lock of m, at which no claim was out, with its old history
--- retired; and what was found goes on from what each old seat had seen and was told.
+-- a seat is missing that `open` or the last retiring gave
+abbrev pub LacksSeats : {Q O : Type 0} → MultiView Q O → List (SeatView Q O) → List (SeatView Q O) → Type 0
+LacksSeats m seats workers = (length seats < m.limits.seats) ⊎ (length workers < m.limits.workers)
+
+-- The multi handle n, with new seats, is m retired: no seat was missing; its engine is what was found in the lock of m, at which no claim was out,
+-- with its old history retired; and what was found goes on from what each old seat had seen and was told.
 pub record IsRetiredTo {Q O : Type 0} (code : O → Code) (size : O → ℕ) (m : MultiView Q O) (seats workers : List (SeatView Q O)) (n : MultiView Q O) (new_seats new_workers : List (SeatView Q O)) : Type 0 where
+  pub all : LacksSeats m seats workers → ⊥
   pub found : EngineState Q O
   pub is : FoundIn code size m found
   pub idle : found.core.out ≡ 0
@@ -45,22 +50,29 @@ pub record IsRetiredTo {Q O : Type 0} (code : O → Code) (size : O → ℕ) (m 
   pub ties : after.ties ≡ found.ties
   pub founded : IsFounded m.limits after n new_seats new_workers
 
--- a seat is missing that `open` or the last retiring gave
-abbrev pub LacksSeats : {Q O : Type 0} → MultiView Q O → List (SeatView Q O) → List (SeatView Q O) → Type 0
-LacksSeats m seats workers = (length seats < m.limits.seats) ⊎ (length workers < m.limits.workers)
-
--- why a multi handle isn't retired: the first of these that holds
-abbrev pub IsRefused : {Q O : Type 0} → (O → Code) → (O → ℕ) → MultiView Q O → List (SeatView Q O) → List (SeatView Q O) → Refusal → Type 0
-IsRefused {Q} {O} code size m seats workers refusal.WrongSeat =
+-- one of the seats isn't the multi handle's: what lies in its lock doesn't begin with what that seat has seen
+abbrev pub HasWrongSeat : {Q O : Type 0} → (O → Code) → (O → ℕ) → MultiView Q O → List (SeatView Q O) → List (SeatView Q O) → Type 0
+HasWrongSeat {Q} {O} code size m seats workers =
     (x : EngineState Q O) × FoundIn code size m x × (OneFindsOther x.core.journal seats ⊎ OneFindsOther x.core.journal workers)
-IsRefused {Q} {O} code size m seats workers refusal.SeatsMissing = LacksSeats m seats workers
-IsRefused {Q} {O} code size m seats workers refusal.ClaimOut = (x : EngineState Q O) × FoundIn code size m x × AllFind x.core.journal seats × AllFind x.core.journal workers × (0 < x.core.out) × (LacksSeats m seats workers → ⊥)
-IsRefused {Q} {O} code size m seats workers refusal.OutOfMemory = (x : EngineState Q O) × FoundIn code size m x × AllFind x.core.journal seats × AllFind x.core.journal workers × (x.core.out ≡ 0) × (LacksSeats m seats workers → ⊥)
+
+-- none is, by this that lies in the lock
+abbrev pub HasRightSeats : {Q O : Type 0} → (O → Code) → (O → ℕ) → MultiView Q O → List (SeatView Q O) → List (SeatView Q O) → EngineState Q O → Type 0
+HasRightSeats code size m seats workers x = FoundIn code size m x × AllFind x.core.journal seats × AllFind x.core.journal workers
+
+-- why a multi handle isn't retired: the first of these that holds. Where there is no application's seat, none is looked at.
+abbrev pub IsRefused : {Q O : Type 0} → (O → Code) → (O → ℕ) → MultiView Q O → List (SeatView Q O) → List (SeatView Q O) → Refusal → Type 0
+IsRefused code size m seats workers refusal.WrongSeat = HasWrongSeat code size m seats workers
+IsRefused {Q} {O} code size m seats workers refusal.SeatsMissing =
+    LacksSeats m seats workers × ((seats ≡ []) ⊎ ((x : EngineState Q O) × HasRightSeats code size m seats workers x))
+IsRefused {Q} {O} code size m seats workers refusal.ClaimOut =
+    (x : EngineState Q O) × HasRightSeats code size m seats workers x × (0 < x.core.out) × (LacksSeats m seats workers → ⊥)
+IsRefused {Q} {O} code size m seats workers refusal.OutOfMemory =
+    (x : EngineState Q O) × HasRightSeats code size m seats workers x × (x.core.out ≡ 0) × (LacksSeats m seats workers → ⊥)
 
 -- what hinders retiring, where one seat more is there than these, and this lies in the lock
 abbrev pub Hinders : {Q O : Type 0} → EngineState Q O → Limits → List (SeatView Q O) → List (SeatView Q O) → Refusal → Type 0
 Hinders x l seats workers refusal.WrongSeat = OneFindsOther x.core.journal seats ⊎ OneFindsOther x.core.journal workers
-Hinders x l seats workers refusal.SeatsMissing = (length seats + 1 < l.seats) ⊎ (length workers < l.workers)
+Hinders x l seats workers refusal.SeatsMissing = AllFind x.core.journal seats × AllFind x.core.journal workers × ((length seats + 1 < l.seats) ⊎ (length workers < l.workers))
 Hinders x l seats workers refusal.ClaimOut = AllFind x.core.journal seats × AllFind x.core.journal workers × (l.seats ≤ length seats + 1) × (l.workers ≤ length workers) × (0 < x.core.out)
 Hinders x l seats workers refusal.OutOfMemory = AllFind x.core.journal seats × AllFind x.core.journal workers × (l.seats ≤ length seats + 1) × (l.workers ≤ length workers) × (x.core.out ≡ 0)
 

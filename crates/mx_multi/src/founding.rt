@@ -5,7 +5,7 @@ ghost use Rattle.std.specs.VecDeque.{deque_len};
 ghost use Rattle.crossbeam_channel.specs.Claims.{view};
 ghost use Rattle.mx_board.specs.Progress.{new_seat};
 ghost use Rattle.mx_lock.specs.Lock.{engine_of, founder_at, known_of, IsKeyOf};
-ghost use Rattle.mx_multi.specs.Opening.{are_within, first_of, maker_of, AreNew, AreReaders, IsFounded};
+ghost use Rattle.mx_multi.specs.Opening.{are_within, first_of, maker_of, AreNew, AreReaders, AreRooms, IsFounded};
 ghost use Rattle.mx_types.specs.Limits.{most_seats};
 
 use crate::multi::Multi;
@@ -76,10 +76,7 @@ pub(crate) fn make_rooms<Q: Work + Drop, O: Ending + Drop>(
     requires within { are_within limits ≡ true }
     requires published { log.old.published ≡ log.old.events }
     ensures same { log.new ≡ log.old }
-    ensures seats { IfOk result (λ r. AreReaders false 0 log.old.events log.old.book r.for_seats.items × (deque_len r.for_seats ≡ limits.seats)) }
-    ensures workers { IfOk result (λ r. AreReaders true 0 log.old.events log.old.book r.for_workers.items × (deque_len r.for_workers ≡ limits.workers)) }
-    ensures notes { IfOk result (λ r. All (λ s. s ≡ new_seat r.words) r.notes.items × (vec_len r.notes ≡ limits.seats + limits.workers)) }
-    ensures places { IfOk result (λ r. (r.seats.items ≡ []) × (limits.seats ≤ vec_capacity r.seats) × (r.workers.items ≡ []) × (limits.workers ≤ vec_capacity r.workers)) }
+    ensures rooms { IfOk result (AreRooms limits log.old.events log.old.book) }
 {
     let (words, notes) = ProgressTable::new(alloc, limits.seats + limits.workers)?;
     let lock = EmptyLock::new(alloc)?;
@@ -176,10 +173,7 @@ pub(crate) fn found<Q: Work + Drop, O: Ending + Drop, R: Wait>(
     requires within { are_within limits ≡ true }
     requires history { engine.core.opening.history ≡ limits.history }
     requires begun { engine.core.opening.from ≡ length engine.core.journal }
-    requires seats { AreReaders false 0 engine.core.journal engine.book rooms.for_seats.items × (deque_len rooms.for_seats ≡ limits.seats) }
-    requires workers { AreReaders true 0 engine.core.journal engine.book rooms.for_workers.items × (deque_len rooms.for_workers ≡ limits.workers) }
-    requires notes { All (λ s. s ≡ new_seat rooms.words) rooms.notes.items × (vec_len rooms.notes ≡ limits.seats + limits.workers) }
-    requires places { (rooms.seats.items ≡ []) × (limits.seats ≤ vec_capacity rooms.seats) × (rooms.workers.items ≡ []) × (limits.workers ≤ vec_capacity rooms.workers) }
+    requires rooms { AreRooms limits engine.core.journal engine.book rooms }
     ensures { IsFounded limits engine result.0 result.1.items result.2.items }
 {
     let Rooms {

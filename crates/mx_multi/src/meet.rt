@@ -1,10 +1,11 @@
 //! A meeting of all seats.
-ghost use Rattle.std.specs.Prelude.{◌≡◌, ◌<◌, ◌+◌, length, true, MatchBool, MatchResult};
+ghost use Rattle.std.specs.Prelude.{◌≡◌, ◌<◌, ◌+◌, length, true, MatchBool, MatchResult, OnErr};
+ghost use Rattle.std.specs.Bool.{OnFalse};
 ghost use Rattle.std.specs.List.{All};
 ghost use Rattle.mx_journal.specs.History.{is_legal};
 ghost use Rattle.mx_lock.specs.Engine.{content};
-ghost use Rattle.mx_multi.specs.Meeting.{AllSee, Meets, SeesAll};
-ghost use Rattle.mx_multi.specs.Retiring.{AllFind};
+ghost use Rattle.mx_multi.specs.Meeting.{AllSee, Meets, OneIsWrong, SeesAll};
+ghost use Rattle.mx_multi.specs.Retiring.{AllFind, HasWrongSeat};
 ghost use Rattle.mx_multi.specs.Seats.{Finds};
 
 use crate::multi::{Multi, WrongSeat};
@@ -54,6 +55,7 @@ impl<Q: Work + Drop, O: Ending + Drop> Multi<Q, O> {
     ) -> bool
         requires own { (one.old.of ≡ self.now) × All (λ s. s.of ≡ self.now) seats.old × All (λ s. s.of ≡ self.now) workers.old }
         ensures meets { MatchBool result (SeesAll one.new.seen one.old one.new × AllSee one.new.seen seats.old seats.new × AllSee one.new.seen workers.old workers.new) ((one.new ≡ one.old) × (seats.new ≡ seats.old) × (workers.new ≡ workers.old)) }
+        ensures right { OnFalse result (OneIsWrong O.code_of O.size_of self.now one.old seats.old workers.old) }
     {
         let mut taken = match self.lock.enter(rt, &mut one.key, &one.reader) {
             Ok(taken) => taken,
@@ -68,6 +70,7 @@ impl<Q: Work + Drop, O: Ending + Drop> Multi<Q, O> {
                 .leave(rt, &mut one.key, taken, &mut one.reader, &mut one.ties);
             return true;
         }
+        let _known = found.know();
         self.lock.put_back(rt, &mut one.key, taken);
         false
     }
@@ -85,7 +88,8 @@ impl<Q: Work + Drop, O: Ending + Drop> Multi<Q, O> {
     ) -> Result<u32, WrongSeat<()>>
         requires some { 0 < length seats.old + length workers.old }
         requires own { All (λ s. s.of ≡ self.now) seats.old × All (λ s. s.of ≡ self.now) workers.old }
-        ensures { MatchResult result (λ n. Meets seats.old seats.new workers.old workers.new n) (λ _. (seats.new ≡ seats.old) × (workers.new ≡ workers.old)) }
+        ensures meets { MatchResult result (λ n. Meets seats.old seats.new workers.old workers.new n) (λ _. (seats.new ≡ seats.old) × (workers.new ≡ workers.old)) }
+        ensures right { OnErr result (HasWrongSeat O.code_of O.size_of self.now seats.old workers.old) }
     {
         if let Some((one, rest)) = seats.split_first_mut() {
             if self.meet_by(rt, one, rest, workers) {

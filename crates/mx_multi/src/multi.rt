@@ -15,6 +15,7 @@ use mx_types::{AddedHandles, Call, Ending, Reply, Work};
 use std::marker::Model;
 use std::snapshot::Snapshot;
 use std::sync::{Condvar, Mutex, Wait};
+use std::time::{Clock, Duration};
 
 /// The seat has seen a journal that isn't the beginning of this one. No contract rules that out for a seat that `open` gave.
 /// What the call was given comes back, and nothing was changed.
@@ -202,6 +203,15 @@ impl<Q: Work + Drop, O: Ending + Drop> Multi<Q, O> {
             }
             changes = self.changed.wait(rt, changes);
         }
+    }
+
+    // Waits until something was told since `heard`, or so many milliseconds.
+    pub(crate) fn wait_after_for<R: Wait + Clock>(&self, rt: &R, heard: u64, milliseconds: u32) {
+        let changes = self.changes.lock(rt);
+        let most = Duration::from_millis(u64::from(milliseconds));
+        let _told = self
+            .changed
+            .wait_timeout_while(rt, changes, most, |changes| *changes == heard);
     }
 
     // Polls once. False, and nothing changes, where no event of a journal that begins with what the seat has seen lets it return.

@@ -6,7 +6,7 @@ ghost use Rattle.mx_append_log.specs.Log.{AreOfOneList};
 ghost use Rattle.mx_board.specs.Progress.{new_seat};
 ghost use Rattle.mx_journal.specs.History.{retire};
 ghost use Rattle.mx_lock.specs.Engine.{content};
-ghost use Rattle.mx_multi.specs.Opening.{AreReaders};
+ghost use Rattle.mx_multi.specs.Opening.{AreRooms};
 ghost use Rattle.mx_multi.specs.Retiring.{refusal_number, AllFind, AllToldOf, Hinders, IsRefused, IsRetiredTo, MatchRetiring, MayRetire, OneFindsOther};
 ghost use Rattle.mx_multi.specs.Seats.{Finds};
 
@@ -98,8 +98,7 @@ impl<Q: Work + Drop, O: Ending + Drop> Multi<Q, O> {
     /// was given is given again, and the list of requests goes on. Progress words, and the numbers of events that makers made, begin anew; a wake-up
     /// that no poll has seen is gone, also that of an unread message: read messages before the next poll.
     ///
-    /// It takes all seats and workers' seats, so no call is under way: each `run_worker` has returned. It waits for nothing else but reads
-    /// that were begun.
+    /// It takes all seats and workers' seats, so no call is under way: each `run_worker` has returned.
     ///
     /// # Refusals
     ///
@@ -181,10 +180,7 @@ impl<Q: Work + Drop, O: Ending + Drop> Multi<Q, O> {
         requires own { All (λ s. s.of ≡ self.now) seats.now × All (λ s. s.of ≡ self.now) workers.now }
         ensures may { MatchResult result (λ _. MayRetire engine.now self.now.limits seats.now workers.now) (λ why. Hinders engine.now self.now.limits seats.now workers.now why) }
         ensures log { IfOk result (λ r. (r.1.events ≡ retire engine.now.core.journal) × (r.1.published ≡ retire engine.now.core.journal)) }
-        ensures seats { IfOk result (λ r. AreReaders false 0 (retire engine.now.core.journal) r.1.book r.0.for_seats.items × (deque_len r.0.for_seats ≡ self.now.limits.seats)) }
-        ensures workers { IfOk result (λ r. AreReaders true 0 (retire engine.now.core.journal) r.1.book r.0.for_workers.items × (deque_len r.0.for_workers ≡ self.now.limits.workers)) }
-        ensures notes { IfOk result (λ r. All (λ s. s ≡ new_seat r.0.words) r.0.notes.items × (vec_len r.0.notes ≡ self.now.limits.seats + self.now.limits.workers)) }
-        ensures places { IfOk result (λ r. (r.0.seats.items ≡ []) × (self.now.limits.seats ≤ vec_capacity r.0.seats) × (r.0.workers.items ≡ []) × (self.now.limits.workers ≤ vec_capacity r.0.workers)) }
+        ensures rooms { IfOk result (λ r. AreRooms self.now.limits (retire engine.now.core.journal) r.1.book r.0) }
     {
         if let Some(why) = self.hinders(engine, seats, workers) {
             return Err(why);
@@ -229,10 +225,7 @@ impl<Q: Work + Drop, O: Ending + Drop> Multi<Q, O> {
     ) -> Result<(Rooms<Q, O>, BoardWriter), OutOfMemory>
         requires engine { (content engine.now).engine ≡ self.now.engine }
         ensures log { IfOk result (λ r. (r.1.events ≡ retire engine.now.core.journal) × (r.1.published ≡ retire engine.now.core.journal)) }
-        ensures seats { IfOk result (λ r. AreReaders false 0 (retire engine.now.core.journal) r.1.book r.0.for_seats.items × (deque_len r.0.for_seats ≡ self.now.limits.seats)) }
-        ensures workers { IfOk result (λ r. AreReaders true 0 (retire engine.now.core.journal) r.1.book r.0.for_workers.items × (deque_len r.0.for_workers ≡ self.now.limits.workers)) }
-        ensures notes { IfOk result (λ r. All (λ s. s ≡ new_seat r.0.words) r.0.notes.items × (vec_len r.0.notes ≡ self.now.limits.seats + self.now.limits.workers)) }
-        ensures places { IfOk result (λ r. (r.0.seats.items ≡ []) × (self.now.limits.seats ≤ vec_capacity r.0.seats) × (r.0.workers.items ≡ []) × (self.now.limits.workers ≤ vec_capacity r.0.workers)) }
+        ensures rooms { IfOk result (λ r. AreRooms self.now.limits (retire engine.now.core.journal) r.1.book r.0) }
     {
         let _known = engine.know();
         retiring_keeps();

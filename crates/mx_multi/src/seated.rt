@@ -1,5 +1,6 @@
 //! A seat that has its multi handle with it: what programs call.
-ghost use Rattle.std.specs.Prelude.{◌⊎◌, ◌≡◌, ◌++◌, ◌∷◌, [], true, length, take, Some, IfNone, IfSome, IfOk, OnErr, OnOk, MatchResult, MatchOption};
+ghost use Rattle.std.specs.Prelude.{◌⊎◌, ◌≡◌, ◌++◌, ◌∷◌, [], true, length, take, Some, IfNone, IfSome, IfOk, OnErr, OnOk, MatchBool, MatchResult, MatchOption};
+ghost use Rattle.std.specs.Bool.{OnFalse};
 ghost use Rattle.mx_types.specs.declared.call.Call.{Call};
 ghost use Rattle.mx_types.specs.declared.reply.Reply.{Reply};
 ghost use Rattle.mx_journal.specs.History.{has_ticket, running};
@@ -9,7 +10,7 @@ ghost use Rattle.mx_journal.specs.Replies.{IsGivenBack, is_back, handed_back, wo
 ghost use Rattle.mx_lock.specs.Ties.{Has, Tells, tie, tie_added, tie_read};
 ghost use Rattle.mx_multi.specs.Laws.{RanScript};
 ghost use Rattle.mx_multi.specs.Progress.{IsProgress, noted_by};
-ghost use Rattle.mx_multi.specs.Seats.{FindsOther, HasReceipts, Stands, Sees, SeesVersion, GivesBack, ClaimsLeast, ClaimsNothing, LeavesState, given_with};
+ghost use Rattle.mx_multi.specs.Seats.{FindsNoneReady, FindsOther, HasReceipts, Stands, Sees, SeesVersion, GivesBack, ClaimsLeast, ClaimsNothing, LeavesState, given_with};
 
 use crate::multi::{HandleList, Multi, WrongSeat};
 use crate::progress::Progress;
@@ -21,6 +22,7 @@ use mx_lock::TiedClaim;
 use mx_types::{Call, Ending, HandleId, Look, Reply, State, Ticket, Work};
 use std::marker::Model;
 use std::sync::Wait;
+use std::time::Clock;
 
 /// A seat with its multi handle, which gave it: so each call is one that the seat may make. Contracts see the same of it as of the
 /// seat.
@@ -168,6 +170,20 @@ impl<'m, Q: Work + Drop, O: Ending + Drop> Seated<'m, Application, Q, O> {
         ensures right { OnErr result (FindsOther O.code_of O.size_of self.old) }
     {
         self.multi.poll(rt, &mut self.seat)
+    }
+
+    /// As `poll`, but waits at most so many milliseconds: true where there was such a wake-up or end; false, and no call was made, where
+    /// there was none when it last looked.
+    pub fn poll_for<R: Wait + Clock>(
+        &mut self,
+        rt: &R,
+        milliseconds: u32,
+    ) -> Result<bool, WrongSeat<()>>
+        ensures polls { MatchResult result (λ woken. MatchBool woken (Stands self.old self.new Call.Poll Reply.Woken × (self.new.confirmed ≡ length self.new.seen)) (self.new ≡ self.old)) (λ _. self.new ≡ self.old) }
+        ensures asleep { IfOk result (λ woken. OnFalse woken (FindsNoneReady O.code_of O.size_of self.old)) }
+        ensures right { OnErr result (FindsOther O.code_of O.size_of self.old) }
+    {
+        self.multi.poll_for(rt, &mut self.seat, milliseconds)
     }
 
     /// The handles that are added, in order, by the version that was published last (curl_multi_get_handles(3)), with the

@@ -1,5 +1,6 @@
 //! The calls of a multi handle at a seat that is held apart from it. Programs call them at a `Seated`, which has both.
-ghost use Rattle.std.specs.Prelude.{◌⊎◌, ◌≡◌, ◌++◌, ◌∷◌, [], true, length, Some, IfNone, IfSome, IfOk, OnErr, OnOk, MatchResult, MatchOption};
+ghost use Rattle.std.specs.Prelude.{◌⊎◌, ◌≡◌, ◌++◌, ◌∷◌, [], true, length, Some, IfNone, IfSome, IfOk, OnErr, OnOk, MatchBool, MatchResult, MatchOption};
+ghost use Rattle.std.specs.Bool.{OnFalse};
 ghost use Rattle.mx_types.specs.declared.call.Call.{Call};
 ghost use Rattle.mx_types.specs.declared.reply.Reply.{Reply};
 ghost use Rattle.mx_journal.specs.History.{has_ticket, running};
@@ -8,7 +9,7 @@ ghost use Rattle.mx_journal.specs.Slots.{slot_of};
 ghost use Rattle.mx_journal.specs.Replies.{IsGivenBack, is_back, handed_back, work_back, IsHandedBack, reply_of_add, reply_of_finish, reply_of_info, reply_of_pause, reply_of_remove, reply_of_wakeup};
 ghost use Rattle.mx_lock.specs.Ties.{Has, Tells, tie, tie_added, tie_read};
 ghost use Rattle.mx_multi.specs.Progress.{IsProgress, noted_by};
-ghost use Rattle.mx_multi.specs.Seats.{Stands, Sees, SeesVersion, FindsOther, GivesBack, ClaimsLeast, ClaimsNothing, LeavesState, given_with};
+ghost use Rattle.mx_multi.specs.Seats.{Stands, Sees, SeesVersion, FindsNoneReady, FindsOther, GivesBack, ClaimsLeast, ClaimsNothing, LeavesState, given_with};
 
 use crate::multi::{HandleList, Multi, WrongSeat};
 use crate::progress::{Progress, read_word};
@@ -19,6 +20,7 @@ use mx_journal::{
 use mx_lock::{Addition, Finishing, Pausing, Reading, Removal, TiedClaim, Waking};
 use mx_types::{Call, Ending, HandleId, Look, Receipt, Reply, State, Ticket, Work};
 use std::sync::Wait;
+use std::time::Clock;
 
 impl<Q: Work + Drop, O: Ending + Drop> Multi<Q, O> {
     /// As `Seated::add`, of a seat that is held apart.
@@ -142,6 +144,28 @@ impl<Q: Work + Drop, O: Ending + Drop> Multi<Q, O> {
         match self.act(rt, seat, Waking) {
             Ok(reply) => Ok(reply),
             Err(_) => Err(WrongSeat(())),
+        }
+    }
+
+    /// As `Seated::poll_for`, of a seat that is held apart.
+    pub fn poll_for<R: Wait + Clock>(
+        &self,
+        rt: &R,
+        seat: &mut Seat<Q, O>,
+        milliseconds: u32,
+    ) -> Result<bool, WrongSeat<()>>
+        requires own { seat.old.of ≡ self.now }
+        ensures polls { MatchResult result (λ woken. MatchBool woken (Stands seat.old seat.new Call.Poll Reply.Woken × (seat.new.confirmed ≡ length seat.new.seen)) (seat.new ≡ seat.old)) (λ _. seat.new ≡ seat.old) }
+        ensures asleep { IfOk result (λ woken. OnFalse woken (FindsNoneReady O.code_of O.size_of seat.old)) }
+        ensures right { OnErr result (FindsOther O.code_of O.size_of seat.old) }
+    {
+        let heard = self.heard(rt);
+        match self.try_poll(rt, seat) {
+            Ok(false) => {
+                self.wait_after_for(rt, heard, milliseconds);
+                self.try_poll(rt, seat)
+            }
+            answer => answer,
         }
     }
 

@@ -42,9 +42,9 @@ returns g c =
       engine = here;
       limits = refl;
       seats_new = seats;
-      seats_all = omega (arith, c.seated-seats.result.ok.0, c.seated-seats.ensures.all, c.requires.seats.1);
+      seats_all = omega (arith, c.seated-seats.result.ok.0, c.seated-seats.ensures.all, c.requires.rooms.seats.1);
       workers_new = workers;
-      workers_all = omega (arith, c.seated-workers.result.ok.0, c.seated-workers.ensures.all, c.requires.workers.1);
+      workers_all = omega (arith, c.seated-workers.result.ok.0, c.seated-workers.ensures.all, c.requires.rooms.workers.1);
       seats_own = all_own m x.core.journal x.ties.entries false 0 c.seated-seats.result.items seats;
       workers_own = all_own m x.core.journal x.ties.entries true 0 c.seated-workers.result.items workers;
     })

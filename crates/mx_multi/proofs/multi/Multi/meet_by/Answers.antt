@@ -67,4 +67,5 @@ returns-then-all_find-2 g c =
         subst (λ j. AllSee j c.args.seats.now c.see_each.new.seats) (sym found) c.see_each.ensures.see,
         subst (λ j. AllSee j c.args.workers.now c.see_each-then-all_find-2.new.seats) (sym found_first) c.see_each-then-all_find-2.ensures.see,
       );
+      right = tt;
     }

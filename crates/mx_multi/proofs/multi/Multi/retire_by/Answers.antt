@@ -9,7 +9,7 @@ use Rattle.mx_multi.specs.Retiring.{FoundIn, Hinders, MayRetire}
 use Rattle.mx_multi.specs.Seats.{Finds, MultiView, SeatView}
 use Rattle.mx_multi.specs.declared.open.Limits.{Limits}
 use Rattle.mx_multi.proofs.Standing.{finds, finds_other, locked_as, other_from}
-use Rattle.mx_multi.proofs.Kept.{refused_by, wrong_seat}
+use Rattle.mx_multi.proofs.Kept.{none_lack, refused_by, wrong_seat}
 use Rattle.mx_multi.proofs.multi.Multi.retire_by.Goals as goal
 
 pub returns-in-Err-clause-refused : goal.returns-in-Err-clause-refused
@@ -45,6 +45,7 @@ returns-in-Ok-prepare-clause-retired g c =
     subst (λ (s : SeatView g.row.Q.Denot g.row.O.Denot). AreOfOneList s.ties x.ties.entries) c.last.view_is (subst (AreOfOneList c.last.inside.ties.entries) list c.are_of_one_list-2.ensures) in
     let y = c.retire-retired.result in
     record {
+      all = none_lack g.O.Ending.code_of g.O.Ending.size_of m c.args.seats.now c.args.workers.now c.args.last m.limits refl may.all_seats may.all_workers;
       found = x;
       is = record { engine = sym took.engine ∙ of; locked = locked_as _ _ _ _ c.engine-engine.ensures c.know-known.ensures.locked };
       idle = may.idle;
