@@ -1,2 +1,3 @@
 pub mod Hands
+pub mod Parties
 pub mod Sends

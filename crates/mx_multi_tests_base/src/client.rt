@@ -60,13 +60,17 @@ pub struct Worker<'a> {
 
 impl<'a> Worker<'a> {
     /// A worker at the seat, with no claim yet.
-    pub fn new(alloc: Global, seat: Seated<'a, AtWork, Job, End>) -> Worker<'a> {
+    pub fn new(alloc: Global, seat: Seated<'a, AtWork, Job, End>) -> Worker<'a>
+        ensures { result.seat ≡ seat.entry }
+    {
         let hand = Hand::new(alloc, seat.multi().first_ties());
         Worker { seat, hand }
     }
 
     /// Takes the next work, and keeps the claim alone: its ticket.
-    pub fn claim<R: Wait>(&mut self, rt: &R) -> Result<Option<Ticket>, OutOfMemory> {
+    pub fn claim<R: Wait>(&mut self, rt: &R) -> Result<Option<Ticket>, OutOfMemory>
+        ensures { self.new.seat.of ≡ self.old.seat.of }
+    {
         let Some((claim, _work)) = self.seat.claim(rt) else {
             return Ok(None);
         };
@@ -76,7 +80,9 @@ impl<'a> Worker<'a> {
     }
 
     /// What it is told of a ticket.
-    pub fn look(&mut self, ticket: Ticket) -> Option<Look> {
+    pub fn look(&mut self, ticket: Ticket) -> Option<Look>
+        ensures { self.new.seat.of ≡ self.old.seat.of }
+    {
         let Some(look) = self.seat.look(ticket) else {
             return None;
         };
@@ -85,7 +91,9 @@ impl<'a> Worker<'a> {
 
     /// Ends the transfer of the last claim; None where it was answered `WrongSeat`, or where there is no claim. A claim that comes back
     /// for want of memory is kept again, where there is memory for that.
-    pub fn finish<R: Wait>(&mut self, rt: &R, end: End) -> Option<Reply> {
+    pub fn finish<R: Wait>(&mut self, rt: &R, end: End) -> Option<Reply>
+        ensures { self.new.seat.of ≡ self.old.seat.of }
+    {
         let claim = self.hand.take()?;
         match self.seat.finish(rt, claim, end) {
             Ok(FinishReply::OutOfMemory(claim, _)) => {
@@ -95,6 +103,18 @@ impl<'a> Worker<'a> {
             Ok(FinishReply::Recorded) => Some(Reply::Recorded),
             Ok(FinishReply::Stale(_)) => Some(Reply::Stale),
             Err(_) => None,
+        }
+    }
+
+    /// Gives the work of all claims back. A claim that was answered `WrongSeat` is let go.
+    pub fn give_all_back<R: Wait>(&mut self, rt: &R)
+        ensures { self.new.seat.of ≡ self.old.seat.of }
+    {
+        for _ in 0..self.hand.claims().len() {
+            let Some(claim) = self.hand.take() else {
+                return;
+            };
+            let _given = self.seat.give_back(rt, claim, Job);
         }
     }
 }

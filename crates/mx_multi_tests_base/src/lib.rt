@@ -8,7 +8,6 @@ pub mod hand;
 pub mod hold;
 pub mod one_thread;
 pub mod party;
-pub mod rounds;
 pub mod sample;
 pub mod stress;
 pub mod texts;

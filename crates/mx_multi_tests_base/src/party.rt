@@ -1,5 +1,6 @@
 //! One of many threads: two seats and a worker's seat, and the calls that they make by chance.
-ghost use Rattle.std.specs.Prelude.{◌<◌};
+ghost use Rattle.std.specs.Prelude.{◌≡◌, ◌<◌};
+ghost use Rattle.mx_multi_tests_base.specs.Parties.{StaysSeated};
 
 use crate::client::{Client, Worker, make};
 use crate::entries::{Notes, Stop};
@@ -63,7 +64,9 @@ pub struct Place<'a> {
 
 impl<'a> Place<'a> {
     // Makes a call, and says whether it was a wake-up that woke.
-    fn call<R: Wait>(&mut self, rt: &R, call: Call) -> Result<bool, Stop> {
+    fn call<R: Wait>(&mut self, rt: &R, call: Call) -> Result<bool, Stop>
+        ensures { self.new.client.of ≡ self.old.client.of }
+    {
         let reply = make(rt, &mut self.client, call);
         let woke = matches!(reply, Some(Reply::Ok));
         self.notes.note(call, reply, self.client.cut())?;
@@ -71,7 +74,9 @@ impl<'a> Place<'a> {
     }
 
     // Makes a call. A poll comes behind a wake-up of its own seat, so that it needs no other thread.
-    fn turn<R: Wait>(&mut self, rt: &R, call: Call) -> Result<(), Stop> {
+    fn turn<R: Wait>(&mut self, rt: &R, call: Call) -> Result<(), Stop>
+        ensures { self.new.client.of ≡ self.old.client.of }
+    {
         if call != Call::Poll || self.call(rt, Call::Wakeup)? {
             self.call(rt, call)?;
         }
@@ -92,7 +97,9 @@ pub struct Party<'a> {
 
 impl<'a> Party<'a> {
     // Claims, and looks at the first of the claimed transfers.
-    fn claim<R: Wait>(&mut self, rt: &R) -> Result<(), Stop> {
+    fn claim<R: Wait>(&mut self, rt: &R) -> Result<(), Stop>
+        ensures { StaysSeated self.old self.new }
+    {
         self.worker.claim(rt)?;
         let Some(claim) = self.worker.hand.claims().first() else {
             return Ok(());
@@ -104,7 +111,9 @@ impl<'a> Party<'a> {
     }
 
     // Ends the last of the claimed transfers.
-    fn finish<R: Wait>(&mut self, rt: &R) -> Result<(), Stop> {
+    fn finish<R: Wait>(&mut self, rt: &R) -> Result<(), Stop>
+        ensures { StaysSeated self.old self.new }
+    {
         let size = self.chance.below(1000);
         let code = if size < 800 {
             Code::Ok
@@ -122,7 +131,9 @@ impl<'a> Party<'a> {
     }
 
     // A call or two of each seat by chance, and one or two of the worker's.
-    fn turn<R: Wait>(&mut self, rt: &R) -> Result<(), Stop> {
+    fn turn<R: Wait>(&mut self, rt: &R) -> Result<(), Stop>
+        ensures { StaysSeated self.old self.new }
+    {
         let call = self.chance.call();
         self.one.turn(rt, call)?;
         let call = self.chance.call();
@@ -134,13 +145,24 @@ impl<'a> Party<'a> {
         }
     }
 
-    /// Makes so many turns, or those until it stops: in each, a call or two of each seat, and one or two of the worker's.
-    pub fn run<R: Wait>(&mut self, rt: &R, turns: u32) {
+    // Makes so many turns, or those until it stops.
+    fn play<R: Wait>(&mut self, rt: &R, turns: u32)
+        ensures { StaysSeated self.old self.new }
+    {
         for _ in 0..turns {
             if let Err(stop) = self.turn(rt) {
                 self.stop = Some(stop);
                 return;
             }
         }
+    }
+
+    /// Makes so many turns, or those until it stops: in each, a call or two of each seat, and one or two of the worker's. At the end it
+    /// gives all claimed work back.
+    pub fn run<R: Wait>(&mut self, rt: &R, turns: u32)
+        ensures { StaysSeated self.old self.new }
+    {
+        self.play(rt, turns);
+        self.worker.give_all_back(rt);
     }
 }

@@ -1,11 +1,15 @@
 //! Many seats on many threads, over few handles.
+ghost use Rattle.std.specs.Prelude.{◌≡◌, ◌<◌, ℕ, length, slice_index_or, IfOk, IfSome};
+ghost use Rattle.std.specs.List.{All};
+ghost use Rattle.mx_multi_tests_base.specs.Parties.{IsSeatedAt, StaysSeated};
 
-use crate::client::{Seats, Worker};
+use crate::client::Worker;
 use crate::entries::{Entry, Notes, Stop};
 use crate::one_thread::OneThread;
 use crate::party::{Chance, Party, Place};
-use crate::sample::Handle;
-use mx_multi::{Application, AtWork, Limits};
+use crate::sample::{End, Handle, Job};
+use crate::whole::Whole;
+use mx_multi::{Limits, Seat, SeatOf, WorkerSeat};
 use mx_types::{OutOfMemory, Who};
 use std::alloc::Global;
 use std::sync::Wait;
@@ -22,7 +26,7 @@ const LIMITS: Limits = Limits {
     max_connects: 0,
 };
 
-pub(crate) fn notes_of(alloc: Global, who: Who) -> Notes {
+fn notes_of(alloc: Global, who: Who) -> Notes {
     Notes {
         alloc,
         who,
@@ -30,75 +34,224 @@ pub(crate) fn notes_of(alloc: Global, who: Who) -> Notes {
     }
 }
 
-// The place of the next seat, whose number is how many are left.
-fn next_place<'a>(alloc: Global, seats: &mut Seats<'a, Application>) -> Option<Place<'a>> {
-    let client = seats.take()?;
-    let number = (seats.left.len() % 16) as u8;
-    Some(Place {
-        client,
+// A seat with its handle, and no call yet.
+fn place_of<'a>(alloc: Global, multi: &'a Handle, seat: Seat<Job, End>, number: u8) -> Place<'a>
+    requires { seat.of ≡ multi.now }
+    ensures { result.client.of ≡ multi.now }
+{
+    Place {
+        client: multi.at(seat),
         notes: notes_of(alloc, Who::Seat(number)),
-    })
+    }
 }
 
-// The next two places with the next worker's seat, whose number is how many are left.
+// A worker's seat with its handle, and no claim yet.
+fn worker_of<'a>(alloc: Global, multi: &'a Handle, seat: WorkerSeat<Job, End>) -> Worker<'a>
+    requires { seat.of ≡ multi.now }
+    ensures { result.seat.of ≡ multi.now }
+{
+    Worker::new(alloc, multi.at(seat))
+}
+
+// The last two seats with the last worker's seat, whose numbers are how many stand before them. None where there are not so many.
 fn next_party<'a>(
     alloc: Global,
     seed: u64,
-    seats: &mut Seats<'a, Application>,
-    workers: &mut Seats<'a, AtWork>,
-) -> Option<Party<'a>> {
-    let places = next_place(alloc, seats).zip(next_place(alloc, seats));
-    let ((one, two), seat) = places.zip(workers.take())?;
-    let number = (workers.left.len() % 16) as u8;
+    multi: &'a Handle,
+    seats: &mut Vec<Seat<Job, End>>,
+    workers: &mut Vec<WorkerSeat<Job, End>>,
+) -> Option<Party<'a>>
+    requires own { All (λ s. s.of ≡ multi.now) seats.old.items × All (λ s. s.of ≡ multi.now) workers.old.items }
+    ensures own { All (λ s. s.of ≡ multi.now) seats.new.items × All (λ s. s.of ≡ multi.now) workers.new.items }
+    ensures seated { IfSome result (IsSeatedAt multi.now) }
+{
+    let two = place_of(alloc, multi, seats.pop()?, (seats.len() % 16) as u8);
+    let one = place_of(alloc, multi, seats.pop()?, (seats.len() % 16) as u8);
+    let worker = worker_of(alloc, multi, workers.pop()?);
+    let number = (workers.len() % 16) as u8;
     Some(Party {
         one,
         two,
-        worker: Worker::new(alloc, seat),
+        worker,
         notes: notes_of(alloc, Who::Worker(number)),
         chance: Chance::new(seed.wrapping_add(u64::from(number))),
         stop: None,
     })
 }
 
-// Adds a party for each thread, where there are seats for it.
-fn add_parties<'a>(
+// Puts a party behind the others.
+#[tactic(auto, using(crate::proofs::Parties::more_seated))]
+fn keep_party<'a>(
+    multi: &'a Handle,
+    party: Party<'a>,
+    parties: &mut Vec<Party<'a>>,
+) -> Result<(), OutOfMemory>
+    requires seated { IsSeatedAt multi.now party × All (IsSeatedAt multi.now) parties.old.items }
+    ensures seated { All (IsSeatedAt multi.now) parties.new.items }
+{
+    // For the prover alone.
+    let _ = multi;
+    parties.push(party)?;
+    Ok(())
+}
+
+// A party for each thread, as far as there are seats.
+fn all_parties<'a>(
     alloc: Global,
     seed: u64,
-    seats: &mut Seats<'a, Application>,
-    workers: &mut Seats<'a, AtWork>,
-    parties: &mut Vec<Party<'a>>,
-) -> Result<(), OutOfMemory> {
+    multi: &'a Handle,
+    seats: &mut Vec<Seat<Job, End>>,
+    workers: &mut Vec<WorkerSeat<Job, End>>,
+) -> Result<Vec<Party<'a>>, OutOfMemory>
+    requires own { All (λ s. s.of ≡ multi.now) seats.old.items × All (λ s. s.of ≡ multi.now) workers.old.items }
+    ensures own { All (λ s. s.of ≡ multi.now) seats.new.items × All (λ s. s.of ≡ multi.now) workers.new.items }
+    ensures seated { IfOk result (λ p. All (IsSeatedAt multi.now) p.items) }
+{
+    let mut parties = Vec::new(alloc);
     for _ in 0..THREADS {
-        if let Some(party) = next_party(alloc, seed, seats, workers) {
-            parties.push(party)?;
-        }
+        let Some(party) = next_party(alloc, seed, multi, seats, workers) else {
+            return Ok(parties);
+        };
+        keep_party(multi, party, &mut parties)?;
     }
+    Ok(parties)
+}
+
+// Each party makes its turns, in a thread of its own.
+fn run_parties<R: Threads + Wait + Sync>(rt: &R, parties: &mut [Party], turns: u32)
+    ensures count { length parties.new ≡ length parties.old }
+    ensures each { (k : ℕ) (d : Party) → k < length parties.old → StaysSeated (slice_index_or parties.old k d) (slice_index_or parties.new k d) }
+{
+    for_each_mut(
+        rt,
+        parties,
+        THREADS,
+        &|_: usize, party: &mut Party|
+            ensures { StaysSeated party.old party.new }
+        { party.run(rt, turns) },
+    );
+}
+
+// Puts a seat behind the others.
+#[tactic(auto, using(crate::proofs::Parties::more_own))]
+fn put_back<K>(
+    multi: &Handle,
+    seat: SeatOf<K, Job, End>,
+    seats: &mut Vec<SeatOf<K, Job, End>>,
+) -> Result<(), OutOfMemory>
+    requires own { (seat.of ≡ multi.now) × All (λ s. s.of ≡ multi.now) seats.old.items }
+    ensures own { All (λ s. s.of ≡ multi.now) seats.new.items }
+{
+    // For the prover alone.
+    let _ = multi;
+    seats.push(seat)?;
     Ok(())
 }
 
 // Moves what the makers of a party were answered behind the others'.
-fn take_entries(party: &mut Party, all: &mut Vec<Entry>) -> Result<(), OutOfMemory> {
+fn take_entries(party: &mut Party, all: &mut Vec<Entry>) -> Result<(), OutOfMemory>
+    ensures { StaysSeated party.old party.new }
+{
     all.append(&mut party.one.notes.entries)?;
     all.append(&mut party.two.notes.entries)?;
     all.append(&mut party.notes.entries)?;
     Ok(())
 }
 
-// Each party makes its turns, in a thread of its own.
-fn run_parties<R: Threads + Wait + Sync>(rt: &R, parties: &mut [Party], turns: u32) {
-    for_each_mut(rt, parties, THREADS, &|_, party| party.run(rt, turns));
+// Puts the seats of a party back.
+fn take_apart(
+    multi: &Handle,
+    party: Party,
+    seats: &mut Vec<Seat<Job, End>>,
+    workers: &mut Vec<WorkerSeat<Job, End>>,
+) -> Result<(), OutOfMemory>
+    requires seated { IsSeatedAt multi.now party }
+    requires own { All (λ s. s.of ≡ multi.now) seats.old.items × All (λ s. s.of ≡ multi.now) workers.old.items }
+    ensures own { All (λ s. s.of ≡ multi.now) seats.new.items × All (λ s. s.of ≡ multi.now) workers.new.items }
+{
+    let Party {
+        one,
+        two,
+        worker,
+        ..
+    } = party;
+    put_back(multi, one.client.into_seat(), seats)?;
+    put_back(multi, two.client.into_seat(), seats)?;
+    put_back(multi, worker.seat.into_seat(), workers)
 }
 
-// All that was answered.
-fn all_entries(alloc: Global, parties: &mut [Party]) -> Result<Vec<Entry>, Stop> {
+// Puts the seats of all parties back: what was answered.
+fn all_entries(
+    alloc: Global,
+    multi: &Handle,
+    parties: Vec<Party>,
+    seats: &mut Vec<Seat<Job, End>>,
+    workers: &mut Vec<WorkerSeat<Job, End>>,
+) -> Result<Vec<Entry>, Stop>
+    requires seated { All (IsSeatedAt multi.now) parties.items }
+    requires own { All (λ s. s.of ≡ multi.now) seats.old.items × All (λ s. s.of ≡ multi.now) workers.old.items }
+    ensures own { All (λ s. s.of ≡ multi.now) seats.new.items × All (λ s. s.of ≡ multi.now) workers.new.items }
+{
+    let mut parties = parties;
     let mut all = Vec::new(alloc);
-    for party in parties {
-        if let Some(stop) = party.stop {
-            return Err(stop);
-        }
-        take_entries(party, &mut all)?;
+    let mut stopped = None;
+    while let Some(party) = parties.pop() {
+        let mut party = party;
+        stopped = stopped.or(party.stop);
+        take_entries(&mut party, &mut all)?;
+        take_apart(multi, party, seats, workers)?;
     }
-    Ok(all)
+    match stopped {
+        Some(stop) => Err(stop),
+        None => Ok(all),
+    }
+}
+
+// So many turns of each thread, at the seats of a multi handle: what was answered.
+#[tactic(auto, using(crate::proofs::Parties::all_stay))]
+fn storm_at<R: Threads + Wait + Sync>(
+    rt: &R,
+    alloc: Global,
+    multi: &Handle,
+    seats: &mut Vec<Seat<Job, End>>,
+    workers: &mut Vec<WorkerSeat<Job, End>>,
+    seed: u64,
+    turns: u32,
+) -> Result<Vec<Entry>, Stop>
+    requires own { All (λ s. s.of ≡ multi.now) seats.old.items × All (λ s. s.of ≡ multi.now) workers.old.items }
+    ensures own { All (λ s. s.of ≡ multi.now) seats.new.items × All (λ s. s.of ≡ multi.now) workers.new.items }
+{
+    let mut parties = all_parties(alloc, seed, multi, seats, workers)?;
+    run_parties(rt, parties.as_mut_slice(), turns);
+    all_entries(alloc, multi, parties, seats, workers)
+}
+
+impl Whole {
+    /// So many turns of each of 8 threads, with two seats and a worker's seat each: what was answered, each maker's in its own order.
+    /// All claimed work was given back then. Where it stops, a thread was refused memory, or a call was answered `WrongSeat` or None;
+    /// seats may be missing then.
+    pub fn storm<R: Threads + Wait + Sync>(
+        self,
+        rt: &R,
+        alloc: Global,
+        seed: u64,
+        turns: u32,
+    ) -> (Whole, Result<Vec<Entry>, Stop>) {
+        let Whole {
+            multi,
+            mut seats,
+            mut workers,
+            hand,
+        } = self;
+        let told = storm_at(rt, alloc, &multi, &mut seats, &mut workers, seed, turns);
+        let whole = Whole {
+            multi,
+            seats,
+            workers,
+            hand,
+        };
+        (whole, told)
+    }
 }
 
 /// So many turns of each thread, on a multi handle of its own. It answers what was answered, each maker's in its own order.
@@ -108,29 +261,12 @@ pub fn storm<R: Threads + Wait + Sync>(
     seed: u64,
     turns: u32,
 ) -> Result<Vec<Entry>, Stop> {
-    let Ok((multi, seats, workers)) = Handle::open(rt, alloc, LIMITS) else {
+    let Ok(whole) = Whole::open(rt, alloc, LIMITS) else {
         return Err(Stop::Memory);
     };
-    let mut seats = Seats {
-        multi: &multi,
-        left: seats,
-    };
-    let mut workers = Seats {
-        multi: &multi,
-        left: workers,
-    };
-    let mut parties = Vec::new(alloc);
-    let told = match add_parties(alloc, seed, &mut seats, &mut workers, &mut parties) {
-        Ok(()) => {
-            run_parties(rt, parties.as_mut_slice(), turns);
-            all_entries(alloc, parties.as_mut_slice())
-        }
-        Err(refused) => Err(refused.into()),
-    };
-    // By calls: the form of a function that lets all of them go by itself is large.
-    drop(parties);
-    drop(seats);
-    drop(workers);
+    let (whole, told) = whole.storm(rt, alloc, seed, turns);
+    // By a call: the form of a function that lets it go by itself is large.
+    drop(whole);
     told
 }
 
