@@ -1,7 +1,7 @@
 //! What readers are told, by worked examples, on one thread and on three.
 ghost use Rattle.std.specs.Prelude.{◌≡◌, IfOk, IfSome};
 
-use crate::desk::Desk;
+use crate::desk::{Desk, end};
 use mx_board::{BoardReader, Found};
 use mx_types::{HandleId, Look, OutOfMemory, State, Ticket, What, Who};
 use std::alloc::Global;
@@ -95,9 +95,10 @@ fn add_and_ask<R: Wait + Abort>(
 
 #[test]
 fn two_seats_add_a_handle_each(rt: HostRuntime) -> Result<(), Fail> {
-    let mut desk = Desk::new(&rt, rt.alloc())?;
+    let (mut desk, is_refused) = Desk::new(&rt, rt.alloc())?;
     let (mut a, mut b) = two_readers(&mut desk).ok_or("a place for each")?;
-    add_and_ask(&rt, rt.alloc(), desk, &mut a, &mut b)
+    add_and_ask(&rt, rt.alloc(), desk, &mut a, &mut b)?;
+    end(is_refused)
 }
 
 // A seat adds a handle. It answers what the reader tells before it is informed of that and after, and whether it was.
@@ -120,11 +121,11 @@ fn add_one<R: Wait>(
 
 #[test]
 fn a_reader_waits_for_its_own_event(rt: HostRuntime) -> Result<(), Fail> {
-    let mut desk = Desk::new(&rt, rt.alloc())?;
+    let (mut desk, is_refused) = Desk::new(&rt, rt.alloc())?;
     let mut a = desk.reader(Who::Seat(0)).ok_or("a place")?;
     let told = add_one(&rt, rt.alloc(), desk, &mut a)?;
     assert_eq!(rt; told, ([(None, 0), (Some(1), 1)], true));
-    Ok(())
+    end(is_refused)
 }
 
 // Adds so many handles, each under its own ticket.
@@ -176,7 +177,7 @@ fn read_all(mut reader: BoardReader, handles: u32, ended: &AtomicBool) -> bool {
 
 #[test]
 fn two_threads_read_what_a_third_adds(rt: HostRuntime) -> Result<(), Fail> {
-    let mut desk = Desk::new(&rt, rt.alloc())?;
+    let (mut desk, _) = Desk::new(&rt, rt.alloc())?;
     let (one, two) = two_readers(&mut desk).ok_or("a place for each")?;
     let alloc = rt.alloc();
     let ended = AtomicBool::new(false);

@@ -1,5 +1,5 @@
 //! A board beside the list of its events, which is looked up in.
-ghost use Rattle.std.specs.Prelude.{◌≡◌, true, IfOk, IfSome};
+ghost use Rattle.std.specs.Prelude.{◌≡◌, [], true, IfOk, IfSome};
 ghost use Rattle.mx_history.specs.History.{is_maker};
 ghost use Rattle.mx_board.specs.Board.{caught_up};
 
@@ -10,6 +10,28 @@ use mx_types::{Event, OutOfMemory, What, Who};
 use std::alloc::Global;
 use std::marker::Model;
 use std::sync::Wait;
+use std::test::Fail;
+
+/// What a test ends with in which a call was refused memory, which then answered when it was made again.
+const AGAIN: &str = "memory was refused, and the call answered when it was made again";
+
+/// The end of a test, in which memory was refused at a call or not.
+pub fn end(is_refused: bool) -> Result<(), Fail> {
+    if is_refused {
+        return Err(AGAIN.into());
+    }
+    Ok(())
+}
+
+// A board for two readers, made again where memory was refused; and whether it was.
+fn two_places<R: Wait>(rt: &R, alloc: Global) -> Result<(BoardWriter, bool), OutOfMemory>
+    ensures { IfOk result (λ r. (r.0.events ≡ []) × (r.0.published ≡ [])) }
+{
+    match board(rt, alloc, 2) {
+        Ok(board) => Ok((board, false)),
+        Err(OutOfMemory) => Ok((board(rt, alloc, 2)?, true)),
+    }
+}
 
 /// The board, whose events are all published, and the list of them.
 #[derive(Drop)]
@@ -30,12 +52,11 @@ impl Model for Desk {
 }
 
 impl Desk {
-    pub fn new<R: Wait>(rt: &R, alloc: Global) -> Result<Desk, OutOfMemory> {
-        let board = board(rt, alloc, 2)?;
-        Ok(Desk {
-            list: VecLog::new(alloc),
-            board,
-        })
+    /// A desk of a new board, which is made again where memory was refused; and whether it was.
+    pub fn new<R: Wait>(rt: &R, alloc: Global) -> Result<(Desk, bool), OutOfMemory> {
+        let (board, is_refused) = two_places(rt, alloc)?;
+        let list = VecLog::new(alloc);
+        Ok((Desk { list, board }, is_refused))
     }
 
     /// Appends an event and publishes it. It is refused for want of memory, and where the event may not follow.

@@ -1,9 +1,15 @@
 //! A board of a history that was kept.
 
-use mx_board::{BoardReader, board_of};
+ghost use Rattle.std.specs.Prelude.{◌≡◌, ◌<◌, true, length};
+ghost use Rattle.mx_history.specs.History.{is_legal};
+
+use crate::desk::end;
+use mx_board::{BoardReader, BoardWriter, board_of};
 use mx_history::definitions;
-use mx_types::{Code, Event, HandleId, State, Ticket, What, Who};
+use mx_types::{Code, Event, HandleId, OutOfMemory, State, Ticket, What, Who};
+use std::alloc::Global;
 use std::process::Abort;
+use std::sync::Wait;
 use std::test::Fail;
 
 // A seat's addition, which ended, and another's, whose ticket isn't the next number.
@@ -36,15 +42,30 @@ fn ask<R: Abort>(rt: &R, reader: &mut BoardReader) {
     );
 }
 
+// A board of legal events, made again where memory was refused; and whether it was.
+fn make<R: Wait>(
+    rt: &R,
+    alloc: Global,
+    events: &[Event],
+) -> Result<(BoardWriter, bool), OutOfMemory>
+    requires legal { is_legal events.now ≡ true }
+    requires few { length events.now < 4294967295 }
+{
+    match board_of(rt, alloc, 1, events) {
+        Ok(board) => Ok((board, false)),
+        Err(OutOfMemory) => Ok((board_of(rt, alloc, 1, events)?, true)),
+    }
+}
+
 #[test]
 fn a_kept_history_is_read_as_it_stands(rt: HostRuntime) -> Result<(), Fail> {
     if !definitions::is_legal(rt.alloc(), &KEPT)? {
         return Err("a legal history".into());
     }
-    let mut board = board_of(&rt, rt.alloc(), 1, &KEPT)?;
+    let (mut board, is_refused) = make(&rt, rt.alloc(), &KEPT)?;
     let mut reader = board.reader(Who::Seat(1)).ok_or("a place")?;
     ask(&rt, &mut reader);
     let published = board.close(&rt);
     assert_eq!(&rt; (published.len(), published.beyond()), (3, 8));
-    Ok(())
+    end(is_refused)
 }

@@ -1,11 +1,13 @@
 //! Progress words by their worked examples.
-ghost use Rattle.std.specs.Prelude.{◌≡◌, IfSome};
+ghost use Rattle.std.specs.Prelude.{◌≡◌, IfOk, IfSome};
 ghost use Rattle.std.specs.List.{All};
 ghost use Rattle.mx_board.specs.Progress.{new_seat};
 
+use crate::desk::end;
 use crate::notes::{Count, note_in_two_threads};
 use mx_board::{NoteSeat, ProgressTable};
-use mx_types::Ticket;
+use mx_types::{OutOfMemory, Ticket};
+use std::alloc::Global;
 use std::test::Fail;
 
 // Takes two seats off the list.
@@ -39,9 +41,22 @@ fn note_and_read(
     ([begun, noted, older, first], last)
 }
 
+// A table of two seats, made again where memory was refused; and whether it was.
+fn table(alloc: Global) -> Result<(ProgressTable, Vec<NoteSeat>, bool), OutOfMemory>
+    ensures { IfOk result (λ r. All (λ s. s ≡ new_seat r.0) r.1.items) }
+{
+    match ProgressTable::new(alloc, 2) {
+        Ok((table, seats)) => Ok((table, seats, false)),
+        Err(OutOfMemory) => {
+            let (table, seats) = ProgressTable::new(alloc, 2)?;
+            Ok((table, seats, true))
+        }
+    }
+}
+
 #[test]
 fn a_word_is_the_greatest_that_was_noted(rt: HostRuntime) -> Result<(), Fail> {
-    let (table, seats) = ProgressTable::new(rt.alloc(), 2)?;
+    let (table, seats, is_refused) = table(rt.alloc())?;
     let (mut one, mut other) = two(&table, seats).ok_or("two seats")?;
     let (first, last) = note_and_read(&table, &mut one, &mut other);
     let greatest = (Ticket(3), 5);
@@ -52,7 +67,7 @@ fn a_word_is_the_greatest_that_was_noted(rt: HostRuntime) -> Result<(), Fail> {
             (Ticket(4294967295), 4294967295)
         )
     );
-    Ok(())
+    end(is_refused)
 }
 
 #[test]

@@ -12,6 +12,8 @@ mod locations;
 #[cfg(test)]
 mod pieces;
 #[cfg(test)]
+mod refused;
+#[cfg(test)]
 mod responses;
 #[cfg(test)]
 mod rows;

@@ -9,7 +9,7 @@ use std::alloc::{AllocError, Global};
 use std::process::Abort;
 
 /// 72 bytes, with the body at 54.
-const CHUNKED: &[u8] =
+pub(crate) const CHUNKED: &[u8] =
     b"HTTP/1.1 200 OK\r\nTransfer-Encoding: chunked\r\n\r\n5;x=y\r\nhello\r\n0\r\nA: b\r\n\r\n";
 
 /// 22 bytes, with the body at 19, which goes on to the end.
@@ -17,7 +17,7 @@ const CLOSE: &[u8] = b"HTTP/1.0 200 OK\r\n\r\nabc";
 
 /// What can be read of a decoder, and what its bytes come to.
 #[derive(Clone, Copy, Debug, PartialEq, Eq)]
-struct Reading {
+pub(crate) struct Reading {
     stand: Stand,
     status: u16,
     len: usize,
@@ -26,7 +26,7 @@ struct Reading {
 }
 
 /// Reads all that there is to read.
-fn read(decoder: &Decoder) -> Reading {
+pub(crate) fn read(decoder: &Decoder) -> Reading {
     Reading {
         stand: decoder.stand(),
         status: decoder.status(),
@@ -206,7 +206,7 @@ fn are_single_bytes(parts: &[Part]) -> bool {
 }
 
 /// Compares what a decoder reads behind 100,000 chunks of one byte.
-fn has_many_chunks(rt: &impl Abort, decoder: &Decoder) {
+pub(crate) fn has_many_chunks(rt: &impl Abort, decoder: &Decoder) {
     let whole = Reading {
         stand: Stand::Complete,
         status: 200,
@@ -229,47 +229,6 @@ fn many_chunks_a_byte_at_a_time(rt: HostRuntime) {
     let mut decoder = decoder(rt.alloc(), Method::Get);
     let each = feed_each(&mut decoder, &bytes);
     // the last byte decides: 600,051 were answered `More`
-    assert_eq!(rt; each, (600_051, Some(Stand::Complete)));
-    has_many_chunks(&rt, &decoder);
-}
-
-/// The byte at that offset of the head, 100,000 chunks of one byte, and the end. It takes no memory.
-fn byte_of_many_chunks(at: usize) -> u8 {
-    let (bytes, at): (&[u8], usize) = if at < 47 {
-        (CHUNKED, at)
-    } else if at < 600_047 {
-        (b"1\r\nx\r\n", (at - 47) % 6)
-    } else {
-        (b"0\r\n\r\n", at - 600_047)
-    };
-    bytes.get(at).copied().unwrap_or(0)
-}
-
-/// Feeds a byte. Where memory is refused, and the decoder is as it was, the byte is fed again.
-fn feed_again_if_refused(decoder: &mut Decoder, byte: u8) -> Option<Stand> {
-    let before = read(decoder);
-    match feed(decoder, &[byte]) {
-        None if read(decoder) == before => feed(decoder, &[byte]),
-        stand => stand,
-    }
-}
-
-/// Feeds those bytes, until one isn't answered `More`: how many were, and the last answer.
-fn feed_many_chunks(decoder: &mut Decoder) -> (usize, Option<Stand>) {
-    for at in 0..600_052 {
-        let stand = feed_again_if_refused(decoder, byte_of_many_chunks(at));
-        if stand != Some(Stand::More) {
-            return (at, stand);
-        }
-    }
-    (600_052, Some(Stand::More))
-}
-
-/// All memory that is asked for is the decoder's, so that any one growth may be refused.
-#[test]
-fn many_chunks_go_on_behind_a_refused_growth(rt: HostRuntime) {
-    let mut decoder = decoder(rt.alloc(), Method::Get);
-    let each = feed_many_chunks(&mut decoder);
     assert_eq!(rt; each, (600_051, Some(Stand::Complete)));
     has_many_chunks(&rt, &decoder);
 }

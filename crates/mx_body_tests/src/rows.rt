@@ -3,7 +3,7 @@
 
 use crate::pieces::{decoder, end, feed};
 use mx_body::{Decoder, Part, Stand, Verdict, decode_whole};
-use mx_types::{Code, Method};
+use mx_types::{Code, Method, OutOfMemory};
 use std::alloc::{AllocError, Global};
 
 /// What is said of bytes.
@@ -25,7 +25,7 @@ pub(crate) struct Row {
     end: &'static [u8],
     /// How many of them decide; nothing where the end of the input does.
     decided: Option<usize>,
-    told: Told<'static>,
+    pub(crate) told: Told<'static>,
 }
 
 /// A GET that no byte of the answer decides.
@@ -229,15 +229,9 @@ fn told_of(row: &Row, len: usize) -> Told<'static> {
     }
 }
 
-/// Whether the plain program says so of the bytes, or of the bytes and their end.
-pub(crate) fn is_told(
-    alloc: Global,
-    method: Method,
-    bytes: &[u8],
-    ended: bool,
-    told: Told<'_>,
-) -> bool {
-    match (decode_whole(alloc, method, bytes, ended), told) {
+/// Whether the plain program's verdict is so.
+pub(crate) fn is_verdict(verdict: Result<Verdict, OutOfMemory>, told: Told<'_>) -> bool {
+    match (verdict, told) {
         (
             Ok(
                 Verdict::Complete {
@@ -256,6 +250,17 @@ pub(crate) fn is_told(
         (Ok(Verdict::Fault(code)), Told::Fault(told_code)) => code == told_code,
         _ => false,
     }
+}
+
+/// Whether the plain program says so of the bytes, or of the bytes and their end.
+pub(crate) fn is_told(
+    alloc: Global,
+    method: Method,
+    bytes: &[u8],
+    ended: bool,
+    told: Told<'_>,
+) -> bool {
+    is_verdict(decode_whole(alloc, method, bytes, ended), told)
 }
 
 /// Whether it says what is told of each front of a row, and of all of it with its end.
@@ -277,7 +282,7 @@ fn whole_responses(rt: HostRuntime) {
 }
 
 /// Whether the decoder says so.
-fn says(decoder: &Decoder, told: Told<'_>) -> bool {
+pub(crate) fn says(decoder: &Decoder, told: Told<'_>) -> bool {
     match told {
         Told::More => decoder.stand() == Stand::More,
         Told::Fault(code) => decoder.stand() == Stand::Fault(code),

@@ -5,3 +5,5 @@
 mod hops;
 #[cfg(test)]
 mod redirects;
+#[cfg(test)]
+mod refused;

@@ -10,6 +10,8 @@ mod edges;
 #[cfg(test)]
 mod outside;
 #[cfg(test)]
+mod refused;
+#[cfg(test)]
 mod sockets;
 #[cfg(test)]
 mod writers;

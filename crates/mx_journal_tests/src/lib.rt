@@ -5,6 +5,8 @@
 mod back;
 pub mod callers;
 #[cfg(test)]
+mod refused;
+#[cfg(test)]
 mod removals;
 #[cfg(test)]
 mod retirings;

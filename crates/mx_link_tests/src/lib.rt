@@ -6,6 +6,8 @@ mod asking;
 #[cfg(test)]
 mod interrupted;
 #[cfg(test)]
+mod refused;
+#[cfg(test)]
 mod scripted;
 #[cfg(test)]
 mod sockets;

@@ -5,6 +5,17 @@ use mx_types::{Call, OutOfMemory, Reply};
 use std::alloc::Global;
 use std::test::Fail;
 
+/// What a test ends with in which a call was refused memory, which then answered as it is to when it was made again.
+pub const AGAIN: &str = "memory was refused, and the call answered when it was made again";
+
+/// The end of a test, in which memory was refused at a call or not.
+pub fn end(is_refused: bool) -> Result<(), Fail> {
+    if is_refused {
+        return Err(AGAIN.into());
+    }
+    Ok(())
+}
+
 /// Fails with the words where it isn't so.
 pub fn check(holds: bool, words: &'static str) -> Result<(), Fail> {
     if holds {

@@ -2,10 +2,9 @@
 ghost use Rattle.std.specs.Prelude.{◌≡◌};
 ghost use denote.Param.Send.{IsSync};
 
-use mx_multi::{Application, AtWork, Limits};
+use mx_multi::{Application, AtWork, Limits, OpenError};
 use mx_multi_tests_base::client::{Client, Seats, Worker};
 use mx_multi_tests_base::sample::Handle;
-use mx_types::OutOfMemory;
 use std::alloc::Global;
 use std::sync::Wait;
 use std::test::Fail;
@@ -87,16 +86,14 @@ fn play_at<'a, R: Threads + Wait + Sync, S: Scene>(
     told
 }
 
-/// Opens a multi handle, and plays at it once. `OutOfMemory` stands for any refusal to open it.
+/// Opens a multi handle, and plays at it once.
 pub fn at_desk<R: Threads + Wait + Sync, S: Scene>(
     rt: &R,
     alloc: Global,
     limits: Limits,
     scene: &S,
-) -> Result<Result<(), Fail>, OutOfMemory> {
-    let Ok((multi, seats, workers)) = Handle::open(rt, alloc, limits) else {
-        return Err(OutOfMemory);
-    };
+) -> Result<Result<(), Fail>, OpenError> {
+    let (multi, seats, workers) = Handle::open(rt, alloc, limits)?;
     let mut seats = Seats {
         multi: &multi,
         left: seats,

@@ -1,11 +1,11 @@
 //! What each seat sees of a call that another seat has made, while it is made and afterwards.
 ghost use Rattle.std.specs.Prelude.{◌≡◌};
 
-use crate::checks::check;
+use crate::checks::{check, end};
 use crate::desk::{Desk, Pair, Scene};
 use crate::script::{By, Step, at_four_seats, take_steps};
 use mx_multi_tests_base::client::{Client, make};
-use mx_types::{Call, HandleId, OutOfMemory, Reply, Ticket};
+use mx_types::{Call, HandleId, Reply, Ticket};
 use std::alloc::Global;
 use std::sync::Wait;
 use std::test::Fail;
@@ -124,10 +124,7 @@ impl Scene for Additions {
         let listed = list_beside(rt, &mut desk.pair);
         check_lists(listed)?;
         take_steps(rt, alloc, desk, SEEN)?;
-        if listed.refused {
-            return Err(OutOfMemory.into());
-        }
-        Ok(())
+        end(listed.refused)
     }
 }
 

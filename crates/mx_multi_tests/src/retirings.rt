@@ -1,10 +1,10 @@
 //! Retiring old history: what stays, what goes, and what hinders it.
 
-use crate::checks::{answered, check, compare};
+use crate::checks::{answered, check, compare, end};
 use mx_multi::{HistoryUse, Limits, OpenError, Refusal};
 use mx_multi_tests_base::sample::End;
 use mx_multi_tests_base::whole::Whole;
-use mx_types::{Call, Code, HandleId, OutOfMemory, Reply, Ticket};
+use mx_types::{Call, Code, HandleId, Reply, Ticket};
 use std::alloc::Global;
 use std::sync::Wait;
 use std::test::Fail;
@@ -142,28 +142,27 @@ fn take_step<R: Wait>(rt: &R, alloc: Global, play: Play, step: Step) -> (Play, R
 }
 
 // Makes the calls of a script.
-fn take_steps<R: Wait>(rt: &R, alloc: Global, whole: Whole, steps: &[Step]) -> Result<(), Fail> {
-    let mut play = Play {
-        whole,
-        refused: false,
-    };
+fn take_steps<R: Wait>(rt: &R, alloc: Global, play: Play, steps: &[Step]) -> Result<(), Fail> {
+    let mut play = play;
     for step in steps {
         let (next, told) = take_step(rt, alloc, play, *step);
         told?;
         play = next;
     }
-    if play.refused {
-        return Err(OutOfMemory.into());
-    }
-    Ok(())
+    end(play.refused)
 }
 
-// Opens a multi handle.
-fn open<R: Wait>(rt: &R, alloc: Global, limits: Limits) -> Result<Whole, Fail> {
+// Opens a multi handle, once more where it was refused memory.
+fn open<R: Wait>(rt: &R, alloc: Global, limits: Limits) -> Result<Play, OpenError> {
     match Whole::open(rt, alloc, limits) {
-        Ok(whole) => Ok(whole),
-        Err(OpenError::OutOfMemory) => Err(OutOfMemory.into()),
-        Err(OpenError::BadLimits) => Err("bad limits".into()),
+        Err(OpenError::OutOfMemory) => Ok(Play {
+            whole: Whole::open(rt, alloc, limits)?,
+            refused: true,
+        }),
+        first => Ok(Play {
+            whole: first?,
+            refused: false,
+        }),
     }
 }
 
@@ -293,19 +292,22 @@ fn fill<R: Wait>(rt: &R, whole: &mut Whole, first: u32) -> Result<(), Fail> {
 }
 
 // Fills the history and retires, ten times.
-fn fill_and_retire<R: Wait>(rt: &R, alloc: Global, whole: Whole) -> Result<(), Fail> {
-    let mut whole = whole;
-    check(transfer(rt, &mut whole, ONE, Ticket(0))?, "full at once")?;
+fn fill_and_retire<R: Wait>(rt: &R, alloc: Global, play: Play) -> Result<(), Fail> {
+    let mut play = play;
+    check(
+        transfer(rt, &mut play.whole, ONE, Ticket(0))?,
+        "full at once",
+    )?;
     for round in 0..10u32 {
-        fill(rt, &mut whole, round.wrapping_mul(3).wrapping_add(1))?;
-        let (next, why) = whole.retire(rt, alloc);
-        if why == Some(Refusal::OutOfMemory) {
-            return Err(OutOfMemory.into());
-        }
-        check(why.is_none() && next.have_all_seen(3), "not retired so")?;
-        whole = next;
+        fill(rt, &mut play.whole, round.wrapping_mul(3).wrapping_add(1))?;
+        let (next, why) = retire(rt, alloc, play);
+        check(
+            why.is_none() && next.whole.have_all_seen(3),
+            "not retired so",
+        )?;
+        play = next;
     }
-    Ok(())
+    end(play.refused)
 }
 
 /// A history that fills up is retired, and goes on: ten times, and no ticket is given again.

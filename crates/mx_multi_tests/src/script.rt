@@ -1,15 +1,15 @@
 //! Scripts of calls at a desk, each with what it is to answer. A call that is refused memory is made once more, and is then to
-//! answer the same as if it had been the first; a script in which one was refused fails with the want of memory in the end.
+//! answer the same as if it had been the first; a script in which one was refused fails in the end, by a text of its own.
 ghost use Rattle.std.specs.Prelude.{◌≡◌};
 
-use crate::checks::{check, compare};
+use crate::checks::{check, compare, end as end_with};
 use crate::desk::{Desk, FOUR_SEATS, Pair, Scene, at_desk};
 use mx_journal::GiveBackReply;
-use mx_multi::Progress;
+use mx_multi::{OpenError, Progress};
 use mx_multi_tests_base::client;
 use mx_multi_tests_base::client::{Client, Worker};
 use mx_multi_tests_base::sample::{End, Job};
-use mx_types::{Call, Code, HandleId, OutOfMemory, Reply, Ticket};
+use mx_types::{Call, Code, HandleId, Reply, Ticket};
 use std::alloc::Global;
 use std::sync::Wait;
 use std::test::Fail;
@@ -208,10 +208,7 @@ pub fn take_steps<R: Wait>(
     for step in steps {
         take_step(rt, alloc, desk, &mut kept, *step)?;
     }
-    if kept.refused {
-        return Err(OutOfMemory.into());
-    }
-    Ok(())
+    end_with(kept.refused)
 }
 
 /// A script, which is played at a desk.
@@ -231,20 +228,22 @@ impl Scene for Script<'_> {
     }
 }
 
-/// Plays at a multi handle of four seats; where memory was refused for it, at another, and then fails with the want of memory.
+/// Plays at a multi handle of four seats; where memory was refused for it, at another, and then fails all the same.
 pub fn at_four_seats<R: Threads + Wait + Sync, S: Scene>(
     rt: &R,
     alloc: Global,
     scene: &S,
 ) -> Result<(), Fail> {
-    if let Ok(told) = at_desk(rt, alloc, FOUR_SEATS, scene) {
-        return told;
+    match at_desk(rt, alloc, FOUR_SEATS, scene) {
+        Ok(told) => return told,
+        Err(OpenError::OutOfMemory) => {}
+        Err(OpenError::BadLimits) => return Err("bad limits".into()),
     }
     match at_desk(rt, alloc, FOUR_SEATS, scene) {
         Ok(told) => told?,
         Err(_) => return Err("it isn't opened with memory".into()),
     }
-    Err(OutOfMemory.into())
+    end_with(true)
 }
 
 /// Plays a script at a multi handle of its own.

@@ -9,4 +9,6 @@ mod clock_tests;
 #[cfg(test)]
 mod redirect_tests;
 #[cfg(test)]
+mod refused;
+#[cfg(test)]
 mod request_tests;

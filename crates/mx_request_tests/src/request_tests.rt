@@ -37,7 +37,7 @@ fn one_field(alloc: Global, name: &str, value: &str) -> Result<Fields, AllocErro
 }
 
 /// Settings with just this field.
-fn with_field(alloc: Global, name: &str, value: &str) -> Result<Settings, AllocError> {
+pub(crate) fn with_field(alloc: Global, name: &str, value: &str) -> Result<Settings, AllocError> {
     let fields = one_field(alloc, name, value)?;
     Ok(with_parts(None, fields, None))
 }
@@ -120,7 +120,7 @@ fn has_all(rt: &impl Abort, request: &Request, sent: &str, method: Method, timeo
 }
 
 /// Settings with a user agent, a field, the body `hi` and a limit of time.
-fn with_all(alloc: Global) -> Result<Settings, AllocError> {
+pub(crate) fn with_all(alloc: Global) -> Result<Settings, AllocError> {
     let user_agent = String::from_str(alloc, "mx/1")?;
     let fields = one_field(alloc, "X-A", "1")?;
     let body = Vec::from_slice(alloc, b"hi")?;

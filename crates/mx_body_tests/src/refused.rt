@@ -1,0 +1,136 @@
+//! Calls that may be refused memory. One that was is made again, and has then to answer as if it had been the first; only then does its test
+//! fail, by a text of its own. What a test needs for itself is refused as any allocation is. Without a refusal all of them pass.
+
+use crate::pieces::{CHUNKED, decoder, has_many_chunks, read};
+use crate::rows::{RESPONSES, Row, Told, bytes_of, is_verdict, says};
+use mx_body::{Decoder, Stand, decode_whole};
+use mx_types::{Method, OutOfMemory};
+use std::alloc::Global;
+use std::test::Fail;
+
+/// What a test ends with in which a call was refused memory.
+const AGAIN: &str = "memory was refused, and the call answered when it was made again";
+
+// The end of a test, in which memory was refused at a call or not.
+fn end_with(is_refused: bool) -> Result<(), Fail> {
+    if is_refused {
+        return Err(AGAIN.into());
+    }
+    Ok(())
+}
+
+// Decodes a response as a whole, again where memory was refused: whether it was, and whether the verdict is what is told.
+fn decode(alloc: Global, row: &Row, bytes: &[u8]) -> (bool, bool) {
+    let first = decode_whole(alloc, row.method, bytes, true);
+    if first.is_ok() {
+        return (false, is_verdict(first, row.told));
+    }
+    let second = decode_whole(alloc, row.method, bytes, true);
+    (true, is_verdict(second, row.told))
+}
+
+#[test]
+fn whole_responses_are_decoded_again(rt: HostRuntime) -> Result<(), Fail> {
+    let mut is_refused = false;
+    for row in &RESPONSES {
+        let bytes = bytes_of(rt.alloc(), row)?;
+        let (lacked, is_right) = decode(rt.alloc(), row, &bytes);
+        assert!(rt; is_right, "{bytes:?}");
+        is_refused = is_refused || lacked;
+    }
+    end_with(is_refused)
+}
+
+/// A call of a decoder.
+#[derive(Clone, Copy)]
+enum Call<'a> {
+    Feed(&'a [u8]),
+    End,
+}
+
+fn make(decoder: &mut Decoder, call: Call<'_>) -> Result<Stand, OutOfMemory> {
+    match call {
+        Call::Feed(piece) => decoder.feed(piece),
+        Call::End => decoder.end(),
+    }
+}
+
+// Makes a call, again where memory was refused, if the decoder is as it was then; and whether memory was refused.
+fn make_again(decoder: &mut Decoder, call: Call<'_>) -> (Result<Stand, OutOfMemory>, bool) {
+    let before = read(decoder);
+    match make(decoder, call) {
+        Err(OutOfMemory) if read(decoder) == before => (make(decoder, call), true),
+        stand => (stand, false),
+    }
+}
+
+// Feeds the bytes in pieces of that length, and then the end: whether memory was refused, and whether the decoder says what is told.
+fn feed_all(decoder: &mut Decoder, row: &Row, bytes: &[u8], len: usize) -> (bool, bool) {
+    let mut is_refused = false;
+    for piece in bytes.chunks(len.max(1)) {
+        let (stand, lacked) = make_again(decoder, Call::Feed(piece));
+        is_refused = is_refused || lacked;
+        if stand.is_err() {
+            return (is_refused, false);
+        }
+    }
+    let (stand, lacked) = make_again(decoder, Call::End);
+    let is_right = stand.is_ok() && says(decoder, row.told);
+    (is_refused || lacked, is_right)
+}
+
+// Feeds them to a new decoder.
+fn feed_new(alloc: Global, row: &Row, bytes: &[u8], len: usize) -> (bool, bool) {
+    let mut decoder = decoder(alloc, row.method);
+    feed_all(&mut decoder, row, bytes, len)
+}
+
+#[test]
+fn pieces_are_fed_again(rt: HostRuntime) -> Result<(), Fail> {
+    let mut is_refused = false;
+    for row in &RESPONSES {
+        let bytes = bytes_of(rt.alloc(), row)?;
+        for len in [1, 7, 600] {
+            let (lacked, is_right) = feed_new(rt.alloc(), row, &bytes, len);
+            assert!(rt; is_right, "{bytes:?}");
+            is_refused = is_refused || lacked;
+        }
+    }
+    end_with(is_refused)
+}
+
+// The byte at that offset of the head, 100,000 chunks of one byte, and the end. It takes no memory.
+fn byte_of_many_chunks(at: usize) -> u8 {
+    let (bytes, at): (&[u8], usize) = if at < 47 {
+        (CHUNKED, at)
+    } else if at < 600_047 {
+        (b"1\r\nx\r\n", (at - 47) % 6)
+    } else {
+        (b"0\r\n\r\n", at - 600_047)
+    };
+    bytes.get(at).copied().unwrap_or(0)
+}
+
+// Feeds those bytes, until one isn't answered `More`: how many were, the last answer, and whether memory was refused.
+fn feed_many_chunks(decoder: &mut Decoder) -> (usize, Option<Stand>, bool) {
+    let mut is_refused = false;
+    for at in 0..600_052 {
+        let byte = byte_of_many_chunks(at);
+        let (stand, lacked) = make_again(decoder, Call::Feed(&[byte]));
+        is_refused = is_refused || lacked;
+        if stand != Ok(Stand::More) {
+            return (at, stand.ok(), is_refused);
+        }
+    }
+    (600_052, Some(Stand::More), is_refused)
+}
+
+/// All memory that is asked for is the decoder's, so that any one growth may be refused.
+#[test]
+fn many_chunks_go_on_behind_a_refused_growth(rt: HostRuntime) -> Result<(), Fail> {
+    let mut decoder = decoder(rt.alloc(), Method::Get);
+    let (at, stand, is_refused) = feed_many_chunks(&mut decoder);
+    assert_eq!(rt; (at, stand), (600_051, Some(Stand::Complete)));
+    has_many_chunks(&rt, &decoder);
+    end_with(is_refused)
+}
