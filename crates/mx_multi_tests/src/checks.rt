@@ -1,6 +1,8 @@
 //! What was answered beside what is expected.
 
+use mx_multi::OpenError;
 use mx_multi_tests_base::entries::text_of;
+use mx_multi_tests_base::whole::Whole;
 use mx_types::{Call, OutOfMemory, Reply};
 use std::alloc::Global;
 use std::test::Fail;
@@ -22,6 +24,15 @@ pub fn check(holds: bool, words: &'static str) -> Result<(), Fail> {
         return Ok(());
     }
     Err(words.into())
+}
+
+/// The multi handle with its seats; fails with the want of memory where that is the answer.
+pub fn opened(answer: Result<Whole, OpenError>) -> Result<Whole, Fail> {
+    match answer {
+        Ok(whole) => Ok(whole),
+        Err(OpenError::OutOfMemory) => Err(OutOfMemory.into()),
+        Err(OpenError::BadLimits) => Err("bad limits".into()),
+    }
 }
 
 /// What was answered; fails with the want of memory where that is the answer.

@@ -1,8 +1,8 @@
 //! Calls of many threads at a multi handle that is retired between them, played again on a control state that is retired between them
 //! too.
 
-use crate::checks::check;
-use mx_multi::Limits;
+use crate::checks::{check, opened};
+use mx_multi::{Limits, Refusal};
 use mx_multi_tests_base::entries::Stop;
 use mx_multi_tests_base::one_thread::OneThread;
 use mx_multi_tests_base::stress::differs_from;
@@ -52,13 +52,14 @@ fn play<R: Threads + Wait + Sync>(
 
 // Plays rounds, and retires between them.
 fn play_all<R: Threads + Wait + Sync>(rt: &R, alloc: Global) -> Result<(), Fail> {
-    let Ok(whole) = Whole::open(rt, alloc, LIMITS) else {
-        return Err("no multi handle".into());
-    };
+    let whole = opened(Whole::open(rt, alloc, LIMITS))?;
     let mut one = OneThread::new(alloc, LIMITS.history)?;
     let mut whole = play(rt, alloc, whole, SEED, &mut one)?;
     for number in 0..RETIRINGS {
         let (next, refused) = whole.retire(rt, alloc);
+        if refused == Some(Refusal::OutOfMemory) {
+            return Err(OutOfMemory.into());
+        }
         check(refused.is_none() && one.retire(), "not retired")?;
         whole = play(
             rt,

@@ -1,16 +1,18 @@
 //! Two threads that take turns, and poll until it is theirs; and two that poll at the same time.
 
-use crate::checks::check;
+use crate::checks::{answered, check, opened};
 use crate::desk::{Desk, FOUR_SEATS, Scene, at_desk};
 use crate::script::{By, Step, take_steps};
 use mx_multi::{Application, Limits};
 use mx_multi_tests_base::client::{Client, Seats};
 use mx_multi_tests_base::sample::Handle;
+use mx_multi_tests_base::whole::Whole;
 use mx_types::{Call, HandleId, Reply, State};
 use std::alloc::Global;
 use std::sync::Wait;
 use std::test::Fail;
 use std::thread::{Threads, join};
+use std::time::Clock;
 
 const ONE: HandleId = HandleId(1);
 
@@ -162,4 +164,24 @@ fn poll_at_once<R: Threads + Wait + Sync>(rt: &R, alloc: Global) -> Result<(), F
 #[test]
 fn one_wake_up_wakes_two_polls(rt: HostRuntime) -> Result<(), Fail> {
     poll_at_once(&rt, rt.alloc())
+}
+
+// Polls before, at and after a wake-up, for a millisecond at most: whether each poll returned.
+fn poll_around<R: Wait + Clock>(rt: &R, whole: &mut Whole) -> Result<[Option<bool>; 3], Fail> {
+    let before = whole.poll_for(rt, 0, 1);
+    answered(whole.make(rt, 1, Call::Wakeup))?;
+    let at = whole.poll_for(rt, 0, 1);
+    let after = whole.poll_for(rt, 0, 1);
+    Ok([before, at, after])
+}
+
+/// A poll that may wait a millisecond returns where a wake-up has come since the last one, and else says that none had.
+#[test]
+fn a_poll_waits_no_longer_than_it_may(rt: HostRuntime) -> Result<(), Fail> {
+    let mut whole = opened(Whole::open(&rt, rt.alloc(), FOUR_SEATS))?;
+    let polls = poll_around(&rt, &mut whole)?;
+    check(
+        polls == [Some(false), Some(true), Some(false)],
+        "another poll returned",
+    )
 }

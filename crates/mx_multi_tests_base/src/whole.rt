@@ -9,6 +9,7 @@ use mx_multi::{HistoryUse, Limits, OpenError, Refusal, Retiring, Seat, WorkerSea
 use mx_types::{Call, OutOfMemory, Reply, Ticket};
 use std::alloc::Global;
 use std::sync::Wait;
+use std::time::Clock;
 
 /// A multi handle, all its seats and its workers' seats, and what the first worker has claimed.
 #[derive(Drop)]
@@ -40,6 +41,22 @@ fn make_at<R: Wait>(rt: &R, multi: &Handle, seat: &mut Seat<Job, End>, call: Cal
     }
 }
 
+// Polls at a seat, for so many milliseconds at most.
+fn poll_at<R: Wait + Clock>(
+    rt: &R,
+    multi: &Handle,
+    seat: &mut Seat<Job, End>,
+    milliseconds: u32,
+) -> Option<bool>
+    requires { seat.old.of ≡ multi.now }
+    ensures { seat.new.of ≡ seat.old.of }
+{
+    match multi.poll_for(rt, seat, milliseconds) {
+        Ok(woken) => Some(woken),
+        Err(_) => None,
+    }
+}
+
 impl Whole {
     pub fn open<R: Wait>(rt: &R, alloc: Global, limits: Limits) -> Result<Whole, OpenError> {
         match Handle::open(rt, alloc, limits) {
@@ -63,6 +80,20 @@ impl Whole {
     {
         let seat = self.seats.get_mut(number)?;
         make_at(rt, &self.multi, seat, call)
+    }
+
+    /// Polls at the seat with this number, for so many milliseconds at most: whether the poll returned. None where there is no such seat, or
+    /// where it was answered `WrongSeat`.
+    pub fn poll_for<R: Wait + Clock>(
+        &mut self,
+        rt: &R,
+        number: usize,
+        milliseconds: u32,
+    ) -> Option<bool>
+        ensures { self.new.multi ≡ self.old.multi }
+    {
+        let seat = self.seats.get_mut(number)?;
+        poll_at(rt, &self.multi, seat, milliseconds)
     }
 
     /// Takes the next work at the first worker's seat, and keeps the claim alone: its ticket.
