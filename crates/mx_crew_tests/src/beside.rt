@@ -8,7 +8,7 @@ use mx_gate::Gate;
 use mx_link::Link;
 use mx_multi::{Application, Multi, Seat, Seated, WorkerSeat};
 use mx_transfer::Outcome;
-use mx_types::OutOfMemory;
+use mx_types::{Code, OutOfMemory, Ticket};
 use mx_worker::Queued;
 use mx_worker_tests_base::desk::{Desk, Parts};
 use mx_worker_tests_base::messages::{Message, is_answer};
@@ -31,8 +31,21 @@ pub struct Answer<'a> {
 /// What is to come.
 #[derive(Drop)]
 pub struct Plan<'a> {
+    /// Whether the first is to come first.
+    pub is_in_order: bool,
     pub first: Answer<'a>,
     pub second: Answer<'a>,
+}
+
+/// How a message compares with what it is to be.
+#[derive(Clone, Copy, Debug, PartialEq, Eq)]
+pub enum Comparison {
+    /// It is so.
+    Right,
+    /// Its transfer was refused memory.
+    Refused,
+    /// It is something else, or there is none.
+    Wrong,
 }
 
 /// What came of a run.
@@ -41,30 +54,48 @@ pub struct Came {
     /// How many ends the workers recorded together, and how many the one that recorded most; None where no memory was had for their
     /// threads.
     pub recorded: Option<(u32, u32)>,
-    /// Whether the first answer came, and the second.
-    pub answers: (bool, bool),
+    /// How what came compares with the first answer, and with the second.
+    pub answers: (Comparison, Comparison),
 }
 
-// Whether the message is there, and this answer.
-fn is_there(message: Option<Message>, answer: &Answer<'_>) -> bool {
-    match message {
-        Some(message) => is_answer(&message, answer.ticket, answer.request, answer.body),
+// How a message compares with this answer.
+fn compare(message: Option<Message>, answer: &Answer<'_>) -> Comparison {
+    let Some(message) = message else {
+        return Comparison::Wrong;
+    };
+    if message.outcome.code() == Code::OutOfMemory {
+        return Comparison::Refused;
+    }
+    if is_answer(&message, answer.ticket, answer.request, answer.body) {
+        return Comparison::Right;
+    }
+    Comparison::Wrong
+}
+
+// Whether the second answer comes before the first, and may.
+fn is_swapped(plan: &Plan<'_>, first: &Option<Message>) -> bool {
+    match first {
+        Some(message) => !plan.is_in_order && message.ticket == Ticket(plan.second.ticket),
         None => false,
     }
 }
 
-// Whether the two answers come. The workers are told of the first.
+// How what comes compares with the two answers. The workers are told of the first message.
 fn read_both<L: Link, R: Wait + Clock>(
     rt: &R,
     seat: Seated<'_, Application, Queued<L>, Outcome>,
     flags: &Flags,
     plan: &Plan<'_>,
-) -> (bool, bool) {
+) -> (Comparison, Comparison) {
     let mut reader = Reader::of(seat);
-    let first = is_there(reader.await_message(rt), &plan.first);
+    let message = reader.await_message(rt);
     flags.is_read.store(true, Ordering::SeqCst);
-    let second = is_there(reader.await_message(rt), &plan.second);
-    (first, second)
+    if is_swapped(plan, &message) {
+        let second = compare(message, &plan.second);
+        return (compare(reader.await_message(rt), &plan.first), second);
+    }
+    let first = compare(message, &plan.first);
+    (first, compare(reader.await_message(rt), &plan.second))
 }
 
 // How many ends the workers recorded together, and how many the one that recorded most.
@@ -102,7 +133,7 @@ fn read_beside<
         },
         Err(_) => Came {
             recorded: None,
-            answers: (false, false),
+            answers: (Comparison::Wrong, Comparison::Wrong),
         },
     }
 }

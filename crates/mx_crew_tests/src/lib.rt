@@ -7,4 +7,6 @@ pub mod gate;
 #[cfg(test)]
 mod reader;
 #[cfg(test)]
+mod refused;
+#[cfg(test)]
 mod threads;

@@ -1,12 +1,13 @@
 //! Two workers, and a third thread that reads the messages.
 
-use crate::beside::{Answer, Plan, run_plan};
+use crate::beside::{Answer, Comparison, Plan, run_plan};
 use crate::gate::{Flags, HoldingGate};
 use std::alloc::AllocGlobal;
 use std::rt::Clock;
 use std::test::Fail;
 
 const PLAN: Plan<'static> = Plan {
+    is_in_order: true,
     first: Answer {
         ticket: 1,
         request: b"GET / HTTP/1.1\r\nHost: free.example\r\nAccept: */*\r\n\r\n",
@@ -19,8 +20,8 @@ const PLAN: Plan<'static> = Plan {
     },
 };
 
-// A gate for each of two workers.
-fn two_gates<'a, R: Clock + AllocGlobal>(
+/// A gate for each of two workers.
+pub(crate) fn two_gates<'a, R: Clock + AllocGlobal>(
     rt: &'a R,
     flags: &'a Flags,
 ) -> Result<Vec<HoldingGate<'a, R>>, Fail> {
@@ -39,6 +40,7 @@ fn two_workers_run_at_the_same_time(rt: HostRuntime) -> Result<(), Fail> {
     let gates = two_gates(&rt, &flags)?;
     let urls = ["http://held.example/", "http://free.example/"];
     let came = run_plan(&rt, 4, &urls, gates, &flags, &PLAN)?;
-    assert_eq!(rt; (came.answers, came.recorded), ((true, true), Some((2, 1))));
+    let right = (Comparison::Right, Comparison::Right);
+    assert_eq!(rt; (came.answers, came.recorded), (right, Some((2, 1))));
     Ok(())
 }

@@ -13,10 +13,10 @@ use std::sync::Wait;
 use std::test::Fail;
 
 /// The request that the transfer of `http://a.example/` sends (RFC 9112, section 3).
-const FROM_A: &[u8] = b"GET / HTTP/1.1\r\nHost: a.example\r\nAccept: */*\r\n\r\n";
+pub(crate) const FROM_A: &[u8] = b"GET / HTTP/1.1\r\nHost: a.example\r\nAccept: */*\r\n\r\n";
 
 /// That of `http://b.example/`.
-const FROM_B: &[u8] = b"GET / HTTP/1.1\r\nHost: b.example\r\nAccept: */*\r\n\r\n";
+pub(crate) const FROM_B: &[u8] = b"GET / HTTP/1.1\r\nHost: b.example\r\nAccept: */*\r\n\r\n";
 
 /// Two handles and one worker.
 const SERVE_TWO: &[Step<'static>] = &[

@@ -1,15 +1,19 @@
-//! A worker whose start is refused.
+//! A worker whose start is refused, and one that is refused memory. What that one serves is served again then, and has to come as if nothing
+//! had been refused; only then does the test fail, by a text of its own. Without a refusal it passes.
 ghost use Rattle.std.specs.Prelude.{◌≡◌, All};
 
+use crate::ends::{FROM_A, FROM_B};
 use crate::script::{Step, desk_after};
 use mx_gate::ScriptGate;
 use mx_link::ScriptLink;
 use mx_multi::{AtWork, Multi, Seated, WorkerSeat};
 use mx_transfer::Outcome;
+use mx_types::{Code, OutOfMemory};
 use mx_worker::{Queued, run_worker};
-use mx_worker_tests_base::desk::Parts;
+use mx_worker_tests_base::desk::{Parts, ScriptDesk};
 use mx_worker_tests_base::gates::gate_with;
-use mx_worker_tests_base::responses::AT_ONCE;
+use mx_worker_tests_base::messages::is_answer;
+use mx_worker_tests_base::responses::{AT_ONCE, OTHER_AT_ONCE};
 use mx_worker_tests_base::runs;
 use std::alloc::{Alloc, AllocGlobal, Global};
 use std::io;
@@ -92,4 +96,94 @@ fn start_at_desk<R: Wait + RandomSource + AllocGlobal>(rt: &R) -> Result<(u32, u
 fn a_refused_start_leaves_the_seat_as_it_was(rt: HostRuntime) -> Result<(), Fail> {
     assert_eq!(rt; start_at_desk(&rt)?, (0, 1));
     Ok(())
+}
+
+/// What a test ends with in which a call was refused memory.
+const AGAIN: &str = "memory was refused, and the call answered when it was made again";
+
+/// How calls went.
+#[derive(Clone, Copy, PartialEq, Eq)]
+enum Went {
+    /// They answered as they are to.
+    Right,
+    /// One was refused memory.
+    Refused,
+    /// One answered something else.
+    Wrong,
+}
+
+// Reads the first message, which is to be of this ticket, with this request and body.
+fn read<R: Wait>(
+    rt: &R,
+    desk: &mut ScriptDesk,
+    ticket: u32,
+    request: &[u8],
+    body: &[u8],
+) -> Result<Went, OutOfMemory> {
+    let (message, is_refused) = desk.read_again(rt)?;
+    let Some(message) = message else {
+        return Ok(Went::Wrong);
+    };
+    if message.outcome.code() == Code::OutOfMemory {
+        return Ok(Went::Refused);
+    }
+    if !is_answer(&message, ticket, request, body) {
+        return Ok(Went::Wrong);
+    }
+    Ok(if is_refused {
+        Went::Refused
+    } else {
+        Went::Right
+    })
+}
+
+// Both, of which a wrong one tells more than a refused one.
+fn both(first: Went, second: Went) -> Went {
+    match (first, second) {
+        (Went::Right, went) | (went, Went::Right) => went,
+        (Went::Refused, Went::Refused) => Went::Refused,
+        _ => Went::Wrong,
+    }
+}
+
+// Serves two URLs by one worker, which records both ends.
+fn serve_at<R: Wait + RandomSource + AllocGlobal>(
+    rt: &R,
+    desk: &mut ScriptDesk,
+) -> Result<Went, Fail> {
+    let mut gate = gate_with(rt.alloc(), 3, &[AT_ONCE, OTHER_AT_ONCE], &[])?;
+    let ran = desk.work(rt, &mut gate)?;
+    let first = read(rt, desk, 0, FROM_A, b"hello")?;
+    let second = read(rt, desk, 1, FROM_B, b"bye")?;
+    if (ran.recorded, ran.stale, ran.given_back) != (2, 0, 0) {
+        return Ok(Went::Wrong);
+    }
+    let start = if ran.is_second {
+        Went::Refused
+    } else {
+        Went::Right
+    };
+    Ok(both(start, both(first, second)))
+}
+
+// The same, at a desk of its own.
+fn serve<R: Wait + RandomSource + AllocGlobal>(rt: &R) -> Result<Went, Fail> {
+    let steps = [
+        Step::Add(1, "http://a.example/", 0),
+        Step::Add(2, "http://b.example/", 0),
+    ];
+    let mut desk = desk_after(rt, 4, &steps)?;
+    let went = serve_at(rt, &mut desk);
+    desk.close();
+    went
+}
+
+#[test]
+fn one_worker_serves_again(rt: HostRuntime) -> Result<(), Fail> {
+    match serve(&rt)? {
+        Went::Right => Ok(()),
+        Went::Refused if serve(&rt)? == Went::Right => Err(AGAIN.into()),
+        Went::Refused => Err("other answers when memory was had again".into()),
+        Went::Wrong => Err("other answers".into()),
+    }
 }

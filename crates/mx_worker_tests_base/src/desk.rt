@@ -184,6 +184,17 @@ impl<L: Link> Desk<L> {
         check(alloc, reply, answer)
     }
 
+    /// The first message, read once more where that was refused memory; and whether it was. None where there is no message.
+    pub fn read_again<R: Wait>(&mut self, rt: &R) -> Result<(Option<Message>, bool), OutOfMemory> {
+        match messages::read(rt, &self.multi, &mut self.seat) {
+            Ok(message) => Ok((message, false)),
+            Err(OutOfMemory) => {
+                let message = messages::read(rt, &self.multi, &mut self.seat)?;
+                Ok((message, true))
+            }
+        }
+    }
+
     // The first message, which there is to be.
     fn read<R: Wait>(&mut self, rt: &R) -> Result<Message, Fail> {
         let read = messages::read(rt, &self.multi, &mut self.seat)?;

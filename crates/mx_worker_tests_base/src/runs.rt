@@ -34,6 +34,8 @@ pub struct Ran {
     pub recorded: u32,
     pub stale: u32,
     pub given_back: u32,
+    /// Whether memory for its start was refused at first.
+    pub is_second: bool,
 }
 
 /// Runs a worker, once more where memory for its start was refused; None where it was refused again.
@@ -43,13 +45,14 @@ pub fn work<L: Link, R: Wait + RandomSource + AllocGlobal, G: Gate<Link = L>>(
     gate: &mut G,
 ) -> Option<Ran> {
     let mut seat = seat;
-    for _ in 0..2 {
+    for is_second in [false, true] {
         let end = run_worker(rt, seat, gate);
         if !end.refused {
             return Some(Ran {
                 recorded: end.recorded,
                 stale: end.stale,
                 given_back: end.given_back,
+                is_second,
             });
         }
         seat = end.seat;
