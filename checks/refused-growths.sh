@@ -1,9 +1,13 @@
 #!/usr/bin/env bash
 # Runs what `rt ci` built with each growth of memory refused in turn, the first, the second, and so on until a run asks for no
 # more, by a library of its own (checks/refuse.c). A program has to print what memory allows and end with 27, or to do without
-# that growth and print all. A test has to pass, to fail as a call was refused, or to see something else than it is to see, as
-# where a transfer ended with 27, by an assertion of its own or by the words of mx_transfer_tests_base; nothing below it may stop
-# it, and it has to end. Of a test that asks for more than 200 growths the first 200 are refused. Prints one line for each program
+# that growth and print all. Of a test that asks for more than 200 growths the first 200 are refused. A test has to
+#   - make a call that was refused memory once more, compare what that answers with what it is to answer, and only then fail, by
+#     words of its own, which it says for no other cause: at one growth at least, or there is no such call; or
+#   - fail with the want of memory, where the growth was one of what the test needs for itself; or
+#   - pass, where the engine does without that growth.
+# A few tests more, of workers, make no call again; they have to fail with the want of memory, or to pass.
+# Anything else is wrong: an assertion that fails, other words, a signal, a run that doesn't end. Prints one line for each program
 # and test, and ends with 0 where all did as they have to, with 1 where one didn't, and with 2 where something that it needs isn't
 # there: a program, a test, a C compiler.
 #
@@ -11,20 +15,28 @@
 set -u
 [ "${1-}" != -h ] && [ "${1-}" != --help ] || { sed -n '2,/^set/s/^# \{0,1\}//p' "$0"; exit 0; }
 
-# The crates whose tests are run, crates/NAME/out/NAME_tests, each with the files in which an assertion may stop them, and
-# where not all of its tests are run, a word in the names of those that are.
+# The crates whose tests are run, crates/NAME/out/NAME_tests, each with a word in the names of those that are.
 tests='
-mx_body_tests       src/pieces\.rt                                     refused_growth
-mx_request_tests    src/[a-z_]*_tests\.rt
-mx_link_tests       src/\(scripted\|sockets\)\.rt
-mx_exchange_tests   src/connecting\.rt
-mx_chain_tests      src/hops\.rt
-mx_multi_tests      src/seats\.rt                                      scripts\|meetings\|seats\|retirings
-mx_worker_tests     src/\(ends\|links\|waits\)\.rt                       ^ends\|^links\|^paused\|^takeover\|^waits
+mx_request_tests    ^refused
+mx_body_tests       ^refused
+mx_link_tests       ^refused
+mx_chain_tests      ^refused
+mx_journal_tests    ^refused
+mx_board_tests      ^boards::two_seats\|^boards::a_reader\|^kept\|^words::a_word
+mx_gate_tests       ^refused
+mx_multi_tests      ^scripts\|^meetings\|^retirings\|^seats::the_table
+mx_worker_tests     ^refused::one_worker
+mx_crew_tests       ^refused
+'
+# Those that make no call again.
+others='
+mx_worker_tests     ^ends::one_worker\|^ends::a_removed\|^hops\|^links\|^paused\|^takeover
 '
 
-# What mx_transfer_tests_base says of a transfer that isn't as a test has it, between what it saw and what was expected.
-OTHERWISE='something else is seen: '
+# What such a test says where a call that was refused memory answered when it was made again.
+AGAIN='error: "memory was refused, and the call answered when it was made again"'
+# What it says of the want of memory for itself: of a vector, of a call of the engine, of the system.
+WANTING='error: AllocError\|error: AllocFailed { .. }\|error: OutOfMemory\|error: Kind(OutOfMemory)'
 
 top=$(cd "$(dirname "$(readlink -f "$0")")/.." && pwd)
 work=$(mktemp -d)
@@ -38,7 +50,7 @@ missing() {
 # all that is needed, before anything is run
 program=$top/crates/mxfetch/out/mxfetch
 [ -x "$program" ] || missing "there is no $program: run rt ci, or ./run body GET < /dev/null"
-for crate in $(echo "$tests" | awk '{ print $1 }'); do
+for crate in $(echo "$tests$others" | awk '{ print $1 }'); do
   [ -x "$top/crates/$crate/out/${crate}_tests" ] || missing "there is no crates/$crate/out/${crate}_tests: run rt ci, or rt test in crates/$crate"
 done
 for tool in cc:gcc timeout:coreutils cmp:diffutils; do
@@ -69,18 +81,19 @@ wrong() {
   failed=1
 }
 
-# a program, whose whole output stands in $work/whole, and what it prints where a growth is refused: NAME INPUT ARGUMENT...
-# (of `body` nothing but the fault; of `play` the replies to the lines before)
+# a program, whose whole output is $work/whole and whose status without a refusal is $ends, and what it prints where a growth is
+# refused: NAME INPUT ARGUMENT... (of `play` the replies to the lines before the fault; else nothing but the fault)
+ends=0
 try_program() {
   local name=$1 input=$2 which=1 ended=0 without=0 lines
   shift 2
   printf 'FAULT 27\n' > "$work/fault"
   while refused "$which" "$program" "$@" < "$input"; do
     lines=0
-    [ "$1" != play ] || lines=$(($(wc -l < "$work/printed") - 1))
+    [ "${1-}" != play ] || lines=$(($(wc -l < "$work/printed") - 1))
     if [ "$status" -eq 27 ] && head -n "$lines" "$work/whole" | cat - "$work/fault" | cmp -s - "$work/printed"; then
       ended=$((ended + 1))
-    elif [ "$status" -eq 0 ] && cmp -s "$work/printed" "$work/whole"; then
+    elif [ "$status" -eq "$ends" ] && cmp -s "$work/printed" "$work/whole"; then
       without=$((without + 1))
     else
       wrong "$name, growth $which"
@@ -88,47 +101,163 @@ try_program() {
     which=$((which + 1))
     [ "$which" -le 10000 ] || { wrong "$name: it asks for more than 10000 growths"; break; }
   done
-  [ "$status" -eq 0 ] && cmp -s "$work/printed" "$work/whole" || wrong "$name, no growth refused"
+  [ "$status" -eq "$ends" ] && cmp -s "$work/printed" "$work/whole" || wrong "$name, no growth refused"
   [ "$ended" -gt 0 ] || wrong "$name: no growth could be refused"
   echo "$name: $((which - 1)) growths refused, $ended ended with 27, $without done without"
 }
 
-# a chunked body of two chunks (RFC 9112, section 7.1)
-printf 'HTTP/1.1 200 OK\r\nTransfer-Encoding: chunked\r\n\r\n5\r\nhello\r\n6\r\n world\r\n0\r\n\r\n' > "$work/response"
-printf 'OK status=200 body=11 keep=yes left=0\nhello world' > "$work/whole"
-try_program 'mxfetch body' "$work/response" body GET
+# `body`: a counted body, one in chunks, and one up to the end of the input (RFC 9112, section 6.3)
+status_line='HTTP/1.1 200 OK\r\n'
+try_body() {
+  printf "$2" > "$work/response"
+  printf "$3" > "$work/whole"
+  try_program "mxfetch body, $1" "$work/response" body GET
+}
+try_body 'a length' "${status_line}Content-Length: 5\r\n\r\nhello" 'OK status=200 body=5 keep=yes left=0\nhello'
+try_body 'one chunk' "${status_line}Transfer-Encoding: chunked\r\n\r\n5;x=y\r\nhello\r\n0\r\nA: b\r\n\r\n" 'OK status=200 body=5 keep=yes left=0\nhello'
+try_body 'two chunks' "${status_line}Transfer-Encoding: chunked\r\n\r\n5\r\nhello\r\n6\r\n world\r\n0\r\n\r\n" \
+  'OK status=200 body=11 keep=yes left=0\nhello world'
+try_body 'to the end' 'HTTP/1.0 200 OK\r\n\r\nabc' 'OK status=200 body=3 keep=no left=0\nabc'
 
-# what a one-thread multi handle answers
-printf 'add 7\nadd 8\npause 7\nunpause 7\nadd 7\ndone 0 0 5\nread\nhandles\nstate 8\nremove 7\npoll\nwakeup\n' > "$work/script"
-printf '%s\n' 'added 0' 'added 1' changed changed added-already recorded 'message 7 0 0 5 left 0' 'handles 7 8' 'running 1' \
-  removed woken ok > "$work/whole"
-try_program 'mxfetch play' "$work/script" play
+# `play`: what a one-thread multi handle answers. The script has a line, and what is printed of it, in one line of each pair.
+try_play() {
+  local name=$1
+  shift
+  awk -F ' = ' '{ print $1 }' "$work/pairs" > "$work/script"
+  awk -F ' = ' '{ print $2 }' "$work/pairs" > "$work/whole"
+  try_program "mxfetch play, $name" "$work/script" play "$@"
+}
+cat > "$work/pairs" << 'END'
+add 7 = added 0
+add 7 = added-already
+done 0 0 5 = recorded
+read = message 7 0 0 5 left 0
+add 7 = added-already
+remove 7 = removed
+add 7 = added 1
+END
+try_play 'an addition'
+cat > "$work/pairs" << 'END'
+add 1 = added 0
+add 2 = added 1
+done 1 0 3 = recorded
+done 0 0 4 = recorded
+remove 2 = removed
+read = message 1 0 0 4 left 0
+read = empty
+END
+try_play 'two ends'
+cat > "$work/pairs" << 'END'
+add 1 = added 0
+pause 1 = history-full
+done 0 18 0 = recorded
+read = message 1 0 18 0 left 0
+remove 1 = removed
+wakeup = failure
+add 1 = history-full
+END
+try_play 'a full history' --history 4
+cat > "$work/pairs" << 'END'
+wakeup = ok
+wakeup = ok
+poll = woken
+poll = would-wait
+wakeup = ok
+poll = woken
+END
+try_play 'polls'
+cat > "$work/pairs" << 'END'
+add 5 = added 0
+remove 5 = removed
+add 5 = added 1
+done 0 0 9 = stale
+state 5 = running 1
+done 1 0 2 = recorded
+done 1 0 2 = no-claim
+read = message 5 1 0 2 left 0
+remove 6 = not-added
+END
+try_play 'a stale end'
+cat > "$work/pairs" << 'END'
+add 3 = added 0
+pause 3 = changed
+pause 3 = no-change
+state 3 = paused 0
+unpause 3 = changed
+unpause 3 = no-change
+done 0 28 0 = recorded
+pause 3 = not-running
+pause 4 = not-added
+state 3 = done 0 28
+running = running 0
+handles = handles 3
+remove 3 = removed
+ad 3 = bad-line 14
+END
+ends=122
+try_play 'a pause'
+ends=0
+cat > "$work/pairs" << 'END'
+add 1 = added 0
+done 0 0 5 = recorded
+read = message 1 0 0 5 left 0
+remove 1 = removed
+wakeup = ok
+add 2 = history-full
+retire = retired 0
+add 2 = added 1
+retire = claim-out
+done 1 0 3 = recorded
+retire = retired 2
+handles = handles 2
+END
+try_play 'retiring' --history 8
 
-# the tests of a crate, each up to its 200th growth
+# words that are refused, and help: the want of memory is told as ever
+try_words() {
+  local name=$1
+  ends=$2
+  shift 2
+  "$program" "$@" > "$work/whole" 2> /dev/null < /dev/null
+  try_program "mxfetch $name" /dev/null "$@"
+}
+try_words 'with no such option' 120 body GET --no-such-option
+try_words 'with a history of three' 120 play --history 3
+try_words 'with no command' 120
+try_words '--help' 0 --help
+try_words 'get --help' 0 get --help
+ends=0
+
+# the tests of a crate, each up to its 200th growth: CRATE WORD LEAST, the least number of growths whose call is made again
 try_tests() {
-  local crate=$1 own=$2 word=$3 test names which failed_calls seen tests=$top/crates/$1/out/$1_tests
+  local crate=$1 word=$2 least=$3 test names which again wanting without tests=$top/crates/$1/out/$1_tests
   names=$("$tests" --list | sed -n 's/: test$//p' | grep "$word")
   [ -n "$names" ] || { status=0; : > "$work/printed"; : > "$work/said"; wrong "$crate: its tests name no test"; }
   for test in $names; do
-    which=1 failed_calls=0 seen=0
+    which=1 again=0 wanting=0 without=0
     while [ "$which" -le 200 ] && refused "$which" "$tests" "$test"; do
-      if [ "$status" -eq 101 ] && grep -q 'OutOfMemory\|AllocError\|AllocFailed' "$work/said"; then
-        failed_calls=$((failed_calls + 1))
-      elif [ "$status" -eq 134 ] && grep -q "test stopped at $own:" "$work/printed"; then
-        seen=$((seen + 1))
-      elif [ "$status" -eq 101 ] && grep -qF "$OTHERWISE" "$work/said"; then
-        seen=$((seen + 1))
-      elif [ "$status" -ne 0 ]; then
+      if [ "$status" -eq 0 ]; then
+        without=$((without + 1))
+      elif [ "$status" -eq 101 ] && grep -qxF "$AGAIN" "$work/said"; then
+        again=$((again + 1))
+      elif [ "$status" -eq 101 ] && grep -qx "$WANTING" "$work/said"; then
+        wanting=$((wanting + 1))
+      else
         wrong "$crate, $test, growth $which"
       fi
       which=$((which + 1))
     done
     [ "$which" -gt 200 ] || [ "$status" -eq 0 ] || wrong "$crate, $test, no growth refused"
-    echo "$crate, $test: $((which - 1)) growths refused, $failed_calls by a call, $seen seen by the test"
+    [ "$again" -ge "$least" ] || wrong "$crate, $test: no call was made again"
+    [ "$which" -le 200 ] || test="$test (of more)"
+    echo "$crate, $test: $((which - 1)) growths refused, $again at a call that then answered, $wanting of the test's own, $without done without"
   done
 }
-while read -r crate own word; do
-  [ -z "$crate" ] || try_tests "$crate" "$own" "${word:-.}"
+while read -r crate word; do
+  [ -z "$crate" ] || try_tests "$crate" "$word" 1
 done <<< "$tests"
+while read -r crate word; do
+  [ -z "$crate" ] || try_tests "$crate" "$word" 0
+done <<< "$others"
 
 exit "$failed"
