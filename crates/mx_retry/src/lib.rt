@@ -1,0 +1,8 @@
+//! Trying again: after which ends a URL is tried once more, after how long, and which URLs wait until when.
+#![tactic(auto)]
+
+mod rules;
+mod waiting;
+
+pub use crate::rules::{delay_ms, is_retried};
+pub use crate::waiting::{MOST_WAITING, Wait, Waiting};
