@@ -1,0 +1,5 @@
+mod FirstCode
+mod Fields
+mod Printed
+mod Lines
+mod Objects
