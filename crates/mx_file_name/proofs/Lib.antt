@@ -1,0 +1,4 @@
+pub mod Bytes
+pub mod Segment
+pub mod Apart
+pub mod Counting
