@@ -1,0 +1,49 @@
+//! Why a folder refuses.
+
+use std::error::Error;
+use std::fmt;
+
+/// Why a folder refuses.
+#[derive(Clone, Copy, Debug, PartialEq, Eq)]
+pub enum FolderError {
+    /// Something is under that name.
+    AlreadyThere,
+    /// The folder, or what is under that name, isn't there.
+    NotThere,
+    /// The folder may not be written.
+    Denied,
+    /// The disk is full, or a quota is used up.
+    Full,
+    /// Too many files are open.
+    TooManyOpen,
+    /// That part isn't open.
+    NotOpen,
+    /// Memory was refused.
+    OutOfMemory,
+    /// Anything else.
+    Failed,
+}
+
+impl FolderError {
+    /// The error in words, with no capital and no full stop.
+    pub fn words(self) -> &'static str {
+        match self {
+            FolderError::AlreadyThere => "something else has that name",
+            FolderError::NotThere => "the folder is not there",
+            FolderError::Denied => "the folder may not be written",
+            FolderError::Full => "the disk is full",
+            FolderError::TooManyOpen => "too many files are open",
+            FolderError::NotOpen => "the file is not open",
+            FolderError::OutOfMemory => "out of memory",
+            FolderError::Failed => "the system could not do it",
+        }
+    }
+}
+
+impl fmt::Display for FolderError {
+    fn fmt<W: fmt::Write>(&self, f: &mut fmt::Formatter<W>) -> fmt::Result {
+        write!(f, "{}", self.words())
+    }
+}
+
+impl Error for FolderError {}

@@ -1,0 +1,16 @@
+//! Folders: where bodies are written. Each thing that was done to a folder stands in a list that contracts alone read.
+#![tactic(auto)]
+
+mod errors;
+mod folders;
+mod memory;
+mod past;
+mod steps;
+mod system;
+
+pub use crate::errors::FolderError;
+pub use crate::folders::Folder;
+pub use crate::memory::MemoryFolder;
+pub use crate::past::{Past, bytes_of};
+pub use crate::steps::{Kind, Step};
+pub use crate::system::SystemFolder;

@@ -1,0 +1,257 @@
+//! A folder of the system.
+ghost use Rattle.std.specs.Prelude.{◌≡◌, ◌<◌, ◌≤◌, [], length, IfOk};
+
+use crate::errors::FolderError;
+use crate::folders::Folder;
+use crate::past::{Past, bytes_of};
+use crate::steps::{Kind, Step, done};
+use mx_file_name::{FileName, PartName};
+use std::alloc::Global;
+use std::fs::{File, OpenFile};
+use std::io::{ErrorKind, Write};
+use std::marker::Model;
+use std::rt::Files;
+use std::{fs, io};
+
+// As many files as a process, or the system, may have are open: ENFILE and EMFILE of errno(3).
+const TOO_MANY_OPEN: [i32; 2] = [23, 24];
+
+/// The part that is open: its name, and its file.
+#[derive(Drop)]
+struct OpenPart<F> {
+    name: String,
+    file: F,
+}
+
+/// A folder of the system, one part of which is open at a time. Contracts see what it was told that the system did, the newest first; that
+/// the system did so, no contract can say.
+#[derive(Drop)]
+pub struct SystemFolder<'a, R: Files> {
+    alloc: Global,
+    files: &'a R,
+    path: String,
+    open: Option<OpenPart<R::File>>,
+    steps: Past<Step>,
+}
+
+impl<'a, R: Files> Model for SystemFolder<'a, R> {
+    ghost use Rattle.std.specs.Prelude.{List};
+    ghost use Rattle.mx_folder.specs.declared.steps.Step.{Step as OneStep};
+
+    ghost Value = { List OneStep };
+
+    ghost view = { λ f. f.steps };
+}
+
+// Why the system refused.
+fn reason(error: io::Error) -> FolderError {
+    if let Some(number) = error.raw_os_error() {
+        if TOO_MANY_OPEN.contains(&number) {
+            return FolderError::TooManyOpen;
+        }
+    }
+    match error.kind() {
+        ErrorKind::AlreadyExists | ErrorKind::IsADirectory => FolderError::AlreadyThere,
+        ErrorKind::NotFound | ErrorKind::NotADirectory => FolderError::NotThere,
+        ErrorKind::PermissionDenied | ErrorKind::ReadOnlyFilesystem => FolderError::Denied,
+        ErrorKind::StorageFull | ErrorKind::QuotaExceeded => FolderError::Full,
+        ErrorKind::OutOfMemory => FolderError::OutOfMemory,
+        _ => FolderError::Failed,
+    }
+}
+
+// The path of a name in a folder.
+fn path_in(alloc: Global, folder: &str, name: &str) -> Result<String, FolderError> {
+    match format!(in alloc; "{folder}/{name}") {
+        Ok(path) => Ok(path),
+        Err(_) => Err(FolderError::OutOfMemory),
+    }
+}
+
+fn create_part<R: Files>(
+    alloc: Global,
+    files: &R,
+    folder: &str,
+    part: &str,
+) -> Result<OpenPart<R::File>, FolderError> {
+    let path = path_in(alloc, folder, part)?;
+    let Ok(name) = String::from_str(alloc, part) else {
+        return Err(FolderError::OutOfMemory);
+    };
+    match File::create_new(files, path.as_str()) {
+        Ok(file) => Ok(OpenPart { name, file }),
+        Err(error) => Err(reason(error)),
+    }
+}
+
+// The file of this part, if it is the one that is open.
+fn file_of<'a, F>(open: &'a mut Option<OpenPart<F>>, part: &str) -> Result<&'a mut F, FolderError> {
+    match open.as_mut() {
+        Some(open) if open.name.as_str() == part => Ok(&mut open.file),
+        _ => Err(FolderError::NotOpen),
+    }
+}
+
+fn append_some<F: Write>(
+    open: &mut Option<OpenPart<F>>,
+    part: &str,
+    bytes: &[u8],
+) -> Result<usize, FolderError>
+    ensures some { IfOk result (λ n. 0 < n) }
+    ensures within { IfOk result (λ n. n ≤ length bytes.now) }
+{
+    let file = file_of(open, part)?;
+    match file.write(bytes) {
+        Ok(0) => Err(FolderError::Full),
+        Ok(n) => Ok(n),
+        Err(error) => Err(reason(error)),
+    }
+}
+
+fn flush_part<F: OpenFile>(open: &mut Option<OpenPart<F>>, part: &str) -> Result<(), FolderError> {
+    let file = file_of(open, part)?;
+    file.sync_all().map_err(reason)
+}
+
+fn place_part<R: Files>(
+    alloc: Global,
+    files: &R,
+    folder: &str,
+    part: &str,
+    name: &str,
+) -> Result<(), FolderError> {
+    let from = path_in(alloc, folder, part)?;
+    let to = path_in(alloc, folder, name)?;
+    fs::rename(files, from.as_str(), to.as_str()).map_err(reason)
+}
+
+fn remove_part<R: Files>(
+    alloc: Global,
+    files: &R,
+    folder: &str,
+    part: &str,
+) -> Result<(), FolderError> {
+    let path = path_in(alloc, folder, part)?;
+    fs::remove_file(files, path.as_str()).map_err(reason)
+}
+
+fn kind_at<R: Files>(
+    alloc: Global,
+    files: &R,
+    folder: &str,
+    name: &str,
+) -> Result<Kind, FolderError> {
+    let path = path_in(alloc, folder, name)?;
+    match fs::symlink_metadata(files, path.as_str()) {
+        Ok(found) if found.is_file() => Ok(Kind::File),
+        Ok(_) => Ok(Kind::Other),
+        Err(error) if error.kind() == ErrorKind::NotFound => Ok(Kind::Absent),
+        Err(error) => Err(reason(error)),
+    }
+}
+
+fn flush_names<R: Files>(files: &R, folder: &str) -> Result<(), FolderError> {
+    match File::open(files, folder) {
+        Ok(folder) => folder.sync_all().map_err(reason),
+        Err(error) => Err(reason(error)),
+    }
+}
+
+impl<'a, R: Files> SystemFolder<'a, R> {
+    /// The folder of this path, which is made, with those above it, where it isn't there. A link at the path is followed, here and at each
+    /// call. Where the folder can't be made, the error says why.
+    pub fn open(alloc: Global, files: &'a R, path: &str) -> Result<SystemFolder<'a, R>, FolderError>
+        ensures { IfOk result (λ folder. folder ≡ []) }
+    {
+        let Ok(owned) = String::from_str(alloc, path) else {
+            return Err(FolderError::OutOfMemory);
+        };
+        match fs::create_dir_all(files, path) {
+            Ok(()) => Ok(SystemFolder {
+                alloc,
+                files,
+                path: owned,
+                open: None,
+                steps: Past::new(),
+            }),
+            Err(error) => Err(reason(error)),
+        }
+    }
+
+    // Closes the part, if it is the one that is open.
+    fn close(&mut self, part: &str)
+        ensures { self.new ≡ self.old }
+    {
+        let is_open = match self.open.as_ref() {
+            Some(open) => open.name.as_str() == part,
+            None => false,
+        };
+        if is_open {
+            self.open = None;
+        }
+    }
+}
+
+impl<'a, R: Files> Folder for SystemFolder<'a, R> {
+    ghost steps = { λ folder. folder };
+
+    fn create(&mut self, part: &PartName) -> Result<(), FolderError> {
+        let made = create_part(self.alloc, self.files, self.path.as_str(), part.as_str());
+        self.steps.note(done(&made, Step::Created(bytes_of(part.as_str().as_bytes()))));
+        self.open = Some(made?);
+        Ok(())
+    }
+
+    fn append(&mut self, part: &PartName, bytes: &[u8]) -> Result<usize, FolderError> {
+        let written = append_some(&mut self.open, part.as_str(), bytes);
+        self.steps.note(match written {
+            Ok(n) => Step::Appended(bytes_of(part.as_str().as_bytes()), bytes_of(&bytes[..n])),
+            Err(error) => Step::Refused(error),
+        });
+        written
+    }
+
+    fn flush(&mut self, part: &PartName) -> Result<(), FolderError> {
+        let flushed = flush_part(&mut self.open, part.as_str());
+        self.steps.note(done(&flushed, Step::Flushed(bytes_of(part.as_str().as_bytes()))));
+        flushed
+    }
+
+    fn place(&mut self, part: &PartName, name: &FileName) -> Result<(), FolderError> {
+        self.close(part.as_str());
+        let placed = place_part(
+            self.alloc,
+            self.files,
+            self.path.as_str(),
+            part.as_str(),
+            name.as_str(),
+        );
+        self.steps.note(done(
+            &placed,
+            Step::Placed(
+                bytes_of(part.as_str().as_bytes()),
+                bytes_of(name.as_str().as_bytes()),
+            ),
+        ));
+        placed
+    }
+
+    fn remove(&mut self, part: &PartName) -> Result<(), FolderError> {
+        self.close(part.as_str());
+        let removed = remove_part(self.alloc, self.files, self.path.as_str(), part.as_str());
+        self.steps.note(done(&removed, Step::Removed(bytes_of(part.as_str().as_bytes()))));
+        removed
+    }
+
+    fn look(&mut self, name: &FileName) -> Result<Kind, FolderError> {
+        let kind = kind_at(self.alloc, self.files, self.path.as_str(), name.as_str());
+        self.steps.note(done(&kind, Step::Looked(bytes_of(name.as_str().as_bytes()))));
+        kind
+    }
+
+    fn flush_folder(&mut self) -> Result<(), FolderError> {
+        let flushed = flush_names(self.files, self.path.as_str());
+        self.steps.note(done(&flushed, Step::FolderFlushed));
+        flushed
+    }
+}
