@@ -1,0 +1,148 @@
+-- A run's saves, one after the other.
+use Rattle.std.proofs.Common.{◌≡◌, ◌≢◌, ℕ, Bool, true, List, [], ◌∷◌, ◌++◌, map, Option, Result, Ok, Err, refl, ap, sym, subst, ◌∙◌, arith, inl, inr}
+use Rattle.std.specs.Prelude.{◌⊎◌}
+use Rattle.std.specs.List.{Contains, AllByRecursion}
+use Rattle.std.proofs.lemmas.List.Elements.{Contains-append_right}
+use Rattle.mx_file_name.specs.Safe.{IsSafeName, IsPartName}
+use Rattle.mx_folder.specs.declared.steps.Step.{Step}
+use Rattle.mx_folder.specs.declared.errors.FolderError.{FolderError}
+use Rattle.mx_folder.specs.Steps.{done}
+use Rattle.mx_folder.specs.Files.{File, file}
+use Rattle.mx_folder.specs.Moments.{IsLater, AtEachMoment, MayHave, MayBeLeft}
+use Rattle.mx_save.specs.Bodies.{content_of, Holds, FilesAreKept, IsBeforeOrAfter}
+use Rattle.mx_save.specs.Ledgers.{HasOnly, AllHold, IsFresh, IsLedger}
+use Rattle.mx_save.proofs.Moments.{at_once, join, weaker, one_more}
+use Rattle.mx_save.proofs.Steps.{not_part}
+use Rattle.mx_save.proofs.Calls.{at_end}
+
+-- a run begins
+pub begun : {B : Type 0} (parts : B → List (List ℕ)) (flush : Bool) (start : List Step) → IsLedger parts (record { start = start; steps = start; entries = []; flush = flush })
+begun parts flush start = record {
+  since = at_once (HasOnly parts flush [] start) start (λ found name safe. inl refl);
+  holds = tt;
+  safe = tt;
+  distinct = tt;
+}
+
+-- what was there before is kept, or what came since
+only_kept : {B : Type 0} (parts : B → List (List ℕ)) (flush : Bool) (entries : List (List ℕ × B)) (start old moment : List Step)
+    → HasOnly parts flush entries start old → FilesAreKept old moment → HasOnly parts flush entries start moment
+only_kept parts flush entries start old moment had kept found name safe =
+    elim (had found name safe) [
+      | inl e ↦ inl (kept found name safe ∙ e)
+      | inr p ↦ inr (p.0, p.1, kept found name safe ∙ p.2)
+    ]
+
+all_kept : {B : Type 0} (parts : B → List (List ℕ)) (flush : Bool) (entries : List (List ℕ × B)) (old new : List Step)
+    → AllByRecursion (λ entry. IsSafeName entry.0) entries → AllHold parts flush entries old → FilesAreKept old new → AllHold parts flush entries new
+all_kept parts flush [] old new safe holds kept = tt
+all_kept parts flush (entry ∷ entries) old new safe holds kept =
+    (λ found. kept found entry.0 safe.0 ∙ holds.0 found, all_kept parts flush entries old new safe.1 holds.1 kept)
+
+-- no file was changed
+pub kept_on : {B : Type 0} (parts : B → List (List ℕ)) (flush : Bool) (entries : List (List ℕ × B)) (start old new : List Step)
+    → IsLedger parts (record { start = start; steps = old; entries = entries; flush = flush }) → AtEachMoment (FilesAreKept old) old new
+    → IsLedger parts (record { start = start; steps = new; entries = entries; flush = flush })
+kept_on parts flush entries start old new ledger moments =
+    let before = at_end (HasOnly parts flush entries start) start old ledger.since in
+    record {
+      since = join (HasOnly parts flush entries start) (FilesAreKept old) start old new ledger.since moments
+          (λ moment kept. only_kept parts flush entries start old moment before kept);
+      holds = all_kept parts flush entries old new ledger.safe ledger.holds (at_end (FilesAreKept old) old new moments);
+      safe = ledger.safe;
+      distinct = ledger.distinct;
+    }
+
+-- a step that changes no file, or was refused
+kept_done : {T : Type 0} (result : Result T FolderError) (step : Step) (old : List Step) → FilesAreKept old (step ∷ old) → FilesAreKept old (done result step ∷ old)
+kept_done (Ok x) step old kept = kept
+kept_done (Err e) step old kept = λ found name safe. refl
+
+pub kept_step : {T : Type 0} (result : Result T FolderError) (step : Step) (old new : List Step) → new ≡ done result step ∷ old → FilesAreKept old (step ∷ old)
+    → AtEachMoment (FilesAreKept old) old new
+kept_step result step old new e kept =
+    one_more (FilesAreKept old) old old new (done result step) (at_once (FilesAreKept old) old (λ found name safe. refl)) e
+    (subst (FilesAreKept old) (sym e) (kept_done result step old kept))
+
+-- one more entry
+more_entries : {B : Type 0} (parts : B → List (List ℕ)) (flush : Bool) (entry : List ℕ × B) (entries : List (List ℕ × B)) (start moment : List Step)
+    → HasOnly parts flush entries start moment → HasOnly parts flush (entry ∷ entries) start moment
+more_entries parts flush entry entries start moment had found name safe =
+    elim (had found name safe) [
+      | inl e ↦ inl e
+      | inr p ↦ inr (p.0, Contains-append_right (entry ∷ []) entries (name, p.0) p.1, p.2)
+    ]
+
+only_saved : {B : Type 0} (parts : B → List (List ℕ)) (flush : Bool) (part name : List ℕ) (body : B) (entries : List (List ℕ × B)) (start old moment : List Step)
+    → IsPartName part → HasOnly parts flush entries start old → IsBeforeOrAfter part name (content_of (parts body)) flush old moment
+    → HasOnly parts flush ((name, body) ∷ entries) start moment
+only_saved parts flush part name body entries start old moment hidden had saved found other safe =
+    elim (saved found other (not_part other part safe hidden)) [
+      | inl e ↦ elim (had found other safe) [
+        | inl d ↦ inl (e ∙ d)
+        | inr p ↦ inr (p.0, Contains-append_right ((name, body) ∷ []) entries (other, p.0) p.1, e ∙ p.2)
+      ]
+      | inr p ↦ inr (body, (0, omega arith, ap (λ n. (n, body)) (sym p.0)), p.1)
+    ]
+
+all_saved : {B : Type 0} (parts : B → List (List ℕ)) (flush : Bool) (part name : List ℕ) (body : B) (entries : List (List ℕ × B)) (old new : List Step)
+    → IsPartName part → AllByRecursion (λ entry. IsSafeName entry.0) entries → IsFresh name entries → AllHold parts flush entries old
+    → IsBeforeOrAfter part name (content_of (parts body)) flush old new → AllHold parts flush entries new
+all_saved parts flush part name body [] old new hidden safe fresh holds saved = tt
+all_saved parts flush part name body (entry ∷ entries) old new hidden safe fresh holds saved = (
+  λ found. elim (saved found entry.0 (not_part entry.0 part safe.0 hidden)) [
+    | inl e ↦ e ∙ holds.0 found
+    | inr p ↦ absurd (fresh.0 (sym p.0))
+  ],
+  all_saved parts flush part name body entries old new hidden safe.1 fresh.1 holds.1 saved,
+)
+
+fresh_names : {B : Type 0} (name : List ℕ) (entries : List (List ℕ × B)) → IsFresh name entries → AllByRecursion (λ other. name ≢ other) (map (λ entry. entry.0) entries)
+fresh_names name [] fresh = tt
+fresh_names name (entry ∷ entries) fresh = (fresh.0, fresh_names name entries fresh.1)
+
+-- a body was saved
+pub saved_on : {B : Type 0} (parts : B → List (List ℕ)) (flush : Bool) (part name : List ℕ) (body : B) (entries : List (List ℕ × B)) (start old new : List Step)
+    → IsLedger parts (record { start = start; steps = old; entries = entries; flush = flush }) → IsPartName part → IsSafeName name → IsFresh name entries
+    → AtEachMoment (IsBeforeOrAfter part name (content_of (parts body)) flush old) old new → Holds name (content_of (parts body)) flush new
+    → IsLedger parts (record { start = start; steps = new; entries = (name, body) ∷ entries; flush = flush })
+saved_on parts flush part name body entries start old new ledger hidden safe fresh moments holds =
+    let content = content_of (parts body) in
+    let before = at_end (HasOnly parts flush entries start) start old ledger.since in
+    let until = weaker (HasOnly parts flush ((name, body) ∷ entries) start) (HasOnly parts flush entries start) start old
+    (λ moment had. more_entries parts flush (name, body) entries start moment had) ledger.since in
+    let end = at_end (IsBeforeOrAfter part name content flush old) old new moments in
+    record {
+      since = join (HasOnly parts flush ((name, body) ∷ entries) start) (IsBeforeOrAfter part name content flush old) start old new until moments
+          (λ moment saved. only_saved parts flush part name body entries start old moment hidden before saved);
+      holds = (holds, all_saved parts flush part name body entries old new hidden ledger.safe fresh ledger.holds end);
+      safe = (safe, ledger.safe);
+      distinct = (fresh_names name entries fresh, ledger.distinct);
+    }
+
+-- what is under a name now may be left
+left_now : (found : List ℕ → Option File) (old : List Step) (name bytes : List ℕ) → MayHave (file found old name) bytes → MayBeLeft found old name bytes
+left_now found [] name bytes have = have
+left_now found (step ∷ before) name bytes have = inl have
+
+loss : {B : Type 0} (parts : B → List (List ℕ)) (entries : List (List ℕ × B)) (old : List Step) (found : List ℕ → Option File) (name bytes : List ℕ) → IsSafeName name → (more : List Step)
+    → ((moment : List Step) → IsLater old moment → IsLater moment (more ++ old) → HasOnly parts true entries old moment)
+    → MayBeLeft found (more ++ old) name bytes → MayBeLeft found old name bytes ⊎ ((body : B) × Contains entries (name, body) × (bytes ≡ content_of (parts body)))
+loss parts entries old found name bytes safe [] each left = inl left
+loss parts entries old found name bytes safe (step ∷ more) each left =
+    elim left [
+      | inl have ↦ elim (each (step ∷ (more ++ old)) (step ∷ more, refl) ([], refl) found name safe) [
+        | inl e ↦ inl (left_now found old name bytes (let P : Option File → Type 0 = λ o. MayHave o bytes in subst P e have))
+        | inr p ↦ inr (p.0, p.1, let P : Option File → Type 0 = λ o. MayHave o bytes in subst P p.2 have refl)
+      ]
+      | inr before ↦ loss parts entries old found name bytes safe more (λ moment a b. each moment a (step ∷ b.0, ap (λ l. step ∷ l) b.1)) before
+    ]
+
+pub whole_after_loss : {B : Type 0} (parts : B → List (List ℕ)) (entries : List (List ℕ × B)) (old new : List Step) → AtEachMoment (HasOnly parts true entries old) old new
+    → (found : List ℕ → Option File) (name bytes : List ℕ) → IsSafeName name → MayBeLeft found new name bytes
+    → MayBeLeft found old name bytes ⊎ ((body : B) × Contains entries (name, body) × (bytes ≡ content_of (parts body)))
+whole_after_loss parts entries old new all found name bytes safe left =
+    let e = all.later.1 in
+    loss parts entries old found name bytes safe all.later.0
+    (λ moment a b. all.each moment a (b.0, e ∙ b.1))
+    (let P : List Step → Type 0 = λ l. MayBeLeft found l name bytes in subst P e left)

@@ -1,0 +1,102 @@
+-- What single steps leave.
+use Rattle.std.proofs.Common.{◌≡◌, ◌≢◌, ℕ, ◌≤◌, Bool, true, false, cond, List, [], ◌∷◌, ◌++◌, take, get_or, Some, None, option_map, Result, Ok, Err, refl, ap, sym, ◌∙◌, arith, append_assoc, inl, inr}
+use Rattle.std.specs.Str.{bytes_eq}
+use Rattle.std.proofs.lemmas.Bool.{cond-true, cond-false, false_from_ne_true, cases_Bool}
+use Rattle.std.proofs.lemmas.List.{append-nil}
+use Rattle.std.proofs.lemmas.Slice.Eq.{bytes_eq-Decides}
+use Rattle.mx_file_name.specs.Safe.{IsSafeName, IsPartName}
+use Rattle.mx_folder.specs.declared.errors.FolderError.{FolderError}
+use Rattle.mx_folder.specs.declared.steps.Step.{Step}
+use Rattle.mx_folder.specs.declared.steps.Step.TheVariants.{Created, Appended, Flushed, Placed, Removed}
+use Rattle.mx_folder.specs.Steps.{done, appended, refusals}
+use Rattle.mx_folder.specs.Files.{file, with_more, on_disk}
+use Rattle.mx_save.specs.Bodies.{Holds, Appends, Flushes, FilesAreKept, IsOnlyPart, IsBeforeOrAfter}
+
+pub same_name : (name : List ℕ) → bytes_eq name name ≡ true
+same_name name = (bytes_eq-Decides name name).1 refl
+
+pub other_name : (name part : List ℕ) → name ≢ part → bytes_eq name part ≡ false
+other_name name part differ = false_from_ne_true (bytes_eq name part) (λ e. differ ((bytes_eq-Decides name part).0 e))
+
+-- no file has the name of a part
+pub not_part : (name part : List ℕ) → IsSafeName name → IsPartName part → name ≢ part
+not_part name part safe hidden e = safe.shown (ap (λ l. get_or l 0 0) e ∙ hidden.hidden)
+
+-- steps on the part alone
+pub only_now : (part : List ℕ) (old : List Step) → IsOnlyPart part old old
+only_now part old found name differ = refl
+
+pub only_created : (part : List ℕ) (old between : List Step) → IsOnlyPart part old between → IsOnlyPart part old (Created part ∷ between)
+only_created part old between h found name differ = cond-false (bytes_eq name part) _ (file found between name) (other_name name part differ) ∙ h found name differ
+
+pub only_appended : (part more : List ℕ) (old between : List Step) → IsOnlyPart part old between → IsOnlyPart part old (Appended part more ∷ between)
+only_appended part more old between h found name differ = cond-false (bytes_eq name part) _ (file found between name) (other_name name part differ) ∙ h found name differ
+
+pub only_flushed : (part : List ℕ) (old between : List Step) → IsOnlyPart part old between → IsOnlyPart part old (Flushed part ∷ between)
+only_flushed part old between h found name differ = cond-false (bytes_eq name part) _ (file found between name) (other_name name part differ) ∙ h found name differ
+
+pub only_removed : (part : List ℕ) (old between : List Step) → IsOnlyPart part old between → IsOnlyPart part old (Removed part ∷ between)
+only_removed part old between h found name differ = cond-false (bytes_eq name part) _ (file found between name) (other_name name part differ) ∙ h found name differ
+
+-- the same of a call that may be refused
+pub only_done : {T : Type 0} (result : Result T FolderError) (step : Step) (part : List ℕ) (old between : List Step) → IsOnlyPart part old between → IsOnlyPart part old (step ∷ between) → IsOnlyPart part old (done result step ∷ between)
+only_done (Ok x) step part old between h g = g
+only_done (Err e) step part old between h g = h
+
+pub only_appending : (result : Result ℕ FolderError) (part bytes : List ℕ) (old between : List Step) → IsOnlyPart part old between → IsOnlyPart part old (appended result part bytes ∷ between)
+only_appending (Ok n) part bytes old between h = only_appended part (take n bytes) old between h
+only_appending (Err e) part bytes old between h = h
+
+-- only the part, and then only the part
+pub only_on : (part : List ℕ) (old between moment : List Step) → IsOnlyPart part old between → IsOnlyPart part between moment → IsOnlyPart part old moment
+only_on part old between moment h g found name differ = g found name differ ∙ h found name differ
+
+-- refused calls are counted
+pub done_grows : {T : Type 0} (result : Result T FolderError) (step : Step) (steps : List Step) → refusals steps ≤ refusals (step ∷ steps) → refusals steps ≤ refusals (done result step ∷ steps)
+done_grows (Ok x) step steps h = h
+done_grows (Err e) step steps h = omega arith
+
+-- the bytes of a part
+pub holds_created : (part : List ℕ) (old : List Step) → Holds part [] false (Created part ∷ old)
+holds_created part old found = cond-true (bytes_eq part part) (Some (record { bytes = []; flushed = false })) (file found old part) (same_name part)
+
+pub appends_none : (part : List ℕ) (old : List Step) → Appends part [] old old
+appends_none part old bytes h found = h found ∙ ap (λ b. Some (record { bytes = b; flushed = false })) (sym (append-nil bytes))
+
+pub appends_more : (part x y : List ℕ) (old between new : List Step) → Appends part x old between → Appends part y between new → Appends part (x ++ y) old new
+appends_more part x y old between new f g bytes h found =
+    g (bytes ++ x) (f bytes h) found ∙ ap (λ b. Some (record { bytes = b; flushed = false })) (append_assoc bytes x y)
+
+pub appends_step : (part more : List ℕ) (old : List Step) → Appends part more old (Appended part more ∷ old)
+appends_step part more old bytes h found =
+    cond-true (bytes_eq part part) (option_map (with_more more) (file found old part)) (file found old part) (same_name part)
+    ∙ ap (option_map (with_more more)) (h found)
+
+pub flushes_step : (part : List ℕ) (old : List Step) → Flushes part true old (Flushed part ∷ old)
+flushes_step part old bytes h found =
+    cond-true (bytes_eq part part) (option_map on_disk (file found old part)) (file found old part) (same_name part)
+    ∙ ap (option_map on_disk) (h found)
+
+pub flushes_none : (part : List ℕ) (old : List Step) → Flushes part false old old
+flushes_none part old bytes h = h
+
+-- a part gets its name
+pub holds_placed : (part final bytes : List ℕ) (flushed : Bool) (old : List Step) → Holds part bytes flushed old → Holds final bytes flushed (Placed part final ∷ old)
+holds_placed part final bytes flushed old h found = cond-true (bytes_eq final final) (file found old part) _ (same_name final) ∙ h found
+
+pub before_or_after_placed : (part final body : List ℕ) (flushed : Bool) (old between : List Step) → IsOnlyPart part old between → Holds part body flushed between
+    → IsBeforeOrAfter part final body flushed old (Placed part final ∷ between)
+before_or_after_placed part final body flushed old between only holds found name differ =
+    let other : file found between name ≡ file found old name = only found name differ in
+    let here = file found between part in
+    let there = cond (bytes_eq name part) None (file found between name) in
+    elim (cases_Bool (bytes_eq name final)) [
+      | inl is ↦ inr ((bytes_eq-Decides name final).0 is, cond-true (bytes_eq name final) here there is ∙ holds found)
+      | inr not ↦ inl (cond-false (bytes_eq name final) here there not ∙ cond-false (bytes_eq name part) None (file found between name) (other_name name part differ) ∙ other)
+    ]
+
+pub only_is_before : (part final body : List ℕ) (flushed : Bool) (old moment : List Step) → IsOnlyPart part old moment → IsBeforeOrAfter part final body flushed old moment
+only_is_before part final body flushed old moment only found name differ = inl (only found name differ)
+
+pub kept_from_only : (part : List ℕ) (old new : List Step) → IsPartName part → IsOnlyPart part old new → FilesAreKept old new
+kept_from_only part old new hidden only found name safe = only found name (not_part name part safe hidden)

@@ -1,0 +1,16 @@
+use Rattle.std.proofs.Common.{refl, subst}
+use Rattle.mx_folder.specs.declared.steps.Step.TheVariants.{FolderFlushed}
+use Rattle.mx_save.specs.Ledgers.{LedgerValue, IsLedger}
+use Rattle.mx_save.proofs.Runs.{kept_on, kept_step}
+use Rattle.mx_save.proofs.ledger.Ledger.finish.Goals as goal
+
+pub returns-clause-run : goal.returns-clause-run
+returns-clause-run g c =
+    let steps = g.F.Folder.steps in
+    let parts = g.B.Body.parts in
+    let inside = c.self.inside in
+    let new = steps c.flush_folder-flushed.new.self in
+    let P : LedgerValue g.row.B.Denot → Type 0 = λ l. IsLedger parts (record { start = l.start; steps = new; entries = l.entries; flush = l.flush }) in
+    subst P c.self.view_is
+    (kept_on parts inside.flush _ (steps inside.start.value) (steps inside.folder) new c.self.invariant
+    (kept_step c.flush_folder-flushed.result FolderFlushed (steps inside.folder) new c.flush_folder-flushed.ensures (λ found name safe. refl)))

@@ -1,0 +1,30 @@
+use Rattle.std.proofs.Common.{ap, sym, subst, ◌∙◌}
+use Rattle.mx_folder.specs.Files.{file}
+use Rattle.mx_save.specs.Bodies.{FilesAreKept}
+use Rattle.mx_save.specs.Ledgers.{LedgerValue, IsFresh}
+use Rattle.mx_save.proofs.Calls.{at_end}
+use Rattle.mx_save.proofs.Runs.{kept_on, saved_on}
+use Rattle.mx_save.proofs.ledger.Ledger.save_once.Goals as goal
+
+pub invariant_of-self : goal.invariant_of-self
+invariant_of-self g c =
+    let steps = g.F.Folder.steps in
+    let inside = c.self.inside in
+    let same = ap (λ (l : LedgerValue g.row.B.Denot). l.entries) (c.self.view_is ∙ c.next_part.ensures) in
+    let fresh = subst (IsFresh c.args.name.now) (sym same) c.requires in
+    simp (c.note.ensures, c.of.ensures, c.of-in-Ok-save_body.ensures)
+    (saved_on g.B.Body.parts inside.flush _ c.args.name.now c.args.body.now _ (steps inside.start.value) (steps inside.folder) (steps c.save_body.new.folder)
+    c.self.invariant c.know.ensures c.know-2.ensures fresh c.save_body.ensures.any_moment c.in-Ok-save_body.ensures.saved)
+
+pub invariant_of-self-in-Err : goal.invariant_of-self-in-Err
+invariant_of-self-in-Err g c =
+    let steps = g.F.Folder.steps in
+    let inside = c.self.inside in
+    kept_on g.B.Body.parts inside.flush _ (steps inside.start.value) (steps inside.folder) (steps c.save_body.new.folder) c.self.invariant c.in-Err.ensures.kept
+
+pub returns-clause-files : goal.returns-clause-files
+returns-clause-files g c found name safe =
+    let steps = g.F.Folder.steps in
+    let old = steps c.self.inside.folder in
+    let same = ap (λ (l : LedgerValue g.row.B.Denot). file found l.steps name) (c.self.view_is ∙ c.next_part.ensures) in
+    at_end (FilesAreKept old) old (steps c.save_body.new.folder) c.in-Err.ensures.kept found name safe ∙ same

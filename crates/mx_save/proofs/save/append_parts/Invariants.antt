@@ -1,0 +1,15 @@
+use Rattle.std.proofs.Common.{◌≤◌, take}
+use Rattle.mx_folder.specs.Steps.{refusals}
+use Rattle.mx_folder.specs.Moments.{AtEachMoment}
+use Rattle.mx_save.specs.Bodies.{content_of, Appends, IsOnlyPart}
+use Rattle.mx_save.proofs.save.append_parts.Given as goal
+
+-- so many parts of the body have come behind what the part had
+abbrev pub invariant-loop-i : goal.invariant-loop-i
+invariant-loop-i g l =
+    let steps = g.F.Folder.steps in
+    record {
+      so_far : Appends l.part (content_of (take l.i (g.B.Body.parts l.body))) (steps l.fn.folder) (steps l.folder);
+      any_moment : AtEachMoment (IsOnlyPart l.part (steps l.fn.folder)) (steps l.fn.folder) (steps l.folder);
+      grows : refusals (steps l.fn.folder) ≤ refusals (steps l.folder);
+    }

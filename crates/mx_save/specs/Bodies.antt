@@ -1,0 +1,34 @@
+-- What saving a body does to a folder.
+use Rattle.std.specs.Prelude.{◌≡◌, ◌≢◌, ◌⊎◌, ℕ, Bool, false, List, ◌++◌, Option, Some, flat_map}
+use Rattle.mx_folder.specs.declared.steps.Step.{Step}
+use Rattle.mx_folder.specs.Files.{File, file}
+use Rattle.mx_file_name.specs.Safe.{IsSafeName}
+
+-- the bytes of a body, from its parts
+abbrev pub content_of : List (List ℕ) → List ℕ
+content_of parts = flat_map (λ part. part) parts
+
+-- under this name is a file with these bytes and no others, which are all on the disk or aren't known to be
+abbrev pub Holds : List ℕ → List ℕ → Bool → List Step → Type 0
+Holds name bytes flushed moment = (found : List ℕ → Option File) → file found moment name ≡ Some (record { bytes = bytes; flushed = flushed })
+
+-- from old to new these bytes came behind what the file of this name had
+abbrev pub Appends : List ℕ → List ℕ → List Step → List Step → Type 0
+Appends name more old new = (bytes : List ℕ) → Holds name bytes false old → Holds name (bytes ++ more) false new
+
+-- what the file of this name had is on the disk now, where that was asked for
+abbrev pub Flushes : List ℕ → Bool → List Step → List Step → Type 0
+Flushes name flushed old new = (bytes : List ℕ) → Holds name bytes false old → Holds name bytes flushed new
+
+-- each name but that of the part holds what it held
+abbrev pub IsOnlyPart : List ℕ → List Step → List Step → Type 0
+IsOnlyPart part old moment = (found : List ℕ → Option File) (name : List ℕ) → name ≢ part → file found moment name ≡ file found old name
+
+-- each name of a file holds what it held
+abbrev pub FilesAreKept : List Step → List Step → Type 0
+FilesAreKept old new = (found : List ℕ → Option File) (name : List ℕ) → IsSafeName name → file found new name ≡ file found old name
+
+-- each name but that of the part holds what it held, or it is this one and holds this body, whole
+abbrev pub IsBeforeOrAfter : List ℕ → List ℕ → List ℕ → Bool → List Step → List Step → Type 0
+IsBeforeOrAfter part final body flushed old moment = (found : List ℕ → Option File) (name : List ℕ) → name ≢ part
+    → (file found moment name ≡ file found old name) ⊎ ((name ≡ final) × (file found moment name ≡ Some (record { bytes = body; flushed = flushed })))

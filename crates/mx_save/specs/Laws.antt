@@ -1,0 +1,17 @@
+-- What holds of every history of a folder.
+use Rattle.std.specs.Prelude.{◌≡◌, ◌⊎◌, ℕ, true, List, Option}
+use Rattle.std.specs.List.{Contains}
+use Rattle.mx_file_name.specs.Safe.{IsSafeName}
+use Rattle.mx_folder.specs.declared.steps.Step.{Step}
+use Rattle.mx_folder.specs.Files.{File}
+use Rattle.mx_folder.specs.Moments.{AtEachMoment, MayBeLeft}
+use Rattle.mx_save.specs.Bodies.{content_of}
+use Rattle.mx_save.specs.Ledgers.{HasOnly}
+
+-- Whatever a loss of power leaves under the name of a file, it is a body that was saved under it, whole, or might have been left there
+-- before: where bodies are flushed.
+abbrev pub WholeAfterLossOfPower : Type 0 → Type 0
+WholeAfterLossOfPower B =
+    (parts : B → List (List ℕ)) (entries : List (List ℕ × B)) (old new : List Step) → AtEachMoment (HasOnly parts true entries old) old new
+    → (found : List ℕ → Option File) (name bytes : List ℕ) → IsSafeName name → MayBeLeft found new name bytes
+    → MayBeLeft found old name bytes ⊎ ((body : B) × Contains entries (name, body) × (bytes ≡ content_of (parts body)))

@@ -1,0 +1,39 @@
+-- What holds of a run's saves. Bodies are of any type, of which `parts` gives the bytes.
+use Rattle.std.specs.Prelude.{◌≡◌, ◌≢◌, ◌⊎◌, ℕ, Bool, List, map, Option, Some}
+use Rattle.std.specs.List.{Contains, AllByRecursion}
+use Rattle.mx_file_name.specs.Safe.{IsSafeName}
+use Rattle.mx_file_name.specs.Laws.{AreDistinct}
+use Rattle.mx_folder.specs.declared.steps.Step.{Step}
+use Rattle.mx_folder.specs.Files.{File, file}
+use Rattle.mx_folder.specs.Moments.{AtEachMoment}
+use Rattle.mx_save.specs.Bodies.{content_of, Holds}
+
+-- what had been done to the folder when the run began, and what has been done by now; the bodies that were saved, with their names, the
+-- newest first; and whether they are flushed
+pub record LedgerValue (B : Type 0) : Type 0 where
+  pub start : List Step
+  pub steps : List Step
+  pub entries : List (List ℕ × B)
+  pub flush : Bool
+
+-- each name of a file holds what it held, or, whole, a body that was saved under it
+abbrev pub HasOnly : {B : Type 0} → (B → List (List ℕ)) → Bool → List (List ℕ × B) → List Step → List Step → Type 0
+HasOnly {B} parts flushed entries old moment = (found : List ℕ → Option File) (name : List ℕ) → IsSafeName name
+    → (file found moment name ≡ file found old name)
+    ⊎ ((body : B) × Contains entries (name, body) × (file found moment name ≡ Some (record { bytes = content_of (parts body); flushed = flushed })))
+
+-- each name holds its body
+abbrev pub AllHold : {B : Type 0} → (B → List (List ℕ)) → Bool → List (List ℕ × B) → List Step → Type 0
+AllHold parts flushed entries moment = AllByRecursion (λ entry. Holds entry.0 (content_of (parts entry.1)) flushed moment) entries
+
+-- the name isn't among those of the entries
+abbrev pub IsFresh : {B : Type 0} → List ℕ → List (List ℕ × B) → Type 0
+IsFresh name entries = AllByRecursion (λ entry. name ≢ entry.0) entries
+
+-- Since the run began, each file was at each moment what it was before, or a whole body that was saved under its name; each such body is
+-- there now; and the names are those of files, no two alike.
+pub record IsLedger {B : Type 0} (parts : B → List (List ℕ)) (l : LedgerValue B) : Type 0 where
+  pub since : AtEachMoment (HasOnly parts l.flush l.entries l.start) l.start l.steps
+  pub holds : AllHold parts l.flush l.entries l.steps
+  pub safe : AllByRecursion (λ entry. IsSafeName entry.0) l.entries
+  pub distinct : AreDistinct (map (λ entry. entry.0) l.entries)

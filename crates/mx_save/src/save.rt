@@ -1,0 +1,127 @@
+//! One body.
+ghost use Rattle.std.specs.Prelude.{◌≡◌, ◌<◌, ◌≤◌, false, [], IsErr, OnOk, OnErr};
+ghost use Rattle.mx_folder.specs.Steps.{refusals};
+ghost use Rattle.mx_folder.specs.Moments.{AtEachMoment};
+ghost use Rattle.mx_save.specs.Bodies.{content_of, Holds, Appends, Flushes, FilesAreKept, IsOnlyPart, IsBeforeOrAfter};
+
+use crate::body::Body;
+use crate::error::SaveError;
+use mx_file_name::{FileName, PartName};
+use mx_folder::Folder;
+
+// Writes all of these bytes behind what the part has.
+fn append_all<F: Folder>(folder: &mut F, part: &PartName, bytes: &[u8]) -> Result<(), SaveError>
+    ensures written { OnOk result (Appends part.now bytes.now (F.steps folder.old) (F.steps folder.new)) }
+    ensures any_moment { AtEachMoment (IsOnlyPart part.now (F.steps folder.old)) (F.steps folder.old) (F.steps folder.new) }
+    ensures grows { refusals (F.steps folder.old) ≤ refusals (F.steps folder.new) }
+    ensures cause { IsErr result → refusals (F.steps folder.old) < refusals (F.steps folder.new) }
+{
+    let mut written = 0;
+    while written < bytes.len() {
+        match folder.append(part, &bytes[written..]) {
+            Ok(n) => written += n,
+            Err(error) => return Err(SaveError::Write(error)),
+        }
+    }
+    Ok(())
+}
+
+// Writes the parts of a body.
+fn append_parts<F: Folder, B: Body>(
+    folder: &mut F,
+    part: &PartName,
+    body: &B,
+) -> Result<(), SaveError>
+    ensures written { OnOk result (Appends part.now (content_of (B.parts body.now)) (F.steps folder.old) (F.steps folder.new)) }
+    ensures any_moment { AtEachMoment (IsOnlyPart part.now (F.steps folder.old)) (F.steps folder.old) (F.steps folder.new) }
+    ensures grows { refusals (F.steps folder.old) ≤ refusals (F.steps folder.new) }
+    ensures cause { IsErr result → refusals (F.steps folder.old) < refusals (F.steps folder.new) }
+{
+    for i in 0..body.part_count() {
+        let Some(bytes) = body.part(i) else {
+            unreachable!();
+        };
+        append_all(folder, part, bytes)?;
+    }
+    Ok(())
+}
+
+// Has all that the part has on the disk, where that is asked for.
+fn flush_part<F: Folder>(folder: &mut F, part: &PartName, flush: bool) -> Result<(), SaveError>
+    ensures flushed { OnOk result (Flushes part.now flush (F.steps folder.old) (F.steps folder.new)) }
+    ensures any_moment { AtEachMoment (IsOnlyPart part.now (F.steps folder.old)) (F.steps folder.old) (F.steps folder.new) }
+    ensures grows { refusals (F.steps folder.old) ≤ refusals (F.steps folder.new) }
+    ensures cause { IsErr result → refusals (F.steps folder.old) < refusals (F.steps folder.new) }
+{
+    if !flush {
+        return Ok(());
+    }
+    match folder.flush(part) {
+        Ok(()) => Ok(()),
+        Err(error) => Err(SaveError::Flush(error)),
+    }
+}
+
+// Has the whole body in an empty part.
+fn fill_part<F: Folder, B: Body>(
+    folder: &mut F,
+    part: &PartName,
+    body: &B,
+    flush: bool,
+) -> Result<(), SaveError>
+    requires { Holds part.now [] false (F.steps folder.old) }
+    ensures filled { OnOk result (Holds part.now (content_of (B.parts body.now)) flush (F.steps folder.new)) }
+    ensures any_moment { AtEachMoment (IsOnlyPart part.now (F.steps folder.old)) (F.steps folder.old) (F.steps folder.new) }
+    ensures grows { refusals (F.steps folder.old) ≤ refusals (F.steps folder.new) }
+    ensures cause { IsErr result → refusals (F.steps folder.old) < refusals (F.steps folder.new) }
+{
+    append_parts(folder, part, body)?;
+    flush_part(folder, part, flush)
+}
+
+// Takes the part away, if that can be done.
+fn discard<F: Folder>(folder: &mut F, part: &PartName)
+    ensures any_moment { AtEachMoment (IsOnlyPart part.now (F.steps folder.old)) (F.steps folder.old) (F.steps folder.new) }
+    ensures grows { refusals (F.steps folder.old) ≤ refusals (F.steps folder.new) }
+{
+    let _ = folder.remove(part);
+}
+
+/// Saves a body under a name: writes it under the name of the part, has it on the disk where `flush` says so, and gives it its name. What
+/// was under the name before is gone then; a moment earlier it is still there.
+///
+/// An error comes only where the folder refused a call. It leaves each file as it was, at each moment; the part stays behind only where
+/// the folder refused to remove it.
+pub fn save_body<F: Folder, B: Body>(
+    folder: &mut F,
+    part: &PartName,
+    name: &FileName,
+    body: &B,
+    flush: bool,
+) -> Result<(), SaveError>
+    ensures saved { OnOk result (Holds name.now (content_of (B.parts body.now)) flush (F.steps folder.new)) }
+    ensures kept { OnErr result (AtEachMoment (FilesAreKept (F.steps folder.old)) (F.steps folder.old) (F.steps folder.new)) }
+    ensures any_moment { AtEachMoment (IsBeforeOrAfter part.now name.now (content_of (B.parts body.now)) flush (F.steps folder.old))
+        (F.steps folder.old) (F.steps folder.new) }
+    ensures cause { IsErr result → refusals (F.steps folder.old) < refusals (F.steps folder.new) }
+{
+    part.know();
+    match folder.create(part) {
+        Err(error) => return Err(SaveError::Create(error)),
+        Ok(()) => {}
+    }
+    match fill_part(folder, part, body, flush) {
+        Err(error) => {
+            discard(folder, part);
+            return Err(error);
+        }
+        Ok(()) => {}
+    }
+    match folder.place(part, name) {
+        Err(error) => {
+            discard(folder, part);
+            Err(SaveError::Place(error))
+        }
+        Ok(()) => Ok(()),
+    }
+}
