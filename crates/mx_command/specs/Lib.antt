@@ -1,2 +1,3 @@
 -- What `read_command` promises.
 pub mod Asked
+pub mod Saving
