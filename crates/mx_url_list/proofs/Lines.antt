@@ -1,12 +1,10 @@
 -- Lines that are read byte by byte.
-use Rattle.std.proofs.Common.{◌≡◌, ◌≢◌, ℕ, ◌≤◌, ◌==◌, Bool, true, false, not, List, [], ◌∷◌, ◌++◌, length, take, refl, sym, ap, ◌∙◌, append_assoc, append-nil, inl, inr}
+use Rattle.std.proofs.Common.{◌≡◌, ◌≢◌, ℕ, ◌≤◌, ◌==◌, Bool, true, false, not, List, [], ◌∷◌, ◌++◌, length, take, refl, sym, ap, ◌∙◌, append-nil, inl, inr}
 use Rattle.std.specs.Prelude.{Option, option_to_list}
 use Rattle.std.specs.Str.{IsUtf8, is_utf8}
-use Rattle.std.specs.Cmp.Derive.{both_true}
 use Rattle.std.proofs.lemmas.Bool.{and_parts}
 use Rattle.std.proofs.lemmas.Bool.Decides.{eqb_tells}
 use Rattle.std.proofs.lemmas.List.{take_all}
-use Rattle.std.proofs.lemmas.List.Folds.{list_all-append}
 use Rattle.std.proofs.lemmas.Str.{IsUtf8-from_is_utf8}
 use Rattle.std.proofs.Math.Seq.{take-append_seam}
 use Rattle.mx_url_list.specs.declared.entry.Entry.{Entry}
@@ -97,12 +95,3 @@ one_dropped is_first line b rest unended other long =
     ap (entries_in is_first) (behind line (b ∷ rest) unended d)
     ∙ ap (λ e. option_to_list e ++ entries_in false c.more) (same_front is_first line (b ∷ c.first) c.first long)
     ∙ sym (ap (entries_in is_first) (behind line rest unended c))
-
--- a byte more
-pub one_more : (is_first : Bool) (line : List ℕ) (b : ℕ) (rest : List ℕ) → entries_from is_first (line ++ b ∷ rest) ≡ entries_from is_first ((line ++ b ∷ []) ++ rest)
-one_more is_first line b rest = ap (entries_from is_first) (sym (append_assoc line (b ∷ []) rest))
-
-pub unended_more : (line : List ℕ) (b : ℕ) → is_unended line ≡ true → b ≢ 10 → is_unended (line ++ b ∷ []) ≡ true
-unended_more line b unended other =
-    let last : is_unended (b ∷ []) ≡ true = let test = not_lf b other in rw test refl in
-    list_all-append (λ c. not (c == 10)) line (b ∷ []) ∙ both_true unended last
