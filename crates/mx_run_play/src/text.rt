@@ -109,6 +109,7 @@ fn write_reply<W: Write>(output: &mut Output<W>, reply: &ShortReply) -> Result<(
 }
 
 /// Prints what a line is answered, as one line: the list of handles is that of the player.
+#[inline(always)]
 pub fn write_said<W: Write>(
     output: &mut Output<W>,
     player: &Player,
