@@ -11,6 +11,7 @@
 #   stale     add and remove, and the end of each addition told at once
 #   kept      add and remove, and then the ends of all additions, from the first on
 #   last      add and remove, and then the ends of all additions, from the last on
+#   retire K  retire alone, for each event that there is, once a handle was added, ended and removed again and again beside K handles that ended
 #
 # It needs python3; for `--instructions` valgrind (Debian's package valgrind); for libcurl a C compiler, `cc` (Debian: gcc),
 # and the library (Debian: libcurl4).
@@ -117,6 +118,24 @@ for n in ROUNDS:
     row("stale", n, each(n, "add 7", "remove 7", "done {} 0 5"), "stale")
 for n in ROUNDS:
     row("kept", n, each(n, "add 7", "remove 7") + each(n, "done {} 0 5"), "stale")
+def retire(k, n):
+    """What `retire` takes for an event, beside k handles that stay."""
+    stay = [line for i in range(k) for line in (f"add {i + 1}", f"done {i} 0 5")]
+    # a reading takes the oldest message, which is that of a handle that stays: so these are removed unread
+    lines = stay + [line.format(i + k) for i in range(n) for line in ("add 0", "done {} 0 5", "remove 0")]
+    used = []
+    for more in ([], ["retire"]):
+        with open(f"{WORK}/script", "w") as script:
+            script.writelines(line + "\n" for line in lines + more)
+        used.append(least(PLAY, f"{WORK}/script"))
+    replies = open(PRINTED).read().splitlines()
+    if replies[-1] != f"retired {2 * k}":
+        sys.exit(f"retire {k}: {replies[-1]}")
+    print(f"| retire {k} | {n:,} | {len(lines):,} events | {(used[1] - used[0]) / len(lines):.0f} | - |", flush=True)
+
 for n in ROUNDS:
     row("last", n, each(n, "add 7", "remove 7") + each(n, "done {} 0 5")[::-1], "stale")
+for k in (0, 64, 255):
+    for n in ROUNDS:
+        retire(k, n)
 P
