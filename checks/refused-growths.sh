@@ -1,7 +1,7 @@
 #!/usr/bin/env bash
 # Runs what `rt ci` built with each growth of memory refused in turn, the first, the second, and so on until a run asks for no
 # more, by a library of its own (checks/refuse.c). A program has to print what memory allows and end with 27, or to do without
-# that growth and print all. Of a test that asks for more than 200 growths the first 200 are refused. A test has to
+# that growth and print all. Of a test that asks for more than 400 growths the first 400 are refused. A test has to
 #   - make a call that was refused memory once more, compare what that answers with what it is to answer, and only then fail, by
 #     words of its own, which it says for no other cause: at one growth at least, or there is no such call; or
 #   - fail with the want of memory, where the growth was one of what the test needs for itself; or
@@ -30,7 +30,7 @@ mx_crew_tests       ^refused
 '
 # Those that make no call again.
 others='
-mx_worker_tests     ^ends::one_worker\|^ends::a_removed\|^hops\|^links\|^paused\|^takeover
+mx_worker_tests     ^ends::one_worker\|^ends::a_removed\|^paused\|^takeover
 '
 
 # What such a test says where a call that was refused memory answered when it was made again.
@@ -228,14 +228,14 @@ try_words '--help' 0 --help
 try_words 'get --help' 0 get --help
 ends=0
 
-# the tests of a crate, each up to its 200th growth: CRATE WORD LEAST, the least number of growths whose call is made again
+# the tests of a crate, each up to its 400th growth: CRATE WORD LEAST, the least number of growths whose call is made again
 try_tests() {
   local crate=$1 word=$2 least=$3 test names which again wanting without tests=$top/crates/$1/out/$1_tests
   names=$("$tests" --list | sed -n 's/: test$//p' | grep "$word")
   [ -n "$names" ] || { status=0; : > "$work/printed"; : > "$work/said"; wrong "$crate: its tests name no test"; }
   for test in $names; do
     which=1 again=0 wanting=0 without=0
-    while [ "$which" -le 200 ] && refused "$which" "$tests" "$test"; do
+    while [ "$which" -le 400 ] && refused "$which" "$tests" "$test"; do
       if [ "$status" -eq 0 ]; then
         without=$((without + 1))
       elif [ "$status" -eq 101 ] && grep -qxF "$AGAIN" "$work/said"; then
@@ -247,9 +247,9 @@ try_tests() {
       fi
       which=$((which + 1))
     done
-    [ "$which" -gt 200 ] || [ "$status" -eq 0 ] || wrong "$crate, $test, no growth refused"
+    [ "$which" -gt 400 ] || [ "$status" -eq 0 ] || wrong "$crate, $test, no growth refused"
     [ "$again" -ge "$least" ] || wrong "$crate, $test: no call was made again"
-    [ "$which" -le 200 ] || test="$test (of more)"
+    [ "$which" -le 400 ] || test="$test (of more)"
     echo "$crate, $test: $((which - 1)) growths refused, $again at a call that then answered, $wanting of the test's own, $without done without"
   done
 }

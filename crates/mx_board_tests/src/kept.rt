@@ -1,6 +1,6 @@
 //! A board of a history that was kept.
 
-ghost use Rattle.std.specs.Prelude.{◌≡◌, ◌<◌, true, length};
+ghost use Rattle.std.specs.Prelude.{◌≡◌, ◌<◌, true, IfOk, length};
 ghost use Rattle.mx_history.specs.History.{is_legal};
 
 use crate::desk::end;
@@ -50,6 +50,7 @@ fn make<R: Wait>(
 ) -> Result<(BoardWriter, bool), OutOfMemory>
     requires legal { is_legal events.now ≡ true }
     requires few { length events.now < 4294967295 }
+    ensures { IfOk result (λ r. (r.0.events ≡ events.now) × (r.0.published ≡ events.now)) }
 {
     match board_of(rt, alloc, 1, events) {
         Ok(board) => Ok((board, false)),
