@@ -11,7 +11,7 @@
 #   stale     add and remove, and the end of each addition told at once
 #   kept      add and remove, and then the ends of all additions, from the first on
 #   last      add and remove, and then the ends of all additions, from the last on
-#   retire K  retire alone, for each event that there is, once a handle was added, ended and removed again and again beside K handles that ended
+#   retire K  retire alone, an event that there is: a handle was added, ended and removed, again and again, beside K that ended
 #
 # It needs python3; for `--instructions` valgrind (Debian's package valgrind); for libcurl a C compiler, `cc` (Debian: gcc),
 # and the library (Debian: libcurl4).
