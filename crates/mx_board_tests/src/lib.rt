@@ -8,6 +8,7 @@ mod boards;
 mod desk;
 #[cfg(test)]
 mod kept;
+#[cfg(test)]
 pub mod notes;
 #[cfg(test)]
 mod words;

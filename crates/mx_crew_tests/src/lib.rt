@@ -3,6 +3,7 @@
 
 #[cfg(test)]
 mod beside;
+#[cfg(test)]
 pub mod gate;
 #[cfg(test)]
 mod reader;

@@ -3,6 +3,7 @@
 
 #[cfg(test)]
 mod back;
+#[cfg(test)]
 pub mod callers;
 #[cfg(test)]
 mod refused;

@@ -2,6 +2,7 @@
 //! script's calls answers, many threads' calls played again on one thread, and wake-ups that mustn't be lost.
 #![tactic(auto)]
 
+#[cfg(test)]
 pub mod caller;
 #[cfg(test)]
 mod caller_tests;

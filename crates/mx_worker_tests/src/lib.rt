@@ -13,6 +13,7 @@ mod hops;
 mod links;
 #[cfg(test)]
 mod paused;
+#[cfg(test)]
 pub mod polls;
 #[cfg(test)]
 mod refused;
