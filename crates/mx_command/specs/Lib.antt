@@ -1,3 +1,2 @@
 -- What `read_command` promises.
 pub mod Asked
-pub mod Saving

@@ -4,10 +4,8 @@
 mod asked;
 mod command;
 mod help;
-mod save;
 mod task;
 
 pub use crate::asked::{Asked, Get};
 pub use crate::command::read_command;
-pub use crate::save::{BodySource, Header, ListSource, Save, SaveFlags, SaveNumbers, read_save};
 pub use crate::task::Task;

@@ -1,6 +1,6 @@
 //! Command lines of `save`.
 use crate::rows::{first_false, none_is_wrong};
-use mx_command::{BodySource, ListSource, Save, read_save};
+use mx_save_command::{BodySource, ListSource, Save, read_save};
 use std::alloc::{AllocError, Global};
 
 fn words_of(alloc: Global, rest: &[&str]) -> Result<Vec<String>, AllocError> {

@@ -1,0 +1,60 @@
+//! The arguments of a table, added to a command.
+use crate::option::{METHODS, OptionRow, Takes};
+use clap::{Arg, ArgAction, Command, value_parser};
+use std::alloc::{AllocError, Global};
+
+// An argument that takes this.
+fn taking<'a>(arg: Arg<'a>, takes: Takes) -> Result<Arg<'a>, AllocError> {
+    match takes {
+        Takes::Nothing => Ok(arg.action(ArgAction::SetTrue)),
+        Takes::NothingBeside(other) => arg.action(ArgAction::SetTrue).conflicts_with(other),
+        Takes::Word(value) => Ok(arg.value_name(value)),
+        Takes::Text(value) => Ok(arg.value_name(value).allow_hyphen_values(true)),
+        Takes::Number(least, most) => Ok(
+            arg.value_name("N").value_parser(value_parser!(u32).range(
+                i64::from(least)..=i64::from(most),
+            )),
+        ),
+        Takes::Method => Ok(
+            arg.value_name("M")
+                .value_parser(METHODS.as_slice())
+                .hide_possible_values(true),
+        ),
+    }
+}
+
+// The argument of an option.
+fn arg_of<'a>(alloc: Global, row: &'static OptionRow) -> Result<Arg<'a>, AllocError> {
+    let named = Arg::new(alloc, row.name).long(row.name).help(row.help);
+    let defaulted = match row.default {
+        Some(value) => named.default_value(value),
+        None => named,
+    };
+    taking(defaulted, row.takes)
+}
+
+/// The command with an argument, where that could be made.
+pub fn with_arg<'a>(
+    command: Command<'a>,
+    arg: Result<Arg<'a>, AllocError>,
+) -> Result<Command<'a>, AllocError> {
+    match arg {
+        Ok(arg) => command.arg(arg),
+        Err(error) => {
+            drop(command);
+            Err(error)
+        }
+    }
+}
+
+/// The command with the options of the table.
+pub fn with_options<'a>(
+    alloc: Global,
+    mut command: Command<'a>,
+    rows: &'static [OptionRow],
+) -> Result<Command<'a>, AllocError> {
+    for row in rows {
+        command = with_arg(command, arg_of(alloc, row))?;
+    }
+    Ok(command)
+}

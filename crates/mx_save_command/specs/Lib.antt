@@ -1,0 +1,2 @@
+-- What `read_save` promises.
+pub mod Saving

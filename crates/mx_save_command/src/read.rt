@@ -1,0 +1,179 @@
+//! What a command line of `save` asks for.
+ghost use Rattle.std.specs.Prelude.{IfOk, IfSome};
+ghost use Rattle.mx_save_command.specs.Saving.{AreSaveNumbers};
+
+use crate::help;
+use crate::options::save_command;
+use crate::save::{BodySource, Header, ListSource, Save, SaveFlags, SaveNumbers};
+use clap::error::ErrorKind;
+use clap::{ArgMatches, Command, Error};
+use mx_run_io::Options;
+use mx_types::{LEAST_HISTORY, MOST_HISTORY, Method};
+use std::alloc::{AllocError, Global};
+
+/// The numbers of `save`, if its values are there. Their ranges are tested here too, since clap's contract doesn't tell that they were.
+fn numbers_of(save: &ArgMatches<'_>) -> Option<SaveNumbers>
+    ensures { IfSome result AreSaveNumbers }
+{
+    let options = Options {
+        workers: save.get_one::<u8>("workers")?,
+        at_once: save.get_one::<u16>("at-once")?,
+        timeout_ms: save.get_one::<u32>("timeout-ms")?,
+        max_connects: save.get_one::<u8>("max-connects")?,
+        max_redirects: save.get_one::<u8>("max-redirects")?,
+    };
+    let retries = save.get_one::<u8>("retry")?;
+    let history = save.get_one::<u32>("history")?;
+    if !options.are_within() || !(LEAST_HISTORY..=MOST_HISTORY).contains(&history) {
+        return None;
+    }
+    Some(SaveNumbers {
+        options,
+        retries,
+        history,
+    })
+}
+
+fn flags_of(save: &ArgMatches<'_>) -> SaveFlags {
+    let progress = if save.get_flag("progress") {
+        Some(true)
+    } else if save.get_flag("no-progress") {
+        Some(false)
+    } else {
+        None
+    };
+    SaveFlags {
+        skip_existing: save.get_flag("skip-existing"),
+        content_on_error: save.get_flag("content-on-error"),
+        fsync: save.get_flag("fsync"),
+        json: save.get_flag("json"),
+        progress,
+    }
+}
+
+fn input_of<'a>(save: &ArgMatches<'a>) -> Option<ListSource<'a>> {
+    match save.get_str("input")? {
+        "-" => Some(ListSource::Standard),
+        file => Some(ListSource::File(file)),
+    }
+}
+
+fn body_of<'a>(save: &ArgMatches<'a>) -> Option<BodySource<'a>> {
+    let text = save.get_str("data")?;
+    match text.strip_prefix('@') {
+        Some(file) => Some(BodySource::File(file)),
+        None => Some(BodySource::Text(text)),
+    }
+}
+
+// The method that was given, else POST with a body, and GET without one.
+fn method_of(save: &ArgMatches<'_>) -> Method {
+    match save.get_one::<Method>("method") {
+        Some(method) => method,
+        None if save.contains_id("data") => Method::Post,
+        None => Method::Get,
+    }
+}
+
+fn header_of(text: &str) -> Option<Header<'_>> {
+    let (name, value) = text.split_once(':')?;
+    Some(Header {
+        name,
+        value: value.trim_ascii(),
+    })
+}
+
+fn urls_of<'a>(alloc: Global, save: &ArgMatches<'a>) -> Result<Vec<&'a str>, AllocError> {
+    let mut urls = Vec::new(alloc);
+    if let Some(given) = save.get_strs("URL") {
+        for url in given {
+            urls.push(*url)?;
+        }
+    }
+    Ok(urls)
+}
+
+/// The header fields, if each has a colon.
+fn headers_of<'a>(
+    alloc: Global,
+    save: &ArgMatches<'a>,
+) -> Result<Option<Vec<Header<'a>>>, AllocError> {
+    let mut headers = Vec::new(alloc);
+    if let Some(given) = save.get_strs("header") {
+        for text in given {
+            let Some(header) = header_of(*text) else {
+                return Ok(None);
+            };
+            headers.push(header)?;
+        }
+    }
+    Ok(Some(headers))
+}
+
+/// What `save` is asked for, if its values are there and its header fields have colons.
+fn save_of<'a>(alloc: Global, save: &ArgMatches<'a>) -> Result<Option<Save<'a>>, AllocError>
+    ensures { IfOk result (λ o. IfSome o (λ s. AreSaveNumbers s.numbers)) }
+{
+    let (Some(numbers), Some(into)) = (numbers_of(save), save.get_str("into")) else {
+        return Ok(None);
+    };
+    let Some(headers) = headers_of(alloc, save)? else {
+        return Ok(None);
+    };
+    Ok(Some(Save {
+        numbers,
+        flags: flags_of(save),
+        into,
+        input: input_of(save),
+        urls: urls_of(alloc, save)?,
+        method: method_of(save),
+        headers,
+        body: body_of(save),
+        user_agent: save.get_str("user-agent"),
+    }))
+}
+
+fn asked_of<'a>(alloc: Global, matches: &ArgMatches<'a>) -> Result<Option<Save<'a>>, AllocError>
+    ensures { IfOk result (λ o. IfSome o (λ s. AreSaveNumbers s.numbers)) }
+{
+    match matches.subcommand_matches("save") {
+        Some(save) => save_of(alloc, save),
+        None => Ok(None),
+    }
+}
+
+fn mxfetch_command<'a>(alloc: Global) -> Result<Command<'a>, AllocError> {
+    let save = save_command(alloc)?;
+    Command::new(alloc, "mxfetch")
+        .subcommand_required(true)
+        .disable_help_subcommand(true)
+        .subcommand(save)
+}
+
+// Reads the words at a command, which stays there.
+fn read_at<'a>(
+    alloc: Global,
+    command: &mut Command<'a>,
+    words: &'a [String],
+) -> Result<Save<'a>, Error>
+    ensures { IfOk result (λ s. AreSaveNumbers s.numbers) }
+{
+    let matches = command.try_get_matches_from_mut(words)?;
+    let asked = asked_of(alloc, &matches);
+    drop(matches);
+    match asked? {
+        Some(save) => Ok(save),
+        None => Err(command.error(ErrorKind::ValueValidation, help::NO_HEADER)?),
+    }
+}
+
+/// Reads a command line of `save`, of which the first word is the program's name and the second `save`. An error is help that was asked
+/// for, a refusal in clap's words, or the want of memory.
+pub fn read_save<'a>(alloc: Global, words: &'a [String]) -> Result<Save<'a>, Error>
+    ensures { IfOk result (λ s. AreSaveNumbers s.numbers) }
+{
+    let mut command = mxfetch_command(alloc)?;
+    let read = read_at(alloc, &mut command, words);
+    drop(command);
+    read
+}

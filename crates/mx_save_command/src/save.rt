@@ -1,0 +1,75 @@
+//! What `save` is asked for.
+use mx_run_io::Options;
+use mx_types::Method;
+
+/// Where further URLs are read, one a line.
+#[derive(Clone, Copy, Debug, PartialEq, Eq)]
+pub enum ListSource<'a> {
+    /// From that file.
+    File(&'a str),
+    /// From standard input.
+    Standard,
+}
+
+/// The body of the requests.
+#[derive(Clone, Copy, Debug, PartialEq, Eq)]
+pub enum BodySource<'a> {
+    /// The text itself.
+    Text(&'a str),
+    /// The bytes of that file.
+    File(&'a str),
+}
+
+/// A header field of the requests: its name, and its value without blanks at its ends. Whether a request may have it is not asked here.
+#[derive(Clone, Copy, Debug, PartialEq, Eq)]
+pub struct Header<'a> {
+    pub name: &'a str,
+    pub value: &'a str,
+}
+
+/// The numbers of `save`.
+#[derive(Clone, Copy, Debug, PartialEq, Eq)]
+pub struct SaveNumbers {
+    /// How the URLs are fetched. `at_once` says how many transfers run, whatever the workers, and `timeout_ms` is of each try.
+    pub options: Options,
+    /// How many further tries there are: 0 to 255.
+    pub retries: u8,
+    /// The events of the multi handle: 4 to 1,048,576.
+    pub history: u32,
+}
+
+/// What `save` does or leaves.
+#[derive(Clone, Copy, Debug, PartialEq, Eq)]
+pub struct SaveFlags {
+    /// A URL whose file is there isn't asked for.
+    pub skip_existing: bool,
+    /// Responses whose status isn't 2xx are saved, too.
+    pub content_on_error: bool,
+    /// Each file is flushed to the disk before it gets its name.
+    pub fsync: bool,
+    /// A JSON object is printed for each URL, in place of a line.
+    pub json: bool,
+    /// Whether progress is shown, where that is asked for or forbidden; else it is where standard error is a terminal.
+    pub progress: Option<bool>,
+}
+
+/// What `save` is asked for.
+#[derive(Drop)]
+pub struct Save<'a> {
+    pub numbers: SaveNumbers,
+    pub flags: SaveFlags,
+    /// The folder that files are saved in.
+    pub into: &'a str,
+    /// Where further URLs are read, behind those of the command line.
+    pub input: Option<ListSource<'a>>,
+    /// The URLs of the command line, as they were written. Where there is none, there is an input.
+    pub urls: Vec<&'a str>,
+    /// The method of the requests: GET, or POST with a body, unless another was given.
+    pub method: Method,
+    /// The header fields of the requests, in their order.
+    pub headers: Vec<Header<'a>>,
+    /// The body of the requests.
+    pub body: Option<BodySource<'a>>,
+    /// The field User-Agent of the requests.
+    pub user_agent: Option<&'a str>,
+}
