@@ -1,0 +1,4 @@
+-- What is told of a failure, in the order to read it.
+pub mod Words
+pub mod Hints
+pub mod Lines

@@ -1,0 +1,39 @@
+//! The words of a code.
+ghost use Rattle.std.specs.Prelude.{◌≡◌};
+ghost use Rattle.mx_words.specs.Words.{code_words, cut_words};
+
+use mx_types::Code;
+
+/// What a code says where no bytes are known to be refused.
+pub fn code_words(code: Code) -> &'static str
+    ensures { result.now ≡ code_words code }
+{
+    match code {
+        Code::Ok => "all went well",
+        Code::UnsupportedProtocol => "the scheme isn't http",
+        Code::UrlMalformat => "the URL doesn't parse, or has a user name or a password",
+        Code::CouldntResolveHost => "host not found",
+        Code::CouldntConnect => "the connection was refused, or could not be made",
+        Code::WeirdServerReply => "what came is no response head",
+        Code::PartialFile => "the response ended within its body",
+        Code::OutOfMemory => "not enough memory",
+        Code::OperationTimedout => "the time was over",
+        Code::TooManyRedirects => "too many redirects",
+        Code::GotNothing => "the connection ended before a byte came",
+        Code::SendError => "the request could not be sent",
+        Code::RecvError => "a read failed",
+        Code::BadContentEncoding => "a transfer coding other than one chunked",
+        Code::FilesizeExceeded => "the response is too large",
+        Code::TooLarge => "the head is too large",
+    }
+}
+
+/// What a code says where the bytes that came are not refused, and end in a response.
+pub(crate) fn cut_words(code: Code) -> &'static str
+    ensures { result.now ≡ cut_words code }
+{
+    match code {
+        Code::WeirdServerReply => "the response ended within its head",
+        _ => code_words(code),
+    }
+}

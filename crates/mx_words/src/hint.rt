@@ -1,0 +1,84 @@
+//! What is said to the mistakes that everybody makes first.
+ghost use Rattle.std.specs.Prelude.{◌≡◌, ◌↔◌, IsTrue, Some};
+ghost use Rattle.mx_words.specs.Hints.{is_url_code, BeginsInAnyCase, IsUrlHint, hint_words, body_hint};
+
+use mx_reason::{Fault, Reason, What};
+use mx_types::Code;
+
+/// What is said to a mistake that everybody makes first.
+#[derive(Clone, Copy, Debug, PartialEq, Eq)]
+pub enum Hint {
+    /// A URL begins with `http://`.
+    NoScheme,
+    /// There is no TLS.
+    Https,
+    /// A response was changed when it was saved.
+    NotRaw,
+}
+
+impl Hint {
+    /// The words.
+    pub fn as_str(self) -> &'static str
+        ensures { result.now ≡ hint_words self }
+    {
+        match self {
+            Hint::NoScheme => "a URL begins with http://",
+            Hint::Https => "there is no TLS here, so https can't be fetched",
+            Hint::NotRaw => {
+                "a response is read as it came: curl saves it with -si --raw --http1.1"
+            }
+        }
+    }
+}
+
+/// Whether a code may say that a URL was refused.
+fn is_url_code(code: Code) -> bool
+    ensures { result ≡ is_url_code code }
+{
+    matches!(code, Code::UnsupportedProtocol | Code::UrlMalformat)
+}
+
+/// Whether the URL begins with that, in letters of any case.
+fn begins_with(url: &[u8], front: &[u8]) -> bool
+    ensures { IsTrue result ↔ BeginsInAnyCase front.now url.now }
+{
+    front.len() <= url.len() && url[..front.len()].eq_ignore_ascii_case(front)
+}
+
+/// What is said to a URL that failed with that code, if anything.
+pub fn url_hint(url: &[u8], code: Code) -> Option<Hint>
+    ensures { IsUrlHint url.now code result }
+{
+    if !is_url_code(code) {
+        return None;
+    }
+    if begins_with(url, b"https:") {
+        return Some(Hint::Https);
+    }
+    if begins_with(url, b"http:") {
+        return None;
+    }
+    Some(Hint::NoScheme)
+}
+
+/// What is said to a response that isn't whole for that reason, if anything: where its first line is no status line, or a chunk's size is
+/// none, it may have been saved otherwise than it came.
+pub fn body_hint(reason: Option<Reason>) -> Option<Hint>
+    ensures { result ≡ body_hint reason }
+{
+    match reason {
+        Some(
+            Reason {
+                what: What::Fault(Fault::StatusLine),
+                ..
+            },
+        ) => Some(Hint::NotRaw),
+        Some(
+            Reason {
+                what: What::Fault(Fault::SizeLine),
+                ..
+            },
+        ) => Some(Hint::NotRaw),
+        _ => None,
+    }
+}

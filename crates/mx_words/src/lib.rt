@@ -1,0 +1,14 @@
+//! What is told of a failure, in words: its code's, where the bytes of a response are refused and by which rule, or how much of one came.
+#![tactic(auto)]
+
+mod code;
+mod hint;
+mod line;
+mod reason;
+mod told;
+
+pub use crate::code::code_words;
+pub use crate::hint::{Hint, body_hint, url_hint};
+pub use crate::line::{print_body_failure, print_cause, print_failure, print_words, shown};
+pub use crate::reason::fault_words;
+pub use crate::told::Told;
