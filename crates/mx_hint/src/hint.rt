@@ -1,0 +1,84 @@
+//! What is said behind clap's words.
+ghost use Rattle.std.specs.Prelude.{IfOk, IfSome, map, string_bytes};
+ghost use Rattle.mx_hint.specs.Said.{IsSaid, IsSaidToWord, IsSaidToValue, IsCommandWord};
+
+use crate::command::{is_url, nearest};
+use crate::number::{NumberRow, refused_at};
+use clap::error::ErrorKind;
+use std::alloc::{AllocError, Global};
+use std::fmt;
+
+/// What is said behind clap's words.
+#[derive(Clone, Copy)]
+pub enum Hint {
+    /// The command that is nearest to a word that is none.
+    Nearest(&'static str),
+    /// A URL stands in the place of a command.
+    Url,
+    /// What an option takes whose value isn't that.
+    Wanted(&'static NumberRow),
+}
+
+impl fmt::Display for Hint {
+    fn fmt<W: fmt::Write>(&self, f: &mut fmt::Formatter<W>) -> fmt::Result {
+        match self {
+            Hint::Nearest(name) => write!(f, "the nearest command is `{name}`"),
+            Hint::Url => f.write_str("a URL is fetched by `mxfetch get URL`"),
+            Hint::Wanted(row) => {
+                let name = row.name;
+                let wanted = row.wanted;
+                write!(f, "{name} takes {wanted}")
+            }
+        }
+    }
+}
+
+// The word in the place of a command: the first one behind the program's name, or behind `help`.
+fn command_word(words: &[String]) -> Option<&str>
+    ensures { IfSome result (λ word. IsCommandWord (map string_bytes words.now) word.now) }
+{
+    let word = words.get(1)?.as_str();
+    if word == "help" {
+        return Some(words.get(2)?.as_str());
+    }
+    Some(word)
+}
+
+// What is said to a word that is no command.
+fn of_word(alloc: Global, word: &str) -> Result<Option<Hint>, AllocError>
+    ensures { IfOk result (λ o. IfSome o (IsSaidToWord word.now)) }
+{
+    if is_url(word) {
+        return Ok(Some(Hint::Url));
+    }
+    Ok(match nearest(alloc, word)? {
+        Some(name) => Some(Hint::Nearest(name)),
+        None => None,
+    })
+}
+
+// What is said to the first option whose value it doesn't take.
+fn of_value(words: &[String]) -> Option<Hint>
+    ensures { IfSome result (IsSaidToValue (map string_bytes words.now)) }
+{
+    for at in 0..words.len() {
+        if let Some(row) = refused_at(words, at) {
+            return Some(Hint::Wanted(row));
+        }
+    }
+    None
+}
+
+/// What is said to these words, which are a command line that is refused as that kind of error, if anything is.
+pub fn hint_of(alloc: Global, words: &[String], kind: ErrorKind) -> Result<Option<Hint>, AllocError>
+    ensures { IfOk result (λ o. IfSome o (IsSaid kind (map string_bytes words.now))) }
+{
+    match kind {
+        ErrorKind::InvalidSubcommand => match command_word(words) {
+            Some(word) => of_word(alloc, word),
+            None => Ok(None),
+        },
+        ErrorKind::ValueValidation => Ok(of_value(words)),
+        _ => Ok(None),
+    }
+}
