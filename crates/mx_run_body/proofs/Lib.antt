@@ -3,3 +3,4 @@ mod WasRead
 mod Printed
 mod Received
 mod Gathered
+mod Explaining

@@ -61,6 +61,7 @@ pub record IsSettled (old new : Decoded) (bytes : List ℕ) : Type 0 where
   pub whole : bytes ≡ new.wire ++ behind
   pub decided : IsVerdict old.method bytes true new.verdict
   pub method : new.method ≡ old.method
+  pub ended : new.ended ≡ true → behind ≡ []
 
 pub was_settled : (old new : Decoded) (bytes : List ℕ) → WasFed old bytes → IsExact new
     → (old.verdict ≢ More → new ≡ old)
@@ -81,6 +82,7 @@ was_settled old new bytes fed exact over ends faults completes = go old.verdict 
           whole = sym wire ∙ sym (append-nil new.wire);
           decided = subst (λ (m : Method). IsVerdict m bytes true new.verdict) method two;
           method = method;
+          ended = λ e. refl;
         }
 
     before : old.verdict ≢ More → IsSettled old new bytes
@@ -94,6 +96,7 @@ was_settled old new bytes fed exact over ends faults completes = go old.verdict 
           whole = fed.whole ∙ ap (λ (d : Decoded). d.wire ++ fed.behind) (sym same);
           decided = subst (λ (d : Decoded). IsVerdict old.method bytes true d.verdict) (sym same) three;
           method = ap (λ (d : Decoded). d.method) same;
+          ended = λ e. let both : true ≡ false = sym e ∙ ap (λ (d : Decoded). d.ended) same ∙ fed.running in absurd (cc);
         }
 
     go : (v : Verdict) → old.verdict ≡ v → IsSettled old new bytes

@@ -2,3 +2,4 @@
 pub mod Reading
 pub mod Texts
 pub mod Run
+pub mod Explained

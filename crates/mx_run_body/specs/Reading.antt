@@ -34,14 +34,15 @@ pub record WasFed (d : Decoded) (bytes : List ℕ) : Type 0 where
   pub running : d.ended ≡ false
   pub exact : IsExact d
 
--- Of these bytes, the last of the input, the decoder has the front, and its verdict is that on all of them. So many
--- there are.
+-- Of these bytes, the last of the input, the decoder has the front, and its verdict is that on all of them; it has all where their end
+-- decided. So many there are.
 pub record IsReceived (m : Method) (bytes : List ℕ) (r : Received) : Type 0 where
   pub behind : List ℕ
   pub whole : bytes ≡ r.decoder.wire ++ behind
   pub decided : IsVerdict m bytes true r.decoder.verdict
   pub method : r.decoder.method ≡ m
   pub exact : IsExact r.decoder
+  pub ended : r.decoder.ended ≡ true → behind ≡ []
   pub len : r.len ≡ length bytes
 
 -- so it is with the bytes that were read

@@ -9,6 +9,7 @@ use Rattle.mx_body.specs.Decision.{IsVerdict}
 use Rattle.mx_body.specs.Parts.{AreOrdered, joined}
 use Rattle.mx_body.specs.Laws.{ContentIs}
 use Rattle.mx_run_body.specs.Reading.{WasRead}
+use Rattle.mx_run_body.specs.declared.reading.Received.{Received}
 use Rattle.mx_run_io.specs.Faults.{fault_line, PrintsFault}
 use Rattle.mx_run_body.specs.Texts.{response_line}
 
@@ -39,6 +40,11 @@ abbrev pub FitsIn : List ℕ → Verdict → Type 0
 FitsIn input (verdict.Complete status len parts keep) = AreOrdered 0 len parts.items × (len ≤ length input)
 FitsIn input verdict.More = ⊥
 FitsIn input (verdict.Fault code) = Unit {0}
+
+-- Private: what is written is the text of the verdict on the bytes that were received and any others behind them, as many as were read.
+pub record PrintsReceived (r : Received) (Written : List ℕ → Type 0) (ends_with : ℕ) : Type 0 where
+  pub written : (behind : List ℕ) → r.len ≡ length (r.decoder.wire ++ behind) → Written (text_of (r.decoder.wire ++ behind) r.decoder.verdict)
+  pub status : ends_with ≡ exit_status r.decoder.verdict
 
 -- The verdict on what was read is printed; or the want of memory, which an input without bytes never meets.
 abbrev pub AnswersRead : Method → Option (List ℕ) → Option (List ℕ) → (List ℕ → Type 0) → ℕ → Type 0

@@ -1,15 +1,19 @@
 //! The command `body`: a whole response from its bytes.
-ghost use Rattle.std.specs.Prelude.{◌≡◌, ◌≢◌, ℕ, List, ◌+◌, ◌<◌, ◌≤◌, ◌^◌, ◌++◌, ◌↔◌, ◌⊎◌, true, All, IfOk, OnOk, IsErr, length, sum_by};
+ghost use Rattle.std.specs.Prelude.{◌≡◌, ◌≢◌, ℕ, List, ◌+◌, ◌<◌, ◌≤◌, ◌^◌, ◌++◌, ◌↔◌, ◌⊎◌, true, All, None, Err, IfOk, OnOk, IsErr, length, sum_by};
 ghost use Rattle.mx_types.specs.Code.{code_number};
 ghost use Rattle.mx_head.specs.Limits.{most_bytes};
 ghost use Rattle.mx_run_io.specs.Ends.{reader_of, reads_of, most_reads_of, has_failed_read, has_failed_write, Wrote, EndsRun};
 ghost use Rattle.mx_body.specs.Parts.{joined};
 ghost use Rattle.mx_run_body.specs.Texts.{part_len, response_line, StandsWithin};
 ghost use Rattle.mx_run_io.specs.Faults.{PrintsFault};
-ghost use Rattle.mx_run_body.specs.Reading.{ReadsUpTo};
-ghost use Rattle.mx_run_body.specs.Run.{text_of, exit_status, AnswersRead, FitsIn};
+ghost use Rattle.mx_words.specs.Lines.{body_lines};
+ghost use Rattle.mx_run_body.specs.Reading.{ReadsUpTo, IsRead};
+ghost use Rattle.mx_run_body.specs.Run.{text_of, exit_status, AnswersRead, FitsIn, PrintsReceived};
+ghost use Rattle.mx_run_body.specs.Explained.{TellsRead};
+ghost use Rattle.mx_run_body.specs.declared.reading.InputError.TheVariants.{Failed, OutOfMemory};
 
-use crate::reading::{InputError, receive};
+use crate::explain::explain;
+use crate::reading::{InputError, Received, receive};
 use crate::text::{print_parts, print_response};
 use mx_body::laws::parts_are_content;
 use mx_body::{Part, Verdict};
@@ -83,39 +87,60 @@ fn print_verdict<W: Write>(
     }
 }
 
-/// What `run_body` prints, and its exit status, where each write succeeds.
+// Prints what was received, and answers the exit status.
+fn print_received<W: Write>(
+    output: &mut Output<W>,
+    received: &Result<Received, InputError>,
+) -> Result<u8, WriteFailed>
+    requires fits { IfOk received.now (λ r. FitsIn r.decoder.wire r.decoder.verdict) }
+    requires front { IfOk received.now (λ r. length r.decoder.wire ≤ r.len) }
+    ensures unread { received.now ≡ Err Failed → IfOk result (PrintsFault (code_number Code.RecvError)
+        (Wrote W.contents output.old output.new)) }
+    ensures short { received.now ≡ Err OutOfMemory → IfOk result (PrintsFault (code_number Code.OutOfMemory)
+        (Wrote W.contents output.old output.new)) }
+    ensures printed { IfOk received.now (λ r. IfOk result (PrintsReceived r (Wrote W.contents output.old output.new))) }
+    ensures small { IfOk result (λ status. status < 121) }
+    ensures failed { IsErr result ↔ (has_failed_write output.new ≡ true) }
+{
+    match received {
+        Ok(received) => print_verdict(
+            output,
+            received.decoder.wire(),
+            received.decoder.verdict(),
+            received.len,
+        ),
+        Err(InputError::Failed) => end_with(output, Code::RecvError),
+        Err(InputError::OutOfMemory) => end_with(output, Code::OutOfMemory),
+    }
+}
+
+/// What `run_body` prints, and its exit status, where each write succeeds; and what was received.
 fn print_body<R: Read, W: Write>(
     alloc: Global,
     method: Method,
     input: &mut Input<R>,
     output: &mut Output<W>,
-) -> Result<u8, WriteFailed>
+) -> (Result<u8, WriteFailed>, Result<Received, InputError>)
     requires room { reads_of input.old + (most_bytes + 2) ≤ most_reads_of input.old }
     ensures reads { reads_of input.new ≤ reads_of input.old + (most_bytes + 2) }
     ensures left { ReadsUpTo most_bytes (has_failed_read input.new)
         (R.remaining (reader_of input.old)) (R.remaining (reader_of input.new)) }
     ensures asked { has_failed_read input.new ≡ true
         → (has_failed_read input.old ≡ true) ⊎ (reads_of input.old < reads_of input.new) }
-    ensures unread { has_failed_read input.new ≡ true → IfOk result (PrintsFault (code_number Code.RecvError)
+    ensures unread { has_failed_read input.new ≡ true → IfOk result.0 (PrintsFault (code_number Code.RecvError)
         (Wrote W.contents output.old output.new)) }
-    ensures answered { has_failed_read input.new ≢ true → IfOk result (AnswersRead method
+    ensures answered { has_failed_read input.new ≢ true → IfOk result.0 (AnswersRead method
         (R.remaining (reader_of input.old)) (R.remaining (reader_of input.new))
         (Wrote W.contents output.old output.new)) }
-    ensures small { IfOk result (λ status. status < 121) }
-    ensures failed { IsErr result ↔ (has_failed_write output.new ≡ true) }
+    ensures small { IfOk result.0 (λ status. status < 121) }
+    ensures failed { IsErr result.0 ↔ (has_failed_write output.new ≡ true) }
+    ensures received { IfOk result.1 (IsRead method (R.remaining (reader_of input.old)) (R.remaining (reader_of input.new))) }
+    ensures unreceived { (result.1 ≡ Err Failed) ↔ (has_failed_read input.new ≡ true) }
 {
-    let received = match receive(alloc, method, input) {
-        Ok(received) => received,
-        Err(InputError::Failed) => return end_with(output, Code::RecvError),
-        Err(InputError::OutOfMemory) => return end_with(output, Code::OutOfMemory),
-    };
+    let received = receive(alloc, method, input);
     parts_are_content();
-    print_verdict(
-        output,
-        received.decoder.wire(),
-        received.decoder.verdict(),
-        received.len,
-    )
+    let printed = print_received(output, &received);
+    (printed, received)
 }
 
 /// Reads a response whole, as the answer to a request of that method, and prints it: one line and the body,
@@ -147,6 +172,41 @@ pub fn run_body<R: Read, W: Write>(
         → AnswersRead method (R.remaining (reader_of input.old)) (R.remaining (reader_of input.new))
         (Wrote W.contents output.old output.new) result }
 {
-    let status = print_body(alloc, method, input, output);
-    output.end(status)
+    let (printed, _received) = print_body(alloc, method, input, output);
+    output.end(printed)
+}
+
+/// Does what `run_body` does, and tells of a response that isn't whole why: the line of its code, with the byte of the response at which it
+/// is refused and what stands wrong there, or how much of it came, and behind it a hint where there is one. Of a whole response nothing is
+/// told. What is told is put into an output of its own, once the other is flushed; whether it could be is no matter of the exit status.
+pub fn run_body_explained<R: Read, W: Write, E: Write>(
+    alloc: Global,
+    method: Method,
+    input: &mut Input<R>,
+    output: &mut Output<W>,
+    told: &mut Output<E>,
+) -> u8
+    requires room { reads_of input.old + (most_bytes + 2) ≤ most_reads_of input.old }
+    ensures reads { reads_of input.new ≤ reads_of input.old + (most_bytes + 2) }
+    ensures left { ReadsUpTo most_bytes (has_failed_read input.new)
+        (R.remaining (reader_of input.old)) (R.remaining (reader_of input.new)) }
+    ensures asked { has_failed_read input.new ≡ true
+        → (has_failed_read input.old ≡ true) ⊎ (reads_of input.old < reads_of input.new) }
+    ensures ends { EndsRun output.new result }
+    ensures unread { has_failed_write output.new ≢ true → has_failed_read input.new ≡ true
+        → PrintsFault (code_number Code.RecvError)
+        (Wrote W.contents output.old output.new) result }
+    ensures answered { has_failed_write output.new ≢ true → has_failed_read input.new ≢ true
+        → AnswersRead method (R.remaining (reader_of input.old)) (R.remaining (reader_of input.new))
+        (Wrote W.contents output.old output.new) result }
+    ensures told_unread { has_failed_write told.new ≢ true → has_failed_read input.new ≡ true
+        → Wrote E.contents told.old told.new (body_lines Code.RecvError None) }
+    ensures told_read { has_failed_write told.new ≢ true → has_failed_read input.new ≢ true
+        → TellsRead method (R.remaining (reader_of input.old)) (R.remaining (reader_of input.new))
+        (Wrote E.contents told.old told.new) }
+{
+    let (printed, received) = print_body(alloc, method, input, output);
+    let status = output.end(printed);
+    let _ = explain(alloc, method, &received, told);
+    status
 }

@@ -13,6 +13,7 @@ returns-in-Ok-clause-decided c bytes fed len =
       decided = s.decided;
       method = s.method;
       exact = c.in-Ok.ensures.exact;
+      ended = s.ended;
       len = sym len;
     }
 

@@ -1,15 +1,13 @@
-use Rattle.mx_run_body.proofs.Printed.{answers_received, received_fits, received_front}
+use Rattle.mx_run_body.proofs.Printed.{answers, all_fit, all_in_front}
 use Rattle.mx_run_body.proofs.run.print_body.Goals as goal
 
-pub print_verdict-requires-clause-fits : goal.print_verdict-requires-clause-fits
-print_verdict-requires-clause-fits g c =
-    rw (c.wire.ensures, c.verdict.ensures) (received_fits _ _ _ _ c.in-Ok.ensures.received c.parts_are_content.ensures)
+pub print_received-printed-requires-clause-fits : goal.print_received-printed-requires-clause-fits
+print_received-printed-requires-clause-fits g c = all_fit _ _ _ _ c.receive-received.ensures.received c.parts_are_content.ensures
 
-pub print_verdict-requires-clause-front : goal.print_verdict-requires-clause-front
-print_verdict-requires-clause-front g c =
-    rw (c.wire.ensures) (received_front _ _ _ _ c.in-Ok.ensures.received)
+pub print_received-printed-requires-clause-front : goal.print_received-printed-requires-clause-front
+print_received-printed-requires-clause-front g c = all_in_front _ _ _ _ c.receive-received.ensures.received
 
 pub returns-clause-answered : goal.returns-clause-answered
 returns-clause-answered g c alive =
-    answers_received _ _ _ _ _ _ _ c.in-Ok.ensures.received c.parts_are_content.ensures
-    (rw (← c.wire.ensures, ← c.verdict.ensures) c.print_verdict.ensures.written) (rw (← c.verdict.ensures) c.print_verdict.ensures.status)
+    answers _ _ _ _ _ _ _ c.receive-received.ensures.received c.parts_are_content.ensures c.receive-received.ensures.memory (λ e. alive (c.receive-received.ensures.failed.0 e))
+    c.print_received-printed.ensures.short c.print_received-printed.ensures.printed
