@@ -1,6 +1,7 @@
 //! What a command line asks for.
 use crate::task::Task;
 use mx_run_io::Options;
+use mx_types::Method;
 
 /// What `get` is asked for.
 #[derive(Drop)]
@@ -9,6 +10,8 @@ pub struct Get<'a> {
     pub options: Options,
     /// The URLs, as they were written. There may be too many.
     pub urls: Vec<&'a str>,
+    /// What failed is told on standard error.
+    pub explain: bool,
 }
 
 /// What a command line asks for.
@@ -16,6 +19,8 @@ pub struct Get<'a> {
 pub enum Asked<'a> {
     /// A task over standard input.
     Task(Task),
+    /// To decode the response that is read, as the answer to that method, and to tell on standard error why it isn't whole.
+    Explain(Method),
     /// To fetch.
     Get(Get<'a>),
 }

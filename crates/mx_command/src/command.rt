@@ -7,104 +7,132 @@ use crate::asked::{Asked, Get};
 use crate::help;
 use crate::task::Task;
 use clap::error::ErrorKind;
-use clap::{Arg, ArgAction, ArgMatches, Command, Error, value_parser};
+use clap::{Arg, ArgAction, ArgMatches, Command, Error};
+use mx_options::{METHODS, OptionRow, Takes, with_options};
 use mx_run_io::Options;
 use mx_types::{LEAST_HISTORY, MOST_HISTORY, Method};
 use std::alloc::{AllocError, Global};
 
-static METHODS: [&str; 6] = ["GET", "HEAD", "POST", "PUT", "DELETE", "OPTIONS"];
+static GET: [OptionRow; 6] = [
+    OptionRow {
+        name: "workers",
+        takes: Takes::Number(1, 16),
+        default: Some("2"),
+        help: "Threads that fetch: 1 to 16",
+    },
+    OptionRow {
+        name: "at-once",
+        takes: Takes::Number(1, 256),
+        default: Some("256"),
+        help: "Transfers at a time: 1 to 256",
+    },
+    OptionRow {
+        name: "timeout-ms",
+        takes: Takes::Number(0, u32::MAX),
+        default: Some("0"),
+        help: "Milliseconds a transfer may take; 0: any",
+    },
+    OptionRow {
+        name: "max-connects",
+        takes: Takes::Number(0, 64),
+        default: Some("4"),
+        help: "Idle connections of a worker: 0 to 64",
+    },
+    OptionRow {
+        name: "max-redirects",
+        takes: Takes::Number(0, 255),
+        default: Some("0"),
+        help: "Redirects that are followed: 0 to 255",
+    },
+    OptionRow {
+        name: "explain",
+        takes: Takes::Nothing,
+        default: None,
+        help: "Tell on standard error what failed, and why",
+    },
+];
+
+static BODY: [OptionRow; 1] = [OptionRow {
+    name: "explain",
+    takes: Takes::Nothing,
+    default: None,
+    help: "Tell on standard error what is wrong, and where",
+}];
+
+static PLAY: [OptionRow; 2] = [
+    OptionRow {
+        name: "history",
+        takes: Takes::Number(LEAST_HISTORY, MOST_HISTORY),
+        default: Some("1024"),
+        help: "Events that there is room for: 4 to 1048576",
+    },
+    OptionRow {
+        name: "first-ticket",
+        takes: Takes::Number(0, u32::MAX),
+        default: Some("0"),
+        help: "The ticket of the first addition",
+    },
+];
 
 fn body_command<'a>(alloc: Global) -> Result<Command<'a>, AllocError> {
-    let method = Arg::new(alloc, "METHOD")
-        .required(true)
-        .value_parser(METHODS.as_slice())
-        .help("The method of the request that is answered");
-    Command::new(alloc, "body")
+    let command = Command::new(alloc, "body")
         .about(help::BODY)
         .long_about(help::LONG_BODY)
-        .after_help(help::MORE_BODY)
-        .arg(method)
+        .after_help(help::MORE_BODY);
+    with_options(alloc, command, &BODY)?.arg(
+        Arg::new(alloc, "METHOD")
+            .required(true)
+            .value_parser(METHODS.as_slice())
+            .hide_possible_values(true)
+            .help("The request's method: GET, HEAD, POST, PUT, DELETE or OPTIONS"),
+    )
 }
 
 fn play_command<'a>(alloc: Global) -> Result<Command<'a>, AllocError> {
-    let history = Arg::new(alloc, "history")
-        .long("history")
-        .value_name("N")
-        .value_parser(value_parser!(u32).range(i64::from(LEAST_HISTORY)..=i64::from(MOST_HISTORY)))
-        .default_value("1024")
-        .help("How many events the journal has room for: 4 to 1048576");
-    let first_ticket = Arg::new(alloc, "first-ticket")
-        .long("first-ticket")
-        .value_name("N")
-        .value_parser(value_parser!(u32))
-        .default_value("0")
-        .help("The ticket of the first addition: 0 to 4294967295; with the last no ticket is left");
-    Command::new(alloc, "play")
+    let command = Command::new(alloc, "play")
         .about(help::PLAY)
         .long_about(help::LONG_PLAY)
-        .after_help(help::MORE_PLAY)
-        .arg(history)?
-        .arg(first_ticket)
+        .after_help(help::MORE_PLAY);
+    with_options(alloc, command, &PLAY)
 }
 
 fn get_command<'a>(alloc: Global) -> Result<Command<'a>, AllocError> {
-    let workers = Arg::new(alloc, "workers")
-        .long("workers")
-        .value_name("N")
-        .value_parser(value_parser!(u8).range(1..=16))
-        .default_value("2")
-        .help("How many workers fetch, each on a thread of its own: 1 to 16");
-    let at_once = Arg::new(alloc, "at-once")
-        .long("at-once")
-        .value_name("N")
-        .value_parser(value_parser!(u16).range(1..=256))
-        .default_value("256")
-        .help("How many transfers are added at a time: 1 to 256; with one worker it is always 1");
-    let timeout = Arg::new(alloc, "timeout-ms")
-        .long("timeout-ms")
-        .value_name("N")
-        .value_parser(value_parser!(u32))
-        .default_value("0")
-        .help("The longest that a transfer may take, in milliseconds; 0 for no limit");
-    let max_connects = Arg::new(alloc, "max-connects")
-        .long("max-connects")
-        .value_name("N")
-        .value_parser(value_parser!(u8).range(0..=64))
-        .default_value("4")
-        .help("How many idle connections each worker keeps: 0 to 64");
-    let max_redirects = Arg::new(alloc, "max-redirects")
-        .long("max-redirects")
-        .value_name("N")
-        .value_parser(value_parser!(u8))
-        .default_value("0")
-        .help("How many redirects a transfer may follow: 0 to 255; with 0 none is followed");
-    let urls = Arg::new(alloc, "URL")
-        .required(true)
-        .num_args(1..)
-        .action(ArgAction::Append)
-        .help("What is fetched, by GET: 1 to 256 URLs of scheme http");
-    Command::new(alloc, "get")
+    let command = Command::new(alloc, "get")
         .about(help::GET)
         .long_about(help::LONG_GET)
-        .after_help(help::MORE_GET)
-        .arg(workers)?
-        .arg(at_once)?
-        .arg(timeout)?
-        .arg(max_connects)?
-        .arg(max_redirects)?
-        .arg(urls)
+        .after_help(help::MORE_GET);
+    with_options(alloc, command, &GET)?.arg(
+        Arg::new(alloc, "URL")
+            .required(true)
+            .num_args(1..)
+            .action(ArgAction::Append)
+            .help("What is fetched, by GET: 1 to 256 URLs of scheme http"),
+    )
+}
+
+// The command with one below it, where that could be made.
+fn with_command<'a>(
+    command: Command<'a>,
+    below: Result<Command<'a>, AllocError>,
+) -> Result<Command<'a>, AllocError> {
+    match below {
+        Ok(below) => command.subcommand(below),
+        Err(error) => {
+            drop(command);
+            Err(error)
+        }
+    }
 }
 
 fn mxfetch_command<'a>(alloc: Global) -> Result<Command<'a>, AllocError> {
-    Command::new(alloc, "mxfetch")
+    let command = Command::new(alloc, "mxfetch")
         .version("0.1.0")
         .about(help::MXFETCH)
         .after_help(help::MORE)
-        .subcommand_required(true)
-        .disable_help_subcommand(true)
-        .subcommand(get_command(alloc)?)?
-        .subcommand(body_command(alloc)?)?
-        .subcommand(play_command(alloc)?)
+        .subcommand_required(true);
+    let command = with_command(command, get_command(alloc))?;
+    let command = with_command(command, body_command(alloc))?;
+    with_command(command, play_command(alloc))
 }
 
 /// The task that the matches name, if they name one. The history's range is tested here too, since clap's contract
@@ -152,7 +180,19 @@ fn get_of<'a>(alloc: Global, get: &ArgMatches<'a>) -> Result<Option<Get<'a>>, Al
     for url in given {
         urls.push(*url)?;
     }
-    Ok(Some(Get { options, urls }))
+    Ok(Some(Get {
+        options,
+        urls,
+        explain: get.get_flag("explain"),
+    }))
+}
+
+/// Whether `body` is to explain.
+fn is_explained(matches: &ArgMatches<'_>) -> bool {
+    match matches.subcommand_matches("body") {
+        Some(body) => body.get_flag("explain"),
+        None => false,
+    }
 }
 
 /// What the matches ask for, if they name a command.
@@ -166,9 +206,30 @@ fn asked_of<'a>(alloc: Global, matches: &ArgMatches<'a>) -> Result<Option<Asked<
         });
     }
     Ok(match task_of(matches) {
+        Some(Task::Body(method)) if is_explained(matches) => Some(Asked::Explain(method)),
         Some(task) => Some(Asked::Task(task)),
         None => None,
     })
+}
+
+// Reads the words at a command, which stays there.
+fn read_at<'a>(
+    alloc: Global,
+    command: &mut Command<'a>,
+    words: &'a [String],
+) -> Result<Asked<'a>, Error>
+    ensures { IfOk result IsAsked }
+{
+    if words.len() < 2 {
+        return Err(command.error(ErrorKind::MissingSubcommand, help::NO_COMMAND)?);
+    }
+    let matches = command.try_get_matches_from_mut(words)?;
+    let asked = asked_of(alloc, &matches);
+    drop(matches);
+    match asked? {
+        Some(asked) => Ok(asked),
+        None => Err(command.error(ErrorKind::MissingSubcommand, help::NO_COMMAND)?),
+    }
 }
 
 /// Reads a command line, of which the first word is the program's name. An error is help that was asked for,
@@ -177,12 +238,7 @@ pub fn read_command<'a>(alloc: Global, words: &'a [String]) -> Result<Asked<'a>,
     ensures { IfOk result IsAsked }
 {
     let mut command = mxfetch_command(alloc)?;
-    if words.len() < 2 {
-        return Err(command.error(ErrorKind::MissingSubcommand, help::NO_COMMAND)?);
-    }
-    let matches = command.try_get_matches_from_mut(words)?;
-    match asked_of(alloc, &matches)? {
-        Some(asked) => Ok(asked),
-        None => Err(command.error(ErrorKind::MissingSubcommand, help::NO_COMMAND)?),
-    }
+    let read = read_at(alloc, &mut command, words);
+    drop(command);
+    read
 }

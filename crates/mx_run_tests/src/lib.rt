@@ -4,7 +4,11 @@
 #[cfg(test)]
 mod body;
 #[cfg(test)]
+mod explained;
+#[cfg(test)]
 mod fakes;
+#[cfg(test)]
+mod hints;
 #[cfg(test)]
 mod long;
 #[cfg(test)]

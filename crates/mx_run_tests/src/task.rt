@@ -12,8 +12,12 @@ use std::alloc::{AllocError, Global};
 #[derive(Clone, Copy, PartialEq, Eq)]
 enum Answer {
     Task(Task),
+    /// To decode and explain.
+    Explain(Method),
     /// How URLs are to be fetched, and whether they are those that are meant.
     Get(Options, bool),
+    /// The same, to be explained.
+    GetExplained(Options, bool),
     /// Help that was asked for.
     Help,
     Refused,
@@ -47,6 +51,10 @@ fn text_of(is_error: bool) -> Answer {
 fn answer_to(alloc: Global, words: &[String], urls: &[&str]) -> Answer {
     match read_command(alloc, words) {
         Ok(Asked::Task(task)) => Answer::Task(task),
+        Ok(Asked::Explain(method)) => Answer::Explain(method),
+        Ok(Asked::Get(get)) if get.explain => {
+            Answer::GetExplained(get.options, are_urls(&get.urls, urls))
+        }
         Ok(Asked::Get(get)) => Answer::Get(get.options, are_urls(&get.urls, urls)),
         Err(error) => text_of(error.use_stderr()),
     }
@@ -259,6 +267,38 @@ fn options_of_get(rt: HostRuntime) {
     none_is_wrong(&rt, first_wrong(rt.alloc(), &GETS));
 }
 
+static EXPLAINED: [Row<'static>; 3] = [
+    (
+        &["body", "--explain", "GET"],
+        &[],
+        Answer::Explain(Method::Get),
+    ),
+    (
+        &["body", "HEAD", "--explain"],
+        &[],
+        Answer::Explain(Method::Head),
+    ),
+    (
+        &["get", "--explain", "http://a/"],
+        &["http://a/"],
+        Answer::GetExplained(
+            Options {
+                workers: 2,
+                at_once: 256,
+                timeout_ms: 0,
+                max_connects: 4,
+                max_redirects: 0,
+            },
+            true,
+        ),
+    ),
+];
+
+#[test]
+fn what_is_to_be_explained(rt: HostRuntime) {
+    none_is_wrong(&rt, first_wrong(rt.alloc(), &EXPLAINED));
+}
+
 static REFUSED: [Row<'static>; 27] = [
     (&[], &[], Answer::Refused),
     (&["body"], &[], Answer::Refused),
@@ -354,8 +394,10 @@ fn refused_command_lines(rt: HostRuntime) {
     none_is_wrong(&rt, first_wrong(rt.alloc(), &REFUSED));
 }
 
-static HELP: [Row<'static>; 5] = [
+static HELP: [Row<'static>; 7] = [
     (&["--help"], &[], Answer::Help),
+    (&["help"], &[], Answer::Help),
+    (&["help", "get"], &[], Answer::Help),
     (&["--version"], &[], Answer::Help),
     (&["body", "--help"], &[], Answer::Help),
     (&["play", "--help"], &[], Answer::Help),
