@@ -1,0 +1,130 @@
+#!/usr/bin/env bash
+# Holds the manual page man/mxfetch.1 against the help: the page is made of the texts and the options that the sources have, and has to be
+# that, byte for byte. Prints the lines that differ, and ends with 1 where there are any, else with 0. Takes no second. It wants python3.
+#
+# Use: checks/man.sh                     compares
+#      checks/man.sh --write             writes the page anew
+set -eu
+[ "${1-}" != -h ] && [ "${1-}" != --help ] || { sed -n '2,/^set/s/^# \{0,1\}//p' "$0"; exit 0; }
+TOP=$(dirname "$(readlink -f "$0")")/.. WRITE=${1-} exec python3 - <<'PYTHON'
+import difflib, os, re, sys, textwrap
+
+top = os.path.realpath(os.environ["TOP"])
+page = f"{top}/man/mxfetch.1"
+
+
+def source(path):
+    with open(f"{top}/crates/{path}", encoding="utf-8") as it:
+        return it.read()
+
+
+def unquoted(text):
+    return re.sub(r"\\(.)", lambda it: {"n": "\n"}.get(it.group(1), it.group(1)), text)
+
+
+TEXT = r'"((?:[^"\\]|\\.)*)"'
+
+
+def texts(path):
+    return {name: unquoted(text) for name, text in re.findall(r"pub const (\w+): &str =\s*" + TEXT, source(path))}
+
+
+# The rows of a table of options: name, what it takes, default, help.
+def options(path, table):
+    rows = re.search(rf"static {table}: \[OptionRow; \d+\] = \[(.*?)\n?\];", source(path), re.S).group(1)
+    front = r'name: "([^"]*)",\s*takes: Takes::(\w+)(?:\(([^)]*)\))?,\s*'
+    return re.findall(front + r'default: (None|Some\("[^"]*"\)),\s*help: ' + TEXT, rows)
+
+
+# The arguments that stand in no table: id, what is called on it.
+def others(path, command):
+    body = re.search(rf"fn {command}<.*?\n}}\n", source(path), re.S).group(0)
+    found = []
+    for part in body.split("Arg::new(alloc, ")[1:]:
+        name, text = re.match(TEXT, part), re.search(r"\.help\(" + TEXT, part)
+        short, value = re.search(r"\.short\('(.)'\)", part), re.search(r"\.value_name\(" + TEXT, part)
+        found.append((name.group(1), short and short.group(1), value and value.group(1), text.group(1)))
+    return found
+
+
+def escaped(line):
+    line = line.replace("\\", r"\e").replace("-", r"\-")
+    return r"\&" + line if line[:1] in (".", "'") else line
+
+
+lines = []
+
+
+# A text: what is indented, and what comes behind it without an empty line, stands as it is.
+def add(text):
+    for block in text.split("\n\n"):
+        rows = block.split("\n")
+        if any(row.startswith(" ") for row in rows):
+            lead = [row for row in rows if not row.startswith(" ")]
+            lines.append(".PP")
+            if lead:
+                lines.extend(escaped(row) for row in lead)
+                rows = rows[len(lead):]
+            rows = textwrap.dedent("\n".join(rows)).split("\n")
+            lines.extend([".in 2n", ".nf"] + [escaped(row) for row in rows] + [".fi", ".in"])
+        else:
+            lines.append(".PP")
+            lines.extend(escaped(row) for row in rows)
+
+
+def add_option(name, takes, argument, default, text):
+    value = {"Nothing": "", "NothingBeside": "", "Number": "N", "Method": "M"}.get(takes, (argument or "").strip('"'))
+    shown = rf"\fB\-\-{escaped(name)}\fR" + (rf" \fI{escaped(value)}\fR" if value else "")
+    text = unquoted(text) + (f" [default: {default[6:-2]}]" if default != "None" else "")
+    lines.extend([".TP", shown, escaped(text)])
+
+
+def add_other(name, short, value, text):
+    shown = rf"\fB\-{short}\fR \fI{escaped(value)}\fR" if short else rf"\fI{escaped(name)}\fR"
+    lines.extend([".TP", shown, escaped(unquoted(text))])
+
+
+main, command = texts("mx_command/src/help.rt"), "mx_command/src/command.rt"
+version = re.search(r'\.version\("([^"]*)"\)', source(command)).group(1)
+commands = [
+    ("get", main, "GET", options(command, "GET"), others(command, "get_command"), r"[\fIOPTIONS\fR] \fIURL\fR..."),
+    ("body", main, "BODY", options(command, "BODY"), others(command, "body_command"), r"[\fIOPTIONS\fR] \fIMETHOD\fR"),
+    ("play", main, "PLAY", options(command, "PLAY"), others(command, "play_command"), r"[\fIOPTIONS\fR]"),
+]
+if "save_command(" in source(command):
+    saving, save = texts("mx_save_command/src/help.rt"), "mx_save_command/src/options.rt"
+    arguments = [it for part in ("header", "urls") for it in others(save, part)]
+    commands.append(("save", saving, "SAVE", options(save, "OPTIONS"), arguments, r"[\fIOPTIONS\fR] [\fIURL\fR...]"))
+
+lines.append(rf'.\" Made of the texts of the help by checks/man.sh --write.')
+lines.append(f'.TH MXFETCH 1 "" "mxfetch {version}" "User Commands"')
+lines.extend([".SH NAME", r"mxfetch \- fetch URLs over plain HTTP/1.1, decode responses, play scripts of calls", ".SH SYNOPSIS"])
+for name, _, _, _, _, rest in commands:
+    lines.extend([rf"\fBmxfetch {name}\fR {rest}", ".br"])
+lines.append(r"\fBmxfetch help\fR [\fICOMMAND\fR]")
+lines.append(".SH DESCRIPTION")
+add(main["MXFETCH"] + ".")
+for name, words, key, rows, arguments, _ in commands:
+    lines.append(f".SH {name.upper()}")
+    add(words[f"LONG_{key}"])
+    for row in arguments:
+        add_other(*row)
+    for row in rows:
+        add_option(*row)
+    add(words[f"MORE_{key}"])
+lines.extend([".SH SEE ALSO", r"\fBcurl\fR(1), \fBlibcurl\-errors\fR(3); RFC 9110, RFC 9112"])
+text = "\n".join(lines) + "\n"
+
+if os.environ["WRITE"] == "--write":
+    with open(page, "w", encoding="utf-8") as it:
+        it.write(text)
+    sys.exit(0)
+try:
+    with open(page, encoding="utf-8") as it:
+        there = it.read()
+except FileNotFoundError:
+    sys.exit("man: no man/mxfetch.1 here; checks/man.sh --write makes it")
+if there != text:
+    sys.stdout.writelines(difflib.unified_diff(there.splitlines(True), text.splitlines(True), "man/mxfetch.1", "the sources", n=0))
+    sys.exit(1)
+PYTHON
