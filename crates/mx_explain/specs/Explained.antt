@@ -1,0 +1,28 @@
+-- What `get --explain` tells of what URLs ended with.
+use Rattle.std.specs.Prelude.{◌≡◌, ℕ, true, false, List, [], ◌∷◌, ◌++◌, Option, None}
+use Rattle.mx_reason.specs.declared.reason.Reason.{Reason}
+use Rattle.mx_chain.specs.Hops.{is_ok}
+use Rattle.mx_run_get.specs.declared.fetched.Fetched.{Fetched}
+use Rattle.mx_run_get.specs.declared.fetched.Fetched.TheVariants.{Refused, Ended, Failed}
+use Rattle.mx_run_get.specs.Fetched.{code_of}
+use Rattle.mx_run_get.specs.Failures.{IsWhy}
+use Rattle.mx_words.specs.Lines.{IsFailureText}
+
+-- why a URL ended so, as far as the bytes that came tell: of a transfer that failed what its failure has
+abbrev pub IsWhyOf : Fetched → Option Reason → Type 0
+IsWhyOf (Refused c) reason = reason ≡ None
+IsWhyOf (Ended outcome) reason = reason ≡ None
+IsWhyOf (Failed outcome) reason = IsWhy outcome reason
+
+-- nothing with code 0; else the line of its code and of why it failed, and a hint where one is due
+pub record IsEndText (url : List ℕ) (fetched : Fetched) (text : List ℕ) : Type 0 where
+  pub well : is_ok (code_of fetched) ≡ true → text ≡ []
+  pub failed : is_ok (code_of fetched) ≡ false
+      → (reason : Option Reason) × IsWhyOf fetched reason × IsFailureText url (code_of fetched) reason text
+
+-- so of each URL, in their order
+abbrev pub AreEndTexts : List (List ℕ) → List Fetched → List ℕ → Type 0
+AreEndTexts [] ends text = text ≡ []
+AreEndTexts (url ∷ urls) [] text = text ≡ []
+AreEndTexts (url ∷ urls) (end ∷ ends) text =
+    (first : List ℕ) × (rest : List ℕ) × IsEndText url end first × AreEndTexts urls ends rest × (text ≡ first ++ rest)

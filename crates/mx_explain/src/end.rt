@@ -1,0 +1,74 @@
+//! What is told of what a URL ended with.
+ghost use Rattle.std.specs.Prelude.{◌≡◌, ◌<◌, true, IsErr, OnOk, Some, length, map, option_map, slice_get};
+ghost use Rattle.mx_run_io.specs.Ends.{has_failed_write, Wrote};
+ghost use Rattle.mx_chain.specs.Hops.{is_ok};
+ghost use Rattle.mx_run_get.specs.Fetched.{code_of};
+ghost use Rattle.mx_words.specs.Lines.{Writes};
+ghost use Rattle.mx_explain.specs.Explained.{IsWhyOf, IsEndText, AreEndTexts};
+
+use mx_run_get::Fetched;
+use mx_run_io::{Output, WriteFailed};
+use mx_types::Code;
+use mx_words::{Told, print_failure};
+use std::io::Write;
+
+/// What is told of what a URL ended with: its code, and why it failed, as far as the bytes that came tell.
+pub fn told_of(fetched: &Fetched) -> Told
+    ensures code { result.code ≡ code_of fetched.now }
+    ensures reason { IsWhyOf fetched.now result.reason }
+{
+    match fetched {
+        Fetched::Refused(code) => Told::by_code(*code),
+        Fetched::Ended(outcome) => Told::by_code(outcome.code()),
+        Fetched::Failed(failure) => Told {
+            code: failure.code(),
+            reason: failure.reason(),
+        },
+    }
+}
+
+fn is_ok(code: Code) -> bool
+    ensures { result ≡ is_ok code }
+{
+    matches!(code, Code::Ok)
+}
+
+/// Prints what is told of a URL that ended so: nothing with code 0, else a line, and behind it the line of a hint where there is one.
+pub fn print_end<W: Write>(
+    output: &mut Output<W>,
+    url: &[u8],
+    fetched: &Fetched,
+) -> Result<(), WriteFailed>
+    ensures bytes { OnOk result (Writes (IsEndText url.now fetched.now) (Wrote W.contents output.old output.new)) }
+    ensures failed { IsErr result → has_failed_write output.new ≡ true }
+{
+    let told = told_of(fetched);
+    if is_ok(told.code) {
+        return Ok(());
+    }
+    print_failure(output, url, told)
+}
+
+// The bytes of a URL.
+fn url_at<'a>(urls: &[&'a str], i: usize) -> &'a [u8]
+    requires { i < length urls.now }
+    ensures { option_map (λ u. u.now) (slice_get urls.now i) ≡ Some result.now }
+{
+    urls[i].as_bytes()
+}
+
+/// Prints what is told of URLs that ended so, in their order.
+pub(crate) fn print_ends<W: Write>(
+    output: &mut Output<W>,
+    urls: &[&str],
+    ends: &[Fetched],
+) -> Result<(), WriteFailed>
+    requires { length urls.now ≡ length ends.now }
+    ensures bytes { OnOk result (Writes (AreEndTexts (map (λ u. u.now) urls.now) ends.now) (Wrote W.contents output.old output.new)) }
+    ensures failed { IsErr result → has_failed_write output.new ≡ true }
+{
+    for (i, end) in ends.iter().enumerate() {
+        print_end(output, url_at(urls, i), end)?;
+    }
+    Ok(())
+}

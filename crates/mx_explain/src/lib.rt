@@ -1,0 +1,8 @@
+//! `mxfetch get --explain`: what `get` does and prints, and what failed, told beside it in words.
+#![tactic(auto)]
+
+mod end;
+mod run;
+
+pub use crate::end::{print_end, told_of};
+pub use crate::run::run_get_explained;

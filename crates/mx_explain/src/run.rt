@@ -1,0 +1,97 @@
+//! The command `get`, explained.
+ghost use Rattle.std.specs.Prelude.{◌≡◌, ◌≢◌, true, length, map, IfErr};
+ghost use Rattle.mx_types.specs.Code.{code_number};
+ghost use Rattle.mx_types.specs.declared.code.Code.TheVariants as codes;
+ghost use Rattle.mx_run_io.specs.Faults.{PrintsFault};
+ghost use Rattle.mx_run_io.specs.Options.{are_within};
+ghost use Rattle.mx_run_io.specs.Ends.{has_failed_write, Wrote, EndsRun};
+ghost use Rattle.mx_run_get.specs.Texts.{texts_from, exit_status};
+ghost use Rattle.mx_get.specs.Run.{AnswersUrls};
+ghost use Rattle.mx_words.specs.Lines.{Writes, body_line};
+ghost use Rattle.mx_explain.specs.Explained.{AreEndTexts};
+ghost use Rattle.mx_explain.specs.Causes.{cause_words};
+ghost use Rattle.mx_explain.specs.Run.{ExplainsUrls};
+
+use crate::end::print_ends;
+use mx_get::{FetchError, Runtime, fetch_all};
+use mx_run_get::{Fetched, print_get};
+use mx_run_io::{Options, Output, end_with};
+use mx_types::Code;
+use mx_words::print_cause;
+use std::io::Write;
+use std::net::{Net, TcpListener, TcpStream};
+
+/// Why a run has no ends, in words.
+fn cause_words(cause: FetchError) -> &'static str
+    ensures { result.now ≡ cause_words cause }
+{
+    match cause {
+        FetchError::TooManyUrls => "there are more than 256 URLs",
+        FetchError::OutOfMemory => "not enough memory",
+        FetchError::NoClock => "the system's clock can't be read",
+        FetchError::NoPoll => "the system gives no poll of sockets, or has too many open files",
+        FetchError::NoThread => "a thread can't be started",
+        FetchError::NotAdded => "a transfer can't be added",
+        FetchError::NoMessage => "no message came of a transfer",
+        FetchError::Unwritten => "the output can't be written",
+    }
+}
+
+// Prints the ends, and tells of them.
+fn print_explained<W: Write, E: Write>(
+    urls: &[&str],
+    ends: &[Fetched],
+    output: &mut Output<W>,
+    told: &mut Output<E>,
+) -> u8
+    requires { length urls.now ≡ length ends.now }
+    ensures ends { EndsRun output.new result }
+    ensures printed { has_failed_write output.new ≢ true → Wrote W.contents output.old output.new (texts_from 0 ends.now) }
+    ensures status { has_failed_write output.new ≢ true → result ≡ exit_status ends.now }
+    ensures told { has_failed_write told.new ≢ true
+        → Writes (AreEndTexts (map (λ u. u.now) urls.now) ends.now) (Wrote E.contents told.old told.new) }
+{
+    let status = print_get(output, ends);
+    let _ = print_ends(told, urls, ends);
+    status
+}
+
+// Prints the want of memory, which stands for whatever a run lacked, and tells what that was.
+fn print_unfetched<W: Write, E: Write>(
+    cause: FetchError,
+    output: &mut Output<W>,
+    told: &mut Output<E>,
+) -> u8
+    ensures ends { EndsRun output.new result }
+    ensures printed { has_failed_write output.new ≢ true → PrintsFault (code_number codes.OutOfMemory)
+        (Wrote W.contents output.old output.new) result }
+    ensures told { has_failed_write told.new ≢ true → Wrote E.contents told.old told.new (body_line (cause_words cause) 27) }
+{
+    let printed = end_with(output, Code::OutOfMemory);
+    let status = output.end(printed);
+    let _ = print_cause(told, cause_words(cause), 27);
+    status
+}
+
+/// Does what `run_get` does, and tells of each URL that failed, in their order, why: a line with the words of its code; of a response that
+/// is refused the byte of it, counted from 1, and what stands wrong there; of one that was cut how much of it came; and behind it a hint
+/// where there is one. Where `FAULT 27` is printed, it is told what the run lacked. What is told is put into an output of its own, once the
+/// other is flushed; whether it could be is no matter of the exit status. It may wait.
+pub fn run_get_explained<
+    R: Runtime + Net<Listener = TcpListener, Stream = TcpStream>,
+    W: Write,
+    E: Write,
+>(rt: &R, urls: &[&str], options: Options, output: &mut Output<W>, told: &mut Output<E>) -> u8
+    requires { are_within options ≡ true }
+    ensures ends { EndsRun output.new result }
+    ensures answered { has_failed_write output.new ≢ true → AnswersUrls options.timeout_ms options.max_redirects (map (λ u. u.now) urls.now)
+        (Wrote W.contents output.old output.new) result }
+    ensures explained { has_failed_write output.new ≢ true → has_failed_write told.new ≢ true
+        → ExplainsUrls options.timeout_ms options.max_redirects (map (λ u. u.now) urls.now)
+        (Wrote W.contents output.old output.new) (Wrote E.contents told.old told.new) result }
+{
+    match fetch_all(rt, urls, options) {
+        Ok(ends) => print_explained(urls, ends.as_slice(), output, told),
+        Err(cause) => print_unfetched(cause, output, told),
+    }
+}
