@@ -10,17 +10,24 @@
 # curl_multi_add_handle with curl_multi_remove_handle, curl_multi_wakeup, curl_multi_info_read, curl_multi_get_handles where
 # the library has it (from 8.4.0 on), and for progress curl_easy_getinfo of CURLINFO_SIZE_DOWNLOAD_T. There is none for state.
 #
-#     bench/multi.sh [RUNS]       3 runs
+#     bench/multi.sh [RUNS]            3 runs
+#     bench/multi.sh --instructions    instructions a call in place of times, by callgrind, of one thread: these don't depend on
+#                                      what else the machine does
 #
 # It needs rt, and proves the crates below over the work kept in their out/; for libcurl a C compiler, `cc` (Debian: gcc),
-# and the library (Debian: libcurl4).
+# and the library (Debian: libcurl4); for instructions valgrind. Where PROGRAM names a program that was built of
+# bench/multi-program.txt, it takes that one, and builds none.
 set -euo pipefail
 runs=${1-3}
-[[ $runs =~ ^[1-9][0-9]?$ ]] || { echo "bench/multi.sh [RUNS]" >&2; exit 2; }
-command -v rt > /dev/null || { echo "there is no rt on the path: it is in the Rattle toolchain" >&2; exit 2; }
+[[ $runs =~ ^([1-9][0-9]?|--instructions)$ ]] || { echo "bench/multi.sh [RUNS | --instructions]" >&2; exit 2; }
+[ "$runs" != --instructions ] || command -v valgrind > /dev/null || { echo "bench/multi.sh: there is no valgrind" >&2; exit 2; }
 top=$(cd "$(dirname "$(readlink -f "$0")")/.." && pwd)
 work=$(mktemp -d)
 trap 'rm -rf "$work"' EXIT
+
+# multi_program, built of the crates as they are
+build() {
+command -v rt > /dev/null || { echo "there is no rt on the path: it is in the Rattle toolchain" >&2; exit 2; }
 mkdir -p "$work/crates/multi_program/src" "$work/crates/multi_program/specs" "$work/crates/multi_program/proofs"
 cp "$top/HANDLES" "$work/"
 # mx_multi_tests_base and all crates below it, with what is built of them
@@ -84,6 +91,9 @@ use Rattle.multi_program.proofs.repeat_kept.Goals as goal
 pub join-meters-requires-send-F : goal.join-meters-requires-send-F
 join-meters-requires-send-F g c κs within = search (worker_field, worker_send, end_field, end_send, sendable) depth 40
 ANTT
+(cd "$work/crates/multi_program" && rt run -- nothing) > "$work/build.log" 2>&1 || { tail -20 "$work/build.log"; exit 1; }
+PROGRAM=$work/crates/multi_program/out/multi_program
+}
 
 cat > "$work/calls.c" <<'C'
 #define _GNU_SOURCE
@@ -230,11 +240,35 @@ least() {
     }'
 }
 
+[ -n "${PROGRAM:-}" ] || build
+
+# KIND OTHERS ROUNDS: the instructions of that row
+instructions() {
+  local found
+  found=$(valgrind --tool=callgrind --callgrind-out-file=/dev/null "$PROGRAM" "$@" 2>&1 > "$work/row" | awk '/Collected/ { print $4 }')
+  [ -n "$found" ] && [ "$(awk '{ print NF }' "$work/row")" = 7 ] || { echo "bench/multi.sh: no number came of: $*" >&2; exit 1; }
+  echo "$found"
+}
+
+if [ "$runs" = --instructions ]; then
+  rounds=2000
+  echo 'call       others instructions'
+  for kind in add+remove wakeup info_read handles state progress; do
+    for others in 1 64 255; do
+      few=$(instructions "$kind" "$others" "$rounds")
+      many=$(instructions "$kind" "$others" $((2 * rounds)))
+      calls=$rounds
+      [ "$kind" != add+remove ] || calls=$((2 * rounds))
+      printf '%-10s %6d %12d\n' "$kind" "$others" $(((many - few) / calls))
+    done
+  done
+  exit
+fi
+
 heading='call       threads others beside   wall_ns   cpu_ns writer_ns'
-(cd "$work/crates/multi_program" && rt run -- nothing) > "$work/build.log" 2>&1 || { tail -20 "$work/build.log"; exit 1; }
 echo "this multi handle, least of $runs runs, $(nproc) cores"
 echo "$heading"
-least "$work/crates/multi_program/out/multi_program"
+least "$PROGRAM"
 if cc -O2 -pthread -o "$work/calls" "$work/calls.c" -l:libcurl.so.4 2> /dev/null; then
   echo "under one mutex: $("$work/calls" version)"
   echo "$heading"
