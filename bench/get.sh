@@ -3,9 +3,12 @@
 # and 4 files of 16 MiB, counted and chunked. Wall time, processor time and page faults, the least of five runs that take turns, and the
 # system calls a transfer of one run more under strace. curl writes a file for each body, or none ("to null"); mxfetch writes one for all,
 # and has the huge pages that ./run asks the C library for, or in the row "small pages" hasn't. Then heads of 6,000 and 60,000 bytes that
-# come whole, or byte by byte, from a server of its own: processor time, and how often the program waited. Prints only.
+# come whole, or byte by byte, from a server of its own: processor time, and how often the program waited. Then the peak memory of 64
+# bodies, one after another, that each end after 8 of their 16 MiB. Prints only.
 #
-#     bench/get.sh [heads]        all of it, or the heads alone
+#     bench/get.sh [heads|failed]        all of it, or the heads or the bodies that end early alone
+#
+# PROGRAM names another program than this checkout's, and OLD one more, whose rows ("old") take turns with its.
 #
 # It needs nginx, curl, strace and python3, and installs nothing.
 set -eu
@@ -21,10 +24,10 @@ fi
 work=$(mktemp -d)
 chmod 755 "$work" # nginx's workers run as another user
 trap 'rm -rf "$work"' EXIT
-PROGRAM=$PROGRAM WORK=$work python3 - "$@" <<'P'
+PROGRAM=$PROGRAM OLD=${OLD:-} WORK=$work python3 - "$@" <<'P'
 import os, re, signal, socket, subprocess, sys, threading, time
 
-PROGRAM, WORK = os.environ["PROGRAM"], os.environ["WORK"]
+PROGRAM, OLD, WORK = os.environ["PROGRAM"], os.environ["OLD"], os.environ["WORK"]
 MIB = 1 << 20
 ROUNDS = 5
 HUGE_PAGES = "glibc.malloc.hugetlb=1"
@@ -66,8 +69,8 @@ http {{
             time.sleep(0.02)
     raise SystemExit("nginx doesn't answer")
 
-def get(workers, *options):
-    return lambda urls: [[PROGRAM, "get", "--workers", str(workers), *options] + urls[at:at + 256] for at in range(0, len(urls), 256)]
+def get(workers, *options, program=PROGRAM):
+    return lambda urls: [[program, "get", "--workers", str(workers), *options] + urls[at:at + 256] for at in range(0, len(urls), 256)]
 
 def curl(most, keeps=True):
     def words(urls):
@@ -78,7 +81,7 @@ def curl(most, keeps=True):
     return words
 
 def environment(program):
-    tunables = {"GLIBC_TUNABLES": HUGE_PAGES} if program.startswith("get") and "small pages" not in program else {}
+    tunables = {"GLIBC_TUNABLES": HUGE_PAGES} if "get" in program and "small pages" not in program else {}
     return {**os.environ, **tunables}
 
 def run(program, commands):
@@ -93,6 +96,23 @@ def run(program, commands):
         waits += usage.ru_nvcsw
         faults += usage.ru_minflt
     return time.monotonic() - begun, processor, waits, faults
+
+def peak_of(program, words):
+    """The most memory that a run has. What the system counts to its end is this process's memory too, from which it was made, so it is
+    looked at while it runs."""
+    child = subprocess.Popen(words, stdout=subprocess.DEVNULL, stderr=subprocess.DEVNULL, env=environment(program))
+    peak = 0
+    while child.poll() is None:
+        try:
+            with open(f"/proc/{child.pid}/status") as file:
+                found = re.search(r"VmHWM:\s+(\d+) kB", file.read())
+        except OSError:
+            break
+        peak = max(peak, int(found[1]) * 1024) if found else peak
+        time.sleep(0.002)
+    if child.wait() != 18:
+        raise SystemExit(f"{words[:4]}: status {child.returncode}")
+    return peak
 
 def calls(program, commands):
     total = {}
@@ -148,12 +168,12 @@ def answer_with_head(connection):
                 while time.perf_counter() < next_at:
                     pass
 
-def serve_heads():
+def serve_by(answer):
     listener = socket.create_server(("127.0.0.1", 0))
 
     def accept():
         while True:
-            threading.Thread(target=answer_with_head, args=(listener.accept()[0],), daemon=True).start()
+            threading.Thread(target=answer, args=(listener.accept()[0],), daemon=True).start()
 
     threading.Thread(target=accept, daemon=True).start()
     return "http://127.0.0.1:%d" % listener.getsockname()[1]
@@ -175,6 +195,8 @@ def show_files():
     try:
         programs = {"curl 64": curl(64), "curl 16": curl(16), "curl 16, to null": curl(16, False)}
         programs.update({f"get, {workers}": get(workers) for workers in (1, 2, 4, 16)})
+        if OLD:
+            programs.update({f"old get, {workers}": get(workers, program=OLD) for workers in (1, 2, 4, 16)})
         programs["get, 1, small pages"] = get(1)
         programs["get, 2, 16 at once"] = get(2, "--at-once", "16")
         show("small files", programs, [f"{base}/small{number}" for number in range(1000)])
@@ -184,7 +206,29 @@ def show_files():
         server.send_signal(signal.SIGTERM)
         server.wait()
 
-if sys.argv[1:] != ["heads"]:
+# --- bodies that end early ---
+
+def answer_in_part(connection):
+    with connection:
+        if connection.recv(65536):
+            try:
+                connection.sendall(b"HTTP/1.1 200 OK\r\nContent-Length: %d\r\n\r\n" % (16 * MIB) + bytes(8 * MIB))
+            except OSError:
+                pass  # the program has ended
+
+def show_failed():
+    base = serve_by(answer_in_part)
+    urls = [f"{base}/{number}" for number in range(64)]
+    for name, program in {"get": PROGRAM, "old get": OLD}.items():
+        if program:
+            for pages in ("", ", small pages"):
+                peak = peak_of(name + pages, get(1, program=program)(urls)[0])
+                print(f"64 URLs one after another, each cut after 8 of 16 MiB, {name}{pages}: {peak / MIB:.1f} MiB at most", flush=True)
+
+if sys.argv[1:] not in (["heads"], ["failed"]):
     show_files()
-show_heads(serve_heads())
+if sys.argv[1:] != ["failed"]:
+    show_heads(serve_by(answer_with_head))
+if sys.argv[1:] != ["heads"]:
+    show_failed()
 P
