@@ -10,11 +10,14 @@ ghost use Rattle.mx_command.specs.Asked.{IsTask};
 use clap::Error;
 use clap::error::ErrorKind;
 use mx_command::{Asked, Get, Task, read_command};
+use mx_explain::run_get_explained;
 use mx_get::{MOST_URLS, Runtime, run_get};
+use mx_hint::hint_of;
+use mx_run_body::{MOST_READS, run_body_explained};
 use mx_run_io::{Input, Output, UNWRITTEN, end_with};
 use mx_run_task::{most_reads, run_task};
-use mx_types::Code;
-use std::io::BufWriter;
+use mx_types::{Code, Method};
+use std::io::{BufWriter, Write};
 use std::net::{Net, TcpListener, TcpStream};
 use std::process::ExitCode;
 use std::{env, io};
@@ -53,6 +56,13 @@ fn explain(rt: &(impl Print + Eprint), error: &Error) -> u8
     }
 }
 
+/// Says behind clap's words what was meant, or what is wanted, where that is known.
+fn hint(rt: &(impl Eprint + AllocGlobal), words: &[String], error: &Error) {
+    if let Ok(Some(hint)) = hint_of(rt.alloc(), words, error.kind()) {
+        let _ = eprintln!(rt; "  hint: {hint}");
+    }
+}
+
 /// Runs a task from standard input to standard output.
 fn run<R: io::Input + Print + AllocGlobal>(rt: &R, task: Task) -> u8
     requires { IsTask task }
@@ -64,11 +74,30 @@ fn run<R: io::Input + Print + AllocGlobal>(rt: &R, task: Task) -> u8
     }
 }
 
-/// Fetches what `get` is asked for. More URLs than it takes are refused.
-fn fetch<R: Runtime + Net<Listener = TcpListener, Stream = TcpStream> + Print + Eprint>(
+/// Decodes a response from standard input to standard output, and tells on standard error why it isn't whole.
+fn run_explained<R: io::Input + Print + AllocGlobal, E: Write + Drop>(
     rt: &R,
-    get: Get<'_>,
-) -> u8
+    method: Method,
+    stderr: E,
+) -> u8 {
+    let mut input = Input::new(rt.reader(), MOST_READS);
+    match BufWriter::with_capacity(rt.alloc(), 65_536, io::writer(rt)) {
+        Ok(writer) => run_body_explained(
+            rt.alloc(),
+            method,
+            &mut input,
+            &mut Output::new(writer),
+            &mut Output::new(stderr),
+        ),
+        Err(_) => out_of_memory(rt),
+    }
+}
+
+/// Fetches what `get` is asked for. More URLs than it takes are refused.
+fn fetch<
+    R: Runtime + Net<Listener = TcpListener, Stream = TcpStream> + Print + Eprint,
+    E: Write + Drop,
+>(rt: &R, get: Get<'_>, stderr: E) -> u8
     requires { are_within get.options ≡ true }
     ensures many { MOST_URLS < length get.entry.urls.items → result ≡ REFUSED }
 {
@@ -77,6 +106,13 @@ fn fetch<R: Runtime + Net<Listener = TcpListener, Stream = TcpStream> + Print + 
         return REFUSED;
     }
     match BufWriter::with_capacity(rt.alloc(), 65_536, io::writer(rt)) {
+        Ok(writer) if get.explain => run_get_explained(
+            rt,
+            get.urls.as_slice(),
+            get.options,
+            &mut Output::new(writer),
+            &mut Output::new(stderr),
+        ),
         Ok(writer) => run_get(
             rt,
             get.urls.as_slice(),
@@ -109,7 +145,12 @@ fn main(rt: HostRuntime) -> ExitCode {
     };
     ExitCode::from(match read_command(rt.alloc(), words.as_slice()) {
         Ok(Asked::Task(task)) => run(&rt, task),
-        Ok(Asked::Get(get)) => fetch(&rt, get),
-        Err(error) => explain(&rt, &error),
+        Ok(Asked::Explain(method)) => run_explained(&rt, method, rt.stderr()),
+        Ok(Asked::Get(get)) => fetch(&rt, get, rt.stderr()),
+        Err(error) => {
+            let status = explain(&rt, &error);
+            hint(&rt, words.as_slice(), &error);
+            status
+        }
     })
 }
