@@ -1,6 +1,6 @@
 -- Calls that wait for a message, and what is known of it then.
-use Rattle.std.proofs.Common.{◌≡◌, ◌≢◌, ◌∙◌, inl, inr, sym, refl, ap, subst, ℕ, List, [], ◌∷◌, ◌++◌, append_assoc, length, true, if◌then◌else◌}
-use Rattle.std.specs.Prelude.{IfErr, Ok, Err, Result}
+use Rattle.std.proofs.Common.{◌≡◌, ◌≢◌, ◌∙◌, inl, inr, sym, refl, ap, subst, ℕ, List, [], ◌∷◌, ◌++◌, append_assoc, length, Bool, true, false, if◌then◌else◌}
+use Rattle.std.specs.Prelude.{IfErr, IfOk, Ok, Err, Result, MatchBool, MatchOption, Option, Some, None}
 use Rattle.std.proofs.lemmas.List.Elements.{All-append, All-nil, All-push}
 use Rattle.mx_types.specs.declared.code.Code.TheVariants as code
 use Rattle.mx_types.specs.declared.names.HandleId.{HandleId}
@@ -29,6 +29,8 @@ use Rattle.mx_append_log.proofs.Prefixes.{prefix_trans}
 use Rattle.mx_multi.specs.Seats.{Later, SeatView, Stands}
 use Rattle.mx_multi.proofs.Runs.{later_none, later_more}
 use Rattle.mx_multi.proofs.Standing.{told_alike}
+use Rattle.mx_message.specs.declared.next.Message.{Message}
+use Rattle.mx_message.specs.declared.next.NoMessage.{NoMessage}
 use Rattle.mx_message.specs.Message.{CarriesBody, IsNextMessage, IsOrderly, IsRead, IsWait, Unread, Waited}
 
 -- with code OK the wire is all that the last hop's link gave
@@ -74,16 +76,20 @@ module _ {Q : Type 0} where
       record { more = h.more ++ new ∷ []; later = later_more s t u h.more c p h.later k; waits = All-push IsWait h.more new h.waits (is (length u.seen)) }
 
   -- a reading that found none
-  found_none : (s t : SeatView Q OutcomeValue) (r : InfoReply OutcomeValue) → r ≡ info.Empty
+  pub found_none : (s t : SeatView Q OutcomeValue) (r : InfoReply OutcomeValue) → r ≡ info.Empty
       → Stands s t call.InfoRead (reply_of_info (λ x. x.code) (λ x. length (joined x.wire x.parts)) r) → Waited s t
   found_none s t r is h =
       waited_more s s t call.InfoRead reply.Empty (λ cut. inl (refl, refl)) (waited_none s)
       (subst (λ x. Stands s t call.InfoRead (reply_of_info (λ x. x.code) (λ x. length (joined x.wire x.parts)) x)) is h)
 
-  -- and a poll
-  pub waited_two : (s t u : SeatView Q OutcomeValue) (r : InfoReply OutcomeValue) → r ≡ info.Empty
-      → Stands s t call.InfoRead (reply_of_info (λ x. x.code) (λ x. length (joined x.wire x.parts)) r) → Stands t u call.Poll reply.Woken → Waited s u
-  waited_two s t u r is h k = waited_more s t u call.Poll reply.Woken (λ cut. inr (refl, refl)) (found_none s t r is h) k
+  -- and a poll behind it
+  pub polled : (s t u : SeatView Q OutcomeValue) → Waited s t → Stands t u call.Poll reply.Woken → Waited s u
+  polled s t u h k = waited_more s t u call.Poll reply.Woken (λ cut. inr (refl, refl)) h k
+
+  -- a poll for a while, which may have found none ready
+  pub polled_or_not : (s t : SeatView Q OutcomeValue) (woken : Bool) (P : Type 0) → MatchBool woken (Stands s t call.Poll reply.Woken × P) (t ≡ s) → Waited s t
+  polled_or_not s t true P h = polled s s t (waited_none s) h.0
+  polled_or_not s t false P h = subst (Waited s) (sym h) (waited_none s)
 
   -- where nothing was answered, where a reading found no memory, and where a reading found none and no poll was answered
   pub unread_same : (s t : SeatView Q OutcomeValue) → t ≡ s → Unread s t
@@ -97,9 +103,8 @@ module _ {Q : Type 0} where
     last = inr (subst (λ x. Stands s t call.InfoRead (reply_of_info (λ x. x.code) (λ x. length (joined x.wire x.parts)) x)) is h);
   }
 
-  pub unread_found_none : (s t u : SeatView Q OutcomeValue) (r : InfoReply OutcomeValue) → r ≡ info.Empty
-      → Stands s t call.InfoRead (reply_of_info (λ x. x.code) (λ x. length (joined x.wire x.parts)) r) → u ≡ t → Unread s u
-  unread_found_none s t u r is h e = record { at = t; waited = found_none s t r is h; last = inl e }
+  pub unread_polled : (s t u : SeatView Q OutcomeValue) → Waited s t → u ≡ t → Unread s u
+  unread_polled s t u h e = record { at = t; waited = h; last = inl e }
 
   -- after calls that waited
   pub unread_on : (s t u : SeatView Q OutcomeValue) → Waited s t → Unread t u → Unread s u
@@ -143,3 +148,15 @@ next s at t h ticket o left w r = record {
   of_addition = r.of_addition;
   as_told = λ origin told. sym (told_alike s.ties t.ties (inl (prefix_trans s.ties at.ties t.ties w.later.ties r.stands.ties)) ticket origin (request_origin o.request) told r.of_addition);
 }
+
+-- what is read behind calls that waited
+pub next_of : {Q : Type 0} (s at t : SeatView Q OutcomeValue) (r : Result (Option Message) NoMessage) → Waited s at
+    → IfOk r (λ o. MatchOption o (Waited at t) (λ m. (m.code ≡ m.outcome.code) × IsRead at t m.handle m.ticket m.outcome m.left))
+    → IfOk r (λ o. MatchOption o (Waited s t) (λ m. IsNextMessage s t m.handle m.ticket m.outcome m.left))
+next_of s at t (Ok None) w h = waited_on s at t w h
+next_of s at t (Ok (Some m)) w h = next s at t m.handle m.ticket m.outcome m.left w h.1
+next_of s at t (Err e) w h = tt
+
+pub unread_from : {Q A E : Type 0} (s at t : SeatView Q OutcomeValue) (r : Result A E) → Waited s at → IfErr r (λ _. Unread at t) → IfErr r (λ _. Unread s t)
+unread_from s at t (Ok a) w h = tt
+unread_from s at t (Err e) w h = unread_on s at t w h

@@ -3,4 +3,4 @@
 
 mod next;
 
-pub use crate::next::{Message, NoMessage, next_message};
+pub use crate::next::{Message, NoMessage, next_message, next_message_within};

@@ -1,5 +1,5 @@
 //! The next message, and what is known of it.
-ghost use Rattle.std.specs.Prelude.{◌≡◌, IfErr, IfOk, MatchOption};
+ghost use Rattle.std.specs.Prelude.{◌≡◌, IfErr, IfOk, IfSome, MatchOption};
 ghost use Rattle.mx_types.specs.declared.code.Code.TheVariants as code;
 ghost use Rattle.mx_chain.specs.Outcomes.{IsOutcome};
 ghost use Rattle.mx_message.specs.Message.{CarriesBody, IsNextMessage, IsRead, Unread, Waited};
@@ -8,6 +8,7 @@ use mx_chain::Outcome;
 use mx_journal::InfoReply;
 use mx_multi::{Application, Seated};
 use mx_types::{Code, HandleId, Ticket, Work};
+use std::rt::Clock;
 use std::sync::Wait;
 
 /// A done message: how the transfer of an addition ended.
@@ -36,8 +37,8 @@ fn know(outcome: &Outcome)
     let _wire = outcome.wire();
 }
 
-// Reads the first message. Where none waits it polls, and answers None.
-fn read_once<Q: Work + Drop, R: Wait>(
+// Reads the first message, if one waits.
+fn read_now<Q: Work + Drop, R: Wait>(
     rt: &R,
     seat: &mut Seated<'_, Application, Q, Outcome>,
 ) -> Result<Option<Message>, NoMessage>
@@ -65,13 +66,66 @@ fn read_once<Q: Work + Drop, R: Wait>(
                 left,
             }))
         }
-        InfoReply::Empty => {
+        InfoReply::Empty => Ok(None),
+        InfoReply::OutOfMemory => Err(NoMessage),
+    }
+}
+
+// Reads the first message. Where none waits it polls, and answers None.
+fn read_once<Q: Work + Drop, R: Wait>(
+    rt: &R,
+    seat: &mut Seated<'_, Application, Q, Outcome>,
+) -> Result<Option<Message>, NoMessage>
+    ensures of { seat.new.of ≡ seat.old.of }
+    ensures unread { IfErr result (λ _. Unread seat.old seat.new) }
+    ensures read { IfOk result (λ o. MatchOption o (Waited seat.old seat.new) (λ m. (m.code ≡ m.outcome.code) × IsRead seat.old seat.new m.handle m.ticket m.outcome m.left)) }
+{
+    match read_now(rt, seat)? {
+        Some(message) => Ok(Some(message)),
+        None => {
             let Ok(_) = seat.poll(rt) else {
                 return Err(NoMessage);
             };
             Ok(None)
         }
-        InfoReply::OutOfMemory => Err(NoMessage),
+    }
+}
+
+// Polls for so many milliseconds at most.
+fn poll_within<Q: Work + Drop, R: Wait + Clock>(
+    rt: &R,
+    seat: &mut Seated<'_, Application, Q, Outcome>,
+    milliseconds: u32,
+) -> Result<(), NoMessage>
+    ensures of { seat.new.of ≡ seat.old.of }
+    ensures unread { IfErr result (λ _. seat.new ≡ seat.old) }
+    ensures waited { IfOk result (λ _. Waited seat.old seat.new) }
+{
+    match seat.poll_for(rt, milliseconds) {
+        Ok(_) => Ok(()),
+        Err(_) => Err(NoMessage),
+    }
+}
+
+/// Reads the next message; where none waits, it waits for one as long as that, at most (curl_multi_poll(3) with its timeout). Of a message
+/// it says what `next_message` says. Where none came it answers None, and of the calls that waited for one the receipts stand behind those
+/// that the seat had, as they do where it answers `NoMessage`.
+pub fn next_message_within<Q: Work + Drop, R: Wait + Clock>(
+    rt: &R,
+    seat: &mut Seated<'_, Application, Q, Outcome>,
+    milliseconds: u32,
+) -> Result<Option<Message>, NoMessage>
+    ensures of { seat.new.of ≡ seat.old.of }
+    ensures unread { IfErr result (λ _. Unread seat.old seat.new) }
+    ensures code { IfOk result (λ o. IfSome o (λ m. m.code ≡ m.outcome.code)) }
+    ensures message { IfOk result (λ o. MatchOption o (Waited seat.old seat.new) (λ m. IsNextMessage seat.old seat.new m.handle m.ticket m.outcome m.left)) }
+{
+    match read_now(rt, seat)? {
+        Some(message) => Ok(Some(message)),
+        None => {
+            poll_within(rt, seat, milliseconds)?;
+            read_now(rt, seat)
+        }
     }
 }
 
