@@ -1,5 +1,6 @@
 //! A run of a crew, beside an application.
-ghost use Rattle.std.specs.Prelude.{◌≡◌, ◌≤◌, ◌+◌, IfErr, IfOk, OnErr, OnOk, vec_capacity, vec_len};
+ghost use Rattle.std.specs.Prelude.{◌≡◌, ◌≤◌, ◌+◌, IfErr, IfOk, MatchResult, OnErr, OnOk, Result, Ok, Err, vec_capacity, vec_len};
+ghost use Rattle.mx_crew.specs.declared.error.CrewError.{CrewError as WhyNone};
 ghost use Rattle.std.specs.Thread.{IsSync};
 ghost use Rattle.mx_crew.specs.declared.error.CrewError.TheVariants as crew_error;
 
@@ -8,7 +9,7 @@ use crate::error::CrewError;
 use crate::post::{Counts, Post, work};
 use mx_gate::Gate;
 use mx_link::Link;
-use std::alloc::AllocGlobal;
+use std::alloc::{AllocGlobal, Global};
 use std::random::RandomSource;
 use std::sync::Wait;
 use std::thread::{JoinHandle, Threads};
@@ -58,7 +59,7 @@ fn run_all<
     R: Threads + Wait + RandomSource + AllocGlobal + Sync,
     G: Gate<Link = L> + Send + Drop,
     T: Drop,
-    F: FnOnce() -> T + Drop,
+    F: FnOnce(Result<(), CrewError>) -> T + Drop,
 >(
     rt: &'m R,
     crew: &'m Crew,
@@ -66,23 +67,19 @@ fn run_all<
     handles: Vec<JoinHandle<Counts>>,
     counts: Vec<Counts>,
     application: F,
-) -> Result<(T, Vec<Counts>), CrewError>
-    requires application { F.pre application }
+) -> (T, Result<Vec<Counts>, CrewError>)
+    requires application { (stands : Result Unit WhyNone) → F.pre application stands }
     requires none { (vec_len handles ≡ 0) × (vec_len counts ≡ 0) }
     requires room { (vec_len posts ≤ vec_capacity handles) × (vec_len posts ≤ vec_capacity counts) }
-    ensures told { IfOk result (λ r. F.post application r.0) }
-    ensures workers { IfOk result (λ r. vec_len r.1 ≡ vec_len posts.entry) }
-    ensures cause { IfErr result (λ e. e ≡ crew_error.NoThread) }
+    ensures told { MatchResult result.1 (λ counts. F.post application (Ok tt) result.0 × (vec_len counts ≡ vec_len posts.entry)) (λ e. F.post application (Err e) result.0) }
 {
     thread::scope(
         thread::scope_env(),
         rt,
-        move |scope| -> Result<(T, Vec<Counts>), CrewError>
-            requires { IsSync R.row × F.pre application × (vec_len handles ≡ 0) × (vec_len counts ≡ 0)
+        move |scope| -> (T, Result<Vec<Counts>, CrewError>)
+            requires { IsSync R.row × ((stands : Result Unit WhyNone) → F.pre application stands) × (vec_len handles ≡ 0) × (vec_len counts ≡ 0)
                 × (vec_len posts ≤ vec_capacity handles) × (vec_len posts ≤ vec_capacity counts) }
-            ensures told { IfOk result (λ r. F.post application r.0) }
-            ensures workers { IfOk result (λ r. vec_len r.1 ≡ vec_len posts.entry) }
-            ensures cause { IfErr result (λ e. e ≡ crew_error.NoThread) }
+            ensures told { MatchResult result.1 (λ counts. F.post application (Ok tt) result.0 × (vec_len counts ≡ vec_len posts.entry)) (λ e. F.post application (Err e) result.0) }
         {
             let mut posts = posts;
             let mut handles = handles;
@@ -95,45 +92,56 @@ fn run_all<
                 );
                 if let Err(error) = keep(&mut handles, started) {
                     crew.dismiss();
-                    return Err(error);
+                    return (application(Err(error)), Err(error));
                 }
             }
-            let told = application();
+            let told = application(Ok(()));
             crew.dismiss();
-            Ok((told, join_all(rt, handles, counts)))
+            (told, Ok(join_all(rt, handles, counts)))
         },
     )
 }
 
-/// Runs a worker at each post, on a thread of its own, while the application runs on this one. Once that has returned the crew is
-/// dismissed. It answers what the application returned, and for each post what its worker did; all workers have ended then. It may wait.
+// Room for the threads' handles, and for what they did.
+fn rooms(alloc: Global, count: usize) -> Result<(Vec<JoinHandle<Counts>>, Vec<Counts>), CrewError>
+    ensures none { IfOk result (λ r. (vec_len r.0 ≡ 0) × (vec_len r.1 ≡ 0)) }
+    ensures room { IfOk result (λ r. (count ≤ vec_capacity r.0) × (count ≤ vec_capacity r.1)) }
+{
+    let handles = Vec::with_capacity(alloc, count)?;
+    let counts = Vec::with_capacity(alloc, count)?;
+    Ok((handles, counts))
+}
+
+/// Runs a worker at each post, on a thread of its own, while the application runs on this one. The application is told that the crew
+/// stands, or why it doesn't: then it runs without workers. Once it has returned the crew is dismissed. It answers what the application
+/// returned, and for each post what its worker did; all workers have ended then. It may wait.
 ///
 /// # Errors
 ///
 /// `OutOfMemory` where there was no memory for the threads' handles, and `NoThread` where a thread couldn't be started: the
-/// application didn't run then, and the workers that had started are dismissed and have ended. Posts and application don't come back:
-/// a worker that has started has its post, and lets it go as it ends.
+/// workers that had started are dismissed then, and have ended. Posts don't come back: a worker that has started has its post, and lets it go
+/// as it ends.
 ///
-/// Of all this the clauses say that what it answers first is what the application may return, and that it counts as many workers as there
-/// were posts.
+/// Of all this the clauses say that what it answers first is what the application may return as it was told, and that it counts as many
+/// workers as there were posts.
 pub fn run_beside<
     'm,
     L: Link + Send,
     R: Threads + Wait + RandomSource + AllocGlobal + Sync,
     G: Gate<Link = L> + Send + Drop,
     T: Drop,
-    F: FnOnce() -> T + Drop,
+    F: FnOnce(Result<(), CrewError>) -> T + Drop,
 >(
     rt: &'m R,
     crew: &'m Crew,
     posts: Vec<Post<'m, L, G>>,
     application: F,
-) -> Result<(T, Vec<Counts>), CrewError>
-    requires { F.pre application }
-    ensures told { IfOk result (λ r. F.post application r.0) }
-    ensures workers { IfOk result (λ r. vec_len r.1 ≡ vec_len posts.entry) }
+) -> (T, Result<Vec<Counts>, CrewError>)
+    requires { (stands : Result Unit WhyNone) → F.pre application stands }
+    ensures told { MatchResult result.1 (λ counts. F.post application (Ok tt) result.0 × (vec_len counts ≡ vec_len posts.entry)) (λ e. F.post application (Err e) result.0) }
 {
-    let handles = Vec::with_capacity(rt.alloc(), posts.len())?;
-    let counts = Vec::with_capacity(rt.alloc(), posts.len())?;
-    run_all(rt, crew, posts, handles, counts, application)
+    match rooms(rt.alloc(), posts.len()) {
+        Ok((handles, counts)) => run_all(rt, crew, posts, handles, counts, application),
+        Err(error) => (application(Err(error)), Err(error)),
+    }
 }

@@ -5,8 +5,10 @@ mod beside;
 mod crew;
 mod error;
 mod post;
+mod runtime;
 
 pub use crate::beside::run_beside;
 pub use crate::crew::{Crew, HostGate};
 pub use crate::error::CrewError;
 pub use crate::post::{Counts, NoPosts, Post, posts};
+pub use crate::runtime::Runtime;

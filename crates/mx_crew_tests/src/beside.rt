@@ -121,19 +121,18 @@ fn read_beside<
     flags: &Flags,
     plan: &Plan<'_>,
 ) -> Came {
-    match run_beside(
-        rt,
-        &flags.crew,
-        posts,
-        move || read_both(rt, seat, flags, plan),
-    ) {
-        Ok((answers, counts)) => Came {
+    let (answers, counted) = run_beside(rt, &flags.crew, posts, move |stands| match stands {
+        Ok(()) => read_both(rt, seat, flags, plan),
+        Err(_) => (Comparison::Wrong, Comparison::Wrong),
+    });
+    match counted {
+        Ok(counts) => Came {
             recorded: Some(recorded(counts.as_slice())),
             answers,
         },
         Err(_) => Came {
             recorded: None,
-            answers: (Comparison::Wrong, Comparison::Wrong),
+            answers,
         },
     }
 }

@@ -10,8 +10,7 @@ ghost use Rattle.mx_get.specs.declared.error.FetchError.TheVariants as fetch_err
 
 use crate::collect::Desk;
 use crate::error::FetchError;
-use crate::runtime::Runtime;
-use mx_crew::{Crew, Post, posts, run_beside};
+use mx_crew::{Crew, CrewError, Post, Runtime, posts, run_beside};
 use mx_gate::Gate;
 use mx_link::Link;
 use mx_multi::{Limits, Multi, OpenError, Seat, WorkerSeat};
@@ -101,12 +100,15 @@ fn collect_beside<
         rt,
         crew,
         posts,
-        move || -> Result<Vec<Fetched>, FetchError>
+        move |stands: Result<(), CrewError>| -> Result<Vec<Fetched>, FetchError>
             requires { IsNewFor options desk }
             ensures ends { IfOk result (λ ends. AreEndsOf options.timeout_ms options.max_redirects (map (λ u. u.now) urls.entry.now) ends.items) }
             ensures cause { IfErr result (λ e. is_of_run e ≡ true) }
-        { desk.collect(rt, crew, urls, options) },
-    )?;
+        {
+            stands?;
+            desk.collect(rt, crew, urls, options)
+        },
+    );
     collected
 }
 

@@ -8,9 +8,8 @@ mod error;
 mod fetch;
 mod place;
 mod run;
-mod runtime;
 
 pub use crate::error::FetchError;
 pub use crate::fetch::{MOST_URLS, fetch_all};
 pub use crate::run::{run_get, try_get};
-pub use crate::runtime::Runtime;
+pub use mx_crew::Runtime;

@@ -11,7 +11,7 @@ ghost use Rattle.mx_get.specs.declared.error.FetchError.TheVariants as fetch_err
 
 use crate::error::FetchError;
 use crate::fetch::{MOST_URLS, fetch_all};
-use crate::runtime::Runtime;
+use mx_crew::Runtime;
 use mx_run_get::{Fetched, print_get};
 use mx_run_io::{Options, Output, UNWRITTEN, end_with};
 use mx_types::Code;
