@@ -1,0 +1,5 @@
+mod Bodies
+mod Books
+mod Names
+mod Slots
+mod Telling

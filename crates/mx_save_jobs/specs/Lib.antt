@@ -1,0 +1,4 @@
+pub mod Bodies
+pub mod Books
+pub mod Jobs
+pub mod Lines

@@ -1,0 +1,47 @@
+-- What is told of URLs, as they end.
+use Rattle.std.specs.Prelude.{◌≡◌, ◌≢◌, ℕ, Bool, true, false, if◌then◌else◌, List, [], ◌∷◌, ◌++◌, map, None, Option}
+use Rattle.mx_run_io.specs.Ends.{Wrote, has_failed_write, is_pending}
+use Rattle.mx_run_io.specs.declared.output.Output.{Output}
+use Rattle.mx_run_save.specs.Codes.{save_number}
+use Rattle.mx_run_save.specs.Ends.{EndValue}
+use Rattle.mx_run_save.specs.Status.{after_notes, first_of}
+use Rattle.mx_run_save.specs.Texts.{end_line, json_line}
+use Rattle.mx_run_save.specs.declared.status.ExitStatus.{ExitStatus}
+use Rattle.mx_run_save.specs.declared.status.PlacedCode.{PlacedCode}
+
+-- an end that was told, with the place of its URL
+pub record ToldValue : Type 0 where
+  pub place : ℕ
+  pub end : EndValue
+
+abbrev pub note_of : ToldValue → PlacedCode
+note_of t = record { place = t.place; number = save_number t.end.code }
+
+-- what is printed of an end
+abbrev pub line_of : Bool → EndValue → List ℕ
+line_of json end = if json then json_line end else end_line end
+
+-- and of all, in their order
+abbrev pub text_of : Bool → List ToldValue → List ℕ
+text_of json [] = []
+text_of json (t ∷ ts) = line_of json t.end ++ text_of json ts
+
+pub record LinesValue (W : Type 0) : Type 0 where
+  pub json : Bool
+  pub status : ExitStatus
+  pub output : Output W
+  pub start : Output W
+  pub told : List ToldValue
+
+-- What was printed since is the text of what was told, and it is flushed; and the status is that of its codes.
+pub record AreLines {W : Type 0} (contents : W → Option (List ℕ)) (l : LinesValue W) : Type 0 where
+  pub written : has_failed_write l.output ≢ true → Wrote contents l.start l.output (text_of l.json l.told)
+  pub flushed : has_failed_write l.output ≢ true → is_pending l.output ≡ false
+  pub status : first_of l.status ≡ after_notes None (map note_of l.told)
+
+-- nothing was told yet
+pub record IsFreshLines {W : Type 0} (j : Bool) (o : Output W) (l : LinesValue W) : Type 0 where
+  pub told : l.told ≡ []
+  pub start : l.start ≡ o
+  pub output : l.output ≡ o
+  pub json : l.json ≡ j

@@ -1,0 +1,392 @@
+//! The URLs of a run, from their reading to their ends.
+ghost use Rattle.std.specs.Prelude.{◌≡◌, ◌≢◌, ◌+◌, ◌<◌, ◌^◌, All, ◌++◌, ◌∷◌, [], true, false, if◌then◌else◌, count_by, IfOk, OnErr, OnOk, Some, IsSome, IsNone, IfSome, MatchOption, slice_get, slice_set};
+ghost use Rattle.mx_types.specs.Code.{code_number};
+ghost use Rattle.mx_request.specs.Request.{IsRequest};
+ghost use Rattle.mx_save_jobs.specs.Jobs.{Asks, is_taken, job_at};
+ghost use Rattle.mx_save_jobs.specs.Books.{HasNoneAdded, HaveEnded, IsAdded, IsClosed, IsFreshBook, IsJobFor, IsSameRun, StandsAt, awaits_at};
+ghost use Rattle.mx_save_jobs.specs.declared.job.Slot.TheVariants as slot;
+
+use crate::asking::Asking;
+use crate::body::WholeBody;
+use crate::finish::finish;
+use crate::job::{Job, Slot};
+use crate::lines::Lines;
+use crate::stop::Stop;
+use mx_chain::Outcome;
+use mx_file_name::Names;
+use mx_folder::{Folder, Kind};
+use mx_request::{Request, RequestError};
+use mx_retry::{delay_ms, is_retried};
+use mx_run_save::{End, SaveCode, Transferred};
+use mx_save::Ledger;
+use mx_types::{Code, History, OutOfMemory, Ticket};
+use std::alloc::Global;
+use std::io::Write;
+use std::marker::Model;
+use std::{mem, str};
+
+/// The URLs of a run: those that have no end yet, each in a slot, and what the others ended with, which is told and saved. Contracts see it
+/// as `BookValue`.
+///
+/// Each URL of the run stands in a slot, or was told of, once. What was told holds: a body that was told as saved is in its file, whole.
+/// Once a call has answered an error, that alone isn't known any more; what was saved still is.
+#[derive(Drop)]
+pub struct Book<F: Folder, W: Write> {
+    alloc: Global,
+    asking: Asking,
+    ledger: Ledger<F, WholeBody>,
+    lines: Lines<W>,
+    names: Names,
+    read: u64,
+    slots: Vec<Slot>,
+    is_stopped: bool,
+    urls: History<Vec<u8>>,
+    named: History<Vec<u8>>,
+}
+
+impl<F: Folder, W: Write> Model for Book<F, W> {
+    ghost use Rattle.std.specs.Prelude.{◌≡◌, false, map};
+    ghost use Rattle.mx_save_jobs.specs.Jobs.{BookValue, IsBook};
+
+    ghost Value = { BookValue W };
+
+    ghost view = { λ b. record {
+      asking = b.asking;
+      urls = map (λ u. u.items) b.urls;
+      named = map (λ u. u.items) b.named;
+      slots = b.slots.items;
+      lines = b.lines;
+      ledger = b.ledger;
+      is_stopped = b.is_stopped;
+    } };
+
+    ghost invariant = { λ b. b.is_stopped ≡ false → IsBook (record {
+      asking = b.asking;
+      urls = map (λ u. u.items) b.urls;
+      named = map (λ u. u.items) b.named;
+      slots = b.slots.items;
+      told = b.lines.told;
+      saves = b.ledger.entries;
+    }) b.read b.names };
+}
+
+// The count of URLs with one more.
+fn one_more(count: u64) -> Option<u64>
+    ensures { IfSome result (λ n. (n ≡ count + 1) × (n < 2 ^ 64)) }
+{
+    if count == u64::MAX {
+        return None;
+    }
+    Some(count + 1)
+}
+
+// A URL of which no transfer was made.
+fn untried() -> Transferred {
+    Transferred {
+        status: 0,
+        length: 0,
+        framing: None,
+        hops: 0,
+        tries: 0,
+    }
+}
+
+impl<F: Folder, W: Write> Book<F, W> {
+    /// No URL was read yet, and nothing was saved or told. The slots are free.
+    pub fn new(
+        alloc: Global,
+        asking: Asking,
+        ledger: Ledger<F, WholeBody>,
+        lines: Lines<W>,
+        slots: Vec<Slot>,
+    ) -> Book<F, W>
+        requires fresh { (ledger.entries ≡ []) × (lines.told ≡ []) }
+        requires free { All (λ s. s ≡ slot.Free) slots.items }
+        ensures { IsFreshBook asking ledger lines slots.items result }
+    {
+        Book {
+            alloc,
+            asking,
+            ledger,
+            lines,
+            names: Names::new(alloc),
+            read: 0,
+            slots,
+            is_stopped: false,
+            urls: History::new(),
+            named: History::new(),
+        }
+    }
+
+    /// Tells of a URL that is refused, which takes no name.
+    fn refuse(&mut self, url: Vec<u8>, code: Code) -> Result<(), Stop>
+        requires going { self.old.is_stopped ≡ false }
+        requires code { code_number code ≢ 0 }
+        ensures urls { OnOk result (self.new.urls ≡ self.old.urls ++ url.items ∷ []) }
+        ensures slots { OnOk result (self.new.slots ≡ self.old.slots) }
+        ensures going { OnOk result (self.new.is_stopped ≡ false) }
+        ensures stopped { OnErr result (self.new.is_stopped ≡ true) }
+        ensures run { IsSameRun self.old self.new }
+    {
+        self.is_stopped = true;
+        let Some(read) = one_more(self.read) else {
+            return Err(Stop::OutOfMemory);
+        };
+        self.urls.show(&url);
+        let end = End::failed(url, SaveCode::Transfer(code), untried(), None);
+        self.lines.tell(self.read, &end)?;
+        self.read = read;
+        self.is_stopped = false;
+        Ok(())
+    }
+
+    /// Gives a URL its name, and has it stand in that slot, which is free.
+    fn stand(&mut self, at: usize, url: Vec<u8>) -> Result<(), Stop>
+        requires going { self.old.is_stopped ≡ false }
+        requires free { slice_get self.old.slots at ≡ Some slot.Free }
+        ensures urls { OnOk result (self.new.urls ≡ self.old.urls ++ url.items ∷ []) }
+        ensures slots { OnOk result (StandsAt self.old.slots self.new.slots at url.items) }
+        ensures going { OnOk result (self.new.is_stopped ≡ false) }
+        ensures stopped { OnErr result (self.new.is_stopped ≡ true) }
+        ensures run { IsSameRun self.old self.new }
+    {
+        self.is_stopped = true;
+        let Some(read) = one_more(self.read) else {
+            return Err(Stop::OutOfMemory);
+        };
+        let name = self.names.next(self.alloc, url.as_slice())?;
+        self.named.show(&url);
+        self.urls.show(&url);
+        self.slots[at] = Slot::Waiting(Job {
+            place: self.read,
+            url,
+            name,
+            tries: 1,
+        });
+        self.read = read;
+        self.is_stopped = false;
+        Ok(())
+    }
+
+    /// Takes a URL in: its request comes back, and it stands in that slot, which is free. Where it is refused, that is told, it takes no name,
+    /// and nothing comes back.
+    pub fn admit(&mut self, at: usize, url: Vec<u8>) -> Result<Option<Request>, Stop>
+        requires going { self.old.is_stopped ≡ false }
+        requires free { slice_get self.old.slots at ≡ Some slot.Free }
+        ensures urls { OnOk result (self.new.urls ≡ self.old.urls ++ url.items ∷ []) }
+        ensures stands { IfOk result (λ asked. MatchOption asked (self.new.slots ≡ self.old.slots) (λ _. StandsAt self.old.slots self.new.slots at url.items)) }
+        ensures asked { IfOk result (λ asked. IfSome asked (λ r. Asks self.old.asking url.items r × IsRequest r)) }
+        ensures going { OnOk result (self.new.is_stopped ≡ false) }
+        ensures stopped { OnErr result (self.new.is_stopped ≡ true) }
+        ensures run { IsSameRun self.old self.new }
+    {
+        match build(self.alloc, &self.asking, url.as_slice()) {
+            Ok(request) => {
+                self.stand(at, url)?;
+                Ok(Some(request))
+            }
+            Err(RequestError::OutOfMemory) => {
+                self.is_stopped = true;
+                Err(Stop::OutOfMemory)
+            }
+            Err(error) => {
+                self.refuse(url, error.code())?;
+                Ok(None)
+            }
+        }
+    }
+
+    /// The request of the URL that stands in that slot, once more.
+    pub fn request(&self, at: usize) -> Result<Request, RequestError>
+        ensures { IfOk result (λ r. IsJobFor self.now.asking self.now.slots at r × IsRequest r) }
+    {
+        match waiting_job(self.slots.as_slice(), at) {
+            Some(job) => build(self.alloc, &self.asking, job.url.as_slice()),
+            None => Err(RequestError::OutOfMemory),
+        }
+    }
+
+    /// Ends the URL in that slot, which waits, without asking for it, where a regular file has its name and such are skipped.
+    pub fn skip(&mut self, at: usize) -> Result<bool, Stop>
+        requires going { self.old.is_stopped ≡ false }
+        ensures slots { IfOk result (λ skipped. self.new.slots ≡ (if skipped then slice_set self.old.slots at slot.Free else self.old.slots)) }
+        ensures urls { self.new.urls ≡ self.old.urls }
+        ensures going { OnOk result (self.new.is_stopped ≡ false) }
+        ensures stopped { OnErr result (self.new.is_stopped ≡ true) }
+        ensures run { IsSameRun self.old self.new }
+    {
+        if !self.asking.skip_existing {
+            return Ok(false);
+        }
+        let Some(job) = waiting_job(self.slots.as_slice(), at) else {
+            return Ok(false);
+        };
+        let Ok(Kind::File) = self.ledger.look(&job.name) else {
+            return Ok(false);
+        };
+        self.is_stopped = true;
+        let Some(job) = take_job(&mut self.slots, at) else {
+            unreachable!();
+        };
+        let file = String::from_str(self.alloc, job.name.as_str())?;
+        let end = End::skipped(job.url, file);
+        self.lines.tell(job.place, &end)?;
+        self.is_stopped = false;
+        Ok(true)
+    }
+
+    /// Notes that the transfer of the URL in that slot is added under this ticket.
+    pub fn add(&mut self, at: usize, ticket: Ticket)
+        requires there { IsSome (job_at self.old.slots at) }
+        ensures added { IsAdded self.old.slots self.new.slots at ticket }
+        ensures urls { self.new.urls ≡ self.old.urls }
+        ensures going { self.new.is_stopped ≡ self.old.is_stopped }
+        ensures run { IsSameRun self.old self.new }
+    {
+        let Some(job) = take_job(&mut self.slots, at) else {
+            unreachable!();
+        };
+        self.slots[at] = Slot::Added(job, ticket);
+    }
+
+    /// Whether the addition of this ticket is that of the URL in that slot.
+    pub fn awaits(&self, at: usize, ticket: Ticket) -> bool
+        ensures { result ≡ awaits_at self.now.slots at ticket }
+    {
+        match self.slots.get(at) {
+            Some(Slot::Added(_, own)) => *own == ticket,
+            _ => false,
+        }
+    }
+
+    /// Ends the URL in that slot, whose transfer ended so: its body is saved where it is to be, and that is told. Where it is to be tried
+    /// again, it waits, and the milliseconds until then come back.
+    pub fn close(&mut self, at: usize, outcome: Outcome) -> Result<Option<u64>, Stop>
+        requires going { self.old.is_stopped ≡ false }
+        requires asked { IsJobFor self.old.asking self.old.slots at outcome.request }
+        ensures slots { OnOk result (IsClosed self.old.slots self.new.slots at) }
+        ensures urls { self.new.urls ≡ self.old.urls }
+        ensures going { OnOk result (self.new.is_stopped ≡ false) }
+        ensures stopped { OnErr result (self.new.is_stopped ≡ true) }
+        ensures run { IsSameRun self.old self.new }
+    {
+        self.is_stopped = true;
+        let Some(job) = take_job(&mut self.slots, at) else {
+            unreachable!();
+        };
+        if job.tries <= u32::from(self.asking.retries)
+            && is_retried(self.asking.method, outcome.code(), outcome.status())
+        {
+            let delay = delay_ms(job.tries.max(1));
+            self.slots[at] = Slot::Waiting(again(job));
+            self.is_stopped = false;
+            return Ok(Some(delay));
+        }
+        let place = job.place;
+        let end = finish(self.alloc, &self.asking, &mut self.ledger, job, outcome)?;
+        self.lines.tell(place, &end)?;
+        self.is_stopped = false;
+        Ok(None)
+    }
+
+    /// A slot that is free, if there is one.
+    pub fn free_slot(&self) -> Option<usize>
+        ensures { IfSome result (λ at. slice_get self.now.slots at ≡ Some slot.Free) }
+    {
+        for (at, slot) in self.slots.iter().enumerate() {
+            if matches!(slot, Slot::Free) {
+                return Some(at);
+            }
+        }
+        None
+    }
+
+    /// Whether no transfer is added.
+    pub fn has_none_added(&self) -> bool
+        ensures { result ≡ true → HasNoneAdded self.now.slots }
+    {
+        for slot in &self.slots {
+            if matches!(slot, Slot::Added(_, _)) {
+                return false;
+            }
+        }
+        true
+    }
+
+    /// Whether all URLs that were read have ended.
+    pub fn is_empty(&self) -> bool
+        ensures { result ≡ true → count_by is_taken self.now.slots ≡ 0 }
+    {
+        for slot in &self.slots {
+            if slot.job().is_some() {
+                return false;
+            }
+        }
+        true
+    }
+
+    /// Ends the run.
+    pub fn end(self) -> (Ledger<F, WholeBody>, Lines<W>)
+        ensures ledger { result.0 ≡ self.ledger }
+        ensures lines { result.1 ≡ self.lines }
+        ensures ended { self.is_stopped ≡ false → count_by is_taken self.slots ≡ 0 → HaveEnded self.asking self.urls self.ledger.entries self.lines.told }
+    {
+        (self.ledger, self.lines)
+    }
+}
+
+// The request of a URL by its text.
+fn build(alloc: Global, asking: &Asking, url: &[u8]) -> Result<Request, RequestError>
+    ensures { IfOk result (λ r. Asks asking.now url.now r × IsRequest r) }
+{
+    let Ok(text) = str::from_utf8(url) else {
+        return Err(RequestError::Malformed);
+    };
+    let request = asking.request(alloc, text)?;
+    request.know();
+    Ok(request)
+}
+
+// The URL that waits in a slot.
+fn waiting_job(slots: &[Slot], at: usize) -> Option<&Job>
+    ensures { IfSome result (λ job. job_at slots.now at ≡ Some job.now) }
+{
+    match slots.get(at) {
+        Some(Slot::Waiting(job)) => Some(job),
+        _ => None,
+    }
+}
+
+// Frees a slot. The URL that stood in it comes back.
+fn take_job(slots: &mut Vec<Slot>, at: usize) -> Option<Job>
+    ensures job { result ≡ job_at slots.old.items at }
+    ensures free { slots.new.items ≡ slice_set slots.old.items at slot.Free }
+{
+    if at >= slots.len() {
+        return None;
+    }
+    mem::replace(&mut slots[at], Slot::Free).into_job()
+}
+
+// The URL before a further try.
+fn again(job: Job) -> Job
+    ensures { result ≡ record job { tries = result.tries } }
+{
+    Job {
+        place: job.place,
+        url: job.url,
+        name: job.name,
+        tries: job.tries.saturating_add(1),
+    }
+}
+
+/// So many free slots.
+pub fn free_slots(alloc: Global, count: usize) -> Result<Vec<Slot>, OutOfMemory>
+    ensures { IfOk result (λ slots. All (λ s. s ≡ slot.Free) slots.items) }
+{
+    let mut slots = Vec::with_capacity(alloc, count)?;
+    for _ in 0..count {
+        slots.push(Slot::Free)?;
+    }
+    Ok(slots)
+}

@@ -1,0 +1,54 @@
+//! The URLs that have no end yet.
+ghost use Rattle.std.specs.Prelude.{◌≡◌, option_copied};
+ghost use Rattle.mx_save_jobs.specs.Jobs.{job_of};
+
+use mx_file_name::FileName;
+use mx_types::Ticket;
+
+/// A URL that has no end yet.
+#[derive(Drop)]
+pub struct Job {
+    /// Its place among the URLs of the run, from 0 on.
+    pub place: u64,
+    /// Its text, in UTF-8.
+    pub url: Vec<u8>,
+    /// The name of its file.
+    pub name: FileName,
+    /// How many tries were made.
+    pub tries: u32,
+}
+
+/// Where a URL that has no end yet stands. The number of a slot is the handle of its transfer.
+#[derive(Drop)]
+pub enum Slot {
+    /// No URL.
+    Free,
+    /// No transfer of it is added.
+    Waiting(Job),
+    /// The transfer of this addition is.
+    Added(Job, Ticket),
+}
+
+impl Slot {
+    /// Its URL.
+    pub fn job(&self) -> Option<&Job>
+        ensures { option_copied result ≡ job_of self.now }
+    {
+        match self {
+            Slot::Free => None,
+            Slot::Waiting(job) => Some(job),
+            Slot::Added(job, _) => Some(job),
+        }
+    }
+
+    /// Its URL, by move.
+    pub fn into_job(self) -> Option<Job>
+        ensures { result ≡ job_of self }
+    {
+        match self {
+            Slot::Free => None,
+            Slot::Waiting(job) => Some(job),
+            Slot::Added(job, _) => Some(job),
+        }
+    }
+}

@@ -1,0 +1,3 @@
+pub mod Feeds
+pub mod Texts
+pub mod Works

@@ -1,0 +1,182 @@
+//! The work of a run: its URLs, from their reading to their ends.
+ghost use Rattle.std.specs.Prelude.{◌≡◌, [], true, false, count_by, IfOk, IfSome, IsSome, OnErr, OnOk, Some, slice_get};
+ghost use Rattle.mx_request.specs.Request.{IsRequest};
+ghost use Rattle.mx_save_jobs.specs.Books.{HasNoneAdded, IsAdded, IsJobFor, awaits_at};
+ghost use Rattle.mx_save_jobs.specs.Jobs.{is_taken, job_at};
+ghost use Rattle.mx_save_jobs.specs.declared.job.Slot.TheVariants as slot;
+ghost use Rattle.mx_save_work.specs.Feeds.{left, IsFed};
+ghost use Rattle.mx_save_work.specs.Works.{AddsNone, IsSameWork};
+
+use crate::feed::Feed;
+use mx_chain::Outcome;
+use mx_folder::Folder;
+use mx_request::{Request, RequestError};
+use mx_retry::{Wait, Waiting};
+use mx_save_jobs::{Book, Stop};
+use mx_types::Ticket;
+use std::alloc::Global;
+use std::io::{Read, Write};
+use std::marker::Model;
+use std::snapshot::Snapshot;
+
+/// The work of a run: the URLs that are to be read, those that were read, and which of these wait to be tried again, by their slots and the
+/// moments until which they wait. Contracts see the book of the URLs, which were there at first and which are left, where that is known, and
+/// whether all were read.
+#[derive(Drop)]
+pub struct Work<'a, F: Folder, W: Write, R: Read + Drop> {
+    book: Book<F, W>,
+    feed: Feed<'a, R>,
+    first: Snapshot<Feed<'a, R>>,
+    waiting: Waiting,
+    is_read: bool,
+}
+
+impl<'a, F: Folder, W: Write, R: Read + Drop> Model for Work<'a, F, W, R> {
+    ghost use Rattle.std.specs.Prelude.{◌≡◌, false};
+    ghost use Rattle.mx_save_work.specs.Feeds.{left, IsFed};
+    ghost use Rattle.mx_save_work.specs.Works.{WorkValue};
+
+    ghost Value = { WorkValue W };
+
+    ghost view = { λ w. record { book = w.book; first = left R.remaining w.first.value; left = left R.remaining w.feed; is_read = w.is_read } };
+
+    ghost invariant = { λ w. w.book.is_stopped ≡ false → IsFed (left R.remaining w.first.value) w.book.urls (left R.remaining w.feed) w.is_read };
+}
+
+impl<'a, F: Folder, W: Write, R: Read + Drop> Work<'a, F, W, R> {
+    /// No URL was read yet.
+    pub fn new(alloc: Global, book: Book<F, W>, feed: Feed<'a, R>) -> Work<'a, F, W, R>
+        requires { book.urls ≡ [] }
+        ensures { result ≡ record { book = book; first = left R.remaining feed.entry; left = left R.remaining feed.entry; is_read = false } }
+    {
+        Work {
+            book,
+            first: Snapshot::of(&feed),
+            feed,
+            waiting: Waiting::new(alloc),
+            is_read: false,
+        }
+    }
+
+    /// Whether a URL may be read: not all were, and not too many wait.
+    pub fn may_read(&self) -> bool {
+        !self.is_read && !self.waiting.is_full()
+    }
+
+    /// Reads a URL, which stands in this slot then, which is free, if it is to be asked for: then its request comes back.
+    pub fn read(&mut self, at: usize) -> Result<Option<Request>, Stop>
+        requires going { self.old.book.is_stopped ≡ false }
+        requires free { slice_get self.old.book.slots at ≡ Some slot.Free }
+        ensures asked { IfOk result (λ asked. IfSome asked (λ r. IsJobFor self.new.book.asking self.new.book.slots at r × IsRequest r)) }
+        ensures added { OnOk result (AddsNone self.old.book.slots self.new.book.slots) }
+        ensures going { OnOk result (self.new.book.is_stopped ≡ false) }
+        ensures run { IsSameWork self.old self.new }
+    {
+        let Some(url) = self.feed.next()? else {
+            self.is_read = true;
+            return Ok(None);
+        };
+        let Some(request) = self.book.admit(at, url)? else {
+            return Ok(None);
+        };
+        if self.book.skip(at)? {
+            return Ok(None);
+        }
+        Ok(Some(request))
+    }
+
+    /// A slot that is free, if there is one.
+    pub fn free_slot(&self) -> Option<usize>
+        ensures { IfSome result (λ at. slice_get self.now.book.slots at ≡ Some slot.Free) }
+    {
+        self.book.free_slot()
+    }
+
+    /// Notes that the transfer of the URL in that slot is added under this ticket.
+    pub fn add(&mut self, at: usize, ticket: Ticket)
+        requires there { IsSome (job_at self.old.book.slots at) }
+        ensures added { IsAdded self.old.book.slots self.new.book.slots at ticket }
+        ensures going { self.new.book.is_stopped ≡ self.old.book.is_stopped }
+        ensures run { IsSameWork self.old self.new }
+    {
+        self.book.add(at, ticket);
+    }
+
+    /// Whether the addition of this ticket is that of the URL in that slot.
+    pub fn awaits(&self, at: usize, ticket: Ticket) -> bool
+        ensures { result ≡ awaits_at self.now.book.slots at ticket }
+    {
+        self.book.awaits(at, ticket)
+    }
+
+    /// Whether no transfer is added.
+    pub fn has_none_added(&self) -> bool
+        ensures { result ≡ true → HasNoneAdded self.now.book.slots }
+    {
+        self.book.has_none_added()
+    }
+
+    /// Ends the URL in that slot, whose transfer ended so. Where it is to be tried again, the milliseconds until then come back.
+    pub fn close(&mut self, at: usize, outcome: Outcome) -> Result<Option<u64>, Stop>
+        requires going { self.old.book.is_stopped ≡ false }
+        requires asked { IsJobFor self.old.book.asking self.old.book.slots at outcome.request }
+        ensures added { OnOk result (AddsNone self.old.book.slots self.new.book.slots) }
+        ensures going { OnOk result (self.new.book.is_stopped ≡ false) }
+        ensures stopped { OnErr result (self.new.book.is_stopped ≡ true) }
+        ensures run { IsSameWork self.old self.new }
+    {
+        self.book.close(at, outcome)
+    }
+
+    /// The slot of a URL that waited until now at most, and its request.
+    pub fn again(&mut self, now: u64) -> Result<Option<(usize, Request)>, Stop>
+        ensures asked { IfOk result (λ due. IfSome due (λ d. IsJobFor self.new.book.asking self.new.book.slots d.0 d.1 × IsRequest d.1)) }
+        ensures book { self.new.book ≡ self.old.book }
+        ensures run { IsSameWork self.old self.new }
+    {
+        let Some(job) = self.waiting.pop_due(now) else {
+            return Ok(None);
+        };
+        let at = job as usize;
+        match self.book.request(at) {
+            Ok(request) => Ok(Some((at, request))),
+            Err(RequestError::OutOfMemory) => Err(Stop::OutOfMemory),
+            Err(_) => Err(Stop::NotAdded),
+        }
+    }
+
+    /// Has the URL in this slot wait until that moment.
+    pub fn wait(&mut self, at: usize, moment: u64) -> Result<(), Stop>
+        ensures book { self.new.book ≡ self.old.book }
+        ensures run { IsSameWork self.old self.new }
+    {
+        if self.waiting.is_full() {
+            return Err(Stop::NotAdded);
+        }
+        self.waiting.add(Wait {
+            moment,
+            job: at as u64,
+        })?;
+        Ok(())
+    }
+
+    /// The moment until which a URL waits, the least of them.
+    pub fn next_moment(&self) -> Option<u64> {
+        self.waiting.next()
+    }
+
+    /// Whether all URLs were read and have ended.
+    pub fn is_done(&self) -> bool
+        ensures { result ≡ true → (self.now.is_read ≡ true) × (count_by is_taken self.now.book.slots ≡ 0) }
+    {
+        self.is_read && self.book.is_empty()
+    }
+
+    /// Ends the work.
+    pub fn end(self) -> Book<F, W>
+        ensures book { result ≡ self.entry.book }
+        ensures fed { self.entry.book.is_stopped ≡ false → IsFed self.entry.first self.entry.book.urls self.entry.left self.entry.is_read }
+    {
+        self.book
+    }
+}
