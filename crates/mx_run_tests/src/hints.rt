@@ -1,5 +1,6 @@
 //! What is said to command lines that are refused, behind clap's words.
 use crate::rows::none_is_wrong;
+use clap::Error;
 use mx_command::read_command;
 use mx_hint::hint_of;
 use std::alloc::{AllocError, Global};
@@ -97,13 +98,20 @@ fn longest_line(text: &str) -> usize {
     longest
 }
 
+/// The length of the longest line of a help; 0 of a refusal.
+fn help_width(alloc: Global, error: Error) -> Result<usize, AllocError> {
+    if error.use_stderr() {
+        return Ok(0);
+    }
+    Ok(longest_line(format!(in alloc; "{error}")?.as_str()))
+}
+
 /// The length of the longest line of the help that these words ask for.
 fn width_of(alloc: Global, rest: &[&str]) -> Result<usize, AllocError> {
     let words = words_of(alloc, rest)?;
     match read_command(alloc, words.as_slice()) {
         Ok(_) => Ok(0),
-        Err(error) if error.use_stderr() => Ok(0),
-        Err(error) => Ok(longest_line(format!(in alloc; "{error}")?.as_str())),
+        Err(error) => help_width(alloc, error),
     }
 }
 
