@@ -64,7 +64,7 @@ static PLAY: [OptionRow; 2] = [
         name: "history",
         takes: Takes::Number(LEAST_HISTORY, MOST_HISTORY),
         default: Some("1024"),
-        help: "Events that there is room for: 4 to 1048576",
+        help: "Events there is room for: 4 to 1048576",
     },
     OptionRow {
         name: "first-ticket",
