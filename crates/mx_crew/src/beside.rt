@@ -6,7 +6,7 @@ ghost use Rattle.mx_crew.specs.declared.error.CrewError.TheVariants as crew_erro
 
 use crate::crew::Crew;
 use crate::error::CrewError;
-use crate::post::{Counts, Post, work};
+use crate::post::{Post, Worked, work};
 use mx_gate::Gate;
 use mx_link::Link;
 use std::alloc::{AllocGlobal, Global};
@@ -16,9 +16,9 @@ use std::thread::{JoinHandle, Threads};
 use std::{io, thread};
 
 // Keeps the handle of a thread that was started: there is room for it.
-fn keep<E: Drop>(
-    handles: &mut Vec<JoinHandle<Counts>>,
-    started: Result<JoinHandle<Counts>, E>,
+fn keep<G: Drop, E: Drop>(
+    handles: &mut Vec<JoinHandle<Worked<G>>>,
+    started: Result<JoinHandle<Worked<G>>, E>,
 ) -> Result<(), CrewError>
     requires { vec_len handles.old + 1 ≤ vec_capacity handles.old }
     ensures kept { OnOk result (vec_len handles.new ≡ vec_len handles.old + 1) }
@@ -34,21 +34,21 @@ fn keep<E: Drop>(
     }
 }
 
-// What each worker did.
-fn join_all<R: Threads>(
+// What each worker did, with its gate.
+fn join_all<R: Threads, G: Drop>(
     rt: &R,
-    handles: Vec<JoinHandle<Counts>>,
-    mut counts: Vec<Counts>,
-) -> Vec<Counts>
-    requires none { vec_len counts ≡ 0 }
-    requires room { vec_len handles ≤ vec_capacity counts }
+    handles: Vec<JoinHandle<Worked<G>>>,
+    mut worked: Vec<Worked<G>>,
+) -> Vec<Worked<G>>
+    requires none { vec_len worked ≡ 0 }
+    requires room { vec_len handles ≤ vec_capacity worked }
     ensures { vec_len result ≡ vec_len handles }
 {
     let mut handles = handles;
     while let Some(handle) = handles.pop() {
-        counts.push_reserved(handle.join(rt));
+        worked.push_reserved(handle.join(rt));
     }
-    counts
+    worked
 }
 
 // Runs a worker at each post, on a thread of its own, while the application runs on this one; there is room for their handles and for what
@@ -64,29 +64,29 @@ fn run_all<
     rt: &'m R,
     crew: &'m Crew,
     posts: Vec<Post<'m, L, G>>,
-    handles: Vec<JoinHandle<Counts>>,
-    counts: Vec<Counts>,
+    handles: Vec<JoinHandle<Worked<G>>>,
+    worked: Vec<Worked<G>>,
     application: F,
-) -> (T, Result<Vec<Counts>, CrewError>)
+) -> (T, Result<Vec<Worked<G>>, CrewError>)
     requires application { (stands : Result Unit WhyNone) → F.pre application stands }
-    requires none { (vec_len handles ≡ 0) × (vec_len counts ≡ 0) }
-    requires room { (vec_len posts ≤ vec_capacity handles) × (vec_len posts ≤ vec_capacity counts) }
-    ensures told { MatchResult result.1 (λ counts. F.post application (Ok tt) result.0 × (vec_len counts ≡ vec_len posts.entry)) (λ e. F.post application (Err e) result.0) }
+    requires none { (vec_len handles ≡ 0) × (vec_len worked ≡ 0) }
+    requires room { (vec_len posts ≤ vec_capacity handles) × (vec_len posts ≤ vec_capacity worked) }
+    ensures told { MatchResult result.1 (λ worked. F.post application (Ok tt) result.0 × (vec_len worked ≡ vec_len posts.entry)) (λ e. F.post application (Err e) result.0) }
 {
     thread::scope(
         thread::scope_env(),
         rt,
-        move |scope| -> (T, Result<Vec<Counts>, CrewError>)
-            requires { IsSync R.row × ((stands : Result Unit WhyNone) → F.pre application stands) × (vec_len handles ≡ 0) × (vec_len counts ≡ 0)
-                × (vec_len posts ≤ vec_capacity handles) × (vec_len posts ≤ vec_capacity counts) }
-            ensures told { MatchResult result.1 (λ counts. F.post application (Ok tt) result.0 × (vec_len counts ≡ vec_len posts.entry)) (λ e. F.post application (Err e) result.0) }
+        move |scope| -> (T, Result<Vec<Worked<G>>, CrewError>)
+            requires { IsSync R.row × ((stands : Result Unit WhyNone) → F.pre application stands) × (vec_len handles ≡ 0) × (vec_len worked ≡ 0)
+                × (vec_len posts ≤ vec_capacity handles) × (vec_len posts ≤ vec_capacity worked) }
+            ensures told { MatchResult result.1 (λ worked. F.post application (Ok tt) result.0 × (vec_len worked ≡ vec_len posts.entry)) (λ e. F.post application (Err e) result.0) }
         {
             let mut posts = posts;
             let mut handles = handles;
             while let Some(post) = posts.pop() {
                 let Post { seat, gate } = post;
                 let started = scope.spawn(
-                    move || -> Counts
+                    move || -> Worked<G>
                         requires { IsSync R.row }
                     { work(rt, seat, gate) },
                 );
@@ -97,30 +97,32 @@ fn run_all<
             }
             let told = application(Ok(()));
             crew.dismiss();
-            (told, Ok(join_all(rt, handles, counts)))
+            (told, Ok(join_all(rt, handles, worked)))
         },
     )
 }
 
 // Room for the threads' handles, and for what they did.
-fn rooms(alloc: Global, count: usize) -> Result<(Vec<JoinHandle<Counts>>, Vec<Counts>), CrewError>
+fn rooms<G: Drop>(
+    alloc: Global,
+    count: usize,
+) -> Result<(Vec<JoinHandle<Worked<G>>>, Vec<Worked<G>>), CrewError>
     ensures none { IfOk result (λ r. (vec_len r.0 ≡ 0) × (vec_len r.1 ≡ 0)) }
     ensures room { IfOk result (λ r. (count ≤ vec_capacity r.0) × (count ≤ vec_capacity r.1)) }
 {
     let handles = Vec::with_capacity(alloc, count)?;
-    let counts = Vec::with_capacity(alloc, count)?;
-    Ok((handles, counts))
+    let worked = Vec::with_capacity(alloc, count)?;
+    Ok((handles, worked))
 }
 
 /// Runs a worker at each post, on a thread of its own, while the application runs on this one. The application is told that the crew
 /// stands, or why it doesn't: then it runs without workers. Once it has returned the crew is dismissed. It answers what the application
-/// returned, and for each post what its worker did; all workers have ended then. It may wait.
+/// returned, and for each post what its worker did, with its gate; all workers have ended then. It may wait.
 ///
 /// # Errors
 ///
 /// `OutOfMemory` where there was no memory for the threads' handles, and `NoThread` where a thread couldn't be started: the
-/// workers that had started are dismissed then, and have ended. Posts don't come back: a worker that has started has its post, and lets it go
-/// as it ends.
+/// workers that had started are dismissed then, and have ended. Posts and gates don't come back.
 ///
 /// Of all this the clauses say that what it answers first is what the application may return as it was told, and that it counts as many
 /// workers as there were posts.
@@ -136,12 +138,12 @@ pub fn run_beside<
     crew: &'m Crew,
     posts: Vec<Post<'m, L, G>>,
     application: F,
-) -> (T, Result<Vec<Counts>, CrewError>)
+) -> (T, Result<Vec<Worked<G>>, CrewError>)
     requires { (stands : Result Unit WhyNone) → F.pre application stands }
-    ensures told { MatchResult result.1 (λ counts. F.post application (Ok tt) result.0 × (vec_len counts ≡ vec_len posts.entry)) (λ e. F.post application (Err e) result.0) }
+    ensures told { MatchResult result.1 (λ worked. F.post application (Ok tt) result.0 × (vec_len worked ≡ vec_len posts.entry)) (λ e. F.post application (Err e) result.0) }
 {
     match rooms(rt.alloc(), posts.len()) {
-        Ok((handles, counts)) => run_all(rt, crew, posts, handles, counts, application),
+        Ok((handles, worked)) => run_all(rt, crew, posts, handles, worked, application),
         Err(error) => (application(Err(error)), Err(error)),
     }
 }

@@ -60,12 +60,17 @@ impl Crew {
         self.ring();
     }
 
+    /// Has its gates stop nobody any more, once the workers that were dismissed have ended: they may be used by others then.
+    pub fn summon(&self) {
+        self.stop.store(false, Ordering::SeqCst);
+    }
+
     /// Whether it is dismissed.
     pub fn is_dismissed(&self) -> bool {
         self.stop.load(Ordering::SeqCst)
     }
 
-    /// The flag that stops its workers, for a gate of one's own: true once it is dismissed.
+    /// The flag that stops its workers, for a gate of one's own: true once it is dismissed, until it is summoned.
     pub fn stop(&self) -> Result<Arc<AtomicBool>, AllocError> {
         Arc::try_clone(&self.stop)
     }

@@ -10,5 +10,5 @@ mod runtime;
 pub use crate::beside::run_beside;
 pub use crate::crew::{Crew, HostGate};
 pub use crate::error::CrewError;
-pub use crate::post::{Counts, NoPosts, Post, posts};
+pub use crate::post::{Counts, NoPosts, Post, Worked, posts};
 pub use crate::runtime::Runtime;

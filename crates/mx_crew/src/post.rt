@@ -35,6 +35,13 @@ pub struct Counts {
     pub given_back: u32,
 }
 
+/// What a worker did, and its gate, which is free again.
+#[derive(Drop)]
+pub struct Worked<G> {
+    pub counts: Counts,
+    pub gate: G,
+}
+
 /// A post for each seat, as far as there are gates. What is over, seats or gates, is let go. Where there is no memory for them, seats and
 /// gates come back.
 pub fn posts<'m, L: Link, G: Gate<Link = L> + Drop>(
@@ -83,17 +90,17 @@ fn work_once<'m, L: Link, R: Wait + RandomSource + AllocGlobal, G: Gate<Link = L
     })
 }
 
-// Works with a seat and a gate until the gate stops it, and says what it did. Where there is no memory for its start it tries again after
-// a while.
+// Works with a seat and a gate until the gate stops it, and says what it did: the gate comes back. Where there is no memory for its start it
+// tries again after a while.
 pub(crate) fn work<'m, L: Link, R: Wait + RandomSource + AllocGlobal, G: Gate<Link = L> + Drop>(
     rt: &R,
     seat: Seated<'m, AtWork, Queued<L>, Outcome>,
     gate: G,
-) -> Counts {
+) -> Worked<G> {
     let (mut seat, mut gate) = (seat, gate);
     for _ in rt.forever() {
         match work_once(rt, seat, &mut gate) {
-            Ok(counts) => return counts,
+            Ok(counts) => return Worked { counts, gate },
             Err(again) => seat = again,
         }
     }

@@ -3,7 +3,7 @@ ghost use Rattle.std.specs.Prelude.{◌≡◌, All};
 
 use crate::gate::Flags;
 use crate::reader::Reader;
-use mx_crew::{Counts, Post, posts, run_beside};
+use mx_crew::{Post, Worked, posts, run_beside};
 use mx_gate::Gate;
 use mx_link::Link;
 use mx_multi::{Application, Multi, Seat, Seated, WorkerSeat};
@@ -99,11 +99,11 @@ fn read_both<L: Link, R: Wait + Clock>(
 }
 
 // How many ends the workers recorded together, and how many the one that recorded most.
-fn recorded(counts: &[Counts]) -> (u32, u32) {
+fn recorded<G>(worked: &[Worked<G>]) -> (u32, u32) {
     let (mut all, mut most) = (0u32, 0u32);
-    for count in counts {
-        all = all.saturating_add(count.recorded);
-        most = most.max(count.recorded);
+    for one in worked {
+        all = all.saturating_add(one.counts.recorded);
+        most = most.max(one.counts.recorded);
     }
     (all, most)
 }
@@ -126,8 +126,8 @@ fn read_beside<
         Err(_) => (Comparison::Wrong, Comparison::Wrong),
     });
     match counted {
-        Ok(counts) => Came {
-            recorded: Some(recorded(counts.as_slice())),
+        Ok(worked) => Came {
+            recorded: Some(recorded(worked.as_slice())),
             answers,
         },
         Err(_) => Came {

@@ -96,7 +96,7 @@ fn collect_beside<
     ensures ends { IfOk result (λ ends. AreEndsOf options.timeout_ms options.max_redirects (map (λ u. u.now) urls.now) ends.items) }
     ensures cause { IfErr result (λ e. is_of_run e ≡ true) }
 {
-    let (collected, _counts) = run_beside(
+    let (collected, _worked) = run_beside(
         rt,
         crew,
         posts,
