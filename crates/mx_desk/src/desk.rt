@@ -1,0 +1,239 @@
+//! The requests that were added at a seat, and what they ended with.
+ghost use Rattle.std.specs.Prelude.{◌≡◌, true, count_by, is_some, None, Ok, Some, IfOk, IfSome, MatchOption, OnOk, slice_get};
+ghost use mathlib.Core.List.{IsPrefix};
+ghost use Rattle.mx_request.specs.Request.{request_origin};
+ghost use Rattle.mx_lock.specs.Ties.{Has, tie};
+ghost use Rattle.mx_desk.specs.Additions.{IsTold, awaits_at};
+ghost use Rattle.mx_desk.specs.Desks.{HasRoom, IsNewDesk};
+
+use crate::addition::Addition;
+use crate::error::DeskError;
+use mx_chain::Outcome;
+use mx_journal::{AddReply, RemoveReply};
+use mx_link::Link;
+use mx_message::next_message_within;
+use mx_multi::{Application, Seated, WrongSeat};
+use mx_request::Request;
+use mx_request::laws::origin_is_whole_request;
+use mx_types::{HandleId, OutOfMemory, Ticket};
+use mx_worker::Queued;
+use std::alloc::{AllocGlobal, Global};
+use std::marker::Model;
+use std::rt::Clock;
+use std::snapshot::Snapshot;
+use std::sync::Wait;
+
+/// A request that has ended: the number under which it was added, the ticket of its addition, and what its transfer ended with.
+#[derive(Drop)]
+pub struct Ended {
+    pub at: usize,
+    pub ticket: Ticket,
+    pub outcome: Outcome,
+}
+
+// The ticket of an addition that was made; None where the history has no room for one more. It is of any work, so that what is handed back is
+// let go as one value, whatever that is.
+fn added<Q: Drop>(answer: Result<AddReply<Q>, WrongSeat<Q>>) -> Result<Option<Ticket>, DeskError>
+    ensures { IfOk result (λ o. IfSome o (λ t. answer ≡ Ok (AddReply.Added t))) }
+{
+    match answer {
+        Ok(AddReply::Added(ticket)) => Ok(Some(ticket)),
+        Ok(AddReply::HistoryFull(_)) => Ok(None),
+        Ok(AddReply::TicketsSpent(_)) => Ok(None),
+        Ok(AddReply::OutOfMemory(_)) => Err(DeskError::OutOfMemory),
+        _ => Err(DeskError::NotAdded),
+    }
+}
+
+// Adds a transfer of the request under this handle, if the history has room.
+fn add_transfer<L: Link, R: Wait + AllocGlobal>(
+    rt: &R,
+    seat: &mut Seated<'_, Application, Queued<L>, Outcome>,
+    handle: HandleId,
+    request: Request,
+) -> Result<Option<Addition>, DeskError>
+    ensures request { IfOk result (λ o. IfSome o (λ a. a.request ≡ request)) }
+    ensures told { IfOk result (λ o. IfSome o (IsTold seat.new.ties)) }
+    ensures later { IsPrefix seat.old.ties seat.new.ties }
+{
+    request.know();
+    let asked = Snapshot::of(&request);
+    let Ok(work) = Queued::new(rt.alloc(), request) else {
+        return Err(DeskError::OutOfMemory);
+    };
+    match added(seat.add(rt, handle, work))? {
+        Some(ticket) => Ok(Some(Addition::new(ticket, asked))),
+        None => Ok(None),
+    }
+}
+
+// Whether the end of this ticket's addition is awaited under that number.
+fn awaits(additions: &[Option<Addition>], at: usize, ticket: Ticket) -> bool
+    ensures { result ≡ awaits_at additions.now at ticket }
+{
+    match additions.get(at) {
+        Some(Some(addition)) => addition.is_of(ticket),
+        _ => false,
+    }
+}
+
+// The handle of a number under which nothing is added, if there is that number.
+fn free_handle(additions: &[Option<Addition>], at: usize) -> Option<HandleId>
+    ensures { IfSome result (λ _. slice_get additions.now at ≡ Some None) }
+{
+    let Some(None) = additions.get(at) else {
+        return None;
+    };
+    match u32::try_from(at) {
+        Ok(handle) => Some(HandleId(handle)),
+        Err(_) => None,
+    }
+}
+
+// Removes a handle.
+fn remove<L: Link, R: Wait>(
+    rt: &R,
+    seat: &mut Seated<'_, Application, Queued<L>, Outcome>,
+    handle: HandleId,
+) -> Result<(), DeskError>
+    ensures later { IsPrefix seat.old.ties seat.new.ties }
+{
+    match seat.remove(rt, handle) {
+        Ok(RemoveReply::Removed) => Ok(()),
+        Ok(RemoveReply::OutOfMemory) => Err(DeskError::OutOfMemory),
+        _ => Err(DeskError::NotAdded),
+    }
+}
+
+/// An application's seat, and the requests that it has added, each under a number of the caller's own, which is the number of its handle.
+/// Contracts see the request that is added under each number, how many may be added at a time, and of which requests additions are, as the
+/// seat was told.
+#[derive(Drop)]
+pub struct Desk<'m, L: Link> {
+    seat: Seated<'m, Application, Queued<L>, Outcome>,
+    additions: Vec<Option<Addition>>,
+    waiting: usize,
+    width: usize,
+    is_full: bool,
+}
+
+impl<'m, L: Link> Model for Desk<'m, L> {
+    ghost use Rattle.std.specs.Prelude.{map};
+    ghost use Rattle.mx_desk.specs.Desks.{DeskValue, IsDesk, asked_at};
+
+    ghost Value = { DeskValue };
+
+    ghost view = { λ d. record { ties = d.seat.ties; asked = map asked_at d.additions.items; width = d.width } };
+
+    ghost invariant = { λ d. IsDesk d.seat.ties d.additions.items d.width d.waiting };
+}
+
+impl<'m, L: Link> Desk<'m, L> {
+    ghost use Rattle.mx_desk.specs.Desks.{Adds, Ends, Stays};
+
+    /// Nothing is added. There are so many numbers, from 0 on, and at most `width` requests are added at a time.
+    pub fn new(
+        alloc: Global,
+        seat: Seated<'m, Application, Queued<L>, Outcome>,
+        count: usize,
+        width: usize,
+    ) -> Result<Desk<'m, L>, OutOfMemory>
+        ensures { IfOk result (IsNewDesk count width) }
+    {
+        let mut additions = Vec::with_capacity(alloc, count)?;
+        for made in 0..count {
+            let _ = made;
+            additions.push(None)?;
+        }
+        Ok(Desk {
+            seat,
+            additions,
+            waiting: 0,
+            width,
+            is_full: false,
+        })
+    }
+
+    /// Whether nothing is added.
+    pub fn is_empty(&self) -> bool
+        ensures { result ≡ true → count_by is_some self.now.asked ≡ 0 }
+    {
+        self.waiting == 0
+    }
+
+    /// Whether one more request may be added.
+    pub fn has_room(&self) -> bool
+        ensures { result ≡ true → HasRoom self.now }
+    {
+        self.waiting < self.width
+    }
+
+    /// Whether an addition was refused, since the history has no room for one more.
+    pub fn is_full(&self) -> bool {
+        self.is_full
+    }
+
+    /// Adds a request under a number, under which nothing is added. Its ticket comes back; None where the history has no room for one more,
+    /// and then nothing is added.
+    ///
+    /// `NotAdded` comes where there is no such number, or something is added under it, or where the multi handle refuses it.
+    pub fn add<R: Wait + AllocGlobal>(
+        &mut self,
+        rt: &R,
+        at: usize,
+        request: Request,
+    ) -> Result<Option<Ticket>, DeskError>
+        requires room { HasRoom self.old }
+        ensures added { IfOk result (λ o. MatchOption o (Stays self.old self.new) (λ _. Adds self.old self.new at request)) }
+    {
+        let Some(handle) = free_handle(self.additions.as_slice(), at) else {
+            return Err(DeskError::NotAdded);
+        };
+        let Some(addition) = add_transfer(rt, &mut self.seat, handle, request)? else {
+            self.is_full = true;
+            return Ok(None);
+        };
+        let ticket = addition.ticket();
+        self.additions[at] = Some(addition);
+        self.waiting += 1;
+        Ok(Some(ticket))
+    }
+
+    // Takes an addition out, whose end came: nothing is added under its number then.
+    fn take(&mut self, at: usize, ticket: Ticket, outcome: &Outcome) -> Result<(), DeskError>
+        requires told { Has self.old.ties (tie ticket (request_origin outcome.now.request)) }
+        ensures ended { OnOk result (Ends self.old self.new at outcome.now.request) }
+        ensures ties { self.new.ties ≡ self.old.ties }
+    {
+        outcome.request().know();
+        origin_is_whole_request();
+        if awaits(self.additions.as_slice(), at, ticket) {
+            self.additions[at] = None;
+            self.waiting -= 1;
+            return Ok(());
+        }
+        Err(DeskError::NoMessage)
+    }
+
+    /// Reads the next message, for which it waits as long as that, at most: the request has ended that was added under its number, and its
+    /// handle is removed. Where none came it answers None.
+    pub fn next<R: Wait + AllocGlobal + Clock>(
+        &mut self,
+        rt: &R,
+        milliseconds: u32,
+    ) -> Result<Option<Ended>, DeskError>
+        ensures ended { IfOk result (λ o. MatchOption o (Stays self.old self.new) (λ e. Ends self.old self.new e.at e.outcome.request)) }
+    {
+        let Some(message) = next_message_within(rt, &mut self.seat, milliseconds)? else {
+            return Ok(None);
+        };
+        let at = message.handle.0 as usize;
+        self.take(at, message.ticket, &message.outcome)?;
+        remove(rt, &mut self.seat, message.handle)?;
+        Ok(Some(Ended {
+            at,
+            ticket: message.ticket,
+            outcome: message.outcome,
+        }))
+    }
+}
