@@ -3,7 +3,7 @@ use Rattle.std.proofs.Common.{◌≡◌, ◌≢◌, ◌∙◌, refl, ap, sym, su
 use Rattle.std.specs.Prelude.{◌⊎◌, Option, Some, None, Result, Ok, Err, OnOk, MatchOption, if◌then◌else◌, option_map, option_to_list, slice_get, slice_set}
 use Rattle.mx_types.specs.declared.names.Ticket.{Ticket}
 use Rattle.mx_request.specs.Request.{IsRequest, RequestValue}
-use Rattle.mx_save_jobs.specs.Books.{HasNoneAdded, IsClosed, IsJobFor, IsSameRun, StandsAt, is_unadded}
+use Rattle.mx_save_jobs.specs.Books.{HasNoneAdded, IsJobFor, IsSameRun, StandsAt, is_unadded}
 use Rattle.mx_save_jobs.specs.Jobs.{Asks, BookValue, job_at, job_of}
 use Rattle.mx_save_jobs.specs.declared.asking.Asking.{Asking}
 use Rattle.mx_save_jobs.specs.declared.job.Job.{Job}
@@ -70,9 +70,6 @@ adds_then a b c h k j job ticket is = h j job ticket (k j job ticket is)
 
 pub adds_standing : (old new : List Slot) (at : ℕ) (text : List ℕ) → StandsAt old new at text → AddsNone old new
 adds_standing old new at text s = subst (AddsNone old) (sym s.is) (adds_none old at (slot.Waiting s.job) refl)
-
-pub adds_closed : (old new : List Slot) (at : ℕ) → IsClosed old new at → AddsNone old new
-adds_closed old new at c = subst (AddsNone old) (sym c.is) (adds_none old at c.left c.unadded)
 
 -- a URL that stands in a slot since has its request
 pub stands_for : (asking : Asking) (old new : List Slot) (at : ℕ) (text : List ℕ) (request : RequestValue) → slice_get old at ≡ Some slot.Free → StandsAt old new at text

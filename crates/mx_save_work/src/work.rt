@@ -1,7 +1,7 @@
 //! The work of a run: its URLs, from their reading to their ends.
 ghost use Rattle.std.specs.Prelude.{◌≡◌, [], true, false, count_by, IfOk, IfSome, IsSome, OnErr, OnOk, Some, slice_get};
 ghost use Rattle.mx_request.specs.Request.{IsRequest};
-ghost use Rattle.mx_save_jobs.specs.Books.{HasNoneAdded, IsAdded, IsJobFor, awaits_at};
+ghost use Rattle.mx_save_jobs.specs.Books.{HasNoneAdded, IsAdded, IsClosed, IsJobFor, awaits_at};
 ghost use Rattle.mx_save_jobs.specs.Jobs.{is_taken, job_at};
 ghost use Rattle.mx_save_jobs.specs.declared.job.Slot.TheVariants as slot;
 ghost use Rattle.mx_save_work.specs.Feeds.{left, IsFed};
@@ -120,7 +120,7 @@ impl<'a, F: Folder, W: Write, R: Read + Drop> Work<'a, F, W, R> {
     pub fn close(&mut self, at: usize, outcome: Outcome) -> Result<Option<u64>, Stop>
         requires going { self.old.book.is_stopped ≡ false }
         requires asked { IsJobFor self.old.book.asking self.old.book.slots at outcome.request }
-        ensures added { OnOk result (AddsNone self.old.book.slots self.new.book.slots) }
+        ensures closed { OnOk result (IsClosed self.old.book.slots self.new.book.slots at) }
         ensures going { OnOk result (self.new.book.is_stopped ≡ false) }
         ensures stopped { OnErr result (self.new.book.is_stopped ≡ true) }
         ensures run { IsSameWork self.old self.new }

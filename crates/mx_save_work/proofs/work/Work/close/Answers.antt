@@ -1,10 +1,10 @@
 use Rattle.std.proofs.Common.{◌≡◌, subst}
-use Rattle.mx_save_work.specs.Works.{AddsNone}
-use Rattle.mx_save_work.proofs.Works.{adds_closed, on_ok}
+use Rattle.mx_save_jobs.specs.Books.{IsClosed}
+use Rattle.mx_save_work.proofs.Works.{on_ok}
 use Rattle.mx_save_work.proofs.work.Work.close.Goals as goal
 
-pub returns-clause-added : goal.returns-clause-added
-returns-clause-added g c =
+pub returns-clause-closed : goal.returns-clause-closed
+returns-clause-closed g c =
     on_ok c.close.result
-    (λ k. subst (λ w. AddsNone w.book.slots c.close.new.self.slots) c.self.view_is (adds_closed c.self.inside.book.slots c.close.new.self.slots c.args.at k))
+    (λ k. subst (λ w. IsClosed w.book.slots c.close.new.self.slots c.args.at) c.self.view_is k)
     c.close.ensures.slots

@@ -1,0 +1,118 @@
+-- What is added at a desk of the URLs of a run, one step further.
+use Rattle.std.proofs.Common.{◌≡◌, ◌≢◌, ◌∙◌, refl, ap, sym, subst, ℕ, suc, zero, List, [], ◌∷◌, Bool, true, false, inl, inr, arith}
+use Rattle.std.specs.Prelude.{◌⊎◌, Option, Some, None, Result, Ok, Err, OnOk, count_by, is_some, slice_get, slice_set}
+use Rattle.mx_types.specs.declared.names.Ticket.{Ticket}
+use Rattle.mx_request.specs.Request.{RequestValue}
+use Rattle.mx_desk.proofs.Desks.{none_is_added}
+use Rattle.mx_save_jobs.specs.Books.{HasNoneAdded, IsAdded, IsClosed, IsJobFor, awaits_at, is_unadded}
+use Rattle.mx_save_jobs.specs.Jobs.{Asks, job_at, job_of}
+use Rattle.mx_save_jobs.specs.declared.asking.Asking.{Asking}
+use Rattle.mx_save_jobs.specs.declared.job.Job.{Job}
+use Rattle.mx_save_jobs.specs.declared.job.Slot.{Slot}
+use Rattle.mx_save_jobs.specs.declared.job.Slot.TheVariants as slot
+use Rattle.mx_save_work.specs.Works.{AddsNone}
+use Rattle.mx_save_urls.specs.Asked.{AreAsked}
+
+-- lists, of which one element has changed
+module _ {X : Type 0} where
+  pub cases : (xs : List X) (i j : ℕ) (v x : X) → slice_get (slice_set xs i v) j ≡ Some x → ((j ≡ i) × (v ≡ x)) ⊎ ((j ≢ i) × (slice_get xs j ≡ Some x))
+  cases [] i j v x is = absurd (cc)
+  cases (y ∷ ys) zero zero v x is = inl (refl, cc)
+  cases (y ∷ ys) zero (suc j) v x is = inr ((λ e. omega (arith, e)), is)
+  cases (y ∷ ys) (suc i) zero v x is = inr ((λ e. omega (arith, e)), is)
+  cases (y ∷ ys) (suc i) (suc j) v x is =
+      elim (cases ys i j v x is) [
+        | inl c ↦ inl (ap suc c.0, c.1)
+        | inr c ↦ inr ((λ e. c.0 (omega (arith, e))), c.1)
+      ]
+
+  pub stays : (xs : List X) (i j : ℕ) (v : X) → j ≢ i → slice_get (slice_set xs i v) j ≡ slice_get xs j
+  stays [] i j v other = refl
+  stays (y ∷ ys) zero zero v other = absurd (other refl)
+  stays (y ∷ ys) zero (suc j) v other = refl
+  stays (y ∷ ys) (suc i) zero v other = refl
+  stays (y ∷ ys) (suc i) (suc j) v other = stays ys i j v (λ e. other (ap suc e))
+
+  pub there : (xs : List X) (i : ℕ) (x v : X) → slice_get xs i ≡ Some x → slice_get (slice_set xs i v) i ≡ Some v
+  there [] i x v is = absurd (cc)
+  there (y ∷ ys) zero x v is = refl
+  there (y ∷ ys) (suc i) x v is = there ys i x v is
+
+-- the URL that stands in a slot
+job_there : (slots : List Slot) (i : ℕ) (s : Slot) → slice_get slots i ≡ Some s → job_at slots i ≡ job_of s
+job_there [] i s is = absurd (cc)
+job_there (t ∷ ts) zero s is = let same : t ≡ s = cc in ap job_of same
+job_there (t ∷ ts) (suc i) s is = job_there ts i s is
+
+awaited : (slots : List Slot) (i : ℕ) (t : Ticket) → awaits_at slots i t ≡ true → (job : Job) × (ticket : Ticket) × (slice_get slots i ≡ Some (slot.Added job ticket))
+awaited [] i t is = let bad : false ≡ true = is in absurd (cc)
+awaited (slot.Free ∷ ss) zero t is = let bad : false ≡ true = is in absurd (cc)
+awaited (slot.Waiting job ∷ ss) zero t is = let bad : false ≡ true = is in absurd (cc)
+awaited (slot.Added job ticket ∷ ss) zero t is = (job, ticket, refl)
+awaited (s ∷ ss) (suc i) t is = awaited ss i t is
+
+-- where none is added
+pub asked_none : (asking : Asking) (slots : List Slot) (asked : List (Option RequestValue)) → HasNoneAdded slots → AreAsked asking slots asked
+asked_none asking slots asked none i job ticket is = absurd (none i job ticket is)
+
+pub none_asked : (asking : Asking) (slots : List Slot) (asked : List (Option RequestValue)) → count_by is_some asked ≡ 0 → AreAsked asking slots asked → HasNoneAdded slots
+none_asked asking slots asked none all i job ticket is = let a = all i job ticket is in none_is_added asked i a.0 none a.1
+
+-- where no more were added
+pub asked_on : (asking also : Asking) (old new : List Slot) (asked now : List (Option RequestValue)) → also ≡ asking → AddsNone old new → now ≡ asked → AreAsked asking old asked → AreAsked also new now
+asked_on asking also old new asked now same none stay all i job ticket is =
+    let a = all i job ticket (none i job ticket is) in
+    (a.0, ap (λ l. slice_get l i) stay ∙ a.1, subst (λ k. Asks k job.url.items a.0) (sym same) a.2)
+
+-- where one was
+pub asked_more : (asking also : Asking) (old new : List Slot) (asked now : List (Option RequestValue)) (at : ℕ) (t : Ticket) (request : RequestValue) → also ≡ asking
+    → IsAdded old new at t → IsJobFor asking old at request → slice_get asked at ≡ Some None → now ≡ slice_set asked at (Some request)
+    → AreAsked asking old asked → AreAsked also new now
+asked_more asking also old new asked now at t request same added for free is_now all i job ticket is =
+    elim (cases old at i (slot.Added added.job t) (slot.Added job ticket) (ap (λ l. slice_get l i) (sym added.is) ∙ is)) as (λ _. (r : RequestValue) × (slice_get now i ≡ Some (Some r)) × Asks also job.url.items r) [
+      | inl c ↦
+          let same_job : added.job ≡ job = cc in
+          let its : for.job ≡ added.job = let e : Some for.job ≡ Some added.job = sym for.there ∙ added.there in cc in (
+            request,
+            ap (λ l. slice_get l i) is_now ∙ ap (slice_get (slice_set asked at (Some request))) c.0 ∙ there asked at None (Some request) free,
+            subst (λ k. Asks k job.url.items request) (sym same) (subst (λ j. Asks asking j.url.items request) (its ∙ same_job) for.asked),
+          )
+      | inr c ↦
+          let a = all i job ticket c.1 in (
+            a.0,
+            ap (λ l. slice_get l i) is_now ∙ stays asked at i (Some request) c.0 ∙ a.1,
+            subst (λ k. Asks k job.url.items a.0) (sym same) a.2,
+          )
+    ]
+
+-- where one has ended
+pub asked_less : (asking also : Asking) (old new : List Slot) (asked now : List (Option RequestValue)) (at : ℕ) → also ≡ asking
+    → IsClosed old new at → now ≡ slice_set asked at None → AreAsked asking old asked → AreAsked also new now
+asked_less asking also old new asked now at same closed is_now all i job ticket is =
+    elim (cases old at i closed.left (slot.Added job ticket) (ap (λ l. slice_get l i) (sym closed.is) ∙ is)) as (λ _. (r : RequestValue) × (slice_get now i ≡ Some (Some r)) × Asks also job.url.items r) [
+      | inl c ↦ let bad : false ≡ true = sym (ap is_unadded c.1) ∙ closed.unadded in absurd (cc)
+      | inr c ↦
+          let a = all i job ticket c.1 in (
+            a.0,
+            ap (λ l. slice_get l i) is_now ∙ stays asked at i None c.0 ∙ a.1,
+            subst (λ k. Asks k job.url.items a.0) (sym same) a.2,
+          )
+    ]
+
+-- the request that has ended is that of its URL
+pub ended_for : (asking : Asking) (slots : List Slot) (asked : List (Option RequestValue)) (at : ℕ) (t : Ticket) (request : RequestValue)
+    → awaits_at slots at t ≡ true → slice_get asked at ≡ Some (Some request) → AreAsked asking slots asked → IsJobFor asking slots at request
+ended_for asking slots asked at t request awaits added all =
+    let w = awaited slots at t awaits in
+    let a = all at w.0 w.1 w.2 in
+    let same : a.0 ≡ request = let e : Some (Some a.0) ≡ Some (Some request) = sym a.1 ∙ added in cc in
+    record {
+      job = w.0;
+      there = job_there slots at (slot.Added w.0 w.1) w.2;
+      asked = subst (λ r. Asks asking w.0.url.items r) same a.2;
+    }
+
+-- where it went well, what follows from what is known then
+pub on_ok : {A E P R : Type 0} (r : Result A E) → (P → R) → OnOk r P → OnOk r R
+on_ok (Ok a) f p = f p
+on_ok (Err e) f p = tt

@@ -1,0 +1,23 @@
+-- What is added at a desk of the URLs of a run.
+use Rattle.std.specs.Prelude.{◌≡◌, ℕ, true, List, Option, Some, count_by, slice_get}
+use Rattle.mx_types.specs.declared.names.Ticket.{Ticket}
+use Rattle.mx_request.specs.Request.{RequestValue}
+use Rattle.mx_save_jobs.specs.Books.{HasNoneAdded}
+use Rattle.mx_save_jobs.specs.Jobs.{Asks, is_taken}
+use Rattle.mx_save_jobs.specs.declared.asking.Asking.{Asking}
+use Rattle.mx_save_jobs.specs.declared.job.Job.{Job}
+use Rattle.mx_save_jobs.specs.declared.job.Slot.{Slot}
+use Rattle.mx_save_jobs.specs.declared.job.Slot.TheVariants as slot
+use Rattle.mx_save_work.specs.Works.{WorkValue}
+use Rattle.mx_save_urls.specs.declared.turns.Turned.{Turned}
+use Rattle.mx_save_urls.specs.declared.turns.Turned.TheVariants as how
+
+-- Of each URL whose transfer is added, its request is added under the number of its slot.
+abbrev pub AreAsked : Asking → List Slot → List (Option RequestValue) → Type 0
+AreAsked asking slots asked = (i : ℕ) (job : Job) (ticket : Ticket) → slice_get slots i ≡ Some (slot.Added job ticket)
+    → (request : RequestValue) × (slice_get asked i ≡ Some (Some request)) × Asks asking job.url.items request
+
+-- no transfer is added; and where all URLs have ended, all were read and none has a slot
+abbrev pub HasTurned : {W : Type 0} → WorkValue W → Turned → Type 0
+HasTurned w how.AllEnded = HasNoneAdded w.book.slots × (w.is_read ≡ true) × (count_by is_taken w.book.slots ≡ 0)
+HasTurned w how.HistoryFull = HasNoneAdded w.book.slots

@@ -1,0 +1,113 @@
+//! A URL's transfer, from the URL to the desk.
+ghost use Rattle.std.specs.Prelude.{◌≡◌, false, OnOk};
+ghost use Rattle.mx_save_jobs.specs.Books.{IsJobFor};
+ghost use Rattle.mx_save_work.specs.Works.{IsSameWork};
+ghost use Rattle.mx_desk.specs.Desks.{HasRoom};
+ghost use Rattle.mx_save_urls.specs.Asked.{AreAsked};
+
+use mx_desk::{Desk, DeskError};
+use mx_folder::Folder;
+use mx_link::Link;
+use mx_request::Request;
+use mx_save_jobs::Stop;
+use mx_save_work::Work;
+use std::alloc::AllocGlobal;
+use std::io::{Read, Write};
+use std::sync::Wait;
+
+/// What came of an attempt to begin a transfer.
+#[derive(Clone, Copy, Debug, PartialEq, Eq)]
+pub enum Begun {
+    /// One is added.
+    Added,
+    /// None is, since the URL that was read is refused or skipped, or since all were read.
+    Read,
+    /// None is, and none can be now.
+    Nothing,
+}
+
+/// Why a run stops, where its desk can't go on.
+pub fn stop_of(error: DeskError) -> Stop {
+    match error {
+        DeskError::OutOfMemory => Stop::OutOfMemory,
+        DeskError::NotAdded => Stop::NotAdded,
+        DeskError::NoMessage => Stop::NoMessage,
+    }
+}
+
+// Adds the transfer of the URL in that slot. Where the history has no room for it the URL waits.
+fn add<'a, L: Link, F: Folder, W: Write, Rd: Read + Drop, R: Wait + AllocGlobal>(
+    rt: &R,
+    desk: &mut Desk<'_, L>,
+    work: &mut Work<'a, F, W, Rd>,
+    at: usize,
+    request: Request,
+    now: u64,
+) -> Result<Begun, Stop>
+    requires room { HasRoom desk.old }
+    requires asked { IsJobFor work.old.book.asking work.old.book.slots at request }
+    requires all { AreAsked work.old.book.asking work.old.book.slots desk.old.asked }
+    ensures all { OnOk result (AreAsked work.new.book.asking work.new.book.slots desk.new.asked) }
+    ensures going { work.new.book.is_stopped ≡ work.old.book.is_stopped }
+    ensures run { IsSameWork work.old work.new }
+{
+    match desk.add(rt, at, request) {
+        Ok(Some(ticket)) => {
+            work.add(at, ticket);
+            Ok(Begun::Added)
+        }
+        Ok(None) => {
+            work.wait(at, now)?;
+            Ok(Begun::Nothing)
+        }
+        Err(error) => Err(stop_of(error)),
+    }
+}
+
+// Reads a URL, and adds its transfer, if it is to be asked for.
+fn read<'a, L: Link, F: Folder, W: Write, Rd: Read + Drop, R: Wait + AllocGlobal>(
+    rt: &R,
+    desk: &mut Desk<'_, L>,
+    work: &mut Work<'a, F, W, Rd>,
+    now: u64,
+) -> Result<Begun, Stop>
+    requires room { HasRoom desk.old }
+    requires going { work.old.book.is_stopped ≡ false }
+    requires all { AreAsked work.old.book.asking work.old.book.slots desk.old.asked }
+    ensures all { OnOk result (AreAsked work.new.book.asking work.new.book.slots desk.new.asked) }
+    ensures going { OnOk result (work.new.book.is_stopped ≡ false) }
+    ensures run { IsSameWork work.old work.new }
+{
+    if !work.may_read() {
+        return Ok(Begun::Nothing);
+    }
+    let Some(at) = work.free_slot() else {
+        return Ok(Begun::Nothing);
+    };
+    let Some(request) = work.read(at)? else {
+        return Ok(Begun::Read);
+    };
+    add(rt, desk, work, at, request, now)
+}
+
+/// Begins a transfer, if there is room for one: of a URL that has waited long enough, else of the next one that is read.
+pub fn begin<'a, L: Link, F: Folder, W: Write, Rd: Read + Drop, R: Wait + AllocGlobal>(
+    rt: &R,
+    desk: &mut Desk<'_, L>,
+    work: &mut Work<'a, F, W, Rd>,
+    now: u64,
+) -> Result<Begun, Stop>
+    requires going { work.old.book.is_stopped ≡ false }
+    requires all { AreAsked work.old.book.asking work.old.book.slots desk.old.asked }
+    ensures all { OnOk result (AreAsked work.new.book.asking work.new.book.slots desk.new.asked) }
+    ensures going { OnOk result (work.new.book.is_stopped ≡ false) }
+    ensures run { IsSameWork work.old work.new }
+{
+    if desk.is_full() || !desk.has_room() {
+        return Ok(Begun::Nothing);
+    }
+    match work.again(now)? {
+        Some((at, request)) => add(rt, desk, work, at, request, now),
+        None => read(rt, desk, work, now),
+    }
+}

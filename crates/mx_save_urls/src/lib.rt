@@ -1,0 +1,9 @@
+//! The URLs of a run at a desk: each is added as there is room, and what each ended with is saved and told.
+#![tactic(auto)]
+
+mod adding;
+mod timer;
+mod turns;
+
+pub use crate::timer::Timer;
+pub use crate::turns::{Turned, fetch};

@@ -1,0 +1,166 @@
+//! The turns of a run.
+ghost use Rattle.std.specs.Prelude.{◌≡◌, false, IfOk, IfSome, OnOk};
+ghost use Rattle.mx_save_jobs.specs.Books.{HasNoneAdded, IsClosed, IsJobFor};
+ghost use Rattle.mx_save_work.specs.Works.{IsSameWork};
+ghost use Rattle.mx_save_urls.specs.Asked.{AreAsked, HasTurned};
+
+use crate::adding::{Begun, begin, stop_of};
+use crate::timer::Timer;
+use mx_crew::Crew;
+use mx_desk::{Desk, Ended};
+use mx_folder::Folder;
+use mx_link::Link;
+use mx_save_jobs::Stop;
+use mx_save_work::Work;
+use std::alloc::AllocGlobal;
+use std::io::{Read, Write};
+use std::rt::Clock;
+use std::sync::Wait;
+
+/// How long a run waits for a message at most, in milliseconds, before it looks again.
+const LONGEST_WAIT_MS: u32 = 60_000;
+
+/// How a run left its desk: nothing is added there.
+#[derive(Clone, Copy, Debug, PartialEq, Eq)]
+pub enum Turned {
+    /// All URLs were read and have ended.
+    AllEnded,
+    /// The history of the multi handle has no room for the next URL, which waits.
+    HistoryFull,
+}
+
+// How long a message may be waited for: until the next URL may be tried again, if one could be added then.
+fn wait_ms(may_add: bool, next: Option<u64>, now: u64) -> u32 {
+    match next {
+        Some(moment) if may_add => {
+            let left = moment.saturating_sub(now);
+            u32::try_from(left)
+                .unwrap_or(LONGEST_WAIT_MS)
+                .min(LONGEST_WAIT_MS)
+        }
+        _ => LONGEST_WAIT_MS,
+    }
+}
+
+// Ends the URL whose transfer has ended, or has it wait, where it is to be tried again.
+fn close<'a, F: Folder, W: Write, Rd: Read + Drop, R: Clock>(
+    rt: &R,
+    work: &mut Work<'a, F, W, Rd>,
+    ended: Ended,
+    timer: Timer,
+) -> Result<(), Stop>
+    requires going { work.old.book.is_stopped ≡ false }
+    requires asked { IsJobFor work.old.book.asking work.old.book.slots ended.at ended.outcome.request }
+    ensures closed { OnOk result (IsClosed work.old.book.slots work.new.book.slots ended.at) }
+    ensures going { OnOk result (work.new.book.is_stopped ≡ false) }
+    ensures run { IsSameWork work.old work.new }
+{
+    let at = ended.at;
+    if let Some(delay) = work.close(at, ended.outcome)? {
+        let now = timer.now(rt)?;
+        work.wait(at, now.saturating_add(delay))?;
+    }
+    Ok(())
+}
+
+// Waits for the next message for so many milliseconds at most, and ends its URL.
+fn await_one<'a, L: Link, F: Folder, W: Write, Rd: Read + Drop, R: Wait + AllocGlobal + Clock>(
+    rt: &R,
+    desk: &mut Desk<'_, L>,
+    work: &mut Work<'a, F, W, Rd>,
+    timer: Timer,
+    milliseconds: u32,
+) -> Result<(), Stop>
+    requires going { work.old.book.is_stopped ≡ false }
+    requires all { AreAsked work.old.book.asking work.old.book.slots desk.old.asked }
+    ensures all { OnOk result (AreAsked work.new.book.asking work.new.book.slots desk.new.asked) }
+    ensures going { OnOk result (work.new.book.is_stopped ≡ false) }
+    ensures run { IsSameWork work.old work.new }
+{
+    match desk.next(rt, milliseconds) {
+        Ok(None) => Ok(()),
+        Ok(Some(ended)) => {
+            if work.awaits(ended.at, ended.ticket) {
+                return close(rt, work, ended, timer);
+            }
+            Err(Stop::NoMessage)
+        }
+        Err(error) => Err(stop_of(error)),
+    }
+}
+
+// How the run leaves its desk, if it does.
+fn how_turned<'a, L: Link, F: Folder, W: Write, Rd: Read + Drop>(
+    desk: &Desk<'_, L>,
+    work: &Work<'a, F, W, Rd>,
+) -> Option<Turned>
+    requires all { AreAsked work.now.book.asking work.now.book.slots desk.now.asked }
+    ensures { IfSome result (HasTurned work.now) }
+{
+    if desk.is_empty() {
+        if work.is_done() {
+            return Some(Turned::AllEnded);
+        }
+        if desk.is_full() {
+            return Some(Turned::HistoryFull);
+        }
+    }
+    None
+}
+
+// Begins transfers and waits for their ends, until nothing is left to do at the desk. The workers are woken once as many are added as can be.
+fn take_turns<'a, L: Link, F: Folder, W: Write, Rd: Read + Drop, R: Wait + AllocGlobal + Clock>(
+    rt: &R,
+    crew: &Crew,
+    desk: &mut Desk<'_, L>,
+    work: &mut Work<'a, F, W, Rd>,
+    timer: Timer,
+) -> Result<Turned, Stop>
+    requires going { work.old.book.is_stopped ≡ false }
+    requires all { AreAsked work.old.book.asking work.old.book.slots desk.old.asked }
+    ensures turned { IfOk result (HasTurned work.new) }
+    ensures going { OnOk result (work.new.book.is_stopped ≡ false) }
+    ensures run { IsSameWork work.old work.new }
+{
+    let mut to_wake = false;
+    for _ in rt.forever() {
+        let now = timer.now(rt)?;
+        match begin(rt, desk, work, now)? {
+            Begun::Added => to_wake = true,
+            Begun::Read => {}
+            Begun::Nothing => {
+                if to_wake {
+                    crew.ring();
+                    to_wake = false;
+                }
+                if let Some(turned) = how_turned(desk, work) {
+                    return Ok(turned);
+                }
+                let may_add = desk.has_room() && !desk.is_full();
+                let milliseconds = wait_ms(may_add, work.next_moment(), now);
+                await_one(rt, desk, work, timer, milliseconds)?;
+            }
+        }
+    }
+    unreachable!()
+}
+
+/// Fetches the URLs of a run at a desk, where nothing is added yet, with the workers of a crew. It goes on until all have ended, or the history
+/// of the multi handle is full. It may wait.
+pub fn fetch<'a, L: Link, F: Folder, W: Write, Rd: Read + Drop, R: Wait + AllocGlobal + Clock>(
+    rt: &R,
+    crew: &Crew,
+    desk: Desk<'_, L>,
+    work: Work<'a, F, W, Rd>,
+    timer: Timer,
+) -> (Work<'a, F, W, Rd>, Result<Turned, Stop>)
+    requires going { work.book.is_stopped ≡ false }
+    requires none { HasNoneAdded work.book.slots }
+    ensures turned { IfOk result.1 (HasTurned result.0) }
+    ensures going { OnOk result.1 (result.0.book.is_stopped ≡ false) }
+    ensures run { IsSameWork work.entry result.0 }
+{
+    let (mut desk, mut work) = (desk, work);
+    let turned = take_turns(rt, crew, &mut desk, &mut work, timer);
+    (work, turned)
+}
