@@ -1,0 +1,10 @@
+//! A run that saves: its URLs are fetched by workers over sockets, at one multi handle after another.
+#![tactic(auto)]
+
+mod epoch;
+mod opening;
+mod plan;
+mod run;
+
+pub use crate::plan::Plan;
+pub use crate::run::{Ended, save_all};

@@ -1,0 +1,38 @@
+//! How a run fetches.
+ghost use Rattle.std.specs.Prelude.{◌≡◌, true};
+ghost use Rattle.mx_multi.specs.Opening.{are_within as are_limits_within};
+ghost use Rattle.mx_save_run.specs.Plans.{IsPlan};
+
+use mx_multi::Limits;
+use mx_retry::MOST_WAITING;
+use mx_run_io::Options;
+
+/// How the URLs of a run are fetched.
+#[derive(Clone, Copy, Debug, PartialEq, Eq)]
+pub struct Plan {
+    /// By how many workers, how many at a time, and how. `at_once` says how many transfers run, whatever the workers.
+    pub options: Options,
+    /// The events that the history of a multi handle has room for: 4 to 1,048,576.
+    pub history: u32,
+}
+
+impl Plan {
+    /// What a multi handle is opened with: one seat, and as many workers as the plan has.
+    pub fn limits(&self) -> Limits
+        requires { IsPlan self.now }
+        ensures within { are_limits_within result ≡ true }
+        ensures workers { result.workers ≡ self.now.options.workers }
+    {
+        Limits {
+            seats: 1,
+            workers: self.options.workers,
+            history: self.history,
+            max_connects: self.options.max_connects,
+        }
+    }
+
+    /// For how many URLs that have no end yet a run has places: those of the transfers that run, and those that wait.
+    pub fn slots(&self) -> usize {
+        usize::from(self.options.at_once) + MOST_WAITING
+    }
+}
