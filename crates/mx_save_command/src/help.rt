@@ -25,11 +25,11 @@ go. A URL that failed with 6, 7, 18, 28, 52, 55 or 56, or with status 408, 429,
 up to 60 seconds, if its method is GET or HEAD.";
 
 /// The exit statuses of `save`, and an example.
-pub const MORE_SAVE: &str =
-    "Exit status: the first CODE that isn't 0, in the order of the URLs; else
+pub const MORE_SAVE: &str = "Exit status: the first CODE that isn't 0, in the order of the URLs; but
     0  each URL was saved, done or skipped; or this help was printed
-   23  the folder couldn't be made or flushed
+   23  the folder couldn't be made; or flushed, where each CODE is 0
    26  the list, or the file of --data, couldn't be read
+   27  no memory, thread, poll or clock was had to begin, or to go on
   120  the command line is refused
   121  the output couldn't be written
 

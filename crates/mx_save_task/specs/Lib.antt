@@ -1,0 +1,4 @@
+-- What `run_save` does, and what its exit status says.
+pub mod Asked
+pub mod Saved
+pub mod Status

@@ -1,0 +1,10 @@
+//! The command `save`: from what it is asked for to what was saved and told.
+#![tactic(auto)]
+
+mod asked;
+mod opened;
+mod run;
+mod status;
+mod unread;
+
+pub use crate::run::{Saved, run_save, save_in};

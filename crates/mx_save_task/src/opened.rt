@@ -1,0 +1,52 @@
+//! What a run reads its URLs from, and what it saves in.
+ghost use Rattle.std.specs.Prelude.{◌≡◌, ◌⊎◌, [], IfErr, IfOk};
+
+use crate::status::{OUT_OF_MEMORY, UNMADE, UNREAD};
+use crate::unread::tell_unread;
+use either::{Either, Left, Right};
+use mx_folder::{FolderError, SystemFolder};
+use mx_run_io::Input as CountedInput;
+use mx_save_command::ListSource;
+use mx_url_list::UrlList;
+use std::alloc::AllocGlobal;
+use std::fs::File;
+use std::io::Input;
+use std::rt::Files;
+
+/// The list of URLs, if there is one, or the exit status where it can't be opened, which is told.
+pub fn list_of<R: Files + Input + AllocGlobal + Eprint>(
+    rt: &R,
+    input: Option<ListSource<'_>>,
+) -> Result<Option<UrlList<Either<R::File, R::Reader>>>, u8>
+    ensures { IfErr result (λ status. (status ≡ UNREAD) ⊎ (status ≡ OUT_OF_MEMORY)) }
+{
+    let reader = match input {
+        None => return Ok(None),
+        Some(ListSource::Standard) => Right(rt.reader()),
+        Some(ListSource::File(path)) => match File::open(rt, path) {
+            Ok(file) => Left(file),
+            Err(error) => return Err(tell_unread(rt, path, error)),
+        },
+    };
+    Ok(Some(UrlList::new(rt.alloc(), CountedInput::new(reader, u64::MAX))))
+}
+
+/// The folder of the files, which is made where it isn't there, or the exit status where it can't be, which is told.
+pub fn folder_of<'a, R: Files + AllocGlobal + Eprint>(
+    rt: &'a R,
+    path: &str,
+) -> Result<SystemFolder<'a, R>, u8>
+    ensures folder { IfOk result (λ folder. folder ≡ []) }
+    ensures status { IfErr result (λ status. (status ≡ UNMADE) ⊎ (status ≡ OUT_OF_MEMORY)) }
+{
+    match SystemFolder::open(rt.alloc(), rt, path) {
+        Ok(folder) => Ok(folder),
+        Err(error) => {
+            let _ = eprintln!(rt; "mxfetch: nothing can be saved in {path}: {error}");
+            Err(match error {
+                FolderError::OutOfMemory => OUT_OF_MEMORY,
+                _ => UNMADE,
+            })
+        }
+    }
+}

@@ -1,0 +1,130 @@
+//! The run of what is asked for.
+ghost use Rattle.std.specs.Prelude.{◌≡◌, ◌≢◌, [], IfErr, OnOk, IsErr};
+ghost use Rattle.mx_save_command.specs.Saving.{AreSaveNumbers};
+ghost use Rattle.mx_save_work.specs.Feeds.{list_left};
+ghost use Rattle.mx_save_task.specs.Saved.{SavesIn, urls_of};
+ghost use Rattle.mx_save_task.specs.Status.{codes_number, stop_number};
+
+use crate::asked::{asking_of, tell_out_of_memory};
+use crate::opened::{folder_of, list_of};
+use crate::status::{UNMADE, status_of};
+use mx_crew::Runtime;
+use mx_folder::{Folder, FolderError};
+use mx_run_io::Output;
+use mx_save::Ledger;
+use mx_save_command::Save;
+use mx_save_jobs::{Asking, Lines, Stop};
+use mx_save_run::{Ended, Plan, save_all};
+use mx_save_work::Feed;
+use mx_url_list::UrlList;
+use std::io;
+use std::io::{BufWriter, Input, Read, Write};
+use std::net::{Net, TcpListener, TcpStream};
+use std::rt::Files;
+
+/// What a run left: the folder that it saved in, what it told of its URLs, why it stopped before all had ended, if it did, and whether the
+/// folder was flushed, where that was asked for.
+#[derive(Drop)]
+pub struct Saved<F: Folder, W: Write> {
+    pub folder: F,
+    pub lines: Lines<W>,
+    pub stopped: Result<(), Stop>,
+    pub flushed: Result<(), FolderError>,
+}
+
+/// Has the URLs of the command line, and behind them those of a list, fetched and saved in a folder, and tells what each ended with. The files
+/// that hold a part of a body are named for this process. It may wait.
+pub fn save_in<
+    R: Runtime + Net<Listener = TcpListener, Stream = TcpStream>,
+    F: Folder,
+    W: Write + Drop,
+    Rd: Read + Drop,
+>(
+    rt: &R,
+    save: &Save<'_>,
+    process: u32,
+    asking: Asking,
+    list: Option<UrlList<Rd>>,
+    folder: F,
+    lines: Lines<W>,
+) -> Saved<F, W>
+    requires numbers { AreSaveNumbers save.now.numbers }
+    requires fresh { lines.told ≡ [] }
+    ensures all { OnOk result.stopped (SavesIn save.now asking (urls_of save.now (list_left Rd.remaining list))
+        (F.steps folder) (F.steps result.folder) result.lines) }
+    ensures lines { (result.lines.start ≡ lines.start) × (result.lines.json ≡ lines.json) }
+{
+    let ledger = Ledger::new(rt.alloc(), process, folder, save.flags.fsync);
+    let feed = Feed::new(rt.alloc(), save.urls.as_slice(), list);
+    let plan = Plan {
+        options: save.numbers.options,
+        history: save.numbers.history,
+    };
+    let Ended {
+        ledger,
+        lines,
+        stopped,
+    } = save_all(rt, asking, ledger, lines, feed, plan);
+    let (folder, flushed) = ledger.finish();
+    Saved {
+        folder,
+        lines,
+        stopped,
+        flushed,
+    }
+}
+
+// Tells on standard error why a run stopped, and why its folder wasn't flushed. The answer is the exit status.
+fn end<F: Folder, W: Write>(rt: &impl Eprint, saved: &Saved<F, W>) -> u8
+    ensures stopped { IfErr saved.now.stopped (λ stop. result ≡ stop_number stop) }
+    ensures failed { OnOk saved.now.stopped (codes_number saved.now.lines.told ≢ 0 → result ≡ codes_number saved.now.lines.told) }
+    ensures unflushed { OnOk saved.now.stopped (codes_number saved.now.lines.told ≡ 0 → IsErr saved.now.flushed → result ≡ UNMADE) }
+    ensures well { OnOk saved.now.stopped (OnOk saved.now.flushed (result ≡ codes_number saved.now.lines.told)) }
+{
+    if let Err(stop) = saved.stopped {
+        let _ = eprintln!(rt; "mxfetch: {stop}");
+    }
+    if let Err(error) = saved.flushed {
+        let _ = eprintln!(rt; "mxfetch: the folder can't be flushed: {error}");
+    }
+    status_of(saved.lines.status(), saved.stopped, saved.flushed)
+}
+
+// Saves in a folder, and tells on standard output. The answer is the exit status.
+fn save_aloud<
+    R: Runtime + Net<Listener = TcpListener, Stream = TcpStream> + Print + Eprint,
+    F: Folder,
+    Rd: Read + Drop,
+>(rt: &R, save: &Save<'_>, process: u32, asking: Asking, list: Option<UrlList<Rd>>, folder: F) -> u8
+    requires { AreSaveNumbers save.now.numbers }
+{
+    match BufWriter::with_capacity(rt.alloc(), 65_536, io::writer(rt)) {
+        Ok(writer) => {
+            let lines = Lines::new(rt.alloc(), Output::new(writer), save.flags.json);
+            end(rt, &save_in(rt, save, process, asking, list, folder, lines))
+        }
+        Err(_) => tell_out_of_memory(rt),
+    }
+}
+
+/// Saves what is asked for: its URLs are fetched, the bodies saved in its folder, and each URL told of on standard output as it ends. Why the
+/// run can't begin, or stopped, is told on standard error. The answer is the exit status. The files that hold a part of a body are named for
+/// this process. It may wait.
+pub fn run_save<
+    R: Runtime + Net<Listener = TcpListener, Stream = TcpStream> + Files + Input + Print + Eprint,
+>(rt: &R, save: &Save<'_>, process: u32) -> u8
+    requires { AreSaveNumbers save.now.numbers }
+{
+    let asking = match asking_of(rt, save) {
+        Ok(asking) => asking,
+        Err(status) => return status,
+    };
+    let list = match list_of(rt, save.input) {
+        Ok(list) => list,
+        Err(status) => return status,
+    };
+    match folder_of(rt, save.into) {
+        Ok(folder) => save_aloud(rt, save, process, asking, list, folder),
+        Err(status) => status,
+    }
+}

@@ -1,0 +1,88 @@
+//! A server on a port of this machine, in a thread of its own, which answers one request on each connection.
+
+use std::alloc::AllocGlobal;
+use std::io::{Read as _, Write as _};
+use std::net::{Net, SocketAddr, TcpListener, TcpStream};
+use std::test::Fail;
+use std::thread;
+use std::thread::{JoinHandle, Threads};
+
+/// The most bytes of a request that are read.
+const MOST: u32 = 1000;
+
+// The byte behind `GET /` of the request on a connection; None where there is none.
+fn path_of(stream: &mut TcpStream) -> Option<u8> {
+    let mut path = b' ';
+    let mut last = [0; 4];
+    for at in 0..MOST {
+        let mut byte = [0; 1];
+        if stream.read_exact(&mut byte).is_err() {
+            return None;
+        }
+        if at == 5 {
+            path = byte[0];
+        }
+        last = [last[1], last[2], last[3], byte[0]];
+        if last == *b"\r\n\r\n" {
+            return Some(path);
+        }
+    }
+    None
+}
+
+// What is answered to a path that begins with this byte: nothing is there, or the byte, three times.
+fn answer(stream: &mut TcpStream, path: u8) -> bool {
+    let head: &[u8] = if path == b'n' {
+        b"HTTP/1.1 404 Not Found\r\nContent-Length: 3\r\nConnection: close\r\n\r\n"
+    } else {
+        b"HTTP/1.1 200 OK\r\nContent-Length: 3\r\nConnection: close\r\n\r\n"
+    };
+    stream.write_all(head).is_ok() && stream.write_all(&[path, path, path]).is_ok()
+}
+
+// Serves so many connections, and says on how many of them a request was answered.
+fn serve(listener: &TcpListener, connections: u32) -> u32 {
+    let mut served: u32 = 0;
+    for _ in 0..connections {
+        let Ok((mut stream, _)) = listener.accept() else {
+            return served;
+        };
+        if let Some(path) = path_of(&mut stream) {
+            served = served.saturating_add(u32::from(answer(&mut stream, path)));
+        }
+    }
+    served
+}
+
+/// A server that runs.
+#[derive(Drop)]
+pub struct Server {
+    pub address: SocketAddr,
+    connections: u32,
+    thread: JoinHandle<u32>,
+}
+
+impl Server {
+    /// It ends after so many connections.
+    pub fn start<R: Threads + Net<Listener = TcpListener, Stream = TcpStream> + AllocGlobal>(
+        rt: &R,
+        connections: u32,
+    ) -> Result<Server, Fail> {
+        let listener = TcpListener::bind(rt, "127.0.0.1:0")?;
+        let address = listener.local_addr()?;
+        let thread = thread::spawn(rt, move || serve(&listener, connections))?;
+        Ok(Server {
+            address,
+            connections,
+            thread,
+        })
+    }
+
+    /// Ends it, by as many connections as it serves at most, and answers on how many of them a request was answered.
+    pub fn end<R: Threads + Net<Stream = TcpStream>>(self, rt: &R) -> u32 {
+        for _ in 0..self.connections {
+            let _last = TcpStream::connect(rt, self.address);
+        }
+        self.thread.join(rt)
+    }
+}
