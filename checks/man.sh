@@ -85,20 +85,19 @@ def add_other(name, short, value, text):
 
 
 main, command = texts("mx_command/src/help.rt"), "mx_command/src/command.rt"
+saving, save = texts("mx_save_command/src/help.rt"), "mx_save_command/src/options.rt"
+arguments = [it for part in ("header", "urls") for it in others(save, part)]
 version = re.search(r'\.version\("([^"]*)"\)', source(command)).group(1)
 commands = [
     ("get", main, "GET", options(command, "GET"), others(command, "get_command"), r"[\fIOPTIONS\fR] \fIURL\fR..."),
+    ("save", saving, "SAVE", options(save, "OPTIONS"), arguments, r"[\fIOPTIONS\fR] [\fIURL\fR...]"),
     ("body", main, "BODY", options(command, "BODY"), others(command, "body_command"), r"[\fIOPTIONS\fR] \fIMETHOD\fR"),
     ("play", main, "PLAY", options(command, "PLAY"), others(command, "play_command"), r"[\fIOPTIONS\fR]"),
 ]
-if "save_command(" in source(command):
-    saving, save = texts("mx_save_command/src/help.rt"), "mx_save_command/src/options.rt"
-    arguments = [it for part in ("header", "urls") for it in others(save, part)]
-    commands.append(("save", saving, "SAVE", options(save, "OPTIONS"), arguments, r"[\fIOPTIONS\fR] [\fIURL\fR...]"))
 
 lines.append(rf'.\" Made of the texts of the help by checks/man.sh --write.')
 lines.append(f'.TH MXFETCH 1 "" "mxfetch {version}" "User Commands"')
-lines.extend([".SH NAME", r"mxfetch \- fetch URLs over plain HTTP/1.1, decode responses, play scripts of calls", ".SH SYNOPSIS"])
+lines.extend([".SH NAME", r"mxfetch \- fetch and save URLs over plain HTTP/1.1, decode responses, play scripts of calls", ".SH SYNOPSIS"])
 for name, _, _, _, _, rest in commands:
     lines.extend([rf"\fBmxfetch {name}\fR {rest}", ".br"])
 lines.append(r"\fBmxfetch help\fR [\fICOMMAND\fR]")

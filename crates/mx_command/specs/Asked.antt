@@ -2,8 +2,9 @@
 use Rattle.std.specs.Prelude.{◌≡◌, true}
 use Rattle.mx_types.specs.Limits.{IsHistory}
 use Rattle.mx_run_io.specs.Options.{are_within}
+use Rattle.mx_save_command.specs.Saving.{AreSaveNumbers}
 use Rattle.mx_command.specs.declared.asked.Asked.{Asked}
-use Rattle.mx_command.specs.declared.asked.Asked.TheVariants.{Task, Explain, Get}
+use Rattle.mx_command.specs.declared.asked.Asked.TheVariants.{Task, Explain, Get, Save}
 use Rattle.mx_command.specs.declared.task.Task.{Task as Tasks}
 use Rattle.mx_command.specs.declared.task.Task.TheVariants.{Body, Play}
 
@@ -12,8 +13,9 @@ abbrev pub IsTask : Tasks → Type 0
 IsTask (Body method) = Unit {0}
 IsTask (Play history first) = IsHistory history
 
--- a task that is one, or options within their limits
+-- a task that is one, or options or numbers within their limits
 abbrev pub IsAsked : Asked → Type 0
 IsAsked (Task task) = IsTask task
 IsAsked (Explain method) = Unit {0}
 IsAsked (Get get) = are_within get.options ≡ true
+IsAsked (Save save) = AreSaveNumbers save.numbers

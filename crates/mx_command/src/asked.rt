@@ -1,6 +1,7 @@
 //! What a command line asks for.
 use crate::task::Task;
 use mx_run_io::Options;
+use mx_save_command::Save;
 use mx_types::Method;
 
 /// What `get` is asked for.
@@ -23,4 +24,6 @@ pub enum Asked<'a> {
     Explain(Method),
     /// To fetch.
     Get(Get<'a>),
+    /// To save.
+    Save(Save<'a>),
 }

@@ -10,6 +10,7 @@ use clap::error::ErrorKind;
 use clap::{Arg, ArgAction, ArgMatches, Command, Error};
 use mx_options::{METHODS, OptionRow, Takes, with_options};
 use mx_run_io::Options;
+use mx_save_command::{read_save, save_command};
 use mx_types::{LEAST_HISTORY, MOST_HISTORY, Method};
 use std::alloc::{AllocError, Global};
 
@@ -131,6 +132,7 @@ fn mxfetch_command<'a>(alloc: Global) -> Result<Command<'a>, AllocError> {
         .after_help(help::MORE)
         .subcommand_required(true);
     let command = with_command(command, get_command(alloc))?;
+    let command = with_command(command, save_command(alloc))?;
     let command = with_command(command, body_command(alloc))?;
     with_command(command, play_command(alloc))
 }
@@ -232,13 +234,34 @@ fn read_at<'a>(
     }
 }
 
-/// Reads a command line, of which the first word is the program's name. An error is help that was asked for,
-/// a refusal in clap's words, or the want of memory.
-pub fn read_command<'a>(alloc: Global, words: &'a [String]) -> Result<Asked<'a>, Error>
+// Reads a command line at the commands of `mxfetch`.
+fn read_below<'a>(alloc: Global, words: &'a [String]) -> Result<Asked<'a>, Error>
     ensures { IfOk result IsAsked }
 {
     let mut command = mxfetch_command(alloc)?;
     let read = read_at(alloc, &mut command, words);
     drop(command);
     read
+}
+
+// Whether the words are those of `save`, which reads them itself.
+fn is_save(words: &[String]) -> bool {
+    match words.get(1) {
+        Some(word) => word.as_str() == "save",
+        None => false,
+    }
+}
+
+/// Reads a command line, of which the first word is the program's name. An error is help that was asked for,
+/// a refusal in clap's words, or the want of memory.
+pub fn read_command<'a>(alloc: Global, words: &'a [String]) -> Result<Asked<'a>, Error>
+    ensures { IfOk result IsAsked }
+{
+    if !is_save(words) {
+        return read_below(alloc, words);
+    }
+    match read_save(alloc, words) {
+        Ok(save) => Ok(Asked::Save(save)),
+        Err(error) => Err(error),
+    }
 }

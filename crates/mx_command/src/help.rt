@@ -2,19 +2,20 @@
 
 /// What `mxfetch` is.
 pub const MXFETCH: &str =
-    "Fetches URLs over HTTP/1.1, decodes responses, and plays scripts of calls on the
-control core of a multi handle";
+    "Fetches and saves URLs over HTTP/1.1, decodes responses, and plays scripts of
+calls on the control core of a multi handle";
 
 /// Where to go on from the help of `mxfetch`.
 pub const MORE: &str = "Examples:
     mxfetch get http://example.com/ http://example.org/
+    mxfetch save --into pages http://example.com/a http://example.com/b
     printf 'HTTP/1.1 200 OK\\r\\nContent-Length: 2\\r\\n\\r\\nhi' | mxfetch body GET
     printf 'add 7\\ndone 0 0 5\\nread\\n' | mxfetch play
 
 `mxfetch help COMMAND` has what a command prints, and its exit statuses.";
 
 /// What is said where no command was given.
-pub const NO_COMMAND: &str = "no command was given: it is `get`, `body` or `play`
+pub const NO_COMMAND: &str = "no command was given: it is `get`, `save`, `body` or `play`
 
   example: mxfetch get http://example.com/";
 

@@ -5,7 +5,7 @@ ghost use Rattle.mx_hint.specs.Hints.{distance, is_url};
 use std::alloc::{AllocError, Global};
 use strsim::{jaro, levenshtein};
 
-static COMMANDS: [&str; 4] = ["get", "body", "play", "help"];
+static COMMANDS: [&str; 5] = ["get", "save", "body", "play", "help"];
 
 /// How long a word may be that is compared with the commands.
 const LONGEST: usize = 16;

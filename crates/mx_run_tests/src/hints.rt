@@ -47,13 +47,18 @@ fn first_wrong(alloc: Global, rows: &[Row<'_>]) -> Option<usize> {
     None
 }
 
-static SAID: [Row<'static>; 16] = [
+static SAID: [Row<'static>; 18] = [
     (&["gte", "http://a/"], "the nearest command is `get`"),
     (&["paly"], ""),
     (&["bdy"], ""),
     (&["boyd", "GET"], ""),
     (&["help", "gte"], "the nearest command is `get`"),
     (&["fetch", "http://a/"], ""),
+    (&["safe", "http://a/"], ""),
+    (
+        &["save", "--retry", "256", "http://a/"],
+        "--retry takes a number of further tries, 0 to 255, as 2",
+    ),
     (&["http://a/"], "a URL is fetched by `mxfetch get URL`"),
     (&["localhost:8080"], "a URL is fetched by `mxfetch get URL`"),
     (&["example.com"], "a URL is fetched by `mxfetch get URL`"),
@@ -126,7 +131,7 @@ fn first_wide(alloc: Global, rows: &[&[&str]]) -> Option<usize> {
     None
 }
 
-static HELP: [&[&str]; 12] = [
+static HELP: [&[&str]; 15] = [
     &["-h"],
     &["--help"],
     &["help"],
@@ -139,6 +144,9 @@ static HELP: [&[&str]; 12] = [
     &["play", "-h"],
     &["play", "--help"],
     &["help", "play"],
+    &["save", "-h"],
+    &["save", "--help"],
+    &["help", "save"],
 ];
 
 #[test]

@@ -18,6 +18,8 @@ enum Answer {
     Get(Options, bool),
     /// The same, to be explained.
     GetExplained(Options, bool),
+    /// To save, and whether the URLs are those that are meant.
+    Save(bool),
     /// Help that was asked for.
     Help,
     Refused,
@@ -56,6 +58,7 @@ fn answer_to(alloc: Global, words: &[String], urls: &[&str]) -> Answer {
             Answer::GetExplained(get.options, are_urls(&get.urls, urls))
         }
         Ok(Asked::Get(get)) => Answer::Get(get.options, are_urls(&get.urls, urls)),
+        Ok(Asked::Save(save)) => Answer::Save(are_urls(&save.urls, urls)),
         Err(error) => text_of(error.use_stderr()),
     }
 }
@@ -394,7 +397,22 @@ fn refused_command_lines(rt: HostRuntime) {
     none_is_wrong(&rt, first_wrong(rt.alloc(), &REFUSED));
 }
 
-static HELP: [Row<'static>; 7] = [
+static SAVES: [Row<'static>; 3] = [
+    (&["save", "http://a/"], &["http://a/"], Answer::Save(true)),
+    (
+        &["save", "--retry", "2", "a", "b"],
+        &["a", "b"],
+        Answer::Save(true),
+    ),
+    (&["save", "--input", "-"], &[], Answer::Save(true)),
+];
+
+#[test]
+fn saves(rt: HostRuntime) {
+    none_is_wrong(&rt, first_wrong(rt.alloc(), &SAVES));
+}
+
+static HELP: [Row<'static>; 9] = [
     (&["--help"], &[], Answer::Help),
     (&["help"], &[], Answer::Help),
     (&["help", "get"], &[], Answer::Help),
@@ -402,6 +420,8 @@ static HELP: [Row<'static>; 7] = [
     (&["body", "--help"], &[], Answer::Help),
     (&["play", "--help"], &[], Answer::Help),
     (&["get", "--help"], &[], Answer::Help),
+    (&["save", "--help"], &[], Answer::Help),
+    (&["help", "save"], &[], Answer::Help),
 ];
 
 #[test]

@@ -16,11 +16,12 @@ use mx_hint::hint_of;
 use mx_run_body::{MOST_READS, run_body_explained};
 use mx_run_io::{Input, Output, UNWRITTEN, end_with};
 use mx_run_task::{most_reads, run_task};
+use mx_save_task::run_save;
 use mx_types::{Code, Method};
 use std::io::{BufWriter, Write};
 use std::net::{Net, TcpListener, TcpStream};
 use std::process::ExitCode;
-use std::{env, io};
+use std::{env, io, process};
 
 /// The exit status of a command line that is refused.
 const REFUSED: u8 = 120;
@@ -147,6 +148,7 @@ fn main(rt: HostRuntime) -> ExitCode {
         Ok(Asked::Task(task)) => run(&rt, task),
         Ok(Asked::Explain(method)) => run_explained(&rt, method, rt.stderr()),
         Ok(Asked::Get(get)) => fetch(&rt, get, rt.stderr()),
+        Ok(Asked::Save(save)) => run_save(&rt, &save, process::id(rt.process())),
         Err(error) => {
             let status = explain(&rt, &error);
             hint(&rt, words.as_slice(), &error);
