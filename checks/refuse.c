@@ -1,5 +1,5 @@
 /* A library that refuses the growth of memory whose number is REFUSE_GROWTH, counted from 1 since the program was loaded, and then
-   makes the file REFUSE_NOTE. Loaded by LD_PRELOAD; checks/refused-growths.sh and checks/get.sh compile it. */
+   makes the file REFUSE_NOTE. Loaded by LD_PRELOAD; checks/refused-growths.sh, checks/get.sh and checks/save.sh compile it. */
 #include <errno.h>
 #include <fcntl.h>
 #include <malloc.h>

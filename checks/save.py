@@ -1,0 +1,652 @@
+"""The cases of checks/save.sh: what servers, lists, folders and disks do, and what is expected of `mxfetch save`."""
+
+import os
+import random
+import signal
+import subprocess
+import sys
+import threading
+import time
+
+import hostile
+from saving import (Saved, files_in, folder, make_read_only, parts_in, small_disk, start, want_files, want_lines)
+from servers import (MIB, PROGRAM, WORK, Nginx, Server, Wrong, body_of, chunked, counted, keeping, read_head, read_request, until_closed,
+                     want)
+
+
+def read_whole(connection):
+    """A request with its body: its head and that, or None where the other side has ended."""
+    came = b""
+    while True:
+        head, end, body = came.partition(b"\r\n\r\n")
+        length = next((int(line[15:]) for line in head.lower().split(b"\r\n") if line.startswith(b"content-length:")), 0)
+        if end and len(body) >= length:
+            return head, body
+        piece = connection.recv(65536)
+        if not piece:
+            return None
+        came += piece
+
+
+def saved(server, path, name, content, status=200):
+    return ("saved", 0, status, len(content), name, server.url(path))
+
+
+def failed(code, status, url):
+    return ("failed", code, status, 0, "-", url)
+
+
+# --- what is saved ------------------------------------------------------------------------------------------------------
+
+def case_nginx_256_files():
+    files = {f"f{number}": os.urandom((number * 4001) % 20001) for number in range(256)}
+    with Nginx(files) as server:
+        lines = [("saved", 0, 200, len(content), name, server.url(name)) for name, content in files.items()]
+        for words in (["--workers", "1"], ["--workers", "4", "--at-once", "64"], ["--workers", "16", "--at-once", "256"], ["--fsync"]):
+            into = folder()
+            run = Saved(words + [server.url(name) for name in files], into)
+            want_lines(run, lines, 0)
+            want_files(into, files)
+            print(f"    {' '.join(words)}: {run.seconds:.2f} s, processor {run.processor:.2f} s, peak {run.peak // MIB} MiB")
+
+
+def case_nginx_large_files():
+    files = {f"large{number}": os.urandom(16 * MIB) for number in range(4)}
+    with Nginx(files) as server:
+        into = folder()
+        run = Saved([server.url(name) for name in files], into)
+        want_lines(run, [("saved", 0, 200, 16 * MIB, name, server.url(name)) for name in files], 0)
+        want_files(into, files)
+
+
+def case_python_http_server():
+    root, into = folder(), folder()
+    files = {f"p{number}.bin": body_of(f"/p{number}") for number in range(50)}
+    for name, content in files.items():
+        with open(os.path.join(root, name), "wb") as file:
+            file.write(content)
+    with Server(keeping) as probe:
+        port = probe.port
+    server = subprocess.Popen([sys.executable, "-m", "http.server", str(port), "--bind", "127.0.0.1", "--directory", root],
+                              stdout=subprocess.DEVNULL, stderr=subprocess.DEVNULL)
+    try:
+        base = f"http://127.0.0.1:{port}"
+        # it takes a moment to begin: a connection that is refused is tried again
+        run = Saved(["--retry", "3", f"{base}/missing"] + [f"{base}/{name}" for name in files], into)
+        lines = [("saved", 0, 200, len(content), name, f"{base}/{name}") for name, content in files.items()]
+        want_lines(run, lines + [failed(22, 404, f"{base}/missing")], 22)
+        want_files(into, files)
+    finally:
+        server.kill()
+        server.wait()
+
+
+def case_framings():
+    def serve(connection, _):
+        path = read_request(connection)
+        if path == "/chunked":
+            connection.sendall(chunked(body_of(path), 97))
+        elif path == "/close":
+            connection.sendall(b"HTTP/1.0 200 OK\r\n\r\n" + body_of(path))
+        elif path == "/empty":
+            connection.sendall(counted(b""))
+        else:
+            connection.sendall(counted(body_of(path)))
+
+    with Server(serve) as server:
+        into, names = folder(), ["chunked", "close", "empty", "counted"]
+        contents = {name: b"" if name == "empty" else body_of(f"/{name}") for name in names}
+        run = Saved(["--json"] + [server.url(f"/{name}") for name in names], into)
+        want(run.status == 0, f"exit status {run.status}")
+        want_files(into, contents)
+        found = {one["file"]: one for one in run.objects()}
+        want({name: one["framing"] for name, one in found.items()}
+             == {"chunked": "chunked", "close": "close", "empty": "length", "counted": "length"}, "other framings")
+
+
+def case_what_is_asked_for():
+    asked = []
+
+    def serve(connection, _):
+        while (whole := read_whole(connection)) is not None:
+            asked.append(whole)
+            connection.sendall(counted(b"taken"))
+
+    with Server(serve) as server:
+        given = os.path.join(folder(), "given")
+        with open(given, "wb") as file:
+            file.write(bytes(range(256)))
+        rows = [(["--data", "a=b"], b"POST", b"a=b"), (["--data", f"@{given}", "--method", "PUT"], b"PUT", bytes(range(256))),
+                (["--data", ""], b"POST", b""), ([], b"GET", b"")]
+        for words, method, body in rows:
+            asked.clear()
+            run = Saved(words + ["-H", "X-One: 1", "-H", "X-Two:two", "--user-agent", "me/1", server.url("/x")], folder())
+            want_lines(run, [saved(server, "/x", "x", b"taken")], 0)
+            want(len(asked) == 1 and asked[0][1] == body, f"{words}: another body, {asked}")
+            line, *fields = asked[0][0].split(b"\r\n")
+            want(line == method + b" /x HTTP/1.1", f"{words}: {line!r}")
+            want({b"X-One: 1", b"X-Two: two", b"User-Agent: me/1"} <= set(fields), f"{words}: other fields, {fields}")
+        # what no request can have is refused, URL by URL
+        run = Saved(["-H", "Bad Name: 1", server.url("/x")], folder())
+        want_lines(run, [failed(3, 0, server.url("/x"))], 3)
+
+
+def case_redirects():
+    def serve(connection, _):
+        while (path := read_request(connection)) is not None:
+            left = int(path.split("/")[1])
+            to = f"Location: /{left - 1}/a/../.bashrc\r\n"
+            connection.sendall(counted(b"moved", "HTTP/1.1 302 Found", to) if left else counted(b"there"))
+
+    with Server(serve) as server:
+        # the name is that of the URL that was given, wherever it leads
+        rows, into = [(0, 0, 200), (3, 0, 200), (4, 47, 302)], folder()
+        run = Saved(["--max-redirects", "3"] + [server.url(f"/{left}/page{left}") for left, _, _ in rows], into)
+        want_lines(run, [saved(server, f"/{left}/page{left}", f"page{left}", b"there", status) if code == 0 else
+                         failed(code, status, server.url(f"/{left}/page{left}")) for left, code, status in rows], 47)
+        want_files(into, {"page0": b"there", "page3": b"there"})
+        run = Saved(["--max-redirects", "0", server.url("/1/page1")], into)
+        want_lines(run, [failed(22, 302, server.url("/1/page1"))], 22)
+
+
+# --- a run that is killed, and a disk that is full ------------------------------------------------------------------------
+
+def case_killed_and_taken_up_again():
+    files = {f"k{number:04}": os.urandom((number * 4001) % 9001) for number in range(4000)}
+    into, urls, chance = folder(), os.path.join(folder(), "urls"), random.Random(7)
+    kills = left = 0
+    with Nginx(files) as server:
+        with open(urls, "w") as file:
+            file.write("".join(f"{server.url(name)}\n" for name in files))
+        words = ["--into", into, "--input", "-", "--skip-existing", "--at-once", "64"]
+        for _ in range(20):
+            with open(urls, "rb") as given:
+                child = start(words, stdin=given, stdout=subprocess.PIPE)
+                told, enough = 0, chance.randrange(20, 180)
+                for line in child.stdout:
+                    told += line.startswith(b"saved ")
+                    if told == enough:
+                        time.sleep(chance.random() / 1000)
+                        child.send_signal(signal.SIGKILL)
+                        break
+                child.stdout.close()
+                kills += child.wait() == -signal.SIGKILL
+            found = files_in(into)
+            left = len(parts_in(into))
+            for name, content in found.items():
+                want(content == files[name], f"after a kill {name} has {len(content)} bytes in place of {len(files[name])}")
+        want(kills == 20 and len(found) < 4000, f"{kills} kills, {len(found)} files")
+        with open(urls, "rb") as given:
+            run = subprocess.run([PROGRAM, "save"] + words, stdin=given, capture_output=True, timeout=60)
+        want(run.returncode == 0, f"exit status {run.returncode}")
+        want(run.stdout.count(b"\n") == 4000 and run.stdout.count(b"skipped 0 0 0 ") == len(found), "other lines")
+        found = files_in(into)
+        want(found == files, "other files")
+        want(len(parts_in(into)) == left, "a part of a run that was killed is gone, or another is there")
+        print(f"    20 kills: {run.stdout.count(b'skipped ')} files were there, {left} parts are left")
+
+
+def case_full_disk():
+    files = {f"d{number}": os.urandom(300_000) for number in range(8)}
+    with small_disk("1m") as into, Nginx(files) as server:
+        if into is None:
+            print("    skipped: nothing can be mounted")
+            return
+        urls = [server.url(name) for name in files]
+        run = Saved(["--at-once", "1", "--json"] + urls, into)
+        want(run.status == 23, f"exit status {run.status}")
+        objects = run.objects()
+        there = {one["file"] for one in objects if one["verdict"] == "saved"}
+        want(len(objects) == 8 and len(there) == 3, f"{len(objects)} lines, {len(there)} files")
+        ends = {(one["verdict"], one["code"], one["error"]) for one in objects if one["file"] is None}
+        want(ends == {("failed", 23, "the disk is full")}, f"{objects}")
+        want_files(into, {name: files[name] for name in there})
+        with open(os.path.join(into, "old"), "wb") as file:
+            file.write(b"old")
+        for name in list(there)[1:]:
+            os.remove(os.path.join(into, name))
+        again = Saved(["--skip-existing", "--at-once", "1"] + urls, into)
+        want(again.status == 23 and [line[0] for line in again.lines].count("skipped") == 1, f"{again.lines}")
+        found = files_in(into)
+        want(all(content == files.get(name, b"old") for name, content in found.items()) and not parts_in(into), "other files")
+
+
+def case_read_only_folder():
+    with small_disk("1m") as into, Server(keeping) as server:
+        if into is None:
+            print("    skipped: nothing can be mounted")
+            return
+        make_read_only(into)
+        run = Saved([server.url("/a"), server.url("/b")], into)
+        want_lines(run, [failed(23, 200, server.url(path)) for path in ("/a", "/b")], 23)
+        below = Saved([server.url("/a")], os.path.join(into, "below"))
+        want(below.status == 23 and below.out == b"" and below.err.startswith(b"mxfetch: "), f"{below.status} {below.err!r}")
+
+
+# --- names --------------------------------------------------------------------------------------------------------------
+
+def case_names_that_collide():
+    with Server(keeping) as server:
+        paths = [f"/{number}/x" for number in range(20)] + ["/x?q=1", "/x?q=2", "/y", "/x%231"]
+        names = ["x"] + [f"x#{number}" for number in range(1, 20)] + ["x#20", "x#21", "y", "x%231"]
+        lines = [saved(server, path, name, body_of(path)) for path, name in zip(paths, names)]
+        for words in (["--workers", "1", "--at-once", "1"], ["--workers", "8", "--at-once", "32"]):
+            into = folder()
+            want_lines(Saved(words + [server.url(path) for path in paths], into), lines, 0)
+            want_files(into, {name: body_of(path) for path, name in zip(paths, names)})
+
+
+def case_names_that_leave_the_folder():
+    # what a URL is asked for as is the parser's doing: each answer here is the same
+    def serve(connection, _):
+        while read_request(connection) is not None:
+            connection.sendall(counted(b"body", more='Content-Disposition: attachment; filename="../../evil"\r\n'))
+
+    above = folder()
+    into = os.path.join(above, "into")
+    rows = [("/..", "_."), ("/a/../../x", "x"), ("/%2e%2e", "%2e%2e"), ("/%2e%2e%2fx", "%2e%2e%2fx"), ("/.", "_"), ("/.bashrc", "_bashrc"),
+            ("/", "index.html"), ("", "index.html#1"), ("//etc/passwd", "passwd"), ("/a/..;/..", "_.#1"),
+            ("/\\..\\..\\evil", "\\..\\..\\evil"), ("/...", "_.."), ("/nul%00", "nul%00"), ("/" + "n" * 5000, "n" * 234),
+            ("/.mxfetch-1-1.part", "_mxfetch-1-1.part"),
+            ("/?/../up", "index.html#2"), ("/#/../up", "index.html#3"), ("/caf\u00e9", "caf__"), ("/-rf", "-rf"), ("/~", "~"), ("/*", "*")]
+    with Server(serve) as server:
+        run = Saved([], into, [server.url(path) for path, _ in rows])
+        want(run.status == 0, f"exit status {run.status}: {[line for line in run.lines if line[0] != 'saved']}")
+        want(sorted(line[4] for line in run.lines) == sorted(name for _, name in rows),
+             f"{sorted(set(line[4] for line in run.lines) ^ set(name for _, name in rows))}")
+        want_files(into, {name: b"body" for _, name in rows})
+        want(os.listdir(above) == ["into"], f"beside the folder there is {os.listdir(above)}")
+
+
+def case_links_and_folders_in_the_way():
+    outside, into = folder(), folder()
+    with open(os.path.join(outside, "kept"), "wb") as file:
+        file.write(b"kept")
+    os.symlink(os.path.join(outside, "kept"), os.path.join(into, "to_file"))
+    os.symlink(outside, os.path.join(into, "to_folder"))
+    os.symlink(os.path.join(outside, "nowhere"), os.path.join(into, "to_nothing"))
+    os.mkdir(os.path.join(into, "a_folder"))
+    os.mkfifo(os.path.join(into, "a_pipe"))
+    with open(os.path.join(into, "a_file"), "wb") as file:
+        file.write(b"old and longer than what comes" * 1000)
+    names = ["to_file", "to_folder", "to_nothing", "a_folder", "a_pipe", "a_file"]
+    with Server(keeping) as server:
+        for words in ([], ["--skip-existing"]):
+            run = Saved(words + [server.url(f"/{name}") for name in names], into)
+            lines = [saved(server, f"/{name}", name, body_of(f"/{name}")) for name in names]
+            lines[3] = failed(23, 200, server.url("/a_folder"))
+            if words:
+                lines = [("skipped", 0, 0, 0, line[4], line[5]) if line[0] == "saved" else line for line in lines]
+            want_lines(run, lines, 23)
+            want_files(into, {name: None if name == "a_folder" else body_of(f"/{name}") for name in names})
+            want(os.listdir(os.path.join(into, "a_folder")) == [], "the folder in the way isn't empty")
+            want(files_in(outside) == {"kept": b"kept"}, f"outside there is {files_in(outside)}")
+
+
+def case_skip_existing():
+    asked, into = [], folder()
+
+    def serve(connection, _):
+        while (path := read_request(connection)) is not None:
+            asked.append(path)
+            connection.sendall(counted(body_of(path)))
+
+    with open(os.path.join(into, "there"), "wb") as file:
+        file.write(b"there")
+    os.symlink("there", os.path.join(into, "link"))
+    with Server(serve) as server:
+        run = Saved(["--skip-existing"] + [server.url(path) for path in ("/there", "/link", "/new", "/2/there")], into)
+        want_lines(run, [("skipped", 0, 0, 0, "there", server.url("/there"))] + [saved(server, path, name, body_of(path))
+                   for path, name in (("/link", "link"), ("/new", "new"), ("/2/there", "there#1"))], 0)
+        want(sorted(asked) == ["/2/there", "/link", "/new"], f"asked for: {asked}")
+        want_files(into, {"there": b"there", "link": body_of("/link"), "new": body_of("/new"), "there#1": body_of("/2/there")})
+
+
+def case_folder_that_is_a_link():
+    above = folder()
+    os.mkdir(os.path.join(above, "real"))
+    os.symlink("real", os.path.join(above, "link"))
+    with Server(keeping) as server:
+        want_lines(Saved([server.url("/l")], os.path.join(above, "link")), [saved(server, "/l", "l", body_of("/l"))], 0)
+        want_files(os.path.join(above, "real"), {"l": body_of("/l")})
+        want(os.path.islink(os.path.join(above, "link")), "the link is gone")
+        deep = os.path.join(above, "a", "b", "c")
+        want_lines(Saved([server.url("/m")], deep), [saved(server, "/m", "m", body_of("/m"))], 0)
+        want_files(deep, {"m": body_of("/m")})
+
+
+# --- what is told -------------------------------------------------------------------------------------------------------
+
+FORGED = b"\nsaved 0 200 4 forged http://forged/\n"
+
+
+def case_forged_lines():
+    answers = {
+        "/body": counted(FORGED * 100),
+        "/reason": b"HTTP/1.1 200 OK saved 0 200 4 forged http://forged/\t\x80\r\nContent-Length: 0\r\n\r\n",
+        "/reason404": b"HTTP/1.1 404 \xe2\x80\xa8saved 0 200 4 forged http://forged/\r\nContent-Length: 0\r\n\r\n",
+        "/field": counted(b"", more="X: saved 0 200 4 forged http://forged/\r\nContent-Type: \"},{\r\n"),
+        "/bare": b"HTTP/1.1 200 OK\nsaved 0 200 4 forged http://forged/\nContent-Length: 0\r\n\r\n",
+        "/to": b"HTTP/1.1 302 Found\r\nLocation: ftp://forged/%0asaved 0 200 4 forged http://forged/\r\nContent-Length: 0\r\n\r\n",
+    }
+
+    def serve(connection, _):
+        while (path := read_request(connection)) is not None:
+            connection.sendall(answers.get(path, counted(b"else")))
+
+    with Server(serve) as server:
+        listed = [server.url(path) for path in answers]
+        odd = [server.url("/a b"), server.url('/q"uote'), server.url("/back\\slash"), server.url("/\x7f\x1b[31m"), server.url("/\r/x"),
+               server.url("/%0Asaved%200%20200%204%20forged%20http://forged/")]
+        run = Saved([], folder(), listed + odd)
+        want(b"forged" in run.out, "the case has no forged words")
+        want(run.out.count(b"\n") == len(listed + odd) == len(run.lines), f"{len(run.lines)} lines for {len(listed + odd)} URLs")
+        want(not any(line[5] == "http://forged/" for line in run.lines), "a line is forged")
+        want(sorted(line[5] for line in run.lines) == sorted(shown(url) for url in listed + odd), "other URLs are told")
+        for words in (["--json"], ["--json", "--content-on-error"]):
+            objects = Saved(words, folder(), listed + odd).objects()
+            want(sorted(one["url"] for one in objects) == sorted(shown(url) for url in listed + odd), "other URLs in JSON")
+
+
+def shown(url):
+    return "".join(chr(byte) if 0x21 <= byte <= 0x7e else f"%{byte:02X}" for byte in url.strip().encode())
+
+
+def case_json():
+    def serve(connection, _):
+        while (path := read_request(connection)) is not None:
+            connection.sendall(counted(b"body", f"HTTP/1.1 {path[1:4]} x"))
+
+    with Server(serve) as server:
+        into = folder()
+        with open(os.path.join(into, "201"), "wb") as file:
+            file.write(b"there")
+        run = Saved(["--json", "--skip-existing"] + [server.url(path) for path in ("/200", "/201", "/404", "/500")] + ["ftp://a/"], into)
+        found = {one["url"]: tuple(one[key] for key in ("verdict", "code", "status", "length", "file", "hops", "tries", "framing", "error"))
+                 for one in run.objects()}
+        want(run.status == 22, f"exit status {run.status}")
+        wanted = {
+            server.url("/200"): ("saved", 0, 200, 4, "200", 1, 1, "length", None),
+            server.url("/201"): ("skipped", 0, 0, 0, "201", 0, 0, None, None),
+            server.url("/404"): ("failed", 22, 404, 0, None, 1, 1, "length", None),
+            server.url("/500"): ("failed", 22, 500, 0, None, 1, 1, "length", None),
+            "ftp://a/": ("failed", 1, 0, 0, None, 0, 0, None, None),
+        }
+        want(found == wanted, f"{ {url: one for url, one in found.items() if wanted.get(url) != one} }")
+
+
+def case_lists():
+    with Server(keeping) as server:
+        lines = [b"\xef\xbb\xbf# a mark and a comment\n", server.url("/1").encode() + b"\r\n", b"\n", b"  \t\n",
+                 b"# " + server.url("/no").encode() + b"\n", b"  " + server.url("/2").encode() + b"\t\n",
+                 b"ftp://a/b\n", b"no url\n", b"http://u:p@a/\n", b"http://\xff\xfe/\n",
+                 server.url("/3").encode() + b"\n", b"x" * 70_000 + b"\n", server.url("/last").encode()]
+        run = Saved([], folder(), lines)
+        good = [saved(server, f"/{name}", name, body_of(f"/{name}")) for name in ("1", "2", "3", "last")]
+        bad = [failed(1, 0, "ftp://a/b"), failed(3, 0, "no%20url"), failed(3, 0, "http://u:p@a/"), failed(3, 0, "http://%FF%FE/"),
+               failed(3, 0, "x" * 65_537)]
+        want_lines(run, good + bad, 1)
+        # the list comes behind the command line, and names are given in that order
+        given = os.path.join(folder(), "list")
+        with open(given, "w") as file:
+            file.write(server.url("/b/x") + "\n" + server.url("/c/x"))
+        run = Saved(["--input", given, server.url("/a/x")], folder())
+        want_lines(run, [saved(server, f"/{at}/x", name, body_of(f"/{at}/x")) for at, name in (("a", "x"), ("b", "x#1"), ("c", "x#2"))], 0)
+        # no list at all is refused; one that says nothing is done at once
+        for nothing in ([], [b"\n#\n"]):
+            run = Saved([], folder(), nothing)
+            want(run.status == 0 and run.out + run.err == b"", f"a list that says nothing: {run.status}, {run.out + run.err!r}")
+
+
+def case_exit_statuses():
+    def serve(connection, _):
+        while (path := read_request(connection)) is not None:
+            if path == "/404":
+                time.sleep(0.3)
+            connection.sendall(counted(b"x", "HTTP/1.1 404 no") if path == "/404" else counted(b"x"))
+
+    with Server(serve) as server:
+        # the first in the order of the URLs, which ends last
+        run = Saved([server.url("/404"), "ftp://a/", server.url("/x"), "http://u:p@a/"], folder())
+        want(run.lines[-1][1] == 22 and run.status == 22, f"exit status {run.status}; {run.lines}")
+
+
+def case_what_ends_a_run():
+    with Server(keeping) as server:
+        at = folder()
+        a_file, missing = os.path.join(at, "file"), os.path.join(at, "missing")
+        with open(a_file, "wb") as file:
+            file.write(b"a file")
+        url = server.url("/x")
+        rows = [(["--into", a_file, url], 23, b"file"), (["--into", os.path.join(a_file, "below"), url], 23, b"file"),
+                (["--input", missing], 26, b"missing"), (["--input", at], 26, b"list"), (["--data", f"@{missing}", url], 26, b"missing"),
+                (["--input", missing, url], 26, b"missing"), ([], 120, b""), (["--into", at], 120, b""),
+                (["-H", "no colon", url], 120, b"colon"), (["--at-once", "0", url], 120, b"at-once"), (["--nonsense", url], 120, b"")]
+        for words, status, said in rows:
+            run = Saved(["--into", at] + words if "--into" not in words else words)
+            want(run.status == status and run.out == b"" and run.err != b"" and said in run.err, f"{words}: {run.status}, {run.err!r}")
+            want(status == 120 or run.err.startswith(b"mxfetch: ") and run.err.count(b"\n") == 1, f"{words}: {run.err!r}")
+        want(files_in(at) == {"file": b"a file"}, f"{files_in(at)}")
+
+
+def case_output_that_is_closed():
+    with Server(keeping) as server, open("/dev/full", "wb") as full:
+        urls = [server.url(f"/o{number}") for number in range(50)]
+        for out in (full, None):
+            into = folder()
+            if out is None:
+                read, write = os.pipe()
+                os.close(read)
+                child = start(["--into", into] + urls, stdout=write, stderr=subprocess.PIPE)
+                os.close(write)
+            else:
+                child = start(["--into", into] + urls, stdout=out, stderr=subprocess.PIPE)
+            _, said = child.communicate(timeout=60)
+            want(child.returncode == 121 and said == b"mxfetch: the output can't be written\n", f"exit status {child.returncode}, {said!r}")
+            want(not parts_in(into), "a part is left")
+            for name, content in files_in(into).items():
+                want(content == body_of(f"/{name}"), f"{name} isn't whole")
+
+
+# --- servers that fail --------------------------------------------------------------------------------------------------
+
+def case_statuses():
+    def serve(connection, _):
+        while (head := read_head(connection)) is not None:
+            method, path = head.decode().split(" ")[:2]
+            status = path[1:4]
+            nothing = method == "HEAD" or status in ("204", "304")
+            length = b"" if status in ("204", "304") else b"Content-Length: 4\r\n"
+            connection.sendall(f"HTTP/1.1 {status} x\r\n".encode() + length + b"\r\n" + (b"" if nothing else b"body"))
+
+    with Server(serve) as server:
+        paths = ["/200", "/201", "/204", "/304", "/301", "/404", "/500"]
+        urls, into = [server.url(path) for path in paths], folder()
+        told = [saved(server, "/200", "200", b"body"), saved(server, "/201", "201", b"body", 201), ("done", 0, 204, 0, "-", urls[2]),
+                failed(22, 304, urls[3]), failed(22, 301, urls[4]), failed(22, 404, urls[5]), failed(22, 500, urls[6])]
+        want_lines(Saved(urls, into), told, 22)
+        want_files(into, {"200": b"body", "201": b"body"})
+        into = folder()
+        told[3:] = [("done", 0, 304, 0, "-", urls[3])] + [saved(server, path, path[1:], b"body", int(path[1:])) for path in paths[4:]]
+        want_lines(Saved(["--content-on-error"] + urls, into), told, 0)
+        want_files(into, {path[1:]: b"body" for path in paths if path not in ("/204", "/304")})
+        into = folder()
+        run = Saved(["--method", "HEAD", urls[0], urls[2]], into)
+        want_lines(run, [("done", 0, 200, 0, "-", urls[0]), ("done", 0, 204, 0, "-", urls[2])], 0)
+        want_files(into, {})
+
+
+def case_tries():
+    asked = {}
+
+    def serve(connection, _):
+        while (whole := read_whole(connection)) is not None:
+            path = whole[0].decode().split(" ")[1]
+            asked[path] = asked.get(path, 0) + 1
+            if path.startswith("/cut") and asked[path] == 1:
+                connection.sendall(counted(body_of(path))[:-1])
+                return
+            if path.startswith("/busy") and asked[path] <= 2:
+                connection.sendall(counted(b"busy", "HTTP/1.1 503 busy"))
+            else:
+                connection.sendall(counted(body_of(path)))
+
+    with Server(serve) as server:
+        into = folder()
+        run = Saved(["--retry", "2", "--json", server.url("/busy"), server.url("/cut"), server.url("/good")], into)
+        told = sorted((one["file"], one["tries"]) for one in run.objects())
+        want(run.status == 0 and told == [("busy", 3), ("cut", 2), ("good", 1)], f"exit status {run.status}, {told}")
+        want_files(into, {name: body_of(f"/{name}") for name in ("busy", "cut", "good")})
+        want(asked == {"/busy": 3, "/cut": 2, "/good": 1}, f"asked {asked}")
+        want(2.9 < run.seconds < 30, f"{run.seconds:.2f} s")
+        print(f"    503 twice, then 200: {run.seconds:.2f} s")
+        rows = [(["--retry", "1"], "/busy/1", 2), (["--retry", "2", "--data", "x"], "/busy/post", 1), ([], "/busy/none", 1)]
+        for words, path, times in rows:
+            want_lines(Saved(words + [server.url(path)], folder()), [failed(22, 503, server.url(path))], 22)
+            want(asked[path] == times, f"{words}: asked {asked[path]} times")
+        want_lines(Saved(["--retry", "1", "ftp://a/"], folder()), [failed(1, 0, "ftp://a/")], 1)
+
+
+def case_a_server_that_hangs():
+    with Server(lambda connection, _: until_closed(connection)) as silent, Server(keeping) as good:
+        paths, into = [f"/g{number}" for number in range(200)], folder()
+        run = Saved(["--timeout-ms", "2000", silent.url("/hangs")] + [good.url(path) for path in paths], into)
+        lines = [saved(good, path, path[1:], body_of(path)) for path in paths]
+        want_lines(run, lines + [failed(28, 0, silent.url("/hangs"))], 28)
+        want(run.lines[-1][1] == 28, "the others wait for the one that hangs")
+        want(1.9 < run.seconds < 25, f"{run.seconds:.2f} s")
+        want_files(into, {path[1:]: body_of(path) for path in paths})
+
+
+def case_a_mix_of_all():
+    def serve(connection, _):
+        while (path := read_request(connection)) is not None:
+            hostile.MIX[int(path.split("/")[1])][0](connection, path)
+
+    places = [number % len(hostile.MIX) for number in range(256)]
+    random.Random(1).shuffle(places)
+    paths = {f"/{place}/n{number}": place for number, place in enumerate(places)}
+    with Server(serve) as server:
+        into = folder()
+        run = Saved(["--workers", "8", "--at-once", "256", "--timeout-ms", "4000"] + [server.url(path) for path in paths], into)
+        want(len(run.lines) == 256, f"{len(run.lines)} lines")
+        files = {}
+        for verdict, code, _, length, name, url in run.lines:
+            path = url[len(server.url("")):]
+            served, codes, sends = hostile.MIX[paths[path]]
+            want(code in codes and (verdict == "saved") == (code == 0), f"{served.__name__}: {verdict} {code}")
+            if code == 0:
+                files[name] = sends(path)
+                want(length == len(files[name]), f"{served.__name__}: {length} bytes")
+        want_files(into, files)
+        want(run.peak < 256 * MIB and run.descriptors <= 512, f"{run.peak // MIB} MiB, {run.descriptors} descriptors")
+
+
+def case_refused_connection_and_unknown_host():
+    with Server(keeping) as server:
+        closed = server.url("/x")
+    run = Saved([closed, "http://nowhere.invalid/y"], folder())
+    want_lines(run, [failed(7, 0, closed), failed(6, 0, "http://nowhere.invalid/y")], 7)
+
+
+# --- many ---------------------------------------------------------------------------------------------------------------
+
+def case_at_once():
+    lock, paths = threading.Lock(), [f"/o{number}" for number in range(40)]
+    for width in (1, 5, 40):
+        now, most = 0, 0
+
+        def holding(connection, _):
+            nonlocal now, most
+            while (path := read_request(connection)) is not None:
+                with lock:
+                    now += 1
+                    most = max(most, now)
+                until = time.monotonic() + 5
+                while most < width and time.monotonic() < until:
+                    time.sleep(0.001)
+                time.sleep(0.01)
+                with lock:
+                    now -= 1
+                connection.sendall(counted(body_of(path)))
+
+        with Server(holding) as server:
+            for workers in ("1", "4"):
+                most = 0
+                run = Saved(["--workers", workers, "--at-once", str(width)] + [server.url(path) for path in paths], folder())
+                want(run.status == 0 and len(run.lines) == 40, f"exit status {run.status}")
+                want(most == width, f"{workers} workers: {most} open at a time in place of {width}")
+
+
+def case_ten_thousand_urls():
+    peaks = {}
+    with Nginx({}, 'location /n { return 200 "$request_uri"; }') as server:
+        for count in (1_000, 10_000):
+            into, urls = folder(), [server.url(f"n{number:05}") for number in range(count)]
+            run = Saved(["--history", "4096", "--at-once", "32"], into, urls, 300)
+            want(run.status == 0 and len(run.lines) == count, f"exit status {run.status}, {len(run.lines)} lines; {run.err!r}")
+            want_files(into, {f"n{number:05}": f"/n{number:05}".encode() for number in range(count)})
+            # of descriptors one for each transfer, at most 8 for idle connections, and a few
+            want(run.threads <= 8 and run.descriptors <= 64, f"{run.threads} threads, {run.descriptors} descriptors")
+            peaks[count] = run.peak
+            print(f"    {count} URLs: {run.seconds:.2f} s, processor {run.processor:.2f} s, peak {run.peak / MIB:.1f} MiB, "
+                  f"{run.threads} threads, {run.descriptors} descriptors")
+    # a name takes some hundred bytes
+    want(peaks[10_000] - peaks[1_000] < 9_000 * 1024, f"the memory grows by {(peaks[10_000] - peaks[1_000]) / MIB:.1f} MiB")
+
+
+def case_short_history():
+    # room for one addition at a time: each URL has a multi handle of its own
+    with Server(keeping) as server:
+        paths, into = [f"/h{number}" for number in range(40)], folder()
+        run = Saved(["--history", "4"] + [server.url(path) for path in paths], into)
+        want_lines(run, [saved(server, path, path[1:], body_of(path)) for path in paths], 0)
+        want_files(into, {path[1:]: body_of(path) for path in paths})
+
+
+def case_refused_growths():
+    note, counts = os.path.join(WORK, "note"), [0, 0, 0]
+    with Server(keeping) as server:
+        paths = [f"/r{number}" for number in range(4)]
+        lines = [saved(server, path, path[1:], body_of(path)) for path in paths]
+        for which in range(1, 5000):
+            if os.path.exists(note):
+                os.remove(note)
+            into, asked = folder(), {"REFUSE_GROWTH": str(which), "REFUSE_NOTE": note, "LD_PRELOAD": os.path.join(WORK, "refuse.so")}
+            run = Saved(["--timeout-ms", "5000"] + [server.url(path) for path in paths[:2]], into, [server.url(path) for path in paths[2:]],
+                        asked=asked)
+            if not os.path.exists(note):
+                break
+            # what was told as saved is there, whole, and nothing is half there; what wasn't saved is told so (23 where the folder lacked
+            # the memory), or the run was ended with 27
+            found = files_in(into)
+            want(all(content == body_of(f"/{name}") for name, content in found.items()), f"growth {which}: a file isn't whole")
+            want({line[4] for line in run.lines if line[0] == "saved"} <= set(found), f"growth {which}: a file that was told isn't there")
+            want(all(line in lines or line[:2] in (("failed", 27), ("failed", 23)) for line in run.lines), f"growth {which}: {run.lines}")
+            is_ended = run.out == b"FAULT 27\n" or run.err.startswith(b"mxfetch: ")
+            codes = [27] if is_ended else [line[1] for line in run.lines if line[1] != 0] + [0]
+            want(run.status == codes[0], f"growth {which}: exit status {run.status}, {run.lines}, {run.err!r}")
+            want(is_ended or len(run.lines) == 4, f"growth {which}: {len(run.lines)} lines, {run.err!r}")
+            counts[0 if is_ended else 1 if run.status else 2] += 1
+        want_lines(run, lines, 0)
+        print(f"    growths refused: {counts[0]} ended the run, {counts[1]} ended a transfer, {counts[2]} were done without")
+
+
+def main():
+    cases = [(name[5:], case) for name, case in globals().items() if name.startswith("case_")]
+    word = sys.argv[1] if len(sys.argv) > 1 else ""
+    wrong = 0
+    for name, case in cases:
+        if word not in name:
+            continue
+        print(name, flush=True)
+        try:
+            case()
+        except Wrong as error:
+            wrong += 1
+            print(f"    WRONG: {error}", flush=True)
+    print(f"{wrong} wrong" if wrong else "all as expected")
+    sys.exit(1 if wrong else 0)
+
+
+main()

@@ -1,0 +1,26 @@
+#!/usr/bin/env bash
+# `mxfetch save` against real servers: nginx, Python's http.server, and small servers that fail, lie and hang. It kills the program in
+# mid-run and takes the run up again, fills a disk, puts links and folders in the way, has servers forge lines and names, and counts
+# memory, threads and descriptors over 10,000 URLs; and it refuses each growth of memory in turn. Every file is compared byte by byte, and
+# every line with what is to be told. It ends with 1 where one isn't as it is to be.
+#
+#     checks/save.sh [WORD]       all cases, or those whose names have the word
+#
+# It needs nginx, python3 and a C compiler (Debian: gcc), and installs nothing. It uses ports that the system gives, on 127.0.0.1, and no
+# other network. As root it mounts small file systems in its own folder, and takes them away; a case that can't is told as skipped. PROGRAM
+# names the program, where it isn't the one that ./run builds.
+set -eu
+top=$(cd "$(dirname "$0")/.." && pwd)
+PATH=$PATH:/usr/sbin
+for tool in nginx python3 cc; do
+    command -v "$tool" > /dev/null || { echo "checks/save.sh: there is no $tool" >&2; exit 1; }
+done
+if [ -z "${PROGRAM:-}" ]; then
+    "$top/run" --version > /dev/null
+    PROGRAM=$top/crates/mxfetch/out/mxfetch
+fi
+work=$(mktemp -d)
+chmod 755 "$work" # nginx's workers run as another user
+trap 'rm -rf "$work"' EXIT
+cc -O2 -shared -fPIC -o "$work/refuse.so" "$top/checks/refuse.c"
+PROGRAM=$PROGRAM WORK=$work python3 -B "$top/checks/save.py" "$@"
