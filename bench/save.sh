@@ -1,0 +1,115 @@
+#!/usr/bin/env bash
+# `mxfetch save` beside `curl --parallel --remote-name-all` and `aria2c`, from nginx over loopback: 2,000 files of 4 KiB and 64 files of
+# 1 MiB, each saved in one run into a file system in memory, with 8 and 64 transfers at a time; and the 2,000 files saved on a disk, with
+# --fsync and without. Wall and processor time, the median of three runs that take turns. Each run's files are compared, byte by byte.
+# Prints only.
+#
+# PROGRAM names another program than this checkout's, MEMORY another folder in memory than /dev/shm, and DISK another one on a disk than
+# /tmp.
+#
+# It needs nginx, curl, aria2c (Debian: aria2) and python3, and installs nothing.
+set -eu
+top=$(cd "$(dirname "$0")/.." && pwd)
+PATH=$PATH:/usr/sbin
+for tool in nginx curl aria2c python3; do
+    command -v "$tool" > /dev/null || { echo "bench/save.sh: there is no $tool" >&2; exit 1; }
+done
+if [ -z "${PROGRAM:-}" ]; then
+    "$top/run" --version > /dev/null
+    PROGRAM=$top/crates/mxfetch/out/mxfetch
+fi
+memory=$(mktemp -d -p "${MEMORY:-/dev/shm}") disk=$(mktemp -d -p "${DISK:-/tmp}")
+trap 'rm -rf "$memory" "$disk"' EXIT
+chmod 755 "$memory" # nginx's workers run as another user
+PROGRAM=$PROGRAM MEMORY=$memory DISK=$disk python3 - <<'P'
+import os, shutil, signal, socket, statistics, subprocess, time
+
+PROGRAM, MEMORY, DISK = os.environ["PROGRAM"], os.environ["MEMORY"], os.environ["DISK"]
+KIB, MIB = 1 << 10, 1 << 20
+ROUNDS = 3
+SMALL = {f"small{number}": 4 * KIB for number in range(2000)}
+LARGE = {f"large{number}": MIB for number in range(64)}
+
+def serve():
+    root = f"{MEMORY}/files"
+    os.makedirs(root)
+    for name, length in {**SMALL, **LARGE}.items():
+        with open(f"{root}/{name}", "wb") as file:
+            file.write(os.urandom(length))
+    with socket.socket() as probe:
+        probe.bind(("127.0.0.1", 0))
+        port = probe.getsockname()[1]
+    with open(f"{MEMORY}/nginx.conf", "w") as file:
+        file.write(f"""
+daemon off; worker_processes 2; pid {MEMORY}/nginx.pid; error_log {MEMORY}/error.log;
+events {{ worker_connections 1024; }}
+http {{
+  access_log off; keepalive_requests 100000; sendfile on;
+  client_body_temp_path {MEMORY}/t1; proxy_temp_path {MEMORY}/t2; fastcgi_temp_path {MEMORY}/t3;
+  uwsgi_temp_path {MEMORY}/t4; scgi_temp_path {MEMORY}/t5;
+  server {{ listen 127.0.0.1:{port} backlog=511; root {root}; }}
+}}
+""")
+    child = subprocess.Popen(["nginx", "-e", f"{MEMORY}/error.log", "-c", f"{MEMORY}/nginx.conf"], stderr=subprocess.DEVNULL)
+    for _ in range(200):
+        try:
+            socket.create_connection(("127.0.0.1", port)).close()
+            return child, f"http://127.0.0.1:{port}"
+        except OSError:
+            time.sleep(0.02)
+    raise SystemExit("nginx doesn't answer")
+
+# Each program as a function from the list of URLs, its file and a folder to its words.
+def save(*options):
+    return lambda urls, list_, into: [PROGRAM, "save", "--input", list_, "--into", into, *options]
+
+def curl(most):
+    words = ["curl", "-s", "--parallel", "--parallel-max", str(most), "--remote-name-all", "--output-dir"]
+    return lambda urls, list_, into: [*words, into, *urls]
+
+def aria2c(most):
+    return lambda urls, list_, into: ["aria2c", "--no-conf", "--quiet", "--file-allocation=none", "-j", str(most), "-i", list_, "-d", into]
+
+def run(words, into):
+    os.makedirs(into)
+    tunables = {"GLIBC_TUNABLES": "glibc.malloc.hugetlb=1"} if words[0] == PROGRAM else {}  # as ./run has it
+    quiet = {"stdin": subprocess.DEVNULL, "stdout": subprocess.DEVNULL, "stderr": subprocess.DEVNULL}
+    begun = time.monotonic()
+    child = subprocess.Popen(words, env={**os.environ, **tunables}, **quiet)
+    _, status, usage = os.wait4(child.pid, 0)
+    if status != 0:
+        raise SystemExit(f"{words[:4]}: status {status}")
+    return time.monotonic() - begun, usage.ru_utime + usage.ru_stime
+
+def read(path):
+    with open(path, "rb") as file:
+        return file.read()
+
+def show(title, files, base, at, programs):
+    urls, list_ = [f"{base}/{name}" for name in files], f"{MEMORY}/urls"
+    with open(list_, "w") as file:
+        file.write("".join(f"{url}\n" for url in urls))
+    found = {name: [] for name in programs}
+    for _ in range(ROUNDS):
+        for name, words in programs.items():
+            into = f"{at}/into"
+            found[name].append(run(words(urls, list_, into), into))
+            if sorted(os.listdir(into)) != sorted(files) or any(read(f"{into}/{it}") != read(f"{MEMORY}/files/{it}") for it in files):
+                raise SystemExit(f"{name}: other files")
+            shutil.rmtree(into)
+    print(f"{title}:")
+    for name, rows in found.items():
+        walls, processors = zip(*rows)
+        print(f"  {name:24} wall {statistics.median(walls):7.3f} s  processor {statistics.median(processors):6.3f} s", flush=True)
+
+server, base = serve()
+try:
+    beside = {"save": save(), "save, 64 at once": save("--at-once", "64"), "save, 64, 1 worker": save("--at-once", "64", "--workers", "1"),
+              "curl 8": curl(8), "curl 64": curl(64), "aria2c 8": aria2c(8), "aria2c 64": aria2c(64)}
+    show("2,000 files of 4 KiB", SMALL, base, MEMORY, beside)
+    show("64 files of 1 MiB", LARGE, base, MEMORY, beside)
+    show("2,000 files of 4 KiB on a disk", SMALL, base, DISK, {"save": save(), "save --fsync": save("--fsync")})
+finally:
+    server.send_signal(signal.SIGTERM)
+    server.wait()
+P
