@@ -13,10 +13,10 @@ use std::test::Fail;
 // Adds work, has a worker end it, and reads the message: of which handle it is, and with which code.
 fn fetch<R: Wait>(
     rt: &R,
-    mut seat: Seated<'_, Application, Job, End>,
-    mut worker: Seated<'_, AtWork, Job, End>,
+    seat: &mut Seated<'_, Application, Job, End>,
+    worker: &mut Seated<'_, AtWork, Job, End>,
 ) -> Result<(HandleId, Code), Fail>
-    requires { worker.of ≡ seat.of }
+    requires { worker.old.of ≡ seat.old.of }
 {
     let _added = seat.add(rt, HandleId(1), Job);
     let Some((claim, _work)) = worker.claim(rt) else {
@@ -42,7 +42,12 @@ pub fn fetch_at<R: Wait>(
 ) -> Result<(HandleId, Code), Fail>
     requires { (seat.of ≡ multi.now) × (worker.of ≡ multi.now) }
 {
-    fetch(rt, multi.at(seat), multi.at(worker))
+    let mut seat = multi.at(seat);
+    let mut worker = multi.at(worker);
+    let fetched = fetch(rt, &mut seat, &mut worker);
+    drop(seat);
+    drop(worker);
+    fetched
 }
 
 /// The same, at a new multi handle with these limits.
@@ -54,8 +59,12 @@ pub fn open_and_fetch<R: Wait>(
     let Ok((multi, mut seats, mut workers)) = Handle::open(rt, alloc, limits) else {
         return Err(OutOfMemory.into());
     };
-    match (seats.pop(), workers.pop()) {
+    let fetched = match (seats.pop(), workers.pop()) {
         (Some(seat), Some(worker)) => fetch_at(rt, &multi, seat, worker),
         _ => Err("no seats".into()),
-    }
+    };
+    drop(seats);
+    drop(workers);
+    drop(multi);
+    fetched
 }

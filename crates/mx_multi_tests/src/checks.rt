@@ -1,8 +1,7 @@
 //! What was answered beside what is expected.
 
 use mx_multi::OpenError;
-use mx_multi_tests_base::entries::text_of;
-use mx_multi_tests_base::whole::Whole;
+use mx_multi_tests_base::entries::{Stop, text_of};
 use mx_types::{Call, OutOfMemory, Reply};
 use std::alloc::Global;
 use std::test::Fail;
@@ -26,12 +25,21 @@ pub fn check(holds: bool, words: &'static str) -> Result<(), Fail> {
     Err(words.into())
 }
 
-/// The multi handle with its seats; fails with the want of memory where that is the answer.
-pub fn opened(answer: Result<Whole, OpenError>) -> Result<Whole, Fail> {
+/// What was opened; fails with the want of memory where that is the answer. It is of any value, so that it is proved to let none go.
+pub fn opened<T: Drop>(answer: Result<T, OpenError>) -> Result<T, Fail> {
     match answer {
-        Ok(whole) => Ok(whole),
+        Ok(value) => Ok(value),
         Err(OpenError::OutOfMemory) => Err(OutOfMemory.into()),
         Err(OpenError::BadLimits) => Err("bad limits".into()),
+    }
+}
+
+/// What all makers were answered; fails with the want of memory where one was refused it.
+pub fn told<T: Drop>(answer: Result<T, Stop>) -> Result<T, Fail> {
+    match answer {
+        Ok(value) => Ok(value),
+        Err(Stop::Memory) => Err(OutOfMemory.into()),
+        Err(Stop::NoAnswer) => Err("a call was not answered".into()),
     }
 }
 
@@ -40,6 +48,16 @@ pub fn answered(reply: Option<Reply>) -> Result<Reply, Fail> {
     match reply {
         Some(Reply::OutOfMemory) => Err(OutOfMemory.into()),
         Some(reply) => Ok(reply),
+        None => Err("no answer".into()),
+    }
+}
+
+/// Fails where an end wasn't recorded; with the want of memory where that is the answer.
+pub fn recorded(reply: &Option<Reply>) -> Result<(), Fail> {
+    match reply {
+        Some(Reply::Recorded) => Ok(()),
+        Some(Reply::OutOfMemory) => Err(OutOfMemory.into()),
+        Some(_) => Err("not recorded".into()),
         None => Err("no answer".into()),
     }
 }
@@ -56,14 +74,14 @@ fn said(alloc: Global, reply: &Reply) -> Result<String, OutOfMemory> {
 pub fn compare(
     alloc: Global,
     call: Call,
-    reply: Option<Reply>,
+    reply: &Option<Reply>,
     cut: u32,
     expected: (&str, u32),
 ) -> Result<(), Fail> {
     let Some(reply) = reply else {
         return Err("no answer".into());
     };
-    let said = said(alloc, &reply)?;
+    let said = said(alloc, reply)?;
     if said.as_str() == expected.0 && cut == expected.1 {
         return Ok(());
     }

@@ -102,5 +102,9 @@ pub fn at_desk<R: Threads + Wait + Sync, S: Scene>(
         multi: &multi,
         left: workers,
     };
-    Ok(play_at(rt, alloc, &mut seats, &mut workers, scene))
+    let told = play_at(rt, alloc, &mut seats, &mut workers, scene);
+    drop(seats);
+    drop(workers);
+    drop(multi);
+    Ok(told)
 }

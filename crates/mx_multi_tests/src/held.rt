@@ -1,6 +1,6 @@
 //! Reads while another call keeps the lock.
 
-use crate::checks::{answered, check, compare};
+use crate::checks::{check, compare, recorded};
 use crate::desk::{Desk, Scene};
 use crate::script::{By, Step, at_four_seats, take_steps};
 use mx_multi_tests_base::client::{Client, Worker};
@@ -14,14 +14,11 @@ use std::thread::{Threads, join};
 
 const ONE: HandleId = HandleId(1);
 
-// Adds handle 1, and claims it.
-fn add_and_claim<R: Wait>(rt: &R, alloc: Global, desk: &mut Desk) -> Result<(), Fail> {
-    const STEPS: &[Step] = &[
-        Step::Make(By::Third, Call::Add(ONE), "added 0", 1),
-        Step::Claim(Ticket(0)),
-    ];
-    take_steps(rt, alloc, desk, STEPS)
-}
+// Handle 1 is added, and claimed.
+const ADDITION: &[Step] = &[
+    Step::Make(By::Third, Call::Add(ONE), "added 0", 1),
+    Step::Claim(Ticket(0)),
+];
 
 /// What a client was told of handle 1.
 #[derive(Drop)]
@@ -65,22 +62,17 @@ fn read_meanwhile<R: Threads + Wait + Sync>(
 fn compare_all(
     alloc: Global,
     hold: &Hold,
-    told: Option<Told>,
-    ended: Option<Reply>,
+    told: &Option<Told>,
+    ended: &Option<Reply>,
 ) -> Result<(), Fail> {
     let Some(told) = told else {
         return Err("the lock was not kept".into());
     };
-    let Told {
-        handles,
-        running,
-        state,
-    } = told;
     check(hold.was_in_time(), "the reads waited for the lock")?;
-    compare(alloc, Call::Handles, handles, 1, ("handles 1", 1))?;
-    compare(alloc, Call::Running, running, 1, ("running 1", 1))?;
-    compare(alloc, Call::State(ONE), state, 1, ("running 0", 1))?;
-    check(matches!(answered(ended)?, Reply::Recorded), "not recorded")
+    compare(alloc, Call::Handles, &told.handles, 1, ("handles 1", 1))?;
+    compare(alloc, Call::Running, &told.running, 1, ("running 1", 1))?;
+    compare(alloc, Call::State(ONE), &told.state, 1, ("running 0", 1))?;
+    recorded(ended)
 }
 
 // Reads in one thread while the end of a transfer, in another, asks for its code under the lock.
@@ -96,7 +88,7 @@ fn read_beside<R: Threads + Wait + Sync>(
         hold: Some(hold.clone()?),
     };
     let (ended, told) = read_meanwhile(rt, &mut desk.worker, end, &mut desk.fourth, &hold);
-    compare_all(alloc, &hold, told, ended)
+    compare_all(alloc, &hold, &told, &ended)
 }
 
 /// An end keeps the lock, and reads are made meanwhile.
@@ -110,7 +102,7 @@ impl Scene for HeldLock {
         alloc: Global,
         desk: &mut Desk,
     ) -> Result<(), Fail> {
-        add_and_claim(rt, alloc, desk)?;
+        take_steps(rt, alloc, desk, ADDITION)?;
         read_beside(rt, alloc, desk)
     }
 }

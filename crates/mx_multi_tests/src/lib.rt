@@ -15,6 +15,8 @@ mod held;
 #[cfg(test)]
 mod meetings;
 #[cfg(test)]
+mod place;
+#[cfg(test)]
 mod retirings;
 #[cfg(test)]
 mod rounds;

@@ -1,8 +1,7 @@
 //! What each seat sees of a call that another seat has made, while it is made and afterwards.
-ghost use Rattle.std.specs.Prelude.{◌≡◌};
 
 use crate::checks::{check, end};
-use crate::desk::{Desk, Pair, Scene};
+use crate::desk::{Desk, Scene};
 use crate::script::{By, Step, at_four_seats, take_steps};
 use mx_multi_tests_base::client::{Client, make};
 use mx_types::{Call, HandleId, Reply, Ticket};
@@ -34,9 +33,7 @@ const ONE_HANDLE: Glance = Glance {
 };
 
 // A list of the handles through a seat, where it was answered.
-fn glance_at(client: &mut Client) -> Option<Glance>
-    ensures { client.new.of ≡ client.old.of }
-{
+fn glance_at(client: &mut Client) -> Option<Glance> {
     let Some(list) = client.handles() else {
         return None;
     };
@@ -49,9 +46,7 @@ fn glance_at(client: &mut Client) -> Option<Glance>
 }
 
 // Adds handle 1, once more where memory was refused, and lists all at once.
-fn add_and_list<R: Wait>(rt: &R, client: &mut Client) -> (bool, Option<Glance>)
-    ensures { client.new.of ≡ client.old.of }
-{
+fn add_and_list<R: Wait>(rt: &R, client: &mut Client) -> (bool, Option<Glance>) {
     let refused = matches!(make(rt, client, Call::Add(ONE)), Some(Reply::OutOfMemory));
     if refused {
         let _added = make(rt, client, Call::Add(ONE));
@@ -67,11 +62,9 @@ struct Listed {
     second: Option<Glance>,
 }
 
-// The first seat adds handle 1, once more where memory was refused, and lists all at once; the second lists all meanwhile, in a
-// thread of its own.
-fn list_beside<R: Threads + Wait + Sync>(rt: &R, pair: &mut Pair) -> Listed {
-    let one = &mut pair.one;
-    let two = &mut pair.two;
+// One seat adds handle 1, once more where memory was refused, and lists all at once; the other lists all meanwhile, in a thread of its
+// own.
+fn list_beside<R: Threads + Wait + Sync>(rt: &R, one: &mut Client, two: &mut Client) -> Listed {
     let ((refused, first), second) = join_mut(
         rt,
         &mut || add_and_list(rt, one),
@@ -98,19 +91,19 @@ fn check_lists(listed: Listed) -> Result<(), Fail> {
 
 // What all seats see of an addition of handle 1, and then of its removal.
 const SEEN: &[Step] = &[
-    Step::Make(By::Second, Call::Handles, "handles 1", 1),
-    Step::Make(By::Third, Call::Running, "running 1", 1),
-    Step::Make(By::Fourth, Call::State(ONE), "running 0", 1),
+    Step::Make(By::Fourth, Call::Handles, "handles 1", 1),
+    Step::Make(By::First, Call::Running, "running 1", 1),
+    Step::Make(By::Second, Call::State(ONE), "running 0", 1),
     Step::Look(Ticket(0), "go", 1),
     Step::Meet(1),
-    Step::Make(By::First, Call::Remove(ONE), "removed", 2),
-    Step::Make(By::Second, Call::Handles, "handles", 2),
-    Step::Make(By::Third, Call::Running, "running 0", 2),
-    Step::Make(By::Fourth, Call::State(ONE), "not-added", 2),
+    Step::Make(By::Third, Call::Remove(ONE), "removed", 2),
+    Step::Make(By::Fourth, Call::Handles, "handles", 2),
+    Step::Make(By::First, Call::Running, "running 0", 2),
+    Step::Make(By::Second, Call::State(ONE), "not-added", 2),
     Step::Look(Ticket(0), "gone", 2),
 ];
 
-/// The first seat adds handle 1 and lists all at once, while the second lists all in a thread of its own; then the others look.
+/// The third seat adds handle 1 and lists all at once, while the fourth lists all in a thread of its own; then the others look.
 #[derive(Clone, Copy)]
 struct Additions;
 
@@ -121,7 +114,7 @@ impl Scene for Additions {
         alloc: Global,
         desk: &mut Desk,
     ) -> Result<(), Fail> {
-        let listed = list_beside(rt, &mut desk.pair);
+        let listed = list_beside(rt, &mut desk.third, &mut desk.fourth);
         check_lists(listed)?;
         take_steps(rt, alloc, desk, SEEN)?;
         end(listed.refused)

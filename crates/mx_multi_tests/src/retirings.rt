@@ -1,6 +1,8 @@
 //! Retiring old history: what stays, what goes, and what hinders it.
 
-use crate::checks::{answered, check, compare, end};
+use crate::checks::{answered, check, compare, end, recorded};
+use crate::place;
+use crate::place::{NONE, Place, have_all_seen};
 use mx_multi::{HistoryUse, Limits, OpenError, Refusal};
 use mx_multi_tests_base::sample::End;
 use mx_multi_tests_base::whole::Whole;
@@ -49,105 +51,107 @@ enum Step {
 /// A multi handle, and whether memory was refused.
 #[derive(Drop)]
 struct Play {
-    whole: Whole,
+    place: Place,
     refused: bool,
 }
 
-// A seat's call, once more where it was refused memory.
-fn make<R: Wait>(rt: &R, play: &mut Play, number: usize, call: Call) -> Option<Reply> {
-    let reply = play.whole.make(rt, number, call);
+// A seat's call, once more where it was refused memory; and whether it was.
+fn make<R: Wait>(rt: &R, whole: &mut Whole, number: usize, call: Call) -> (Option<Reply>, bool) {
+    let reply = whole.make(rt, number, call);
     if !matches!(reply, Some(Reply::OutOfMemory)) {
-        return reply;
+        return (reply, false);
     }
-    play.refused = true;
-    play.whole.make(rt, number, call)
+    (whole.make(rt, number, call), true)
 }
 
-// Ends the transfer of the last claim, which is to be recorded; once more where it was refused memory.
-fn finish<R: Wait>(rt: &R, play: &mut Play, code: Code, size: u32) -> Result<(), Fail> {
-    let mut reply = play.whole.finish(rt, End::new(code, size));
-    if matches!(reply, Some(Reply::OutOfMemory)) {
-        play.refused = true;
-        reply = play.whole.finish(rt, End::new(code, size));
-    }
-    check(matches!(reply, Some(Reply::Recorded)), "not recorded")
-}
-
-// Retires, once more where it was refused memory.
-fn retire<R: Wait>(rt: &R, alloc: Global, play: Play) -> (Play, Option<Refusal>) {
-    let Play { whole, refused } = play;
-    let (whole, why) = whole.retire(rt, alloc);
-    if why != Some(Refusal::OutOfMemory) {
-        return (Play { whole, refused }, why);
-    }
-    let (whole, why) = whole.retire(rt, alloc);
-    let play = Play {
-        whole,
-        refused: true,
+// A seat's call, compared with what it is to answer; and whether it was refused memory.
+fn ask_again<R: Wait>(
+    rt: &R,
+    alloc: Global,
+    whole: &mut Whole,
+    number: usize,
+    call: Call,
+    expected: (&str, u32),
+) -> Result<bool, Fail> {
+    let (reply, is_refused) = make(rt, whole, number, call);
+    let Some(cut) = whole.cut(number) else {
+        return Err("no such seat".into());
     };
-    (play, why)
+    compare(alloc, call, &reply, cut, expected)?;
+    Ok(is_refused)
 }
 
-// Makes a call that doesn't retire.
-fn call<R: Wait>(rt: &R, alloc: Global, play: &mut Play, step: Step) -> Result<(), Fail> {
+// Ends the transfer of the last claim, which is to be recorded; once more where it was refused memory, and whether it was.
+fn finish<R: Wait>(rt: &R, whole: &mut Whole, code: Code, size: u32) -> Result<bool, Fail> {
+    let mut reply = whole.finish(rt, End::new(code, size));
+    let is_refused = matches!(reply, Some(Reply::OutOfMemory));
+    if is_refused {
+        reply = whole.finish(rt, End::new(code, size));
+    }
+    check(matches!(reply, Some(Reply::Recorded)), "not recorded")?;
+    Ok(is_refused)
+}
+
+// Makes a call that doesn't retire: whether it was refused memory.
+fn call<R: Wait>(rt: &R, alloc: Global, whole: &mut Whole, step: Step) -> Result<bool, Fail> {
     match step {
         Step::Make(number, call, answer, cut) => {
-            let reply = make(rt, play, number, call);
-            let Some(now) = play.whole.cut(number) else {
-                return Err("no such seat".into());
-            };
-            compare(alloc, call, reply, now, (answer, cut))
+            return ask_again(rt, alloc, whole, number, call, (answer, cut));
         }
+        Step::Finish(code, size) => return finish(rt, whole, code, size),
         Step::Meet(cut) => {
-            let met = play.whole.meet_all(rt) == Some(cut);
-            check(met && play.whole.have_all_seen(cut), "they met otherwise")
+            let met = whole.meet_all(rt) == Some(cut);
+            check(met && whole.have_all_seen(cut), "they met otherwise")?;
         }
-        Step::Claim(ticket) => check(
-            play.whole.claim(rt)? == Some(ticket),
-            "another ticket, or none",
-        ),
-        Step::GiveBack => check(
-            play.whole.give_back(rt) == Some(true),
-            "given back otherwise",
-        ),
-        Step::Finish(code, size) => finish(rt, play, code, size),
-        _ => Err("no call".into()),
+        Step::Claim(ticket) => check(whole.claim(rt)? == Some(ticket), "another ticket, or none")?,
+        Step::GiveBack => check(whole.give_back(rt) == Some(true), "given back otherwise")?,
+        _ => return Err("no call".into()),
     }
+    Ok(false)
+}
+
+// Retires, once more where it was refused memory; or why not.
+fn retire<R: Wait>(rt: &R, alloc: Global, play: &mut Play) -> Result<Option<Refusal>, Fail> {
+    let why = place::retire(rt, alloc, &mut play.place, true)?;
+    if why != Some(Refusal::OutOfMemory) {
+        return Ok(why);
+    }
+    play.refused = true;
+    place::retire(rt, alloc, &mut play.place, true)
 }
 
 // Makes a call.
-fn take_step<R: Wait>(rt: &R, alloc: Global, play: Play, step: Step) -> (Play, Result<(), Fail>) {
-    let mut play = play;
+fn take_step<R: Wait>(rt: &R, alloc: Global, play: &mut Play, step: Step) -> Result<(), Fail> {
     match step {
         Step::Retire(cut) => {
-            let (play, why) = retire(rt, alloc, play);
-            let is_so = why.is_none() && play.whole.have_all_seen(cut);
-            (play, check(is_so, "it isn't retired so"))
+            let why = retire(rt, alloc, play)?;
+            let is_so = why.is_none() && have_all_seen(&play.place, cut);
+            check(is_so, "it isn't retired so")
         }
         Step::Hindered(refusal) => {
-            let (play, why) = retire(rt, alloc, play);
-            (play, check(why == Some(refusal), "another refusal"))
+            let why = retire(rt, alloc, play)?;
+            check(why == Some(refusal), "another refusal")
         }
         Step::HinderedWithoutLast(refusal) => {
-            let Play { whole, refused } = play;
-            let (whole, why) = whole.retire_without_last(rt, alloc);
-            let play = Play { whole, refused };
-            (play, check(why == Some(refusal), "another refusal"))
+            let why = place::retire(rt, alloc, &mut play.place, false)?;
+            check(why == Some(refusal), "another refusal")
         }
         _ => {
-            let told = call(rt, alloc, &mut play, step);
-            (play, told)
+            let Some(whole) = &mut play.place else {
+                return Err(NONE.into());
+            };
+            if call(rt, alloc, whole, step)? {
+                play.refused = true;
+            }
+            Ok(())
         }
     }
 }
 
 // Makes the calls of a script.
-fn take_steps<R: Wait>(rt: &R, alloc: Global, play: Play, steps: &[Step]) -> Result<(), Fail> {
-    let mut play = play;
+fn take_steps<R: Wait>(rt: &R, alloc: Global, play: &mut Play, steps: &[Step]) -> Result<(), Fail> {
     for step in steps {
-        let (next, told) = take_step(rt, alloc, play, *step);
-        told?;
-        play = next;
+        take_step(rt, alloc, play, *step)?;
     }
     end(play.refused)
 }
@@ -155,19 +159,26 @@ fn take_steps<R: Wait>(rt: &R, alloc: Global, play: Play, steps: &[Step]) -> Res
 // Opens a multi handle, once more where it was refused memory.
 fn open<R: Wait>(rt: &R, alloc: Global, limits: Limits) -> Result<Play, OpenError> {
     match Whole::open(rt, alloc, limits) {
-        Err(OpenError::OutOfMemory) => Ok(Play {
-            whole: Whole::open(rt, alloc, limits)?,
-            refused: true,
-        }),
-        first => Ok(Play {
-            whole: first?,
+        Ok(whole) => Ok(Play {
+            place: Some(whole),
             refused: false,
         }),
+        Err(OpenError::OutOfMemory) => match Whole::open(rt, alloc, limits) {
+            Ok(whole) => Ok(Play {
+                place: Some(whole),
+                refused: true,
+            }),
+            Err(error) => Err(error),
+        },
+        Err(error) => Err(error),
     }
 }
 
 fn at_three_seats<R: Wait>(rt: &R, alloc: Global, steps: &[Step]) -> Result<(), Fail> {
-    take_steps(rt, alloc, open(rt, alloc, THREE_SEATS)?, steps)
+    let mut play = open(rt, alloc, THREE_SEATS)?;
+    let told = take_steps(rt, alloc, &mut play, steps);
+    drop(play);
+    told
 }
 
 /// All seats meet. Then a missing seat hinders retiring, and next a claim that hasn't come back: nothing has changed. Once it is given back, the
@@ -265,8 +276,7 @@ fn transfer<R: Wait>(
         _ => return Err("not added".into()),
     }
     check(whole.claim(rt)? == Some(ticket), "another claim, or none")?;
-    let reply = answered(whole.finish(rt, End::new(Code::Ok, 5)))?;
-    check(matches!(reply, Reply::Recorded), "not recorded")?;
+    recorded(&whole.finish(rt, End::new(Code::Ok, 5)))?;
     match ask(rt, whole, Call::InfoRead)? {
         Reply::Message { ticket: read, .. } => check(read == ticket, "another message")?,
         _ => return Err("no message".into()),
@@ -274,8 +284,16 @@ fn transfer<R: Wait>(
     Ok(true)
 }
 
-// Adds handle 2, ends and removes it, three times, and then finds the history full: a fourth has no room beside handle 1.
-fn fill<R: Wait>(rt: &R, whole: &mut Whole, first: u32) -> Result<(), Fail> {
+// Adds handle 2, ends and removes it, three times, and then finds the history full: a fourth has no room beside handle 1, which is added
+// before the first round.
+fn fill<R: Wait>(rt: &R, place: &mut Place, round: u32) -> Result<(), Fail> {
+    let Some(whole) = place else {
+        return Err(NONE.into());
+    };
+    if round == 0 {
+        check(transfer(rt, whole, ONE, Ticket(0))?, "full at once")?;
+    }
+    let first = round.wrapping_mul(3).wrapping_add(1);
     for ticket in [first, first.wrapping_add(1), first.wrapping_add(2)] {
         let is_done = transfer(rt, whole, TWO, Ticket(ticket))?;
         check(is_done, "full too early")?;
@@ -292,27 +310,25 @@ fn fill<R: Wait>(rt: &R, whole: &mut Whole, first: u32) -> Result<(), Fail> {
 }
 
 // Fills the history and retires, ten times.
-fn fill_and_retire<R: Wait>(rt: &R, alloc: Global, play: Play) -> Result<(), Fail> {
-    let mut play = play;
-    check(
-        transfer(rt, &mut play.whole, ONE, Ticket(0))?,
-        "full at once",
-    )?;
+fn fill_and_retire<R: Wait>(rt: &R, alloc: Global, play: &mut Play) -> Result<(), Fail> {
     for round in 0..10u32 {
-        fill(rt, &mut play.whole, round.wrapping_mul(3).wrapping_add(1))?;
-        let (next, why) = retire(rt, alloc, play);
-        check(
-            why.is_none() && next.whole.have_all_seen(3),
-            "not retired so",
-        )?;
-        play = next;
+        fill(rt, &mut play.place, round)?;
+        let why = retire(rt, alloc, play)?;
+        let is_so = why.is_none() && have_all_seen(&play.place, 3);
+        check(is_so, "not retired so")?;
     }
     end(play.refused)
+}
+
+fn at_short_history<R: Wait>(rt: &R, alloc: Global) -> Result<(), Fail> {
+    let mut play = open(rt, alloc, SHORT_HISTORY)?;
+    let told = fill_and_retire(rt, alloc, &mut play);
+    drop(play);
+    told
 }
 
 /// A history that fills up is retired, and goes on: ten times, and no ticket is given again.
 #[test]
 fn a_full_history_goes_on(rt: HostRuntime) -> Result<(), Fail> {
-    let alloc = rt.alloc();
-    fill_and_retire(&rt, alloc, open(&rt, alloc, SHORT_HISTORY)?)
+    at_short_history(&rt, rt.alloc())
 }

@@ -2,8 +2,8 @@
 //! too.
 
 use crate::checks::{check, opened};
+use crate::place::{Place, retire, storm};
 use mx_multi::{Limits, Refusal};
-use mx_multi_tests_base::entries::Stop;
 use mx_multi_tests_base::one_thread::OneThread;
 use mx_multi_tests_base::stress::differs_from;
 use mx_multi_tests_base::whole::Whole;
@@ -32,44 +32,50 @@ const RETIRINGS: u32 = 100;
 fn play<R: Threads + Wait + Sync>(
     rt: &R,
     alloc: Global,
-    whole: Whole,
+    place: &mut Place,
     seed: u64,
     one: &mut OneThread,
-) -> Result<Whole, Fail> {
-    let (whole, told) = whole.storm(rt, alloc, seed, TURNS);
-    let mut entries = match told {
-        Ok(entries) => entries,
-        Err(Stop::Memory) => return Err(OutOfMemory.into()),
-        Err(Stop::NoAnswer) => return Err("a call was not answered".into()),
-    };
+) -> Result<(), Fail> {
+    let mut entries = storm(rt, alloc, place, seed, TURNS)?;
     check(entries.len() > 16 * TURNS as usize, "few calls")?;
     check(
         differs_from(alloc, one, &mut entries)?.is_none(),
         "a call is answered otherwise",
-    )?;
-    Ok(whole)
+    )
 }
 
 // Plays rounds, and retires between them.
-fn play_all<R: Threads + Wait + Sync>(rt: &R, alloc: Global) -> Result<(), Fail> {
-    let whole = opened(Whole::open(rt, alloc, LIMITS))?;
-    let mut one = OneThread::new(alloc, LIMITS.history)?;
-    let mut whole = play(rt, alloc, whole, SEED, &mut one)?;
+fn play_rounds<R: Threads + Wait + Sync>(
+    rt: &R,
+    alloc: Global,
+    place: &mut Place,
+    one: &mut OneThread,
+) -> Result<(), Fail> {
+    play(rt, alloc, place, SEED, one)?;
     for number in 0..RETIRINGS {
-        let (next, refused) = whole.retire(rt, alloc);
+        let refused = retire(rt, alloc, place, true)?;
         if refused == Some(Refusal::OutOfMemory) {
             return Err(OutOfMemory.into());
         }
         check(refused.is_none() && one.retire(), "not retired")?;
-        whole = play(
-            rt,
-            alloc,
-            next,
-            SEED ^ u64::from(number + 1) << 32,
-            &mut one,
-        )?;
+        play(rt, alloc, place, SEED ^ u64::from(number + 1) << 32, one)?;
     }
     Ok(())
+}
+
+// The same, at a multi handle of its own and beside a control state of its own.
+fn play_all<R: Threads + Wait + Sync>(rt: &R, alloc: Global) -> Result<(), Fail> {
+    let mut place = Some(opened(Whole::open(rt, alloc, LIMITS))?);
+    let played = match OneThread::new(alloc, LIMITS.history) {
+        Ok(mut one) => {
+            let played = play_rounds(rt, alloc, &mut place, &mut one);
+            drop(one);
+            played
+        }
+        Err(refused) => Err(refused.into()),
+    };
+    drop(place);
+    played
 }
 
 /// Over a hundred retirings between calls of 16 seats on 8 threads, one thread answers each call the same, at the same cut.

@@ -47,13 +47,6 @@ pub enum Step {
     Progress(HandleId, Progress),
 }
 
-/// What is kept from one call to the next.
-#[derive(Drop)]
-struct Kept {
-    /// Whether memory was refused.
-    refused: bool,
-}
-
 // A seat's call, and how many events the seat has then seen.
 fn made_at<R: Wait>(rt: &R, client: &mut Client, call: Call) -> (Option<Reply>, u32)
     ensures { client.new.of ≡ client.old.of }
@@ -72,11 +65,11 @@ fn made<R: Wait>(rt: &R, desk: &mut Desk, by: By, call: Call) -> (Option<Reply>,
     }
 }
 
-// A seat's call, once more where it was refused memory.
+// A seat's call, once more where it was refused memory, which is then noted.
 fn make<R: Wait>(
     rt: &R,
     desk: &mut Desk,
-    kept: &mut Kept,
+    refused: &mut bool,
     by: By,
     call: Call,
 ) -> (Option<Reply>, u32) {
@@ -84,7 +77,7 @@ fn make<R: Wait>(
     if !matches!(reply, Some(Reply::OutOfMemory)) {
         return (reply, cut);
     }
-    kept.refused = true;
+    *refused = true;
     made(rt, desk, by, call)
 }
 
@@ -97,15 +90,11 @@ fn meet<R: Wait>(rt: &R, pair: &mut Pair, cut: u32) -> Result<(), Fail> {
     check(cuts == (cut, cut, cut), "they met otherwise")
 }
 
-fn claim<R: Wait>(rt: &R, worker: &mut Worker, ticket: Ticket) -> Result<(), Fail> {
-    check(worker.claim(rt)? == Some(ticket), "another ticket, or none")
-}
-
 // What an end was answered, the second time where the first was refused memory.
 fn finish<R: Wait>(
     rt: &R,
     worker: &mut Worker,
-    kept: &mut Kept,
+    refused: &mut bool,
     code: Code,
     size: u32,
 ) -> Option<Reply> {
@@ -113,7 +102,7 @@ fn finish<R: Wait>(
     if !matches!(reply, Some(Reply::OutOfMemory)) {
         return reply;
     }
-    kept.refused = true;
+    *refused = true;
     worker.finish(rt, End::new(code, size))
 }
 
@@ -121,12 +110,12 @@ fn finish<R: Wait>(
 fn end<R: Wait>(
     rt: &R,
     worker: &mut Worker,
-    kept: &mut Kept,
+    refused: &mut bool,
     code: Code,
     size: u32,
     cut: u32,
 ) -> Result<(), Fail> {
-    let reply = finish(rt, worker, kept, code, size);
+    let reply = finish(rt, worker, refused, code, size);
     check(matches!(reply, Some(Reply::Recorded)), "not recorded")?;
     check(worker.seat.cut() == cut, "other events")
 }
@@ -161,7 +150,7 @@ fn look(
     };
     let cut = worker.seat.cut();
     let call = Call::Look(ticket);
-    compare(alloc, call, Some(Reply::Look(look)), cut, expected)
+    compare(alloc, call, &Some(Reply::Look(look)), cut, expected)
 }
 
 // Makes a call.
@@ -169,21 +158,24 @@ fn take_step<R: Wait>(
     rt: &R,
     alloc: Global,
     desk: &mut Desk,
-    kept: &mut Kept,
+    refused: &mut bool,
     step: Step,
 ) -> Result<(), Fail> {
     match step {
         Step::Make(by, call, answer, cut) => {
-            let (reply, now) = make(rt, desk, kept, by, call);
-            compare(alloc, call, reply, now, (answer, cut))
+            let (reply, now) = make(rt, desk, refused, by, call);
+            compare(alloc, call, &reply, now, (answer, cut))
         }
         Step::Run(calls) => check(
             desk.third.run_script(rt, calls) == calls.len(),
             "a script that wasn't run to its end",
         ),
         Step::Meet(cut) => meet(rt, &mut desk.pair, cut),
-        Step::Claim(ticket) => claim(rt, &mut desk.worker, ticket),
-        Step::Finish(code, size, cut) => end(rt, &mut desk.worker, kept, code, size, cut),
+        Step::Claim(ticket) => check(
+            desk.worker.claim(rt)? == Some(ticket),
+            "another ticket, or none",
+        ),
+        Step::Finish(code, size, cut) => end(rt, &mut desk.worker, refused, code, size, cut),
         Step::GiveBack(is_back) => check(
             give_back(rt, &mut desk.worker) == Some(is_back),
             "given back otherwise",
@@ -204,11 +196,11 @@ pub fn take_steps<R: Wait>(
     desk: &mut Desk,
     steps: &[Step],
 ) -> Result<(), Fail> {
-    let mut kept = Kept { refused: false };
+    let mut refused = false;
     for step in steps {
-        take_step(rt, alloc, desk, &mut kept, *step)?;
+        take_step(rt, alloc, desk, &mut refused, *step)?;
     }
-    end_with(kept.refused)
+    end_with(refused)
 }
 
 /// A script, which is played at a desk.

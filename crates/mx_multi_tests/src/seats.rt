@@ -1,7 +1,7 @@
 //! One thread, and the seats of one multi handle.
 
 use crate::checks::{answered, check};
-use crate::desk::{Desk, FOUR_SEATS, Scene};
+use crate::desk::{Desk, Scene};
 use crate::script::at_four_seats;
 use mx_multi::{Limits, OpenError};
 use mx_multi_tests_base::client::{Client, make};
@@ -12,48 +12,32 @@ use std::sync::Wait;
 use std::test::Fail;
 use std::thread::Threads;
 
-fn is_refused<R: Wait>(rt: &R, alloc: Global, limits: Limits) -> bool {
-    match Handle::open(rt, alloc, limits) {
-        Ok(_) => false,
-        Err(error) => error == OpenError::BadLimits,
-    }
+// Whether this is the answer to bad limits. It is of any value, so that it is let go as one, whatever it is.
+fn are_bad<T: Drop>(answer: Result<T, OpenError>) -> bool {
+    matches!(answer, Err(OpenError::BadLimits))
 }
 
 /// Numbers outside their limits are refused.
 #[test]
 fn bad_limits_are_refused(rt: HostRuntime) -> Result<(), Fail> {
+    // seats, workers' seats, events and idle connections
     let bad = [
-        Limits {
-            seats: 0,
-            ..FOUR_SEATS
-        },
-        Limits {
-            seats: 17,
-            ..FOUR_SEATS
-        },
-        Limits {
-            workers: 0,
-            ..FOUR_SEATS
-        },
-        Limits {
-            workers: 17,
-            ..FOUR_SEATS
-        },
-        Limits {
-            history: 3,
-            ..FOUR_SEATS
-        },
-        Limits {
-            history: 1048577,
-            ..FOUR_SEATS
-        },
-        Limits {
-            max_connects: 65,
-            ..FOUR_SEATS
-        },
+        (0, 1, 2048, 4),
+        (17, 1, 2048, 4),
+        (4, 0, 2048, 4),
+        (4, 17, 2048, 4),
+        (4, 1, 3, 4),
+        (4, 1, 1048577, 4),
+        (4, 1, 2048, 65),
     ];
-    for limits in bad {
-        assert!(rt; is_refused(&rt, rt.alloc(), limits));
+    for (seats, workers, history, max_connects) in bad {
+        let limits = Limits {
+            seats,
+            workers,
+            history,
+            max_connects,
+        };
+        assert!(rt; are_bad(Handle::open(&rt, rt.alloc(), limits)));
     }
     Ok(())
 }

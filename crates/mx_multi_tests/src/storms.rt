@@ -1,9 +1,8 @@
 //! Calls of many threads, played again on one.
 
-use crate::checks::check;
-use mx_multi_tests_base::entries::{Entry, Stop};
+use crate::checks::{check, told};
+use mx_multi_tests_base::entries::Entry;
 use mx_multi_tests_base::stress::{differs, storm};
-use mx_types::OutOfMemory;
 use std::alloc::Global;
 use std::sync::Wait;
 use std::test::Fail;
@@ -27,11 +26,7 @@ fn replay(alloc: Global, entries: &mut Vec<Entry>) -> Result<(), Fail> {
 }
 
 fn run_and_replay<R: Threads + Wait + Sync>(rt: &R, alloc: Global) -> Result<(), Fail> {
-    let mut entries = match storm(rt, alloc, SEED, TURNS) {
-        Ok(entries) => entries,
-        Err(Stop::Memory) => return Err(OutOfMemory.into()),
-        Err(Stop::NoAnswer) => return Err("a call was not answered".into()),
-    };
+    let mut entries = told(storm(rt, alloc, SEED, TURNS))?;
     replay(alloc, &mut entries)?;
     check(entries.len() > 16 * TURNS as usize, "few calls")
 }

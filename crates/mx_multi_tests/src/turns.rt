@@ -130,34 +130,50 @@ fn wake_both<R: Threads + Wait + Sync>(
     woken
 }
 
-// At three of these seats two poll at a time, and the third wakes them, round after round.
+// Two clients poll at a time, and the third wakes them, round after round.
 fn poll_and_wake<R: Threads + Wait + Sync>(
     rt: &R,
-    seats: &mut Seats<'_, Application>,
+    first: &mut Client,
+    second: &mut Client,
+    third: &mut Client,
 ) -> Result<(), Fail> {
-    let (Some(mut first), Some(mut second)) = (seats.take(), seats.take()) else {
-        return Err("fewer seats than two".into());
-    };
-    let Some(mut third) = seats.take() else {
-        return Err("fewer seats than three".into());
-    };
     for _ in 0..ROUNDS {
-        let woken = wake_both(rt, &mut first, &mut second, &mut third);
+        let woken = wake_both(rt, first, second, third);
         check(woken == (true, true), "a poll that isn't woken")?;
     }
     Ok(())
 }
 
-// Opens a multi handle with four seats, for this.
+// The same, at three of these seats.
+fn poll_at_three<R: Threads + Wait + Sync>(
+    rt: &R,
+    seats: &mut Seats<'_, Application>,
+) -> Result<(), Fail> {
+    let clients = seats.take().zip(seats.take()).zip(seats.take());
+    let Some(((mut first, mut second), mut third)) = clients else {
+        return Err("fewer seats than three".into());
+    };
+    let told = poll_and_wake(rt, &mut first, &mut second, &mut third);
+    drop(first);
+    drop(second);
+    drop(third);
+    told
+}
+
+// The same, at a multi handle of its own.
 fn poll_at_once<R: Threads + Wait + Sync>(rt: &R, alloc: Global) -> Result<(), Fail> {
-    let Ok((multi, seats, _workers)) = Handle::open(rt, alloc, FOUR_SEATS) else {
+    let Ok((multi, seats, workers)) = Handle::open(rt, alloc, FOUR_SEATS) else {
         return Err("no multi handle".into());
     };
     let mut seats = Seats {
         multi: &multi,
         left: seats,
     };
-    poll_and_wake(rt, &mut seats)
+    let told = poll_at_three(rt, &mut seats);
+    drop(seats);
+    drop(workers);
+    drop(multi);
+    told
 }
 
 /// Two polls at a time, and one wake-up for both: where it wakes but one, the other stays asleep.
@@ -179,9 +195,10 @@ fn poll_around<R: Wait + Clock>(rt: &R, whole: &mut Whole) -> Result<[Option<boo
 #[test]
 fn a_poll_waits_no_longer_than_it_may(rt: HostRuntime) -> Result<(), Fail> {
     let mut whole = opened(Whole::open(&rt, rt.alloc(), FOUR_SEATS))?;
-    let polls = poll_around(&rt, &mut whole)?;
+    let polls = poll_around(&rt, &mut whole);
+    drop(whole);
     check(
-        polls == [Some(false), Some(true), Some(false)],
+        polls? == [Some(false), Some(true), Some(false)],
         "another poll returned",
     )
 }

@@ -1,9 +1,8 @@
 //! Two threads that make the calls of a script each.
-ghost use Rattle.std.specs.Prelude.{◌≡◌};
 
 use crate::desk::FOUR_SEATS;
-use mx_multi::{Seat, run_two};
-use mx_multi_tests_base::sample::{End, Handle, Job};
+use mx_multi::run_two;
+use mx_multi_tests_base::sample::Handle;
 use mx_types::{Call, HandleId, OutOfMemory};
 use std::alloc::Global;
 use std::sync::Wait;
@@ -24,28 +23,25 @@ const SCRIPTS: (&[Call], &[Call]) = (
 /// How many calls each made, where they met, and how many events each seat has then seen.
 type Made = (Option<(usize, usize)>, u32, u32);
 
-// Runs both scripts.
-fn run_both<R: Threads + Wait + Sync>(
-    rt: &R,
-    multi: &Handle,
-    one: Seat<Job, End>,
-    two: Seat<Job, End>,
-) -> Made
-    requires { (one.of ≡ multi.now) × (two.of ≡ multi.now) }
-{
-    let (one, two, made) = run_two(rt, multi, one, SCRIPTS.0, two, SCRIPTS.1);
-    (made, one.cut(), two.cut())
-}
-
-// The same, at a new multi handle.
+// Runs both scripts at a new multi handle.
 fn open_and_run<R: Threads + Wait + Sync>(rt: &R, alloc: Global) -> Result<Made, Fail> {
-    let Ok((multi, mut seats, _workers)) = Handle::open(rt, alloc, FOUR_SEATS) else {
+    let Ok((multi, mut seats, workers)) = Handle::open(rt, alloc, FOUR_SEATS) else {
         return Err(OutOfMemory.into());
     };
-    match (seats.pop(), seats.pop()) {
-        (Some(one), Some(two)) => Ok(run_both(rt, &multi, one, two)),
+    let made = match (seats.pop(), seats.pop()) {
+        (Some(one), Some(two)) => {
+            let (one, two, made) = run_two(rt, &multi, one, SCRIPTS.0, two, SCRIPTS.1);
+            let made = (made, one.cut(), two.cut());
+            drop(one);
+            drop(two);
+            Ok(made)
+        }
         _ => Err("no seats".into()),
-    }
+    };
+    drop(seats);
+    drop(workers);
+    drop(multi);
+    made
 }
 
 /// Each of two threads makes all calls of its script, and both seats have then seen what both did.
