@@ -1,27 +1,12 @@
 //! Heads. The offsets were counted by hand.
 
 use mx_head::{Framing, HeadStep, framing, keeps, read_head};
+use mx_responses::response::Response;
 use mx_types::{Code, Method};
 use std::alloc::{AllocError, Global};
 use std::process::Abort;
 
 const OK: &[u8] = b"HTTP/1.1 200 OK\r\n";
-
-/// Bytes that no head begins with.
-pub(crate) const REFUSED: [&[u8]; 12] = [
-    b"X",
-    b"HTTP/2",
-    b"HTTP/1.1 20x",
-    b"HTTP/1.1 2000",
-    b" HTTP/1.1 200 OK\r\n\r\n",
-    b"HTTP/1.1 200 O\rK",
-    b"HTTP/1.1 200 OK\r\n :",
-    b"HTTP/1.1 200 OK\r\nA b: c\r\n\r\n",
-    b"HTTP/1.1 200 OK\r\nA: b\rc",
-    b"HTTP/1.1 200 OK\r\nA: \0",
-    b"HTTP/1.1 200 OK\r\nA: b\r\n c\r\n\r\n",
-    b"\0\x01\x02\x80\xff\xfe\r\n\r\n",
-];
 
 /// What the head at the front of the input says of its body and its connection.
 fn decided(method: Method, input: &[u8]) -> Option<(Result<Framing, Code>, bool)> {
@@ -45,23 +30,17 @@ fn with_lines(alloc: Global, lines: &[u8]) -> Result<Vec<u8>, AllocError> {
     Ok(bytes)
 }
 
-/// A status line, so many short field lines, and then the end.
-pub(crate) fn with_fields(alloc: Global, count: usize, end: &[u8]) -> Result<Vec<u8>, AllocError> {
-    let mut bytes = Vec::from_slice(alloc, OK)?;
-    for _ in 0..count {
-        bytes.extend_from_slice(b"A: b\r\n")?;
-    }
-    bytes.extend_from_slice(end)?;
-    Ok(bytes)
-}
-
 /// A status line, so many short field lines, and one that is as long as the head of that length needs.
 pub(crate) fn with_long_field(
     alloc: Global,
     count: usize,
     len: usize,
 ) -> Result<Vec<u8>, AllocError> {
-    let mut bytes = with_fields(alloc, count, b"B: ")?;
+    let mut bytes = Vec::from_slice(alloc, OK)?;
+    for _ in 0..count {
+        bytes.extend_from_slice(b"A: b\r\n")?;
+    }
+    bytes.extend_from_slice(b"B: ")?;
     for _ in 0..len.saturating_sub(bytes.len().saturating_add(4)) {
         bytes.push(b'c')?;
     }
@@ -91,19 +70,35 @@ fn a_head_is_read(rt: HostRuntime) {
     }
 }
 
-#[test]
-fn a_head_cut_anywhere_wants_more(rt: HostRuntime) {
-    let head = b"\r\nHTTP/1.1 301 Moved\r\nLocation: http://a/\r\nX:\tobs \xff\n\r\n".as_slice();
-    for cut in 0..head.len() {
-        assert_eq!(rt; read_head(&head[..cut]), HeadStep::More, "at {cut}");
-    }
-    assert!(rt; decided(Method::Get, head).is_some());
+/// Whether the first head of a response is an interim one.
+pub(crate) fn begins_with_interim(bytes: &[u8]) -> bool {
+    bytes.starts_with(b"HTTP/1.1 1")
 }
 
-#[test]
-fn bytes_that_begin_no_head_are_refused(rt: HostRuntime) {
-    for input in REFUSED {
-        assert_eq!(rt; read_head(input), HeadStep::Fault(Code::WeirdServerReply));
+/// Whether more is wanted of the 1,000 fronts that have fewer bytes than so many.
+fn wants_more_before(bytes: &[u8], len: usize) -> bool {
+    for cut in len.saturating_sub(1000)..len {
+        if read_head(front(bytes, cut)) != HeadStep::More {
+            return false;
+        }
+    }
+    true
+}
+
+/// Whether a response's head is read where it ends, or refused with the byte that decides, and more is wanted before.
+pub(crate) fn is_read_in_time(row: &Response, bytes: &[u8]) -> bool {
+    match read_head(bytes) {
+        HeadStep::Head(head) => {
+            head.status() == row.status && wants_more_before(bytes, head.len())
+        }
+        HeadStep::More => row.status == 0 && row.decided.is_none(),
+        HeadStep::Fault(code) => {
+            let len = row.decided.unwrap_or(0);
+            row.status == 0
+                && code == row.code
+                && read_head(front(bytes, len)) == HeadStep::Fault(code)
+                && wants_more_before(bytes, len)
+        }
     }
 }
 
@@ -132,37 +127,6 @@ fn fills_the_limit(rt: &impl Abort, alloc: Global) {
             (65536, Some((Ok(Framing::Close), true)))
         );
     }
-}
-
-#[test]
-fn fields_are_counted(rt: HostRuntime) {
-    let alloc = rt.alloc();
-    for (count, end, step) in [
-        (
-            127,
-            b":".as_slice(),
-            HeadStep::Fault(Code::WeirdServerReply),
-        ),
-        (128, b"".as_slice(), HeadStep::More),
-        (128, b"\r".as_slice(), HeadStep::More),
-        (
-            128,
-            b"\rx".as_slice(),
-            HeadStep::Fault(Code::WeirdServerReply),
-        ),
-        (128, b":".as_slice(), HeadStep::Fault(Code::TooLarge)),
-        (128, b"\0".as_slice(), HeadStep::Fault(Code::TooLarge)),
-        (128, b"A: b".as_slice(), HeadStep::Fault(Code::TooLarge)),
-        (129, b"\r\n".as_slice(), HeadStep::Fault(Code::TooLarge)),
-    ] {
-        let input = with_fields(alloc, count, end).expect(&rt, "memory");
-        assert_eq!(rt; read_head(&input), step);
-    }
-    let full = with_fields(alloc, 128, b"\r\n").expect(&rt, "memory");
-    assert_eq!(rt;
-        decided(Method::Get, &full),
-        Some((Ok(Framing::Close), true))
-    );
 }
 
 #[test]

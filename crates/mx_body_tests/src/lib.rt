@@ -17,3 +17,5 @@ mod refused;
 mod responses;
 #[cfg(test)]
 mod rows;
+#[cfg(test)]
+mod trials;

@@ -2,18 +2,11 @@
 //!
 //! Each call stands in a function of its own with no contract, which keeps the proof of the tests short.
 
-use crate::rows::{RESPONSES, bytes_of};
 use mx_body::{Decoder, Part, Stand, Verdict, decode_whole};
+use mx_responses::bytes::CHUNKED;
 use mx_types::{Code, Method};
 use std::alloc::{AllocError, Global};
 use std::process::Abort;
-
-/// 72 bytes, with the body at 54.
-pub(crate) const CHUNKED: &[u8] =
-    b"HTTP/1.1 200 OK\r\nTransfer-Encoding: chunked\r\n\r\n5;x=y\r\nhello\r\n0\r\nA: b\r\n\r\n";
-
-/// 22 bytes, with the body at 19, which goes on to the end.
-const CLOSE: &[u8] = b"HTTP/1.0 200 OK\r\n\r\nabc";
 
 /// What can be read of a decoder, and what its bytes come to.
 #[derive(Clone, Copy, Debug, PartialEq, Eq)]
@@ -61,117 +54,8 @@ pub(crate) fn decoder(alloc: Global, method: Method) -> Decoder {
     Decoder::new(alloc, method)
 }
 
-/// Takes the decoder apart: its bytes, and its one part if that is all it has.
-fn taken_apart(decoder: Decoder) -> (Vec<u8>, Option<Part>) {
-    let (wire, parts) = decoder.into_parts();
-    let part = if parts.len() == 1 {
-        Some(parts[0])
-    } else {
-        None
-    };
-    (wire, part)
-}
-
 fn wire_of(decoder: Decoder) -> Vec<u8> {
     decoder.into_wire()
-}
-
-/// Takes the decoder apart, and compares its bytes and its one part.
-fn comes_to(rt: &impl Abort, decoder: Decoder, bytes: &[u8], part: Part) {
-    let (wire, found) = taken_apart(decoder);
-    assert_eq!(rt; (wire.as_slice(), found), (bytes, Some(part)));
-}
-
-/// Feeds a response one byte at a time, then bytes behind it, and the end.
-fn takes_each_byte(rt: &impl Abort, decoder: &mut Decoder) {
-    let each = feed_each(decoder, CHUNKED);
-    let first = read(decoder);
-    // what comes after the response is left alone
-    let behind = [feed(decoder, b"HTTP"), end(decoder)];
-    let whole = Reading {
-        stand: Stand::Complete,
-        status: 200,
-        len: 72,
-        keep: true,
-        fed: 72,
-    };
-    let complete = Some(Stand::Complete);
-    assert_eq!(rt; (each, behind), ((71, complete), [complete, complete]));
-    assert_eq!(rt; (first, read(decoder)), (whole, whole));
-}
-
-#[test]
-fn a_byte_at_a_time(rt: HostRuntime) {
-    let mut decoder = decoder(rt.alloc(), Method::Get);
-    takes_each_byte(&rt, &mut decoder);
-    comes_to(&rt, decoder, CHUNKED, Part { start: 54, end: 59 });
-}
-
-/// Feeds a response that the end completes, then bytes behind it.
-fn completes_at_the_end(rt: &impl Abort, decoder: &mut Decoder) {
-    let stands = [feed(decoder, CLOSE), end(decoder)];
-    let first = read(decoder);
-    let behind = feed(decoder, b"def");
-    let whole = Reading {
-        stand: Stand::Complete,
-        status: 200,
-        len: 22,
-        keep: false,
-        fed: 22,
-    };
-    let complete = Some(Stand::Complete);
-    assert_eq!(rt; (stands, behind), ([Some(Stand::More), complete], complete));
-    assert_eq!(rt; (first, read(decoder)), (whole, whole));
-}
-
-#[test]
-fn the_end_decides(rt: HostRuntime) {
-    let mut decoder = decoder(rt.alloc(), Method::Get);
-    completes_at_the_end(&rt, &mut decoder);
-    comes_to(&rt, decoder, CLOSE, Part { start: 19, end: 22 });
-}
-
-/// Feeds a response whose 49th byte is wrong, then what would mend it, and the end.
-fn stays_broken(rt: &impl Abort, decoder: &mut Decoder) {
-    // the bare LF stands behind 48 good bytes
-    let bytes = b"HTTP/1.1 200 OK\r\nTransfer-Encoding: chunked\r\n\r\n5\nhello";
-    let each = feed_each(decoder, bytes);
-    let first = read(decoder);
-    let behind = [feed(decoder, b"\r\nhello"), end(decoder)];
-    let fault = Stand::Fault(Code::RecvError);
-    let broken = Reading {
-        stand: fault,
-        status: 200,
-        len: 0,
-        keep: false,
-        fed: 49,
-    };
-    assert_eq!(rt;
-        (each, behind),
-        ((48, Some(fault)), [Some(fault), Some(fault)])
-    );
-    assert_eq!(rt; (first, read(decoder)), (broken, broken));
-}
-
-#[test]
-fn a_fault_stays(rt: HostRuntime) {
-    let mut decoder = decoder(rt.alloc(), Method::Get);
-    stays_broken(&rt, &mut decoder);
-    assert_eq!(rt; taken_apart(decoder).1, None);
-}
-
-/// Ends at once, and feeds a response behind the end.
-fn stays_without_response(rt: &impl Abort, decoder: &mut Decoder) {
-    let stands = [end(decoder), feed(decoder, CLOSE)];
-    let nothing = Some(Stand::Fault(Code::GotNothing));
-    assert_eq!(rt; stands, [nothing, nothing]);
-}
-
-#[test]
-fn no_bytes_are_no_response(rt: HostRuntime) {
-    let mut decoder = decoder(rt.alloc(), Method::Get);
-    stays_without_response(&rt, &mut decoder);
-    assert_eq!(rt; wire_of(decoder).len(), 0);
 }
 
 /// The head of `CHUNKED`, which has 47 bytes, and then so many chunks of one byte, the last chunk, and no trailer.
@@ -301,19 +185,8 @@ fn agrees_in_pieces(alloc: Global, method: Method, bytes: &[u8], len: usize) -> 
     end(&mut decoder).is_some() && agrees(&decoder, method, decoder.wire(), alloc, !decided)
 }
 
-/// Responses beside the rows of the table.
-static OTHERS: [&[u8]; 7] = [
-    b"HTTP/1.1 204 No Content\r\n\r\nHTTP",
-    b"HTTP/1.1 200 OK\r\nContent-Length: 67108864\r\n\r\nhello",
-    b"HTTP/1.1 200 OK\r\nTransfer-Encoding: gzip\r\n\r\nhello",
-    b"HTTP/1.1 100 Continue\r\n\r\nHTTP/1.1 103 Early Hints\r\n\r\nHTTP/1.1 200 OK\r\nTransfer-Encoding: chunked\r\n\r\n2\r\nhe\r\n3\r\nllo\r\n0\r\n\r\nHTTP",
-    b"HTTP/1.1 200 OK\r\nTransfer-Encoding: chunked\r\n\r\n5 ;a\r\nhello\r\n4000001\r\n",
-    b"HTTP/1.1 200 OK\r\nTransfer-Encoding: chunked\r\n\r\n5\r\nhello\r\n00\r\nA: b\r\nC: d\r\n",
-    b"HTTP/1.1 200 OK\r\nFoo bar\r\n\r\n",
-];
-
 /// Whether they agree on the bytes as the answer to two methods, in pieces of each length.
-fn agrees_in_all_pieces(alloc: Global, bytes: &[u8]) -> bool {
+pub(crate) fn agrees_in_all_pieces(alloc: Global, bytes: &[u8]) -> bool {
     for method in [Method::Get, Method::Head] {
         for len in [1, 2, 7, 600] {
             if !agrees_in_pieces(alloc, method, bytes, len) {
@@ -322,17 +195,6 @@ fn agrees_in_all_pieces(alloc: Global, bytes: &[u8]) -> bool {
         }
     }
     true
-}
-
-#[test]
-fn both_decoders_agree(rt: HostRuntime) {
-    for row in &RESPONSES {
-        let bytes = bytes_of(rt.alloc(), row).expect(&rt, "memory");
-        assert!(rt; agrees_in_all_pieces(rt.alloc(), &bytes), "{bytes:?}");
-    }
-    for bytes in OTHERS {
-        assert!(rt; agrees_in_all_pieces(rt.alloc(), bytes), "{bytes:?}");
-    }
 }
 
 /// An interim head, and then a head of 65,536 bytes with one long field line, whose body is empty.

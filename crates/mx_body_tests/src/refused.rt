@@ -1,11 +1,14 @@
 //! Calls that may be refused memory. One that was is made again, and has then to answer as if it had been the first; only then does its test
 //! fail, by a text of its own. What a test needs for itself is refused as any allocation is. Without a refusal all of them pass.
 
-use crate::pieces::{CHUNKED, decoder, has_many_chunks, read};
-use crate::rows::{RESPONSES, Row, Told, bytes_of, is_verdict, says};
+use crate::pieces::{decoder, has_many_chunks, read};
+use crate::rows::{is_verdict, says};
 use mx_body::{Decoder, Stand, decode_whole};
+use mx_responses::bytes::CHUNKED;
+use mx_responses::response::Response;
+use mx_responses::table::responses;
 use mx_types::{Method, OutOfMemory};
-use std::alloc::Global;
+use std::alloc::{AllocError, Global};
 use std::test::Fail;
 
 /// What a test ends with in which a call was refused memory.
@@ -20,22 +23,38 @@ fn end_with(is_refused: bool) -> Result<(), Fail> {
 }
 
 // Decodes a response as a whole, again where memory was refused: whether it was, and whether the verdict is what is told.
-fn decode(alloc: Global, row: &Row, bytes: &[u8]) -> (bool, bool) {
+fn decode(alloc: Global, row: &Response, bytes: &[u8]) -> (bool, bool) {
     let first = decode_whole(alloc, row.method, bytes, true);
     if first.is_ok() {
-        return (false, is_verdict(first, row.told));
+        return (false, is_verdict(&first, row, bytes.len(), true));
     }
     let second = decode_whole(alloc, row.method, bytes, true);
-    (true, is_verdict(second, row.told))
+    (true, is_verdict(&second, row, bytes.len(), true))
+}
+
+// Decodes these responses so: whether memory was refused, and the name of the first whose verdict is wrong.
+fn decode_rows(
+    alloc: Global,
+    rows: &[Response],
+) -> Result<(bool, Option<&'static str>), AllocError> {
+    let mut is_refused = false;
+    for row in rows {
+        let bytes = row.bytes(alloc)?;
+        let (lacked, is_right) = decode(alloc, row, &bytes);
+        is_refused = is_refused || lacked;
+        if !is_right {
+            return Ok((is_refused, Some(row.name)));
+        }
+    }
+    Ok((is_refused, None))
 }
 
 #[test]
 fn whole_responses_are_decoded_again(rt: HostRuntime) -> Result<(), Fail> {
     let mut is_refused = false;
-    for row in &RESPONSES {
-        let bytes = bytes_of(rt.alloc(), row)?;
-        let (lacked, is_right) = decode(rt.alloc(), row, &bytes);
-        assert!(rt; is_right, "{bytes:?}");
+    for rows in responses() {
+        let (lacked, wrong) = decode_rows(rt.alloc(), rows)?;
+        assert_eq!(rt; wrong, None);
         is_refused = is_refused || lacked;
     }
     end_with(is_refused)
@@ -65,7 +84,7 @@ fn make_again(decoder: &mut Decoder, call: Call<'_>) -> (Result<Stand, OutOfMemo
 }
 
 // Feeds the bytes in pieces of that length, and then the end: whether memory was refused, and whether the decoder says what is told.
-fn feed_all(decoder: &mut Decoder, row: &Row, bytes: &[u8], len: usize) -> (bool, bool) {
+fn feed_all(decoder: &mut Decoder, row: &Response, bytes: &[u8], len: usize) -> (bool, bool) {
     let mut is_refused = false;
     for piece in bytes.chunks(len.max(1)) {
         let (stand, lacked) = make_again(decoder, Call::Feed(piece));
@@ -75,26 +94,45 @@ fn feed_all(decoder: &mut Decoder, row: &Row, bytes: &[u8], len: usize) -> (bool
         }
     }
     let (stand, lacked) = make_again(decoder, Call::End);
-    let is_right = stand.is_ok() && says(decoder, row.told);
+    let is_right = stand.is_ok() && says(decoder, row, bytes.len(), true);
     (is_refused || lacked, is_right)
 }
 
-// Feeds them to a new decoder.
-fn feed_new(alloc: Global, row: &Row, bytes: &[u8], len: usize) -> (bool, bool) {
-    let mut decoder = decoder(alloc, row.method);
-    feed_all(&mut decoder, row, bytes, len)
+// Feeds them to new decoders, in pieces of each length.
+fn feed_new(alloc: Global, row: &Response, bytes: &[u8]) -> (bool, bool) {
+    let mut is_refused = false;
+    for len in [1, 7, 600] {
+        let mut decoder = decoder(alloc, row.method);
+        let (lacked, is_right) = feed_all(&mut decoder, row, bytes, len);
+        is_refused = is_refused || lacked;
+        if !is_right {
+            return (is_refused, false);
+        }
+    }
+    (is_refused, true)
+}
+
+// Feeds these responses so: whether memory was refused, and the name of the first of which something else is said.
+fn feed_rows(alloc: Global, rows: &[Response]) -> Result<(bool, Option<&'static str>), AllocError> {
+    let mut is_refused = false;
+    for row in rows {
+        let bytes = row.bytes(alloc)?;
+        let (lacked, is_right) = feed_new(alloc, row, &bytes);
+        is_refused = is_refused || lacked;
+        if !is_right {
+            return Ok((is_refused, Some(row.name)));
+        }
+    }
+    Ok((is_refused, None))
 }
 
 #[test]
 fn pieces_are_fed_again(rt: HostRuntime) -> Result<(), Fail> {
     let mut is_refused = false;
-    for row in &RESPONSES {
-        let bytes = bytes_of(rt.alloc(), row)?;
-        for len in [1, 7, 600] {
-            let (lacked, is_right) = feed_new(rt.alloc(), row, &bytes, len);
-            assert!(rt; is_right, "{bytes:?}");
-            is_refused = is_refused || lacked;
-        }
+    for rows in responses() {
+        let (lacked, wrong) = feed_rows(rt.alloc(), rows)?;
+        assert_eq!(rt; wrong, None);
+        is_refused = is_refused || lacked;
     }
     end_with(is_refused)
 }

@@ -5,11 +5,15 @@
 use crate::fakes::{Filler, Full, Trickle, Unflushed};
 use crate::long::{Long, add_long, bytes_of};
 use crate::rows::{first_false, none_is_wrong};
+use mx_responses::bytes::{COUNTED, HEAD};
+use mx_responses::response::Response;
+use mx_responses::table::responses;
 use mx_run_body::{MOST_READS, run_body};
 use mx_run_io::{Input, Output};
 use mx_types::Method;
 use std::alloc::{AllocError, Global};
 use std::io::{BufWriter, Read, Write};
+use std::process::Abort;
 
 /// What `body` ends with.
 fn run<R: Read + Drop, W: Write + Drop>(alloc: Global, method: Method, reader: R, writer: W) -> u8 {
@@ -26,205 +30,57 @@ fn prints<R: Read + Drop>(
     alloc: Global,
     method: Method,
     reader: R,
-    status: u8,
+    status: u32,
     output: &[u8],
 ) -> bool {
     let mut written = Vec::new(alloc);
     let ended = run(alloc, method, reader, &mut written);
-    ended == status && written.as_slice() == output
+    u32::from(ended) == status && written.as_slice() == output
 }
 
-/// A method, an input, the exit status, and the output.
-type Row<'a> = (Method, &'a [u8], u8, &'a [u8]);
-
-/// The first row of which something else comes.
-fn first_wrong(alloc: Global, rows: &[Row<'_>]) -> Option<usize> {
-    for at in 0..rows.len() {
-        let (method, input, status, output) = rows[at];
-        if !prints(alloc, method, input, status, output) {
-            return Some(at);
-        }
+/// The line that is printed of a response that has so many bytes.
+fn line_of(alloc: Global, response: &Response, len: usize) -> Result<String, AllocError> {
+    let number = response.code.number();
+    if number != 0 {
+        return format!(in alloc; "FAULT {number}\n");
     }
-    None
+    let status = response.status;
+    let body = response.body.len();
+    let keep = if response.keep { "yes" } else { "no" };
+    let left = len.saturating_sub(response.decided.unwrap_or(len));
+    format!(in alloc; "OK status={status} body={body} keep={keep} left={left}\n")
 }
 
-/// A response to GET, the exit status, and the output.
-type LongRow<'a> = (Long<'a>, u8, &'a [u8]);
+/// What is printed of it.
+fn output_of(alloc: Global, response: &Response, len: usize) -> Result<Vec<u8>, AllocError> {
+    let line = line_of(alloc, response, len)?;
+    let mut output = Vec::from_slice(alloc, line.as_bytes())?;
+    output.extend_from_slice(response.body)?;
+    Ok(output)
+}
 
-fn long_prints(alloc: Global, row: LongRow<'_>) -> bool {
-    let (input, status, output) = row;
-    match bytes_of(alloc, input) {
-        Ok(bytes) => prints(alloc, Method::Get, bytes.as_slice(), status, output),
-        Err(_) => false,
+/// A response, and what comes of it.
+#[derive(Clone, Copy)]
+struct Row<'a> {
+    method: Method,
+    bytes: &'a [u8],
+    /// The exit status.
+    status: u32,
+    output: &'a [u8],
+}
+
+/// Whether `body` ends so, and writes that output, where a reader gives the bytes.
+fn prints_row<R: Read + Drop>(alloc: Global, row: Row<'_>, reader: R) -> bool {
+    prints(alloc, row.method, reader, row.status, row.output)
+}
+
+fn row_of<'a>(response: &Response, bytes: &'a [u8], output: &'a [u8]) -> Row<'a> {
+    Row {
+        method: response.method,
+        bytes,
+        status: response.code.number(),
+        output,
     }
-}
-
-/// The first row of which something else comes.
-fn first_long_wrong(alloc: Global, rows: &[LongRow<'_>]) -> Option<usize> {
-    for at in 0..rows.len() {
-        if !long_prints(alloc, rows[at]) {
-            return Some(at);
-        }
-    }
-    None
-}
-
-static COUNTED_BODIES: [Row<'static>; 7] = [
-    (
-        Method::Get,
-        b"HTTP/1.1 200 OK\r\nContent-Length: 5\r\n\r\nhello",
-        0,
-        b"OK status=200 body=5 keep=yes left=0\nhello",
-    ),
-    (
-        Method::Get,
-        b"HTTP/1.1 200 OK\r\nContent-Length: 5, 5\r\n\r\nhello",
-        0,
-        b"OK status=200 body=5 keep=yes left=0\nhello",
-    ),
-    (
-        Method::Get,
-        b"HTTP/1.1 200 OK\r\nContent-Length: 5\r\n\r\nhelloHTTP",
-        0,
-        b"OK status=200 body=5 keep=yes left=4\nhello",
-    ),
-    (
-        Method::Head,
-        b"HTTP/1.1 200 OK\r\nContent-Length: 5\r\n\r\n",
-        0,
-        b"OK status=200 body=0 keep=yes left=0\n",
-    ),
-    (
-        Method::Get,
-        b"HTTP/1.1 200 OK\r\nContent-Length: 5\r\n\r\nhell",
-        18,
-        b"FAULT 18\n",
-    ),
-    (
-        Method::Get,
-        b"HTTP/1.1 200 OK\r\nContent-Length: 67108819\r\n\r\n",
-        18,
-        b"FAULT 18\n",
-    ),
-    (
-        Method::Get,
-        b"HTTP/1.1 200 OK\r\nContent-Length: 67108820\r\n\r\n",
-        63,
-        b"FAULT 63\n",
-    ),
-];
-
-#[test]
-fn counted_bodies(rt: HostRuntime) {
-    none_is_wrong(&rt, first_wrong(rt.alloc(), &COUNTED_BODIES));
-}
-
-/// The most field lines and the most bytes that a head may have, 65,536, of which 43 aren't letters; and one more.
-static LONG_HEADS: [LongRow<'static>; 5] = [
-    (
-        (b"HTTP/1.1 200 OK\r\n", b"A: b\r\n", 128, b"\r\n"),
-        0,
-        b"OK status=200 body=0 keep=no left=0\n",
-    ),
-    (
-        (b"HTTP/1.1 200 OK\r\n", b"A: b\r\n", 129, b"\r\n"),
-        100,
-        b"FAULT 100\n",
-    ),
-    (
-        (b"HTTP/1.1 200 OK\r\n", b"A: b\r\n", 128, b":"),
-        100,
-        b"FAULT 100\n",
-    ),
-    (
-        (
-            b"HTTP/1.1 200 OK\r\nA: ",
-            b"v",
-            65_493,
-            b"\r\nContent-Length: 0\r\n\r\n",
-        ),
-        0,
-        b"OK status=200 body=0 keep=yes left=0\n",
-    ),
-    (
-        (
-            b"HTTP/1.1 200 OK\r\nA: ",
-            b"v",
-            65_494,
-            b"\r\nContent-Length: 0\r\n\r\n",
-        ),
-        100,
-        b"FAULT 100\n",
-    ),
-];
-
-#[test]
-fn heads_at_their_limits(rt: HostRuntime) {
-    none_is_wrong(&rt, first_long_wrong(rt.alloc(), &LONG_HEADS));
-}
-
-static CHUNKED_BODIES: [Row<'static>; 9] = [
-    // no body is no chunked one, but a coding keeps no connection of HTTP/1.0
-    (
-        Method::Get,
-        b"HTTP/1.0 304 Not Modified\r\nTransfer-Encoding: chunked\r\nConnection: keep-alive\r\n\r\n",
-        0,
-        b"OK status=304 body=0 keep=no left=0\n",
-    ),
-    (
-        Method::Get,
-        b"HTTP/1.1 200 OK\r\nTransfer-Encoding: chunked\r\n\r\n5;x=y\r\nhello\r\n0\r\nA: b\r\n\r\n",
-        0,
-        b"OK status=200 body=5 keep=yes left=0\nhello",
-    ),
-    (
-        Method::Get,
-        b"HTTP/1.1 200 OK\r\nTransfer-Encoding: chunked\r\n\r\nFFFFFFFFFFFFFFFFF\r\n",
-        63,
-        b"FAULT 63\n",
-    ),
-    (
-        Method::Get,
-        b"HTTP/1.1 200 OK\r\nTransfer-Encoding: chunked\r\n\r\n5\r\nhelloX",
-        56,
-        b"FAULT 56\n",
-    ),
-    (
-        Method::Get,
-        b"HTTP/1.1 200 OK\r\nTransfer-Encoding: chunked\r\n\r\n5\nhello",
-        56,
-        b"FAULT 56\n",
-    ),
-    (
-        Method::Get,
-        b"HTTP/1.1 200 OK\r\nTransfer-Encoding: chunked\r\n\r\n4000000\r\n",
-        18,
-        b"FAULT 18\n",
-    ),
-    (
-        Method::Get,
-        b"HTTP/1.1 200 OK\r\nTransfer-Encoding: chunked\r\n\r\n4000001\r\n",
-        63,
-        b"FAULT 63\n",
-    ),
-    (
-        Method::Get,
-        b"HTTP/1.1 200 OK\r\nTransfer-Encoding: chunked\r\n\r\n2\r\nhe\r\n3\r\nllo\r\n0\r\n\r\nHTTP",
-        0,
-        b"OK status=200 body=5 keep=yes left=4\nhello",
-    ),
-    (
-        Method::Get,
-        b"HTTP/1.1 200 OK\r\nTransfer-Encoding: chunked\r\nContent-Length: 3\r\n\r\n\
-        5\r\nhello\r\n0\r\n\r\n",
-        0,
-        b"OK status=200 body=5 keep=no left=0\nhello",
-    ),
-];
-
-#[test]
-fn chunked_bodies(rt: HostRuntime) {
-    none_is_wrong(&rt, first_wrong(rt.alloc(), &CHUNKED_BODIES));
 }
 
 /// One behind the other.
@@ -264,241 +120,6 @@ fn pieces_are_gathered(rt: HostRuntime) {
     assert!(rt; prints(rt.alloc(), Method::Get, input.as_slice(), 0, &output));
 }
 
-/// Behind a fault they change nothing.
-static BYTES_BEHIND: [LongRow<'static>; 2] = [
-    (
-        (
-            b"HTTP/1.1 200 OK\r\nContent-Length: 5\r\n\r\nhello",
-            b"v",
-            200_000,
-            b"",
-        ),
-        0,
-        b"OK status=200 body=5 keep=yes left=200000\nhello",
-    ),
-    (
-        (
-            b"HTTP/1.1 200 OK\r\nTransfer-Encoding: chunked\r\n\r\n5\nhello",
-            b"v",
-            200_000,
-            b"",
-        ),
-        56,
-        b"FAULT 56\n",
-    ),
-];
-
-#[test]
-fn bytes_behind_a_response_are_counted(rt: HostRuntime) {
-    none_is_wrong(&rt, first_long_wrong(rt.alloc(), &BYTES_BEHIND));
-}
-
-/// 28 bytes.
-const HINTS: &[u8] = b"HTTP/1.1 103 Early Hints\r\n\r\n";
-
-static INTERIM_HEADS: [LongRow<'static>; 4] = [
-    (
-        (b"", HINTS, 1, b"HTTP/1.1 204 No Content\r\n\r\n"),
-        0,
-        b"OK status=204 body=0 keep=yes left=0\n",
-    ),
-    (
-        (b"", HINTS, 0, b"HTTP/1.1 101 Switching Protocols\r\n\r\n"),
-        8,
-        b"FAULT 8\n",
-    ),
-    (
-        (
-            b"",
-            HINTS,
-            16,
-            b"HTTP/1.1 200 OK\r\nContent-Length: 5\r\n\r\nhello",
-        ),
-        0,
-        b"OK status=200 body=5 keep=yes left=0\nhello",
-    ),
-    (
-        (
-            b"",
-            HINTS,
-            17,
-            b"HTTP/1.1 200 OK\r\nContent-Length: 5\r\n\r\nhello",
-        ),
-        8,
-        b"FAULT 8\n",
-    ),
-];
-
-#[test]
-fn interim_heads(rt: HostRuntime) {
-    none_is_wrong(&rt, first_long_wrong(rt.alloc(), &INTERIM_HEADS));
-}
-
-static REFUSED_HEADS: [Row<'static>; 5] = [
-    (Method::Get, b"", 52, b"FAULT 52\n"),
-    (Method::Get, b"HTTP/1.1 20", 8, b"FAULT 8\n"),
-    (
-        Method::Get,
-        b"HTTP/1.1 200 OK\r\nContent-Length: 5, 6\r\n\r\nhello",
-        8,
-        b"FAULT 8\n",
-    ),
-    (
-        Method::Get,
-        b"HTTP/1.1 200 OK\r\nTransfer-Encoding: gzip, chunked\r\n\r\n",
-        61,
-        b"FAULT 61\n",
-    ),
-    (
-        Method::Get,
-        b"HTTP/1.0 200 OK\r\nTransfer-Encoding: chunked\r\n\r\n",
-        8,
-        b"FAULT 8\n",
-    ),
-];
-
-#[test]
-fn refused_heads(rt: HostRuntime) {
-    none_is_wrong(&rt, first_wrong(rt.alloc(), &REFUSED_HEADS));
-}
-
-/// What nginx 1.22 and Python's `http.server` sent on loopback: with a length, until the end, and in chunks.
-static CAPTURES: [Row<'static>; 4] = [
-    (
-        Method::Get,
-        b"HTTP/1.1 200 OK\r\nServer: nginx/1.22.1\r\nDate: Sun, 22 Nov 2026 08:49:54 GMT\r\n\
-        Content-Type: text/plain\r\nContent-Length: 14\r\nLast-Modified: Sun, 22 Nov 2026 08:49:52 GMT\r\n\
-        Connection: close\r\nETag: \"6b02acb0-e\"\r\nAccept-Ranges: bytes\r\n\r\nhello, world.\n",
-        0,
-        b"OK status=200 body=14 keep=no left=0\nhello, world.\n",
-    ),
-    (
-        Method::Get,
-        b"HTTP/1.1 200 OK\r\nServer: nginx/1.22.1\r\nDate: Sun, 22 Nov 2026 08:49:54 GMT\r\n\
-        Content-Type: text/html\r\nConnection: close\r\n\r\ntime: none\n",
-        0,
-        b"OK status=200 body=11 keep=no left=0\ntime: none\n",
-    ),
-    (
-        Method::Get,
-        b"HTTP/1.1 200 OK\r\nServer: nginx/1.22.1\r\nDate: Sun, 22 Nov 2026 08:49:55 GMT\r\n\
-        Content-Type: text/html\r\nTransfer-Encoding: chunked\r\nConnection: close\r\n\r\n\
-        b\r\ntime: none\n\r\n0\r\n\r\n",
-        0,
-        b"OK status=200 body=11 keep=no left=0\ntime: none\n",
-    ),
-    (
-        Method::Get,
-        b"HTTP/1.0 200 OK\r\nServer: SimpleHTTP/0.6 Python/3.11.7\r\n\
-        Date: Sun, 22 Nov 2026 08:49:56 GMT\r\nContent-type: text/plain\r\nContent-Length: 14\r\n\
-        Last-Modified: Sun, 22 Nov 2026 08:49:52 GMT\r\n\r\nhello, world.\n",
-        0,
-        b"OK status=200 body=14 keep=no left=0\nhello, world.\n",
-    ),
-];
-
-#[test]
-fn captures_of_real_servers(rt: HostRuntime) {
-    none_is_wrong(&rt, first_wrong(rt.alloc(), &CAPTURES));
-}
-
-static LENGTHS: [Row<'static>; 9] = [
-    (
-        Method::Get,
-        b"HTTP/1.1 200 OK\r\nContent-Length: 05, 5\r\n\r\nhello",
-        0,
-        b"OK status=200 body=5 keep=yes left=0\nhello",
-    ),
-    (
-        Method::Get,
-        b"HTTP/1.1 200 OK\r\nContent-Length: +5\r\n\r\nhello",
-        8,
-        b"FAULT 8\n",
-    ),
-    // of two numbers that differ one is past 64 bits
-    (
-        Method::Get,
-        b"HTTP/1.1 200 OK\r\nContent-Length: 18446744073709551616, 18446744073709551615\r\n\r\nhello",
-        8,
-        b"FAULT 8\n",
-    ),
-    (
-        Method::Get,
-        b"HTTP/1.1 200 OK\r\nContent-Length: 18446744073709551615, 18446744073709551616\r\n\r\nhello",
-        8,
-        b"FAULT 8\n",
-    ),
-    (
-        Method::Get,
-        b"HTTP/1.1 200 OK\r\nContent-Length: 5,,5\r\n\r\nhello",
-        8,
-        b"FAULT 8\n",
-    ),
-    (
-        Method::Get,
-        b"HTTP/1.1 200 OK\r\nContent-Length: 5.0\r\n\r\nhello",
-        8,
-        b"FAULT 8\n",
-    ),
-    (
-        Method::Get,
-        b"HTTP/1.1 200 OK\r\nContent-Length: \xff\r\n\r\nhello",
-        8,
-        b"FAULT 8\n",
-    ),
-    (
-        Method::Get,
-        b"HTTP/1.1 200 OK\r\nContent-Length: 18446744073709551616\r\n\r\nhello",
-        63,
-        b"FAULT 63\n",
-    ),
-    (
-        Method::Get,
-        b"HTTP/1.1 200 OK\r\nContent-Length:   0005\t,5 \r\n\r\nhello",
-        0,
-        b"OK status=200 body=5 keep=yes left=0\nhello",
-    ),
-];
-
-#[test]
-fn lengths(rt: HostRuntime) {
-    none_is_wrong(&rt, first_wrong(rt.alloc(), &LENGTHS));
-}
-
-static HOSTILE: [Row<'static>; 6] = [
-    (Method::Get, b"\0", 8, b"FAULT 8\n"),
-    (
-        Method::Get,
-        b"HTTP/1.1 200 OK\rA: b\r\n\r\n",
-        8,
-        b"FAULT 8\n",
-    ),
-    (
-        Method::Get,
-        b"HTTP/1.1 200 OK\r\nA: b\0c\r\n\r\n",
-        8,
-        b"FAULT 8\n",
-    ),
-    (
-        Method::Get,
-        b"HTTP/1.1 200 OK\r\nA\0: b\r\n\r\n",
-        8,
-        b"FAULT 8\n",
-    ),
-    (
-        Method::Get,
-        b"HTTP/1.1 200 OK\r\nA : b\r\n\r\n",
-        8,
-        b"FAULT 8\n",
-    ),
-    (Method::Get, b"HTTP/2.0 200 OK\r\n\r\n", 8, b"FAULT 8\n"),
-];
-
-#[test]
-fn hostile_bytes(rt: HostRuntime) {
-    none_is_wrong(&rt, first_wrong(rt.alloc(), &HOSTILE));
-}
-
 /// The first front of a head, but for none of it, that isn't refused.
 fn first_unrefused_cut(alloc: Global, head: &[u8]) -> Option<usize> {
     for cut in 1..head.len() {
@@ -511,8 +132,7 @@ fn first_unrefused_cut(alloc: Global, head: &[u8]) -> Option<usize> {
 
 #[test]
 fn heads_cut_anywhere(rt: HostRuntime) {
-    let head = b"HTTP/1.1 200 OK\r\nContent-Length: 5\r\n\r\n";
-    none_is_wrong(&rt, first_unrefused_cut(rt.alloc(), head));
+    none_is_wrong(&rt, first_unrefused_cut(rt.alloc(), HEAD));
 }
 
 /// Sets each byte by a linear congruential generator: its next state.
@@ -542,67 +162,33 @@ fn random_bytes(rt: HostRuntime) {
     none_is_wrong(&rt, first_unrefused_random(rt.alloc()));
 }
 
-/// A body with a length, one of two chunks, one that goes on to the end, and no response.
-static READ_AND_WRITTEN: [Row<'static>; 4] = [
-    (
-        Method::Get,
-        b"HTTP/1.1 200 OK\r\nContent-Length: 5\r\n\r\nhello",
-        0,
-        b"OK status=200 body=5 keep=yes left=0\nhello",
-    ),
-    (
-        Method::Get,
-        b"HTTP/1.1 200 OK\r\nTransfer-Encoding: chunked\r\n\r\n2\r\nhe\r\n3\r\nllo\r\n0\r\n\r\n",
-        0,
-        b"OK status=200 body=5 keep=yes left=0\nhello",
-    ),
-    (
-        Method::Get,
-        b"HTTP/1.0 200 OK\r\n\r\nabc",
-        0,
-        b"OK status=200 body=3 keep=no left=0\nabc",
-    ),
-    (Method::Get, b"HTTP/1.1 20", 8, b"FAULT 8\n"),
-];
-
 /// The number of reads behind which something else is printed than a failed read, or the row where all went well: one read for each byte,
 /// and one for the end.
 fn first_untold(alloc: Global, row: Row<'_>) -> Option<usize> {
-    let (method, bytes, status, output) = row;
+    let bytes = row.bytes;
     for reads in 0..=bytes.len() {
-        if !prints(alloc, method, Trickle { bytes, reads }, 56, b"FAULT 56\n") {
+        let reader = Trickle { bytes, reads };
+        if !prints(alloc, row.method, reader, 56, b"FAULT 56\n") {
             return Some(reads);
         }
     }
     let reads = bytes.len().saturating_add(1);
-    if prints(alloc, method, Trickle { bytes, reads }, status, output) {
+    if prints_row(alloc, row, Trickle { bytes, reads }) {
         return None;
     }
     Some(reads)
 }
 
-#[test]
-fn reads_that_fail(rt: HostRuntime) {
-    for row in &READ_AND_WRITTEN {
-        none_is_wrong(&rt, first_untold(rt.alloc(), *row));
-    }
-}
-
 /// What `body` ends with where the writer takes so many writes; `None` where it took other bytes than it should.
-fn ends_full(alloc: Global, row: Row<'_>, writes: u8) -> Option<u8> {
-    let (method, bytes, status, output) = row;
+fn ends_full(alloc: Global, row: Row<'_>, writes: u8) -> Option<u32> {
     let mut taken = Vec::new(alloc);
-    let ended = run(
-        alloc,
-        method,
-        bytes,
-        Full {
-            taken: &mut taken,
-            writes,
-        },
-    );
-    let is_whole = ended == status && taken.as_slice() == output;
-    if is_whole || ended == 121 && output.starts_with(&taken) {
+    let writer = Full {
+        taken: &mut taken,
+        writes,
+    };
+    let ended = u32::from(run(alloc, row.method, row.bytes, writer));
+    let is_whole = ended == row.status && taken.as_slice() == row.output;
+    if is_whole || ended == 121 && row.output.starts_with(&taken) {
         Some(ended)
     } else {
         None
@@ -618,20 +204,71 @@ fn first_wrong_writes(alloc: Global, row: Row<'_>) -> Option<usize> {
             return Some(writes as usize);
         }
     }
-    if last == Some(row.2) { None } else { Some(40) }
+    if last == Some(row.status) {
+        None
+    } else {
+        Some(40)
+    }
+}
+
+/// How a response is tried.
+#[derive(Clone, Copy)]
+enum Trial {
+    Whole,
+    /// Where it has at most 200 bytes.
+    FailingReads,
+    FailingWrites,
+}
+
+fn passes(alloc: Global, trial: Trial, row: Row<'_>) -> bool {
+    match trial {
+        Trial::Whole => prints_row(alloc, row, row.bytes),
+        Trial::FailingReads => row.bytes.len() > 200 || first_untold(alloc, row).is_none(),
+        Trial::FailingWrites => first_wrong_writes(alloc, row).is_none(),
+    }
+}
+
+/// The name of the first response that doesn't pass.
+fn first_wrong(
+    alloc: Global,
+    trial: Trial,
+    rows: &[Response],
+) -> Result<Option<&'static str>, AllocError> {
+    for response in rows {
+        let bytes = response.bytes(alloc)?;
+        let output = output_of(alloc, response, bytes.len())?;
+        if !passes(alloc, trial, row_of(response, &bytes, &output)) {
+            return Ok(Some(response.name));
+        }
+    }
+    Ok(None)
+}
+
+fn all_pass(rt: &impl Abort, alloc: Global, trial: Trial) {
+    for rows in responses() {
+        let wrong = first_wrong(alloc, trial, rows).expect(rt, "memory");
+        assert_eq!(rt; wrong, None);
+    }
+}
+
+#[test]
+fn responses_are_printed(rt: HostRuntime) {
+    all_pass(&rt, rt.alloc(), Trial::Whole);
+}
+
+#[test]
+fn reads_that_fail(rt: HostRuntime) {
+    all_pass(&rt, rt.alloc(), Trial::FailingReads);
 }
 
 #[test]
 fn writes_that_fail(rt: HostRuntime) {
-    for row in &READ_AND_WRITTEN {
-        none_is_wrong(&rt, first_wrong_writes(rt.alloc(), *row));
-    }
+    all_pass(&rt, rt.alloc(), Trial::FailingWrites);
 }
 
-/// Whether a writer answers to the worked example that it couldn't be written.
+/// Whether a writer answers to a response that it couldn't be written.
 fn is_unwritten<W: Write + Drop>(alloc: Global, writer: W) -> bool {
-    let (method, bytes, ..) = READ_AND_WRITTEN[0];
-    run(alloc, method, bytes, writer) == 121
+    run(alloc, Method::Get, COUNTED, writer) == 121
 }
 
 /// Whether it does with a buffer before it.
