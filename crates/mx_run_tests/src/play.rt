@@ -58,226 +58,314 @@ fn plays_from<R: Read + Drop>(
     ended == Some(status) && written.as_slice() == printed.as_bytes()
 }
 
-/// A history, a script, what it prints, and the exit status.
-type Row<'a> = (u32, &'a str, &'a str, u8);
-
-/// The first row of which something else comes.
-fn first_wrong(alloc: Global, rows: &[Row<'_>]) -> Option<usize> {
-    for at in 0..rows.len() {
-        let (history, script, printed, status) = rows[at];
-        if !plays(
-            alloc,
-            history,
-            script.as_bytes(),
-            MOST_READS,
-            printed,
-            status,
-        ) {
-            return Some(at);
-        }
-    }
-    None
+/// A script, and what comes of it.
+#[derive(Clone, Copy)]
+struct Script {
+    /// What it is about.
+    name: &'static str,
+    /// For how many events there is room.
+    history: u32,
+    /// The first ticket.
+    first: u32,
+    script: &'static str,
+    printed: &'static str,
+    /// The exit status.
+    status: u8,
 }
 
-static SCRIPTS: [Row<'static>; 8] = [
-    // a done handle stays added until it is removed
-    (
-        1024,
-        "add 7\nadd 7\ndone 0 0 5\nread\nadd 7\nremove 7\nadd 7\n",
-        "added 0\nadded-already\nrecorded\nmessage 7 0 0 5 left 0\nadded-already\nremoved\nadded 1\n",
-        0,
-    ),
-    // a removal drops the unread message
-    (
-        1024,
-        "add 1\nadd 2\ndone 1 0 3\ndone 0 0 4\nremove 2\nread\nread\n",
-        "added 0\nadded 1\nrecorded\nrecorded\nremoved\nmessage 1 0 0 4 left 0\nempty\n",
-        0,
-    ),
-    // a short history keeps the place of the end
-    (
-        4,
-        "add 1\npause 1\ndone 0 18 0\nread\nremove 1\nwakeup\nadd 1\n",
-        "added 0\nhistory-full\nrecorded\nmessage 1 0 18 0 left 0\nremoved\nfailure\nhistory-full\n",
-        0,
-    ),
-    // several wakeups count as one
-    (
-        1024,
-        "wakeup\nwakeup\npoll\npoll\nwakeup\npoll\n",
-        "ok\nok\nwoken\nwould-wait\nok\nwoken\n",
-        0,
-    ),
-    // a claim of a removed addition is stale
-    (
-        1024,
-        "add 5\nremove 5\nadd 5\ndone 0 0 9\nstate 5\ndone 1 0 2\ndone 1 0 2\nread\nremove 6\n",
-        "added 0\nremoved\nadded 1\nstale\nrunning 1\nrecorded\nno-claim\nmessage 5 1 0 2 left 0\nnot-added\n",
-        0,
-    ),
-    // claims are found by their tickets
-    (
-        1024,
-        "add 1\nadd 2\nadd 3\nremove 2\ndone 2 0 1\ndone 1 0 1\ndone 1 0 1\ndone 0 0 1\ndone 3 0 0\ndone 4294967295 0 0\n",
-        "added 0\nadded 1\nadded 2\nremoved\nrecorded\nstale\nno-claim\nrecorded\nno-claim\nno-claim\n",
-        0,
-    ),
-    // pauses, and a bad line
-    (
-        1024,
-        "add 3\npause 3\npause 3\nstate 3\nunpause 3\nunpause 3\ndone 0 28 0\npause 3\npause 4\nstate 3\nrunning\nhandles\nremove 3\nad 3\n",
-        "added 0\nchanged\nno-change\npaused 0\nchanged\nno-change\nrecorded\nnot-running\nnot-added\ndone 0 28\nrunning 0\nhandles 3\nremoved\nbad-line 14\n",
-        122,
-    ),
-    // comments and empty lines print nothing; the last line may lack its LF
-    (
-        1024,
-        "# a comment\n\nhandles\nrunning\nstate 9\nadd 9\nadd 8\nhandles\nrunning\ndone 0 0 1\nread\nstate 9\nunpause 9\nunpause 7\ndone 7 0 0\nread",
-        "handles\nrunning 0\nnot-added\nadded 0\nadded 1\nhandles 9 8\nrunning 2\nrecorded\nmessage 9 0 0 1 left 0\nread 0 0\nnot-running\nnot-added\nno-claim\nempty\n",
-        0,
-    ),
+/// A script over the shortest history, which runs to its end.
+const SHORT: Script = Script {
+    name: "",
+    history: 4,
+    first: 0,
+    script: "",
+    printed: "",
+    status: 0,
+};
+
+static SCRIPTS: [Script; 38] = [
+    Script {
+        name: "a_done_handle_stays_added_until_it_is_removed",
+        history: 1024,
+        script: "add 7\nadd 7\ndone 0 0 5\nread\nadd 7\nremove 7\nadd 7\n",
+        printed: "added 0\nadded-already\nrecorded\nmessage 7 0 0 5 left 0\nadded-already\nremoved\nadded 1\n",
+        ..SHORT
+    },
+    Script {
+        name: "a_removal_drops_the_unread_message",
+        history: 1024,
+        script: "add 1\nadd 2\ndone 1 0 3\ndone 0 0 4\nremove 2\nread\nread\n",
+        printed: "added 0\nadded 1\nrecorded\nrecorded\nremoved\nmessage 1 0 0 4 left 0\nempty\n",
+        ..SHORT
+    },
+    Script {
+        name: "a_short_history_keeps_the_place_of_the_end",
+        script: "add 1\npause 1\ndone 0 18 0\nread\nremove 1\nwakeup\nadd 1\n",
+        printed: "added 0\nhistory-full\nrecorded\nmessage 1 0 18 0 left 0\nremoved\nfailure\nhistory-full\n",
+        ..SHORT
+    },
+    Script {
+        name: "several_wakeups_count_as_one",
+        history: 1024,
+        script: "wakeup\nwakeup\npoll\npoll\nwakeup\npoll\n",
+        printed: "ok\nok\nwoken\nwould-wait\nok\nwoken\n",
+        ..SHORT
+    },
+    Script {
+        name: "a_claim_of_a_removed_addition_is_stale",
+        history: 1024,
+        script: "add 5\nremove 5\nadd 5\ndone 0 0 9\nstate 5\ndone 1 0 2\ndone 1 0 2\nread\nremove 6\n",
+        printed: "added 0\nremoved\nadded 1\nstale\nrunning 1\nrecorded\nno-claim\nmessage 5 1 0 2 left 0\nnot-added\n",
+        ..SHORT
+    },
+    Script {
+        name: "claims_are_found_by_their_tickets",
+        history: 1024,
+        script: "add 1\nadd 2\nadd 3\nremove 2\ndone 2 0 1\ndone 1 0 1\ndone 1 0 1\ndone 0 0 1\ndone 3 0 0\ndone 4294967295 0 0\n",
+        printed: "added 0\nadded 1\nadded 2\nremoved\nrecorded\nstale\nno-claim\nrecorded\nno-claim\nno-claim\n",
+        ..SHORT
+    },
+    Script {
+        name: "pauses_and_a_bad_line",
+        history: 1024,
+        script: "add 3\npause 3\npause 3\nstate 3\nunpause 3\nunpause 3\ndone 0 28 0\npause 3\npause 4\nstate 3\nrunning\nhandles\nremove 3\nad 3\n",
+        printed: "added 0\nchanged\nno-change\npaused 0\nchanged\nno-change\nrecorded\nnot-running\nnot-added\ndone 0 28\nrunning 0\nhandles 3\nremoved\nbad-line 14\n",
+        status: 122,
+        ..SHORT
+    },
+    Script {
+        name: "comments_and_a_last_line_without_its_line_feed",
+        history: 1024,
+        script: "# a comment\n\nhandles\nrunning\nstate 9\nadd 9\nadd 8\nhandles\nrunning\ndone 0 0 1\nread\nstate 9\nunpause 9\nunpause 7\ndone 7 0 0\nread",
+        printed: "handles\nrunning 0\nnot-added\nadded 0\nadded 1\nhandles 9 8\nrunning 2\nrecorded\nmessage 9 0 0 1 left 0\nread 0 0\nnot-running\nnot-added\nno-claim\nempty\n",
+        ..SHORT
+    },
+    // retirings: what is kept makes room, a claim that is out blocks it, and the next poll looks at what comes behind
+    Script {
+        name: "what_is_kept_makes_room",
+        history: 8,
+        script: "add 1\ndone 0 0 5\nread\nremove 1\nwakeup\nadd 2\nretire\nadd 2\nretire\ndone 1 0 3\nretire\npoll\nhandles\nread\n",
+        printed: "added 0\nrecorded\nmessage 1 0 0 5 left 0\nremoved\nok\nhistory-full\nretired 0\nadded 1\nclaim-out\nrecorded\nretired 2\nwould-wait\nhandles 2\nmessage 2 1 0 3 left 0\n",
+        ..SHORT
+    },
+    Script {
+        name: "a_claim_of_a_removed_addition_is_out_until_its_end_is_told",
+        history: 1024,
+        script: "add 1\nadd 2\ndone 1 0 1\nremove 1\nretire\ndone 0 0 0\nretire\nadd 3\ndone 0 0 1\ndone 1 0 1\ndone 2 0 7\nread\nread\nstate 2\nhandles\n",
+        printed: "added 0\nadded 1\nrecorded\nremoved\nclaim-out\nstale\nretired 2\nadded 2\nno-claim\nno-claim\nrecorded\nmessage 2 1 0 1 left 1\nmessage 3 2 0 7 left 0\nread 1 0\nhandles 2 3\n",
+        ..SHORT
+    },
+    Script {
+        name: "a_retiring_behind_a_retiring_keeps_all",
+        history: 1024,
+        script: "add 1\nadd 2\npause 1\nunpause 1\npause 2\ndone 1 0 4\ndone 0 28 0\nread\nretire\nretire\nstate 1\nstate 2\nread\nwakeup\npoll\nremove 1\nremove 2\nretire\nadd 2\n",
+        printed: "added 0\nadded 1\nchanged\nchanged\nchanged\nrecorded\nrecorded\nmessage 2 1 0 4 left 1\nretired 8\nretired 8\ndone 0 28\nread 1 0\nmessage 1 0 28 0 left 0\nok\nwoken\nremoved\nremoved\nretired 0\nadded 2\n",
+        ..SHORT
+    },
+    Script {
+        name: "a_retiring_is_one_word",
+        script: "retire\nretire 1\n",
+        printed: "retired 0\nbad-line 2\n",
+        status: 122,
+        ..SHORT
+    },
+    // last tickets: the refusal comes before that for want of room
+    Script {
+        name: "the_last_ticket_but_one",
+        first: 4_294_967_294,
+        script: "add 1\nadd 1\nremove 1\nadd 2\n",
+        printed: "added 4294967294\nadded-already\nremoved\ntickets-spent\n",
+        ..SHORT
+    },
+    Script {
+        name: "the_last_ticket_is_spent_before_there_is_no_room",
+        first: 4_294_967_295,
+        script: "wakeup\nadd 1\nhandles\n",
+        printed: "ok\ntickets-spent\nhandles\n",
+        ..SHORT
+    },
+    Script {
+        name: "retiring_gives_no_ticket_anew",
+        first: 4_294_967_294,
+        script: "add 1\ndone 4294967294 0 0\nremove 1\nretire\nadd 1\n",
+        printed: "added 4294967294\nrecorded\nremoved\nretired 0\ntickets-spent\n",
+        ..SHORT
+    },
+    Script {
+        name: "the_first_ticket_is_7",
+        first: 7,
+        script: "add 1\ndone 6 0 0\ndone 8 0 0\ndone 7 0 0\n",
+        printed: "added 7\nno-claim\nno-claim\nrecorded\n",
+        ..SHORT
+    },
+    // lines of 64 bytes, and of 65, with and without their LF
+    Script {
+        name: "a_line_of_64_bytes",
+        script: "#123456789012345678901234567890123456789012345678901234567890123\nrunning\n",
+        printed: "running 0\n",
+        ..SHORT
+    },
+    Script {
+        name: "a_line_of_65_bytes",
+        script: "#1234567890123456789012345678901234567890123456789012345678901234\nrunning\n",
+        printed: "bad-line 1\n",
+        status: 122,
+        ..SHORT
+    },
+    Script {
+        name: "a_last_line_of_64_bytes",
+        script: "#123456789012345678901234567890123456789012345678901234567890123",
+        printed: "",
+        ..SHORT
+    },
+    Script {
+        name: "a_last_line_of_65_bytes",
+        script: "#1234567890123456789012345678901234567890123456789012345678901234",
+        printed: "bad-line 1\n",
+        status: 122,
+        ..SHORT
+    },
+    // numbers and spaces
+    Script {
+        name: "the_greatest_number",
+        script: "add 4294967295\nhandles\n",
+        printed: "added 0\nhandles 4294967295\n",
+        ..SHORT
+    },
+    Script {
+        name: "a_number_of_ten_digits",
+        script: "add 0000000001\nhandles\n",
+        printed: "added 0\nhandles 1\n",
+        ..SHORT
+    },
+    Script {
+        name: "a_number_past_the_greatest",
+        script: "add 4294967296\n",
+        printed: "bad-line 1\n",
+        status: 122,
+        ..SHORT
+    },
+    Script {
+        name: "a_number_of_eleven_digits",
+        script: "add 00000000001\n",
+        printed: "bad-line 1\n",
+        status: 122,
+        ..SHORT
+    },
+    Script {
+        name: "two_spaces",
+        script: "add  1\n",
+        printed: "bad-line 1\n",
+        status: 122,
+        ..SHORT
+    },
+    Script {
+        name: "a_space_behind_a_number",
+        script: "\nadd 1 \n",
+        printed: "bad-line 2\n",
+        status: 122,
+        ..SHORT
+    },
+    Script {
+        name: "a_space_before_a_word",
+        script: " add 1\n",
+        printed: "bad-line 1\n",
+        status: 122,
+        ..SHORT
+    },
+    Script {
+        name: "a_word_without_its_number",
+        script: "add\n",
+        printed: "bad-line 1\n",
+        status: 122,
+        ..SHORT
+    },
+    Script {
+        name: "a_number_behind_a_word_that_takes_none",
+        script: "read 1\n",
+        printed: "bad-line 1\n",
+        status: 122,
+        ..SHORT
+    },
+    Script {
+        name: "a_number_with_a_sign",
+        script: "add +1\n",
+        printed: "bad-line 1\n",
+        status: 122,
+        ..SHORT
+    },
+    Script {
+        name: "an_end_of_a_third_kind",
+        script: "done 0 2 0\n",
+        printed: "bad-line 1\n",
+        status: 122,
+        ..SHORT
+    },
+    Script {
+        name: "an_end_without_its_value",
+        script: "done 0 0\n",
+        printed: "bad-line 1\n",
+        status: 122,
+        ..SHORT
+    },
+    Script {
+        name: "an_end_with_a_number_too_many",
+        script: "done 0 0 0 0\n",
+        printed: "bad-line 1\n",
+        status: 122,
+        ..SHORT
+    },
+    Script {
+        name: "a_carriage_return",
+        script: "handles\r\n",
+        printed: "bad-line 1\n",
+        status: 122,
+        ..SHORT
+    },
+    Script {
+        name: "no_line",
+        script: "",
+        printed: "",
+        ..SHORT
+    },
+    // bad lines end the run
+    Script {
+        name: "a_bad_first_line",
+        script: "ad 3\nadd 1\n",
+        printed: "bad-line 1\n",
+        status: 122,
+        ..SHORT
+    },
+    Script {
+        name: "a_bad_line_behind_a_comment",
+        script: "#\n\nad\nhandles\n",
+        printed: "bad-line 3\n",
+        status: 122,
+        ..SHORT
+    },
+    Script {
+        name: "a_bad_last_line",
+        script: "add 1\nad",
+        printed: "added 0\nbad-line 2\n",
+        status: 122,
+        ..SHORT
+    },
 ];
 
 #[test]
 fn scripts(rt: HostRuntime) {
-    none_is_wrong(&rt, first_wrong(rt.alloc(), &SCRIPTS));
-}
-
-static RETIRINGS: [Row<'static>; 4] = [
-    // what is kept makes room; a claim that is out blocks it; the next poll looks at what comes behind
-    (
-        8,
-        "add 1\ndone 0 0 5\nread\nremove 1\nwakeup\nadd 2\nretire\nadd 2\nretire\ndone 1 0 3\nretire\npoll\nhandles\nread\n",
-        "added 0\nrecorded\nmessage 1 0 0 5 left 0\nremoved\nok\nhistory-full\nretired 0\nadded 1\nclaim-out\nrecorded\nretired 2\nwould-wait\nhandles 2\nmessage 2 1 0 3 left 0\n",
-        0,
-    ),
-    // a claim of a removed addition is out until its end is told; later claims are found by their tickets
-    (
-        1024,
-        "add 1\nadd 2\ndone 1 0 1\nremove 1\nretire\ndone 0 0 0\nretire\nadd 3\ndone 0 0 1\ndone 1 0 1\ndone 2 0 7\nread\nread\nstate 2\nhandles\n",
-        "added 0\nadded 1\nrecorded\nremoved\nclaim-out\nstale\nretired 2\nadded 2\nno-claim\nno-claim\nrecorded\nmessage 2 1 0 1 left 1\nmessage 3 2 0 7 left 0\nread 1 0\nhandles 2 3\n",
-        0,
-    ),
-    // what was paused, resumed, ended and read stays so, and a retiring right after it keeps all
-    (
-        1024,
-        "add 1\nadd 2\npause 1\nunpause 1\npause 2\ndone 1 0 4\ndone 0 28 0\nread\nretire\nretire\nstate 1\nstate 2\nread\nwakeup\npoll\nremove 1\nremove 2\nretire\nadd 2\n",
-        "added 0\nadded 1\nchanged\nchanged\nchanged\nrecorded\nrecorded\nmessage 2 1 0 4 left 1\nretired 8\nretired 8\ndone 0 28\nread 1 0\nmessage 1 0 28 0 left 0\nok\nwoken\nremoved\nremoved\nretired 0\nadded 2\n",
-        0,
-    ),
-    // a retiring is one word
-    (4, "retire\nretire 1\n", "retired 0\nbad-line 2\n", 122),
-];
-
-#[test]
-fn retirings(rt: HostRuntime) {
-    none_is_wrong(&rt, first_wrong(rt.alloc(), &RETIRINGS));
-}
-
-/// A first ticket, a script over a history of 4, and what it prints.
-static LAST_TICKETS: [(u32, &str, &str); 4] = [
-    (
-        4294967294,
-        "add 1\nadd 1\nremove 1\nadd 2\n",
-        "added 4294967294\nadded-already\nremoved\ntickets-spent\n",
-    ),
-    // the refusal comes before that for want of room
-    (
-        4294967295,
-        "wakeup\nadd 1\nhandles\n",
-        "ok\ntickets-spent\nhandles\n",
-    ),
-    // retiring gives no ticket anew
-    (
-        4294967294,
-        "add 1\ndone 4294967294 0 0\nremove 1\nretire\nadd 1\n",
-        "added 4294967294\nrecorded\nremoved\nretired 0\ntickets-spent\n",
-    ),
-    (
-        7,
-        "add 1\ndone 6 0 0\ndone 8 0 0\ndone 7 0 0\n",
-        "added 7\nno-claim\nno-claim\nrecorded\n",
-    ),
-];
-
-#[test]
-fn last_tickets(rt: HostRuntime) {
-    for (first, script, printed) in LAST_TICKETS {
-        let reader = script.as_bytes();
-        assert!(&rt; plays_from(rt.alloc(), 4, first, reader, MOST_READS, printed, 0));
+    for row in &SCRIPTS {
+        let is_right = plays_from(
+            rt.alloc(),
+            row.history,
+            row.first,
+            row.script.as_bytes(),
+            MOST_READS,
+            row.printed,
+            row.status,
+        );
+        assert!(rt; is_right, "{}", row.name);
     }
-}
-
-/// Lines of 64 bytes, and of 65, with and without their LF.
-static LONG_LINES: [Row<'static>; 4] = [
-    (
-        4,
-        "#123456789012345678901234567890123456789012345678901234567890123\nrunning\n",
-        "running 0\n",
-        0,
-    ),
-    (
-        4,
-        "#1234567890123456789012345678901234567890123456789012345678901234\nrunning\n",
-        "bad-line 1\n",
-        122,
-    ),
-    (
-        4,
-        "#123456789012345678901234567890123456789012345678901234567890123",
-        "",
-        0,
-    ),
-    (
-        4,
-        "#1234567890123456789012345678901234567890123456789012345678901234",
-        "bad-line 1\n",
-        122,
-    ),
-];
-
-#[test]
-fn lines_of_64_and_65_bytes(rt: HostRuntime) {
-    none_is_wrong(&rt, first_wrong(rt.alloc(), &LONG_LINES));
-}
-
-static NUMBERS_AND_SPACES: [Row<'static>; 15] = [
-    (
-        4,
-        "add 4294967295\nhandles\n",
-        "added 0\nhandles 4294967295\n",
-        0,
-    ),
-    (4, "add 0000000001\nhandles\n", "added 0\nhandles 1\n", 0),
-    (4, "add 4294967296\n", "bad-line 1\n", 122),
-    (4, "add 00000000001\n", "bad-line 1\n", 122),
-    (4, "add  1\n", "bad-line 1\n", 122),
-    (4, "\nadd 1 \n", "bad-line 2\n", 122),
-    (4, " add 1\n", "bad-line 1\n", 122),
-    (4, "add\n", "bad-line 1\n", 122),
-    (4, "read 1\n", "bad-line 1\n", 122),
-    (4, "add +1\n", "bad-line 1\n", 122),
-    (4, "done 0 2 0\n", "bad-line 1\n", 122),
-    (4, "done 0 0\n", "bad-line 1\n", 122),
-    (4, "done 0 0 0 0\n", "bad-line 1\n", 122),
-    (4, "handles\r\n", "bad-line 1\n", 122),
-    (4, "", "", 0),
-];
-
-#[test]
-fn numbers_and_spaces(rt: HostRuntime) {
-    none_is_wrong(&rt, first_wrong(rt.alloc(), &NUMBERS_AND_SPACES));
-}
-
-static BAD_LINES: [Row<'static>; 3] = [
-    (4, "ad 3\nadd 1\n", "bad-line 1\n", 122),
-    (4, "#\n\nad\nhandles\n", "bad-line 3\n", 122),
-    (4, "add 1\nad", "added 0\nbad-line 2\n", 122),
-];
-
-#[test]
-fn bad_lines_end_the_run(rt: HostRuntime) {
-    none_is_wrong(&rt, first_wrong(rt.alloc(), &BAD_LINES));
 }
 
 /// 34 bytes, in lines that end at 6, 12, 13, 19, 27 and 34.
