@@ -169,6 +169,30 @@ impl End {
         self.code
     }
 
+    /// The URL.
+    pub fn url(&self) -> &[u8]
+        ensures { result.now ≡ self.now.url }
+    {
+        self.url.as_slice()
+    }
+
+    /// The length of the body, 0 where the URL failed.
+    pub fn length(&self) -> u32
+        ensures { result ≡ self.now.length }
+    {
+        self.transferred.length
+    }
+
+    /// What is said of a failure in words, if anything.
+    pub fn error(&self) -> Option<&str>
+        ensures { option_map (λ text. text.now) result ≡ self.now.error }
+    {
+        match &self.error {
+            Some(text) => Some(text.as_str()),
+            None => None,
+        }
+    }
+
     /// What became of the URL.
     pub fn verdict(&self) -> Verdict
         ensures { result ≡ self.now.verdict }

@@ -12,6 +12,7 @@ use crate::finish::finish;
 use crate::job::{Job, Slot};
 use crate::lines::Lines;
 use crate::stop::Stop;
+use crate::tally::Tally;
 use mx_chain::Outcome;
 use mx_file_name::Names;
 use mx_folder::{Folder, Kind};
@@ -134,7 +135,7 @@ impl<F: Folder, W: Write> Book<F, W> {
         };
         self.urls.show(&url);
         let end = End::failed(url, SaveCode::Transfer(code), untried(), None);
-        self.lines.tell(self.read, &end)?;
+        self.lines.tell(self.read, end)?;
         self.read = read;
         self.is_stopped = false;
         Ok(())
@@ -230,7 +231,7 @@ impl<F: Folder, W: Write> Book<F, W> {
         };
         let file = String::from_str(self.alloc, job.name.as_str())?;
         let end = End::skipped(job.url, file);
-        self.lines.tell(job.place, &end)?;
+        self.lines.tell(job.place, end)?;
         self.is_stopped = false;
         Ok(true)
     }
@@ -284,9 +285,24 @@ impl<F: Folder, W: Write> Book<F, W> {
         }
         let place = job.place;
         let end = finish(self.alloc, &self.asking, &mut self.ledger, job, outcome)?;
-        self.lines.tell(place, &end)?;
+        self.lines.tell(place, end)?;
         self.is_stopped = false;
         Ok(None)
+    }
+
+    /// How many URLs were read.
+    pub fn read(&self) -> u64 {
+        self.read
+    }
+
+    /// How far the run is.
+    pub fn tally(&self) -> Tally {
+        self.lines.tally()
+    }
+
+    /// What was told last, if anything was.
+    pub fn last(&self) -> Option<&End> {
+        self.lines.last()
     }
 
     /// A slot that is free, if there is one.

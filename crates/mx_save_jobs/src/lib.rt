@@ -9,6 +9,7 @@ mod framing;
 mod job;
 mod lines;
 mod stop;
+mod tally;
 
 pub use crate::asking::Asking;
 pub use crate::body::WholeBody;
@@ -16,3 +17,4 @@ pub use crate::book::{Book, free_slots};
 pub use crate::job::{Job, Slot};
 pub use crate::lines::{Lines, Told};
 pub use crate::stop::Stop;
+pub use crate::tally::Tally;

@@ -5,6 +5,7 @@ ghost use Rattle.mx_run_save.specs.Status.{after_notes, status_of};
 ghost use Rattle.mx_save_jobs.specs.Lines.{note_of, line_of, AreLines, IsFreshLines};
 
 use crate::stop::Stop;
+use crate::tally::Tally;
 use mx_run_io::Output;
 use mx_run_save::{End, ExitStatus, JsonError, print_json, print_line};
 use mx_types::History;
@@ -38,6 +39,8 @@ pub struct Lines<W: Write> {
     output: Output<W>,
     start: Snapshot<Output<W>>,
     told: History<Told>,
+    tally: Tally,
+    last: Option<End>,
 }
 
 impl<W: Write> Model for Lines<W> {
@@ -86,6 +89,8 @@ impl<W: Write> Lines<W> {
             start: Snapshot::of(&output),
             output,
             told: History::new(),
+            tally: Tally::new(),
+            last: None,
         }
     }
 
@@ -104,22 +109,34 @@ impl<W: Write> Lines<W> {
     /// Tells what the URL at that place ended with, and flushes.
     ///
     /// An error is the want of memory for a text in JSON, before anything was written, or that the output couldn't be written.
-    pub fn tell(&mut self, place: u64, end: &End) -> Result<(), Stop>
-        ensures told { OnOk result (self.new.told ≡ self.old.told ++ record { place = place; end = end.now } ∷ []) }
+    pub fn tell(&mut self, place: u64, end: End) -> Result<(), Stop>
+        ensures told { OnOk result (self.new.told ≡ self.old.told ++ record { place = place; end = end } ∷ []) }
         ensures kept { OnErr result (self.new.told ≡ self.old.told) }
         ensures same { (self.new.start ≡ self.old.start) × (self.new.json ≡ self.old.json) }
     {
         self.ready()?;
-        print_end(self.alloc, &mut self.output, self.json, end)?;
+        print_end(self.alloc, &mut self.output, self.json, &end)?;
         let Ok(()) = self.output.flush() else {
             return Err(Stop::Unwritten);
         };
         self.status.note(place, end.code());
         self.told.note(Told {
             place,
-            end: Snapshot::of(end),
+            end: Snapshot::of(&end),
         });
+        self.tally = self.tally.with(&end);
+        self.last = Some(end);
         Ok(())
+    }
+
+    /// How far the run is.
+    pub fn tally(&self) -> Tally {
+        self.tally
+    }
+
+    /// What was told last, if anything was.
+    pub fn last(&self) -> Option<&End> {
+        self.last.as_ref()
     }
 
     /// What holds of every such list. It does nothing: a call gives its caller's proof the law.

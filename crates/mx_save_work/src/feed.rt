@@ -53,6 +53,14 @@ impl<'a, R: Read + Drop> Feed<'a, R> {
         }
     }
 
+    /// How many URLs are left, where that is known: of a list it isn't.
+    pub fn rest(&self) -> Option<u64> {
+        match self.list {
+            Some(_) => None,
+            None => Some((self.urls.len() - self.next) as u64),
+        }
+    }
+
     // The next URL of the list.
     fn next_of_list(&mut self) -> Result<Option<Vec<u8>>, Stop>
         ensures next { IfOk result (λ said. Gives (list_left R.remaining self.old.list) said (λ v. v.items) (list_left R.remaining self.new.list)) }

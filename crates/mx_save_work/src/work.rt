@@ -12,7 +12,8 @@ use mx_chain::Outcome;
 use mx_folder::Folder;
 use mx_request::{Request, RequestError};
 use mx_retry::{Wait, Waiting};
-use mx_save_jobs::{Book, Stop};
+use mx_run_save::End;
+use mx_save_jobs::{Book, Stop, Tally};
 use mx_types::Ticket;
 use std::alloc::Global;
 use std::io::{Read, Write};
@@ -163,6 +164,25 @@ impl<'a, F: Folder, W: Write, R: Read + Drop> Work<'a, F, W, R> {
     /// The moment until which a URL waits, the least of them.
     pub fn next_moment(&self) -> Option<u64> {
         self.waiting.next()
+    }
+
+    /// How many URLs there are, where that is known: a list tells it at its end.
+    pub fn known(&self) -> Option<u64> {
+        match self.feed.rest() {
+            Some(rest) => Some(self.book.read().saturating_add(rest)),
+            None if self.is_read => Some(self.book.read()),
+            None => None,
+        }
+    }
+
+    /// How far the run is.
+    pub fn tally(&self) -> Tally {
+        self.book.tally()
+    }
+
+    /// What was told last, if anything was.
+    pub fn last(&self) -> Option<&End> {
+        self.book.last()
     }
 
     /// Whether all URLs were read and have ended.
