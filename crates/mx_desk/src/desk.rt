@@ -12,7 +12,7 @@ use mx_chain::Outcome;
 use mx_journal::{AddReply, RemoveReply};
 use mx_link::Link;
 use mx_message::next_message_within;
-use mx_multi::{Application, Seated, WrongSeat};
+use mx_multi::{Application, Progress, Seated, WrongSeat};
 use mx_request::Request;
 use mx_request::laws::origin_is_whole_request;
 use mx_types::{HandleId, OutOfMemory, Ticket};
@@ -105,6 +105,35 @@ fn remove<L: Link, R: Wait>(
     }
 }
 
+// How many bytes have come of the transfer of a handle, as far as that is known.
+fn came<L: Link>(seat: &mut Seated<'_, Application, Queued<L>, Outcome>, at: usize) -> u64
+    ensures ties { seat.new.ties ≡ seat.old.ties }
+{
+    let Ok(handle) = u32::try_from(at) else {
+        return 0;
+    };
+    match seat.progress(HandleId(handle)) {
+        Some(Progress::Bytes(_, bytes)) => u64::from(bytes),
+        _ => 0,
+    }
+}
+
+// How many bytes have come of all that is added, as far as that is known.
+fn all_that_came<L: Link>(
+    seat: &mut Seated<'_, Application, Queued<L>, Outcome>,
+    additions: &[Option<Addition>],
+) -> u64
+    ensures ties { seat.new.ties ≡ seat.old.ties }
+{
+    let mut sum = 0u64;
+    for (at, addition) in additions.iter().enumerate() {
+        if addition.is_some() {
+            sum = sum.saturating_add(came(seat, at));
+        }
+    }
+    sum
+}
+
 /// An application's seat, and the requests that it has added, each under a number of the caller's own, which is the number of its handle.
 /// Contracts see the request that is added under each number, how many may be added at a time, and of which requests additions are, as the
 /// seat was told.
@@ -166,6 +195,18 @@ impl<'m, L: Link> Desk<'m, L> {
         ensures { result ≡ true → HasRoom self.now }
     {
         self.waiting < self.width
+    }
+
+    /// How many requests are added.
+    pub fn len(&self) -> usize {
+        self.waiting
+    }
+
+    /// How many bytes have come of the transfers that are added, as far as that is known.
+    pub fn arrived(&mut self) -> u64
+        ensures { Stays self.old self.new }
+    {
+        all_that_came(&mut self.seat, self.additions.as_slice())
     }
 
     /// Whether an addition was refused, since the history has no room for one more.

@@ -15,7 +15,7 @@ use mx_gate::Gate;
 use mx_link::Link;
 use mx_multi::{Multi, Seat, WorkerSeat};
 use mx_save_jobs::Stop;
-use mx_save_urls::{Timer, Turned, fetch};
+use mx_save_urls::{Timer, Turned, Watch, fetch};
 use mx_save_work::Work;
 use mx_types::OutOfMemory;
 use mx_worker::Queued;
@@ -73,39 +73,41 @@ fn fetch_beside<
     F: Folder,
     W: Write + Drop,
     Rd: Read + Drop,
+    V: Watch + Drop,
 >(
     rt: &'m R,
     crew: &'m Crew,
     posts: Vec<Post<'m, L, G>>,
     desk: Desk<'m, L>,
     work: Work<'a, F, W, Rd>,
+    watch: V,
     timer: Timer,
-) -> (Work<'a, F, W, Rd>, Result<(Turned, Vec<G>), Stop>)
+) -> (Work<'a, F, W, Rd>, V, Result<(Turned, Vec<G>), Stop>)
     requires going { work.book.is_stopped ≡ false }
     requires none { HasNoneAdded work.book.slots }
-    ensures turned { IfOk result.1 (λ r. HasTurned result.0 r.0) }
-    ensures gates { IfOk result.1 (λ r. vec_len r.1 ≡ vec_len posts.entry) }
-    ensures going { OnOk result.1 (result.0.book.is_stopped ≡ false) }
+    ensures turned { IfOk result.2 (λ r. HasTurned result.0 r.0) }
+    ensures gates { IfOk result.2 (λ r. vec_len r.1 ≡ vec_len posts.entry) }
+    ensures going { OnOk result.2 (result.0.book.is_stopped ≡ false) }
     ensures run { IsSameWork work.entry result.0 }
 {
-    let ((work, turned), worked) = run_beside(
+    let ((work, watch, turned), worked) = run_beside(
         rt,
         crew,
         posts,
-        move |stands: Result<(), CrewError>| -> (Work<F, W, Rd>, Result<Turned, Stop>)
+        move |stands: Result<(), CrewError>| -> (Work<F, W, Rd>, V, Result<Turned, Stop>)
             requires { (work.book.is_stopped ≡ false) × HasNoneAdded work.book.slots }
-            ensures turned { IfOk result.1 (HasTurned result.0) }
-            ensures going { OnOk result.1 (result.0.book.is_stopped ≡ false) }
+            ensures turned { IfOk result.2 (HasTurned result.0) }
+            ensures going { OnOk result.2 (result.0.book.is_stopped ≡ false) }
             ensures run { IsSameWork work.entry result.0 }
         {
             match stands {
-                Ok(()) => fetch(rt, crew, desk, work, timer),
-                Err(error) => (work, Err(stop_of(error))),
+                Ok(()) => fetch(rt, crew, desk, work, watch, timer),
+                Err(error) => (work, watch, Err(stop_of(error))),
             }
         },
     );
     let left = left(rt.alloc(), turned, worked);
-    (work, left)
+    (work, watch, left)
 }
 
 // Fetches at a multi handle that is open. What is let go where memory is wanting is here, and not where the handle is owned.
@@ -117,6 +119,7 @@ fn fetch_with<
     F: Folder,
     W: Write + Drop,
     Rd: Read + Drop,
+    V: Watch + Drop,
 >(
     rt: &R,
     multi: &Multi<Queued<L>, Outcome>,
@@ -127,27 +130,28 @@ fn fetch_with<
     crew: &Crew,
     gates: Vec<G>,
     work: Work<'a, F, W, Rd>,
+    watch: V,
     plan: Plan,
     timer: Timer,
-) -> (Work<'a, F, W, Rd>, Result<(Turned, Vec<G>), Stop>)
+) -> (Work<'a, F, W, Rd>, V, Result<(Turned, Vec<G>), Stop>)
     requires seat { seats.0.of ≡ multi.now }
     requires workers { All (λ s. s.of ≡ multi.now) seats.1.items }
     requires counts { (vec_len seats.1 ≡ plan.options.workers) × (vec_len gates ≡ plan.options.workers) }
     requires going { work.book.is_stopped ≡ false }
     requires none { HasNoneAdded work.book.slots }
-    ensures turned { IfOk result.1 (λ r. HasTurned result.0 r.0) }
-    ensures gates { IfOk result.1 (λ r. vec_len r.1 ≡ plan.options.workers) }
-    ensures going { OnOk result.1 (result.0.book.is_stopped ≡ false) }
+    ensures turned { IfOk result.2 (λ r. HasTurned result.0 r.0) }
+    ensures gates { IfOk result.2 (λ r. vec_len r.1 ≡ plan.options.workers) }
+    ensures going { OnOk result.2 (result.0.book.is_stopped ≡ false) }
     ensures run { IsSameWork work.entry result.0 }
 {
     let (seat, workers) = seats;
     let Ok(posts) = posts(rt.alloc(), multi, workers, gates) else {
-        return (work, Err(Stop::OutOfMemory));
+        return (work, watch, Err(Stop::OutOfMemory));
     };
     let width = usize::from(plan.options.at_once);
     match Desk::new(rt.alloc(), multi.at(seat), plan.slots(), width) {
-        Ok(desk) => fetch_beside(rt, crew, posts, desk, work, timer),
-        Err(_) => (work, Err(Stop::OutOfMemory)),
+        Ok(desk) => fetch_beside(rt, crew, posts, desk, work, watch, timer),
+        Err(_) => (work, watch, Err(Stop::OutOfMemory)),
     }
 }
 
@@ -161,21 +165,23 @@ pub fn run_epoch<
     F: Folder,
     W: Write + Drop,
     Rd: Read + Drop,
+    V: Watch + Drop,
 >(
     rt: &R,
     crew: &Crew,
     gates: Vec<G>,
     work: Work<'a, F, W, Rd>,
+    watch: V,
     plan: Plan,
     timer: Timer,
-) -> (Work<'a, F, W, Rd>, Result<(Turned, Vec<G>), Stop>)
+) -> (Work<'a, F, W, Rd>, V, Result<(Turned, Vec<G>), Stop>)
     requires plan { IsPlan plan }
     requires gates { vec_len gates ≡ plan.options.workers }
     requires going { work.book.is_stopped ≡ false }
     requires none { HasNoneAdded work.book.slots }
-    ensures turned { IfOk result.1 (λ r. HasTurned result.0 r.0) }
-    ensures gates { IfOk result.1 (λ r. vec_len r.1 ≡ plan.options.workers) }
-    ensures going { OnOk result.1 (result.0.book.is_stopped ≡ false) }
+    ensures turned { IfOk result.2 (λ r. HasTurned result.0 r.0) }
+    ensures gates { IfOk result.2 (λ r. vec_len r.1 ≡ plan.options.workers) }
+    ensures going { OnOk result.2 (result.0.book.is_stopped ≡ false) }
     ensures run { IsSameWork work.entry result.0 }
 {
     match open(rt, plan) {
@@ -185,8 +191,18 @@ pub fn run_epoch<
                 seat,
                 workers,
             } = opened;
-            fetch_with(rt, &multi, (seat, workers), crew, gates, work, plan, timer)
+            fetch_with(
+                rt,
+                &multi,
+                (seat, workers),
+                crew,
+                gates,
+                work,
+                watch,
+                plan,
+                timer,
+            )
         }
-        Err(_) => (work, Err(Stop::OutOfMemory)),
+        Err(_) => (work, watch, Err(Stop::OutOfMemory)),
     }
 }

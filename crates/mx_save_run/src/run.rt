@@ -16,7 +16,7 @@ use mx_gate::Gate;
 use mx_link::Link;
 use mx_save::Ledger;
 use mx_save_jobs::{Asking, Book, Lines, Stop, WholeBody, free_slots};
-use mx_save_urls::{Timer, Turned};
+use mx_save_urls::{Timer, Turned, Watch};
 use mx_save_work::{Feed, Work};
 use std::alloc::AllocGlobal;
 use std::io::{Read, Write};
@@ -36,33 +36,36 @@ fn run_epochs<
     F: Folder,
     W: Write + Drop,
     Rd: Read + Drop,
+    V: Watch + Drop,
 >(
     rt: &R,
     crew: &Crew,
     gates: Vec<G>,
     work: Work<'a, F, W, Rd>,
+    watch: V,
     plan: Plan,
     timer: Timer,
-) -> (Work<'a, F, W, Rd>, Result<(), Stop>)
+) -> (Work<'a, F, W, Rd>, V, Result<(), Stop>)
     requires plan { IsPlan plan }
     requires gates { vec_len gates ≡ plan.options.workers }
     requires going { work.book.is_stopped ≡ false }
     requires none { HasNoneAdded work.book.slots }
-    ensures ended { OnOk result.1 (HasTurned result.0 how.AllEnded) }
-    ensures going { OnOk result.1 (result.0.book.is_stopped ≡ false) }
+    ensures ended { OnOk result.2 (HasTurned result.0 how.AllEnded) }
+    ensures going { OnOk result.2 (result.0.book.is_stopped ≡ false) }
     ensures run { IsSameWork work.entry result.0 }
 {
-    let (mut gates, mut work) = (gates, work);
+    let (mut gates, mut work, mut watch) = (gates, work, watch);
     for _ in rt.forever() {
         crew.summon();
-        let (back, turned) = run_epoch(rt, crew, gates, work, plan, timer);
+        let (back, watching, turned) = run_epoch(rt, crew, gates, work, watch, plan, timer);
         match turned {
-            Ok((Turned::AllEnded, _)) => return (back, Ok(())),
+            Ok((Turned::AllEnded, _)) => return (back, watching, Ok(())),
             Ok((Turned::HistoryFull, free)) => {
                 gates = free;
                 work = back;
+                watch = watching;
             }
-            Err(stop) => return (back, Err(stop)),
+            Err(stop) => return (back, watching, Err(stop)),
         }
     }
     unreachable!()
@@ -75,39 +78,42 @@ fn run_over_sockets<
     F: Folder,
     W: Write + Drop,
     Rd: Read + Drop,
+    V: Watch + Drop,
 >(
     rt: &R,
     work: Work<'a, F, W, Rd>,
+    watch: V,
     plan: Plan,
     start: Instant,
-) -> (Work<'a, F, W, Rd>, Result<(), Stop>)
+) -> (Work<'a, F, W, Rd>, V, Result<(), Stop>)
     requires plan { IsPlan plan }
     requires going { work.book.is_stopped ≡ false }
     requires none { HasNoneAdded work.book.slots }
-    ensures ended { OnOk result.1 (HasTurned result.0 how.AllEnded) }
-    ensures going { OnOk result.1 (result.0.book.is_stopped ≡ false) }
+    ensures ended { OnOk result.2 (HasTurned result.0 how.AllEnded) }
+    ensures going { OnOk result.2 (result.0.book.is_stopped ≡ false) }
     ensures run { IsSameWork work.entry result.0 }
 {
     let Ok(mut crew) = Crew::new(rt.alloc()) else {
-        return (work, Err(Stop::OutOfMemory));
+        return (work, watch, Err(Stop::OutOfMemory));
     };
     match crew.gates(rt, start, plan.options.workers) {
-        Ok(gates) => run_epochs(rt, &crew, gates, work, plan, Timer::new(start)),
-        Err(error) => (work, Err(stop_of(error))),
+        Ok(gates) => run_epochs(rt, &crew, gates, work, watch, plan, Timer::new(start)),
+        Err(error) => (work, watch, Err(stop_of(error))),
     }
 }
 
-/// What a run left: what it saved, what it told of its URLs, and why it stopped before all had ended, if it did.
+/// What a run left: what it saved, what it told of its URLs, who watched it, and why it stopped before all had ended, if it did.
 #[derive(Drop)]
-pub struct Ended<F: Folder, W: Write> {
+pub struct Ended<F: Folder, W: Write, V> {
     pub ledger: Ledger<F, WholeBody>,
     pub lines: Lines<W>,
+    pub watch: V,
     pub stopped: Result<(), Stop>,
 }
 
 /// Has workers over sockets fetch the URLs, saves what is to be saved of each into the ledger's folder, and tells what each ended with. At most
 /// `at_once` transfers run at a time. Where the history of a multi handle is full the run waits until all that were added have ended, and goes
-/// on with a new one. It may wait.
+/// on with a new one. Who watches is told of each end, and how the run stands. It may wait.
 ///
 /// It stops before all URLs have ended where memory is wanting, where the output can't be written, where the list of URLs can't be read, or
 /// where the system has no clock, no poll or no thread for it.
@@ -117,14 +123,16 @@ pub fn save_all<
     F: Folder,
     W: Write + Drop,
     Rd: Read + Drop,
+    V: Watch + Drop,
 >(
     rt: &R,
     asking: Asking,
     ledger: Ledger<F, WholeBody>,
     lines: Lines<W>,
     feed: Feed<'a, Rd>,
+    watch: V,
     plan: Plan,
-) -> Ended<F, W>
+) -> Ended<F, W, V>
     requires plan { IsPlan plan }
     requires fresh { (ledger.entries ≡ []) × (lines.told ≡ []) }
     ensures all { OnOk result.stopped (SavesAll asking (left Rd.remaining feed.entry) result.ledger result.lines) }
@@ -136,6 +144,7 @@ pub fn save_all<
             return Ended {
                 ledger,
                 lines,
+                watch,
                 stopped: Err(Stop::NoClock),
             };
         }
@@ -143,17 +152,19 @@ pub fn save_all<
             return Ended {
                 ledger,
                 lines,
+                watch,
                 stopped: Err(Stop::OutOfMemory),
             };
         }
     };
     let book = Book::new(rt.alloc(), asking, ledger, lines, slots);
     let work = Work::new(rt.alloc(), book, feed);
-    let (work, stopped) = run_over_sockets(rt, work, plan, start);
+    let (work, watch, stopped) = run_over_sockets(rt, work, watch, plan, start);
     let (ledger, lines) = work.end().end();
     Ended {
         ledger,
         lines,
+        watch,
         stopped,
     }
 }

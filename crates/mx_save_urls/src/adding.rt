@@ -5,6 +5,7 @@ ghost use Rattle.mx_save_work.specs.Works.{IsSameWork};
 ghost use Rattle.mx_desk.specs.Desks.{HasRoom};
 ghost use Rattle.mx_save_urls.specs.Asked.{AreAsked};
 
+use crate::watch::Watch;
 use mx_desk::{Desk, DeskError};
 use mx_folder::Folder;
 use mx_link::Link;
@@ -65,10 +66,11 @@ fn add<'a, L: Link, F: Folder, W: Write, Rd: Read + Drop, R: Wait + AllocGlobal>
 }
 
 // Reads a URL, and adds its transfer, if it is to be asked for.
-fn read<'a, L: Link, F: Folder, W: Write, Rd: Read + Drop, R: Wait + AllocGlobal>(
+fn read<'a, L: Link, F: Folder, W: Write, Rd: Read + Drop, R: Wait + AllocGlobal, V: Watch>(
     rt: &R,
     desk: &mut Desk<'_, L>,
     work: &mut Work<'a, F, W, Rd>,
+    watch: &mut V,
     now: u64,
 ) -> Result<Begun, Stop>
     requires room { HasRoom desk.old }
@@ -84,6 +86,7 @@ fn read<'a, L: Link, F: Folder, W: Write, Rd: Read + Drop, R: Wait + AllocGlobal
     let Some(at) = work.free_slot() else {
         return Ok(Begun::Nothing);
     };
+    watch.hide();
     let Some(request) = work.read(at)? else {
         return Ok(Begun::Read);
     };
@@ -91,10 +94,11 @@ fn read<'a, L: Link, F: Folder, W: Write, Rd: Read + Drop, R: Wait + AllocGlobal
 }
 
 /// Begins a transfer, if there is room for one: of a URL that has waited long enough, else of the next one that is read.
-pub fn begin<'a, L: Link, F: Folder, W: Write, Rd: Read + Drop, R: Wait + AllocGlobal>(
+pub fn begin<'a, L: Link, F: Folder, W: Write, Rd: Read + Drop, R: Wait + AllocGlobal, V: Watch>(
     rt: &R,
     desk: &mut Desk<'_, L>,
     work: &mut Work<'a, F, W, Rd>,
+    watch: &mut V,
     now: u64,
 ) -> Result<Begun, Stop>
     requires going { work.old.book.is_stopped ≡ false }
@@ -108,6 +112,6 @@ pub fn begin<'a, L: Link, F: Folder, W: Write, Rd: Read + Drop, R: Wait + AllocG
     }
     match work.again(now)? {
         Some((at, request)) => add(rt, desk, work, at, request, now),
-        None => read(rt, desk, work, now),
+        None => read(rt, desk, work, watch, now),
     }
 }

@@ -4,6 +4,8 @@
 mod adding;
 mod timer;
 mod turns;
+mod watch;
 
 pub use crate::timer::Timer;
 pub use crate::turns::{Turned, fetch};
+pub use crate::watch::{Nobody, Standing, Watch};

@@ -2,10 +2,12 @@
 ghost use Rattle.std.specs.Prelude.{◌≡◌, false, IfOk, IfSome, OnOk};
 ghost use Rattle.mx_save_jobs.specs.Books.{HasNoneAdded, IsClosed, IsJobFor};
 ghost use Rattle.mx_save_work.specs.Works.{IsSameWork};
+ghost use Rattle.mx_desk.specs.Desks.{Stays};
 ghost use Rattle.mx_save_urls.specs.Asked.{AreAsked, HasTurned};
 
 use crate::adding::{Begun, begin, stop_of};
 use crate::timer::Timer;
+use crate::watch::{Standing, Watch};
 use mx_crew::Crew;
 use mx_desk::{Desk, Ended};
 use mx_folder::Folder;
@@ -29,16 +31,58 @@ pub enum Turned {
     HistoryFull,
 }
 
-// How long a message may be waited for: until the next URL may be tried again, if one could be added then.
-fn wait_ms(may_add: bool, next: Option<u64>, now: u64) -> u32 {
+// What was seen of a run: how many URLs had ended, and when it is shown next how it stands.
+#[derive(Clone, Copy, Debug, PartialEq, Eq)]
+struct Seen {
+    ended: u64,
+    next: u64,
+}
+
+// Says what a URL ended with that has ended since, and shows how the run stands, where it is time.
+fn look<'a, L: Link, F: Folder, W: Write, Rd: Read + Drop, V: Watch>(
+    desk: &mut Desk<'_, L>,
+    work: &Work<'a, F, W, Rd>,
+    watch: &mut V,
+    seen: Seen,
+    now: u64,
+) -> Seen
+    ensures { Stays desk.old desk.new }
+{
+    let tally = work.tally();
+    if tally.ended != seen.ended {
+        if let Some(end) = work.last() {
+            watch.say(end);
+        }
+    }
+    let mut next = seen.next;
+    match watch.period() {
+        Some(period) if now >= next => {
+            next = now.saturating_add(u64::from(period));
+            watch.show(&Standing {
+                moment: now,
+                tally,
+                known: work.known(),
+                running: desk.len(),
+                arrived: desk.arrived(),
+            });
+        }
+        _ => watch.show_again(),
+    }
+    Seen {
+        ended: tally.ended,
+        next,
+    }
+}
+
+// How long a message may be waited for: until the run is looked at, and until the next URL may be tried again, if one could be added then.
+fn wait_ms(period: Option<u32>, may_add: bool, next: Option<u64>, now: u64) -> u32 {
+    let longest = period.unwrap_or(LONGEST_WAIT_MS);
     match next {
         Some(moment) if may_add => {
             let left = moment.saturating_sub(now);
-            u32::try_from(left)
-                .unwrap_or(LONGEST_WAIT_MS)
-                .min(LONGEST_WAIT_MS)
+            u32::try_from(left).unwrap_or(longest).min(longest)
         }
-        _ => LONGEST_WAIT_MS,
+        _ => longest,
     }
 }
 
@@ -64,10 +108,19 @@ fn close<'a, F: Folder, W: Write, Rd: Read + Drop, R: Clock>(
 }
 
 // Waits for the next message for so many milliseconds at most, and ends its URL.
-fn await_one<'a, L: Link, F: Folder, W: Write, Rd: Read + Drop, R: Wait + AllocGlobal + Clock>(
+fn await_one<
+    'a,
+    L: Link,
+    F: Folder,
+    W: Write,
+    Rd: Read + Drop,
+    R: Wait + AllocGlobal + Clock,
+    V: Watch,
+>(
     rt: &R,
     desk: &mut Desk<'_, L>,
     work: &mut Work<'a, F, W, Rd>,
+    watch: &mut V,
     timer: Timer,
     milliseconds: u32,
 ) -> Result<(), Stop>
@@ -80,6 +133,7 @@ fn await_one<'a, L: Link, F: Folder, W: Write, Rd: Read + Drop, R: Wait + AllocG
     match desk.next(rt, milliseconds) {
         Ok(None) => Ok(()),
         Ok(Some(ended)) => {
+            watch.hide();
             if work.awaits(ended.at, ended.ticket) {
                 return close(rt, work, ended, timer);
             }
@@ -109,11 +163,20 @@ fn how_turned<'a, L: Link, F: Folder, W: Write, Rd: Read + Drop>(
 }
 
 // Begins transfers and waits for their ends, until nothing is left to do at the desk. The workers are woken once as many are added as can be.
-fn take_turns<'a, L: Link, F: Folder, W: Write, Rd: Read + Drop, R: Wait + AllocGlobal + Clock>(
+fn take_turns<
+    'a,
+    L: Link,
+    F: Folder,
+    W: Write,
+    Rd: Read + Drop,
+    R: Wait + AllocGlobal + Clock,
+    V: Watch,
+>(
     rt: &R,
     crew: &Crew,
     desk: &mut Desk<'_, L>,
     work: &mut Work<'a, F, W, Rd>,
+    watch: &mut V,
     timer: Timer,
 ) -> Result<Turned, Stop>
     requires going { work.old.book.is_stopped ≡ false }
@@ -123,9 +186,14 @@ fn take_turns<'a, L: Link, F: Folder, W: Write, Rd: Read + Drop, R: Wait + Alloc
     ensures run { IsSameWork work.old work.new }
 {
     let mut to_wake = false;
+    let mut seen = Seen {
+        ended: work.tally().ended,
+        next: 0,
+    };
     for _ in rt.forever() {
         let now = timer.now(rt)?;
-        match begin(rt, desk, work, now)? {
+        seen = look(desk, work, watch, seen, now);
+        match begin(rt, desk, work, watch, now)? {
             Begun::Added => to_wake = true,
             Begun::Read => {}
             Begun::Nothing => {
@@ -137,8 +205,8 @@ fn take_turns<'a, L: Link, F: Folder, W: Write, Rd: Read + Drop, R: Wait + Alloc
                     return Ok(turned);
                 }
                 let may_add = desk.has_room() && !desk.is_full();
-                let milliseconds = wait_ms(may_add, work.next_moment(), now);
-                await_one(rt, desk, work, timer, milliseconds)?;
+                let milliseconds = wait_ms(watch.period(), may_add, work.next_moment(), now);
+                await_one(rt, desk, work, watch, timer, milliseconds)?;
             }
         }
     }
@@ -146,21 +214,30 @@ fn take_turns<'a, L: Link, F: Folder, W: Write, Rd: Read + Drop, R: Wait + Alloc
 }
 
 /// Fetches the URLs of a run at a desk, where nothing is added yet, with the workers of a crew. It goes on until all have ended, or the history
-/// of the multi handle is full. It may wait.
-pub fn fetch<'a, L: Link, F: Folder, W: Write, Rd: Read + Drop, R: Wait + AllocGlobal + Clock>(
+/// of the multi handle is full. Who watches is told of each end, and how the run stands. It may wait.
+pub fn fetch<
+    'a,
+    L: Link,
+    F: Folder,
+    W: Write,
+    Rd: Read + Drop,
+    R: Wait + AllocGlobal + Clock,
+    V: Watch,
+>(
     rt: &R,
     crew: &Crew,
     desk: Desk<'_, L>,
     work: Work<'a, F, W, Rd>,
+    watch: V,
     timer: Timer,
-) -> (Work<'a, F, W, Rd>, Result<Turned, Stop>)
+) -> (Work<'a, F, W, Rd>, V, Result<Turned, Stop>)
     requires going { work.book.is_stopped ≡ false }
     requires none { HasNoneAdded work.book.slots }
-    ensures turned { IfOk result.1 (HasTurned result.0) }
-    ensures going { OnOk result.1 (result.0.book.is_stopped ≡ false) }
+    ensures turned { IfOk result.2 (HasTurned result.0) }
+    ensures going { OnOk result.2 (result.0.book.is_stopped ≡ false) }
     ensures run { IsSameWork work.entry result.0 }
 {
-    let (mut desk, mut work) = (desk, work);
-    let turned = take_turns(rt, crew, &mut desk, &mut work, timer);
-    (work, turned)
+    let (mut desk, mut work, mut watch) = (desk, work, watch);
+    let turned = take_turns(rt, crew, &mut desk, &mut work, &mut watch, timer);
+    (work, watch, turned)
 }

@@ -1,0 +1,54 @@
+//! Who watches a run.
+use mx_run_save::End;
+use mx_save_jobs::Tally;
+
+/// How a run stands.
+#[derive(Clone, Copy, Debug, PartialEq, Eq)]
+pub struct Standing {
+    /// How long it runs, in milliseconds.
+    pub moment: u64,
+    /// What has ended.
+    pub tally: Tally,
+    /// How many URLs there are, where that is known.
+    pub known: Option<u64>,
+    /// How many transfers run.
+    pub running: usize,
+    /// How many bytes have come of these.
+    pub arrived: u64,
+}
+
+/// Nobody watches.
+#[derive(Clone, Copy, Debug, PartialEq, Eq)]
+pub struct Nobody;
+
+impl Watch for Nobody {
+    fn period(&self) -> Option<u32> {
+        None
+    }
+
+    fn show(&mut self, _standing: &Standing) {}
+
+    fn hide(&mut self) {}
+
+    fn show_again(&mut self) {}
+
+    fn say(&mut self, _end: &End) {}
+}
+
+/// Who watches a run: who shows how it stands, and says of a URL what it ended with.
+pub trait Watch {
+    /// How many milliseconds lie between two moments at which it is shown how the run stands, at least 1; None where that isn't shown.
+    fn period(&self) -> Option<u32>;
+
+    /// Shows how the run stands.
+    fn show(&mut self, standing: &Standing);
+
+    /// Takes off what is shown, before something else is printed.
+    fn hide(&mut self);
+
+    /// Shows what was shown before it was taken off.
+    fn show_again(&mut self);
+
+    /// Says of a URL what it ended with, where that is to be said.
+    fn say(&mut self, end: &End);
+}
