@@ -1,7 +1,10 @@
 """The cases of checks/save.sh: what servers, lists, folders and disks do, and what is expected of `mxfetch save`."""
 
+import contextlib
 import os
+import pty
 import random
+import re
 import signal
 import subprocess
 import sys
@@ -9,7 +12,7 @@ import threading
 import time
 
 import hostile
-from saving import (Saved, files_in, folder, make_read_only, parts_in, small_disk, start, want_files, want_lines)
+from saving import (WORDS, Saved, files_in, folder, make_read_only, parts_in, small_disk, start, want_files, want_lines)
 from servers import (MIB, PROGRAM, WORK, Nginx, Server, Wrong, body_of, chunked, counted, keeping, read_head, read_request, until_closed,
                      want)
 
@@ -448,6 +451,89 @@ def case_output_that_is_closed():
                 want(content == body_of(f"/{name}"), f"{name} isn't whole")
 
 
+# --- what is said on standard error -------------------------------------------------------------------------------------
+
+def case_words_of_failures():
+    def serve(connection, _):
+        while (read := read_whole(connection)):
+            path = read[0].split(b" ")[1]
+            if path == b"/cut":
+                return connection.sendall(b"HTTP/1.1 200 OK\r\nContent-Length: 9\r\n\r\nhalf")
+            connection.sendall(counted(b"there") if path == b"/there" else counted(b"no", "HTTP/1.1 404 Not Found"))
+
+    with Server(serve) as server:
+        rows = [("/missing", 22, b"the status of the response isn't 2xx"), ("/cut", 18, b""), ("/there", 0, None)]
+        urls = [server.url(path) for path, _, _ in rows] + ["ftp://127.0.0.1/x", "http://127.0.0.1:1/"]
+        codes = {url: code for url, (_, code, _) in zip(urls, rows)} | {urls[3]: 1, urls[4]: 7}
+        run = Saved(urls, folder())
+        said = [WORDS.fullmatch(line) for line in run.err.splitlines()]
+        want(all(said), f"{run.err!r}")
+        told = sorted((match[1].decode(), int(match[3])) for match in said)
+        want(told == sorted((url, code) for url, code in codes.items() if code), f"{run.err!r}")
+        for url, (_, _, words) in zip(urls, rows):
+            want(not words or any(match[1] == url.encode() and match[2] == words for match in said), f"{run.err!r}")
+        want(run.status == 22, f"exit status {run.status}")
+
+
+def screen(came):
+    """The lines of a terminal that was sent these bytes, the last one as it is left."""
+    lines, at = [b""], 0
+    for piece in re.findall(rb"\r|\n|\x1b\[K|[^\r\n\x1b]+", came):
+        if piece == b"\r":
+            at = 0
+        elif piece == b"\n":
+            lines, at = lines + [b""], 0
+        elif piece == b"\x1b[K":
+            lines[-1] = lines[-1][:at]
+        else:
+            lines[-1] = lines[-1][:at] + piece + lines[-1][at + len(piece):]
+            at += len(piece)
+    return lines
+
+
+def seen(words, shared):
+    """What a terminal is sent that is standard error, and output, too, where it is shared; what output is else; and the exit status."""
+    master, slave = pty.openpty()
+    child = start(words, stdout=slave if shared else subprocess.PIPE, stderr=slave)
+    os.close(slave)
+    came = b""
+    with contextlib.suppress(OSError):  # EIO, once nobody has the other side
+        while (piece := os.read(master, 65536)):
+            came += piece
+    out = b"" if shared else child.stdout.read()
+    os.close(master)
+    return came, out, child.wait(timeout=60)
+
+
+def case_progress():
+    def serve(connection, _):
+        while (read := read_whole(connection)):
+            time.sleep(0.3)
+            connection.sendall(counted(b"x" * 30000) if b"/p" in read[0] else counted(b"no", "HTTP/1.1 404 Not Found"))
+
+    with Server(serve) as server:
+        urls = [server.url(f"/p{number}") for number in range(6)] + [server.url("/missing")]
+        shown = re.compile(rb"\r(\d+ ended, \d+ of them failed, \d+ run[^\r\n\x1b]*)")
+        for words, is_shown in (([], True), (["--progress"], True), (["--no-progress"], False)):
+            for shared in (False, True):
+                begun = time.monotonic()
+                came, out, status = seen(words + ["--into", folder(), "--at-once", "2", "--workers", "2"] + urls, shared)
+                seconds = time.monotonic() - begun
+                texts = set(shown.findall(came))
+                want(bool(texts) == is_shown, f"{words}: {came!r}")
+                want(len(texts) <= 4 * seconds + 2, f"{len(texts)} times in {seconds:.1f} s")
+                lines = screen(came)
+                want(lines[-1] == b"", f"{words}: {lines[-1]!r} is left behind")
+                told = lines[:-1] if shared else lines[:-1] + out.splitlines()
+                want(sum(line.startswith(b"saved 0 200 30000 p") for line in told) == 6, f"{told}")
+                want(sum(bool(WORDS.fullmatch(line)) for line in told) == 1 and len(told) == 8, f"{told}")
+                want(status == 22, f"exit status {status}")
+        piped = Saved(["--at-once", "2"] + urls, folder())
+        want(not shown.search(piped.err), f"{piped.err!r}")
+        piped = Saved(["--progress", "--at-once", "2"] + urls, folder())
+        want(shown.search(piped.err) is not None and screen(piped.err)[-1] == b"", f"{piped.err!r}")
+
+
 # --- servers that fail --------------------------------------------------------------------------------------------------
 
 def case_statuses():
@@ -623,7 +709,7 @@ def case_refused_growths():
             want(all(content == body_of(f"/{name}") for name, content in found.items()), f"growth {which}: a file isn't whole")
             want({line[4] for line in run.lines if line[0] == "saved"} <= set(found), f"growth {which}: a file that was told isn't there")
             want(all(line in lines or line[:2] in (("failed", 27), ("failed", 23)) for line in run.lines), f"growth {which}: {run.lines}")
-            is_ended = run.out == b"FAULT 27\n" or run.err.startswith(b"mxfetch: ")
+            is_ended = run.out == b"FAULT 27\n" or any(not WORDS.fullmatch(line) for line in run.err.splitlines())
             codes = [27] if is_ended else [line[1] for line in run.lines if line[1] != 0] + [0]
             want(run.status == codes[0], f"growth {which}: exit status {run.status}, {run.lines}, {run.err!r}")
             want(is_ended or len(run.lines) == 4, f"growth {which}: {len(run.lines)} lines, {run.err!r}")

@@ -12,6 +12,7 @@ import time
 from servers import PROGRAM, WORK, Wrong, want
 
 LINE = re.compile(rb"(saved|done|skipped|failed) (\d+) (\d+) (\d+) ([\x21-\x7e]+) ([\x21-\x7e]+)\n")
+WORDS = re.compile(rb"mxfetch: ([\x21-\x7e]*): ([^\r\n]+) \((\d+)\)")
 PART = re.compile(r"\.mxfetch-\d+-\d+\.part")
 KEYS = ["url", "verdict", "code", "status", "length", "file", "hops", "tries", "framing", "error"]
 

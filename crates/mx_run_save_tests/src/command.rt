@@ -41,7 +41,11 @@ fn tell_flags(text: &mut String, save: &Save<'_>) -> Result<(), AllocError> {
     if flags.json {
         text.push_str(" json")?;
     }
-    Ok(())
+    match flags.progress {
+        Some(true) => text.push_str(" progress"),
+        Some(false) => text.push_str(" quiet"),
+        None => Ok(()),
+    }
 }
 
 fn tell_places(text: &mut String, save: &Save<'_>) -> Result<(), AllocError> {
@@ -128,7 +132,7 @@ fn first_wrong(alloc: Global, rows: &[Row<'_>]) -> Option<usize> {
     None
 }
 
-static ASKED: [Row<'static>; 11] = [
+static ASKED: [Row<'static>; 12] = [
     (
         &["save", "http://a/"],
         "8 2 600000 4 10 0 65536 into=. http://a/ GET",
@@ -187,9 +191,14 @@ static ASKED: [Row<'static>; 11] = [
             "--content-on-error",
             "--fsync",
             "--json",
+            "--progress",
             "u",
         ],
-        "8 2 600000 4 10 0 65536 skip content fsync json into=. u GET",
+        "8 2 600000 4 10 0 65536 skip content fsync json progress into=. u GET",
+    ),
+    (
+        &["save", "--no-progress", "u"],
+        "8 2 600000 4 10 0 65536 quiet into=. u GET",
     ),
     (
         &["save", "--data", "a=b", "u"],
@@ -239,7 +248,7 @@ static REFUSED: [Row<'static>; 18] = [
     (&["save", "--timeout-ms", "5s", "u"], "refused"),
     (&["save", "--method", "get", "u"], "refused"),
     (&["save", "-H", "no colon", "u"], "refused"),
-    (&["save", "--progress", "u"], "refused"),
+    (&["save", "--progress", "--no-progress", "u"], "refused"),
     (
         &["save", "--workers", "2", "--workers", "3", "u"],
         "refused",

@@ -5,7 +5,7 @@ use mx_options::{OptionRow, Takes, with_arg, with_options};
 use mx_types::{LEAST_HISTORY, MOST_HISTORY};
 use std::alloc::{AllocError, Global};
 
-static OPTIONS: [OptionRow; 16] = [
+static OPTIONS: [OptionRow; 18] = [
     OptionRow {
         name: "input",
         takes: Takes::Word("FILE"),
@@ -83,6 +83,18 @@ static OPTIONS: [OptionRow; 16] = [
         takes: Takes::Nothing,
         default: None,
         help: "Print a JSON object for each URL",
+    },
+    OptionRow {
+        name: "progress",
+        takes: Takes::Nothing,
+        default: None,
+        help: "Show progress on standard error",
+    },
+    OptionRow {
+        name: "no-progress",
+        takes: Takes::NothingBeside("progress"),
+        default: None,
+        help: "Show no progress",
     },
     OptionRow {
         name: "method",

@@ -35,11 +35,19 @@ fn numbers_of(save: &ArgMatches<'_>) -> Option<SaveNumbers>
 }
 
 fn flags_of(save: &ArgMatches<'_>) -> SaveFlags {
+    let progress = if save.get_flag("progress") {
+        Some(true)
+    } else if save.get_flag("no-progress") {
+        Some(false)
+    } else {
+        None
+    };
     SaveFlags {
         skip_existing: save.get_flag("skip-existing"),
         content_on_error: save.get_flag("content-on-error"),
         fsync: save.get_flag("fsync"),
         json: save.get_flag("json"),
+        progress,
     }
 }
 

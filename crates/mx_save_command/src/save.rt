@@ -49,6 +49,8 @@ pub struct SaveFlags {
     pub fsync: bool,
     /// A JSON object is printed for each URL, in place of a line.
     pub json: bool,
+    /// Whether progress is shown, where that is asked for or forbidden; else it is where standard error is a terminal.
+    pub progress: Option<bool>,
 }
 
 /// What `save` is asked for.

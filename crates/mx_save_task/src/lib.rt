@@ -5,6 +5,7 @@ mod asked;
 mod opened;
 mod run;
 mod status;
+mod terminal;
 mod unread;
 
 pub use crate::run::{Saved, run_save, save_in};

@@ -8,6 +8,7 @@ ghost use Rattle.mx_save_task.specs.Status.{codes_number, stop_number};
 use crate::asked::{asking_of, tell_out_of_memory};
 use crate::opened::{folder_of, list_of};
 use crate::status::{UNMADE, status_of};
+use crate::terminal::Terminal;
 use mx_crew::Runtime;
 use mx_folder::{Folder, FolderError};
 use mx_run_io::Output;
@@ -15,10 +16,11 @@ use mx_save::Ledger;
 use mx_save_command::Save;
 use mx_save_jobs::{Asking, Lines, Stop};
 use mx_save_run::{Ended, Plan, save_all};
+use mx_save_urls::Watch;
 use mx_save_work::Feed;
 use mx_url_list::UrlList;
 use std::io;
-use std::io::{BufWriter, Input, Read, Write};
+use std::io::{BufWriter, Input, IsTerminal, Read, Write};
 use std::net::{Net, TcpListener, TcpStream};
 use std::rt::Files;
 
@@ -39,6 +41,7 @@ pub fn save_in<
     F: Folder,
     W: Write + Drop,
     Rd: Read + Drop,
+    V: Watch + Drop,
 >(
     rt: &R,
     save: &Save<'_>,
@@ -47,6 +50,7 @@ pub fn save_in<
     list: Option<UrlList<Rd>>,
     folder: F,
     lines: Lines<W>,
+    watch: V,
 ) -> Saved<F, W>
     requires numbers { AreSaveNumbers save.now.numbers }
     requires fresh { lines.told ≡ [] }
@@ -63,8 +67,10 @@ pub fn save_in<
     let Ended {
         ledger,
         lines,
+        mut watch,
         stopped,
-    } = save_all(rt, asking, ledger, lines, feed, plan);
+    } = save_all(rt, asking, ledger, lines, feed, watch, plan);
+    watch.hide();
     let (folder, flushed) = ledger.finish();
     Saved {
         folder,
@@ -95,24 +101,38 @@ fn save_aloud<
     R: Runtime + Net<Listener = TcpListener, Stream = TcpStream> + Print + Eprint,
     F: Folder,
     Rd: Read + Drop,
->(rt: &R, save: &Save<'_>, process: u32, asking: Asking, list: Option<UrlList<Rd>>, folder: F) -> u8
+    V: Watch + Drop,
+>(
+    rt: &R,
+    save: &Save<'_>,
+    process: u32,
+    asking: Asking,
+    list: Option<UrlList<Rd>>,
+    folder: F,
+    watch: V,
+) -> u8
     requires { AreSaveNumbers save.now.numbers }
 {
     match BufWriter::with_capacity(rt.alloc(), 65_536, io::writer(rt)) {
         Ok(writer) => {
             let lines = Lines::new(rt.alloc(), Output::new(writer), save.flags.json);
-            end(rt, &save_in(rt, save, process, asking, list, folder, lines))
+            end(
+                rt,
+                &save_in(rt, save, process, asking, list, folder, lines, watch),
+            )
         }
         Err(_) => tell_out_of_memory(rt),
     }
 }
 
 /// Saves what is asked for: its URLs are fetched, the bodies saved in its folder, and each URL told of on standard output as it ends. Why the
-/// run can't begin, or stopped, is told on standard error. The answer is the exit status. The files that hold a part of a body are named for
+/// run can't begin, or stopped, is told on standard error, and which URLs failed on `stderr`, where it is also shown how the run stands, if that
+/// is asked for, or if it is a terminal and that isn't forbidden. The answer is the exit status. The files that hold a part of a body are named for
 /// this process. It may wait.
 pub fn run_save<
     R: Runtime + Net<Listener = TcpListener, Stream = TcpStream> + Files + Input + Print + Eprint,
->(rt: &R, save: &Save<'_>, process: u32) -> u8
+    E: Write + IsTerminal + Drop,
+>(rt: &R, save: &Save<'_>, process: u32, stderr: E) -> u8
     requires { AreSaveNumbers save.now.numbers }
 {
     let asking = match asking_of(rt, save) {
@@ -123,8 +143,10 @@ pub fn run_save<
         Ok(list) => list,
         Err(status) => return status,
     };
+    let shows = save.flags.progress.unwrap_or(stderr.is_terminal());
+    let watch = Terminal::new(rt.alloc(), Output::new(stderr), shows);
     match folder_of(rt, save.into) {
-        Ok(folder) => save_aloud(rt, save, process, asking, list, folder),
+        Ok(folder) => save_aloud(rt, save, process, asking, list, folder, watch),
         Err(status) => status,
     }
 }

@@ -5,6 +5,7 @@ use mx_run_io::{Input, Options, Output};
 use mx_save_command::{Save, SaveFlags, SaveNumbers};
 use mx_save_jobs::{Asking, Lines};
 use mx_save_task::{Saved, save_in};
+use mx_save_urls::Nobody;
 use mx_types::{LEAST_HISTORY, MOST_HISTORY, Method, OutOfMemory, Settings};
 use mx_url_list::UrlList;
 use std::alloc::{AllocError, Global};
@@ -35,6 +36,7 @@ const FLAGS: SaveFlags = SaveFlags {
     content_on_error: false,
     fsync: true,
     json: false,
+    progress: None,
 };
 
 fn asking(alloc: Global) -> Asking {
@@ -110,7 +112,16 @@ fn save<R: Runtime + Net<Listener = TcpListener, Stream = TcpStream>>(
         lines,
         stopped,
         flushed,
-    } = save_in(rt, given, 7, asking(alloc), Some(list), folder, lines);
+    } = save_in(
+        rt,
+        given,
+        7,
+        asking(alloc),
+        Some(list),
+        folder,
+        lines,
+        Nobody,
+    );
     let status = lines.status();
     drop(lines);
     Ok(Ran {

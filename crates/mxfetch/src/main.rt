@@ -148,7 +148,7 @@ fn main(rt: HostRuntime) -> ExitCode {
         Ok(Asked::Task(task)) => run(&rt, task),
         Ok(Asked::Explain(method)) => run_explained(&rt, method, rt.stderr()),
         Ok(Asked::Get(get)) => fetch(&rt, get, rt.stderr()),
-        Ok(Asked::Save(save)) => run_save(&rt, &save, process::id(rt.process())),
+        Ok(Asked::Save(save)) => run_save(&rt, &save, process::id(rt.process()), rt.stderr()),
         Err(error) => {
             let status = explain(&rt, &error);
             hint(&rt, words.as_slice(), &error);

@@ -1,0 +1,130 @@
+//! What is said of a run on standard error: which URLs failed, and how it stands.
+use mx_run_io::Output;
+use mx_run_save::{End, SaveCode, Verdict};
+use mx_save_urls::{Standing, Watch};
+use mx_words::{code_words, print_words};
+use std::alloc::{AllocError, Global};
+use std::io::Write;
+
+/// How many milliseconds lie between two moments at which it is shown how a run stands.
+const PERIOD_MS: u32 = 250;
+
+/// Standard error, or what stands for it. Each URL that failed has a line there; and, where that is to be shown, a line that is taken off
+/// again tells how the run stands. Where memory isn't had, that is left out; a write that fails isn't told.
+#[derive(Drop)]
+pub struct Terminal<E: Write> {
+    alloc: Global,
+    output: Output<E>,
+    shows: bool,
+    text: String,
+    is_up: bool,
+}
+
+// What is said of a code, where nothing else is said of a failure.
+fn words_of(code: SaveCode) -> &'static str {
+    match code {
+        SaveCode::Transfer(code) => code_words(code),
+        SaveCode::HttpReturnedError => "the status of the response isn't 2xx",
+        SaveCode::WriteError => "the file couldn't be written",
+    }
+}
+
+// A number of bytes in a unit in which it has few digits.
+fn in_unit(bytes: u64) -> (u64, &'static str) {
+    if bytes < 10_000 {
+        (bytes, "B")
+    } else if bytes < 10_000_000 {
+        (bytes / 1_000, "kB")
+    } else {
+        (bytes / 1_000_000, "MB")
+    }
+}
+
+// How many URLs are left, and how many seconds they take, where that can be told.
+fn left_of(standing: &Standing) -> Option<(u64, u64)> {
+    let left = standing.known?.saturating_sub(standing.tally.ended);
+    let seconds = left
+        .saturating_mul(standing.moment / 1_000)
+        .checked_div(standing.tally.ended)?;
+    Some((left, seconds))
+}
+
+// How a run stands, in a line.
+fn text_of(alloc: Global, standing: &Standing) -> Result<String, AllocError> {
+    let Standing {
+        moment,
+        tally,
+        running,
+        ..
+    } = *standing;
+    let bytes = tally.bytes.saturating_add(standing.arrived);
+    let (amount, unit) = in_unit(bytes);
+    let rate = bytes.saturating_mul(1_000).checked_div(moment);
+    let (speed, speed_unit) = in_unit(rate.unwrap_or(0));
+    let (ended, failed) = (tally.ended, tally.failed);
+    match left_of(standing) {
+        Some((left, seconds)) => format!(in alloc;
+            "{ended} ended, {failed} of them failed, {running} run, {left} left; {amount} {unit}, {speed} {speed_unit}/s, {seconds} s left"
+        ),
+        None => format!(in alloc;
+            "{ended} ended, {failed} of them failed, {running} run; {amount} {unit}, {speed} {speed_unit}/s"
+        ),
+    }
+}
+
+impl<E: Write> Terminal<E> {
+    /// Nothing was said yet. `shows` tells whether it is shown how the run stands.
+    pub fn new(alloc: Global, output: Output<E>, shows: bool) -> Terminal<E> {
+        Terminal {
+            alloc,
+            output,
+            shows,
+            text: String::new(alloc),
+            is_up: false,
+        }
+    }
+
+    // Puts the line up.
+    fn put_up(&mut self) {
+        let text = self.text.as_str();
+        let _ = self.output.print(format_args!("\r{text}\x1b[K"));
+        let _ = self.output.flush();
+        self.is_up = true;
+    }
+}
+
+impl<E: Write> Watch for Terminal<E> {
+    fn period(&self) -> Option<u32> {
+        if self.shows { Some(PERIOD_MS) } else { None }
+    }
+
+    fn show(&mut self, standing: &Standing) {
+        if let Ok(text) = text_of(self.alloc, standing) {
+            self.text = text;
+            self.put_up();
+        }
+    }
+
+    fn hide(&mut self) {
+        if self.is_up {
+            let _ = self.output.write_all(b"\r\x1b[K");
+            let _ = self.output.flush();
+            self.is_up = false;
+        }
+    }
+
+    fn show_again(&mut self) {
+        if !self.is_up && !self.text.is_empty() {
+            self.put_up();
+        }
+    }
+
+    fn say(&mut self, end: &End) {
+        if end.verdict() == Verdict::Failed {
+            let code = end.code();
+            let words = end.error().unwrap_or(words_of(code));
+            let _ = print_words(&mut self.output, end.url(), words, u32::from(code.number()));
+            let _ = self.output.flush();
+        }
+    }
+}
