@@ -83,13 +83,14 @@ fn held(alloc: Global, folder: &MemoryFolder, names: &[&str]) -> Result<Vec<u8>,
     Ok(all)
 }
 
-// A run over the URLs of the command line and those of a list, which looks for these names.
+// A run over the URLs of the command line and those of a list, which looks for these names. The folder's call of that number fails.
 fn save<R: Runtime + Net<Listener = TcpListener, Stream = TcpStream>>(
     rt: &R,
     given: &Save<'_>,
     list: &[u8],
     names: &[&str],
     server: Server,
+    fails_at: u64,
 ) -> Result<Ran, Fail> {
     let alloc = rt.alloc();
     let mut printed = Vec::new(alloc);
@@ -106,7 +107,7 @@ fn save<R: Runtime + Net<Listener = TcpListener, Stream = TcpStream>>(
     }
     let lines = Lines::new(alloc, Output::new(&mut printed), false);
     let list = UrlList::new(alloc, Input::new(list, 1000));
-    let folder = MemoryFolder::new(alloc, 2, u64::MAX, FolderError::Full);
+    let folder = MemoryFolder::new(alloc, 2, fails_at, FolderError::Full);
     let Saved {
         folder,
         lines,
@@ -151,6 +152,7 @@ fn what_is_whole_is_saved_and_each_is_told(rt: HostRuntime) -> Result<(), Fail> 
         list.as_bytes(),
         &["one", "none", "one#1", "one#2"],
         server,
+        u64::MAX,
     )?;
     let wanted = format!(in alloc;
         "saved 0 200 3 one http://127.0.0.1:{port}/one\nfailed 1 0 0 - ftp://a/\nfailed 22 404 0 - http://127.0.0.1:{port}/none\nsaved 0 200 3 one#1 http://127.0.0.1:{port}/two/one\n"
@@ -177,8 +179,53 @@ fn a_short_history_is_followed_by_another(rt: HostRuntime) -> Result<(), Fail> {
         list.as_bytes(),
         &["a", "b", "c", "d", "e"],
         server,
+        u64::MAX,
     )?;
     assert_eq!(rt; ran.held.as_slice(), b"aaa|bbb|ccc|ddd|eee|".as_slice());
     assert_eq!(rt; (ran.status, ran.is_whole, ran.served), (0, true, 5));
+    Ok(())
+}
+
+// What is told of a URL whose body was saved, or couldn't be.
+fn told(alloc: Global, port: u16, name: &str, is_saved: bool) -> Result<String, AllocError> {
+    if is_saved {
+        format!(in alloc; "saved 0 200 3 {name} http://127.0.0.1:{port}/{name}\n")
+    } else {
+        format!(in alloc; "failed 23 200 0 - http://127.0.0.1:{port}/{name}\n")
+    }
+}
+
+// Whether a run of two URLs, in which the folder's call of that number fails, has a line for each, which says what its name holds; and whether
+// one of them fails where the call is one of the ten by which they are saved, and none else.
+fn is_right_where_it_fails<R: Runtime + Net<Listener = TcpListener, Stream = TcpStream>>(
+    rt: &R,
+    call: u64,
+) -> Result<bool, Fail> {
+    let alloc = rt.alloc();
+    let server = Server::start(rt, 2)?;
+    let port = server.address.port();
+    let list = format!(in alloc; "http://127.0.0.1:{port}/a\nhttp://127.0.0.1:{port}/b")?;
+    let given = asked(alloc, &[], 64)?;
+    let ran = save(rt, &given, list.as_bytes(), &["a", "b"], server, call)?;
+    let held = ran.held.as_slice();
+    let (one, two) = (held.starts_with(b"aaa|"), held.ends_with(b"bbb|"));
+    let first = told(alloc, port, "a", one)?;
+    let second = told(alloc, port, "b", two)?;
+    let wanted = format!(in alloc; "{first}{second}")?;
+    let length = 2 + 3 * (usize::from(one) + usize::from(two));
+    Ok(
+        ran.printed.as_slice() == wanted.as_bytes()
+            && held.len() == length
+            && (call < 10) == (one != two),
+    )
+}
+
+/// Each call of the folder fails in turn: each URL has its line, and where that says that it is saved the whole body is under its name, and
+/// else nothing is.
+#[test]
+fn each_call_of_the_folder_fails_in_turn(rt: HostRuntime) -> Result<(), Fail> {
+    for call in 0..13 {
+        assert!(rt; is_right_where_it_fails(&rt, call)?);
+    }
     Ok(())
 }
