@@ -55,9 +55,9 @@ kept_removed rows hs ts n counts i row k lt at =
       slots = counts_removed counts rows i row k.slots lt at;
     }
 
-map_same : (f : Row → ℕ) (rows : List Row) (i : ℕ) (row after : Row) → i < length rows → row ≡ get_or rows i row → f after ≡ f row → map f (slice_set rows i after) ≡ map f rows
-map_same f rows i row after lt at same =
-    map-set f rows i after ∙ ap (λ x. slice_set (map f rows) i x) (same ∙ ap f at ∙ sym (get_or-map f rows i row 0 lt)) ∙ set-get_or (map f rows) i 0
+map_same : (f : Row → ℕ) (rows : List Row) (i : ℕ) (before after : Row) → i < length rows → before ≡ get_or rows i before → f after ≡ f before → map f (slice_set rows i after) ≡ map f rows
+map_same f rows i before after lt at same =
+    map-set f rows i after ∙ ap (λ x. slice_set (map f rows) i x) (same ∙ ap f at ∙ sym (get_or-map f rows i before 0 lt)) ∙ set-get_or (map f rows) i 0
 
 pub kept_set : (rows : List Row) (hs ts : List ℕ) (n : ℕ) (counts : List ℕ) (i : ℕ) (row after : Row) → AreKept rows hs ts n counts → i < length rows → row ≡ get_or rows i row
     → after.handle ≡ row.handle → after.ticket ≡ row.ticket → after.slot ≡ row.slot
