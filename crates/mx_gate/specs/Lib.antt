@@ -7,3 +7,4 @@ pub mod Ready
 pub mod Dialling
 pub mod Said
 pub mod Notes
+pub mod Faults

@@ -1,10 +1,28 @@
 //! The codes of what the system refuses.
-ghost use Rattle.std.specs.Prelude.{◌≡◌};
+ghost use Rattle.std.specs.Prelude.{◌≡◌, ◌↔◌, IsTrue};
 ghost use Rattle.mx_names.specs.Faults.{fault_code};
+ghost use Rattle.mx_gate.specs.Faults.{IsFileLimit, MeetsFileLimit};
 
 use mx_names::fault_code;
 use mx_types::Code;
 use std::io;
+
+// Whether as many files are open as the system, or the process, may have: ENFILE and EMFILE of errno(3).
+fn is_file_limit(number: i32) -> bool
+    ensures { IsTrue result ↔ IsFileLimit number }
+{
+    number == 23 || number == 24
+}
+
+/// Whether a socket can't be had since too many files are open.
+pub fn meets_file_limit(error: &io::Error) -> bool
+    ensures { IsTrue result ↔ MeetsFileLimit error.now }
+{
+    match error.raw_os_error() {
+        Some(number) => is_file_limit(number),
+        None => false,
+    }
+}
 
 /// The code of a socket, or of a poll of sockets, that can't be had: `OutOfMemory` where memory was wanting, else
 /// `CouldntConnect`.

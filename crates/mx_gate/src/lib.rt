@@ -14,10 +14,10 @@ mod sockets;
 
 pub use crate::addresses::{Found, addresses_of};
 pub use crate::dialling::{Dial, DialLink};
-pub use crate::faults::connect_code;
+pub use crate::faults::{connect_code, meets_file_limit};
 pub use crate::gate::{Gate, Turn};
 pub use crate::ready::ReadyLink;
 pub use crate::said::Said;
 pub use crate::scripted::ScriptGate;
 pub use crate::signals::Signals;
-pub use crate::sockets::{Bell, SocketDial, SocketGate, SocketLink};
+pub use crate::sockets::{Bell, FileLimit, SocketDial, SocketGate, SocketLink};

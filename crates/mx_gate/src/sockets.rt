@@ -10,7 +10,7 @@ ghost use Rattle.mx_gate.specs.Gates.{moment_after, next_token, turn_of, is_star
 
 use crate::addresses::{Found, addresses_of, at_port};
 use crate::dialling::{Dial, DialLink};
-use crate::faults::connect_code;
+use crate::faults::{connect_code, meets_file_limit};
 use crate::gate::{Gate, Turn};
 use crate::ready::ReadyLink;
 use crate::said::Said;
@@ -39,11 +39,19 @@ const BELL: Token = Token(0);
 /// A link that a `SocketGate` opens.
 pub type SocketLink<'r, R> = ReadyLink<DialLink<SocketDial<'r, R>>>;
 
+// What a gate has in common with those that open its connections: where these are registered, and whether one couldn't be begun since too
+// many files were open.
+#[derive(Drop)]
+struct Shared {
+    registry: Registry,
+    met_file_limit: AtomicBool,
+}
+
 /// What opens the connections of one link of a `SocketGate`, and has its poll report when they are ready. Contracts see what it dialled.
 #[derive(Drop)]
 pub struct SocketDial<'r, R> {
     rt: &'r R,
-    registry: Arc<Registry>,
+    shared: Arc<Shared>,
     dialled: History<SocketAddr>,
 }
 
@@ -79,9 +87,14 @@ impl<R: Net> Dial for SocketDial<'_, R> {
 
     fn dial(&mut self, address: SocketAddr, token: u64) -> Result<TcpLink, Code> {
         self.dialled.note(address);
-        match connect(self.rt, &self.registry, address, token) {
+        match connect(self.rt, &self.shared.registry, address, token) {
             Ok(stream) => Ok(TcpLink::new(stream, token)),
-            Err(error) => Err(connect_code(&error)),
+            Err(error) => {
+                if meets_file_limit(&error) {
+                    self.shared.met_file_limit.store(true, Ordering::SeqCst);
+                }
+                Err(connect_code(&error))
+            }
         }
     }
 }
@@ -100,6 +113,20 @@ impl Bell {
     }
 }
 
+/// Whether too many files were open for a connection of its gate, from any thread.
+#[derive(Drop)]
+pub struct FileLimit {
+    shared: Arc<Shared>,
+}
+
+impl FileLimit {
+    /// Whether a connection couldn't be begun since the process, or the system, had as many open files as it may have. Once it was so, it stays
+    /// true.
+    pub fn was_met(&self) -> bool {
+        self.shared.met_file_limit.load(Ordering::SeqCst)
+    }
+}
+
 /// A gate that opens TCP connections, and waits until one of them is ready. A link of it that would have waited makes no
 /// system call before the gate was told something new of its connection. Contracts see the latest moment told, the
 /// token of its next link, whether its last turn saw the flag that stops it, and all that was said. What the network
@@ -108,7 +135,7 @@ impl Bell {
 pub struct SocketGate<'r, R> {
     rt: &'r R,
     poll: Poll,
-    registry: Arc<Registry>,
+    shared: Arc<Shared>,
     events: Events<Global>,
     bell: Arc<Waker>,
     signals: Arc<Signals>,
@@ -132,13 +159,7 @@ impl<'r, R> Model for SocketGate<'r, R> {
     ghost view = { λ g. record { latest = g.latest; next_token = g.next_token; is_stopped = g.is_stopped; found = g.found; dialled = g.dialled; said = g.said } };
 }
 
-type Parts = (
-    Poll,
-    Arc<Registry>,
-    Events<Global>,
-    Arc<Waker>,
-    Arc<Signals>,
-);
+type Parts = (Poll, Arc<Shared>, Events<Global>, Arc<Waker>, Arc<Signals>);
 
 // What an event tells of its connection.
 #[derive(Clone, Copy)]
@@ -207,10 +228,10 @@ impl<'r, R: Net + Clock + AllocGlobal> SocketGate<'r, R> {
         ensures code { IfErr result (λ code. is_start_code code ≡ true) }
     {
         match SocketGate::parts(rt) {
-            Ok((poll, registry, events, bell, signals)) => Ok(SocketGate {
+            Ok((poll, shared, events, bell, signals)) => Ok(SocketGate {
                 rt,
                 poll,
-                registry,
+                shared,
                 events,
                 bell,
                 signals,
@@ -231,11 +252,15 @@ impl<'r, R: Net + Clock + AllocGlobal> SocketGate<'r, R> {
 
     fn parts(rt: &'r R) -> io::Result<Parts> {
         let poll = Poll::new(rt)?;
-        let registry = Arc::new(rt.alloc(), poll.registry().try_clone()?)?;
+        let shared = Shared {
+            registry: poll.registry().try_clone()?,
+            met_file_limit: AtomicBool::new(false),
+        };
+        let shared = Arc::new(rt.alloc(), shared)?;
         let events = Events::with_capacity(rt.alloc(), MOST_EVENTS)?;
         let bell = Arc::new(rt.alloc(), Waker::new(poll.registry(), BELL)?)?;
         let signals = Arc::new(rt.alloc(), Signals::new(rt.alloc())?)?;
-        Ok((poll, registry, events, bell, signals))
+        Ok((poll, shared, events, bell, signals))
     }
 
     /// The moment at which the gate's clock started.
@@ -252,13 +277,22 @@ impl<'r, R: Net + Clock + AllocGlobal> SocketGate<'r, R> {
         })
     }
 
+    /// What tells whether too many files were open for a connection of this gate.
+    ///
+    /// The one error is that there are too many of them.
+    pub fn file_limit(&self) -> Result<FileLimit, AllocError> {
+        Ok(FileLimit {
+            shared: Arc::try_clone(&self.shared)?,
+        })
+    }
+
     // What opens the connections of a link that has dialled nothing yet.
     fn dialler(&self) -> Result<(SocketDial<'r, R>, Arc<Signals>), AllocError>
         ensures { IfOk result (λ dialler. dialler.0 ≡ []) }
     {
         let dial = SocketDial {
             rt: self.rt,
-            registry: Arc::try_clone(&self.registry)?,
+            shared: Arc::try_clone(&self.shared)?,
             dialled: History::new(),
         };
         let signals = Arc::try_clone(&self.signals)?;
@@ -287,6 +321,7 @@ impl<'r, R: Net + Clock + AllocGlobal> SocketGate<'r, R> {
         let token = self.next_token;
         match DialLink::over(dial, addresses, token) {
             Ok(link) => {
+                self.may_skip = false;
                 self.next_token = token.saturating_add(1);
                 Ok(ReadyLink::over(link, signals))
             }
@@ -445,7 +480,8 @@ impl<'r, R: Net + Clock + AllocGlobal> Gate for SocketGate<'r, R> {
     }
 
     /// Waits until a connection is ready or the bell is rung. What is told of connections lets their links be asked again. A turn of
-    /// no wait looks once a millisecond of the clock, so that it costs a worker that has work at hand no system call each time.
+    /// no wait looks once a millisecond of the clock, so that it costs a worker that has work at hand no system call each time; and where a link
+    /// was opened since the last, so that a worker that begins many connections finds those that have become free meanwhile.
     fn turn(&mut self, wait_ms: u32) -> Turn
         ensures stop { result ≡ turn_of self.new.is_stopped }
         ensures others { self.new ≡ record self.old { is_stopped = self.new.is_stopped; said = self.new.said } }
