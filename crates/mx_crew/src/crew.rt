@@ -4,7 +4,7 @@ ghost use Rattle.mx_types.specs.declared.code.Code.TheVariants as codes;
 ghost use Rattle.mx_crew.specs.declared.error.CrewError.TheVariants as crew_error;
 
 use crate::error::CrewError;
-use mx_gate::{Bell, SocketGate};
+use mx_gate::{Bell, FileLimit, SocketGate};
 use mx_named_gate::{NameBell, NamedGate};
 use mx_names::{Lookup, Resolver, SystemLookup};
 use mx_types::{Code, OutOfMemory};
@@ -24,6 +24,7 @@ pub type HostGate<'r, R> = NamedGate<'r, R, SystemLookup<R>>;
 #[derive(Drop)]
 pub struct Crew {
     bells: Vec<Bell>,
+    file_limits: Vec<FileLimit>,
     stop: Arc<AtomicBool>,
 }
 
@@ -42,6 +43,7 @@ impl Crew {
     pub fn new(alloc: Global) -> Result<Crew, OutOfMemory> {
         Ok(Crew {
             bells: Vec::new(alloc),
+            file_limits: Vec::new(alloc),
             stop: Arc::new(alloc, AtomicBool::new(false))?,
         })
     }
@@ -70,6 +72,16 @@ impl Crew {
         self.stop.load(Ordering::SeqCst)
     }
 
+    /// Whether a gate that it made couldn't begin a connection since too many files were open.
+    pub fn met_file_limit(&self) -> bool {
+        for limit in &self.file_limits {
+            if limit.was_met() {
+                return true;
+            }
+        }
+        false
+    }
+
     /// The flag that stops its workers, for a gate of one's own: true once it is dismissed, until it is summoned.
     pub fn stop(&self) -> Result<Arc<AtomicBool>, AllocError> {
         Arc::try_clone(&self.stop)
@@ -90,6 +102,7 @@ impl Crew {
             Err(code) => return Err(no_gate(code)),
         };
         self.bells.push(gate.bell()?)?;
+        self.file_limits.push(gate.file_limit()?)?;
         Ok(NamedGate::new(rt, gate, resolver)?)
     }
 

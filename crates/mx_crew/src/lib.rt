@@ -4,11 +4,13 @@
 mod beside;
 mod crew;
 mod error;
+mod opening;
 mod post;
 mod runtime;
 
 pub use crate::beside::run_beside;
 pub use crate::crew::{Crew, HostGate};
 pub use crate::error::CrewError;
+pub use crate::opening::{Opened, open_one};
 pub use crate::post::{Counts, NoPosts, Post, Worked, posts};
 pub use crate::runtime::Runtime;

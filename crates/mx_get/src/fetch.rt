@@ -10,14 +10,13 @@ ghost use Rattle.mx_get.specs.declared.error.FetchError.TheVariants as fetch_err
 
 use crate::collect::Desk;
 use crate::error::FetchError;
-use mx_crew::{Crew, CrewError, Post, Runtime, posts, run_beside};
+use mx_crew::{Crew, CrewError, Opened, Post, Runtime, open_one, posts, run_beside};
 use mx_gate::Gate;
 use mx_link::Link;
-use mx_multi::{Limits, Multi, OpenError, Seat, WorkerSeat};
+use mx_multi::{Limits, Multi, Seat, WorkerSeat};
 use mx_run_get::Fetched;
 use mx_run_io::Options;
 use mx_transfer::Outcome;
-use mx_types::OutOfMemory;
 use mx_worker::Queued;
 use std::alloc::AllocGlobal;
 use std::net::{Net, TcpListener, TcpStream};
@@ -32,14 +31,6 @@ pub const MOST_URLS: usize = 256;
 /// The events that the history has room for.
 const HISTORY: u32 = 2048;
 
-// A multi handle with a seat and the workers' seats.
-#[derive(Drop)]
-struct Opened<L: Link> {
-    multi: Multi<Queued<L>, Outcome>,
-    seat: Seat<Queued<L>, Outcome>,
-    workers: Vec<WorkerSeat<Queued<L>, Outcome>>,
-}
-
 // What the options ask for, and one seat: a multi handle can be opened with it.
 fn limits(options: Options) -> Limits
     requires { are_within options ≡ true }
@@ -51,29 +42,6 @@ fn limits(options: Options) -> Limits
         workers: options.workers,
         history: HISTORY,
         max_connects: options.max_connects,
-    }
-}
-
-// Opens a multi handle with what the options ask for, which is within its limits: so it is refused for want of memory alone.
-fn open<L: Link, R: Wait + AllocGlobal>(rt: &R, options: Options) -> Result<Opened<L>, OutOfMemory>
-    requires { are_within options ≡ true }
-    ensures seat { IfOk result (λ o. o.seat.of ≡ o.multi) }
-    ensures workers { IfOk result (λ o. All (λ s. s.of ≡ o.multi) o.workers.items) }
-    ensures count { IfOk result (λ o. vec_len o.workers ≡ options.workers) }
-    ensures opened { IfOk result (λ o. IsOpenedFor options o.multi) }
-{
-    let (multi, mut seats, workers) = match Multi::open(rt, rt.alloc(), limits(options)) {
-        Ok(opened) => opened,
-        Err(OpenError::OutOfMemory) => return Err(OutOfMemory),
-        Err(OpenError::BadLimits) => unreachable!(),
-    };
-    match seats.pop() {
-        Some(seat) => Ok(Opened {
-            multi,
-            seat,
-            workers,
-        }),
-        None => unreachable!(),
     }
 }
 
@@ -167,7 +135,7 @@ fn fetch_at<
         multi,
         seat,
         workers,
-    } = open(rt, options)?;
+    } = open_one(rt, limits(options))?;
     fetch_with(rt, &multi, (seat, workers), crew, gates, urls, options)
 }
 
@@ -177,6 +145,7 @@ fn fetch_from<R: Runtime + Net<Listener = TcpListener, Stream = TcpStream>>(
     urls: &[&str],
     options: Options,
     start: Instant,
+    met_file_limit: &mut bool,
 ) -> Result<Vec<Fetched>, FetchError>
     requires { are_within options ≡ true }
     ensures ends { IfOk result (λ ends. AreEndsOf options.timeout_ms options.max_redirects (map (λ u. u.now) urls.now) ends.items) }
@@ -184,7 +153,9 @@ fn fetch_from<R: Runtime + Net<Listener = TcpListener, Stream = TcpStream>>(
 {
     let mut crew = Crew::new(rt.alloc())?;
     let gates = crew.gates(rt, start, options.workers)?;
-    fetch_at(rt, &crew, gates, urls, options)
+    let fetched = fetch_at(rt, &crew, gates, urls, options);
+    *met_file_limit = crew.met_file_limit();
+    fetched
 }
 
 /// Fetches the URLs by GET. What is answered is what each ended with, in their order: the code of its refusal, or what a
@@ -198,11 +169,13 @@ fn fetch_from<R: Runtime + Net<Listener = TcpListener, Stream = TcpStream>>(
 /// - `OutOfMemory` where a growth was refused;
 /// - `NotAdded`, `NoMessage` where a transfer wasn't added, or no message came of it.
 ///
-/// `Unwritten` is none of its answers.
+/// `Unwritten` is none of its answers. `met_file_limit` tells, once the workers have ended, whether a connection couldn't be begun since too many
+/// files were open; it stays as it was where there were no workers.
 pub fn fetch_all<R: Runtime + Net<Listener = TcpListener, Stream = TcpStream>>(
     rt: &R,
     urls: &[&str],
     options: Options,
+    met_file_limit: &mut bool,
 ) -> Result<Vec<Fetched>, FetchError>
     requires { are_within options ≡ true }
     ensures ends { IfOk result (λ ends. AreEndsOf options.timeout_ms options.max_redirects (map (λ u. u.now) urls.now) ends.items) }
@@ -214,7 +187,7 @@ pub fn fetch_all<R: Runtime + Net<Listener = TcpListener, Stream = TcpStream>>(
         return Err(FetchError::TooManyUrls);
     }
     match Instant::now(rt) {
-        Ok(start) => fetch_from(rt, urls, options, start),
+        Ok(start) => fetch_from(rt, urls, options, start, met_file_limit),
         Err(_) => Err(FetchError::NoClock),
     }
 }

@@ -67,7 +67,7 @@ pub fn try_get<R: Runtime + Net<Listener = TcpListener, Stream = TcpStream>, W: 
     ensures many { MOST_URLS < length urls.now → result ≡ Err fetch_error.TooManyUrls }
     ensures few { IfErr result (λ e. e ≡ fetch_error.TooManyUrls → MOST_URLS < length urls.now) }
 {
-    match fetch_all(rt, urls, options) {
+    match fetch_all(rt, urls, options, &mut false) {
         Ok(ends) => print_ends(output, ends.as_slice()),
         Err(error) => Err(error),
     }

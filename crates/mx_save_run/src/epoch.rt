@@ -1,19 +1,19 @@
 //! The time of one multi handle.
-ghost use Rattle.std.specs.Prelude.{◌≡◌, false, All, IfOk, IsOkAnd, Ok, OnOk, vec_len};
+ghost use Rattle.std.specs.Prelude.{◌≡◌, ◌+◌, false, All, IfOk, IsOkAnd, Ok, OnOk, vec_len};
 ghost use Rattle.mx_save_jobs.specs.Books.{HasNoneAdded};
 ghost use Rattle.mx_save_work.specs.Works.{IsSameWork};
 ghost use Rattle.mx_save_urls.specs.Asked.{HasTurned};
-ghost use Rattle.mx_save_run.specs.Plans.{IsPlan};
+ghost use Rattle.mx_desk.specs.Desks.{IsNewDesk};
+ghost use Rattle.mx_save_run.specs.Plans.{IsOpenedAs, IsPlan};
 
-use crate::opening::{Opened, open};
 use crate::plan::Plan;
 use mx_chain::Outcome;
-use mx_crew::{Crew, CrewError, Post, Worked, posts, run_beside};
+use mx_crew::{Crew, CrewError, Opened, Post, Worked, open_one, posts, run_beside};
 use mx_desk::Desk;
 use mx_folder::Folder;
 use mx_gate::Gate;
 use mx_link::Link;
-use mx_multi::{Multi, Seat, WorkerSeat};
+use mx_multi::{Application, Multi, Seat, Seated, WorkerSeat};
 use mx_save_jobs::Stop;
 use mx_save_urls::{Timer, Turned, Watch, fetch};
 use mx_save_work::Work;
@@ -110,6 +110,17 @@ fn fetch_beside<
     (work, watch, left)
 }
 
+// A desk for as many URLs as the plan has places for, at which as many transfers run as it says.
+fn desk_for<'m, L: Link>(
+    alloc: Global,
+    seat: Seated<'m, Application, Queued<L>, Outcome>,
+    plan: Plan,
+) -> Result<Desk<'m, L>, OutOfMemory>
+    ensures { IfOk result (IsNewDesk (plan.options.at_once + 4096) plan.options.at_once) }
+{
+    Desk::new(alloc, seat, plan.slots(), usize::from(plan.options.at_once))
+}
+
 // Fetches at a multi handle that is open. What is let go where memory is wanting is here, and not where the handle is owned.
 fn fetch_with<
     'a,
@@ -134,6 +145,7 @@ fn fetch_with<
     plan: Plan,
     timer: Timer,
 ) -> (Work<'a, F, W, Rd>, V, Result<(Turned, Vec<G>), Stop>)
+    requires opened { IsOpenedAs plan multi.now }
     requires seat { seats.0.of ≡ multi.now }
     requires workers { All (λ s. s.of ≡ multi.now) seats.1.items }
     requires counts { (vec_len seats.1 ≡ plan.options.workers) × (vec_len gates ≡ plan.options.workers) }
@@ -148,8 +160,7 @@ fn fetch_with<
     let Ok(posts) = posts(rt.alloc(), multi, workers, gates) else {
         return (work, watch, Err(Stop::OutOfMemory));
     };
-    let width = usize::from(plan.options.at_once);
-    match Desk::new(rt.alloc(), multi.at(seat), plan.slots(), width) {
+    match desk_for(rt.alloc(), multi.at(seat), plan) {
         Ok(desk) => fetch_beside(rt, crew, posts, desk, work, watch, timer),
         Err(_) => (work, watch, Err(Stop::OutOfMemory)),
     }
@@ -184,7 +195,7 @@ pub fn run_epoch<
     ensures going { OnOk result.2 (result.0.book.is_stopped ≡ false) }
     ensures run { IsSameWork work.entry result.0 }
 {
-    match open(rt, plan) {
+    match open_one(rt, plan.limits()) {
         Ok(opened) => {
             let Opened {
                 multi,

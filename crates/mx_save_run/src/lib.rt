@@ -2,7 +2,6 @@
 #![tactic(auto)]
 
 mod epoch;
-mod opening;
 mod plan;
 mod run;
 

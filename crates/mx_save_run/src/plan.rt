@@ -1,5 +1,5 @@
 //! How a run fetches.
-ghost use Rattle.std.specs.Prelude.{◌≡◌, true};
+ghost use Rattle.std.specs.Prelude.{◌≡◌, ◌+◌, true};
 ghost use Rattle.mx_multi.specs.Opening.{are_within as are_limits_within};
 ghost use Rattle.mx_save_run.specs.Plans.{IsPlan};
 
@@ -20,8 +20,8 @@ impl Plan {
     /// What a multi handle is opened with: one seat, and as many workers as the plan has.
     pub fn limits(&self) -> Limits
         requires { IsPlan self.now }
+        ensures value { result ≡ record { seats = 1; workers = self.now.options.workers; history = self.now.history; max_connects = self.now.options.max_connects } }
         ensures within { are_limits_within result ≡ true }
-        ensures workers { result.workers ≡ self.now.options.workers }
     {
         Limits {
             seats: 1,
@@ -32,7 +32,9 @@ impl Plan {
     }
 
     /// For how many URLs that have no end yet a run has places: those of the transfers that run, and those that wait.
-    pub fn slots(&self) -> usize {
+    pub fn slots(&self) -> usize
+        ensures { result ≡ self.now.options.at_once + MOST_WAITING }
+    {
         usize::from(self.options.at_once) + MOST_WAITING
     }
 }

@@ -97,7 +97,14 @@ fn run_over_sockets<
         return (work, watch, Err(Stop::OutOfMemory));
     };
     match crew.gates(rt, start, plan.options.workers) {
-        Ok(gates) => run_epochs(rt, &crew, gates, work, watch, plan, Timer::new(start)),
+        Ok(gates) => {
+            let timer = Timer::new(start);
+            let (work, mut watch, ended) = run_epochs(rt, &crew, gates, work, watch, plan, timer);
+            if crew.met_file_limit() {
+                watch.meet_file_limit();
+            }
+            (work, watch, ended)
+        }
         Err(error) => (work, watch, Err(stop_of(error))),
     }
 }
@@ -113,7 +120,8 @@ pub struct Ended<F: Folder, W: Write, V> {
 
 /// Has workers over sockets fetch the URLs, saves what is to be saved of each into the ledger's folder, and tells what each ended with. At most
 /// `at_once` transfers run at a time. Where the history of a multi handle is full the run waits until all that were added have ended, and goes
-/// on with a new one. Who watches is told of each end, and how the run stands. It may wait.
+/// on with a new one. Who watches is told of each end, how the run stands, and where a
+/// connection couldn't be begun since too many files were open. It may wait.
 ///
 /// It stops before all URLs have ended where memory is wanting, where the output can't be written, where the list of URLs can't be read, or
 /// where the system has no clock, no poll or no thread for it.

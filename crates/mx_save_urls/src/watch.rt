@@ -33,6 +33,8 @@ impl Watch for Nobody {
     fn show_again(&mut self) {}
 
     fn say(&mut self, _end: &End) {}
+
+    fn meet_file_limit(&mut self) {}
 }
 
 /// Who watches a run: who shows how it stands, and says of a URL what it ended with.
@@ -51,4 +53,7 @@ pub trait Watch {
 
     /// Says of a URL what it ended with, where that is to be said.
     fn say(&mut self, end: &End);
+
+    /// Says that a connection couldn't be begun since too many files were open, where that is to be said.
+    fn meet_file_limit(&mut self);
 }

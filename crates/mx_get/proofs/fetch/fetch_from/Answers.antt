@@ -3,5 +3,5 @@ use Rattle.std.proofs.Crossing.{crosses}
 use Rattle.mx_named_gate.proofs.Sends.{named_send}
 use Rattle.mx_get.proofs.fetch.fetch_from.Goals as goal
 
-pub fetch_at-requires-send-G : goal.fetch_at-requires-send-G
-fetch_at-requires-send-G g c κs within = search (named_send, sendable, crosses) depth 40 fits 20000
+pub fetch_at-fetched-requires-send-G : goal.fetch_at-fetched-requires-send-G
+fetch_at-fetched-requires-send-G g c κs within = search (named_send, sendable, crosses) depth 40 fits 20000

@@ -4,8 +4,8 @@ use Rattle.mx_named_gate.proofs.Sends.{named_send}
 use Rattle.mx_save_run.proofs.Sends.{link_send}
 use Rattle.mx_save_run.proofs.run.run_over_sockets.Goals as goal
 
-pub run_epochs-requires-send-L : goal.run_epochs-requires-send-L
-run_epochs-requires-send-L g c κs within = search (link_send, sendable, crosses) depth 40 fits 20000
+pub run_epochs-work-requires-send-L : goal.run_epochs-work-requires-send-L
+run_epochs-work-requires-send-L g c κs within = search (link_send, sendable, crosses) depth 40 fits 20000
 
-pub run_epochs-requires-send-G : goal.run_epochs-requires-send-G
-run_epochs-requires-send-G g c κs within = search (named_send, sendable, crosses) depth 40 fits 20000
+pub run_epochs-work-requires-send-G : goal.run_epochs-work-requires-send-G
+run_epochs-work-requires-send-G g c κs within = search (named_send, sendable, crosses) depth 40 fits 20000
