@@ -1,5 +1,5 @@
 //! The requests that were added at a seat, and what they ended with.
-ghost use Rattle.std.specs.Prelude.{◌≡◌, true, count_by, is_some, None, Ok, Some, IfOk, IfSome, MatchOption, OnOk, slice_get};
+ghost use Rattle.std.specs.Prelude.{◌≡◌, true, count_by, is_some, None, Ok, Some, IfOk, IfSome, MatchOption, OnOk, slice_get, ◌↔◌, IsTrue, OnErr};
 ghost use mathlib.Core.List.{IsPrefix};
 ghost use Rattle.mx_request.specs.Request.{request_origin};
 ghost use Rattle.mx_lock.specs.Ties.{Has, tie};
@@ -185,20 +185,22 @@ impl<'m, L: Link> Desk<'m, L> {
 
     /// Whether nothing is added.
     pub fn is_empty(&self) -> bool
-        ensures { result ≡ true → count_by is_some self.now.asked ≡ 0 }
+        ensures { IsTrue result ↔ (count_by is_some self.now.asked ≡ 0) }
     {
         self.waiting == 0
     }
 
     /// Whether one more request may be added.
     pub fn has_room(&self) -> bool
-        ensures { result ≡ true → HasRoom self.now }
+        ensures { IsTrue result ↔ HasRoom self.now }
     {
         self.waiting < self.width
     }
 
     /// How many requests are added.
-    pub fn len(&self) -> usize {
+    pub fn len(&self) -> usize
+        ensures { result ≡ count_by is_some self.now.asked }
+    {
         self.waiting
     }
 
@@ -217,7 +219,8 @@ impl<'m, L: Link> Desk<'m, L> {
     /// Adds a request under a number, under which nothing is added. Its ticket comes back; None where the history has no room for one more,
     /// and then nothing is added.
     ///
-    /// `NotAdded` comes where there is no such number, or something is added under it, or where the multi handle refuses it.
+    /// `NotAdded` comes where there is no such number, or something is added under it, or where the multi handle refuses it. An error leaves what
+    /// is added as it was.
     pub fn add<R: Wait + AllocGlobal>(
         &mut self,
         rt: &R,
@@ -226,6 +229,7 @@ impl<'m, L: Link> Desk<'m, L> {
     ) -> Result<Option<Ticket>, DeskError>
         requires room { HasRoom self.old }
         ensures added { IfOk result (λ o. MatchOption o (Stays self.old self.new) (λ _. Adds self.old self.new at request)) }
+        ensures kept { OnErr result (Stays self.old self.new) }
     {
         let Some(handle) = free_handle(self.additions.as_slice(), at) else {
             return Err(DeskError::NotAdded);
@@ -257,7 +261,7 @@ impl<'m, L: Link> Desk<'m, L> {
     }
 
     /// Reads the next message, for which it waits as long as that, at most: the request has ended that was added under its number, and its
-    /// handle is removed. Where none came it answers None.
+    /// handle is removed. Where none came it answers None. After an error it isn't known what is added.
     pub fn next<R: Wait + AllocGlobal + Clock>(
         &mut self,
         rt: &R,

@@ -26,16 +26,14 @@ invariant_of-self-2 g c =
     desk_adds ties items c.self.inside.width c.self.inside.waiting c.args.at c.in-Some-2.addition free told room
     (desk_on c.self.inside.seat.ties ties items c.self.inside.width c.self.inside.waiting c.add_transfer.ensures.later c.self.invariant)
 
-pub returns : goal.returns
-returns g c =
+pub returns-clause-added : goal.returns-clause-added
+returns-clause-added g c =
     let items = c.self.inside.additions.items in
     let free = subst (λ l. slice_get l c.args.at ≡ Some None) c.as_slice.ensures.value c.in-Some.ensures in
     let same = subst (λ o. IfSome o (λ a. a.request ≡ c.args.request)) c.in-Some-2.is c.in_ok-addition.ensures.request in
     record {
-      added = record {
-        free = subst (λ d. slice_get d.asked c.args.at ≡ Some None) c.self.view_is (asked_there items c.args.at None free);
-        asked = subst (λ d. map asked_at (slice_set items c.args.at (Some c.in-Some-2.addition)) ≡ slice_set d.asked c.args.at (Some c.args.request)) c.self.view_is
-            (asked_set items c.args.at (Some c.in-Some-2.addition) ∙ ap (λ r. slice_set (map asked_at items) c.args.at (Some r)) same);
-        width = ap (λ d. d.width) c.self.view_is;
-      };
+      free = subst (λ d. slice_get d.asked c.args.at ≡ Some None) c.self.view_is (asked_there items c.args.at None free);
+      asked = subst (λ d. map asked_at (slice_set items c.args.at (Some c.in-Some-2.addition)) ≡ slice_set d.asked c.args.at (Some c.args.request)) c.self.view_is
+          (asked_set items c.args.at (Some c.in-Some-2.addition) ∙ ap (λ r. slice_set (map asked_at items) c.args.at (Some r)) same);
+      width = ap (λ d. d.width) c.self.view_is;
     }
