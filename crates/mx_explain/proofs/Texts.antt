@@ -1,5 +1,5 @@
 -- What is told of one end more.
-use Rattle.std.proofs.Common.{◌≡◌, true, false, ℕ, ◌<◌, ◌+◌, List, [], ◌∷◌, ◌++◌, length, take, map, get_or, refl, ap, sym, ◌∙◌, subst, arith, suc, zero, add-one, append_assoc, append-nil}
+use Rattle.std.proofs.Common.{◌≡◌, Bool, true, false, ℕ, ◌<◌, ◌+◌, List, [], ◌∷◌, ◌++◌, length, take, map, get_or, refl, ap, sym, ◌∙◌, subst, arith, suc, zero, add-one, append_assoc, append-nil}
 use Rattle.std.specs.Prelude.{Option, Some, Result, Ok, Err, OnOk}
 use Rattle.std.specs.List.{slice_get}
 use Rattle.std.specs.Io.KnownBytes.{Appends}
@@ -11,8 +11,10 @@ use Rattle.mx_reason.specs.declared.reason.Reason.{Reason}
 use Rattle.mx_chain.specs.Hops.{is_ok}
 use Rattle.mx_run_get.specs.declared.fetched.Fetched.{Fetched}
 use Rattle.mx_run_get.specs.Fetched.{code_of}
-use Rattle.mx_words.specs.Lines.{IsFailureText, Writes}
-use Rattle.mx_explain.specs.Explained.{IsWhyOf, IsEndText, AreEndTexts}
+use Rattle.mx_words.specs.Words.{told_text}
+use Rattle.mx_words.specs.Hints.{file_limit_hint}
+use Rattle.mx_words.specs.Lines.{IsFailureText, Writes, hint_line}
+use Rattle.mx_explain.specs.Explained.{IsWhyOf, IsEndText, AreEndTexts, IsRunText}
 
 -- a URL that ended well, or failed
 pub end_well : (old : Option (List ℕ)) (url : List ℕ) (fetched : Fetched) (c : Code) → c ≡ code_of fetched → is_ok c ≡ true
@@ -22,14 +24,14 @@ end_well old url fetched c of is =
     ([], record { well = λ e. refl; failed = λ e. let both : true ≡ false = sym same ∙ e in absurd (cc) }, Appends-nil old)
 
 pub end_failed : {A E : Type 0} (r : Result A E) (old new : Option (List ℕ)) (url : List ℕ) (fetched : Fetched) (c : Code) (reason : Option Reason)
-    → c ≡ code_of fetched → is_ok c ≡ false → IsWhyOf fetched reason → OnOk r (Writes (IsFailureText url c reason) (Appends old new))
+    → c ≡ code_of fetched → is_ok c ≡ false → IsWhyOf fetched reason → OnOk r (Writes (IsFailureText url c (told_text c reason)) (Appends old new))
     → OnOk r (Writes (IsEndText url fetched) (Appends old new))
 end_failed (Ok a) old new url fetched c reason of is why written =
     let same : is_ok (code_of fetched) ≡ false = subst (λ x. is_ok x ≡ false) of is in (
       written.0,
       record {
         well = λ e. let both : true ≡ false = sym e ∙ same in absurd (cc);
-        failed = λ e. (reason, why, subst (λ x. IsFailureText url x reason written.0) of written.1);
+        failed = λ e. (reason, why, subst (λ x. IsFailureText url x (told_text x reason) written.0) of written.1);
       },
       written.2,
     )
@@ -87,3 +89,15 @@ all_told old new urls ends n all many before =
 -- there are as many ends as URLs
 pub as_many : {A B C : Type 0} (ends : List A) (urls : List B) (f : A → C) (g : B → C) → map f ends ≡ map g urls → length urls ≡ length ends
 as_many ends urls f g same = sym (length-map urls g) ∙ sym (ap length same) ∙ length-map ends f
+
+-- and the hint behind them
+pub run_told : {A E : Type 0} (r : Result A E) (old mid new : Option (List ℕ)) (urls : List (List ℕ)) (ends : List Fetched) (met : Bool)
+    → Writes (AreEndTexts urls ends) (Appends old mid) → OnOk r (Appends mid new (hint_line (file_limit_hint met)))
+    → OnOk r (Writes (IsRunText urls ends) (Appends old new))
+run_told (Ok a) old mid new urls ends met before more =
+    let line = hint_line (file_limit_hint met) in (
+      before.0 ++ line,
+      record { of_ends = before.0; met_limit = met; are = before.1; is = refl },
+      Appends-trans old mid new before.0 line before.2 more,
+    )
+run_told (Err e) old mid new urls ends met before more = tt

@@ -1,12 +1,14 @@
 -- What `get --explain` tells of what URLs ended with.
-use Rattle.std.specs.Prelude.{◌≡◌, ℕ, true, false, List, [], ◌∷◌, ◌++◌, Option, None}
+use Rattle.std.specs.Prelude.{◌≡◌, ℕ, Bool, true, false, List, [], ◌∷◌, ◌++◌, Option, None}
 use Rattle.mx_reason.specs.declared.reason.Reason.{Reason}
 use Rattle.mx_chain.specs.Hops.{is_ok}
 use Rattle.mx_run_get.specs.declared.fetched.Fetched.{Fetched}
 use Rattle.mx_run_get.specs.declared.fetched.Fetched.TheVariants.{Refused, Ended, Failed}
 use Rattle.mx_run_get.specs.Fetched.{code_of}
 use Rattle.mx_run_get.specs.Failures.{IsWhy}
-use Rattle.mx_words.specs.Lines.{IsFailureText}
+use Rattle.mx_words.specs.Words.{told_text}
+use Rattle.mx_words.specs.Hints.{file_limit_hint}
+use Rattle.mx_words.specs.Lines.{IsFailureText, hint_line}
 
 -- why a URL ended so, as far as the bytes that came tell: of a transfer that failed what its failure has
 abbrev pub IsWhyOf : Fetched → Option Reason → Type 0
@@ -18,7 +20,7 @@ IsWhyOf (Failed outcome) reason = IsWhy outcome reason
 pub record IsEndText (url : List ℕ) (fetched : Fetched) (text : List ℕ) : Type 0 where
   pub well : is_ok (code_of fetched) ≡ true → text ≡ []
   pub failed : is_ok (code_of fetched) ≡ false
-      → (reason : Option Reason) × IsWhyOf fetched reason × IsFailureText url (code_of fetched) reason text
+      → (reason : Option Reason) × IsWhyOf fetched reason × IsFailureText url (code_of fetched) (told_text (code_of fetched) reason) text
 
 -- so of each URL, in their order
 abbrev pub AreEndTexts : List (List ℕ) → List Fetched → List ℕ → Type 0
@@ -26,3 +28,10 @@ AreEndTexts [] ends text = text ≡ []
 AreEndTexts (url ∷ urls) [] text = text ≡ []
 AreEndTexts (url ∷ urls) (end ∷ ends) text =
     (first : List ℕ) × (rest : List ℕ) × IsEndText url end first × AreEndTexts urls ends rest × (text ≡ first ++ rest)
+
+-- and behind them a hint, where the run met the limit of open files
+pub record IsRunText (urls : List (List ℕ)) (ends : List Fetched) (text : List ℕ) : Type 0 where
+  pub of_ends : List ℕ
+  pub met_limit : Bool
+  pub are : AreEndTexts urls ends of_ends
+  pub is : text ≡ of_ends ++ hint_line (file_limit_hint met_limit)

@@ -8,7 +8,7 @@ use Rattle.mx_run_get.specs.Texts.{texts_from, exit_status}
 use Rattle.mx_get.specs.Asked.{AreEndsOf}
 use Rattle.mx_get.specs.declared.error.FetchError.{FetchError}
 use Rattle.mx_words.specs.Lines.{Writes, body_line}
-use Rattle.mx_explain.specs.Explained.{AreEndTexts}
+use Rattle.mx_explain.specs.Explained.{IsRunText}
 use Rattle.mx_explain.specs.Causes.{cause_words}
 
 -- What is printed are ends of these URLs, the program ends with their exit status, and what is told is of these ends.
@@ -17,7 +17,7 @@ pub record ExplainsEnds (timeout_ms max_redirects : ℕ) (urls : List (List ℕ)
   pub of_urls : AreEndsOf timeout_ms max_redirects urls ends
   pub printed : Printed (texts_from 0 ends)
   pub status : ends_with ≡ exit_status ends
-  pub told : Writes (AreEndTexts urls ends) Told
+  pub told : Writes (IsRunText urls ends) Told
 
 -- Or the fault of a run that has no ends is printed, and its cause is told.
 pub record ExplainsFault (Printed Told : List ℕ → Type 0) (ends_with : ℕ) : Type 0 where

@@ -4,12 +4,12 @@ ghost use Rattle.mx_run_io.specs.Ends.{has_failed_write, Wrote};
 ghost use Rattle.mx_chain.specs.Hops.{is_ok};
 ghost use Rattle.mx_run_get.specs.Fetched.{code_of};
 ghost use Rattle.mx_words.specs.Lines.{Writes};
-ghost use Rattle.mx_explain.specs.Explained.{IsWhyOf, IsEndText, AreEndTexts};
+ghost use Rattle.mx_explain.specs.Explained.{IsWhyOf, IsEndText, AreEndTexts, IsRunText};
 
 use mx_run_get::Fetched;
 use mx_run_io::{Output, WriteFailed};
 use mx_types::Code;
-use mx_words::{Told, print_failure};
+use mx_words::{Told, print_failure, print_file_limit};
 use std::io::Write;
 
 /// What is told of what a URL ended with: its code, and why it failed, as far as the bytes that came tell.
@@ -46,7 +46,7 @@ pub fn print_end<W: Write>(
     if is_ok(told.code) {
         return Ok(());
     }
-    print_failure(output, url, told)
+    print_failure(output, url, told, told.code)
 }
 
 // The bytes of a URL.
@@ -57,8 +57,8 @@ fn url_at<'a>(urls: &[&'a str], i: usize) -> &'a [u8]
     urls[i].as_bytes()
 }
 
-/// Prints what is told of URLs that ended so, in their order.
-pub(crate) fn print_ends<W: Write>(
+// Prints what is told of URLs that ended so, in their order.
+fn print_ends<W: Write>(
     output: &mut Output<W>,
     urls: &[&str],
     ends: &[Fetched],
@@ -71,4 +71,19 @@ pub(crate) fn print_ends<W: Write>(
         print_end(output, url_at(urls, i), end)?;
     }
     Ok(())
+}
+
+/// Prints what is told of URLs that ended so, in their order, and behind it a hint, where the run met the limit of open files.
+pub(crate) fn print_all<W: Write>(
+    output: &mut Output<W>,
+    urls: &[&str],
+    ends: &[Fetched],
+    met_limit: bool,
+) -> Result<(), WriteFailed>
+    requires { length urls.now ≡ length ends.now }
+    ensures bytes { OnOk result (Writes (IsRunText (map (λ u. u.now) urls.now) ends.now) (Wrote W.contents output.old output.new)) }
+    ensures failed { IsErr result → has_failed_write output.new ≡ true }
+{
+    print_ends(output, urls, ends)?;
+    print_file_limit(output, met_limit)
 }

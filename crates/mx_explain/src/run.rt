@@ -8,11 +8,11 @@ ghost use Rattle.mx_run_io.specs.Ends.{has_failed_write, Wrote, EndsRun};
 ghost use Rattle.mx_run_get.specs.Texts.{texts_from, exit_status};
 ghost use Rattle.mx_get.specs.Run.{AnswersUrls};
 ghost use Rattle.mx_words.specs.Lines.{Writes, body_line};
-ghost use Rattle.mx_explain.specs.Explained.{AreEndTexts};
+ghost use Rattle.mx_explain.specs.Explained.{IsRunText};
 ghost use Rattle.mx_explain.specs.Causes.{cause_words};
 ghost use Rattle.mx_explain.specs.Run.{ExplainsUrls};
 
-use crate::end::print_ends;
+use crate::end::print_all;
 use mx_get::{FetchError, Runtime, fetch_all};
 use mx_run_get::{Fetched, print_get};
 use mx_run_io::{Options, Output, end_with};
@@ -41,6 +41,7 @@ fn cause_words(cause: FetchError) -> &'static str
 fn print_explained<W: Write, E: Write>(
     urls: &[&str],
     ends: &[Fetched],
+    met_limit: bool,
     output: &mut Output<W>,
     told: &mut Output<E>,
 ) -> u8
@@ -49,10 +50,10 @@ fn print_explained<W: Write, E: Write>(
     ensures printed { has_failed_write output.new ≢ true → Wrote W.contents output.old output.new (texts_from 0 ends.now) }
     ensures status { has_failed_write output.new ≢ true → result ≡ exit_status ends.now }
     ensures told { has_failed_write told.new ≢ true
-        → Writes (AreEndTexts (map (λ u. u.now) urls.now) ends.now) (Wrote E.contents told.old told.new) }
+        → Writes (IsRunText (map (λ u. u.now) urls.now) ends.now) (Wrote E.contents told.old told.new) }
 {
     let status = print_get(output, ends);
-    let _ = print_ends(told, urls, ends);
+    let _ = print_all(told, urls, ends, met_limit);
     status
 }
 
@@ -75,7 +76,7 @@ fn print_unfetched<W: Write, E: Write>(
 
 /// Does what `run_get` does, and tells of each URL that failed, in their order, why: a line with the words of its code; of a response that
 /// is refused the byte of it, counted from 1, and what stands wrong there; of one that was cut how much of it came; and behind it a hint
-/// where there is one. Where `FAULT 27` is printed, it is told what the run lacked. What is told is put into an output of its own, once the
+/// where there is one; and last, where a connection couldn't be begun since too many files were open, a hint that says so. Where `FAULT 27` is printed, it is told what the run lacked. What is told is put into an output of its own, once the
 /// other is flushed; whether it could be is no matter of the exit status. It may wait.
 pub fn run_get_explained<
     R: Runtime + Net<Listener = TcpListener, Stream = TcpStream>,
@@ -90,8 +91,9 @@ pub fn run_get_explained<
         → ExplainsUrls options.timeout_ms options.max_redirects (map (λ u. u.now) urls.now)
         (Wrote W.contents output.old output.new) (Wrote E.contents told.old told.new) result }
 {
-    match fetch_all(rt, urls, options) {
-        Ok(ends) => print_explained(urls, ends.as_slice(), output, told),
+    let mut met_limit = false;
+    match fetch_all(rt, urls, options, &mut met_limit) {
+        Ok(ends) => print_explained(urls, ends.as_slice(), met_limit, output, told),
         Err(cause) => print_unfetched(cause, output, told),
     }
 }

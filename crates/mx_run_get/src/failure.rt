@@ -53,7 +53,7 @@ fn is_unfollowed(code: Code) -> bool
 }
 
 /// The method of the last hop's request.
-fn last_method(outcome: &Outcome) -> Method
+pub fn last_method(outcome: &Outcome) -> Method
     ensures { result ≡ outcome.now.last.request.method }
 {
     match outcome.hop_request(outcome.hops() - 1) {
@@ -62,8 +62,9 @@ fn last_method(outcome: &Outcome) -> Method
     }
 }
 
-/// What the decoder has against the bytes of the last hop.
-fn why(alloc: Global, outcome: &Outcome) -> Option<Reason>
+/// What the decoder has against the bytes of the last hop, as far as it is looked for: the byte at which it refused them, or where they end, if
+/// they were cut. `None` where they are a whole response, and where the code may say why a whole one wasn't followed.
+pub fn why_of(alloc: Global, outcome: &Outcome) -> Option<Reason>
     ensures { IsWhy outcome.now result }
 {
     if is_unfollowed(outcome.code()) {
@@ -83,7 +84,7 @@ impl Failure {
             code: outcome.code(),
             status: outcome.status(),
             len: outcome.wire().len(),
-            why: why(alloc, &outcome),
+            why: why_of(alloc, &outcome),
             outcome: Snapshot::of(&outcome),
         }
     }

@@ -7,6 +7,6 @@ pub mod laws;
 mod run;
 mod text;
 
-pub use crate::failure::Failure;
+pub use crate::failure::{Failure, last_method, why_of};
 pub use crate::fetched::Fetched;
 pub use crate::run::print_get;

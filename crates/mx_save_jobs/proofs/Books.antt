@@ -1,8 +1,9 @@
 -- A book, one URL further, and one end further.
-use Rattle.std.proofs.Common.{◌≡◌, ◌≢◌, ◌∙◌, refl, ap, sym, subst, ℕ, ◌+◌, ◌<◌, ◌≤◌, ◌^◌, suc, zero, List, [], ◌∷◌, ◌++◌, map, length, length-append, Bool, true, false, inl, inr, arith}
-use Rattle.std.specs.Prelude.{◌⊎◌, Option, Some, None, Result, Ok, Err, IfOk, count_by, slice_get, slice_set}
+use Rattle.std.proofs.Common.{◌≡◌, ◌≢◌, ◌∙◌, refl, ap, sym, subst, ℕ, ◌+◌, ◌<◌, ◌≤◌, ◌^◌, suc, zero, List, [], ◌∷◌, ◌++◌, map, length, length-append, Bool, true, false, cond, inl, inr, arith}
+use Rattle.std.specs.Prelude.{◌⊎◌, Option, Some, None, IsSome, Result, Ok, Err, IfOk, count_by, slice_get, slice_set}
 use Rattle.std.specs.List.{Contains, AllByRecursion}
 use Rattle.std.proofs.lemmas.List.Elements.{Contains-append_left, Contains-push}
+use Rattle.std.proofs.lemmas.List.Sums.{sum_by_push}
 use Rattle.mx_request.specs.Request.{IsRequest, RequestValue}
 use Rattle.mx_body.specs.Parts.{joined}
 use Rattle.mx_chain.specs.Outcomes.{IsOutcome, OutcomeValue}
@@ -21,7 +22,7 @@ use Rattle.mx_save_jobs.specs.declared.asking.Asking.{Asking}
 use Rattle.mx_save_jobs.specs.declared.job.Job.{Job}
 use Rattle.mx_save_jobs.specs.declared.job.Slot.{Slot}
 use Rattle.mx_save_jobs.specs.declared.job.Slot.TheVariants as slot
-use Rattle.mx_save_jobs.specs.Jobs.{Asks, BookValue, GrowsBy, HasEnded, HoldsOf, IsBook, IsPending, IsSavedEnd, IsTold, Pends, Saves, State, is_taken, job_at, job_of, state_of}
+use Rattle.mx_save_jobs.specs.Jobs.{Asks, BookValue, GrowsBy, GrowsFor, HasEnded, HoldsOf, IsBook, IsPending, IsSavedEnd, IsTold, Pends, Saves, State, is_saved, is_taken, is_told_saved, job_at, job_of, state_of}
 use Rattle.mx_save_jobs.specs.Lines.{ToldValue}
 use Rattle.mx_save_jobs.specs.Books.{HaveEnded, IsJobFor}
 use Rattle.mx_save_jobs.proofs.Names.{all_given_more, fresh_on, given_more, given_new, given_on, is_fresh, is_new, saved_on}
@@ -93,6 +94,34 @@ ended_more ts t place h = (h.0, Contains-append_left ts (t ∷ []) h.0 h.1, h.2)
 ended_now : (ts : List ToldValue) (t : ToldValue) (place : ℕ) → t.place ≡ place → HasEnded (ts ++ t ∷ []) place
 ended_now ts t place is = (t, Contains-push ts t, is)
 
+-- how many were told as saved, one end further
+abbrev weigh : Bool → ℕ
+weigh b = cond b 1 0
+
+count_push : (ts : List ToldValue) (t : ToldValue) → count_by is_told_saved (ts ++ t ∷ []) ≡ count_by is_told_saved ts + weigh (is_told_saved t)
+count_push ts t = sum_by_push (λ x. weigh (is_told_saved x)) ts t
+
+unsaved_more : (ts : List ToldValue) (t : ToldValue) → is_told_saved t ≡ false → count_by is_told_saved (ts ++ t ∷ []) ≡ count_by is_told_saved ts
+unsaved_more ts t is = omega (arith, count_push ts t, ap weigh is)
+
+saved_more : (ts : List ToldValue) (t : ToldValue) → is_told_saved t ≡ true → count_by is_told_saved (ts ++ t ∷ []) ≡ count_by is_told_saved ts + 1
+saved_more ts t is = omega (arith, count_push ts t, ap weigh is)
+
+owed_on : (name : List ℕ) (old new : Saves) (ts : List ToldValue) (t : ToldValue) → GrowsFor name t.end.verdict old new → length old ≡ count_by is_told_saved ts
+    → length new ≡ count_by is_told_saved (ts ++ t ∷ [])
+owed_on name old new ts t grows owed =
+    elim grows [
+      | inl other ↦ omega (arith, owed, ap length other.1, unsaved_more ts t other.0)
+      | inr one ↦ omega (arith, owed, ap length one.2, saved_more ts t one.0)
+    ]
+
+grows_by : (name : List ℕ) (v : Verdict) (old new : Saves) → GrowsFor name v old new → GrowsBy name old new
+grows_by name v old new grows =
+    elim grows [
+      | inl other ↦ inl other.1
+      | inr one ↦ inr (one.1, one.2)
+    ]
+
 -- a run begins
 pub begun : (b : State) (names : List (List ℕ)) → names ≡ [] → b.urls ≡ [] → b.named ≡ [] → AllByRecursion (λ s. s ≡ slot.Free) b.slots → b.told ≡ [] → b.saves ≡ [] → IsBook b 0 names
 begun b names empty urls named slots told_none saves = record {
@@ -105,12 +134,13 @@ begun b names empty urls named slots told_none saves = record {
   told = subst (AllByRecursion (IsTold b.asking b.urls b.saves)) (sym told_none) tt;
   each = λ place lt. absurd (omega (arith, lt, ap length urls));
   count = omega (arith, ap length urls, ap length told_none, fresh_count b.slots slots);
+  owed = ap length saves ∙ sym (ap (count_by is_told_saved) told_none);
 }
 
 -- a URL was refused
-pub refused : (b : State) (read : ℕ) (bases : List (List ℕ)) (url : List ℕ) (e : EndValue) (ts : List ToldValue) → IsBook b read bases → ts ≡ b.told ++ record { place = read; end = e } ∷ [] → e.url ≡ url → e.verdict ≡ verdict.Failed
+pub refused : (b : State) (read : ℕ) (bases : List (List ℕ)) (url : List ℕ) (e : EndValue) (ts : List ToldValue) → IsBook b read bases → ts ≡ b.told ++ record { place = read; end = e } ∷ [] → e.url ≡ url → e.verdict ≡ verdict.Failed → IsSome e.error
     → IsBook (record b { urls = b.urls ++ url ∷ []; told = ts }) (read + 1) bases
-refused b read bases url e ts is more same failed = subst (λ l. IsBook (record b { urls = b.urls ++ url ∷ []; told = l }) (read + 1) bases) (sym more) (record {
+refused b read bases url e ts is more same failed words = subst (λ l. IsBook (record b { urls = b.urls ++ url ∷ []; told = l }) (read + 1) bases) (sym more) (record {
   read = omega (arith, is.read, push_length b.urls url);
   bases = is.bases;
   fewer = omega (arith, is.fewer, push_length b.urls url);
@@ -120,7 +150,7 @@ refused b read bases url e ts is more same failed = subst (λ l. IsBook (record 
   told = all_push (IsTold b.asking (b.urls ++ url ∷ []) b.saves) b.told (record { place = read; end = e }) (told_more b.asking b.urls (url ∷ []) b.saves b.told is.told)
       (record {
         url = ap (slice_get (b.urls ++ url ∷ [])) is.read ∙ get_last b.urls url ∙ ap Some (sym same);
-        holds = subst (HoldsOf b.asking b.saves e) (sym failed) tt;
+        holds = subst (HoldsOf b.asking b.saves e) (sym failed) words;
       });
   each = λ place lt. elim (place_cases (length b.urls) place (omega (arith, lt, push_length b.urls url))) [
     | inl before ↦ elim (is.each place before) [
@@ -130,6 +160,7 @@ refused b read bases url e ts is more same failed = subst (λ l. IsBook (record 
     | inr last ↦ inr (ended_now b.told (record { place = read; end = e }) place (is.read ∙ sym last))
   ];
   count = omega (arith, is.count, push_length b.urls url, push_length b.told (record { place = read; end = e }));
+  owed = is.owed ∙ sym (unsaved_more b.told (record { place = read; end = e }) (ap is_saved failed));
 })
 
 same_or_other : (i j : ℕ) → (i ≡ j) ⊎ (i ≢ j)
@@ -195,6 +226,7 @@ stood b read bases at job is law few free place name =
         | inr last ↦ inl (at, job, there b.slots at slot.Free (slot.Waiting job) free, place ∙ is.read ∙ sym last)
       ];
       count = omega (arith, is.count, push_length b.urls url, one_more b.slots at (slot.Waiting job) job free refl);
+      owed = is.owed;
     }
 
 -- what stands in a slot has changed but for its place, its text and its name
@@ -236,13 +268,15 @@ again b read bases at old new v is was now place url name =
         | inr h ↦ inr h
       ];
       count = omega (arith, is.count, as_many b.slots at v old new was now);
+      owed = is.owed;
     }
 
 -- a URL has ended
 pub closed : (b : State) (read : ℕ) (bases : List (List ℕ)) (at : ℕ) (job : Job) (e : EndValue) (ts : List ToldValue) (saves : Saves) → IsBook b read bases → ts ≡ b.told ++ record { place = job.place; end = e } ∷ [] → job_at b.slots at ≡ Some job
-    → e.url ≡ job.url.items → GrowsBy job.name b.saves saves → HoldsOf b.asking saves e e.verdict
+    → e.url ≡ job.url.items → GrowsFor job.name e.verdict b.saves saves → HoldsOf b.asking saves e e.verdict
     → IsBook (record b { slots = slice_set b.slots at slot.Free; told = ts; saves = saves }) read bases
-closed b read bases at job e ts saves is more was url grows holds =
+closed b read bases at job e ts saves is more was url grows_for holds =
+    let grows = grows_by job.name e.verdict b.saves saves grows_for in
     let pends = is.pending at job was in
     let t : ToldValue = record { place = job.place; end = e } in
     subst (λ l. IsBook (record b { slots = slice_set b.slots at slot.Free; told = l; saves = saves }) read bases) (sym more) (record {
@@ -276,6 +310,7 @@ closed b read bases at job e ts saves is more was url grows holds =
         | inr h ↦ inr (ended_more b.told t p h)
       ];
       count = omega (arith, is.count, one_less b.slots at job was, push_length b.told t);
+      owed = owed_on job.name b.saves saves b.told t grows_for is.owed;
     })
 
 -- all have ended
@@ -287,6 +322,7 @@ ended b read bases is empty = record {
     | inr h ↦ h
   ];
   count = omega (arith, is.count, empty);
+  owed = is.owed;
 }
 
 -- the same, as the calls leave it
@@ -303,11 +339,11 @@ stood_as b read n bases us ns bs at job is more few u m s free place name =
     (subst (λ l. IsBook (record b { urls = l; named = b.named ++ job.url.items ∷ []; slots = ss }) (read + 1) (bases ++ base_name job.url.items ∷ [])) (sym u) book)))
 
 pub refused_as : (b : State) (read n : ℕ) (bases us : List (List ℕ)) (url : List ℕ) (e : EndValue) (ts : List ToldValue) → IsBook b read bases → n ≡ read + 1
-    → us ≡ b.urls ++ url ∷ [] → ts ≡ b.told ++ record { place = read; end = e } ∷ [] → e.url ≡ url → e.verdict ≡ verdict.Failed
+    → us ≡ b.urls ++ url ∷ [] → ts ≡ b.told ++ record { place = read; end = e } ∷ [] → e.url ≡ url → e.verdict ≡ verdict.Failed → IsSome e.error
     → IsBook (record b { urls = us; told = ts }) n bases
-refused_as b read n bases us url e ts is more u told_more_ same failed =
+refused_as b read n bases us url e ts is more u told_more_ same failed words =
     subst (λ l. IsBook (record b { urls = us; told = ts }) l bases) (sym more)
-    (subst (λ l. IsBook (record b { urls = l; told = ts }) (read + 1) bases) (sym u) (refused b read bases url e ts is told_more_ same failed))
+    (subst (λ l. IsBook (record b { urls = l; told = ts }) (read + 1) bases) (sym u) (refused b read bases url e ts is told_more_ same failed words))
 
 -- what was put into a slot in place of what was put there before
 set_twice : (slots : List Slot) (i : ℕ) (a v : Slot) → slice_set (slice_set slots i a) i v ≡ slice_set slots i v
@@ -383,11 +419,3 @@ saved_holds asking saves old url file name t o e is named asked decided status s
       status = status;
       size = size;
     })
-
-pub done_holds : (asking : Asking) (saves : Saves) (url : List ℕ) (t : Transferred) (o : OutcomeValue) (e : EndValue) → IsOutcome o → Asks asking url o.request
-    → IsDecision o.code o.last.request.method o.status asking.content_on_error decision.Done → t.status ≡ o.status → e ≡ done_end url t → HoldsOf asking saves e e.verdict
-done_holds asking saves url t o e is asked decided status same =
-    subst (λ x. HoldsOf asking saves x x.verdict) (sym same) (record { outcome = o; is = is; asked = asked; decided = decided; status = status })
-
-pub failed_holds : (asking : Asking) (saves : Saves) (url : List ℕ) (c : SaveCode) (t : Transferred) (error : Option (List ℕ)) (e : EndValue) → e ≡ failed_end url c t error → HoldsOf asking saves e e.verdict
-failed_holds asking saves url c t error e same = subst (λ x. HoldsOf asking saves x x.verdict) (sym same) tt

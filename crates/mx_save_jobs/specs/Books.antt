@@ -11,7 +11,7 @@ use Rattle.mx_save_jobs.specs.declared.job.Job.{Job}
 use Rattle.mx_save_jobs.specs.declared.job.Slot.{Slot}
 use Rattle.mx_save_jobs.specs.declared.job.Slot.TheVariants as slot
 use Rattle.mx_save_jobs.specs.Lines.{LinesValue, ToldValue}
-use Rattle.mx_save_jobs.specs.Jobs.{Asks, BookValue, HasEnded, IsTold, Saves, job_at, job_of}
+use Rattle.mx_save_jobs.specs.Jobs.{Asks, BookValue, HasEnded, IsTold, Saves, is_told_saved, job_at, job_of}
 
 -- no URL was read yet
 pub record IsFreshBook {W : Type 0} (a : Asking) (l : LedgerValue OutcomeValue) (ls : LinesValue W) (ss : List Slot) (b : BookValue W) : Type 0 where
@@ -73,8 +73,10 @@ awaits t (slot.Added job ticket) = ticket.0 == t.0
 abbrev pub awaits_at : List Slot → ℕ → Ticket → Bool
 awaits_at slots i t = option_map_or (awaits t) (slice_get slots i) false
 
--- All URLs have ended: what was told holds, of each URL something was told, and as many ends were told as there are URLs.
+-- All URLs have ended: what was told holds, of each URL something was told, and as many ends were told as there are URLs;
+-- and no more bodies were saved than URLs were told as saved: of one that failed, or was skipped, nothing was.
 pub record HaveEnded (asking : Asking) (urls : List (List ℕ)) (saves : Saves) (told : List ToldValue) : Type 0 where
   pub holds : AllByRecursion (IsTold asking urls saves) told
   pub each : (place : ℕ) → place < length urls → HasEnded told place
   pub count : length told ≡ length urls
+  pub owed : length saves ≡ count_by is_told_saved told

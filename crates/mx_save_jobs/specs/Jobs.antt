@@ -1,5 +1,5 @@
 -- The URLs of a run, and what each ended with.
-use Rattle.std.specs.Prelude.{◌≡◌, ◌⊎◌, ℕ, ◌+◌, ◌<◌, ◌≤◌, Bool, true, false, List, [], ◌∷◌, ◌++◌, length, map, count_by, Option, Some, None, Ok, slice_get, ⊤}
+use Rattle.std.specs.Prelude.{◌≡◌, ◌⊎◌, ℕ, ◌+◌, ◌<◌, ◌≤◌, Bool, true, false, List, [], ◌∷◌, ◌++◌, length, map, count_by, Option, Some, None, IsSome, Ok, slice_get, ⊤}
 use Rattle.std.specs.Option.{option_map_or}
 use Rattle.std.specs.List.{Contains, AllByRecursion}
 use Rattle.mx_types.specs.declared.code.Code.TheVariants as code
@@ -61,12 +61,16 @@ pub record IsDoneEnd (asking : Asking) (e : EndValue) : Type 0 where
   pub decided : IsDecision outcome.code outcome.last.request.method outcome.status asking.content_on_error decision.Done
   pub status : e.status ≡ outcome.status
 
+-- a URL that failed: it is said why
+abbrev pub IsFailedEnd : EndValue → Type 0
+IsFailedEnd e = IsSome e.error
+
 -- what was told of a URL holds
 abbrev pub HoldsOf : Asking → Saves → EndValue → Verdict → Type 0
 HoldsOf asking saves e verdict.Saved = IsSavedEnd asking saves e
 HoldsOf asking saves e verdict.Done = IsDoneEnd asking e
 HoldsOf asking saves e verdict.Skipped = ⊤
-HoldsOf asking saves e verdict.Failed = ⊤
+HoldsOf asking saves e verdict.Failed = IsFailedEnd e
 
 -- of the URL at the place that was told
 pub record IsTold (asking : Asking) (urls : List (List ℕ)) (saves : Saves) (t : ToldValue) : Type 0 where
@@ -110,8 +114,15 @@ IsPending slots place = (i : ℕ) × (job : Job) × (job_at slots i ≡ Some job
 abbrev pub HasEnded : List ToldValue → ℕ → Type 0
 HasEnded told place = (t : ToldValue) × Contains told t × (t.place ≡ place)
 
+abbrev pub is_saved : Verdict → Bool
+is_saved verdict.Saved = true
+is_saved _ = false
+
+abbrev pub is_told_saved : ToldValue → Bool
+is_told_saved t = is_saved t.end.verdict
+
 -- Each URL stands in a slot, or it has ended, and there are as many ends as URLs that don't stand in one. What was told holds. No two of
--- the names are alike, and nothing was saved but under a name that was given.
+-- the names are alike, and nothing was saved but under a name that was given; and as many bodies were saved as URLs were told as saved.
 pub record IsBook (b : State) (n : ℕ) (names : List (List ℕ)) : Type 0 where
   pub read : n ≡ length b.urls
   pub bases : names ≡ map base_name b.named
@@ -122,7 +133,13 @@ pub record IsBook (b : State) (n : ℕ) (names : List (List ℕ)) : Type 0 where
   pub told : AllByRecursion (IsTold b.asking b.urls b.saves) b.told
   pub each : (place : ℕ) → place < length b.urls → IsPending b.slots place ⊎ HasEnded b.told place
   pub count : length b.urls ≡ count_by is_taken b.slots + length b.told
+  pub owed : length b.saves ≡ count_by is_told_saved b.told
 
 -- the saves grow by this name, if they do
 abbrev pub GrowsBy : List ℕ → Saves → Saves → Type 0
 GrowsBy name old new = (new ≡ old) ⊎ ((outcome : OutcomeValue) × (new ≡ (name, outcome) ∷ old))
+
+-- they grow by one where a URL is told as saved, and only there
+abbrev pub GrowsFor : List ℕ → Verdict → Saves → Saves → Type 0
+GrowsFor name v old new =
+    ((is_saved v ≡ false) × (new ≡ old)) ⊎ ((is_saved v ≡ true) × (outcome : OutcomeValue) × (new ≡ (name, outcome) ∷ old))

@@ -2,3 +2,4 @@ pub mod Bodies
 pub mod Books
 pub mod Jobs
 pub mod Lines
+pub mod Said

@@ -21,6 +21,7 @@ use mx_retry::{delay_ms, is_retried};
 use mx_run_save::{End, SaveCode, Transferred};
 use mx_save::Ledger;
 use mx_types::{Code, History, OutOfMemory, Ticket};
+use mx_words::code_words;
 use std::alloc::Global;
 use std::io::Write;
 use std::marker::Model;
@@ -134,7 +135,8 @@ impl<F: Folder, W: Write> Book<F, W> {
             return Err(Stop::OutOfMemory);
         };
         self.urls.show(&url);
-        let end = End::failed(url, SaveCode::Transfer(code), untried(), None);
+        let words = String::from_str(self.alloc, code_words(code))?;
+        let end = End::failed(url, SaveCode::Transfer(code), untried(), Some(words));
         self.lines.tell(self.read, end)?;
         self.read = read;
         self.is_stopped = false;

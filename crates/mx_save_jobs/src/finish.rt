@@ -5,29 +5,21 @@ ghost use Rattle.mx_save.specs.Ledgers.{IsFresh};
 ghost use Rattle.mx_run_save.specs.Codes.{save_number};
 ghost use Rattle.mx_run_save.specs.Decisions.{IsDecision};
 ghost use Rattle.mx_run_save.specs.declared.decision.Decision.TheVariants as decision;
-ghost use Rattle.mx_save_jobs.specs.Jobs.{Asks, GrowsBy, HoldsOf};
+ghost use Rattle.mx_save_jobs.specs.Jobs.{Asks, GrowsFor, HoldsOf};
 
 use crate::asking::Asking;
 use crate::body::WholeBody;
 use crate::framing::framing_of;
 use crate::job::Job;
+use crate::words::failure_words;
 use mx_chain::Outcome;
 use mx_file_name::FileName;
-use mx_folder::Folder;
+use mx_folder::{Folder, FolderError};
+use mx_run_get::last_method;
 use mx_run_save::{Decision, End, SaveCode, Transferred, verdict_of};
 use mx_save::{Ledger, SaveError};
-use mx_types::{Code, Method};
+use mx_types::Code;
 use std::alloc::{AllocError, Global};
-
-// The method of the last request.
-pub(crate) fn last_method(outcome: &Outcome) -> Method
-    ensures { result ≡ outcome.now.last.request.method }
-{
-    match outcome.hop_request(outcome.hops() - 1) {
-        Some(request) => request.method(),
-        None => unreachable!(),
-    }
-}
 
 // What is told of a transfer.
 fn transferred(outcome: &Outcome, tries: u32) -> Transferred
@@ -48,7 +40,11 @@ fn code_of(error: SaveError) -> SaveCode
     ensures { save_number result ≢ 0 }
 {
     match error {
-        SaveError::OutOfMemory => SaveCode::Transfer(Code::OutOfMemory),
+        SaveError::OutOfMemory
+        | SaveError::Create(FolderError::OutOfMemory)
+        | SaveError::Write(FolderError::OutOfMemory)
+        | SaveError::Flush(FolderError::OutOfMemory)
+        | SaveError::Place(FolderError::OutOfMemory) => SaveCode::Transfer(Code::OutOfMemory),
         _ => SaveCode::WriteError,
     }
 }
@@ -65,7 +61,7 @@ fn save<F: Folder>(
     requires decided { IsDecision outcome.code outcome.last.request.method outcome.status asking.now.content_on_error decision.Save }
     requires asked { Asks asking.now job.url.items outcome.request }
     ensures url { IfOk result (λ end. end.url ≡ job.url.items) }
-    ensures grows { GrowsBy job.name ledger.old.entries ledger.new.entries }
+    ensures grows { IfOk result (λ end. GrowsFor job.name end.verdict ledger.old.entries ledger.new.entries) }
     ensures holds { IfOk result (λ end. HoldsOf asking.now ledger.new.entries end end.verdict) }
     ensures run { (ledger.new.start ≡ ledger.old.start) × (ledger.new.flush ≡ ledger.old.flush) }
 {
@@ -96,7 +92,7 @@ pub(crate) fn finish<F: Folder>(
     requires fresh { IsFresh job.name ledger.old.entries }
     requires asked { Asks asking.now job.url.items outcome.request }
     ensures url { IfOk result (λ end. end.url ≡ job.url.items) }
-    ensures grows { GrowsBy job.name ledger.old.entries ledger.new.entries }
+    ensures grows { IfOk result (λ end. GrowsFor job.name end.verdict ledger.old.entries ledger.new.entries) }
     ensures holds { IfOk result (λ end. HoldsOf asking.now ledger.new.entries end end.verdict) }
     ensures run { (ledger.new.start ≡ ledger.old.start) × (ledger.new.flush ≡ ledger.old.flush) }
 {
@@ -111,7 +107,8 @@ pub(crate) fn finish<F: Folder>(
         }
         Decision::Fail(code) => {
             let told = transferred(&outcome, job.tries);
-            Ok(End::failed(job.url, code, told, None))
+            let words = failure_words(alloc, &outcome)?;
+            Ok(End::failed(job.url, code, told, Some(words)))
         }
     }
 }

@@ -10,6 +10,7 @@ mod job;
 mod lines;
 mod stop;
 mod tally;
+mod words;
 
 pub use crate::asking::Asking;
 pub use crate::body::WholeBody;

@@ -1,8 +1,8 @@
 //! What is said of a run on standard error: which URLs failed, and how it stands.
 use mx_run_io::Output;
-use mx_run_save::{End, SaveCode, Verdict};
+use mx_run_save::{End, SaveCode};
 use mx_save_urls::{Standing, Watch};
-use mx_words::{code_words, print_words};
+use mx_words::{print_failure, print_file_limit, print_words};
 use std::alloc::{AllocError, Global};
 use std::io::Write;
 
@@ -18,15 +18,6 @@ pub struct Terminal<E: Write> {
     shows: bool,
     text: String,
     is_up: bool,
-}
-
-// What is said of a code, where nothing else is said of a failure.
-fn words_of(code: SaveCode) -> &'static str {
-    match code {
-        SaveCode::Transfer(code) => code_words(code),
-        SaveCode::HttpReturnedError => "the status of the response isn't 2xx",
-        SaveCode::WriteError => "the file couldn't be written",
-    }
 }
 
 // A number of bytes in a unit in which it has few digits.
@@ -84,6 +75,15 @@ impl<E: Write> Terminal<E> {
         }
     }
 
+    // Tells of a URL that failed with that code, and flushes.
+    fn tell(&mut self, url: &[u8], words: &str, code: SaveCode) {
+        let _ = match code {
+            SaveCode::Transfer(code) => print_failure(&mut self.output, url, words, code),
+            _ => print_words(&mut self.output, url, words, u32::from(code.number())),
+        };
+        let _ = self.output.flush();
+    }
+
     // Puts the line up.
     fn put_up(&mut self) {
         let text = self.text.as_str();
@@ -120,11 +120,14 @@ impl<E: Write> Watch for Terminal<E> {
     }
 
     fn say(&mut self, end: &End) {
-        if end.verdict() == Verdict::Failed {
-            let code = end.code();
-            let words = end.error().unwrap_or(words_of(code));
-            let _ = print_words(&mut self.output, end.url(), words, u32::from(code.number()));
-            let _ = self.output.flush();
+        if let Some(words) = end.error() {
+            self.tell(end.url(), words, end.code());
         }
+    }
+
+    fn meet_file_limit(&mut self) {
+        self.hide();
+        let _ = print_file_limit(&mut self.output, true);
+        let _ = self.output.flush();
     }
 }

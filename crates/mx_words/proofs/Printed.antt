@@ -5,9 +5,7 @@ use Rattle.std.specs.Io.KnownBytes.{Appends}
 use Rattle.std.proofs.KnownBytes.{Appends-trans}
 use Rattle.mx_types.specs.declared.code.Code.{Code}
 use Rattle.mx_types.specs.Code.{code_number}
-use Rattle.mx_reason.specs.declared.reason.Reason.{Reason}
 use Rattle.mx_words.specs.declared.hint.Hint.{Hint}
-use Rattle.mx_words.specs.Words.{told_text}
 use Rattle.mx_words.specs.Hints.{IsUrlHint}
 use Rattle.mx_words.specs.Lines.{failure_line, hint_line, IsFailureText, Writes}
 
@@ -28,12 +26,13 @@ hint_printed (Ok a) old mid new line hint due is first more =
 hint_printed (Err e) old mid new line hint due is first more = tt
 
 -- so it is with the line of a URL
-pub failure_printed : {A E : Type 0} (r : Result A E) (old mid new : Option (List ℕ)) (url : List ℕ) (c : Code) (reason : Option Reason)
+pub failure_printed : {A E : Type 0} (r : Result A E) (words : Option (List ℕ)) (old mid new : Option (List ℕ)) (url : List ℕ) (c : Code)
     (number : ℕ) (hint : Option Hint) → number ≡ code_number c → IsUrlHint url c hint
-    → Appends old mid (failure_line url (told_text c reason) number)
-    → OnOk r (Appends mid new (hint_line hint)) → OnOk r (Writes (IsFailureText url c reason) (Appends old new))
-failure_printed (Ok a) old mid new url c reason number hint is due first more =
-    let line = failure_line url (told_text c reason) (code_number c) in
-    let printed : Appends old mid line = subst (λ n. Appends old mid (failure_line url (told_text c reason) n)) is first in
+    → IfSome words (λ text. Appends old mid (failure_line url text number))
+    → OnOk r (Appends mid new (hint_line hint)) → OnOk r (IfSome words (λ text. Writes (IsFailureText url c text) (Appends old new)))
+failure_printed (Ok a) (Some text) old mid new url c number hint is due first more =
+    let line = failure_line url text (code_number c) in
+    let printed : Appends old mid line = subst (λ n. Appends old mid (failure_line url text n)) is first in
     (line ++ hint_line hint, record { hint = hint; due = due; is = refl }, Appends-trans old mid new line (hint_line hint) printed more)
-failure_printed (Err e) old mid new url c reason number hint is due first more = tt
+failure_printed (Ok a) None old mid new url c number hint is due first more = tt
+failure_printed (Err e) words old mid new url c number hint is due first more = tt

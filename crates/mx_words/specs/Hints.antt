@@ -8,12 +8,13 @@ use Rattle.mx_reason.specs.declared.reason.What.{What}
 use Rattle.mx_reason.specs.declared.reason.What.TheVariants as what
 use Rattle.mx_reason.specs.declared.reason.Fault.TheVariants as fault
 use Rattle.mx_words.specs.declared.hint.Hint.{Hint}
-use Rattle.mx_words.specs.declared.hint.Hint.TheVariants.{NoScheme, Https, NotRaw}
+use Rattle.mx_words.specs.declared.hint.Hint.TheVariants.{NoScheme, Https, NotRaw, FileLimit}
 
 abbrev pub hint_words : Hint → List ℕ
 hint_words NoScheme = codes "a URL begins with http://"
 hint_words Https = codes "there is no TLS here, so https can't be fetched"
 hint_words NotRaw = codes "a response is read as it came: curl saves it with -si --raw --http1.1"
+hint_words FileLimit = codes "too many files were open for a connection: ulimit -n allows more, --at-once fewer transfers"
 
 -- the codes with which a URL is refused
 abbrev pub is_url_code : Code → Bool
@@ -34,6 +35,11 @@ pub record IsUrlHint (url : List ℕ) (c : Code) (hint : Option Hint) : Type 0 w
   pub http : BeginsInAnyCase (codes "http:") url → ¬ (BeginsInAnyCase (codes "https:") url) → hint ≡ None
   pub other : is_url_code c ≡ true → ¬ (BeginsInAnyCase (codes "https:") url) → ¬ (BeginsInAnyCase (codes "http:") url)
       → hint ≡ Some NoScheme
+
+-- to a run that met the limit of open files
+abbrev pub file_limit_hint : Bool → Option Hint
+file_limit_hint true = Some FileLimit
+file_limit_hint false = None
 
 -- Where a response's first line is no status line, or a chunk's size is none, it may have been saved otherwise than it came.
 abbrev pub what_hint : What → Option Hint

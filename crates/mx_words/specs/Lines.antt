@@ -36,11 +36,11 @@ abbrev pub hint_line : Option Hint → List ℕ
 hint_line None = []
 hint_line (Some hint) = codes "  hint: " ++ (hint_words hint ++ 10 ∷ [])
 
--- what is told of a URL that failed: its line, and a hint where one is due
-pub record IsFailureText (url : List ℕ) (c : Code) (reason : Option Reason) (text : List ℕ) : Type 0 where
+-- what is told of a URL that failed: its line with the words, and a hint where one is due
+pub record IsFailureText (url : List ℕ) (c : Code) (words text : List ℕ) : Type 0 where
   pub hint : Option Hint
   pub due : IsUrlHint url c hint
-  pub is : text ≡ failure_line url (told_text c reason) (code_number c) ++ hint_line hint
+  pub is : text ≡ failure_line url words (code_number c) ++ hint_line hint
 
 -- what is written is such a text
 abbrev pub Writes : (List ℕ → Type 0) → (List ℕ → Type 0) → Type 0

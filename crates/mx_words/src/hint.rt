@@ -1,6 +1,6 @@
 //! What is said to the mistakes that everybody makes first.
 ghost use Rattle.std.specs.Prelude.{◌≡◌, ◌↔◌, IsTrue, Some};
-ghost use Rattle.mx_words.specs.Hints.{is_url_code, BeginsInAnyCase, IsUrlHint, hint_words, body_hint};
+ghost use Rattle.mx_words.specs.Hints.{is_url_code, BeginsInAnyCase, IsUrlHint, hint_words, body_hint, file_limit_hint};
 
 use mx_reason::{Fault, Reason, What};
 use mx_types::Code;
@@ -14,6 +14,8 @@ pub enum Hint {
     Https,
     /// A response was changed when it was saved.
     NotRaw,
+    /// Too many files were open for a connection.
+    FileLimit,
 }
 
 impl Hint {
@@ -26,6 +28,9 @@ impl Hint {
             Hint::Https => "there is no TLS here, so https can't be fetched",
             Hint::NotRaw => {
                 "a response is read as it came: curl saves it with -si --raw --http1.1"
+            }
+            Hint::FileLimit => {
+                "too many files were open for a connection: ulimit -n allows more, --at-once fewer transfers"
             }
         }
     }
@@ -59,6 +64,13 @@ pub fn url_hint(url: &[u8], code: Code) -> Option<Hint>
         return None;
     }
     Some(Hint::NoScheme)
+}
+
+/// What is said of a run, if anything: where it `met` the limit of open files, that it did.
+pub fn file_limit_hint(met: bool) -> Option<Hint>
+    ensures { result ≡ file_limit_hint met }
+{
+    if met { Some(Hint::FileLimit) } else { None }
 }
 
 /// What is said to a response that isn't whole for that reason, if anything: where its first line is no status line, or a chunk's size is

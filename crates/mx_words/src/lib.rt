@@ -8,7 +8,9 @@ mod reason;
 mod told;
 
 pub use crate::code::code_words;
-pub use crate::hint::{Hint, body_hint, url_hint};
-pub use crate::line::{print_body_failure, print_cause, print_failure, print_words, shown};
+pub use crate::hint::{Hint, body_hint, file_limit_hint, url_hint};
+pub use crate::line::{
+    print_body_failure, print_cause, print_failure, print_file_limit, print_words, shown,
+};
 pub use crate::reason::fault_words;
 pub use crate::told::Told;

@@ -4,12 +4,13 @@ ghost use Rattle.percent_encoding.specs.Iter.{encoded_text};
 ghost use Rattle.mx_types.specs.Code.{code_number};
 ghost use Rattle.mx_run_io.specs.Ends.{has_failed_write, Wrote};
 ghost use Rattle.mx_words.specs.Words.{told_text};
-ghost use Rattle.mx_words.specs.Hints.{IsUrlHint, body_hint};
+ghost use Rattle.mx_words.specs.Hints.{IsUrlHint, body_hint, file_limit_hint};
 ghost use Rattle.mx_words.specs.Lines.{shown, line_front, line_back, failure_line, hint_line, body_line, body_lines, IsFailureText, Writes};
 
-use crate::hint::{Hint, body_hint, url_hint};
+use crate::hint::{Hint, body_hint, file_limit_hint, url_hint};
 use crate::told::Told;
 use mx_run_io::{Output, WriteFailed};
+use mx_types::Code;
 use percent_encoding::{AsciiSet, CONTROLS, PercentEncode, ascii_set, percent_encode};
 use std::fmt::Display;
 use std::io::Write;
@@ -71,18 +72,34 @@ fn print_hint<W: Write>(output: &mut Output<W>, hint: Option<Hint>) -> Result<()
     }
 }
 
-/// Prints what is told of a URL that failed, a line, and behind it the line of a hint where there is one.
-pub fn print_failure<W: Write>(
+/// Prints what is told of a URL that failed with that code: a line with the words, and behind it the line of a hint where the code and the URL
+/// call for one.
+pub fn print_failure<W: Write, D: Display + Drop>(
     output: &mut Output<W>,
     url: &[u8],
-    told: Told,
+    words: D,
+    code: Code,
 ) -> Result<(), WriteFailed>
-    ensures bytes { OnOk result (Writes (IsFailureText url.now told.code told.reason) (Wrote W.contents output.old output.new)) }
+    ensures bytes { OnOk result (IfSome (D.output words) (λ text. Writes (IsFailureText url.now code text) (Wrote W.contents output.old output.new))) }
     ensures failed { IsErr result ↔ (has_failed_write output.new ≡ true) }
 {
-    let hint = url_hint(url, told.code);
-    print_words(output, url, told, told.code.number())?;
+    let hint = url_hint(url, code);
+    print_words(output, url, words, code.number())?;
     print_hint(output, hint)
+}
+
+/// Prints what is said of a run that met the limit of open files, and nothing of another.
+pub fn print_file_limit<W: Write>(output: &mut Output<W>, met: bool) -> Result<(), WriteFailed>
+    ensures bytes { OnOk result (Wrote W.contents output.old output.new (hint_line (file_limit_hint met))) }
+    ensures failed { IsErr result → has_failed_write output.new ≡ true }
+{
+    match file_limit_hint(met) {
+        Some(hint) => {
+            let words = hint.as_str();
+            output.print(format_args!("  hint: {words}\n"))
+        }
+        None => Ok(()),
+    }
 }
 
 /// Prints the line of a run that failed as a whole: what is said of it, and the number of its code.
