@@ -1,6 +1,7 @@
 """The cases of checks/get.sh: what servers do, and what is expected of `mxfetch get`."""
 
 import os
+import resource
 import socket
 import subprocess
 import sys
@@ -218,6 +219,22 @@ def case_at_once():
         run_with(["--workers", workers], 1 if workers == "1" else 20)
         for width in (1, 3, 19, 256):
             run_with(["--workers", workers, "--at-once", str(width)], 1 if workers == "1" else min(width, 20))
+
+
+def case_too_many_open_files():
+    hint = b"  hint: too many files were open for a connection: ulimit -n allows more, --at-once fewer transfers\n"
+
+    def run_with(words):
+        return subprocess.run([PROGRAM, "get", "--explain"] + words + urls, stdin=subprocess.DEVNULL, capture_output=True, timeout=60,
+                              preexec_fn=lambda: resource.setrlimit(resource.RLIMIT_NOFILE, (24, 24)))
+
+    with Server(keeping) as server:
+        urls = [server.url(f"/{number}") for number in range(150)]
+        run = run_with([])
+        want(run.returncode == 7, f"exit status {run.returncode}")
+        want(run.stderr.endswith(b" (7)\n" + hint) and run.stderr.count(b"  hint: ") == 1, f"{run.stderr[-300:]!r}")
+        run = run_with(["--at-once", "4"])
+        want(run.returncode == 0 and run.stderr == b"", f"exit status {run.returncode}, {run.stderr[-300:]!r}")
 
 
 def case_257_urls():

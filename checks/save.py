@@ -5,6 +5,7 @@ import os
 import pty
 import random
 import re
+import resource
 import signal
 import subprocess
 import sys
@@ -12,7 +13,7 @@ import threading
 import time
 
 import hostile
-from saving import (WORDS, Saved, files_in, folder, make_read_only, parts_in, small_disk, start, want_files, want_lines)
+from saving import (WORDS, Saved, files_in, folder, make_read_only, parse, parts_in, small_disk, start, want_files, want_lines)
 from servers import (MIB, PROGRAM, WORK, Nginx, Server, Wrong, body_of, chunked, counted, keeping, read_head, read_request, until_closed,
                      want)
 
@@ -371,9 +372,9 @@ def case_json():
         wanted = {
             server.url("/200"): ("saved", 0, 200, 4, "200", 1, 1, "length", None),
             server.url("/201"): ("skipped", 0, 0, 0, "201", 0, 0, None, None),
-            server.url("/404"): ("failed", 22, 404, 0, None, 1, 1, "length", None),
-            server.url("/500"): ("failed", 22, 500, 0, None, 1, 1, "length", None),
-            "ftp://a/": ("failed", 1, 0, 0, None, 0, 0, None, None),
+            server.url("/404"): ("failed", 22, 404, 0, None, 1, 1, "length", "the status of the response isn't 2xx"),
+            server.url("/500"): ("failed", 22, 500, 0, None, 1, 1, "length", "the status of the response isn't 2xx"),
+            "ftp://a/": ("failed", 1, 0, 0, None, 0, 0, None, "the scheme isn't http"),
         }
         want(found == wanted, f"{ {url: one for url, one in found.items() if wanted.get(url) != one} }")
 
@@ -459,20 +460,42 @@ def case_words_of_failures():
             path = read[0].split(b" ")[1]
             if path == b"/cut":
                 return connection.sendall(b"HTTP/1.1 200 OK\r\nContent-Length: 9\r\n\r\nhalf")
+            if path == b"/bad":
+                return connection.sendall(b"HTTP/1.1 200 OK\r\nTransfer-Encoding: chunked\r\n\r\n5\r\nhello\r\nx")
             connection.sendall(counted(b"there") if path == b"/there" else counted(b"no", "HTTP/1.1 404 Not Found"))
 
     with Server(serve) as server:
-        rows = [("/missing", 22, b"the status of the response isn't 2xx"), ("/cut", 18, b""), ("/there", 0, None)]
-        urls = [server.url(path) for path, _, _ in rows] + ["ftp://127.0.0.1/x", "http://127.0.0.1:1/"]
-        codes = {url: code for url, (_, code, _) in zip(urls, rows)} | {urls[3]: 1, urls[4]: 7}
-        run = Saved(urls, folder())
-        said = [WORDS.fullmatch(line) for line in run.err.splitlines()]
-        want(all(said), f"{run.err!r}")
-        told = sorted((match[1].decode(), int(match[3])) for match in said)
-        want(told == sorted((url, code) for url, code in codes.items() if code), f"{run.err!r}")
-        for url, (_, _, words) in zip(urls, rows):
-            want(not words or any(match[1] == url.encode() and match[2] == words for match in said), f"{run.err!r}")
+        rows = [(server.url("/missing"), 22, "the status of the response isn't 2xx"),
+                (server.url("/cut"), 18, "the response ended within its body: 4 of 9 bytes of the body came"),
+                (server.url("/bad"), 56, "the response is refused at byte 58: it can't stand in the line of a chunk's size (RFC 9112, section 7.1)"),
+                (server.url("/there"), 0, None), ("http://127.0.0.1:1/", 7, "the connection was refused, or could not be made"),
+                ("127.0.0.1/x", 3, "the URL doesn't parse, or has a user name or a password"), ("https://127.0.0.1/", 1, "the scheme isn't http")]
+        hints = {"127.0.0.1/x": "a URL begins with http://", "https://127.0.0.1/": "there is no TLS here, so https can't be fetched"}
+        wanted = [f"mxfetch: {url}: {words} ({code})" + (f"\n  hint: {hints[url]}" if url in hints else "") for url, code, words in rows if code]
+        run = Saved([url for url, _, _ in rows], folder())
+        said = re.split(r"\n(?=mxfetch: )", run.err.decode().rstrip("\n"))
+        want(sorted(said) == sorted(wanted), f"{run.err!r}")
         want(run.status == 22, f"exit status {run.status}")
+        found = {one["url"]: one["error"] for one in Saved(["--json"] + [url for url, _, _ in rows], folder()).objects()}
+        want(found == {url: words for url, _, words in rows}, f"{found}")
+
+
+def case_too_many_open_files():
+    with Server(keeping) as server:
+        into, urls = folder(), [server.url(f"/{number}") for number in range(150)]
+        child = start(["--at-once", "150", "--into", into] + urls, stdout=subprocess.PIPE, stderr=subprocess.PIPE,
+                      preexec_fn=lambda: resource.setrlimit(resource.RLIMIT_NOFILE, (24, 24)))
+        out, err = child.communicate(timeout=60)
+        codes = [line[1] for line in parse(out)]
+        want(len(codes) == 150 and 7 in codes and set(codes) <= {0, 7, 23}, f"{codes}")
+        hint = b"  hint: too many files were open for a connection: ulimit -n allows more, --at-once fewer transfers\n"
+        want(err.endswith(hint) and err.count(b"  hint: ") == 1, f"{err[-300:]!r}")
+        # with fewer at once all are saved, and nothing is said
+        into = folder()
+        child = start(["--at-once", "4", "--workers", "1", "--into", into] + urls, stdout=subprocess.PIPE, stderr=subprocess.PIPE,
+                      preexec_fn=lambda: resource.setrlimit(resource.RLIMIT_NOFILE, (24, 24)))
+        out, err = child.communicate(timeout=60)
+        want({line[1] for line in parse(out)} == {0} and err == b"", f"{err[-300:]!r}")
 
 
 def screen(came):
