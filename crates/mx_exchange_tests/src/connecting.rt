@@ -3,7 +3,6 @@
 use futures::task::Poll;
 use futures::test::MockTask;
 use mx_link::{Called, Link, Stream, StreamLink};
-use mx_request::Request;
 use mx_transfer::Transfer;
 use mx_transfer_tests_base::replay::request;
 use mx_transfer_tests_base::responses::COUNTED;
@@ -63,18 +62,6 @@ impl Stream for SlowStream {
     }
 }
 
-type SlowLink = StreamLink<SlowStream>;
-
-fn link(waits: u32, is_refused: bool) -> SlowLink {
-    let stream = SlowStream {
-        waits,
-        is_refused,
-        given: 0,
-        results: History::new(),
-    };
-    StreamLink::over(stream, 9)
-}
-
 /// The code, or nothing where it is pending or has ended before.
 fn poll<L: Link>(task: &MockTask, transfer: &mut Transfer<L>) -> Option<Code> {
     if transfer.spent() {
@@ -116,70 +103,53 @@ fn take_polls<L: Link>(task: &MockTask, transfer: &mut Transfer<L>) -> Polls {
     }
 }
 
-fn polls_of<R: RandomSource + AllocGlobal, L: Link>(
-    rt: &R,
-    transfer: &mut Transfer<L>,
-) -> Result<Polls, Fail> {
-    let task = MockTask::new(rt)?;
-    Ok(take_polls(&task, transfer))
-}
-
-/// Hands over the link, and polls.
-fn with_link<R: RandomSource + AllocGlobal, L: Link>(
-    rt: &R,
-    transfer: &mut Transfer<L>,
-    link: L,
-) -> Result<Polls, Fail> {
-    if transfer.wants().is_some() {
-        transfer.attach(link, false);
-    }
-    polls_of(rt, transfer)
-}
-
-fn with_request<R: RandomSource + AllocGlobal, L: Link>(
-    rt: &R,
-    request: Request,
-    link: L,
-) -> Result<Polls, Fail> {
-    let mut transfer = Transfer::new(rt.alloc(), request);
-    let polls = with_link(rt, &mut transfer, link);
-    drop(transfer);
-    polls
-}
-
+/// Hands over a link, and polls.
 fn connect<R: RandomSource + AllocGlobal>(
     rt: &R,
     waits: u32,
     is_refused: bool,
 ) -> Result<Polls, Fail> {
+    let task = MockTask::new(rt)?;
     let request = request(rt.alloc(), Method::Get, "http://127.0.0.1/", 0, 0)?;
-    with_request(rt, request, link(waits, is_refused))
+    let stream = SlowStream {
+        waits,
+        is_refused,
+        given: 0,
+        results: History::new(),
+    };
+    let mut transfer = Transfer::new(rt.alloc(), request);
+    if transfer.wants().is_some() {
+        transfer.attach(StreamLink::over(stream, 9), false);
+    }
+    let polls = take_polls(&task, &mut transfer);
+    drop(transfer);
+    Ok(polls)
 }
+
+/// What is seen of a connection that stands at the third poll.
+const STANDS: Polls = Polls {
+    token: Some(9),
+    codes: [None, None, Some(Code::Ok)],
+    asleep: true,
+    woken: true,
+    received: 43,
+    code: Some(Code::Ok),
+};
 
 #[test]
 fn a_connection_takes_its_polls(rt: HostRuntime) -> Result<(), Fail> {
-    let seen = Polls {
-        token: Some(9),
-        codes: [None, None, Some(Code::Ok)],
-        asleep: true,
-        woken: true,
-        received: 43,
-        code: Some(Code::Ok),
-    };
-    assert_eq!(rt; connect(&rt, 2, false)?, seen);
+    assert_eq!(rt; connect(&rt, 2, false)?, STANDS);
     Ok(())
 }
 
 #[test]
 fn a_connection_that_fails_is_code_7(rt: HostRuntime) -> Result<(), Fail> {
-    let seen = Polls {
-        token: Some(9),
+    let fails = Polls {
         codes: [None, Some(Code::CouldntConnect), None],
-        asleep: true,
-        woken: true,
         received: 0,
         code: Some(Code::CouldntConnect),
+        ..STANDS
     };
-    assert_eq!(rt; connect(&rt, 1, true)?, seen);
+    assert_eq!(rt; connect(&rt, 1, true)?, fails);
     Ok(())
 }

@@ -1,61 +1,78 @@
 //! A link that fails or ends at each read and at each write of one transfer: the code, and the bytes that came before.
 
-use crate::tests::{CHUNKED, LOST, one_by_one};
+use crate::rows::{Ends, Row, is_so};
+use crate::table::{CHUNKED, GET, LOST, SERVED};
+use mx_link::ScriptRead::{Bytes, End, Fault, WouldBlock};
 use mx_link::{ScriptRead, Write};
-use mx_transfer_tests_base::replay::{
-    Call, Ended, Waiting, Wanted, failed, hello, is_seen, request,
-};
-use mx_types::{Code, Method};
+use mx_transfer_tests_base::replay::Call::{Fresh, Poll, Reused};
+use mx_transfer_tests_base::replay::{Call, Waiting};
+use mx_types::Code;
 use std::alloc::{AllocError, AllocGlobal, Global};
-use std::process::Abort;
 use std::random::RandomSource;
 use std::test::Fail;
 
-/// What is asked for: the request has 56 bytes.
-const HERE: &str = "http://127.0.0.1:8080/a?b";
+/// A GET whose request has 56 bytes.
+const SHORT: Row<'static> = Row {
+    url: "http://127.0.0.1:8080/a?b",
+    ..GET
+};
 
-/// It has read as often as a poll does, and goes on with the next.
+/// It has read 64 times, as often as a poll does at most, and asks for the next.
 const READING: Waiting = Waiting {
     asks: true,
-    wants: Wanted::Nothing,
-    started: true,
     received: 64,
-    deadline: None,
+    ..SERVED
 };
 
 /// From which read of `CHUNKED`, a byte each, to which; what that read answers instead; and the code and the status with which the
 /// transfer ends then. The head has 47 bytes.
 static READS: [(usize, usize, ScriptRead<'static>, Code, u16); 5] = [
-    (0, 46, ScriptRead::Fault, Code::RecvError, 0),
-    (47, 71, ScriptRead::Fault, Code::RecvError, 200),
-    (0, 0, ScriptRead::End, Code::GotNothing, 0),
-    (1, 46, ScriptRead::End, Code::WeirdServerReply, 0),
-    (47, 71, ScriptRead::End, Code::PartialFile, 200),
+    (0, 46, Fault, Code::RecvError, 0),
+    (47, 71, Fault, Code::RecvError, 200),
+    (0, 0, End, Code::GotNothing, 0),
+    (1, 46, End, Code::WeirdServerReply, 0),
+    (47, 71, End, Code::PartialFile, 200),
 ];
 
-/// Of a GET this is seen over these calls.
-fn sees<R: Abort + RandomSource + AllocGlobal>(
+/// Reads of one byte each, so many of `CHUNKED`.
+fn one_by_one(alloc: Global, count: usize) -> Result<Vec<ScriptRead<'static>>, AllocError> {
+    let mut reads = Vec::new(alloc);
+    for at in 0..count.min(72) {
+        reads.push(Bytes(&CHUNKED[at..at + 1]))?;
+    }
+    Ok(reads)
+}
+
+/// Over these calls of it this is seen.
+fn sees<R: RandomSource + AllocGlobal>(
     rt: &R,
     calls: &[Call<'_>],
     waits: &[Waiting],
-    ended: Ended<'_>,
+    ends: Ends<'_>,
 ) -> Result<(), Fail> {
-    let request = request(rt.alloc(), Method::Get, HERE, 0, 0)?;
-    is_seen(rt, request, calls, waits, Some(ended))
+    let row = Row {
+        calls,
+        waits,
+        ends,
+        ..SHORT
+    };
+    is_so(rt, &row)
 }
 
-/// It ends so at that read, the last of these, with the bytes before it.
-fn ends_at_read<R: Abort + RandomSource + AllocGlobal>(
+/// Over a fresh link that reads so it ends so, in its second poll where there are more reads than one poll has.
+fn ends_by<R: RandomSource + AllocGlobal>(
     rt: &R,
     reads: &[ScriptRead<'_>],
-    at: usize,
-    code: Code,
-    status: u16,
+    ends: Ends<'_>,
 ) -> Result<(), Fail> {
-    let waits: &[Waiting] = if at < 64 { &[] } else { &[READING] };
-    let calls = [Call::Fresh(reads, &[]), Call::Poll, Call::Poll];
-    let ended = failed(code, status, &CHUNKED[..at.min(72)]);
-    sees(rt, &calls, waits, ended)
+    let waits: &[Waiting] = if reads.len() > 64 { &[READING] } else { &[] };
+    sees(rt, &[Fresh(reads, &[]), Poll, Poll], waits, ends)
+}
+
+#[test]
+fn a_byte_at_a_time(rt: HostRuntime) -> Result<(), Fail> {
+    let reads = one_by_one(rt.alloc(), 72)?;
+    ends_by(&rt, &reads, Ends::Hello(CHUNKED, 1))
 }
 
 #[test]
@@ -63,9 +80,10 @@ fn a_fault_or_an_end_at_each_read(rt: HostRuntime) -> Result<(), Fail> {
     for row in &READS {
         let (first, last, answer, code, status) = *row;
         for at in first..=last {
-            let mut reads = one_by_one(rt.alloc(), &CHUNKED[..at.min(72)])?;
+            let mut reads = one_by_one(rt.alloc(), at)?;
             reads.push(answer)?;
-            ends_at_read(&rt, &reads, at, code, status)?;
+            let ends = Ends::Failed(code, status, &CHUNKED[..at.min(72)]);
+            ends_by(&rt, &reads, ends)?;
         }
     }
     Ok(())
@@ -73,34 +91,31 @@ fn a_fault_or_an_end_at_each_read(rt: HostRuntime) -> Result<(), Fail> {
 
 /// So many writes of one byte, and one that fails.
 fn fails_at_write(alloc: Global, at: usize) -> Result<Vec<Write>, AllocError> {
-    let mut writes = Vec::new(alloc);
-    for _ in 0..at {
-        writes.push(Write::Bytes(1))?;
-    }
+    let mut writes = vec![in alloc; Write::Bytes(1); at]?;
     writes.push(Write::Fault)?;
     Ok(writes)
 }
 
-/// Over a fresh link that writes so it ends so; and over one that was in use it wants a fresh one first.
-fn ends_over<R: Abort + RandomSource + AllocGlobal>(
+/// Over a fresh link that writes so a transfer ends so; and over one that was in use it wants a fresh one first.
+fn ends_over<R: RandomSource + AllocGlobal>(
     rt: &R,
     writes: &[Write],
-    ended: Ended<'_>,
+    ends: Ends<'_>,
 ) -> Result<(), Fail> {
-    let fresh = Call::Fresh(&[ScriptRead::Bytes(CHUNKED)], writes);
-    let reused = Call::Reused(&[ScriptRead::WouldBlock], writes);
-    sees(rt, &[fresh, Call::Poll], &[], ended)?;
-    sees(rt, &[reused, Call::Poll, fresh, Call::Poll], &[LOST], ended)
+    let fresh = Fresh(&[Bytes(CHUNKED)], writes);
+    let reused = Reused(&[WouldBlock], writes);
+    sees(rt, &[fresh, Poll], &[], ends)?;
+    sees(rt, &[reused, Poll, fresh, Poll], &[LOST], ends)
 }
 
 #[test]
 fn a_fault_at_each_write(rt: HostRuntime) -> Result<(), Fail> {
     for at in 0..56 {
         let writes = fails_at_write(rt.alloc(), at)?;
-        ends_over(&rt, &writes, failed(Code::SendError, 0, b""))?;
+        ends_over(&rt, &writes, Ends::Failed(Code::SendError, 0, b""))?;
     }
     // the request has no 57th byte
     let writes = fails_at_write(rt.alloc(), 56)?;
-    let fresh = Call::Fresh(&[ScriptRead::Bytes(CHUNKED)], &writes);
-    sees(&rt, &[fresh, Call::Poll], &[], hello(CHUNKED, 1))
+    let fresh = Fresh(&[Bytes(CHUNKED)], &writes);
+    sees(&rt, &[fresh, Poll], &[], Ends::Hello(CHUNKED, 1))
 }

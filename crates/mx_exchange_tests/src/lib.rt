@@ -8,4 +8,6 @@ mod connecting;
 #[cfg(test)]
 mod faults;
 #[cfg(test)]
-mod tests;
+mod rows;
+#[cfg(test)]
+mod table;
