@@ -1,7 +1,9 @@
 //! Links whose peer sends at a time that the test knows: when they are asked, and when not.
-use crate::sockets::{TURNS, connect, gate_and_link, listening, read};
+use crate::outside::endpoint;
+use crate::sockets::{TURNS, connect, gate, given, joined, listening, read};
 use mx_gate::Gate;
 use mx_link::{Connect, Link, Read};
+use mx_request::Endpoint;
 use std::alloc::{AllocError, AllocGlobal, Global};
 use std::io::Write as _;
 use std::net::{Net, TcpListener, TcpStream};
@@ -159,20 +161,36 @@ fn read_to_the_end<R: Abort + Clock + Wait, G: Gate>(
     );
 }
 
-// What the test does at a link of its own to the peer at this port.
+// What the test does at a link of its own.
+fn read_over<R: Clock + Wait + Abort, G: Gate>(
+    rt: &R,
+    gate: &mut G,
+    there: &Endpoint,
+    told: &Told,
+    peer: Peer,
+) -> Result<(), Fail> {
+    let mut link = given(gate.open(there))?;
+    match peer {
+        Peer::SendsLate => read_after_a_turn(rt, gate, &mut link, told),
+        Peer::SendsTwice => read_twice(rt, gate, &mut link, told),
+        Peer::SendsAndCloses => read_to_the_end(rt, gate, &mut link, told),
+    }
+    drop(link);
+    Ok(())
+}
+
+// The same, of a new gate, to the peer at this port.
 fn read_from<R: Net + Clock + AllocGlobal + Wait + Abort>(
     rt: &R,
     port: u16,
     told: &Told,
     peer: Peer,
 ) -> Result<(), Fail> {
-    let (mut gate, mut link) = gate_and_link(rt, port)?;
-    match peer {
-        Peer::SendsLate => read_after_a_turn(rt, &mut gate, &mut link, told),
-        Peer::SendsTwice => read_twice(rt, &mut gate, &mut link, told),
-        Peer::SendsAndCloses => read_to_the_end(rt, &mut gate, &mut link, told),
-    }
-    Ok(())
+    let there = endpoint(rt.alloc(), "127.0.0.1", port)?;
+    let mut gate = gate(rt)?;
+    let done = read_over(rt, &mut gate, &there, told, peer);
+    drop(gate);
+    done
 }
 
 // A thread that sends, and its port.
@@ -192,32 +210,44 @@ fn sender<
     Ok((port, sender))
 }
 
+// What the test does, and whether the peer has sent.
+fn read_and_send<
+    R: Net<Listener = TcpListener, Stream = TcpStream>
+        + Clock
+        + Wait
+        + Threads
+        + AllocGlobal
+        + Abort
+        + Copy
+        + Send
+        + Drop
+        + 'static,
+>(rt: &R, peer: Peer) -> Result<bool, Fail> {
+    let told = nothing_told(rt.alloc())?;
+    let (port, sender) = sender(rt, Arc::try_clone(&told)?, peer)?;
+    let done = read_from(rt, port, &told, peer);
+    drop(told);
+    let (_, is_sent) = joined(rt, done, sender)?;
+    Ok(is_sent)
+}
+
 // Bytes that came are not read before a turn has told of them: the link isn't asked.
 #[test]
 fn a_link_that_waits_is_not_asked_before_a_turn(rt: HostRuntime) -> Result<(), Fail> {
-    let told = nothing_told(rt.alloc())?;
-    let (port, sender) = sender(&rt, Arc::try_clone(&told)?, Peer::SendsLate)?;
-    read_from(&rt, port, &told, Peer::SendsLate)?;
-    assert!(rt; sender.join(&rt));
+    assert!(rt; read_and_send(&rt, Peer::SendsLate)?);
     Ok(())
 }
 
 // Nor are they after a read that left none.
 #[test]
 fn a_link_that_gave_all_is_not_asked_before_a_turn(rt: HostRuntime) -> Result<(), Fail> {
-    let told = nothing_told(rt.alloc())?;
-    let (port, sender) = sender(&rt, Arc::try_clone(&told)?, Peer::SendsTwice)?;
-    read_from(&rt, port, &told, Peer::SendsTwice)?;
-    assert!(rt; sender.join(&rt));
+    assert!(rt; read_and_send(&rt, Peer::SendsTwice)?);
     Ok(())
 }
 
 // The end that was told with the last bytes is told no second time, so the link is asked for it.
 #[test]
 fn the_end_in_one_edge_with_bytes_is_seen(rt: HostRuntime) -> Result<(), Fail> {
-    let told = nothing_told(rt.alloc())?;
-    let (port, sender) = sender(&rt, Arc::try_clone(&told)?, Peer::SendsAndCloses)?;
-    read_from(&rt, port, &told, Peer::SendsAndCloses)?;
-    assert!(rt; sender.join(&rt));
+    assert!(rt; read_and_send(&rt, Peer::SendsAndCloses)?);
     Ok(())
 }

@@ -80,30 +80,6 @@ pub fn gate<R: Net + Clock + AllocGlobal>(rt: &R) -> Result<SocketGate<'_, R>, F
     gate_with(rt, flag(rt.alloc())?)
 }
 
-// A gate whose clock started then.
-fn gate_since<R: Net + Clock + AllocGlobal>(
-    rt: &R,
-    start: Instant,
-) -> Result<SocketGate<'_, R>, Fail> {
-    given(SocketGate::starting_at(rt, flag(rt.alloc())?, start))
-}
-
-// A link that the gate opens to this port.
-fn link_to<G: Gate>(alloc: Global, gate: &mut G, port: u16) -> Result<G::Link, Fail> {
-    let there = endpoint(alloc, "127.0.0.1", port)?;
-    given(gate.open(&there))
-}
-
-/// A gate, and a link that it opens to this port.
-pub fn gate_and_link<R: Net + Clock + AllocGlobal>(
-    rt: &R,
-    port: u16,
-) -> Result<(SocketGate<'_, R>, SocketLink<'_, R>), Fail> {
-    let mut gate = gate(rt)?;
-    let link = link_to(rt.alloc(), &mut gate, port)?;
-    Ok((gate, link))
-}
-
 /// Writes four bytes to a peer that sends them back, reads them and sees the end. It owns neither gate nor link, so that an assertion that
 /// fails lets neither go.
 pub fn send_and_read<R: Abort, G: Gate>(rt: &R, gate: &mut G, link: &mut G::Link) {
@@ -131,11 +107,26 @@ pub fn send_and_read<R: Abort, G: Gate>(rt: &R, gate: &mut G, link: &mut G::Link
     );
 }
 
-// The same, over a link of its own to the peer at this port.
-fn send_to<R: Net + Clock + AllocGlobal + Abort>(rt: &R, port: u16) -> Result<(), Fail> {
-    let (mut gate, mut link) = gate_and_link(rt, port)?;
-    send_and_read(rt, &mut gate, &mut link);
+// The same, over a link of its own.
+fn send_over<R: Abort, G: Gate>(rt: &R, gate: &mut G, there: &Endpoint) -> Result<(), Fail> {
+    let mut link = given(gate.open(there))?;
+    send_and_read(rt, gate, &mut link);
+    drop(link);
     Ok(())
+}
+
+/// The same, of a new gate over this network, to the peer at this host's port.
+pub fn send_to<R: Abort, N: Net + Clock + AllocGlobal>(
+    rt: &R,
+    net: &N,
+    host: &str,
+    port: u16,
+) -> Result<(), Fail> {
+    let there = endpoint(net.alloc(), host, port)?;
+    let mut gate = gate(net)?;
+    let sent = send_over(rt, &mut gate, &there);
+    drop(gate);
+    sent
 }
 
 /// A listener at a port that was free, and that port.
@@ -156,11 +147,27 @@ pub fn one_server<R: Net<Listener = TcpListener, Stream = TcpStream> + Threads>(
     Ok((port, server))
 }
 
+/// What was done, and what the thread beside it says, which is waited for only where it was done.
+pub fn joined<R: Threads, T: Drop, U: Drop>(
+    rt: &R,
+    done: Result<T, Fail>,
+    there: JoinHandle<U>,
+) -> Result<(T, U), Fail> {
+    match done {
+        Ok(done) => Ok((done, there.join(rt))),
+        Err(fail) => {
+            drop(there);
+            Err(fail)
+        }
+    }
+}
+
 #[test]
 fn a_link_writes_and_reads_and_sees_the_end(rt: HostRuntime) -> Result<(), Fail> {
     let (port, server) = one_server(&rt)?;
-    send_to(&rt, port)?;
-    assert!(rt; server.join(&rt));
+    let sent = send_to(&rt, &rt, "127.0.0.1", port);
+    let (_, is_served) = joined(&rt, sent, server)?;
+    assert!(rt; is_served);
     Ok(())
 }
 
@@ -176,11 +183,13 @@ fn tokens_at<R: Net + Clock + AllocGlobal>(
 ) -> Result<[Result<u64, Code>; 3], Fail> {
     let there = endpoint(rt.alloc(), "127.0.0.1", port)?;
     let mut gate = gate(rt)?;
-    Ok([
+    let tokens = [
         token(&mut gate, &there),
         token(&mut gate, &there),
         token(&mut gate, &there),
-    ])
+    ];
+    drop(gate);
+    Ok(tokens)
 }
 
 #[test]
@@ -192,21 +201,25 @@ fn tokens_rise_from_1(rt: HostRuntime) -> Result<(), Fail> {
     Ok(())
 }
 
-/// What becomes of a connection, or the code of an open that is refused.
-pub fn try_connect<G: Gate>(gate: &mut G, there: &Endpoint) -> Result<Connect, Code> {
+// What becomes of a connection, or the code of an open that is refused.
+fn try_connect<G: Gate>(gate: &mut G, there: &Endpoint) -> Result<Connect, Code> {
     let mut link = gate.open(there)?;
-    Ok(connect(gate, &mut link))
+    let connected = connect(gate, &mut link);
+    drop(link);
+    Ok(connected)
 }
 
-// The same, of a new gate.
-fn connection_to<R: Net + Clock + AllocGlobal>(
+/// The same, of a new gate.
+pub fn connection_to<R: Net + Clock + AllocGlobal>(
     rt: &R,
     host: &str,
     port: u16,
 ) -> Result<Result<Connect, Code>, Fail> {
     let there = endpoint(rt.alloc(), host, port)?;
     let mut gate = gate(rt)?;
-    Ok(try_connect(&mut gate, &there))
+    let connection = try_connect(&mut gate, &there);
+    drop(gate);
+    Ok(connection)
 }
 
 // The system may refuse at once, or once it was asked whether the connection stands.
@@ -242,32 +255,53 @@ fn ring_late<R: Clock + Wait>(rt: &R, bell: &Bell) -> bool {
     bell.ring().is_ok()
 }
 
+// A thread that rings after a while.
+fn ringer<R: Clock + Wait + Threads + Copy + Send + Drop + 'static>(
+    rt: &R,
+    bell: Bell,
+) -> Result<JoinHandle<bool>, Fail> {
+    let rt_there = *rt;
+    Ok(thread::spawn(rt, move || ring_late(&rt_there, &bell))?)
+}
+
+// What a long turn answers, and how long after the start.
+fn turn_since<R: Clock, G: Gate>(
+    rt: &R,
+    gate: &mut G,
+    start: Instant,
+) -> Result<(Duration, Turn), Fail> {
+    let turn = gate.turn(20_000);
+    Ok((start.elapsed(rt)?, turn))
+}
+
 // How long a long turn takes in which a thread rings, what it answers, and whether the thread rang.
 fn turn_until_rung<R: Clock + Wait + Threads + Copy + Send + Drop + 'static, G: Gate>(
     rt: &R,
     gate: &mut G,
     bell: Bell,
-) -> Result<(Duration, Turn, bool), Fail> {
+) -> Result<((Duration, Turn), bool), Fail> {
     let start = Instant::now(rt)?;
-    let rt_there = *rt;
-    let ringer = thread::spawn(rt, move || ring_late(&rt_there, &bell))?;
-    let turn = gate.turn(20_000);
-    let passed = start.elapsed(rt)?;
-    Ok((passed, turn, ringer.join(rt)))
+    let ringer = ringer(rt, bell)?;
+    let turned = turn_since(rt, gate, start);
+    joined(rt, turned, ringer)
 }
 
 // The same, of a new gate.
 fn turn_while_rung<R: Net + Clock + AllocGlobal + Wait + Threads + Copy + Send + Drop + 'static>(
     rt: &R,
-) -> Result<(Duration, Turn, bool), Fail> {
+) -> Result<((Duration, Turn), bool), Fail> {
     let mut gate = gate(rt)?;
-    let bell = gate.bell()?;
-    turn_until_rung(rt, &mut gate, bell)
+    let turned = match gate.bell() {
+        Ok(bell) => turn_until_rung(rt, &mut gate, bell),
+        Err(error) => Err(error.into()),
+    };
+    drop(gate);
+    turned
 }
 
 #[test]
 fn the_bell_ends_a_wait(rt: HostRuntime) -> Result<(), Fail> {
-    let (passed, turn, is_rung) = turn_while_rung(&rt)?;
+    let ((passed, turn), is_rung) = turn_while_rung(&rt)?;
     assert_eq!(rt; (turn, is_rung), (Turn::Continue, true));
     assert!(rt; passed >= Duration::from_millis(40) && passed < Duration::from_secs(10));
     Ok(())
@@ -289,8 +323,12 @@ fn time_after_rings<R: Clock, G: Gate>(
 // The same, of a new gate.
 fn turn_after_rings<R: Net + Clock + AllocGlobal>(rt: &R) -> Result<Duration, Fail> {
     let mut gate = gate(rt)?;
-    let bells = gate.bell().ok().zip(gate.bell().ok()).ok_or("no bell")?;
-    time_after_rings(rt, &mut gate, &bells)
+    let passed = match gate.bell().ok().zip(gate.bell().ok()) {
+        Some(bells) => time_after_rings(rt, &mut gate, &bells),
+        None => Err("no bell".into()),
+    };
+    drop(gate);
+    passed
 }
 
 #[test]
@@ -300,18 +338,8 @@ fn a_ring_ends_the_next_wait(rt: HostRuntime) -> Result<(), Fail> {
     Ok(())
 }
 
-// How long a hundred turns take that don't wait, and how long together with one that waits 300 milliseconds.
-fn time_of_turns<R: Clock, G: Gate>(rt: &R, gate: &mut G) -> Result<(Duration, Duration), Fail> {
-    let start = Instant::now(rt)?;
-    for _ in 0..100 {
-        gate.turn(0);
-    }
-    let at_once = start.elapsed(rt)?;
-    gate.turn(300);
-    Ok((at_once, start.elapsed(rt)?))
-}
-
-// Whether a turn of 20 milliseconds takes less than 35. Where the machine has much else to do one may take longer, but not each of a hundred.
+// Whether a turn of 20 milliseconds takes less than 35. Where the machine has much else to do one may take longer, but not each of a
+// hundred.
 fn ends_in_time<R: Clock, G: Gate>(rt: &R, gate: &mut G) -> Result<bool, Fail> {
     for _ in 0..100 {
         let start = Instant::now(rt)?;
@@ -323,11 +351,28 @@ fn ends_in_time<R: Clock, G: Gate>(rt: &R, gate: &mut G) -> Result<bool, Fail> {
     Ok(false)
 }
 
-// The same, of a new gate, and before it how long turns take that don't wait, and one of 300 milliseconds.
+// How long a hundred turns take that don't wait, how long together with one that waits 300 milliseconds, and whether one of 20 ends in
+// time.
+fn times_of_turns<R: Clock, G: Gate>(
+    rt: &R,
+    gate: &mut G,
+) -> Result<(Duration, Duration, bool), Fail> {
+    let start = Instant::now(rt)?;
+    for _ in 0..100 {
+        gate.turn(0);
+    }
+    let at_once = start.elapsed(rt)?;
+    gate.turn(300);
+    let waited = start.elapsed(rt)?;
+    Ok((at_once, waited, ends_in_time(rt, gate)?))
+}
+
+// The same, of a new gate.
 fn turn_often<R: Net + Clock + AllocGlobal>(rt: &R) -> Result<(Duration, Duration, bool), Fail> {
     let mut gate = gate(rt)?;
-    let (at_once, waited) = time_of_turns(rt, &mut gate)?;
-    Ok((at_once, waited, ends_in_time(rt, &mut gate)?))
+    let times = times_of_turns(rt, &mut gate);
+    drop(gate);
+    times
 }
 
 #[test]
@@ -339,48 +384,80 @@ fn a_wait_takes_its_time(rt: HostRuntime) -> Result<(), Fail> {
     Ok(())
 }
 
-// Takes turns while the flag is clear, set, and clear again.
-fn turn_by_the_flag<R: Abort, G: Gate>(rt: &R, gate: &mut G, stop: &AtomicBool) {
+// Takes turns while the flag is clear, twice while it is set, and while it is clear again.
+fn turn_by_the_flag<G: Gate>(gate: &mut G, stop: &AtomicBool) -> [Turn; 4] {
     let clear = gate.turn(0);
     stop.store(true, Ordering::SeqCst);
-    let set = [gate.turn(0), gate.turn(0)];
+    let set = gate.turn(0);
+    let still = gate.turn(0);
     stop.store(false, Ordering::SeqCst);
-    let again = gate.turn(0);
-    assert_eq!(rt;
-        (clear, set, again),
-        (Turn::Continue, [Turn::Stop, Turn::Stop], Turn::Continue)
-    );
+    [clear, set, still, gate.turn(0)]
+}
+
+// The same, of a new gate.
+fn turns_by_the_flag<R: Net + Clock + AllocGlobal>(
+    rt: &R,
+    stop: &Arc<AtomicBool>,
+) -> Result<[Turn; 4], Fail> {
+    let mut gate = gate_with(rt, Arc::try_clone(stop)?)?;
+    let turns = turn_by_the_flag(&mut gate, stop);
+    drop(gate);
+    Ok(turns)
 }
 
 #[test]
 fn the_flag_stops_turns_while_it_is_set(rt: HostRuntime) -> Result<(), Fail> {
     let stop = flag(rt.alloc())?;
-    let mut gate = gate_with(&rt, Arc::try_clone(&stop)?)?;
-    turn_by_the_flag(&rt, &mut gate, &stop);
+    let turns = turns_by_the_flag(&rt, &stop);
+    drop(stop);
+    assert_eq!(rt;
+        turns?,
+        [Turn::Continue, Turn::Stop, Turn::Stop, Turn::Continue]
+    );
     Ok(())
 }
 
-// Tells the same moments as another gate.
-fn tell_alike<R: Abort, G: Gate>(rt: &R, outside: &Outside, one: &mut G, two: &mut G) {
-    let early = (one.now(), two.now());
+// The moments of two gates, and again a while later.
+fn tell_both<G: Gate>(outside: &Outside, one: &mut G, two: &mut G) -> [u64; 4] {
+    let one_early = one.now();
+    let two_early = two.now();
     outside.milliseconds.store(2500, Ordering::SeqCst);
-    let late = (one.now(), two.now());
-    assert_eq!(rt; [early, late], [(400, 400), (1500, 1500)]);
+    [one_early, two_early, one.now(), two.now()]
+}
+
+// The same, where the second gate is a new one with the start of the first.
+fn tell_beside<'a, 'b>(
+    outside: &'a Outside<'b>,
+    one: &mut SocketGate<'a, Outside<'b>>,
+) -> Result<[u64; 4], Fail> {
+    outside.milliseconds.store(1400, Ordering::SeqCst);
+    let stop = flag(outside.alloc)?;
+    let mut two = given(SocketGate::starting_at(outside, stop, one.start()))?;
+    let moments = tell_both(outside, one, &mut two);
+    drop(two);
+    Ok(moments)
+}
+
+// The same, where both are new.
+fn moments_of_two(outside: &Outside) -> Result<[u64; 4], Fail> {
+    outside.milliseconds.store(1000, Ordering::SeqCst);
+    let mut one = gate(outside)?;
+    let moments = tell_beside(outside, &mut one);
+    drop(one);
+    moments
 }
 
 #[test]
 fn gates_with_one_start_tell_the_same_moments(rt: HostRuntime) -> Result<(), Fail> {
     let outside = Outside::new(rt.alloc(), &[]);
-    outside.milliseconds.store(1000, Ordering::SeqCst);
-    let mut one = gate(&outside)?;
-    outside.milliseconds.store(1400, Ordering::SeqCst);
-    let mut two = gate_since(&outside, one.start())?;
-    tell_alike(&rt, &outside, &mut one, &mut two);
+    let moments = moments_of_two(&outside);
+    drop(outside);
+    assert_eq!(rt; moments?, [400, 400, 1500, 1500]);
     Ok(())
 }
 
 // Tells moments of a clock that goes on, falls, fails and goes on.
-fn tell_moments<R: Abort, G: Gate>(rt: &R, outside: &Outside, gate: &mut G) {
+fn tell_moments<G: Gate>(outside: &Outside, gate: &mut G) -> [u64; 5] {
     let begun = gate.now();
     outside.milliseconds.store(1500, Ordering::SeqCst);
     let later = gate.now();
@@ -390,27 +467,39 @@ fn tell_moments<R: Abort, G: Gate>(rt: &R, outside: &Outside, gate: &mut G) {
     outside.is_clock_broken.store(true, Ordering::SeqCst);
     let broken = gate.now();
     outside.is_clock_broken.store(false, Ordering::SeqCst);
-    let mended = gate.now();
-    assert_eq!(rt;
-        [begun, later, fallen, broken, mended],
-        [0, 500, 500, 500, 1000]
-    );
+    [begun, later, fallen, broken, gate.now()]
+}
+
+// The same, of a new gate.
+fn moments_of_one(outside: &Outside) -> Result<[u64; 5], Fail> {
+    outside.milliseconds.store(1000, Ordering::SeqCst);
+    let mut gate = gate(outside)?;
+    let moments = tell_moments(outside, &mut gate);
+    drop(gate);
+    Ok(moments)
 }
 
 #[test]
 fn moments_stay_where_the_clock_fails_or_falls(rt: HostRuntime) -> Result<(), Fail> {
     let outside = Outside::new(rt.alloc(), &[]);
-    outside.milliseconds.store(1000, Ordering::SeqCst);
-    let mut gate = gate(&outside)?;
-    tell_moments(&rt, &outside, &mut gate);
+    let moments = moments_of_one(&outside);
+    drop(outside);
+    assert_eq!(rt; moments?, [0, 500, 500, 500, 1000]);
     Ok(())
+}
+
+// The code with which a gate is refused.
+fn refusal_of_a_gate(outside: &Outside) -> Result<Option<Code>, Fail> {
+    let stop = flag(outside.alloc)?;
+    Ok(SocketGate::new(outside, stop).err())
 }
 
 #[test]
 fn a_gate_without_a_clock_is_refused(rt: HostRuntime) -> Result<(), Fail> {
     let outside = Outside::new(rt.alloc(), &[]);
     outside.is_clock_broken.store(true, Ordering::SeqCst);
-    let code = SocketGate::new(&outside, flag(rt.alloc())?).err();
-    assert_eq!(rt; code, Some(Code::CouldntConnect));
+    let code = refusal_of_a_gate(&outside);
+    drop(outside);
+    assert_eq!(rt; code?, Some(Code::CouldntConnect));
     Ok(())
 }

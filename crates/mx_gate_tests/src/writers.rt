@@ -1,7 +1,9 @@
 //! Links that write until there is no room, and then wait for room or for an error.
-use crate::sockets::{TURNS, connect, flag, gate_and_link, listening};
+use crate::outside::endpoint;
+use crate::sockets::{TURNS, connect, flag, gate, given, joined, listening};
 use mx_gate::Gate;
 use mx_link::{Connect, Link, Write};
+use mx_request::Endpoint;
 use std::alloc::AllocGlobal;
 use std::io::Read as _;
 use std::net::{Net, TcpListener, TcpStream};
@@ -119,15 +121,31 @@ fn write_all<G: Gate>(
     (connected, Written { taken, full, last })
 }
 
-// The same, over a link of its own to the peer at this port, which is closed then.
+// The same, over a link of its own, which is closed then.
+fn write_over<G: Gate>(
+    gate: &mut G,
+    there: &Endpoint,
+    bytes: &[u8],
+    go: &AtomicBool,
+) -> Result<(Connect, Written), Fail> {
+    let mut link = given(gate.open(there))?;
+    let written = write_all(gate, &mut link, bytes, go);
+    drop(link);
+    Ok(written)
+}
+
+// The same, of a new gate, to the peer at this port.
 fn write_to<R: Net + Clock + AllocGlobal>(
     rt: &R,
     port: u16,
     go: &AtomicBool,
 ) -> Result<(Connect, Written), Fail> {
     let bytes = vec![in rt.alloc(); b'x'; OFFERED]?;
-    let (mut gate, mut link) = gate_and_link(rt, port)?;
-    Ok(write_all(&mut gate, &mut link, bytes.as_slice(), go))
+    let there = endpoint(rt.alloc(), "127.0.0.1", port)?;
+    let mut gate = gate(rt)?;
+    let written = write_over(&mut gate, &there, bytes.as_slice(), go);
+    drop(gate);
+    written
 }
 
 // A thread that is a peer, and its port.
@@ -158,17 +176,18 @@ fn write_and_read<
         + Send
         + Drop
         + 'static,
->(rt: &R, peer: Peer) -> Result<(Connect, Written, u64), Fail> {
+>(rt: &R, peer: Peer) -> Result<((Connect, Written), u64), Fail> {
     let go = flag(rt.alloc())?;
     let (port, there) = peer_there(rt, Arc::try_clone(&go)?, peer)?;
-    let (connected, written) = write_to(rt, port, &go)?;
-    Ok((connected, written, there.join(rt)))
+    let written = write_to(rt, port, &go);
+    drop(go);
+    joined(rt, written, there)
 }
 
 // A link that waits to write is told of room. What its writes said that they took, the short ones too, is what its peer reads.
 #[test]
 fn a_writer_is_told_of_room(rt: HostRuntime) -> Result<(), Fail> {
-    let (connected, written, read) = write_and_read(&rt, Peer::Reads)?;
+    let ((connected, written), read) = write_and_read(&rt, Peer::Reads)?;
     let Written { taken, full, last } = written;
     assert_eq!(rt;
         (connected, full, read),
@@ -181,7 +200,7 @@ fn a_writer_is_told_of_room(rt: HostRuntime) -> Result<(), Fail> {
 // It is told of an error, too.
 #[test]
 fn a_writer_is_told_of_an_error(rt: HostRuntime) -> Result<(), Fail> {
-    let (connected, written, _) = write_and_read(&rt, Peer::Resets)?;
+    let ((connected, written), _) = write_and_read(&rt, Peer::Resets)?;
     let Written { full, last, .. } = written;
     assert_eq!(rt;
         (connected, full, last),
