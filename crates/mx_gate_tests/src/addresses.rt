@@ -1,5 +1,5 @@
 use crate::outside::{Outside, endpoint};
-use mx_gate::{addresses_of, connect_code};
+use mx_gate::{addresses_of, connect_code, meets_file_limit};
 use mx_types::{Code, History};
 use std::alloc::Global;
 use std::io::{Error, ErrorKind};
@@ -86,4 +86,14 @@ fn want_of_memory_has_its_own_code(rt: HostRuntime) {
     for (kind, want) in cases {
         assert_eq!(rt; connect_code(&Error::from(kind)), want);
     }
+}
+
+#[test]
+fn too_many_open_files_are_known(rt: HostRuntime) {
+    // ENFILE, EMFILE, ENOMEM, ECONNREFUSED
+    for (number, want) in [(23, true), (24, true), (12, false), (111, false)] {
+        let error = Error::from_raw_os_error(number);
+        assert_eq!(rt; meets_file_limit(&error), want);
+    }
+    assert!(rt; !meets_file_limit(&Error::from(ErrorKind::OutOfMemory)));
 }
