@@ -18,6 +18,7 @@ if [ -z "${PROGRAM:-}" ]; then
     "$top/run" --version > /dev/null
     PROGRAM=$top/crates/mxfetch/out/mxfetch
 fi
+export RES_OPTIONS='timeout:1 attempts:1' # a name server that can't be reached is soon given up
 work=$(mktemp -d)
 chmod 755 "$work" # nginx's workers run as another user
 trap 'rm -rf "$work"' EXIT

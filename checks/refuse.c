@@ -1,20 +1,26 @@
 /* A library that refuses the growth of memory whose number is REFUSE_GROWTH, counted from 1 since the program was loaded, and then
-   makes the file REFUSE_NOTE. Loaded by LD_PRELOAD; checks/refused-growths.sh, checks/get.sh and checks/save.sh compile it. */
+   makes the file REFUSE_NOTE; and that refuses each flush, by EIO, of a folder where REFUSE_FLUSH is `folder`, of a file where it is
+   `file`. Loaded by LD_PRELOAD; checks/refused-growths.sh, checks/get.sh and checks/save.sh compile it. */
 #include <errno.h>
 #include <fcntl.h>
 #include <malloc.h>
 #include <stdlib.h>
+#include <string.h>
+#include <sys/stat.h>
+#include <sys/syscall.h>
 #include <unistd.h>
 
 void *__libc_malloc(size_t size);
 void *__libc_realloc(void *old, size_t size);
 
 static long left;
+static const char *flush;
 
 /* it starts to count once the program is loaded */
 __attribute__((constructor)) static void begin(void) {
   const char *which = getenv("REFUSE_GROWTH");
   left = which ? atol(which) : 0;
+  flush = getenv("REFUSE_FLUSH");
 }
 
 /* whether this growth is the one that is refused, which it notes */
@@ -31,4 +37,13 @@ void *malloc(size_t size) { return is_refused() ? NULL : __libc_malloc(size); }
 void *realloc(void *old, size_t size) {
   if (size > malloc_usable_size(old) && is_refused()) return NULL;
   return __libc_realloc(old, size);
+}
+
+int fsync(int file) {
+  struct stat found;
+  if (flush && fstat(file, &found) == 0 && strcmp(flush, S_ISDIR(found.st_mode) ? "folder" : "file") == 0) {
+    errno = EIO;
+    return -1;
+  }
+  return (int)syscall(SYS_fsync, file);
 }

@@ -14,8 +14,8 @@ import time
 
 import hostile
 from saving import (WORDS, Saved, files_in, folder, make_read_only, parse, parts_in, small_disk, start, want_files, want_lines)
-from servers import (MIB, PROGRAM, WORK, Nginx, Server, Wrong, body_of, chunked, counted, keeping, read_head, read_request, until_closed,
-                     want)
+from servers import (MIB, PROGRAM, WORK, Nginx, Server, Wrong, body_of, chunked, counted, deaf, keeping, read_head, read_request,
+                     until_closed, want)
 
 
 def read_whole(connection):
@@ -69,20 +69,19 @@ def case_python_http_server():
     for name, content in files.items():
         with open(os.path.join(root, name), "wb") as file:
             file.write(content)
-    with Server(keeping) as probe:
-        port = probe.port
-    server = subprocess.Popen([sys.executable, "-m", "http.server", str(port), "--bind", "127.0.0.1", "--directory", root],
-                              stdout=subprocess.DEVNULL, stderr=subprocess.DEVNULL)
+    # it tells the port that the system gave it, once it listens
+    server = subprocess.Popen([sys.executable, "-u", "-m", "http.server", "0", "--bind", "127.0.0.1", "--directory", root],
+                              stdout=subprocess.PIPE, stderr=subprocess.DEVNULL)
     try:
-        base = f"http://127.0.0.1:{port}"
-        # it takes a moment to begin: a connection that is refused is tried again
-        run = Saved(["--retry", "3", f"{base}/missing"] + [f"{base}/{name}" for name in files], into)
+        base = f"http://127.0.0.1:{int(server.stdout.readline().split(b' port ')[1].split()[0])}"
+        run = Saved([f"{base}/missing"] + [f"{base}/{name}" for name in files], into)
         lines = [("saved", 0, 200, len(content), name, f"{base}/{name}") for name, content in files.items()]
         want_lines(run, lines + [failed(22, 404, f"{base}/missing")], 22)
         want_files(into, files)
     finally:
         server.kill()
         server.wait()
+        server.stdout.close()
 
 
 def case_framings():
@@ -165,8 +164,9 @@ def case_killed_and_taken_up_again():
         words = ["--into", into, "--input", "-", "--skip-existing", "--at-once", "64"]
         for _ in range(20):
             with open(urls, "rb") as given:
-                child = start(words, stdin=given, stdout=subprocess.PIPE)
-                told, enough = 0, chance.randrange(20, 180)
+                # a pipe of a page: what isn't read holds the run up, so that none gets far beyond the line at which it is killed
+                child = start(words, stdin=given, stdout=subprocess.PIPE, pipesize=4096)
+                told, enough = 0, chance.randrange(20, 100)
                 for line in child.stdout:
                     told += line.startswith(b"saved ")
                     if told == enough:
@@ -213,6 +213,24 @@ def case_full_disk():
         want(again.status == 23 and [line[0] for line in again.lines].count("skipped") == 1, f"{again.lines}")
         found = files_in(into)
         want(all(content == files.get(name, b"old") for name, content in found.items()) and not parts_in(into), "other files")
+
+
+def case_flushes_that_are_refused():
+    # by EIO, as a disk that fails answers: that of the folder, at the end, or that of each file
+    with Server(keeping) as server:
+        paths, missing = [f"/s{number}" for number in range(20)], "ftp://127.0.0.1/"
+        lines, files = [saved(server, path, path[1:], body_of(path)) for path in paths], {path[1:]: body_of(path) for path in paths}
+        lost = [failed(23, 200, server.url(path)) for path in paths]
+        unflushed = b"mxfetch: the folder can't be flushed: the system could not do it\n"
+        rows = [("folder", [], [], lines, files, 0, 0), ("folder", ["--fsync"], [], lines, files, 23, 1),
+                ("folder", ["--fsync"], [missing], lines + [failed(1, 0, missing)], files, 1, 1),
+                ("file", [], [], lines, files, 0, 0), ("file", ["--fsync"], [], lost, {}, 23, 0)]
+        for refused, words, more, told, there, status, times in rows:
+            into, asked = folder(), {"REFUSE_FLUSH": refused, "LD_PRELOAD": os.path.join(WORK, "refuse.so")}
+            run = Saved(words + [server.url(path) for path in paths] + more, into, asked=asked)
+            want_lines(run, told, status)
+            want_files(into, there)
+            want(run.err.count(unflushed) == times, f"{refused}, {words}: {run.err!r}")
 
 
 def case_read_only_folder():
@@ -406,7 +424,7 @@ def case_exit_statuses():
     def serve(connection, _):
         while (path := read_request(connection)) is not None:
             if path == "/404":
-                time.sleep(0.3)
+                time.sleep(1)
             connection.sendall(counted(b"x", "HTTP/1.1 404 no") if path == "/404" else counted(b"x"))
 
     with Server(serve) as server:
@@ -464,11 +482,11 @@ def case_words_of_failures():
                 return connection.sendall(b"HTTP/1.1 200 OK\r\nTransfer-Encoding: chunked\r\n\r\n5\r\nhello\r\nx")
             connection.sendall(counted(b"there") if path == b"/there" else counted(b"no", "HTTP/1.1 404 Not Found"))
 
-    with Server(serve) as server:
+    with Server(serve) as server, deaf() as nobody:
         rows = [(server.url("/missing"), 22, "the status of the response isn't 2xx"),
                 (server.url("/cut"), 18, "the response ended within its body: 4 of 9 bytes of the body came"),
                 (server.url("/bad"), 56, "the response is refused at byte 58: it can't stand in the line of a chunk's size (RFC 9112, section 7.1)"),
-                (server.url("/there"), 0, None), ("http://127.0.0.1:1/", 7, "the connection was refused, or could not be made"),
+                (server.url("/there"), 0, None), (f"http://{nobody}/", 7, "the connection was refused, or could not be made"),
                 ("127.0.0.1/x", 3, "the URL doesn't parse, or has a user name or a password"), ("https://127.0.0.1/", 1, "the scheme isn't http")]
         hints = {"127.0.0.1/x": "a URL begins with http://", "https://127.0.0.1/": "there is no TLS here, so https can't be fetched"}
         wanted = [f"mxfetch: {url}: {words} ({code})" + (f"\n  hint: {hints[url]}" if url in hints else "") for url, code, words in rows if code]
@@ -619,11 +637,11 @@ def case_tries():
 def case_a_server_that_hangs():
     with Server(lambda connection, _: until_closed(connection)) as silent, Server(keeping) as good:
         paths, into = [f"/g{number}" for number in range(200)], folder()
-        run = Saved(["--timeout-ms", "2000", silent.url("/hangs")] + [good.url(path) for path in paths], into)
+        run = Saved(["--timeout-ms", "4000", silent.url("/hangs")] + [good.url(path) for path in paths], into)
         lines = [saved(good, path, path[1:], body_of(path)) for path in paths]
         want_lines(run, lines + [failed(28, 0, silent.url("/hangs"))], 28)
         want(run.lines[-1][1] == 28, "the others wait for the one that hangs")
-        want(1.9 < run.seconds < 25, f"{run.seconds:.2f} s")
+        want(3.9 < run.seconds < 40, f"{run.seconds:.2f} s")
         want_files(into, {path[1:]: body_of(path) for path in paths})
 
 
@@ -637,7 +655,8 @@ def case_a_mix_of_all():
     paths = {f"/{place}/n{number}": place for number, place in enumerate(places)}
     with Server(serve) as server:
         into = folder()
-        run = Saved(["--workers", "8", "--at-once", "256", "--timeout-ms", "4000"] + [server.url(path) for path in paths], into)
+        words = ["--workers", "8", "--at-once", "256", "--timeout-ms", hostile.MIX_MS]
+        run = Saved(words + [server.url(path) for path in paths], into, seconds=200)
         want(len(run.lines) == 256, f"{len(run.lines)} lines")
         files = {}
         for verdict, code, _, length, name, url in run.lines:
@@ -652,10 +671,9 @@ def case_a_mix_of_all():
 
 
 def case_refused_connection_and_unknown_host():
-    with Server(keeping) as server:
-        closed = server.url("/x")
-    run = Saved([closed, "http://nowhere.invalid/y"], folder())
-    want_lines(run, [failed(7, 0, closed), failed(6, 0, "http://nowhere.invalid/y")], 7)
+    with deaf() as nobody:
+        run = Saved([f"http://{nobody}/x", "http://nowhere.invalid/y"], folder())
+        want_lines(run, [failed(7, 0, f"http://{nobody}/x"), failed(6, 0, "http://nowhere.invalid/y")], 7)
 
 
 # --- many ---------------------------------------------------------------------------------------------------------------

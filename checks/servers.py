@@ -1,5 +1,7 @@
 """Runs of `mxfetch get`, and servers on 127.0.0.1 for them."""
 
+import contextlib
+import errno
 import os
 import re
 import signal
@@ -126,11 +128,20 @@ def refuse_growths(words, ends):
 # --- servers ------------------------------------------------------------------------------------------------------------
 
 class Server:
-    """Serves each connection by `serve(connection, number)` on a thread of its own."""
+    """Serves each connection by `serve(connection, number)` on a thread of its own. A port that is named may still have the last state of a
+    connection that is over, which the system keeps for a minute: so it is waited for."""
 
     def __init__(self, serve, host="127.0.0.1", port=0):
         self.listener = socket.socket()
-        self.listener.bind((host, port))
+        until = time.monotonic() + 120
+        while True:
+            try:
+                self.listener.bind((host, port))
+                break
+            except OSError as error:
+                if port == 0 or error.errno != errno.EADDRINUSE or time.monotonic() > until:
+                    raise
+                time.sleep(0.2)
         self.listener.listen(512)
         self.port = self.listener.getsockname()[1]
         self.name = f"{host}:{self.port}"
@@ -220,8 +231,17 @@ def until_closed(connection):
         pass
 
 
+@contextlib.contextmanager
+def deaf():
+    """The name of a place where nobody listens: a port that is bound, so that nobody else is given it meanwhile."""
+    with socket.socket() as bound:
+        bound.bind(("127.0.0.1", 0))
+        yield f"127.0.0.1:{bound.getsockname()[1]}"
+
+
 class Nginx:
-    """nginx over a folder of files, with more lines of its server's configuration. The log has a line for each request."""
+    """nginx over a folder of files, with more lines of its server's configuration. The log has a line for each request. It is handed a socket
+    that listens already, by the variable NGINX as a newer nginx is by an older one: so nobody else takes its port before it listens."""
 
     def __init__(self, files, more=""):
         self.root = os.path.join(WORK, "files")
@@ -232,9 +252,10 @@ class Nginx:
             os.makedirs(os.path.dirname(os.path.join(self.root, name)), exist_ok=True)
             with open(os.path.join(self.root, name), "wb") as file:
                 file.write(content)
-        with socket.socket() as probe:
-            probe.bind(("127.0.0.1", 0))
-            self.port = probe.getsockname()[1]
+        self.listener = socket.socket()
+        self.listener.bind(("127.0.0.1", 0))
+        self.listener.listen(511)
+        self.port = self.listener.getsockname()[1]
         conf = os.path.join(WORK, "nginx.conf")
         with open(conf, "w") as file:
             file.write(f"""
@@ -248,14 +269,23 @@ http {{
   server {{ listen 127.0.0.1:{self.port} backlog=511; root {self.root}; {more} }}
 }}
 """)
-        self.child = subprocess.Popen(["nginx", "-e", f"{WORK}/error.log", "-c", conf], stderr=subprocess.DEVNULL)
-        for _ in range(200):
-            try:
-                socket.create_connection(("127.0.0.1", self.port)).close()
-                return
-            except OSError:
-                time.sleep(0.02)
-        raise Wrong("nginx doesn't answer")
+        handed = {"pass_fds": [self.listener.fileno()], "env": {**os.environ, "NGINX": f"{self.listener.fileno()};"}}
+        self.child = subprocess.Popen(["nginx", "-e", f"{WORK}/error.log", "-c", conf], stderr=subprocess.DEVNULL, **handed)
+        self.listener.close()
+        if not self.answers():
+            self.child.kill()
+            self.child.wait()
+            raise Wrong("nginx doesn't answer")
+
+    def answers(self):
+        """Waits until it answers a request, which it logs as one of `check`."""
+        asked = f"GET / HTTP/1.1\r\nHost: 127.0.0.1:{self.port}\r\nUser-Agent: check\r\nConnection: close\r\n\r\n"
+        try:
+            with socket.create_connection(("127.0.0.1", self.port), 60) as connection:
+                connection.sendall(asked.encode())
+                return bool(connection.recv(1))
+        except OSError:
+            return False
 
     def __enter__(self):
         return self
