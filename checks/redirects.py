@@ -153,6 +153,8 @@ def follow(chains, most, workers="1", max_connects="4"):
 
 # --- curl ---------------------------------------------------------------------------------------------------------------
 
+# the curl whose rules are told here
+IS_THAT_CURL = subprocess.run(["curl", "--version"], capture_output=True).stdout.startswith(b"curl 7.88.1 ")
 CURL = ["curl", "-q", "-s", "-g", "--http1.1", "--noproxy", "*", "--proto", "=http", "--proto-redir", "=http", "--max-time", "20"]
 
 
@@ -184,6 +186,9 @@ def compare(chains, most):
         else:
             same += 1
     print(f"    limit {most}: {len(chains)} chains, {same} the same by curl")
+    if faults and not IS_THAT_CURL:
+        print("\n    ".join(["    this is another curl, which is no fault here:", *faults]))
+        return []
     return faults
 
 

@@ -11,7 +11,9 @@
 # and test, and ends with 0 where all did as they have to, with 1 where one didn't, and with 2 where something that it needs isn't
 # there: a program, a test, a C compiler.
 #
-# Use: checks/refused-growths.sh        after `rt ci`, on Linux; a C compiler is in Debian's package gcc
+# Use: checks/refused-growths.sh [WORD]    after `rt ci`, on Linux; a C compiler is in Debian's package gcc
+#
+# With a word it takes only the programs and the crates of tests whose names have it.
 set -u
 [ "${1-}" != -h ] && [ "${1-}" != --help ] || { sed -n '2,/^set/s/^# \{0,1\}//p' "$0"; exit 0; }
 
@@ -38,6 +40,11 @@ AGAIN='error: "memory was refused, and the call answered when it was made again"
 # What it says of the want of memory for itself: of a vector, of a call of the engine, of the system.
 WANTING='error: AllocError\|error: AllocFailed { .. }\|error: OutOfMemory\|error: Kind(OutOfMemory)'
 
+# Of the crates those whose names have the word; whether a name has it.
+word=${1-}
+tests=$(grep -F -- "$word" <<< "$tests") others=$(grep -F -- "$word" <<< "$others")
+is_wanted() { [ -z "${1##*"$word"*}" ]; }
+
 top=$(cd "$(dirname "$(readlink -f "$0")")/.." && pwd)
 work=$(mktemp -d)
 trap 'rm -rf "$work"' EXIT
@@ -50,7 +57,7 @@ missing() {
 # all that is needed, before anything is run
 program=$top/crates/mxfetch/out/mxfetch
 [ -x "$program" ] || missing "there is no $program: run rt ci, or ./run body GET < /dev/null"
-for crate in $(echo "$tests$others" | awk '{ print $1 }'); do
+for crate in $(printf '%s\n' "$tests" "$others" | awk '{ print $1 }'); do
   [ -x "$top/crates/$crate/out/${crate}_tests" ] || missing "there is no crates/$crate/out/${crate}_tests: run rt ci, or rt test in crates/$crate"
 done
 for tool in cc:gcc timeout:coreutils cmp:diffutils; do
@@ -87,6 +94,7 @@ ends=0
 try_program() {
   local name=$1 input=$2 which=1 ended=0 without=0 lines
   shift 2
+  is_wanted "$name" || return 0
   printf 'FAULT 27\n' > "$work/fault"
   while refused "$which" "$program" "$@" < "$input"; do
     lines=0

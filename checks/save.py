@@ -1,6 +1,7 @@
 """The cases of checks/save.sh: what servers, lists, folders and disks do, and what is expected of `mxfetch save`."""
 
 import contextlib
+import fcntl
 import os
 import pty
 import random
@@ -16,6 +17,9 @@ import hostile
 from saving import (WORDS, Saved, files_in, folder, make_read_only, parse, parts_in, small_disk, start, want_files, want_lines)
 from servers import (MIB, PROGRAM, WORK, Nginx, Server, Wrong, body_of, chunked, counted, deaf, keeping, read_head, read_request,
                      until_closed, want)
+
+
+SET_PIPE_SIZE = 1031  # F_SETPIPE_SZ, which fcntl has from Python 3.10 on
 
 
 def read_whole(connection):
@@ -165,15 +169,18 @@ def case_killed_and_taken_up_again():
         for _ in range(20):
             with open(urls, "rb") as given:
                 # a pipe of a page: what isn't read holds the run up, so that none gets far beyond the line at which it is killed
-                child = start(words, stdin=given, stdout=subprocess.PIPE, pipesize=4096)
+                read, write = os.pipe()
+                fcntl.fcntl(write, SET_PIPE_SIZE, 4096)
+                child = start(words, stdin=given, stdout=write)
+                os.close(write)
                 told, enough = 0, chance.randrange(20, 100)
-                for line in child.stdout:
-                    told += line.startswith(b"saved ")
-                    if told == enough:
-                        time.sleep(chance.random() / 1000)
-                        child.send_signal(signal.SIGKILL)
-                        break
-                child.stdout.close()
+                with open(read, "rb") as lines:
+                    for line in lines:
+                        told += line.startswith(b"saved ")
+                        if told == enough:
+                            time.sleep(chance.random() / 1000)
+                            child.send_signal(signal.SIGKILL)
+                            break
                 kills += child.wait() == -signal.SIGKILL
             found = files_in(into)
             left = len(parts_in(into))

@@ -255,6 +255,8 @@ class Nginx:
         self.listener = socket.socket()
         self.listener.bind(("127.0.0.1", 0))
         self.listener.listen(511)
+        # as nginx takes it to be: of two workers that are woken for one connection, the one that gets none would wait for the next
+        self.listener.setblocking(False)
         self.port = self.listener.getsockname()[1]
         conf = os.path.join(WORK, "nginx.conf")
         with open(conf, "w") as file:
