@@ -99,14 +99,14 @@ def case_stalls():
 
 def case_never_answers():
     with Server(lambda connection, _: until_closed(connection)) as server:
-        run = Run(["--timeout-ms", "300", server.url()], 20)
+        run = Run(["--timeout-ms", "300", server.url()])
         want_ends(run, [(28, 0, b"")])
         want(0.25 < run.seconds < 3, f"{run.seconds:.2f} s")
 
 
 def case_idle_costs_nothing():
     with Server(lambda connection, _: until_closed(connection)) as server:
-        run = Run(["--timeout-ms", "3000", "--workers", "4"] + [server.url(f"/{number}") for number in range(64)], 20)
+        run = Run(["--timeout-ms", "3000", "--workers", "4"] + [server.url(f"/{number}") for number in range(64)])
         want(run.codes() == [28] * 64, f"codes {run.codes()}")
         want(run.processor < run.seconds / 5, f"{run.processor:.2f} s of processor time in {run.seconds:.1f} s")
         print(f"    64 transfers held for {run.seconds:.2f} s: processor {run.processor:.2f} s")
@@ -224,7 +224,7 @@ def case_too_many_open_files():
     hint = b"  hint: too many files were open for a connection: ulimit -n allows more, --at-once fewer transfers\n"
 
     def run_with(words):
-        return subprocess.run([PROGRAM, "get", "--explain"] + words + urls, stdin=subprocess.DEVNULL, capture_output=True, timeout=60,
+        return subprocess.run([PROGRAM, "get", "--explain"] + words + urls, stdin=subprocess.DEVNULL, capture_output=True, timeout=300,
                               preexec_fn=lambda: resource.setrlimit(resource.RLIMIT_NOFILE, (24, 24)))
 
     with Server(keeping) as server:
@@ -252,7 +252,7 @@ def case_refused_command_lines():
                   ["--what", "http://a/"]):
         run = Run(words)
         want(run.status == 120 and run.out == b"" and run.err != b"", f"{words}: exit status {run.status}")
-    asked = subprocess.run([PROGRAM, "get", "--help"], capture_output=True, timeout=20)
+    asked = subprocess.run([PROGRAM, "get", "--help"], capture_output=True, timeout=300)
     want(asked.returncode == 0 and b"transfer H code C" in asked.stdout and asked.stderr == b"", "help")
     want(b"--max-redirects" in asked.stdout and b"\n   47  " in asked.stdout, "help has no --max-redirects, or no 47")
     want(b"--at-once <N>" in asked.stdout and b"1 to 256 URLs" in asked.stdout, "help has no --at-once, or not how many URLs there may be")
@@ -260,7 +260,7 @@ def case_refused_command_lines():
 
 def case_full_output():
     with Server(keeping) as server, open("/dev/full", "wb") as full:
-        child = subprocess.run([PROGRAM, "get", server.url("/f")], stdout=full, stderr=subprocess.DEVNULL, timeout=20)
+        child = subprocess.run([PROGRAM, "get", server.url("/f")], stdout=full, stderr=subprocess.DEVNULL, timeout=300)
         want(child.returncode == 121, f"exit status {child.returncode}")
 
 

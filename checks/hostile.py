@@ -124,7 +124,7 @@ def case_resets():
 
     for serve, codes in ((at_once, {55, 56, 7}), (after_request, {56}), (within_head, {56}), (within_body, {56})):
         with Server(serve) as server:
-            run = Run([server.url()], 20)
+            run = Run([server.url()])
             want(run.codes()[0] in codes, f"{serve.__name__}: codes {run.codes()}")
 
 
@@ -137,7 +137,7 @@ def case_cut_short():
             connection.sendall(sent)
 
         with Server(serve) as server:
-            run = Run([server.url()], 20)
+            run = Run([server.url()])
             want(run.codes() == [code], f"{sent!r}: codes {run.codes()}")
 
 
@@ -176,7 +176,7 @@ def case_an_answer_before_the_request():
         until_closed(connection)
 
     with Server(serve) as server:
-        run = Run([server.url()], 20)
+        run = Run([server.url()])
         want_ends(run, [(0, 200, b"early")])
 
 
@@ -278,7 +278,7 @@ def case_a_mix_of_all():
     paths = [f"/{place}/{number}" for number, place in enumerate(places)]
     with Server(serve) as server, Server(keeping) as good:
         urls = [server.url(path) for path in paths[:-1]] + [good.url(paths[-1])]
-        run = Run(["--workers", "16", "--timeout-ms", MIX_MS] + urls, 200)
+        run = Run(["--workers", "16", "--timeout-ms", MIX_MS] + urls)
     want(len(run.ends) == len(urls), f"{len(run.ends)} ends")
     for (code, _, body), place, path in zip(run.ends[:-1], places, paths):
         served, codes, sends = MIX[place]

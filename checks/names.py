@@ -188,7 +188,7 @@ def case_localhost_on_either_address():
 
             thread = threading.Thread(target=serve, daemon=True)
             thread.start()
-            run = Run([f"http://localhost:{port}/a", f"http://localhost:{port}/b"], 20)
+            run = Run([f"http://localhost:{port}/a", f"http://localhost:{port}/b"])
             want_ends(run, [(0, 200, body_of("/a")), (0, 200, body_of("/b"))])
             thread.join()
 

@@ -155,7 +155,7 @@ def follow(chains, most, workers="1", max_connects="4"):
 
 # the curl whose rules are told here
 IS_THAT_CURL = subprocess.run(["curl", "--version"], capture_output=True).stdout.startswith(b"curl 7.88.1 ")
-CURL = ["curl", "-q", "-s", "-g", "--http1.1", "--noproxy", "*", "--proto", "=http", "--proto-redir", "=http", "--max-time", "20"]
+CURL = ["curl", "-q", "-s", "-g", "--http1.1", "--noproxy", "*", "--proto", "=http", "--proto-redir", "=http", "--max-time", "120"]
 
 
 def curl(url, most, more=("-A", "")):
@@ -164,7 +164,7 @@ def curl(url, most, more=("-A", "")):
     with contextlib.suppress(FileNotFoundError):
         os.remove(file)
     follows = ["-L", "--max-redirs", str(most)] if most else []
-    child = subprocess.run(CURL + follows + [*more, "-o", file, "-w", "%{http_code}", url], capture_output=True, timeout=30)
+    child = subprocess.run(CURL + follows + [*more, "-o", file, "-w", "%{http_code}", url], capture_output=True, timeout=300)
     with open(file, "rb") if os.path.exists(file) else contextlib.nullcontext() as body:
         return child.returncode, int(child.stdout), body.read() if body else b""
 

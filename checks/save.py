@@ -188,7 +188,7 @@ def case_killed_and_taken_up_again():
                 want(content == files[name], f"after a kill {name} has {len(content)} bytes in place of {len(files[name])}")
         want(kills == 20 and len(found) < 4000, f"{kills} kills, {len(found)} files")
         with open(urls, "rb") as given:
-            run = subprocess.run([PROGRAM, "save"] + words, stdin=given, capture_output=True, timeout=60)
+            run = subprocess.run([PROGRAM, "save"] + words, stdin=given, capture_output=True, timeout=300)
         want(run.returncode == 0, f"exit status {run.returncode}")
         want(run.stdout.count(b"\n") == 4000 and run.stdout.count(b"skipped 0 0 0 ") == len(found), "other lines")
         found = files_in(into)
@@ -470,7 +470,7 @@ def case_output_that_is_closed():
                 os.close(write)
             else:
                 child = start(["--into", into] + urls, stdout=out, stderr=subprocess.PIPE)
-            _, said = child.communicate(timeout=60)
+            _, said = child.communicate(timeout=300)
             want(child.returncode == 121 and said == b"mxfetch: the output can't be written\n", f"exit status {child.returncode}, {said!r}")
             want(not parts_in(into), "a part is left")
             for name, content in files_in(into).items():
@@ -510,7 +510,7 @@ def case_too_many_open_files():
         into, urls = folder(), [server.url(f"/{number}") for number in range(150)]
         child = start(["--at-once", "150", "--into", into] + urls, stdout=subprocess.PIPE, stderr=subprocess.PIPE,
                       preexec_fn=lambda: resource.setrlimit(resource.RLIMIT_NOFILE, (24, 24)))
-        out, err = child.communicate(timeout=60)
+        out, err = child.communicate(timeout=300)
         codes = [line[1] for line in parse(out)]
         want(len(codes) == 150 and 7 in codes and set(codes) <= {0, 7, 23}, f"{codes}")
         hint = b"  hint: too many files were open for a connection: ulimit -n allows more, --at-once fewer transfers\n"
@@ -519,7 +519,7 @@ def case_too_many_open_files():
         into = folder()
         child = start(["--at-once", "4", "--workers", "1", "--into", into] + urls, stdout=subprocess.PIPE, stderr=subprocess.PIPE,
                       preexec_fn=lambda: resource.setrlimit(resource.RLIMIT_NOFILE, (24, 24)))
-        out, err = child.communicate(timeout=60)
+        out, err = child.communicate(timeout=300)
         want({line[1] for line in parse(out)} == {0} and err == b"", f"{err[-300:]!r}")
 
 
@@ -550,7 +550,7 @@ def seen(words, shared):
             came += piece
     out = b"" if shared else child.stdout.read()
     os.close(master)
-    return came, out, child.wait(timeout=60)
+    return came, out, child.wait(timeout=300)
 
 
 def case_progress():
@@ -644,11 +644,11 @@ def case_tries():
 def case_a_server_that_hangs():
     with Server(lambda connection, _: until_closed(connection)) as silent, Server(keeping) as good:
         paths, into = [f"/g{number}" for number in range(200)], folder()
-        run = Saved(["--timeout-ms", "4000", silent.url("/hangs")] + [good.url(path) for path in paths], into)
+        run = Saved(["--timeout-ms", "10000", silent.url("/hangs")] + [good.url(path) for path in paths], into)
         lines = [saved(good, path, path[1:], body_of(path)) for path in paths]
         want_lines(run, lines + [failed(28, 0, silent.url("/hangs"))], 28)
         want(run.lines[-1][1] == 28, "the others wait for the one that hangs")
-        want(3.9 < run.seconds < 40, f"{run.seconds:.2f} s")
+        want(9.9 < run.seconds < 100, f"{run.seconds:.2f} s")
         want_files(into, {path[1:]: body_of(path) for path in paths})
 
 
@@ -663,7 +663,7 @@ def case_a_mix_of_all():
     with Server(serve) as server:
         into = folder()
         words = ["--workers", "8", "--at-once", "256", "--timeout-ms", hostile.MIX_MS]
-        run = Saved(words + [server.url(path) for path in paths], into, seconds=200)
+        run = Saved(words + [server.url(path) for path in paths], into)
         want(len(run.lines) == 256, f"{len(run.lines)} lines")
         files = {}
         for verdict, code, _, length, name, url in run.lines:
@@ -717,7 +717,7 @@ def case_ten_thousand_urls():
     with Nginx({}, 'location /n { return 200 "$request_uri"; }') as server:
         for count in (1_000, 10_000):
             into, urls = folder(), [server.url(f"n{number:05}") for number in range(count)]
-            run = Saved(["--history", "4096", "--at-once", "32"], into, urls, 300)
+            run = Saved(["--history", "4096", "--at-once", "32"], into, urls, 1200)
             want(run.status == 0 and len(run.lines) == count, f"exit status {run.status}, {len(run.lines)} lines; {run.err!r}")
             want_files(into, {f"n{number:05}": f"/n{number:05}".encode() for number in range(count)})
             # of descriptors one for each transfer, at most 8 for idle connections, and a few

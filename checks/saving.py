@@ -29,9 +29,10 @@ def start(words, **how):
 
 
 class Saved:
-    """What a run told: its lines are (verdict, code, status, length, file, URL), in the order in which they came."""
+    """What a run told: its lines are (verdict, code, status, length, file, URL), in the order in which they came. One that hangs is ended
+    after these seconds, since a busy disk was seen to take 12 milliseconds a file."""
 
-    def __init__(self, words, into=None, urls=None, seconds=60, asked=None):
+    def __init__(self, words, into=None, urls=None, seconds=300, asked=None):
         begun = time.monotonic()
         words = words + (["--into", into] if into else []) + (["--input", "-"] if urls is not None else [])
         with tempfile.TemporaryFile(dir=WORK) as list_, tempfile.TemporaryFile(dir=WORK) as out, tempfile.TemporaryFile(dir=WORK) as err:

@@ -30,9 +30,10 @@ def want(is_so, what):
 # --- runs ---------------------------------------------------------------------------------------------------------------
 
 class Run:
-    """What a run of `mxfetch get` printed: its ends are (code, status, body), in the order of the handles."""
+    """What a run of `mxfetch get` printed: its ends are (code, status, body), in the order of the handles. One that hangs is ended after
+    these seconds."""
 
-    def __init__(self, words, seconds=60, asked=None):
+    def __init__(self, words, seconds=300, asked=None):
         begun = time.monotonic()
         with tempfile.TemporaryFile(dir=WORK) as out, tempfile.TemporaryFile(dir=WORK) as err:
             child = subprocess.Popen([PROGRAM, "get"] + words, stdin=subprocess.DEVNULL, stdout=out, stderr=err,
@@ -108,7 +109,7 @@ def refuse_growths(words, ends):
         if os.path.exists(note):
             os.remove(note)
         asked = {"REFUSE_GROWTH": str(which), "REFUSE_NOTE": note, "LD_PRELOAD": os.path.join(WORK, "refuse.so")}
-        run = Run(["--timeout-ms", "5000"] + words, 20, asked)
+        run = Run(["--timeout-ms", "5000"] + words, asked=asked)
         if not os.path.exists(note):
             break
         if run.out == b"FAULT 27\n":
@@ -240,8 +241,8 @@ def deaf():
 
 
 class Nginx:
-    """nginx over a folder of files, with more lines of its server's configuration. The log has a line for each request. It is handed a socket
-    that listens already, by the variable NGINX as a newer nginx is by an older one: so nobody else takes its port before it listens."""
+    """nginx over a folder of files, with more lines of its server's configuration. The log has a line for each request. It is handed a
+    socket that listens already, by the variable NGINX as a newer nginx is by an older one: so nobody else takes its port before."""
 
     def __init__(self, files, more=""):
         self.root = os.path.join(WORK, "files")
