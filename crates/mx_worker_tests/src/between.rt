@@ -34,18 +34,28 @@ fn plan_link(
     }
 }
 
-// A gate whose clock rises by one millisecond each time it is asked.
-fn rising_gate(alloc: Global) -> Result<ScriptGate<ScriptLink>, OutOfMemory> {
-    let mut gate = ScriptGate::new(alloc, LAST_TURN);
+// Has the gate open a link for each transfer, and its clock rise by one millisecond each time it is asked.
+fn plan_all(alloc: Global, gate: &mut ScriptGate<ScriptLink>) -> Result<(), OutOfMemory> {
     for turn in 0..MANY {
-        plan_link(alloc, &mut gate, turn + 1)?;
+        plan_link(alloc, gate, turn + 1)?;
     }
     for moment in 0..4096 {
         if gate.plan_moment(moment).is_err() {
             return Err(OutOfMemory);
         }
     }
-    Ok(gate)
+    Ok(())
+}
+
+// Runs a worker over that gate.
+fn serve<R: Wait + RandomSource + AllocGlobal>(rt: &R, desk: &mut ScriptDesk) -> Result<(), Fail> {
+    let mut gate = ScriptGate::new(rt.alloc(), LAST_TURN);
+    let ran = match plan_all(rt.alloc(), &mut gate) {
+        Ok(()) => desk.run(rt, &mut gate, MANY, 0),
+        Err(refused) => Err(refused.into()),
+    };
+    drop(gate);
+    ran
 }
 
 // Adds 64 transfers, of which the last may take so long.
@@ -68,9 +78,7 @@ fn run_all<R: Wait + RandomSource + AllocGlobal>(
     first_late: u32,
 ) -> Result<(), Fail> {
     add_all(rt, desk, timeout_ms)?;
-    let mut gate = rising_gate(rt.alloc())?;
-    desk.run(rt, &mut gate, MANY, 0)?;
-    drop(gate);
+    serve(rt, desk)?;
     for handle in 1..first_late {
         desk.expect(rt, handle, Code::Ok, b"hello")?;
     }
@@ -81,9 +89,9 @@ fn run_all<R: Wait + RandomSource + AllocGlobal>(
     Ok(())
 }
 
-/// The clock is asked once at the beginning of a turn and once before each transfer but the first. So the last transfer is polled for the first
-/// time at 2079, and the last turn begins at 2144: 75 milliseconds after 2079 its first ten transfers have been polled. The one that is due
-/// then is served next, and not behind the 53 others.
+/// The clock is asked once at the beginning of a turn and once before each transfer but the first. So the last transfer is polled for the
+/// first time at 2079, and the last turn begins at 2144: 75 milliseconds after 2079 its first ten transfers have been polled. The one that
+/// is due then is served next, and not behind the 53 others.
 #[test]
 fn the_due_are_served_between_two_polls(rt: HostRuntime) -> Result<(), Fail> {
     let mut desk = ScriptDesk::open(&rt, rt.alloc(), 0)?;

@@ -17,6 +17,11 @@ use std::random::RandomSource;
 use std::sync::Wait;
 use std::test::Fail;
 
+// Whether an end is recorded. It is of any claim and end, so that what comes back is let go as one value, whatever it is.
+fn is_recorded<C: Drop, O: Drop, W: Drop>(answer: Result<FinishReply<C, O>, W>) -> bool {
+    matches!(answer, Ok(FinishReply::Recorded))
+}
+
 // Claims a transfer, polls it at the moments 0 and 1 as the look at it says, and records its end. It says whether it was paused; None where
 // any of this went otherwise.
 fn end_claimed<R: Wait>(
@@ -27,32 +32,35 @@ fn end_claimed<R: Wait>(
     let Some((claim, queued)) = worker.claim(rt) else {
         return None;
     };
-    let look = worker.look(claim.ticket());
-    let is_paused = matches!(look, Some(Look::Paused));
-    let Some(outcome) = outcome_of(solo, queued, is_paused) else {
-        return None;
+    let is_paused = matches!(worker.look(claim.ticket()), Some(Look::Paused));
+    let is_recorded = match outcome_of(solo, queued, is_paused) {
+        Some(outcome) => is_recorded(worker.finish(rt, claim, outcome)),
+        None => {
+            drop(claim);
+            false
+        }
     };
-    match worker.finish(rt, claim, outcome) {
-        Ok(FinishReply::Recorded) => Some(is_paused),
-        _ => None,
-    }
+    is_recorded.then_some(is_paused)
 }
 
 // The same, by the last of these seats.
-fn end_by_hand<R: Wait + RandomSource + AllocGlobal>(
+fn end_by_hand<R: Wait>(
     rt: &R,
     multi: &Multi<Queued<ScriptLink>, Outcome>,
-    workers: Vec<WorkerSeat<Queued<ScriptLink>, Outcome>>,
-) -> Result<bool, Fail>
-    requires own { All (λ s. s.of ≡ multi.now) workers.items }
+    workers: &mut Vec<WorkerSeat<Queued<ScriptLink>, Outcome>>,
+    solo: &Solo,
+) -> Option<bool>
+    requires own { All (λ s. s.of ≡ multi.now) workers.old.items }
 {
-    let solo = Solo::new(rt, Doorbell::spinning())?;
-    let mut workers = workers;
-    let ended = match workers.pop() {
-        Some(worker) => end_claimed(rt, &mut multi.at(worker), &solo),
+    match workers.pop() {
+        Some(worker) => {
+            let mut worker = multi.at(worker);
+            let ended = end_claimed(rt, &mut worker, solo);
+            drop(worker);
+            ended
+        }
         None => None,
-    };
-    Ok(ended.ok_or("it isn't ended by hand")?)
+    }
 }
 
 // Reads the first message, which is to be that of handle 1, ended at its deadline.
@@ -65,11 +73,31 @@ fn expect_end<R: Wait>(
 {
     let read = messages::read(rt, multi, seat)?;
     let message = read.ok_or("no message")?;
-    messages::check(&message, 1, Code::OperationTimedout, b"")
+    let told = messages::check(&message, 1, Code::OperationTimedout, b"");
+    drop(message);
+    told
 }
 
-// Ends the one transfer of a desk by hand, and reads its message. It says whether the transfer was paused.
+// Ends the one transfer of a multi handle by hand, and reads its message. It says whether the transfer was paused.
 fn end_one<R: Wait + RandomSource + AllocGlobal>(
+    rt: &R,
+    multi: &Multi<Queued<ScriptLink>, Outcome>,
+    seat: &mut Seat<Queued<ScriptLink>, Outcome>,
+    workers: &mut Vec<WorkerSeat<Queued<ScriptLink>, Outcome>>,
+) -> Result<bool, Fail>
+    requires seat { seat.old.of ≡ multi.now }
+    requires workers { All (λ s. s.of ≡ multi.now) workers.old.items }
+{
+    let solo = Solo::new(rt, Doorbell::spinning())?;
+    let ended = end_by_hand(rt, multi, workers, &solo);
+    drop(solo);
+    let was_paused = ended.ok_or("it isn't ended by hand")?;
+    expect_end(rt, multi, seat)?;
+    Ok(was_paused)
+}
+
+// The same, at the parts of a desk.
+fn end_at<R: Wait + RandomSource + AllocGlobal>(
     rt: &R,
     parts: Parts<Queued<ScriptLink>, Outcome>,
 ) -> Result<bool, Fail>
@@ -79,17 +107,19 @@ fn end_one<R: Wait + RandomSource + AllocGlobal>(
     let Parts {
         multi,
         mut seat,
-        workers,
+        mut workers,
     } = parts;
-    let was_paused = end_by_hand(rt, &multi, workers)?;
-    expect_end(rt, &multi, &mut seat)?;
-    Ok(was_paused)
+    let ended = end_one(rt, &multi, &mut seat, &mut workers);
+    drop(workers);
+    drop(seat);
+    drop(multi);
+    ended
 }
 
 // Ends a transfer of one millisecond by hand, after these steps.
 fn run<R: Wait + RandomSource + AllocGlobal>(rt: &R, steps: &[Step<'_>]) -> Result<bool, Fail> {
     let desk = desk_after(rt, 4, steps)?;
-    end_one(rt, desk.into_parts())
+    end_at(rt, desk.into_parts())
 }
 
 const ADDITION: Step<'static> = Step::Add(1, "http://a.example/", 1);

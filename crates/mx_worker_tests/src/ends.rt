@@ -4,12 +4,7 @@ use crate::script::{Run, Step, play};
 use mx_link::ScriptRead;
 use mx_multi::Progress;
 use mx_types::{Call, Code, HandleId, Ticket};
-use mx_worker_tests_base::desk::ScriptDesk;
-use mx_worker_tests_base::gates::{gate_with, refusing_gate};
-use mx_worker_tests_base::responses::{AT_ONCE, COUNTED, OTHER_AT_ONCE, SILENT};
-use std::alloc::AllocGlobal;
-use std::random::RandomSource;
-use std::sync::Wait;
+use mx_worker_tests_base::responses::{AT_ONCE, OTHER_AT_ONCE, SILENT};
 use std::test::Fail;
 
 /// The request that the transfer of `http://a.example/` sends (RFC 9112, section 3).
@@ -41,17 +36,6 @@ fn one_worker_serves_two(rt: HostRuntime) -> Result<(), Fail> {
     Ok(())
 }
 
-// A transfer whose link can't be had for this code ends with it.
-fn end_with<R: Wait + RandomSource + AllocGlobal>(
-    rt: &R,
-    desk: &mut ScriptDesk,
-    code: Code,
-) -> Result<(), Fail> {
-    desk.add(rt, rt.alloc(), 1, "http://a.example/", 0)?;
-    desk.run(rt, &mut refusing_gate(rt.alloc(), code)?, 1, 0)?;
-    desk.expect(rt, 1, code, b"")
-}
-
 /// A gate that can't open gives the code of the message.
 #[test]
 fn a_link_that_cannot_be_had_gives_its_code(rt: HostRuntime) -> Result<(), Fail> {
@@ -60,10 +44,12 @@ fn a_link_that_cannot_be_had_gives_its_code(rt: HostRuntime) -> Result<(), Fail>
         Code::CouldntConnect,
         Code::OutOfMemory,
     ] {
-        let mut desk = ScriptDesk::open(&rt, rt.alloc(), 4)?;
-        let result = end_with(&rt, &mut desk, code);
-        desk.close();
-        result?;
+        let steps = [
+            Step::Add(1, "http://a.example/", 0),
+            Step::RunRefused(code),
+            Step::Message(1, code, b""),
+        ];
+        play(&rt, 4, &steps)?;
     }
     Ok(())
 }
@@ -112,33 +98,31 @@ fn a_removed_handle_gets_no_message(rt: HostRuntime) -> Result<(), Fail> {
     Ok(())
 }
 
-// Two transfers, of which the first ends within its response. It answers how far the second was before, and then the first and the second.
-fn note_two<R: Wait + RandomSource + AllocGlobal>(
-    rt: &R,
-    desk: &mut ScriptDesk,
-) -> Result<[Option<Progress>; 3], Fail> {
-    desk.add(rt, rt.alloc(), 1, "http://a.example/", 10)?;
-    desk.add(rt, rt.alloc(), 2, "http://b.example/", 0)?;
-    let before = desk.progress(2);
-    let cut_short = [ScriptRead::Bytes(&COUNTED[..40]), ScriptRead::WouldBlock];
-    let mut gate = gate_with(rt.alloc(), 2, &[&cut_short, AT_ONCE], &[100, 105, 110])?;
-    desk.run(rt, &mut gate, 2, 0)?;
-    Ok([before, desk.progress(1), desk.progress(2)])
-}
+/// A link that gives 40 bytes, three less than a response has, and nothing more.
+const CUT_SHORT: &[ScriptRead<'static>] = &[
+    ScriptRead::Bytes(b"HTTP/1.1 200 OK\r\nContent-Length: 5\r\n\r\nhe"),
+    ScriptRead::WouldBlock,
+];
+
+/// Two transfers, of which the first ends within its response: how far the second is before, and both afterwards.
+const LOOK_AT_TWO: &[Step<'static>] = &[
+    Step::Add(1, "http://a.example/", 10),
+    Step::Add(2, "http://b.example/", 0),
+    Step::Look(2, Progress::Bytes(Ticket(1), 0)),
+    Step::Run(Run {
+        turns: 2,
+        links: &[CUT_SHORT, AT_ONCE],
+        moments: &[100, 105, 110],
+        recorded: 2,
+        given_back: 0,
+    }),
+    Step::Look(1, Progress::Bytes(Ticket(0), 40)),
+    Step::Look(2, Progress::Bytes(Ticket(1), 43)),
+];
 
 /// A seat reads how many bytes came for a transfer, whether it ended whole or within its response.
 #[test]
 fn a_worker_notes_how_far_a_transfer_is(rt: HostRuntime) -> Result<(), Fail> {
-    let mut desk = ScriptDesk::open(&rt, rt.alloc(), 4)?;
-    let noted = note_two(&rt, &mut desk);
-    desk.close();
-    assert_eq!(rt;
-        noted?,
-        [
-            Some(Progress::Bytes(Ticket(1), 0)),
-            Some(Progress::Bytes(Ticket(0), 40)),
-            Some(Progress::Bytes(Ticket(1), 43))
-        ]
-    );
+    play(&rt, 4, LOOK_AT_TWO)?;
     Ok(())
 }

@@ -1,5 +1,5 @@
-//! A worker whose start is refused, and one that is refused memory. What that one serves is served again then, and has to come as if nothing
-//! had been refused; only then does the test fail, by a text of its own. Without a refusal it passes.
+//! A worker whose start is refused, and one that is refused memory. What that one serves is served again then, and has to come as if
+//! nothing had been refused; only then does the test fail, by a text of its own. Without a refusal it passes.
 ghost use Rattle.std.specs.Prelude.{◌≡◌, All};
 
 use crate::ends::{FROM_A, FROM_B};
@@ -12,7 +12,7 @@ use mx_types::{Code, OutOfMemory};
 use mx_worker::{Queued, run_worker};
 use mx_worker_tests_base::desk::{Parts, ScriptDesk};
 use mx_worker_tests_base::gates::gate_with;
-use mx_worker_tests_base::messages::is_answer;
+use mx_worker_tests_base::messages::{Message, is_answer};
 use mx_worker_tests_base::responses::{AT_ONCE, OTHER_AT_ONCE};
 use mx_worker_tests_base::runs;
 use std::alloc::{Alloc, AllocGlobal, Global};
@@ -52,14 +52,12 @@ fn start_twice<R: Wait + RandomSource + AllocGlobal>(
     gate: &mut ScriptGate<ScriptLink>,
 ) -> Option<(u32, u32)> {
     let end = run_worker(&Unlucky { rt }, worker, gate);
-    if !end.refused {
-        return None;
-    }
+    let is_refused = end.refused;
     let ended = end.recorded.saturating_add(end.stale);
     let done = ended.saturating_add(end.given_back);
     match runs::work(rt, end.seat, gate) {
-        Some(ran) => Some((done, ran.recorded)),
-        None => None,
+        Some(ran) if is_refused => Some((done, ran.recorded)),
+        _ => None,
     }
 }
 
@@ -67,28 +65,46 @@ fn start_twice<R: Wait + RandomSource + AllocGlobal>(
 fn start_at<R: Wait + RandomSource + AllocGlobal>(
     rt: &R,
     multi: &Multi<Queued<ScriptLink>, Outcome>,
-    workers: Vec<WorkerSeat<Queued<ScriptLink>, Outcome>>,
-) -> Result<(u32, u32), Fail>
-    requires own { All (λ s. s.of ≡ multi.now) workers.items }
+    workers: &mut Vec<WorkerSeat<Queued<ScriptLink>, Outcome>>,
+    gate: &mut ScriptGate<ScriptLink>,
+) -> Option<(u32, u32)>
+    requires own { All (λ s. s.of ≡ multi.now) workers.old.items }
 {
-    let mut gate = gate_with(rt.alloc(), 1, &[AT_ONCE], &[])?;
-    let mut workers = workers;
-    let told = match workers.pop() {
-        Some(worker) => start_twice(rt, multi.at(worker), &mut gate),
+    match workers.pop() {
+        Some(worker) => start_twice(rt, multi.at(worker), gate),
         None => None,
-    };
-    Ok(told.ok_or("the starts went otherwise")?)
+    }
+}
+
+// The same, at the parts of a desk.
+fn start_at_parts<R: Wait + RandomSource + AllocGlobal>(
+    rt: &R,
+    parts: Parts<Queued<ScriptLink>, Outcome>,
+    gate: &mut ScriptGate<ScriptLink>,
+) -> Option<(u32, u32)>
+    requires own { All (λ s. s.of ≡ parts.multi) parts.workers.items }
+{
+    let Parts {
+        multi,
+        seat,
+        mut workers,
+    } = parts;
+    let told = start_at(rt, &multi, &mut workers, gate);
+    drop(workers);
+    drop(seat);
+    drop(multi);
+    told
 }
 
 // The same, at a desk with one transfer.
 fn start_at_desk<R: Wait + RandomSource + AllocGlobal>(rt: &R) -> Result<(u32, u32), Fail> {
-    let desk = desk_after(rt, 4, &[Step::Add(1, "http://a.example/", 0)])?;
-    let Parts {
-        multi,
-        seat: _,
-        workers,
-    } = desk.into_parts();
-    start_at(rt, &multi, workers)
+    let mut gate = gate_with(rt.alloc(), 1, &[AT_ONCE], &[])?;
+    let told = match desk_after(rt, 4, &[Step::Add(1, "http://a.example/", 0)]) {
+        Ok(desk) => Ok(start_at_parts(rt, desk.into_parts(), &mut gate)),
+        Err(fail) => Err(fail),
+    };
+    drop(gate);
+    Ok(told?.ok_or("the starts went otherwise")?)
 }
 
 /// A worker whose start is refused says so, claims nothing, and gives its seat back as it was: another serves there what was added.
@@ -112,6 +128,31 @@ enum Went {
     Wrong,
 }
 
+// How a call went that answered as it is to.
+fn went_right(is_refused: bool) -> Went {
+    if is_refused {
+        return Went::Refused;
+    }
+    Went::Right
+}
+
+// How reading a message went that is to be of this ticket, with this request and body.
+fn reading_went(
+    message: &Message,
+    is_refused: bool,
+    ticket: u32,
+    request: &[u8],
+    body: &[u8],
+) -> Went {
+    if message.outcome.code() == Code::OutOfMemory {
+        return Went::Refused;
+    }
+    if !is_answer(message, ticket, request, body) {
+        return Went::Wrong;
+    }
+    went_right(is_refused)
+}
+
 // Reads the first message, which is to be of this ticket, with this request and body.
 fn read<R: Wait>(
     rt: &R,
@@ -121,20 +162,14 @@ fn read<R: Wait>(
     body: &[u8],
 ) -> Result<Went, OutOfMemory> {
     let (message, is_refused) = desk.read_again(rt)?;
-    let Some(message) = message else {
-        return Ok(Went::Wrong);
-    };
-    if message.outcome.code() == Code::OutOfMemory {
-        return Ok(Went::Refused);
+    match message {
+        Some(message) => {
+            let went = reading_went(&message, is_refused, ticket, request, body);
+            drop(message);
+            Ok(went)
+        }
+        None => Ok(Went::Wrong),
     }
-    if !is_answer(&message, ticket, request, body) {
-        return Ok(Went::Wrong);
-    }
-    Ok(if is_refused {
-        Went::Refused
-    } else {
-        Went::Right
-    })
 }
 
 // Both, of which a wrong one tells more than a refused one.
@@ -146,24 +181,30 @@ fn both(first: Went, second: Went) -> Went {
     }
 }
 
+// Runs a worker over two links, which is to record two ends.
+fn work_at<R: Wait + RandomSource + AllocGlobal>(
+    rt: &R,
+    desk: &mut ScriptDesk,
+) -> Result<Went, Fail> {
+    let mut gate = gate_with(rt.alloc(), 3, &[AT_ONCE, OTHER_AT_ONCE], &[])?;
+    let ran = desk.work(rt, &mut gate);
+    drop(gate);
+    let ran = ran?;
+    if (ran.recorded, ran.stale, ran.given_back) != (2, 0, 0) {
+        return Ok(Went::Wrong);
+    }
+    Ok(went_right(ran.is_second))
+}
+
 // Serves two URLs by one worker, which records both ends.
 fn serve_at<R: Wait + RandomSource + AllocGlobal>(
     rt: &R,
     desk: &mut ScriptDesk,
 ) -> Result<Went, Fail> {
-    let mut gate = gate_with(rt.alloc(), 3, &[AT_ONCE, OTHER_AT_ONCE], &[])?;
-    let ran = desk.work(rt, &mut gate)?;
+    let ran = work_at(rt, desk)?;
     let first = read(rt, desk, 0, FROM_A, b"hello")?;
     let second = read(rt, desk, 1, FROM_B, b"bye")?;
-    if (ran.recorded, ran.stale, ran.given_back) != (2, 0, 0) {
-        return Ok(Went::Wrong);
-    }
-    let start = if ran.is_second {
-        Went::Refused
-    } else {
-        Went::Right
-    };
-    Ok(both(start, both(first, second)))
+    Ok(both(ran, both(first, second)))
 }
 
 // The same, at a desk of its own.

@@ -2,10 +2,10 @@
 ghost use Rattle.std.specs.Prelude.{◌≡◌, All};
 
 use crate::script::{Step, desk_after};
-use mx_gate::{Gate, Said, Turn};
+use mx_gate::{Gate, Said, ScriptGate, Turn};
 use mx_journal::AddReply;
 use mx_link::{ScriptLink, ScriptRead};
-use mx_multi::{Application, AtWork, Seated};
+use mx_multi::{Application, AtWork, Multi, Seat, Seated, WorkerSeat};
 use mx_request::Endpoint;
 use mx_transfer::Outcome;
 use mx_types::{Call, Code, HandleId, History, OutOfMemory, Ticket};
@@ -19,6 +19,12 @@ use std::alloc::{AllocGlobal, Global};
 use std::random::RandomSource;
 use std::sync::Wait;
 use std::test::Fail;
+
+/// The seat of an application thread, at its multi handle.
+type CallerSeat<'m> = Seated<'m, Application, Queued<ScriptLink>, Outcome>;
+
+/// A worker's seat, at its multi handle.
+type WorkSeat<'m> = Seated<'m, AtWork, Queued<ScriptLink>, Outcome>;
 
 /// Where a gate removes the handle.
 #[derive(Clone, Copy, PartialEq, Eq)]
@@ -34,7 +40,7 @@ enum Removal {
 struct Remover<'r, 'm, R: Wait> {
     rt: &'r R,
     alloc: Global,
-    seat: Seated<'m, Application, Queued<ScriptLink>, Outcome>,
+    seat: CallerSeat<'m>,
     removal: Removal,
     turns: u32,
     /// How many links it has opened.
@@ -116,60 +122,88 @@ struct Seen {
 }
 
 // The first message; None where there is none.
-fn read<R: Wait>(
-    rt: &R,
-    seat: &mut Seated<'_, Application, Queued<ScriptLink>, Outcome>,
-) -> Result<Option<Message>, OutOfMemory> {
+fn read<R: Wait>(rt: &R, seat: &mut CallerSeat<'_>) -> Result<Option<Message>, OutOfMemory> {
     match seat.info_read(rt) {
         Ok(reply) => message_of(reply),
         Err(_) => Ok(None),
     }
 }
 
+// The handle of the first message; None where there is none.
+fn read_handle<R: Wait>(rt: &R, seat: &mut CallerSeat<'_>) -> Result<Option<u32>, OutOfMemory> {
+    match read(rt, seat)? {
+        Some(message) => {
+            let handle = message.handle.0;
+            drop(message);
+            Ok(Some(handle))
+        }
+        None => Ok(None),
+    }
+}
+
+// Whether the first message is of this ticket, and a whole response to the request that is made again.
+fn is_fetched<R: Wait>(
+    rt: &R,
+    seat: &mut CallerSeat<'_>,
+    ticket: Ticket,
+) -> Result<bool, OutOfMemory> {
+    match read(rt, seat)? {
+        Some(message) => {
+            let is_fetched = is_answer(&message, ticket.0, AGAIN, b"bye");
+            drop(message);
+            Ok(is_fetched)
+        }
+        None => Ok(false),
+    }
+}
+
+// The ticket of an addition. It is of any work, so that what is handed back is let go as one value, whatever it is.
+fn ticket_of<Q: Drop, W: Drop>(answer: Result<AddReply<Q>, W>) -> Option<Ticket> {
+    match answer {
+        Ok(AddReply::Added(ticket)) => Some(ticket),
+        _ => None,
+    }
+}
+
 // Adds handle 1 again: its ticket.
 fn add_again<R: Wait + AllocGlobal>(
     rt: &R,
-    seat: &mut Seated<'_, Application, Queued<ScriptLink>, Outcome>,
+    seat: &mut CallerSeat<'_>,
 ) -> Result<Option<Ticket>, Fail> {
     let request = runs::request_of(rt.alloc(), "http://a.example/again", 0)?;
-    let Ok(work) = Queued::new(rt.alloc(), request) else {
-        return Err(OutOfMemory.into());
-    };
-    match seat.add(rt, HandleId(1), work) {
-        Ok(AddReply::Added(ticket)) => Ok(Some(ticket)),
-        _ => Ok(None),
+    match Queued::new(rt.alloc(), request) {
+        Ok(work) => Ok(ticket_of(seat.add(rt, HandleId(1), work))),
+        Err(_) => Err(OutOfMemory.into()),
     }
 }
 
 // The ticket under which handle 1, added again, is fetched whole by another worker; None where it isn't.
 fn fetch_again<R: Wait + RandomSource + AllocGlobal>(
     rt: &R,
-    seat: &mut Seated<'_, Application, Queued<ScriptLink>, Outcome>,
-    worker: Seated<'_, AtWork, Queued<ScriptLink>, Outcome>,
+    seat: &mut CallerSeat<'_>,
+    worker: WorkSeat<'_>,
+    gate: &mut ScriptGate<ScriptLink>,
 ) -> Result<Option<u32>, Fail> {
-    let Some(ticket) = add_again(rt, seat)? else {
+    let added = add_again(rt, seat);
+    let recorded = match runs::work(rt, worker, gate) {
+        Some(ran) => ran.recorded,
+        None => 0,
+    };
+    let Some(ticket) = added? else {
         return Ok(None);
     };
-    let mut gate = gate_with(rt.alloc(), 1, &[OTHER_AT_ONCE], &[])?;
-    let Some(ran) = runs::work(rt, worker, &mut gate) else {
-        return Ok(None);
-    };
-    match read(rt, seat)? {
-        Some(message) if ran.recorded == 1 && is_answer(&message, ticket.0, AGAIN, b"bye") => {
-            Ok(Some(ticket.0))
-        }
-        _ => Ok(None),
-    }
+    let is_fetched = is_fetched(rt, seat, ticket)?;
+    Ok((is_fetched && recorded == 1).then_some(ticket.0))
 }
 
-// Runs a worker with a gate that removes handle 1, and then another.
-fn see_both<'m, R: Wait + RandomSource + AllocGlobal>(
+// Runs a worker with a gate that removes handle 1, and hands back the seat. It answers the ends that the worker recorded, those that were
+// stale, and how many links the gate opened.
+fn run_removed<'m, R: Wait + RandomSource + AllocGlobal>(
     rt: &R,
-    seat: Seated<'m, Application, Queued<ScriptLink>, Outcome>,
-    first: Seated<'m, AtWork, Queued<ScriptLink>, Outcome>,
-    second: Seated<'m, AtWork, Queued<ScriptLink>, Outcome>,
+    seat: CallerSeat<'m>,
+    worker: WorkSeat<'m>,
     removal: Removal,
-) -> Result<Seen, Fail> {
+) -> (CallerSeat<'m>, Option<(u32, u32, u32)>) {
     let mut gate = Remover {
         rt,
         alloc: rt.alloc(),
@@ -179,18 +213,67 @@ fn see_both<'m, R: Wait + RandomSource + AllocGlobal>(
         opened: 0,
         said: History::new(),
     };
-    let Some(ran) = runs::work(rt, first, &mut gate) else {
-        return Err("no memory".into());
-    };
-    let message = match read(rt, &mut gate.seat)? {
-        Some(message) => Some(message.handle.0),
+    let counts = match runs::work(rt, worker, &mut gate) {
+        Some(ran) => Some((ran.recorded, ran.stale, gate.opened)),
         None => None,
     };
+    (gate.seat, counts)
+}
+
+// What is seen after such a run.
+fn see_then<R: Wait + RandomSource + AllocGlobal>(
+    rt: &R,
+    seat: &mut CallerSeat<'_>,
+    counts: Option<(u32, u32, u32)>,
+    worker: WorkSeat<'_>,
+    gate: &mut ScriptGate<ScriptLink>,
+) -> Result<Seen, Fail> {
+    let message = read_handle(rt, seat);
+    let fetched_again = fetch_again(rt, seat, worker, gate)?;
     Ok(Seen {
-        counts: (ran.recorded, ran.stale, gate.opened),
-        message,
-        fetched_again: fetch_again(rt, &mut gate.seat, second)?,
+        counts: counts.ok_or("no memory")?,
+        message: message?,
+        fetched_again,
     })
+}
+
+// Runs a worker with a gate that removes handle 1, and then another with this gate.
+fn see_both<'m, R: Wait + RandomSource + AllocGlobal>(
+    rt: &R,
+    seat: CallerSeat<'m>,
+    first: WorkSeat<'m>,
+    second: WorkSeat<'m>,
+    removal: Removal,
+    gate: &mut ScriptGate<ScriptLink>,
+) -> Result<Seen, Fail> {
+    let (mut seat, counts) = run_removed(rt, seat, first, removal);
+    let seen = see_then(rt, &mut seat, counts, second, gate);
+    drop(seat);
+    seen
+}
+
+// The same, by these seats.
+fn see_at<R: Wait + RandomSource + AllocGlobal>(
+    rt: &R,
+    multi: &Multi<Queued<ScriptLink>, Outcome>,
+    seat: Seat<Queued<ScriptLink>, Outcome>,
+    workers: &mut Vec<WorkerSeat<Queued<ScriptLink>, Outcome>>,
+    removal: Removal,
+    gate: &mut ScriptGate<ScriptLink>,
+) -> Result<Seen, Fail>
+    requires seat { seat.of ≡ multi.now }
+    requires workers { All (λ s. s.of ≡ multi.now) workers.old.items }
+{
+    match (workers.pop(), workers.pop()) {
+        (Some(first), Some(second)) => {
+            let (seat, first, second) = (multi.at(seat), multi.at(first), multi.at(second));
+            see_both(rt, seat, first, second, removal, gate)
+        }
+        _ => {
+            drop(seat);
+            Err("fewer than two workers' seats".into())
+        }
+    }
 }
 
 // The same, at the parts of a desk.
@@ -198,6 +281,7 @@ fn see<R: Wait + RandomSource + AllocGlobal>(
     rt: &R,
     parts: Parts<Queued<ScriptLink>, Outcome>,
     removal: Removal,
+    gate: &mut ScriptGate<ScriptLink>,
 ) -> Result<Seen, Fail>
     requires seat { parts.seat.of ≡ parts.multi }
     requires workers { All (λ s. s.of ≡ parts.multi) parts.workers.items }
@@ -207,16 +291,10 @@ fn see<R: Wait + RandomSource + AllocGlobal>(
         seat,
         mut workers,
     } = parts;
-    let (Some(first), Some(second)) = (workers.pop(), workers.pop()) else {
-        return Err("fewer than two workers' seats".into());
-    };
-    see_both(
-        rt,
-        multi.at(seat),
-        multi.at(first),
-        multi.at(second),
-        removal,
-    )
+    let seen = see_at(rt, &multi, seat, &mut workers, removal, gate);
+    drop(workers);
+    drop(multi);
+    seen
 }
 
 // The same, after these steps.
@@ -225,8 +303,13 @@ fn see_after<R: Wait + RandomSource + AllocGlobal>(
     steps: &[Step<'_>],
     removal: Removal,
 ) -> Result<Seen, Fail> {
-    let desk = desk_after(rt, 4, steps)?;
-    see(rt, desk.into_parts(), removal)
+    let mut gate = gate_with(rt.alloc(), 1, &[OTHER_AT_ONCE], &[])?;
+    let seen = match desk_after(rt, 4, steps) {
+        Ok(desk) => see(rt, desk.into_parts(), removal, &mut gate),
+        Err(fail) => Err(fail),
+    };
+    drop(gate);
+    seen
 }
 
 /// What the transfer of handle 1 sends that is added again.

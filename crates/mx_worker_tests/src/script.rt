@@ -1,9 +1,11 @@
 //! Scripts of what is done at a desk, each step with what is to come of it.
 
-use mx_link::ScriptRead;
+use mx_gate::ScriptGate;
+use mx_link::{ScriptLink, ScriptRead};
+use mx_multi::Progress;
 use mx_types::{Call, Code};
 use mx_worker_tests_base::desk::ScriptDesk;
-use mx_worker_tests_base::gates::gate_with;
+use mx_worker_tests_base::gates::{gate_with, refusing_gate};
 use mx_worker_tests_base::runs;
 use std::alloc::AllocGlobal;
 use std::random::RandomSource;
@@ -36,6 +38,10 @@ pub enum Step<'a> {
     Make(Call, &'a str),
     /// Runs a worker.
     Run(Run<'a>),
+    /// Runs a worker, which is to record one end, over a gate of its own that can't open a link, for this cause.
+    RunRefused(Code),
+    /// Looks how far the handle's transfer is, which is to be so far.
+    Look(u32, Progress),
     /// Reads the first message, which is to be of this handle, with this code and body.
     Message(u32, Code, &'a [u8]),
     /// Reads the first message, which is to be of this ticket, with code 0, this request and this body.
@@ -65,6 +71,25 @@ fn follow<R: Wait + AllocGlobal>(
     desk.add_request(rt, rt.alloc(), handle, request)
 }
 
+// Runs a worker over a gate, which is to record so many ends and to give back so many transfers. It answers what the gate was left with.
+fn serve<R: Wait + RandomSource + AllocGlobal>(
+    rt: &R,
+    desk: &mut ScriptDesk,
+    gate: ScriptGate<ScriptLink>,
+    recorded: u32,
+    given_back: u32,
+) -> Result<Left, Fail> {
+    let mut gate = gate;
+    let ran = desk.run(rt, &mut gate, recorded, given_back);
+    let left = Left {
+        links: gate.openings_left(),
+        wait: gate.last_wait(),
+    };
+    drop(gate);
+    ran?;
+    Ok(left)
+}
+
 // Runs a worker.
 fn run_worker<R: Wait + RandomSource + AllocGlobal>(
     rt: &R,
@@ -72,11 +97,27 @@ fn run_worker<R: Wait + RandomSource + AllocGlobal>(
     left: &mut Left,
     planned: Run<'_>,
 ) -> Result<(), Fail> {
-    let mut gate = gate_with(rt.alloc(), planned.turns, planned.links, planned.moments)?;
-    let ran = desk.run(rt, &mut gate, planned.recorded, planned.given_back);
-    left.links = gate.openings_left();
-    left.wait = gate.last_wait();
-    ran
+    let gate = gate_with(rt.alloc(), planned.turns, planned.links, planned.moments)?;
+    *left = serve(rt, desk, gate, planned.recorded, planned.given_back)?;
+    Ok(())
+}
+
+// Runs a worker over a gate that can't open a link.
+fn run_refused<R: Wait + RandomSource + AllocGlobal>(
+    rt: &R,
+    desk: &mut ScriptDesk,
+    code: Code,
+) -> Result<(), Fail> {
+    serve(rt, desk, refusing_gate(rt.alloc(), code)?, 1, 0)?;
+    Ok(())
+}
+
+// Looks how far the handle's transfer is.
+fn look(desk: &mut ScriptDesk, handle: u32, expected: Progress) -> Result<(), Fail> {
+    if desk.progress(handle) == Some(expected) {
+        return Ok(());
+    }
+    Err("a transfer is at another place".into())
 }
 
 // Takes a step.
@@ -91,6 +132,8 @@ fn take_step<R: Wait + RandomSource + AllocGlobal>(
         Step::Follow(handle, url, max_redirects) => follow(rt, desk, handle, url, max_redirects),
         Step::Make(call, answer) => desk.make(rt, rt.alloc(), call, answer),
         Step::Run(planned) => run_worker(rt, desk, left, planned),
+        Step::RunRefused(code) => run_refused(rt, desk, code),
+        Step::Look(handle, expected) => look(desk, handle, expected),
         Step::Message(handle, code, body) => desk.expect(rt, handle, code, body),
         Step::Answer(ticket, request, body) => desk.expect_answer(rt, ticket, request, body),
         Step::NoMessage => desk.expect_none(rt),

@@ -7,7 +7,8 @@ use mx_types::{Call, Code, HandleId, OutOfMemory};
 use mx_worker_tests_base::desk::ScriptDesk;
 use mx_worker_tests_base::gates::gate_with;
 use mx_worker_tests_base::responses::AT_ONCE;
-use std::alloc::{AllocGlobal, Global};
+use mx_worker_tests_base::runs::Ran;
+use std::alloc::{AllocError, AllocGlobal, Global};
 use std::random::RandomSource;
 use std::sync::Wait;
 use std::test::Fail;
@@ -51,6 +52,18 @@ fn expect_all<R: Wait>(rt: &R, desk: &mut ScriptDesk) -> Result<(), Fail> {
     desk.expect_none(rt)
 }
 
+// Runs a worker over slow links, which is stopped after so many turns.
+fn run_slowly<R: Wait + RandomSource + AllocGlobal>(
+    rt: &R,
+    desk: &mut ScriptDesk,
+    turns: u32,
+) -> Result<Ran, OutOfMemory> {
+    let mut gate = slow_gate(rt.alloc(), turns)?;
+    let ran = desk.work(rt, &mut gate);
+    drop(gate);
+    ran
+}
+
 // Stops a worker after so many turns of a run, and has another take over.
 fn take_over<R: Wait + RandomSource + AllocGlobal>(
     rt: &R,
@@ -58,8 +71,8 @@ fn take_over<R: Wait + RandomSource + AllocGlobal>(
     turns: u32,
 ) -> Result<(), Fail> {
     add_all(rt, rt.alloc(), desk)?;
-    let one = desk.work(rt, &mut slow_gate(rt.alloc(), turns)?)?;
-    let two = desk.work(rt, &mut slow_gate(rt.alloc(), 16)?)?;
+    let one = run_slowly(rt, desk, turns)?;
+    let two = run_slowly(rt, desk, 16)?;
     if one.recorded.saturating_add(two.recorded) != TRANSFERS || one.stale != 0 || two.stale != 0 {
         return Err("the workers ended otherwise".into());
     }
@@ -150,24 +163,29 @@ fn what_has_started_is_ended(rt: HostRuntime) -> Result<(), Fail> {
     Ok(())
 }
 
-fn hold_64<R: Wait + RandomSource + AllocGlobal>(
-    rt: &R,
-    desk: &mut ScriptDesk,
-) -> Result<(), Fail> {
+// Adds 70 transfers that are paused, and has a worker claim them.
+fn claim_70(alloc: Global) -> Result<Vec<Step<'static>>, AllocError> {
+    let mut steps = Vec::new(alloc);
     for handle in 0..70 {
-        desk.add(rt, rt.alloc(), handle, "http://a.example/", 0)?;
-        desk.make(rt, rt.alloc(), Call::Pause(HandleId(handle)), "changed")?;
+        steps.push(Step::Add(handle, "http://a.example/", 0))?;
+        steps.push(Step::Make(Call::Pause(HandleId(handle)), "changed"))?;
     }
-    desk.run(rt, &mut gate_with(rt.alloc(), 80, &[], &[])?, 0, 64)
+    steps.push(Step::Run(Run {
+        turns: 80,
+        links: &[],
+        moments: &[],
+        recorded: 0,
+        given_back: 64,
+    }))?;
+    Ok(steps)
 }
 
 /// A worker that could claim 70 transfers has claimed 64.
 #[test]
 fn a_worker_holds_64_at_most(rt: HostRuntime) -> Result<(), Fail> {
-    let mut desk = ScriptDesk::open(&rt, rt.alloc(), 4)?;
-    let result = hold_64(&rt, &mut desk);
-    desk.close();
-    result
+    let steps = claim_70(rt.alloc())?;
+    play(&rt, 4, steps.as_slice())?;
+    Ok(())
 }
 
 /// A paused transfer of ten milliseconds, which a worker gives back at the moment 100 and another has at 110.

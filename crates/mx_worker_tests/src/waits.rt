@@ -78,8 +78,39 @@ const ONE: Case = Case {
     delays: 0,
 };
 
-// The waits of a worker that serves so many transfers, which begin at the moment 100, over links that give these pieces, where the gate first
-// says so often that none can be opened yet.
+// Runs a worker over a gate that says so often that no link can be opened yet. It is to record so many ends.
+fn serve_noted<R: Wait + RandomSource + AllocGlobal>(
+    rt: &R,
+    desk: &mut ScriptDesk,
+    case: Case,
+    noted: &mut NotedWaits,
+) -> Result<(), Fail> {
+    for _ in 0..case.delays {
+        noted.gate.plan_ask(false)?;
+    }
+    desk.run(rt, noted, case.transfers, 0)
+}
+
+// The same, of a gate whose moment is 100 and whose links give these pieces.
+fn serve_over<R: Wait + RandomSource + AllocGlobal>(
+    rt: &R,
+    desk: &mut ScriptDesk,
+    case: Case,
+    links: &[&[ScriptRead<'_>]],
+) -> Result<Vec<u32>, Fail> {
+    let mut noted = NotedWaits {
+        gate: gate_with(rt.alloc(), 4, links, &[100])?,
+        waits: Vec::new(rt.alloc()),
+    };
+    let ran = serve_noted(rt, desk, case, &mut noted);
+    let NotedWaits { gate, waits } = noted;
+    drop(gate);
+    ran?;
+    Ok(waits)
+}
+
+// The waits of a worker that serves so many transfers, which begin at the moment 100, over links that give these pieces, where the gate
+// first says so often that none can be opened yet.
 fn waits_at<R: Wait + RandomSource + AllocGlobal>(
     rt: &R,
     desk: &mut ScriptDesk,
@@ -87,25 +118,10 @@ fn waits_at<R: Wait + RandomSource + AllocGlobal>(
     links: &[&[ScriptRead<'_>]],
 ) -> Result<Vec<u32>, Fail> {
     for handle in 0..case.transfers {
-        desk.add(
-            rt,
-            rt.alloc(),
-            handle + 1,
-            "http://a.example/",
-            case.timeout_ms,
-        )?;
+        let url = "http://a.example/";
+        desk.add(rt, rt.alloc(), handle + 1, url, case.timeout_ms)?;
     }
-    let mut gate = gate_with(rt.alloc(), 4, links, &[100])?;
-    for _ in 0..case.delays {
-        gate.plan_ask(false)?;
-    }
-    let mut waits = NotedWaits {
-        gate,
-        waits: Vec::new(rt.alloc()),
-    };
-    desk.run(rt, &mut waits, case.transfers, 0)?;
-    let NotedWaits { gate, waits } = waits;
-    drop(gate);
+    let waits = serve_over(rt, desk, case, links)?;
     for handle in 0..case.transfers {
         desk.expect(rt, handle + 1, Code::Ok, b"hello")?;
     }
