@@ -6,7 +6,7 @@
 #     words of its own, which it says for no other cause: at one growth at least, or there is no such call; or
 #   - fail with the want of memory, where the growth was one of what the test needs for itself; or
 #   - pass, where the engine does without that growth.
-# A few tests more, of workers, make no call again; they have to fail with the want of memory, or to pass.
+# A few tests more, of workers and of a run that saves, make no call again; they have to fail with the want of memory, or to pass.
 # Anything else is wrong: an assertion that fails, other words, a signal, a run that doesn't end. Prints one line for each program
 # and test, and ends with 0 where all did as they have to, with 1 where one didn't, and with 2 where something that it needs isn't
 # there: a program, a test, a C compiler.
@@ -33,12 +33,13 @@ mx_crew_tests       ^refused
 # Those that make no call again.
 others='
 mx_worker_tests     ^ends::one_worker\|^ends::a_removed\|^paused\|^takeover
+mx_save_task_tests  ^refused
 '
 
 # What such a test says where a call that was refused memory answered when it was made again.
 AGAIN='error: "memory was refused, and the call answered when it was made again"'
-# What it says of the want of memory for itself: of a vector, of a call of the engine, of the system.
-WANTING='error: AllocError\|error: AllocFailed { .. }\|error: OutOfMemory\|error: Kind(OutOfMemory)'
+# What it says of the want of memory for itself: of a vector, of a call of the engine, of the system, of a thread.
+WANTING='error: AllocError\|error: AllocFailed { .. }\|error: OutOfMemory\|error: Kind(OutOfMemory)\|error: SpawnError { .. }'
 
 # Of the crates those whose names have the word; whether a name has it.
 word=${1-}

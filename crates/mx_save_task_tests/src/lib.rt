@@ -3,6 +3,8 @@
 #![tactic(auto)]
 
 #[cfg(test)]
+mod refused;
+#[cfg(test)]
 mod server;
 #[cfg(test)]
 mod tests;

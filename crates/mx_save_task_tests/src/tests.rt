@@ -15,11 +15,11 @@ use std::test::Fail;
 /// What a run left: what was printed, the exit status by its codes, whether it came to its end and the folder was flushed, the bytes under
 /// each name that was looked for, with a stroke behind them, and how many requests the server answered.
 #[derive(Drop)]
-struct Ran {
-    printed: Vec<u8>,
-    status: u8,
-    is_whole: bool,
-    held: Vec<u8>,
+pub(crate) struct Ran {
+    pub printed: Vec<u8>,
+    pub status: u8,
+    pub is_whole: bool,
+    pub held: Vec<u8>,
     served: u32,
 }
 
@@ -50,7 +50,11 @@ fn asking(alloc: Global) -> Asking {
 }
 
 // What is asked for, with that history, and these URLs on the command line.
-fn asked<'a>(alloc: Global, urls: &[&'a str], history: u32) -> Result<Save<'a>, AllocError> {
+pub(crate) fn asked<'a>(
+    alloc: Global,
+    urls: &[&'a str],
+    history: u32,
+) -> Result<Save<'a>, AllocError> {
     let mut given = Vec::new(alloc);
     for url in urls {
         given.push(*url)?;
@@ -84,7 +88,7 @@ fn held(alloc: Global, folder: &MemoryFolder, names: &[&str]) -> Result<Vec<u8>,
 }
 
 // A run over the URLs of the command line and those of a list, which looks for these names. The folder's call of that number fails.
-fn save<R: Runtime + Net<Listener = TcpListener, Stream = TcpStream>>(
+pub(crate) fn save<R: Runtime + Net<Listener = TcpListener, Stream = TcpStream>>(
     rt: &R,
     given: &Save<'_>,
     list: &[u8],
@@ -187,7 +191,12 @@ fn a_short_history_is_followed_by_another(rt: HostRuntime) -> Result<(), Fail> {
 }
 
 // What is told of a URL whose body was saved, or couldn't be.
-fn told(alloc: Global, port: u16, name: &str, is_saved: bool) -> Result<String, AllocError> {
+pub(crate) fn told(
+    alloc: Global,
+    port: u16,
+    name: &str,
+    is_saved: bool,
+) -> Result<String, AllocError> {
     if is_saved {
         format!(in alloc; "saved 0 200 3 {name} http://127.0.0.1:{port}/{name}\n")
     } else {
