@@ -93,11 +93,11 @@ as_many ends urls f g same = sym (length-map urls g) ∙ sym (ap length same) �
 -- and the hint behind them
 pub run_told : {A E : Type 0} (r : Result A E) (old mid new : Option (List ℕ)) (urls : List (List ℕ)) (ends : List Fetched) (met : Bool)
     → Writes (AreEndTexts urls ends) (Appends old mid) → OnOk r (Appends mid new (hint_line (file_limit_hint met)))
-    → OnOk r (Writes (IsRunText urls ends) (Appends old new))
+    → OnOk r (Writes (IsRunText urls ends met) (Appends old new))
 run_told (Ok a) old mid new urls ends met before more =
     let line = hint_line (file_limit_hint met) in (
       before.0 ++ line,
-      record { of_ends = before.0; met_limit = met; are = before.1; is = refl },
+      record { of_ends = before.0; are = before.1; is = refl },
       Appends-trans old mid new before.0 line before.2 more,
     )
 run_told (Err e) old mid new urls ends met before more = tt

@@ -30,8 +30,7 @@ AreEndTexts (url ∷ urls) (end ∷ ends) text =
     (first : List ℕ) × (rest : List ℕ) × IsEndText url end first × AreEndTexts urls ends rest × (text ≡ first ++ rest)
 
 -- and behind them a hint, where the run met the limit of open files
-pub record IsRunText (urls : List (List ℕ)) (ends : List Fetched) (text : List ℕ) : Type 0 where
+pub record IsRunText (urls : List (List ℕ)) (ends : List Fetched) (met_limit : Bool) (text : List ℕ) : Type 0 where
   pub of_ends : List ℕ
-  pub met_limit : Bool
   pub are : AreEndTexts urls ends of_ends
   pub is : text ≡ of_ends ++ hint_line (file_limit_hint met_limit)

@@ -1,5 +1,5 @@
 -- What a run tells beside what it prints.
-use Rattle.std.specs.Prelude.{◌≡◌, ℕ, ◌⊎◌, List}
+use Rattle.std.specs.Prelude.{◌≡◌, ℕ, Bool, ◌⊎◌, List}
 use Rattle.mx_types.specs.Code.{code_number}
 use Rattle.mx_types.specs.declared.code.Code.TheVariants as codes
 use Rattle.mx_run_io.specs.Faults.{PrintsFault}
@@ -17,7 +17,8 @@ pub record ExplainsEnds (timeout_ms max_redirects : ℕ) (urls : List (List ℕ)
   pub of_urls : AreEndsOf timeout_ms max_redirects urls ends
   pub printed : Printed (texts_from 0 ends)
   pub status : ends_with ≡ exit_status ends
-  pub told : Writes (IsRunText urls ends) Told
+  pub met_limit : Bool
+  pub told : Writes (IsRunText urls ends met_limit) Told
 
 -- Or the fault of a run that has no ends is printed, and its cause is told.
 pub record ExplainsFault (Printed Told : List ℕ → Type 0) (ends_with : ℕ) : Type 0 where

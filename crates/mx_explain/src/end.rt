@@ -81,7 +81,7 @@ pub(crate) fn print_all<W: Write>(
     met_limit: bool,
 ) -> Result<(), WriteFailed>
     requires { length urls.now ≡ length ends.now }
-    ensures bytes { OnOk result (Writes (IsRunText (map (λ u. u.now) urls.now) ends.now) (Wrote W.contents output.old output.new)) }
+    ensures bytes { OnOk result (Writes (IsRunText (map (λ u. u.now) urls.now) ends.now met_limit) (Wrote W.contents output.old output.new)) }
     ensures failed { IsErr result → has_failed_write output.new ≡ true }
 {
     print_ends(output, urls, ends)?;

@@ -50,7 +50,7 @@ fn print_explained<W: Write, E: Write>(
     ensures printed { has_failed_write output.new ≢ true → Wrote W.contents output.old output.new (texts_from 0 ends.now) }
     ensures status { has_failed_write output.new ≢ true → result ≡ exit_status ends.now }
     ensures told { has_failed_write told.new ≢ true
-        → Writes (IsRunText (map (λ u. u.now) urls.now) ends.now) (Wrote E.contents told.old told.new) }
+        → Writes (IsRunText (map (λ u. u.now) urls.now) ends.now met_limit) (Wrote E.contents told.old told.new) }
 {
     let status = print_get(output, ends);
     let _ = print_all(told, urls, ends, met_limit);
