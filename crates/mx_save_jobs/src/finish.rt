@@ -1,5 +1,5 @@
 //! What comes of a URL whose transfer has ended.
-ghost use Rattle.std.specs.Prelude.{◌≡◌, ◌≢◌, IfOk, length};
+ghost use Rattle.std.specs.Prelude.{◌≡◌, ◌≢◌, IfOk, OnErr, length};
 ghost use Rattle.mx_body.specs.Parts.{joined};
 ghost use Rattle.mx_save.specs.Ledgers.{IsFresh};
 ghost use Rattle.mx_run_save.specs.Codes.{save_number};
@@ -62,6 +62,7 @@ fn save<F: Folder>(
     requires asked { Asks asking.now job.url.items outcome.request }
     ensures url { IfOk result (λ end. end.url ≡ job.url.items) }
     ensures grows { IfOk result (λ end. GrowsFor job.name end.verdict ledger.old.entries ledger.new.entries) }
+    ensures kept { OnErr result (ledger.new.entries ≡ ledger.old.entries) }
     ensures holds { IfOk result (λ end. HoldsOf asking.now ledger.new.entries end end.verdict) }
     ensures run { (ledger.new.start ≡ ledger.old.start) × (ledger.new.flush ≡ ledger.old.flush) }
 {
@@ -93,6 +94,7 @@ pub(crate) fn finish<F: Folder>(
     requires asked { Asks asking.now job.url.items outcome.request }
     ensures url { IfOk result (λ end. end.url ≡ job.url.items) }
     ensures grows { IfOk result (λ end. GrowsFor job.name end.verdict ledger.old.entries ledger.new.entries) }
+    ensures kept { OnErr result (ledger.new.entries ≡ ledger.old.entries) }
     ensures holds { IfOk result (λ end. HoldsOf asking.now ledger.new.entries end end.verdict) }
     ensures run { (ledger.new.start ≡ ledger.old.start) × (ledger.new.flush ≡ ledger.old.flush) }
 {
