@@ -223,22 +223,23 @@ pub(crate) fn go_on(
     ensures refused { OnErr result (IsProgress method (take before wire.now) progress.new) }
     ensures refused_phase { OnErr result (progress.new.phase ≡ progress.old.phase) }
 {
-    let phase = progress.phase;
-    match phase {
-        Phase::Heads(mut passed) => match final_head_from(
-            &wire[..wire.len().min(MOST_BYTES)],
-            &mut passed,
-        ) {
-            FinalStep::Head { head, end } => begin_body(alloc, method, head, end, wire, progress),
-            FinalStep::More => {
-                progress.phase = Phase::Heads(passed);
-                Ok(decode_no_head(method, wire, false))
+    match &progress.phase {
+        Phase::Heads(passed) => {
+            let mut passed = *passed;
+            match final_head_from(&wire[..wire.len().min(MOST_BYTES)], &mut passed) {
+                FinalStep::Head { head, end } => {
+                    begin_body(alloc, method, head, end, wire, progress)
+                }
+                FinalStep::More => {
+                    progress.phase = Phase::Heads(passed);
+                    Ok(decode_no_head(method, wire, false))
+                }
+                FinalStep::Fault(code) => Ok(Verdict::Fault(code)),
             }
-            FinalStep::Fault(code) => Ok(Verdict::Fault(code)),
-        },
-        Phase::Body { head, at } => decode_body(alloc, method, &head, at, wire, false),
+        }
+        Phase::Body { head, at } => decode_body(alloc, method, head, *at, wire, false),
         Phase::Chunks { head, at } => {
-            go_on_chunked(alloc, method, &head, at, wire, &mut progress.reader)
+            go_on_chunked(alloc, method, head, *at, wire, &mut progress.reader)
         }
     }
 }

@@ -1,6 +1,6 @@
 //! Room for the bytes of an exchange.
 
-ghost use Rattle.std.specs.Prelude.{◌≡◌, ◌+◌, ◌<◌, ◌≤◌, max, vec_len, vec_capacity, OnOk, OnErr};
+ghost use Rattle.std.specs.Prelude.{◌≡◌, ◌+◌, ◌<◌, ◌≤◌, ◌++◌, max, vec_len, vec_capacity, OnOk, OnErr};
 ghost use Rattle.mx_head.specs.Limits.{most_bytes};
 
 use crate::limits::MOST_BYTES;
@@ -10,6 +10,10 @@ use mx_types::OutOfMemory;
 /// address space alone.
 const LARGE: usize = 1_048_576;
 
+/// How many bytes are copied at a time to memory of their own. Longer pieces the C library copies by a repeated move, which is no quicker
+/// and counts as an instruction a byte.
+const PIECE: usize = 2_048;
+
 /// How much room is best, where there has to be more than there is.
 fn best_room(room: usize, told: usize) -> usize
     ensures { result ≤ max told (most_bytes + 1) }
@@ -17,10 +21,23 @@ fn best_room(room: usize, told: usize) -> usize
     if told > 0 {
         told
     } else if room < LARGE {
-        room * 2
+        (room * 2).min(LARGE)
     } else {
         MOST_BYTES + 1
     }
+}
+
+/// Copies bytes behind those that are there, a piece at a time.
+fn copy(bytes: &[u8], to: &mut Vec<u8>) -> Result<(), OutOfMemory>
+    ensures { OnOk result (to.new.items ≡ to.old.items ++ bytes.now) }
+{
+    let mut copied = 0;
+    while copied < bytes.len() {
+        let len = PIECE.min(bytes.len() - copied);
+        to.extend_from_slice(&bytes[copied..copied + len])?;
+        copied += len;
+    }
+    Ok(())
 }
 
 /// Moves the bytes to memory of their own, with room for `more` behind them. Large pages, where the system gives them, are for
@@ -34,7 +51,7 @@ fn move_to_room(wire: &mut Vec<u8>, more: usize) -> Result<(), OutOfMemory>
         return Err(OutOfMemory);
     };
     let mut moved = Vec::with_capacity(*wire.allocator(), room)?;
-    moved.extend_from_slice(wire)?;
+    copy(wire, &mut moved)?;
     // There was room, so that it is as it was asked for; no clause of the library says so.
     if moved.capacity() != room {
         return Err(OutOfMemory);
