@@ -24,10 +24,10 @@ import time
 PROGRAM = "mxfetch"
 FAILED = 125
 SIGNALS = (signal.SIGINT, signal.SIGTERM, signal.SIGHUP)
-JOB_MEMORY = 2 << 30        # what a job may take, in bytes
-ALL_FILES = 8_400_000_000   # what all crates/*/out take, in bytes
+JOB_MEMORY = 2 << 30        # what most jobs take at most, in bytes; three of the last take twice as much, and run one or two at a time
+ALL_FILES = 15_900_000_000  # what all crates/*/out take, in bytes
 KILLED = (-9, 137, 247)     # how rt ends where the system kills it or its prover, as where memory runs out
-READING = 100               # seconds, of the quick pass over the sources with which rt begins
+READING = 200               # seconds, of the quick pass over the sources with which rt begins
 UNLISTED = 120              # seconds, of a crate that seconds.txt doesn't list
 UNWRITABLE = (errno.EPERM, errno.EACCES, errno.EROFS)
 TAIL = 12                   # how many of the prover's last lines are shown
@@ -369,7 +369,7 @@ class FirstRun:
     def warn(self):
         folder = f"{self.record.top}/crates"
         if self.memory < JOB_MEMORY:
-            say(f"{self.memory / 1e9:.1f} GB of memory are available, and a job takes 1 to 2 GB: it may be too little")
+            say(f"{self.memory / 1e9:.1f} GB of memory are available, and a job takes 1 to 4 GB: it may be too little")
         share = 1 - len(self.progress.kept) / len(self.record.crates)
         if disk_free(folder) < ALL_FILES * share:
             say(f"{disk_free(folder) / 1e9:.1f} GB are free on the disk, and {ALL_FILES * share / 1e9:.1f} GB may be needed: "
@@ -483,7 +483,7 @@ def why_not(crate, status, text, free, jobs, memory, log):
     if NO_DISK.search(text) or free < 1 << 20:
         return disk_is_full(free)
     if NO_MEMORY.search(text) or status in KILLED:
-        return (f"there is too little memory: a job takes 1 to 2 GB, and {jobs} of them had {memory / 1e9:.1f} GB; what was proved "
+        return (f"there is too little memory: a job takes 1 to 4 GB, and {jobs} of them had {memory / 1e9:.1f} GB; what was proved "
                 f"is kept, and ./run goes on from there, with fewer jobs where fewer cores are given to it: taskset -c 0 ./run ({log})")
     name = crate or "the program"
     ended = f"the prover of {name} was ended by signal {-status}" if status < 0 else f"{name} isn't proved and built"
@@ -604,7 +604,7 @@ def main(words):
         say(why)
         return FAILED
     except MemoryError:
-        say("there is too little memory: a job takes 1 to 2 GB")
+        say("there is too little memory: a job takes 1 to 4 GB")
         return FAILED
     except OSError as error:
         is_full = error.errno in (errno.ENOSPC, errno.EDQUOT)
