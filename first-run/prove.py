@@ -25,12 +25,14 @@ PROGRAM = "mxfetch"
 FAILED = 125
 SIGNALS = (signal.SIGINT, signal.SIGTERM, signal.SIGHUP)
 JOB_MEMORY = 2 << 30        # what most jobs take at most, in bytes; three of the last take twice as much, and run one or two at a time
+READING_MEMORY = 12_000_000_000  # what the quick pass over the sources, with which rt begins, takes, in bytes
 ALL_FILES = 15_900_000_000  # what all crates/*/out take, in bytes
 KILLED = (-9, 137, 247)     # how rt ends where the system kills it or its prover, as where memory runs out
-READING = 200               # seconds, of the quick pass over the sources with which rt begins
+READING = 200               # seconds, of the quick pass
 UNLISTED = 120              # seconds, of a crate that seconds.txt doesn't list
 UNWRITABLE = (errno.EPERM, errno.EACCES, errno.EROFS)
 TAIL = 12                   # how many of the prover's last lines are shown
+MEMORY_TAKEN = f"the quick pass over the sources takes {READING_MEMORY / 1e9:.0f} GB, a job 1 to 4 GB"
 
 NO_MEMORY = re.compile(r"Cannot allocate memory|memory allocation of|MemoryError|bad_alloc|^Killed", re.M)
 NO_DISK = re.compile(r"No space left on device|os error 28\b|Errno 28\b|Disk quota exceeded")
@@ -368,8 +370,8 @@ class FirstRun:
 
     def warn(self):
         folder = f"{self.record.top}/crates"
-        if self.memory < JOB_MEMORY:
-            say(f"{self.memory / 1e9:.1f} GB of memory are available, and a job takes 1 to 4 GB: it may be too little")
+        if self.memory < READING_MEMORY:
+            say(f"{self.memory / 1e9:.1f} GB of memory are available, and {MEMORY_TAKEN}: it may be too little")
         share = 1 - len(self.progress.kept) / len(self.record.crates)
         if disk_free(folder) < ALL_FILES * share:
             say(f"{disk_free(folder) / 1e9:.1f} GB are free on the disk, and {ALL_FILES * share / 1e9:.1f} GB may be needed: "
@@ -483,8 +485,8 @@ def why_not(crate, status, text, free, jobs, memory, log):
     if NO_DISK.search(text) or free < 1 << 20:
         return disk_is_full(free)
     if NO_MEMORY.search(text) or status in KILLED:
-        return (f"there is too little memory: a job takes 1 to 4 GB, and {jobs} of them had {memory / 1e9:.1f} GB; what was proved "
-                f"is kept, and ./run goes on from there, with fewer jobs where fewer cores are given to it: taskset -c 0 ./run ({log})")
+        return (f"there is too little memory: {MEMORY_TAKEN}, and {jobs} at a time had {memory / 1e9:.1f} GB; what was proved is kept, and "
+                f"./run goes on from there, with fewer jobs where fewer cores are given to it: taskset -c 0 ./run ({log})")
     name = crate or "the program"
     ended = f"the prover of {name} was ended by signal {-status}" if status < 0 else f"{name} isn't proved and built"
     return f"{ended}: the whole of what the prover said is in {log}"
@@ -604,7 +606,7 @@ def main(words):
         say(why)
         return FAILED
     except MemoryError:
-        say("there is too little memory: a job takes 1 to 4 GB")
+        say(f"there is too little memory: {MEMORY_TAKEN}")
         return FAILED
     except OSError as error:
         is_full = error.errno in (errno.ENOSPC, errno.EDQUOT)
