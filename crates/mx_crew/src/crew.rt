@@ -109,7 +109,7 @@ impl Crew {
     /// So many gates, which this crew wakes and stops. They share a resolver, and their clocks and its own have one start. A thread begins
     /// the lookups that they want, and nobody joins it, nor the threads of lookups: a program ends without them.
     ///
-    /// `NoThread` comes where that thread couldn't be started, `NoPoll` and `OutOfMemory` as they say.
+    /// `NoThread` is there for that thread, which couldn't be started, `NoPoll` and `OutOfMemory` as they say; no clause tells which comes.
     pub fn gates<
         'r,
         R: Net<Listener = TcpListener, Stream = TcpStream>

@@ -169,8 +169,8 @@ fn fetch_from<R: Runtime + Net<Listener = TcpListener, Stream = TcpStream>>(
 /// - `OutOfMemory` where a growth was refused;
 /// - `NotAdded`, `NoMessage` where a transfer wasn't added, or no message came of it.
 ///
-/// `Unwritten` is none of its answers. `met_file_limit` is to tell whether a connection couldn't be begun since too many files were open; no clause
-/// says that it does.
+/// `Unwritten` is none of its answers; which of the others comes no clause tells, but for the first. `met_file_limit` is to tell whether a
+/// connection couldn't be begun since too many files were open; no clause says that it does.
 pub fn fetch_all<R: Runtime + Net<Listener = TcpListener, Stream = TcpStream>>(
     rt: &R,
     urls: &[&str],
