@@ -209,7 +209,7 @@ impl<'r, R: Net + Clock + AllocGlobal + Wait, L: Lookup> Gate for NamedGate<'r, 
     }
 
     /// It can where the resolver tells something of the host: its addresses, or why it has none. Else a lookup of it is wanted or under way,
-    /// and the resolver rings the bell of the gate where that has ended.
+    /// and the resolver rings the bell of the gate where that has ended. No clause tells which it answers, nor that the bell is rung.
     fn can_open(&mut self, endpoint: &Endpoint) -> bool
         ensures moment { self.new.gate.latest ≡ self.old.gate.latest }
         ensures others { self.new ≡ record self.old { said = self.new.said } }
