@@ -51,13 +51,13 @@ impl Stream for SlowStream {
         buffer[..n].copy_from_slice(&left[..n]);
         self.given = self.given.saturating_add(n);
         let result = Ok(n);
-        self.results.note(Called::Read(result));
+        self.results.note(Called::to_read(result, buffer));
         result
     }
 
     fn write(&mut self, bytes: &[u8]) -> Result<usize, ErrorKind> {
         let result = Ok(bytes.len());
-        self.results.note(Called::Write(result));
+        self.results.note(Called::to_write(result, bytes));
         result
     }
 }

@@ -1,5 +1,5 @@
 -- What the results of a stream's calls mean (read(2), write(2), connect(2), with errors by their kind).
-use Rattle.std.specs.Prelude.{◌≡◌, ℕ, ◌≤◌, ◌==◌, Bool, true, false, List, [], ◌∷◌, ◌++◌, replicate, Option, Some, None, Result, Ok, Err, if◌then◌else◌}
+use Rattle.std.specs.Prelude.{◌≡◌, ℕ, ◌≤◌, ◌==◌, Bool, true, false, List, [], ◌∷◌, ◌++◌, length, replicate, take, Option, Some, None, Result, Ok, Err, if◌then◌else◌}
 use Rattle.std.specs.IoError.{error_kind}
 use Rattle.std.specs.declared.io.Error.{Error}
 use Rattle.std.specs.declared.io.ErrorKind.{ErrorKind}
@@ -64,6 +64,15 @@ abbrev pub IsCountWithin : Result ℕ ErrorKind → ℕ → Type 0
 IsCountWithin (Ok n) len = n ≤ len
 IsCountWithin (Err e) len = Unit {0}
 
+-- the front of the bytes, as many as the count has; none of an error
+abbrev pub front_of : Result ℕ ErrorKind → List ℕ → List ℕ
+front_of (Ok n) bytes = take n bytes
+front_of (Err e) bytes = []
+
+-- a read with that result that has left the buffer like this
+abbrev pub read_call : Result ℕ ErrorKind → List ℕ → Called
+read_call count buffer = called.Read count (length buffer) (front_of count buffer)
+
 -- The call was made, and again as long as it was interrupted, at most so many times. The last result counts; it is an interruption where
 -- the call was made again the most times.
 pub record IsSettled (called : Result ℕ ErrorKind → Called) (most : ℕ) (before after : List Called) (count : Result ℕ ErrorKind) : Type 0 where
@@ -72,13 +81,13 @@ pub record IsSettled (called : Result ℕ ErrorKind → Called) (most : ℕ) (be
   pub within : again ≤ most
   pub settled : is_interrupted count ≡ true → again ≡ most
 
--- a read of the stream, and the answer is what its result means
-abbrev pub IsReadBy : List Called → List Called → Read → Type 0
-IsReadBy before after answer = (count : Result ℕ ErrorKind) × IsSettled called.Read 64 before after count × (answer ≡ read_of count)
+-- A read of the stream that has left the buffer like this, and the answer is what its result means. What was interrupted gave nothing.
+abbrev pub IsReadBy : List Called → List Called → List ℕ → Read → Type 0
+IsReadBy before after buffer answer = (count : Result ℕ ErrorKind) × IsSettled (λ c. read_call c buffer) 64 before after count × (answer ≡ read_of count)
 
--- a write
-abbrev pub IsWrittenBy : List Called → List Called → Write → Type 0
-IsWrittenBy before after answer = (count : Result ℕ ErrorKind) × IsSettled called.Write 64 before after count × (answer ≡ write_of count)
+-- a write of these bytes
+abbrev pub IsWrittenBy : List Called → List Called → List ℕ → Write → Type 0
+IsWrittenBy before after bytes answer = (count : Result ℕ ErrorKind) × IsSettled (λ c. called.Write c bytes) 64 before after count × (answer ≡ write_of count)
 
 -- the stream was asked for its error, and then for its peer
 pub record IsConnectedBy (before after : List Called) (answer : Connect) : Type 0 where

@@ -10,7 +10,7 @@ use std::io;
 use std::io::{ErrorKind, Read as _, Write as _};
 use std::marker::Model;
 
-/// A TCP stream, with the results of its system calls for contracts alone. Contracts see these; what a socket gives and
+/// A TCP stream, with its system calls and their results for contracts alone. Contracts see these; what a socket gives and
 /// takes, and when, no contract can say.
 #[derive(Drop)]
 pub struct TcpSocket {
@@ -100,13 +100,13 @@ impl Stream for TcpSocket {
 
     fn read(&mut self, buffer: &mut [u8]) -> Result<usize, ErrorKind> {
         let result = by_kind(self.stream.read(buffer));
-        self.results.note(Called::Read(result));
+        self.results.note(Called::to_read(result, buffer));
         result
     }
 
     fn write(&mut self, bytes: &[u8]) -> Result<usize, ErrorKind> {
         let result = by_kind(self.stream.write(bytes));
-        self.results.note(Called::Write(result));
+        self.results.note(Called::to_write(result, bytes));
         result
     }
 }

@@ -1,34 +1,57 @@
 //! A link over a stream.
 ghost use Rattle.std.specs.Prelude.{◌≡◌, ℕ, ◌<◌, ◌≤◌, ◌-◌, ◌^◌, List, [], ◌∷◌, ◌++◌, length, min, Result};
 ghost use Rattle.mx_link.specs.Calls.{connect_answer, read_answer, write_answer, IsReadWithin, IsWriteWithin};
-ghost use Rattle.mx_link.specs.Streams.{read_of, write_of, connect_of, is_wait, is_unconnected, IsCountWithin, IsSettled};
+ghost use Rattle.mx_link.specs.Streams.{read_of, read_call, write_of, connect_of, front_of, is_wait, is_unconnected, IsCountWithin, IsSettled};
 ghost use Rattle.mx_link.specs.declared.streams.Called.TheVariants as called;
 
-use crate::answers::{Answers, Connect, Read, Write};
+use crate::answers::{Answers, Connect, Read, Write, bytes_of};
 use crate::links::Link;
+use mx_types::History;
 use std::io::ErrorKind;
 use std::marker::Model;
 
-/// A result of a stream's call, as the list of its results has it. An error is told by its kind.
-#[derive(Clone, Copy, Debug, PartialEq, Eq)]
+/// A stream's call and its result, as the list of its calls has it: with the bytes that were given or offered, which contracts alone read. An
+/// error is told by its kind.
+#[derive(Drop)]
 pub enum Called {
     /// The error that the socket held, if it held one.
     Error(Result<Option<ErrorKind>, ErrorKind>),
     /// Whether it has a peer.
     Peer(Result<(), ErrorKind>),
-    /// How many bytes were read.
-    Read(Result<usize, ErrorKind>),
-    /// How many bytes were written.
-    Write(Result<usize, ErrorKind>),
+    /// How many bytes were read, how many there was room for, and those that were read.
+    Read(Result<usize, ErrorKind>, usize, History<u8>),
+    /// How many bytes were written, and all that were to be.
+    Write(Result<usize, ErrorKind>, History<u8>),
+}
+
+impl Called {
+    /// A read with that result, and the buffer as it left it.
+    pub fn to_read(count: Result<usize, ErrorKind>, buffer: &[u8]) -> Called
+        requires { IsCountWithin count (length buffer.now) }
+        ensures { result ≡ read_call count buffer.now }
+    {
+        let given = match count {
+            Ok(n) => bytes_of(&buffer[..n]),
+            Err(_) => History::new(),
+        };
+        Called::Read(count, buffer.len(), given)
+    }
+
+    /// A write with that result, and the bytes that were to be written.
+    pub fn to_write(count: Result<usize, ErrorKind>, bytes: &[u8]) -> Called
+        ensures { result ≡ called.Write count bytes.now }
+    {
+        Called::Write(count, bytes_of(bytes))
+    }
 }
 
 /// What a link needs of a socket, whose calls don't wait. An error is told by its kind.
 pub trait Stream: Drop {
     ghost use Rattle.mx_link.specs.declared.streams.Called.{Called};
     ghost use Rattle.mx_link.specs.declared.streams.Called.TheVariants as called;
-    ghost use Rattle.mx_link.specs.Streams.{IsCountWithin};
+    ghost use Rattle.mx_link.specs.Streams.{IsCountWithin, read_call};
 
-    // The results of its calls so far, in order.
+    // Its calls so far and their results, in order.
     ghost results: { Self → List Called };
 
     /// The error that the socket holds, if it holds one, and then holds no more (SO_ERROR of socket(7)).
@@ -41,13 +64,13 @@ pub trait Stream: Drop {
 
     /// Reads into the front of `buffer` (read(2)). Behind what was read the buffer may have changed.
     fn read(&mut self, buffer: &mut [u8]) -> Result<usize, ErrorKind>
-        ensures told { results self.new ≡ results self.old ++ called.Read result ∷ [] }
+        ensures told { results self.new ≡ results self.old ++ read_call result buffer.new ∷ [] }
         ensures within { IsCountWithin result (length buffer.new) }
         ensures length { length buffer.new ≡ length buffer.old };
 
     /// Writes what there is room for (write(2)).
     fn write(&mut self, bytes: &[u8]) -> Result<usize, ErrorKind>
-        ensures told { results self.new ≡ results self.old ++ called.Write result ∷ [] }
+        ensures told { results self.new ≡ results self.old ++ called.Write result bytes.now ∷ [] }
         ensures within { IsCountWithin result (length bytes.now) };
 }
 
@@ -62,7 +85,7 @@ fn is_wait(kind: ErrorKind) -> bool
 
 // Reads, and at most `more` times again as long as the read is interrupted.
 fn read_until<S: Stream>(stream: &mut S, buffer: &mut [u8], more: u8) -> Result<usize, ErrorKind>
-    ensures settled { IsSettled called.Read more (S.results stream.old) (S.results stream.new) result }
+    ensures settled { IsSettled (λ c. read_call c buffer.new) more (S.results stream.old) (S.results stream.new) result }
     ensures within { IsCountWithin result (length buffer.new) }
     ensures length { length buffer.new ≡ length buffer.old }
 {
@@ -74,7 +97,7 @@ fn read_until<S: Stream>(stream: &mut S, buffer: &mut [u8], more: u8) -> Result<
 
 // Writes, and at most `more` times again as long as the write is interrupted.
 fn write_until<S: Stream>(stream: &mut S, bytes: &[u8], more: u8) -> Result<usize, ErrorKind>
-    ensures settled { IsSettled called.Write more (S.results stream.old) (S.results stream.new) result }
+    ensures settled { IsSettled (λ c. called.Write c bytes.now) more (S.results stream.old) (S.results stream.new) result }
     ensures within { IsCountWithin result (length bytes.now) }
 {
     match stream.write(bytes) {
@@ -169,7 +192,7 @@ impl<S: Stream> Link for StreamLink<S> {
 
     fn try_read(&mut self, buffer: &mut [u8]) -> Read
         requires { 0 < length buffer.old }
-        ensures called { IsReadBy (S.results self.old.stream) (S.results self.new.stream) result }
+        ensures called { IsReadBy (S.results self.old.stream) (S.results self.new.stream) buffer.new result }
         ensures rest { self.new ≡ record self.old { stream = self.new.stream; history = self.old.history ++ read_answer result buffer.new ∷ []; asked = self.old.asked ++ length buffer.new ∷ [] } }
         ensures within { IsReadWithin result (length buffer.new) }
         ensures length { length buffer.new ≡ length buffer.old }
@@ -181,7 +204,7 @@ impl<S: Stream> Link for StreamLink<S> {
 
     fn try_write(&mut self, bytes: &[u8]) -> Write
         requires { 0 < length bytes.now }
-        ensures called { IsWrittenBy (S.results self.old.stream) (S.results self.new.stream) result }
+        ensures called { IsWrittenBy (S.results self.old.stream) (S.results self.new.stream) bytes.now result }
         ensures rest { self.new ≡ record self.old { stream = self.new.stream; history = self.old.history ++ write_answer result bytes.now ∷ []; asked = self.old.asked ++ length bytes.now ∷ [] } }
         ensures within { IsWriteWithin result (length bytes.now) }
     {

@@ -35,7 +35,7 @@ impl Stream for Interrupts {
             Err(ErrorKind::Interrupted)
         };
         self.left = self.left.saturating_sub(1);
-        self.results.note(Called::Read(result));
+        self.results.note(Called::to_read(result, buffer));
         result
     }
 
@@ -46,7 +46,7 @@ impl Stream for Interrupts {
             Err(ErrorKind::Interrupted)
         };
         self.left = self.left.saturating_sub(1);
-        self.results.note(Called::Write(result));
+        self.results.note(Called::to_write(result, bytes));
         result
     }
 }
