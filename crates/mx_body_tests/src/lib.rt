@@ -2,8 +2,6 @@
 #![tactic(auto)]
 
 #[cfg(test)]
-mod chunked;
-#[cfg(test)]
 mod cuts;
 #[cfg(test)]
 mod heads;
