@@ -249,19 +249,16 @@ fn a_host_that_does_not_resolve_is_6(rt: HostRuntime) -> Result<(), Fail> {
     Ok(())
 }
 
-// Rings after a while.
-fn ring_late<R: Clock + Wait>(rt: &R, bell: &Bell) -> bool {
-    thread::sleep(rt, Duration::from_millis(50));
-    bell.ring().is_ok()
-}
-
 // A thread that rings after a while.
 fn ringer<R: Clock + Wait + Threads + Copy + Send + Drop + 'static>(
     rt: &R,
     bell: Bell,
 ) -> Result<JoinHandle<bool>, Fail> {
     let rt_there = *rt;
-    Ok(thread::spawn(rt, move || ring_late(&rt_there, &bell))?)
+    Ok(thread::spawn(rt, move || {
+        thread::sleep(&rt_there, Duration::from_millis(50));
+        bell.ring().is_ok()
+    })?)
 }
 
 // What a long turn answers, and how long after the start.
