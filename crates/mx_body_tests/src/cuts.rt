@@ -1,6 +1,6 @@
 //! Heads, and responses behind an interim head, in pieces: a decoder says at each what the plain programs say of the same bytes.
 
-use crate::heads::{front, with_long_field};
+use crate::heads::front;
 use crate::pieces::{agrees, decoder, feed};
 use mx_body::{Decoder, Stand};
 use mx_head::{HeadStep, read_head};
@@ -65,19 +65,4 @@ fn is_known_in_time(alloc: Global, before: &[u8], head: &[u8]) -> bool {
 /// Whether it is known so at the front, and behind an interim head.
 pub(crate) fn is_known_anywhere(alloc: Global, head: &[u8]) -> bool {
     is_known_in_time(alloc, b"", head) && is_known_in_time(alloc, INTERIM, head)
-}
-
-#[test]
-fn long_heads_in_ones(rt: HostRuntime) {
-    let alloc = rt.alloc();
-    for (count, len) in [
-        (0, 65_535),
-        (0, 65_536),
-        (127, 65_536),
-        (0, 65_537),
-        (128, 65_537),
-    ] {
-        let head = with_long_field(alloc, count, len).expect(&rt, "memory");
-        assert!(rt; is_known_anywhere(alloc, &head), "{count}, {len}");
-    }
 }

@@ -1,72 +1,54 @@
-//! Heads. The offsets were counted by hand.
+//! Heads (RFC 9112, sections 2 to 6 and 9).
 
+use crate::row::Bytes::{LongField, Of};
+use crate::row::{Row, Seen};
 use mx_head::{Framing, HeadStep, framing, keeps, read_head};
 use mx_responses::response::Response;
 use mx_types::{Code, Method};
-use std::alloc::{AllocError, Global};
-use std::process::Abort;
-
-const OK: &[u8] = b"HTTP/1.1 200 OK\r\n";
-
-/// What the head at the front of the input says of its body and its connection.
-fn decided(method: Method, input: &[u8]) -> Option<(Result<Framing, Code>, bool)> {
-    match read_head(input) {
-        HeadStep::Head(head) => Some((framing(method, &head), keeps(&head))),
-        HeadStep::More => None,
-        HeadStep::Fault(_) => None,
-    }
-}
 
 /// The first bytes, as many of them as there are.
 pub(crate) fn front(bytes: &[u8], len: usize) -> &[u8] {
     &bytes[..len.min(bytes.len())]
 }
 
-/// A status line, field lines, and the end of the head.
-fn with_lines(alloc: Global, lines: &[u8]) -> Result<Vec<u8>, AllocError> {
-    let mut bytes = Vec::from_slice(alloc, OK)?;
-    bytes.extend_from_slice(lines)?;
-    bytes.extend_from_slice(b"\r\n")?;
-    Ok(bytes)
-}
-
-/// A status line, so many short field lines, and one that is as long as the head of that length needs.
-pub(crate) fn with_long_field(
-    alloc: Global,
-    count: usize,
-    len: usize,
-) -> Result<Vec<u8>, AllocError> {
-    let mut bytes = Vec::from_slice(alloc, OK)?;
-    for _ in 0..count {
-        bytes.extend_from_slice(b"A: b\r\n")?;
-    }
-    bytes.extend_from_slice(b"B: ")?;
-    for _ in 0..len.saturating_sub(bytes.len().saturating_add(4)) {
-        bytes.push(b'c')?;
-    }
-    bytes.extend_from_slice(b"\r\n\r\n")?;
-    Ok(bytes)
-}
-
-#[test]
-fn a_head_is_read(rt: HostRuntime) {
-    for (input, len, status, minor) in [
-        (
-            b"HTTP/1.1 200 OK\r\nContent-Length: 5\r\n\r\nhello".as_slice(),
-            38,
-            200,
-            1,
-        ),
-        (b"\r\n\nHTTP/1.0 404\n\n<html>".as_slice(), 17, 404, 0),
-        (b"HTTP/1.1 999 \r\n\r\n".as_slice(), 17, 999, 1),
-    ] {
-        match read_head(input) {
-            HeadStep::Head(head) => {
-                let found = (head.len(), head.status(), head.minor());
-                assert_eq!(rt; found, (len, status, minor));
-            }
-            step => assert!(rt; false, "{step:?}"),
+/// Whether a head of this length, status and minor version is at the front.
+pub(crate) fn is_head(bytes: &[u8], len: usize, status: u16, minor: u8) -> bool {
+    match read_head(bytes) {
+        HeadStep::Head(head) => {
+            head.len() == len && head.status() == status && head.minor() == minor
         }
+        _ => false,
+    }
+}
+
+/// Whether more is wanted of that many bytes.
+pub(crate) fn wants_more_of(bytes: &[u8], len: usize) -> bool {
+    len <= bytes.len() && read_head(front(bytes, len)) == HeadStep::More
+}
+
+/// Whether that many bytes are refused with that code.
+pub(crate) fn refuses_front(bytes: &[u8], len: usize, code: Code) -> bool {
+    len <= bytes.len() && read_head(front(bytes, len)) == HeadStep::Fault(code)
+}
+
+/// Whether the head at the front frames its body so, and keeps its connection or doesn't.
+pub(crate) fn is_framed(
+    method: Method,
+    bytes: &[u8],
+    framed: Result<Framing, Code>,
+    keep: bool,
+) -> bool {
+    match read_head(bytes) {
+        HeadStep::Head(head) => framing(method, &head) == framed && keeps(&head) == keep,
+        _ => false,
+    }
+}
+
+/// Whether the head at the front keeps its connection or doesn't.
+pub(crate) fn is_kept(bytes: &[u8], keep: bool) -> bool {
+    match read_head(bytes) {
+        HeadStep::Head(head) => keeps(&head) == keep,
+        _ => false,
     }
 }
 
@@ -102,157 +84,253 @@ pub(crate) fn is_read_in_time(row: &Response, bytes: &[u8]) -> bool {
     }
 }
 
-#[test]
-fn a_head_ends_at_its_limit(rt: HostRuntime) {
-    let alloc = rt.alloc();
-    for (len, cut, step) in [
-        (65536, 65535, HeadStep::More),
-        (65537, 65535, HeadStep::More),
-        (65537, 65536, HeadStep::Fault(Code::TooLarge)),
-        (65537, 65537, HeadStep::Fault(Code::TooLarge)),
-        (70000, 70000, HeadStep::Fault(Code::TooLarge)),
-    ] {
-        let head = with_long_field(alloc, 0, len).expect(&rt, "memory");
-        assert_eq!(rt; (head.len(), read_head(front(&head, cut))), (len, step));
-    }
-    fills_the_limit(&rt, alloc);
+static HEADS: [Row; 15] = [
+    (
+        "head_before_a_body",
+        Of(b"HTTP/1.1 200 OK\r\nContent-Length: 5\r\n\r\nhello"),
+        Seen::Head(38, 200, 1),
+    ),
+    (
+        "head_of_line_feeds_alone",
+        Of(b"\r\n\nHTTP/1.0 404\n\n<html>"),
+        Seen::Head(17, 404, 0),
+    ),
+    (
+        "head_of_status_999",
+        Of(b"HTTP/1.1 999 \r\n\r\n"),
+        Seen::Head(17, 999, 1),
+    ),
+    // as long as a head may be, and longer
+    (
+        "head_of_65536_without_its_last",
+        LongField(0, 65_536),
+        Seen::Wants(65_535),
+    ),
+    (
+        "head_of_65537_without_two",
+        LongField(0, 65_537),
+        Seen::Wants(65_535),
+    ),
+    (
+        "head_of_65537_without_its_last",
+        LongField(0, 65_537),
+        Seen::Refuses(65_536, Code::TooLarge),
+    ),
+    (
+        "head_of_65537",
+        LongField(0, 65_537),
+        Seen::Refuses(65_537, Code::TooLarge),
+    ),
+    (
+        "head_of_70000",
+        LongField(0, 70_000),
+        Seen::Refuses(70_000, Code::TooLarge),
+    ),
+    (
+        "head_of_65536_in_one_field_line",
+        LongField(0, 65_536),
+        Seen::Framed(Method::Get, Ok(Framing::Close), true),
+    ),
+    (
+        "head_of_65536_in_128_field_lines",
+        LongField(127, 65_536),
+        Seen::Framed(Method::Get, Ok(Framing::Close), true),
+    ),
+    // the same, a byte at a time
+    (
+        "head_of_65535_in_ones",
+        LongField(0, 65_535),
+        Seen::KnownInTime,
+    ),
+    (
+        "head_of_65536_in_ones",
+        LongField(0, 65_536),
+        Seen::KnownInTime,
+    ),
+    (
+        "head_of_65536_in_128_field_lines_in_ones",
+        LongField(127, 65_536),
+        Seen::KnownInTime,
+    ),
+    (
+        "head_of_65537_in_ones",
+        LongField(0, 65_537),
+        Seen::KnownInTime,
+    ),
+    (
+        "head_of_65537_in_129_field_lines_in_ones",
+        LongField(128, 65_537),
+        Seen::KnownInTime,
+    ),
+];
+
+/// Heads, and their limits.
+pub(crate) fn heads() -> &'static [Row] {
+    &HEADS
 }
 
-/// Tests heads that are as long as a head may be.
-fn fills_the_limit(rt: &impl Abort, alloc: Global) {
-    for count in [0, 127] {
-        let head = with_long_field(alloc, count, 65536).expect(rt, "memory");
-        assert_eq!(rt;
-            (head.len(), decided(Method::Get, &head)),
-            (65536, Some((Ok(Framing::Close), true)))
-        );
-    }
+/// No length that counts, and a connection that is kept.
+const BAD_LENGTH: Seen = Seen::Framed(Method::Get, Err(Code::WeirdServerReply), true);
+
+static LENGTHS: [Row; 15] = [
+    (
+        "length_5",
+        Of(b"HTTP/1.1 200 OK\r\nContent-Length: 5\r\n\r\n"),
+        Seen::Framed(Method::Get, Ok(Framing::Counted(5)), true),
+    ),
+    (
+        "length_5_twice_in_a_line",
+        Of(b"HTTP/1.1 200 OK\r\ncontent-length:5, 5\r\n\r\n"),
+        Seen::Framed(Method::Get, Ok(Framing::Counted(5)), true),
+    ),
+    (
+        "length_5_in_two_lines",
+        Of(b"HTTP/1.1 200 OK\r\nContent-Length: 5\r\nA: b\r\nCONTENT-LENGTH:\t005 \r\n\r\n"),
+        Seen::Framed(Method::Get, Ok(Framing::Counted(5)), true),
+    ),
+    (
+        "length_0",
+        Of(b"HTTP/1.1 200 OK\r\nContent-Length: 0\r\n\r\n"),
+        Seen::Framed(Method::Get, Ok(Framing::Counted(0)), true),
+    ),
+    (
+        "lengths_5_and_6_in_a_line",
+        Of(b"HTTP/1.1 200 OK\r\nContent-Length: 5, 6\r\n\r\n"),
+        BAD_LENGTH,
+    ),
+    (
+        "lengths_5_and_6_in_two_lines",
+        Of(b"HTTP/1.1 200 OK\r\nContent-Length: 5\r\nContent-Length: 6\r\n\r\n"),
+        BAD_LENGTH,
+    ),
+    (
+        "length_with_a_plus",
+        Of(b"HTTP/1.1 200 OK\r\nContent-Length: +5\r\n\r\n"),
+        BAD_LENGTH,
+    ),
+    (
+        "length_with_a_minus",
+        Of(b"HTTP/1.1 200 OK\r\nContent-Length: -5\r\n\r\n"),
+        BAD_LENGTH,
+    ),
+    (
+        "length_with_a_blank",
+        Of(b"HTTP/1.1 200 OK\r\nContent-Length: 5 5\r\n\r\n"),
+        BAD_LENGTH,
+    ),
+    (
+        "length_in_hex",
+        Of(b"HTTP/1.1 200 OK\r\nContent-Length: 0x5\r\n\r\n"),
+        BAD_LENGTH,
+    ),
+    (
+        "length_and_a_comma",
+        Of(b"HTTP/1.1 200 OK\r\nContent-Length: 5,\r\n\r\n"),
+        BAD_LENGTH,
+    ),
+    (
+        "empty_length",
+        Of(b"HTTP/1.1 200 OK\r\nContent-Length:\r\n\r\n"),
+        BAD_LENGTH,
+    ),
+    (
+        "greatest_length_of_64_bits",
+        Of(b"HTTP/1.1 200 OK\r\nContent-Length: 18446744073709551615\r\n\r\n"),
+        Seen::Framed(Method::Get, Ok(Framing::Counted(u64::MAX)), true),
+    ),
+    (
+        "length_of_65_bits",
+        Of(b"HTTP/1.1 200 OK\r\nContent-Length: 18446744073709551616\r\n\r\n"),
+        Seen::Framed(Method::Get, Ok(Framing::Counted(u64::MAX)), true),
+    ),
+    (
+        "two_lengths_of_65_bits",
+        Of(
+            b"HTTP/1.1 200 OK\r\nContent-Length: 18446744073709551616, 18446744073709551617\r\n\r\n",
+        ),
+        BAD_LENGTH,
+    ),
+];
+
+/// Lengths of bodies.
+pub(crate) fn lengths() -> &'static [Row] {
+    &LENGTHS
 }
 
-#[test]
-fn lengths_are_numbers(rt: HostRuntime) {
-    let alloc = rt.alloc();
-    let weird = Err(Code::WeirdServerReply);
-    for (lines, framing) in [
-        (b"Content-Length: 5\r\n".as_slice(), Ok(Framing::Counted(5))),
-        (
-            b"content-length:5, 5\r\n".as_slice(),
-            Ok(Framing::Counted(5)),
-        ),
-        (
-            b"Content-Length: 5\r\nA: b\r\nCONTENT-LENGTH:\t005 \r\n".as_slice(),
-            Ok(Framing::Counted(5)),
-        ),
-        (b"Content-Length: 0\r\n".as_slice(), Ok(Framing::Counted(0))),
-        (b"Content-Length: 5, 6\r\n".as_slice(), weird),
-        (
-            b"Content-Length: 5\r\nContent-Length: 6\r\n".as_slice(),
-            weird,
-        ),
-        (b"Content-Length: +5\r\n".as_slice(), weird),
-        (b"Content-Length: -5\r\n".as_slice(), weird),
-        (b"Content-Length: 5 5\r\n".as_slice(), weird),
-        (b"Content-Length: 0x5\r\n".as_slice(), weird),
-        (b"Content-Length: 5,\r\n".as_slice(), weird),
-        (b"Content-Length:\r\n".as_slice(), weird),
-        (
-            b"Content-Length: 18446744073709551615\r\n".as_slice(),
-            Ok(Framing::Counted(u64::MAX)),
-        ),
-        (
-            b"Content-Length: 18446744073709551616\r\n".as_slice(),
-            Ok(Framing::Counted(u64::MAX)),
-        ),
-        (
-            b"Content-Length: 18446744073709551616, 18446744073709551617\r\n".as_slice(),
-            weird,
-        ),
-    ] {
-        let input = with_lines(alloc, lines).expect(&rt, "memory");
-        assert_eq!(rt; decided(Method::Get, &input), Some((framing, true)));
-    }
-}
+static CODINGS: [Row; 14] = [
+    (
+        "chunked_coding",
+        Of(b"HTTP/1.1 200 OK\r\nTransfer-Encoding: chunked\r\n\r\n"),
+        Seen::Framed(Method::Get, Ok(Framing::Chunked), true),
+    ),
+    (
+        "two_codings",
+        Of(b"HTTP/1.1 200 OK\r\nTransfer-Encoding: gzip, chunked\r\n\r\n"),
+        Seen::Framed(Method::Get, Err(Code::BadContentEncoding), true),
+    ),
+    (
+        "coding_before_a_bad_length",
+        Of(b"HTTP/1.1 200 OK\r\nTransfer-Encoding: chunked\r\nContent-Length: x\r\n\r\n"),
+        Seen::Framed(Method::Get, Ok(Framing::Chunked), false),
+    ),
+    (
+        "coding_of_http_1_0",
+        Of(b"HTTP/1.0 200 OK\r\nTransfer-Encoding: chunked\r\n\r\n"),
+        Seen::Framed(Method::Get, Err(Code::WeirdServerReply), false),
+    ),
+    (
+        "length_in_an_answer_to_head",
+        Of(b"HTTP/1.1 200 OK\r\nContent-Length: 5\r\n\r\n"),
+        Seen::Framed(Method::Head, Ok(Framing::Empty), true),
+    ),
+    (
+        "length_of_no_content",
+        Of(b"HTTP/1.1 204 No Content\r\nContent-Length: 5\r\n\r\n"),
+        Seen::Framed(Method::Post, Ok(Framing::Empty), true),
+    ),
+    (
+        "coding_of_not_modified",
+        Of(b"HTTP/1.1 304 Not Modified\r\nTransfer-Encoding: gzip\r\n\r\n"),
+        Seen::Framed(Method::Get, Ok(Framing::Empty), true),
+    ),
+    (
+        "no_connection",
+        Of(b"HTTP/1.1 200 OK\r\n\r\n"),
+        Seen::Keeps(true),
+    ),
+    (
+        "connection_x_close",
+        Of(b"HTTP/1.1 200 OK\r\nConnection: x-close\r\n\r\n"),
+        Seen::Keeps(true),
+    ),
+    (
+        "connection_close_in_capitals",
+        Of(b"HTTP/1.1 200 OK\r\nconnection:CLOSE\r\n\r\n"),
+        Seen::Keeps(false),
+    ),
+    (
+        "connection_close_and_keep_alive",
+        Of(b"HTTP/1.1 200 OK\r\nConnection: close, keep-alive\r\n\r\n"),
+        Seen::Keeps(false),
+    ),
+    (
+        "connection_keep_alive_of_http_1_0_in_the_second_line",
+        Of(b"HTTP/1.0 200 OK\r\nConnection: te\r\nConnection: , Keep-Alive\r\n\r\n"),
+        Seen::Keeps(true),
+    ),
+    (
+        "no_connection_of_http_1_0",
+        Of(b"HTTP/1.0 200 OK\r\n\r\n"),
+        Seen::Keeps(false),
+    ),
+    (
+        "connection_keep_alive_of_http_1_0_and_an_empty_coding",
+        Of(b"HTTP/1.0 200 OK\r\nConnection: keep-alive\r\nTransfer-Encoding:\r\n\r\n"),
+        Seen::Keeps(false),
+    ),
+];
 
-#[test]
-fn codings_and_statuses_come_first(rt: HostRuntime) {
-    let coded = Err(Code::BadContentEncoding);
-    for (input, method, framing, keep) in [
-        (
-            b"HTTP/1.1 200 OK\r\nTransfer-Encoding: chunked\r\n\r\n".as_slice(),
-            Method::Get,
-            Ok(Framing::Chunked),
-            true,
-        ),
-        (
-            b"HTTP/1.1 200 OK\r\nTransfer-Encoding: gzip, chunked\r\n\r\n".as_slice(),
-            Method::Get,
-            coded,
-            true,
-        ),
-        (
-            b"HTTP/1.1 200 OK\r\nTransfer-Encoding: chunked\r\nContent-Length: x\r\n\r\n".as_slice(),
-            Method::Get,
-            Ok(Framing::Chunked),
-            false,
-        ),
-        (
-            b"HTTP/1.0 200 OK\r\nTransfer-Encoding: chunked\r\n\r\n".as_slice(),
-            Method::Get,
-            Err(Code::WeirdServerReply),
-            false,
-        ),
-        (
-            b"HTTP/1.1 200 OK\r\nContent-Length: 5\r\n\r\n".as_slice(),
-            Method::Head,
-            Ok(Framing::Empty),
-            true,
-        ),
-        (
-            b"HTTP/1.1 204 No Content\r\nContent-Length: 5\r\n\r\n".as_slice(),
-            Method::Post,
-            Ok(Framing::Empty),
-            true,
-        ),
-        (
-            b"HTTP/1.1 304 Not Modified\r\nTransfer-Encoding: gzip\r\n\r\n".as_slice(),
-            Method::Get,
-            Ok(Framing::Empty),
-            true,
-        ),
-    ] {
-        assert_eq!(rt; decided(method, input), Some((framing, keep)));
-    }
-}
-
-#[test]
-fn connections_are_kept(rt: HostRuntime) {
-    for (input, keep) in [
-        (b"HTTP/1.1 200 OK\r\n\r\n".as_slice(), true),
-        (
-            b"HTTP/1.1 200 OK\r\nConnection: x-close\r\n\r\n".as_slice(),
-            true,
-        ),
-        (
-            b"HTTP/1.1 200 OK\r\nconnection:CLOSE\r\n\r\n".as_slice(),
-            false,
-        ),
-        (
-            b"HTTP/1.1 200 OK\r\nConnection: close, keep-alive\r\n\r\n".as_slice(),
-            false,
-        ),
-        (
-            b"HTTP/1.0 200 OK\r\nConnection: te\r\nConnection: , Keep-Alive\r\n\r\n".as_slice(),
-            true,
-        ),
-        (b"HTTP/1.0 200 OK\r\n\r\n".as_slice(), false),
-        (
-            b"HTTP/1.0 200 OK\r\nConnection: keep-alive\r\nTransfer-Encoding:\r\n\r\n".as_slice(),
-            false,
-        ),
-    ] {
-        match read_head(input) {
-            HeadStep::Head(head) => assert_eq!(rt; keeps(&head), keep),
-            step => assert!(rt; false, "{step:?}"),
-        }
-    }
+/// Transfer codings and statuses, which come before lengths, and connections that are kept.
+pub(crate) fn codings() -> &'static [Row] {
+    &CODINGS
 }

@@ -1,19 +1,27 @@
-//! Heads and bodies, by public calls alone. There is nothing in this crate but tests.
+//! Heads, bodies and what is wrong with them, by public calls alone. There is nothing in this crate but tests.
 #![tactic(auto)]
 
+#[cfg(test)]
+mod chunked;
 #[cfg(test)]
 mod cuts;
 #[cfg(test)]
 mod heads;
 #[cfg(test)]
+mod limits;
+#[cfg(test)]
 mod locations;
 #[cfg(test)]
 mod pieces;
 #[cfg(test)]
+mod reasons;
+#[cfg(test)]
 mod refused;
 #[cfg(test)]
-mod responses;
+mod row;
 #[cfg(test)]
-mod rows;
+mod table;
+#[cfg(test)]
+mod told;
 #[cfg(test)]
 mod trials;

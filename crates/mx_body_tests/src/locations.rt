@@ -1,6 +1,8 @@
-//! Locations. The offsets were counted by hand.
+//! Locations (RFC 9110, section 10.2.2).
 
 use crate::pieces::{decoder, feed};
+use crate::row::Bytes::Of;
+use crate::row::{Row, Seen};
 use mx_body::Decoder;
 use mx_head::{HeadStep, read_head};
 use mx_types::Method;
@@ -45,143 +47,162 @@ fn has_location(
     place_in_response(&decoder) == place && decoder.wire().get(start..end) == Some(value)
 }
 
-#[test]
-fn the_first_location_line_of_a_head(rt: HostRuntime) {
-    let found: [(&[u8], usize, usize, &[u8]); 10] = [
-        (
-            b"HTTP/1.1 301 Moved\r\nLocation: http://a/\r\n\r\n",
-            30,
-            39,
-            b"http://a/",
-        ),
-        (
-            b"HTTP/1.1 201 Created\r\nLocation: /n\r\n\r\n",
-            32,
-            34,
-            b"/n",
-        ),
-        // a second line counts for nothing
-        (
-            b"HTTP/1.1 302 Found\r\nLocation: /a\r\nLocation: /b\r\n\r\n",
-            30,
-            32,
-            b"/a",
-        ),
-        (
-            b"HTTP/1.1 302 Found\r\nLocation: /a\r\nLocation:\r\n\r\n",
-            30,
-            32,
-            b"/a",
-        ),
-        // letters in either case, and no blank
-        (b"HTTP/1.1 302 Found\r\nlOcAtIoN:/a\r\n\r\n", 29, 31, b"/a"),
-        // blanks around the value are no part of it
-        (
-            b"HTTP/1.1 302 Found\r\nLocation: \t /a b \t\r\n\r\n",
-            32,
-            36,
-            b"/a b",
-        ),
-        // bytes above 127
-        (
-            b"HTTP/1.1 302 Found\r\nLocation: /\xff\xc3\xa9\r\n\r\n",
-            30,
-            34,
-            b"/\xff\xc3\xa9",
-        ),
-        // names that only end so
-        (
-            b"HTTP/1.1 302 Found\r\nX-Location: /x\r\nContent-Location: /y\r\nLocation: /z\r\n\r\n",
-            68,
-            70,
-            b"/z",
-        ),
-        // empty lines before the head
-        (b"\r\n\nHTTP/1.0 301\nLocation: /a\n\n", 26, 28, b"/a"),
-        // the framing is refused, and the head is known
-        (
-            b"HTTP/1.1 302 Found\r\nLocation: /a\r\nContent-Length: 5, 6\r\n\r\n",
-            30,
-            32,
-            b"/a",
-        ),
-    ];
-    for (bytes, start, end, value) in found {
-        let place = Some((start, end));
-        assert_eq!(rt; place_in_head(bytes), place);
-        for len in [1, 7, 600] {
-            assert!(rt;
-                has_location(rt.alloc(), bytes, len, place, value),
-                "{bytes:?}"
-            );
-        }
-    }
+/// Whether it has, in pieces of each length.
+pub(crate) fn is_located_behind(
+    alloc: Global,
+    bytes: &[u8],
+    place: Option<Place>,
+    value: &[u8],
+) -> bool {
+    has_location(alloc, bytes, 1, place, value)
+        && has_location(alloc, bytes, 7, place, value)
+        && has_location(alloc, bytes, 600, place, value)
 }
 
-#[test]
-fn no_location(rt: HostRuntime) {
-    let none: [&[u8]; 9] = [
-        b"HTTP/1.1 302 Found\r\n\r\n",
-        b"HTTP/1.1 302 Found\r\nLocation:\r\n\r\n",
-        // an empty first line is none, whatever the second has
-        b"HTTP/1.1 302 Found\r\nLocation:\r\nLocation: /b\r\n\r\n",
-        b"HTTP/1.1 302 Found\r\nLocation: \t \r\nLocation: /b\r\n\r\n",
-        b"HTTP/1.1 302 Found\r\nX-Location: /x\r\nLocations: /y\r\n\r\n",
-        // the head isn't whole
-        b"",
-        b"HTTP/1.1 302 Found\r\nLocation: /a\r\n",
-        b"HTTP/1.1 302 Found\r\nLocation: /a\r\n\r",
-        // and never will be
-        b"HTTP/1.1 302 Found\r\nLocation: /a\r\nA b: c\r\n\r\n",
-    ];
-    for bytes in none {
-        assert_eq!(rt; place_in_head(bytes), None);
-        for len in [1, 7, 600] {
-            assert!(rt;
-                has_location(rt.alloc(), bytes, len, None, b""),
-                "{bytes:?}"
-            );
-        }
-    }
+/// Whether the head at the front has that location, too.
+pub(crate) fn is_located(alloc: Global, bytes: &[u8], place: Option<Place>, value: &[u8]) -> bool {
+    place_in_head(bytes) == place && is_located_behind(alloc, bytes, place, value)
 }
 
-/// The interim head has 43 bytes.
-#[test]
-fn a_location_of_an_interim_head_is_not_the_responses(rt: HostRuntime) {
-    let rows: [(&[u8], Option<Place>, &[u8]); 5] = [
-        (
-            b"HTTP/1.1 103 Early Hints\r\nLocation: /no\r\n\r\n",
-            None,
-            b"",
-        ),
-        (
-            b"HTTP/1.1 103 Early Hints\r\nLocation: /no\r\n\r\nHTTP/1.1 302 Found\r\n\r\n",
-            None,
-            b"",
-        ),
-        (
+static FOUND: [Row; 10] = [
+    (
+        "location",
+        Of(b"HTTP/1.1 301 Moved\r\nLocation: http://a/\r\n\r\n"),
+        Seen::Location(Some((30, 39)), b"http://a/"),
+    ),
+    (
+        "location_of_created",
+        Of(b"HTTP/1.1 201 Created\r\nLocation: /n\r\n\r\n"),
+        Seen::Location(Some((32, 34)), b"/n"),
+    ),
+    // a second line counts for nothing
+    (
+        "two_locations",
+        Of(b"HTTP/1.1 302 Found\r\nLocation: /a\r\nLocation: /b\r\n\r\n"),
+        Seen::Location(Some((30, 32)), b"/a"),
+    ),
+    (
+        "location_before_an_empty_one",
+        Of(b"HTTP/1.1 302 Found\r\nLocation: /a\r\nLocation:\r\n\r\n"),
+        Seen::Location(Some((30, 32)), b"/a"),
+    ),
+    (
+        "location_in_either_case_without_a_blank",
+        Of(b"HTTP/1.1 302 Found\r\nlOcAtIoN:/a\r\n\r\n"),
+        Seen::Location(Some((29, 31)), b"/a"),
+    ),
+    // blanks around the value are no part of it
+    (
+        "location_between_blanks",
+        Of(b"HTTP/1.1 302 Found\r\nLocation: \t /a b \t\r\n\r\n"),
+        Seen::Location(Some((32, 36)), b"/a b"),
+    ),
+    (
+        "location_with_bytes_above_127",
+        Of(b"HTTP/1.1 302 Found\r\nLocation: /\xff\xc3\xa9\r\n\r\n"),
+        Seen::Location(Some((30, 34)), b"/\xff\xc3\xa9"),
+    ),
+    (
+        "location_behind_names_that_only_end_so",
+        Of(b"HTTP/1.1 302 Found\r\nX-Location: /x\r\nContent-Location: /y\r\nLocation: /z\r\n\r\n"),
+        Seen::Location(Some((68, 70)), b"/z"),
+    ),
+    (
+        "location_behind_empty_lines",
+        Of(b"\r\n\nHTTP/1.0 301\nLocation: /a\n\n"),
+        Seen::Location(Some((26, 28)), b"/a"),
+    ),
+    // the framing is refused, and the head is known
+    (
+        "location_and_a_bad_length",
+        Of(b"HTTP/1.1 302 Found\r\nLocation: /a\r\nContent-Length: 5, 6\r\n\r\n"),
+        Seen::Location(Some((30, 32)), b"/a"),
+    ),
+];
+
+/// The first location of a head.
+pub(crate) fn found() -> &'static [Row] {
+    &FOUND
+}
+
+static NOT_FOUND: [Row; 14] = [
+    (
+        "no_location",
+        Of(b"HTTP/1.1 302 Found\r\n\r\n"),
+        Seen::Location(None, b""),
+    ),
+    (
+        "empty_location",
+        Of(b"HTTP/1.1 302 Found\r\nLocation:\r\n\r\n"),
+        Seen::Location(None, b""),
+    ),
+    // an empty first line is none, whatever the second has
+    (
+        "empty_location_before_another",
+        Of(b"HTTP/1.1 302 Found\r\nLocation:\r\nLocation: /b\r\n\r\n"),
+        Seen::Location(None, b""),
+    ),
+    (
+        "blank_location_before_another",
+        Of(b"HTTP/1.1 302 Found\r\nLocation: \t \r\nLocation: /b\r\n\r\n"),
+        Seen::Location(None, b""),
+    ),
+    (
+        "names_like_location",
+        Of(b"HTTP/1.1 302 Found\r\nX-Location: /x\r\nLocations: /y\r\n\r\n"),
+        Seen::Location(None, b""),
+    ),
+    ("location_of_nothing", Of(b""), Seen::Location(None, b"")),
+    (
+        "location_of_a_head_without_its_end",
+        Of(b"HTTP/1.1 302 Found\r\nLocation: /a\r\n"),
+        Seen::Location(None, b""),
+    ),
+    (
+        "location_of_a_head_without_its_last_byte",
+        Of(b"HTTP/1.1 302 Found\r\nLocation: /a\r\n\r"),
+        Seen::Location(None, b""),
+    ),
+    (
+        "location_of_a_refused_head",
+        Of(b"HTTP/1.1 302 Found\r\nLocation: /a\r\nA b: c\r\n\r\n"),
+        Seen::Location(None, b""),
+    ),
+    // an interim head of 43 bytes, whose location isn't the response's
+    (
+        "location_of_an_interim_head_alone",
+        Of(b"HTTP/1.1 103 Early Hints\r\nLocation: /no\r\n\r\n"),
+        Seen::LocationBehind(None, b""),
+    ),
+    (
+        "location_of_an_interim_head",
+        Of(b"HTTP/1.1 103 Early Hints\r\nLocation: /no\r\n\r\nHTTP/1.1 302 Found\r\n\r\n"),
+        Seen::LocationBehind(None, b""),
+    ),
+    (
+        "location_behind_an_interim_head",
+        Of(
             b"HTTP/1.1 103 Early Hints\r\nLocation: /no\r\n\r\nHTTP/1.1 302 Found\r\nLocation: /a\r\n\r\n",
-            Some((73, 75)),
-            b"/a",
         ),
-        // a body that hasn't ended
-        (
+        Seen::LocationBehind(Some((73, 75)), b"/a"),
+    ),
+    (
+        "location_behind_an_interim_head_before_half_a_body",
+        Of(
             b"HTTP/1.1 103 Early Hints\r\nLocation: /no\r\n\r\nHTTP/1.1 302 Found\r\nLocation: /a\r\nContent-Length: 5\r\n\r\nab",
-            Some((73, 75)),
-            b"/a",
         ),
-        (
+        Seen::LocationBehind(Some((73, 75)), b"/a"),
+    ),
+    (
+        "location_behind_an_interim_head_before_half_a_chunk",
+        Of(
             b"HTTP/1.1 103 Early Hints\r\nLocation: /no\r\n\r\nHTTP/1.1 302 Found\r\nLocation: /a\r\nTransfer-Encoding: chunked\r\n\r\n5\r\nab",
-            Some((73, 75)),
-            b"/a",
         ),
-    ];
-    for (bytes, place, value) in rows {
-        for len in [1, 7, 600] {
-            assert!(rt;
-                has_location(rt.alloc(), bytes, len, place, value),
-                "{bytes:?}"
-            );
-        }
-    }
+        Seen::LocationBehind(Some((73, 75)), b"/a"),
+    ),
+];
+
+/// Heads without a location, and responses with interim heads.
+pub(crate) fn not_found() -> &'static [Row] {
+    &NOT_FOUND
 }

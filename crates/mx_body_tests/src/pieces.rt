@@ -1,15 +1,16 @@
-//! Responses fed in pieces. The offsets were counted by hand.
+//! Responses fed in pieces.
 //!
 //! Each call stands in a function of its own with no contract, which keeps the proof of the tests short.
 
+use crate::row::Bytes::{Of, Often};
+use crate::row::{Bytes, Row, Seen, bytes_of};
 use mx_body::{Decoder, Part, Stand, Verdict, decode_whole};
 use mx_responses::bytes::CHUNKED;
 use mx_types::{Code, Method};
 use std::alloc::{AllocError, Global};
-use std::process::Abort;
 
 /// What can be read of a decoder, and what its bytes come to.
-#[derive(Clone, Copy, Debug, PartialEq, Eq)]
+#[derive(Clone, Copy, PartialEq, Eq)]
 pub(crate) struct Reading {
     stand: Stand,
     status: u16,
@@ -58,16 +59,6 @@ fn wire_of(decoder: Decoder) -> Vec<u8> {
     decoder.into_wire()
 }
 
-/// The head of `CHUNKED`, which has 47 bytes, and then so many chunks of one byte, the last chunk, and no trailer.
-fn with_chunks(alloc: Global, count: usize) -> Result<Vec<u8>, AllocError> {
-    let mut bytes = Vec::from_slice(alloc, &CHUNKED[..47])?;
-    for _ in 0..count {
-        bytes.extend_from_slice(b"1\r\nx\r\n")?;
-    }
-    bytes.extend_from_slice(b"0\r\n\r\n")?;
-    Ok(bytes)
-}
-
 /// Feeds the bytes in pieces of that length; the last may be shorter. The last answer, `None` for want of memory.
 fn feed_pieces(decoder: &mut Decoder, bytes: &[u8], len: usize) -> Option<Stand> {
     let mut stand = Some(decoder.stand());
@@ -89,8 +80,13 @@ fn are_single_bytes(parts: &[Part]) -> bool {
     true
 }
 
-/// Compares what a decoder reads behind 100,000 chunks of one byte.
-pub(crate) fn has_many_chunks(rt: &impl Abort, decoder: &Decoder) {
+/// Whether these are the parts of 100,000 chunks of one byte.
+fn are_many_parts(parts: &[Part]) -> bool {
+    parts.len() == 100_000 && are_single_bytes(parts)
+}
+
+/// Whether a decoder has read 100,000 chunks of one byte.
+pub(crate) fn has_many_chunks(decoder: &Decoder) -> bool {
     let whole = Reading {
         stand: Stand::Complete,
         status: 200,
@@ -98,47 +94,25 @@ pub(crate) fn has_many_chunks(rt: &impl Abort, decoder: &Decoder) {
         keep: true,
         fed: 600_052,
     };
-    assert_eq!(rt; read(decoder), whole);
-    are_many_parts(rt, decoder.parts());
+    read(decoder) == whole && are_many_parts(decoder.parts())
 }
 
-/// Compares the parts of 100,000 chunks of one byte.
-fn are_many_parts(rt: &impl Abort, parts: &[Part]) {
-    assert_eq!(rt; (parts.len(), are_single_bytes(parts)), (100_000, true));
+/// Feeds the bytes of 100,000 chunks in pieces of that length: whether the last byte decides, and they are read so.
+fn takes_many_chunks(decoder: &mut Decoder, bytes: &[u8], len: usize) -> bool {
+    let last = if len == 1 {
+        feed_each(decoder, bytes) == (600_051, Some(Stand::Complete))
+    } else {
+        feed_pieces(decoder, bytes, len) == Some(Stand::Complete)
+    };
+    last && has_many_chunks(decoder)
 }
 
-#[test]
-fn many_chunks_a_byte_at_a_time(rt: HostRuntime) {
-    let bytes = with_chunks(rt.alloc(), 100_000).expect(&rt, "memory");
-    let mut decoder = decoder(rt.alloc(), Method::Get);
-    let each = feed_each(&mut decoder, &bytes);
-    // the last byte decides: 600,051 were answered `More`
-    assert_eq!(rt; each, (600_051, Some(Stand::Complete)));
-    has_many_chunks(&rt, &decoder);
-}
-
-/// Feeds the bytes of 100,000 chunks in pieces of that length.
-fn completes_in_pieces(rt: &impl Abort, decoder: &mut Decoder, bytes: &[u8], len: usize) {
-    let last = feed_pieces(decoder, bytes, len);
-    assert_eq!(rt; last, Some(Stand::Complete));
-    has_many_chunks(rt, decoder);
-}
-
-/// Feeds them so, and takes the decoder apart.
-fn takes_pieces(rt: &impl Abort, alloc: Global, bytes: &[u8], len: usize) {
+/// Whether a new decoder does so, and is taken apart into these bytes and their parts.
+pub(crate) fn has_all_chunks(alloc: Global, bytes: &[u8], len: usize) -> bool {
     let mut decoder = decoder(alloc, Method::Get);
-    completes_in_pieces(rt, &mut decoder, bytes, len);
+    let is_taken = takes_many_chunks(&mut decoder, bytes, len);
     let (wire, parts) = decoder.into_parts();
-    assert!(rt; wire.as_slice() == bytes);
-    are_many_parts(rt, &parts);
-}
-
-#[test]
-fn many_chunks_in_pieces(rt: HostRuntime) {
-    let bytes = with_chunks(rt.alloc(), 100_000).expect(&rt, "memory");
-    for len in [1, 7, 16_384, 600_052] {
-        takes_pieces(&rt, rt.alloc(), &bytes, len);
-    }
+    is_taken && wire.as_slice() == bytes && are_many_parts(&parts)
 }
 
 /// Whether the decoder says what the plain program says of the same bytes; not where that one is out of memory.
@@ -197,72 +171,127 @@ pub(crate) fn agrees_in_all_pieces(alloc: Global, bytes: &[u8]) -> bool {
     true
 }
 
-/// An interim head, and then a head of 65,536 bytes with one long field line, whose body is empty.
-fn with_longest_head(alloc: Global) -> Result<Vec<u8>, AllocError> {
-    let mut bytes = Vec::from_slice(
-        alloc,
-        b"HTTP/1.1 103 Early Hints\r\n\r\nHTTP/1.1 204 No Content\r\nA: ",
-    )?;
-    // 28 bytes, and 28 that begin the second head, whose last 4 end it
-    for _ in 0..65_504 {
-        bytes.push(b'a')?;
-    }
-    bytes.extend_from_slice(b"\r\n\r\n")?;
-    Ok(bytes)
-}
-
-/// Feeds those bytes in pieces of that length.
-fn takes_longest_head(rt: &impl Abort, alloc: Global, bytes: &[u8], len: usize) {
+/// Whether a response of that status and that length is whole, in pieces of that length.
+fn completes_in(alloc: Global, bytes: &[u8], piece: usize, status: u16, len: usize) -> bool {
     let mut decoder = decoder(alloc, Method::Get);
-    let last = feed_pieces(&mut decoder, bytes, len);
-    assert_eq!(rt;
-        (last, decoder.status(), decoder.len()),
-        (Some(Stand::Complete), 204, 65_564)
-    );
+    let last = feed_pieces(&mut decoder, bytes, piece);
+    last == Some(Stand::Complete) && decoder.status() == status && decoder.len() == len
 }
 
-#[test]
-fn the_longest_head_behind_an_interim_head(rt: HostRuntime) {
-    let bytes = with_longest_head(rt.alloc()).expect(&rt, "memory");
-    assert_eq!(rt; bytes.len(), 28 + 65_536);
-    for len in [100, 16_384, 65_564] {
-        takes_longest_head(&rt, rt.alloc(), &bytes, len);
+/// Whether it is in pieces of each of these lengths.
+pub(crate) fn completes(
+    alloc: Global,
+    bytes: &[u8],
+    pieces: &[usize],
+    status: u16,
+    len: usize,
+) -> bool {
+    for piece in pieces {
+        if !completes_in(alloc, bytes, *piece, status, len) {
+            return false;
+        }
     }
+    true
 }
 
-/// Feeds all but the last byte, and then that one.
-fn feed_but_one(decoder: &mut Decoder, bytes: &[u8]) -> (Option<Stand>, Option<Stand>) {
+/// Whether a decoder that is fed all but the last byte, and then that one, refuses that one so.
+pub(crate) fn is_refused_at_last(alloc: Global, bytes: &[u8], code: Code) -> bool {
+    let mut decoder = decoder(alloc, Method::Get);
     let (front, last) = bytes.split_at(bytes.len().saturating_sub(1));
-    (feed(decoder, front), feed(decoder, last))
+    feed(&mut decoder, front) == Some(Stand::More)
+        && feed(&mut decoder, last) == Some(Stand::Fault(code))
 }
 
-/// With one byte more before its end, the 65,536th byte makes the head too large.
-#[test]
-fn a_head_that_is_too_long_behind_an_interim_head(rt: HostRuntime) {
-    let mut bytes = with_longest_head(rt.alloc()).expect(&rt, "memory");
-    bytes.truncate(65_560);
-    bytes.extend_from_slice(b"a\r\n\r").expect(&rt, "memory");
-    let mut decoder = decoder(rt.alloc(), Method::Get);
-    assert_eq!(rt;
-        feed_but_one(&mut decoder, &bytes),
-        (Some(Stand::More), Some(Stand::Fault(Code::TooLarge)))
-    );
+/// The head of `CHUNKED` alone.
+const CHUNKED_HEAD: &[u8] = b"HTTP/1.1 200 OK\r\nTransfer-Encoding: chunked\r\n\r\n";
+
+/// 47 bytes, 100,000 chunks of one byte, the last chunk, and no trailer.
+const MANY_CHUNKS: Bytes = Often(CHUNKED_HEAD, b"1\r\nx\r\n", 100_000, b"0\r\n\r\n");
+
+/// An interim head of 28 bytes, and the front of a head.
+const LONG_FRONT: &[u8] = b"HTTP/1.1 103 Early Hints\r\n\r\nHTTP/1.1 204 No Content\r\nA: ";
+
+static PIECES: [Row; 6] = [
+    ("many_chunks_in_ones", MANY_CHUNKS, Seen::ManyChunks(1)),
+    ("many_chunks_in_sevens", MANY_CHUNKS, Seen::ManyChunks(7)),
+    (
+        "many_chunks_by_16384",
+        MANY_CHUNKS,
+        Seen::ManyChunks(16_384),
+    ),
+    (
+        "many_chunks_at_once",
+        MANY_CHUNKS,
+        Seen::ManyChunks(600_052),
+    ),
+    // a head of 65,536 bytes, of which 28 stand before the value and 4 behind it
+    (
+        "longest_head_behind_an_interim_head",
+        Often(LONG_FRONT, b"a", 65_504, b"\r\n\r\n"),
+        Seen::Completes(&[100, 16_384, 65_564], 204, 65_564),
+    ),
+    // with one byte more before its end, the 65,536th byte makes it too large
+    (
+        "longer_head_behind_an_interim_head",
+        Often(LONG_FRONT, b"a", 65_505, b"\r\n\r"),
+        Seen::RefusedAtLast(Code::TooLarge),
+    ),
+];
+
+/// Responses in pieces.
+pub(crate) fn pieces() -> &'static [Row] {
+    &PIECES
 }
 
-#[test]
-fn an_empty_piece_changes_nothing(rt: HostRuntime) {
-    let mut decoder = decoder(rt.alloc(), Method::Get);
-    let stands = [
-        feed(&mut decoder, b""),
-        feed(&mut decoder, CHUNKED),
-        feed(&mut decoder, b""),
-    ];
-    let complete = Some(Stand::Complete);
-    assert_eq!(rt;
-        (stands, decoder.len()),
-        ([Some(Stand::More), complete, complete], 72)
-    );
-}
+/// A piece, how often it is fed, and the last answer.
+pub(crate) type Feed = (Bytes, u32, Stand);
+
+/// A name; pieces that are fed; how long the response is then, where it is whole; and of how many bytes a decoder then has room for no
+/// more, if it is to have none.
+pub(crate) type Script = (&'static str, &'static [Feed], Option<usize>, Option<usize>);
+
+static SCRIPTS: [Script; 3] = [
+    (
+        "empty_pieces",
+        &[
+            (Of(b""), 1, Stand::More),
+            (Of(CHUNKED), 1, Stand::Complete),
+            (Of(b""), 1, Stand::Complete),
+        ],
+        Some(72),
+        None,
+    ),
+    // a head of 43 bytes; room for a told length is taken at once
+    (
+        "room_for_a_length",
+        &[
+            (
+                Of(b"HTTP/1.1 200 OK\r\nContent-Length: 100000\r\n\r\n"),
+                1,
+                Stand::More,
+            ),
+            (Bytes::Filled(b"", 100), 1, Stand::More),
+            (Bytes::Filled(b"", 100), 999, Stand::Complete),
+        ],
+        Some(100_043),
+        Some(100_043),
+    ),
+    // it grows no further than the limit
+    (
+        "room_at_the_limit",
+        &[
+            (Of(b"HTTP/1.0 200 OK\r\n\r\n"), 1, Stand::More),
+            (Bytes::Filled(b"", 65_536), 1023, Stand::More),
+            (
+                Bytes::Filled(b"", 65_536),
+                1,
+                Stand::Fault(Code::FilesizeExceeded),
+            ),
+        ],
+        None,
+        Some(67_108_883),
+    ),
+];
 
 /// Feeds the same piece so many times: the last answer.
 fn feed_again(decoder: &mut Decoder, piece: &[u8], count: u32) -> Option<Stand> {
@@ -273,44 +302,45 @@ fn feed_again(decoder: &mut Decoder, piece: &[u8], count: u32) -> Option<Stand> 
     stand
 }
 
-/// Compares a decoder's last three answers, and the length of its bytes, which have room for no more.
-fn has_room_for(
-    rt: &impl Abort,
-    decoder: Decoder,
-    stands: [Option<Stand>; 3],
-    last: Stand,
-    len: usize,
-) {
-    let wire = wire_of(decoder);
-    let more = Some(Stand::More);
-    assert_eq!(rt;
-        (stands, wire.len(), wire.capacity()),
-        ([more, more, Some(last)], len, len)
-    );
+/// Feeds these pieces: whether each is answered so.
+fn feed_script(alloc: Global, decoder: &mut Decoder, feeds: &[Feed]) -> Result<bool, AllocError> {
+    let mut is_right = true;
+    for feed in feeds {
+        let piece = bytes_of(alloc, &feed.0)?;
+        let last = feed_again(decoder, &piece, feed.1);
+        is_right = is_right && last == Some(feed.2);
+    }
+    Ok(is_right)
 }
 
-#[test]
-fn room_for_a_told_length_is_taken_at_once(rt: HostRuntime) {
-    let mut decoder = decoder(rt.alloc(), Method::Get);
-    // a head of 43 bytes
-    let head = b"HTTP/1.1 200 OK\r\nContent-Length: 100000\r\n\r\n";
-    let stands = [
-        feed(&mut decoder, head),
-        feed_again(&mut decoder, &[b'x'; 100], 1),
-        feed_again(&mut decoder, &[b'x'; 100], 999),
-    ];
-    has_room_for(&rt, decoder, stands, Stand::Complete, 100_043);
+/// Whether a decoder has that many bytes, and room for no more.
+fn is_full(decoder: Decoder, len: usize) -> bool {
+    let wire = decoder.into_wire();
+    wire.len() == len && wire.capacity() == len
 }
 
-#[test]
-fn room_grows_no_further_than_the_limit(rt: HostRuntime) {
-    let mut decoder = decoder(rt.alloc(), Method::Get);
-    let open = b"HTTP/1.0 200 OK\r\n\r\n";
-    let stands = [
-        feed(&mut decoder, open),
-        feed_again(&mut decoder, &[b'x'; 65_536], 1023),
-        feed_again(&mut decoder, &[b'x'; 65_536], 1),
-    ];
-    let fault = Stand::Fault(Code::FilesizeExceeded);
-    has_room_for(&rt, decoder, stands, fault, 67_108_883);
+/// Whether a decoder's response has that length, and it has that room.
+fn has_room(decoder: Decoder, len: Option<usize>, room: Option<usize>) -> bool {
+    let is_long = len.is_none() || len == Some(decoder.len());
+    match room {
+        Some(room) => is_full(decoder, room) && is_long,
+        None => is_long,
+    }
+}
+
+/// Whether a script goes as it is to.
+fn goes(alloc: Global, script: &Script) -> Result<bool, AllocError> {
+    let mut decoder = decoder(alloc, Method::Get);
+    let is_right = feed_script(alloc, &mut decoder, script.1)?;
+    Ok(has_room(decoder, script.2, script.3) && is_right)
+}
+
+/// The name of the first script that doesn't.
+pub(crate) fn wrong_script(alloc: Global) -> Result<Option<&'static str>, AllocError> {
+    for script in &SCRIPTS {
+        if !goes(alloc, script)? {
+            return Ok(Some(script.0));
+        }
+    }
+    Ok(None)
 }

@@ -3,11 +3,11 @@
 use crate::cuts::{agrees_at_each_cut, is_known_anywhere};
 use crate::heads::{begins_with_interim, is_read_in_time};
 use crate::pieces::agrees_in_all_pieces;
-use crate::rows::{is_taken_anyhow, is_taken_in_ones, is_whole_told};
+use crate::told::{is_taken_anyhow, is_taken_in_ones, is_whole_told};
 use mx_responses::response::Response;
 use mx_responses::table::responses;
 use std::alloc::{AllocError, Global};
-use std::process::Abort;
+use std::test::Fail;
 
 /// How a response is tried.
 #[derive(Clone, Copy)]
@@ -36,6 +36,21 @@ fn passes(alloc: Global, trial: Trial, row: &Response, bytes: &[u8]) -> bool {
     }
 }
 
+/// Trials by what was told of a response, and what they are called.
+static TOLD: [(Trial, &str); 3] = [
+    (Trial::Whole, "whole"),
+    (Trial::CutAnywhere, "cut anywhere"),
+    (Trial::AByteAtATime, "a byte at a time"),
+];
+
+/// Trials by a plain program, too.
+static COMPARED: [(Trial, &str); 4] = [
+    (Trial::Head, "its head"),
+    (Trial::HeadInOnes, "its head, a byte at a time"),
+    (Trial::BothDecoders, "both decoders"),
+    (Trial::BehindAnInterimHead, "behind an interim head"),
+];
+
 /// The name of the first row that doesn't pass.
 fn first_wrong(
     alloc: Global,
@@ -51,44 +66,31 @@ fn first_wrong(
     Ok(None)
 }
 
-fn all_pass(rt: &impl Abort, alloc: Global, trial: Trial) {
-    for rows in responses() {
-        let wrong = first_wrong(alloc, trial, rows).expect(rt, "memory");
-        assert_eq!(rt; wrong, None);
+/// The first trial with the name of the first row that doesn't pass it.
+fn wrong_trial(
+    alloc: Global,
+    trials: &[(Trial, &'static str)],
+) -> Result<Option<(&'static str, &'static str)>, AllocError> {
+    for trial in trials {
+        for rows in responses() {
+            if let Some(name) = first_wrong(alloc, trial.0, rows)? {
+                return Ok(Some((trial.1, name)));
+            }
+        }
     }
+    Ok(None)
 }
 
 #[test]
-fn whole_responses(rt: HostRuntime) {
-    all_pass(&rt, rt.alloc(), Trial::Whole);
+fn responses_as_told(rt: HostRuntime) -> Result<(), Fail> {
+    let wrong = wrong_trial(rt.alloc(), &TOLD)?;
+    assert_eq!(rt; wrong, None);
+    Ok(())
 }
 
 #[test]
-fn responses_cut_anywhere(rt: HostRuntime) {
-    all_pass(&rt, rt.alloc(), Trial::CutAnywhere);
-}
-
-#[test]
-fn responses_a_byte_at_a_time(rt: HostRuntime) {
-    all_pass(&rt, rt.alloc(), Trial::AByteAtATime);
-}
-
-#[test]
-fn heads_of_responses(rt: HostRuntime) {
-    all_pass(&rt, rt.alloc(), Trial::Head);
-}
-
-#[test]
-fn heads_in_ones(rt: HostRuntime) {
-    all_pass(&rt, rt.alloc(), Trial::HeadInOnes);
-}
-
-#[test]
-fn both_decoders_agree(rt: HostRuntime) {
-    all_pass(&rt, rt.alloc(), Trial::BothDecoders);
-}
-
-#[test]
-fn responses_behind_an_interim_head(rt: HostRuntime) {
-    all_pass(&rt, rt.alloc(), Trial::BehindAnInterimHead);
+fn responses_by_both_programs(rt: HostRuntime) -> Result<(), Fail> {
+    let wrong = wrong_trial(rt.alloc(), &COMPARED)?;
+    assert_eq!(rt; wrong, None);
+    Ok(())
 }

@@ -1,12 +1,12 @@
 //! A transfer whose connection takes some polls, over a stream that is made up.
 
+use crate::responses::COUNTED;
 use futures::task::Poll;
 use futures::test::MockTask;
 use mx_link::{Called, Link, Stream, StreamLink};
+use mx_request::Request;
 use mx_transfer::Transfer;
-use mx_transfer_tests_base::replay::request;
-use mx_transfer_tests_base::responses::COUNTED;
-use mx_types::{Code, History, Method};
+use mx_types::{Code, History, Method, Settings};
 use std::alloc::AllocGlobal;
 use std::io::ErrorKind;
 use std::random::RandomSource;
@@ -74,7 +74,7 @@ fn poll<L: Link>(task: &MockTask, transfer: &mut Transfer<L>) -> Option<Code> {
 }
 
 /// What is seen of a transfer over three polls.
-#[derive(Clone, Copy, Debug, PartialEq, Eq)]
+#[derive(Clone, Copy, PartialEq)]
 struct Polls {
     token: Option<u64>,
     codes: [Option<Code>; 3],
@@ -110,7 +110,8 @@ fn connect<R: RandomSource + AllocGlobal>(
     is_refused: bool,
 ) -> Result<Polls, Fail> {
     let task = MockTask::new(rt)?;
-    let request = request(rt.alloc(), Method::Get, "http://127.0.0.1/", 0, 0)?;
+    let settings = Settings::new(rt.alloc());
+    let request = Request::build(rt.alloc(), Method::Get, "http://127.0.0.1/", settings)?;
     let stream = SlowStream {
         waits,
         is_refused,
@@ -137,19 +138,18 @@ const STANDS: Polls = Polls {
 };
 
 #[test]
-fn a_connection_takes_its_polls(rt: HostRuntime) -> Result<(), Fail> {
-    assert_eq!(rt; connect(&rt, 2, false)?, STANDS);
-    Ok(())
-}
-
-#[test]
-fn a_connection_that_fails_is_code_7(rt: HostRuntime) -> Result<(), Fail> {
+fn connections_that_take_some_polls(rt: HostRuntime) -> Result<(), Fail> {
+    if connect(&rt, 2, false)? != STANDS {
+        return Err("a_connection_takes_its_polls".into());
+    }
     let fails = Polls {
         codes: [None, Some(Code::CouldntConnect), None],
         received: 0,
         code: Some(Code::CouldntConnect),
         ..STANDS
     };
-    assert_eq!(rt; connect(&rt, 1, true)?, fails);
+    if connect(&rt, 1, true)? != fails {
+        return Err("a_connection_that_fails_is_code_7".into());
+    }
     Ok(())
 }

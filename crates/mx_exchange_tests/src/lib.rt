@@ -1,4 +1,5 @@
-//! Tests of transfers of one hop, polled by hand over scripted links, and callers with contracts of their own.
+//! Tests of links, and of transfers of one hop and of several, polled by hand over scripted links, and callers with contracts of their own.
+//! There is nothing in this crate but tests.
 #![tactic(auto)]
 
 #[cfg(test)]
@@ -8,6 +9,22 @@ mod connecting;
 #[cfg(test)]
 mod faults;
 #[cfg(test)]
+mod hops;
+#[cfg(test)]
+mod interrupted;
+#[cfg(test)]
+mod links;
+#[cfg(test)]
+mod redirects;
+#[cfg(test)]
+mod refused;
+#[cfg(test)]
+mod replay;
+#[cfg(test)]
+mod responses;
+#[cfg(test)]
 mod rows;
+#[cfg(test)]
+mod sockets;
 #[cfg(test)]
 mod table;

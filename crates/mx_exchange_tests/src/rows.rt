@@ -1,22 +1,88 @@
-//! A row: the calls on a transfer, and what is then seen of it.
+//! A row: what a transfer is made of, the calls on it, and what is seen of it then.
 
-use crate::table::transfers;
-use mx_transfer_tests_base::replay::{Call, Ended, Waiting, failed, hello, is_seen, request};
+use crate::replay::are_so;
+use crate::{hops, redirects, table};
+use mx_link::{ScriptRead, Write};
 use mx_types::{Code, Method};
-use std::alloc::AllocGlobal;
-use std::random::RandomSource;
 use std::test::Fail;
+
+/// A call on a transfer.
+#[derive(Clone, Copy)]
+pub(crate) enum Call<'a> {
+    /// Hands over a link that was never in use, and that answers so.
+    Fresh(&'a [ScriptRead<'a>], &'a [Write]),
+    /// Hands over a link that was in use before, and that answers so.
+    Reused(&'a [ScriptRead<'a>], &'a [Write]),
+    /// Says that no link can be had, as the lookup of the host failed.
+    NoLink,
+    /// Sets the moment in milliseconds, and whether the transfer is paused.
+    Prepare(u64, bool),
+    /// Polls once.
+    Poll,
+    /// Takes the links that it gives.
+    TakeLinks,
+}
+
+/// Which link a transfer wants.
+#[derive(Clone, Copy, PartialEq)]
+pub(crate) enum Wanted {
+    /// None.
+    Nothing,
+    /// One to this port, which may have been in use before.
+    Any(u16),
+    /// One that was never in use.
+    Fresh,
+}
+
+/// What is seen of a transfer that has answered `Pending`.
+#[derive(Clone, Copy, PartialEq)]
+pub(crate) struct Waiting {
+    /// It has asked to be polled again.
+    pub asks: bool,
+    /// The link that it wants.
+    pub wants: Wanted,
+    /// A link was attached once.
+    pub started: bool,
+    /// How many bytes its links gave.
+    pub received: u32,
+    /// The moment in milliseconds at which it ends unless it has ended before.
+    pub deadline: Option<u64>,
+}
+
+/// What is seen of the links of a transfer.
+#[derive(Clone, Copy, PartialEq)]
+pub(crate) struct Links {
+    /// The port where the link goes that was attached last.
+    pub home: Option<u16>,
+    /// The link that it wants.
+    pub wants: Wanted,
+    pub received: u32,
+    pub code: Option<Code>,
+    /// How many links it gives, asked for twice.
+    pub given: u32,
+}
+
+/// What is seen of a hop.
+#[derive(Clone, Copy)]
+pub(crate) struct Hop<'a> {
+    /// The bytes of its request.
+    pub sent: &'a [u8],
+    /// The bytes that its link gave.
+    pub reply: &'a [u8],
+    /// The status of these.
+    pub status: u16,
+}
 
 /// What a transfer has ended with.
 #[derive(Clone, Copy)]
 pub(crate) enum Ends<'a> {
     /// It has not ended.
     Never,
-    /// A response of these bytes, whose body is `hello`, and so many links.
+    /// Its last hop has a response of these bytes, whose body is `hello`, and it gives so many links.
     Hello(&'a [u8], u32),
-    /// A response of these bytes that has no body, and its link.
-    Bodiless(&'a [u8]),
-    /// This code, this status and these bytes, without a body and without a link.
+    /// This code, and the status and the bytes of its last hop, without a body. It gives one link.
+    Bodiless(Code, u16, &'a [u8]),
+    /// The same without a link.
     Failed(Code, u16, &'a [u8]),
 }
 
@@ -24,54 +90,93 @@ pub(crate) enum Ends<'a> {
 #[derive(Clone, Copy)]
 pub(crate) struct Row<'a> {
     /// What it is about.
-    pub name: &'static str,
+    pub name: &'a str,
     /// Each of them is tried.
     pub methods: &'static [Method],
     pub url: &'static str,
+    /// The body of its request.
+    pub body: Option<&'static [u8]>,
+    /// The value of a field `cookie`.
+    pub cookie: Option<&'static str>,
     /// It has no limit of time where this is 0.
     pub timeout_ms: u32,
+    pub max_redirects: u8,
+    /// No call is made behind its end.
     pub calls: &'a [Call<'a>],
     /// Of each poll that answers `Pending`.
     pub waits: &'a [Waiting],
+    /// Of each time that its links are taken, and that is at its end, too. Where this is empty it isn't compared.
+    pub links: &'a [Links],
     pub ends: Ends<'a>,
+    /// One more than redirects were followed.
+    pub hops: usize,
+    /// Each hop. Where this is empty it isn't compared.
+    pub chain: &'a [Hop<'a>],
 }
 
-fn ended(ends: Ends<'_>) -> Option<Ended<'_>> {
+/// What a transfer has ended with, to be compared whole.
+#[derive(Clone, Copy, PartialEq)]
+pub(crate) struct Ended<'a> {
+    /// That of its outcome.
+    pub code: Code,
+    /// The status of the last hop's final head, 0 where none was read.
+    pub status: u16,
+    /// The bytes that the link of the last hop gave.
+    pub wire: &'a [u8],
+    /// How many parts its body has.
+    pub part_count: usize,
+    /// The first part.
+    pub part: Option<&'a [u8]>,
+    /// The copy of all parts.
+    pub body: &'a [u8],
+    /// How many bytes the parts have.
+    pub size: u32,
+    /// How many links it gives, asked for twice.
+    pub links: u32,
+    /// One more than redirects were followed.
+    pub hops: usize,
+}
+
+fn bodiless(code: Code, status: u16, wire: &[u8], links: u32, hops: usize) -> Ended<'_> {
+    Ended {
+        code,
+        status,
+        wire,
+        part_count: 0,
+        part: None,
+        body: b"",
+        size: 0,
+        links,
+        hops,
+    }
+}
+
+/// What the transfer of a row has ended with.
+pub(crate) fn end_of(ends: Ends<'_>, hops: usize) -> Option<Ended<'_>> {
     match ends {
         Ends::Never => None,
-        Ends::Hello(wire, links) => Some(hello(wire, links)),
-        Ends::Bodiless(wire) => Some(Ended {
-            links: 1,
-            ..failed(Code::Ok, 200, wire)
+        Ends::Hello(wire, links) => Some(Ended {
+            part_count: 1,
+            part: Some(b"hello"),
+            body: b"hello",
+            size: 5,
+            ..bodiless(Code::Ok, 200, wire, links, hops)
         }),
-        Ends::Failed(code, status, wire) => Some(failed(code, status, wire)),
+        Ends::Bodiless(code, status, wire) => Some(bodiless(code, status, wire, 1, hops)),
+        Ends::Failed(code, status, wire) => Some(bodiless(code, status, wire, 0, hops)),
     }
 }
 
-/// Fails unless the row is so.
-pub(crate) fn is_so<R: RandomSource + AllocGlobal>(rt: &R, row: &Row<'_>) -> Result<(), Fail> {
-    for method in row.methods {
-        let request = request(rt.alloc(), *method, row.url, 0, row.timeout_ms)?;
-        is_seen(rt, request, row.calls, row.waits, ended(row.ends))?;
-    }
-    Ok(())
-}
-
-/// Fails with the first row that isn't so, and names it.
-fn are_so<R: RandomSource + AllocGlobal + Eprint>(rt: &R, rows: &[Row<'_>]) -> Result<(), Fail> {
-    for row in rows {
-        let so = is_so(rt, row);
-        if so.is_err() {
-            let _ = eprintln!(rt; "{}:", row.name);
-        }
-        so?;
-    }
-    Ok(())
-}
-
+/// Whoever names a long table pays for its rows, so each part of it is short, and one function names a few of them.
 #[test]
-fn transfers_of_one_hop(rt: HostRuntime) -> Result<(), Fail> {
-    for rows in transfers() {
+fn transfers_over_scripted_links(rt: HostRuntime) -> Result<(), Fail> {
+    for rows in table::rows() {
+        are_so(&rt, rows)?;
+    }
+    for rows in hops::rows() {
+        are_so(&rt, rows)?;
+    }
+    for rows in redirects::rows() {
         are_so(&rt, rows)?;
     }
     Ok(())

@@ -1,16 +1,11 @@
 //! The table of transfers of one hop. The offsets and lengths were counted by hand.
 
-use crate::rows::{Ends, Row};
+use crate::responses::{CHUNKED, COUNTED, HEAD};
+use crate::rows::Call::{Fresh, NoLink, Poll, Prepare, Reused};
+use crate::rows::{Call, Ends, Row, Waiting, Wanted};
 use mx_link::ScriptRead::{Bytes, End, Fault, WouldBlock};
 use mx_link::Write;
-use mx_transfer_tests_base::replay::Call::{Fresh, NoLink, Poll, Prepare, Reused};
-use mx_transfer_tests_base::replay::{Call, Waiting, Wanted};
-use mx_transfer_tests_base::responses::{COUNTED, HEAD};
 use mx_types::{Code, Method};
-
-/// 72 bytes, with the body at 54.
-pub(crate) const CHUNKED: &[u8] =
-    b"HTTP/1.1 200 OK\r\nTransfer-Encoding: chunked\r\n\r\n5;x=y\r\nhello\r\n0\r\nA: b\r\n\r\n";
 
 /// Two heads of interim responses, the final one, and its body.
 const INTERIM: &[u8] =
@@ -54,7 +49,7 @@ pub(crate) const LOST: Waiting = Waiting {
 
 /// It has no link yet.
 const UNSERVED: Waiting = Waiting {
-    wants: Wanted::Any,
+    wants: Wanted::Any(8080),
     started: false,
     ..SERVED
 };
@@ -88,10 +83,16 @@ pub(crate) const GET: Row<'static> = Row {
     name: "",
     methods: &[Method::Get],
     url: "http://127.0.0.1:8080/a/longer/path?b",
+    body: None,
+    cookie: None,
     timeout_ms: 0,
+    max_redirects: 0,
     calls: &[FRESH, Poll],
     waits: &[],
+    links: &[],
     ends: Ends::Hello(COUNTED, 1),
+    hops: 1,
+    chain: &[],
 };
 
 /// One whose reused link is lost, and which wants a fresh one.
@@ -149,7 +150,7 @@ static RESPONSES: [Row<'static>; 9] = [
         name: "a_head_has_no_body",
         methods: &[Method::Head],
         calls: &[Fresh(&[Bytes(HEAD)], &[]), Poll],
-        ends: Ends::Bodiless(HEAD),
+        ends: Ends::Bodiless(Code::Ok, 200, HEAD),
         ..GET
     },
     Row {
@@ -271,7 +272,7 @@ static POLLS: [Row<'static>; 6] = [
     },
 ];
 
-/// All transfers, by what they are about. Whoever names a long table pays for its rows, so each part of it is short.
-pub(crate) fn transfers() -> [&'static [Row<'static>]; 3] {
+/// Transfers of one hop.
+pub(crate) fn rows() -> [&'static [Row<'static>]; 3] {
     [&RESPONSES, &REUSED_LINKS, &POLLS]
 }

@@ -1,99 +1,150 @@
-use crate::outside::{Outside, endpoint};
+//! Addresses of hosts over a network of the tests' own, and the codes of what fails.
+
+use crate::outside::{Outside, endpoint, v4, v6};
 use mx_gate::{addresses_of, connect_code, meets_file_limit};
+use mx_names::{lookup_code, unbracketed};
 use mx_types::{Code, History};
 use std::alloc::Global;
 use std::io::{Error, ErrorKind};
-use std::net::{Ipv4Addr, Ipv6Addr, SocketAddr};
+use std::net::SocketAddr;
 use std::test::Fail;
 
-fn v4(last: u8, port: u16) -> SocketAddr {
-    SocketAddr::from((Ipv4Addr::new(192, 0, 2, last), port))
-}
-
-fn v6(last: u16, port: u16) -> SocketAddr {
-    SocketAddr::from((Ipv6Addr::new(0x2001, 0xdb8, 0, 0, 0, 0, 0, last), port))
-}
-
-// The addresses of a host's port, where lookups give these addresses, or are refused so.
-fn addresses_at(
+/// Whether a host's port has these addresses, or this code, where lookups give these or this error.
+fn has(
     alloc: Global,
-    host: &str,
-    port: u16,
-    addresses: &[SocketAddr],
-    refusal: Option<ErrorKind>,
-) -> Result<Result<Vec<SocketAddr>, Code>, Fail> {
+    (host, port): (&str, u16),
+    gives: Result<&[SocketAddr], ErrorKind>,
+    want: Result<&[SocketAddr], Code>,
+) -> Result<bool, Fail> {
     let there = endpoint(alloc, host, port)?;
-    let mut outside = Outside::new(alloc, addresses);
-    outside.refusal = refusal;
-    Ok(addresses_of(&outside, &there, &mut History::new()))
-}
-
-fn are_these(found: &Result<Vec<SocketAddr>, Code>, want: Result<&[SocketAddr], Code>) -> bool {
-    match (found, want) {
+    let mut outside = Outside::new(alloc, gives.unwrap_or(&[]));
+    outside.refusal = gives.err();
+    let found = addresses_of(&outside, &there, &mut History::new());
+    Ok(match (&found, want) {
         (Ok(all), Ok(want)) => all.as_slice() == want,
         (Err(code), Err(want)) => *code == want,
         _ => false,
+    })
+}
+
+/// A host, and the same without its brackets.
+static HOSTS: [(&'static str, &'static str); 11] = [
+    ("[::1]", "::1"),
+    ("[2001:db8::7]", "2001:db8::7"),
+    ("192.0.2.1", "192.0.2.1"),
+    ("example.com", "example.com"),
+    ("[", "["),
+    ("]", "]"),
+    ("[]", ""),
+    ("[x", "[x"),
+    ("x]", "x]"),
+    ("[[x]]", "[x]"),
+    ("", ""),
+];
+
+/// An error, and the codes of a lookup and of a connection that fail so.
+static CODES: [(&'static str, ErrorKind, Code, Code); 2] = [
+    (
+        "a refused connection",
+        ErrorKind::ConnectionRefused,
+        Code::CouldntResolveHost,
+        Code::CouldntConnect,
+    ),
+    (
+        "want_of_memory_has_its_own_code",
+        ErrorKind::OutOfMemory,
+        Code::OutOfMemory,
+        Code::OutOfMemory,
+    ),
+];
+
+/// Errors of the system, and whether each says that too many files are open.
+static FILE_LIMITS: [(&'static str, i32, bool); 4] = [
+    ("ENFILE", 23, true),
+    ("EMFILE", 24, true),
+    ("ENOMEM", 12, false),
+    ("ECONNREFUSED", 111, false),
+];
+
+/// The first row of which something else is said.
+fn first_wrong(
+    hosts: &[(&'static str, &'static str)],
+    codes: &[(&'static str, ErrorKind, Code, Code)],
+    limits: &[(&'static str, i32, bool)],
+) -> Option<&'static str> {
+    for row in hosts {
+        if unbracketed(row.0) != row.1 {
+            return Some(row.0);
+        }
     }
+    for row in codes {
+        let error = Error::from(row.1);
+        if lookup_code(&error) != row.2 || connect_code(&error) != row.3 {
+            return Some(row.0);
+        }
+    }
+    for row in limits {
+        if meets_file_limit(&Error::from_raw_os_error(row.1)) != row.2 {
+            return Some(row.0);
+        }
+    }
+    if meets_file_limit(&Error::from(ErrorKind::OutOfMemory)) {
+        return Some("want of memory is no limit of files");
+    }
+    None
 }
 
 #[test]
-fn a_name_has_all_its_addresses(rt: HostRuntime) -> Result<(), Fail> {
-    let cases: [(&[SocketAddr], Result<&[SocketAddr], Code>); 4] = [
-        (
-            &[v6(1, 0), v4(2, 0), v6(4, 0), v4(3, 0)],
-            Ok(&[v4(2, 8080), v4(3, 8080), v6(1, 8080), v6(4, 8080)]),
-        ),
-        (&[v6(1, 0)], Ok(&[v6(1, 8080)])),
-        (&[v4(1, 0), v6(2, 0)], Ok(&[v4(1, 8080), v6(2, 8080)])),
-        (&[], Err(Code::CouldntResolveHost)),
+fn addresses_and_codes(rt: HostRuntime) -> Result<(), Fail> {
+    let alloc = rt.alloc();
+    let name = ("example.com", 8080);
+    let mixed = [
+        v6(1, 0),
+        v4([192, 0, 2, 2], 0),
+        v6(4, 0),
+        v4([192, 0, 2, 3], 0),
     ];
-    for (addresses, want) in cases {
-        let found = addresses_at(rt.alloc(), "example.com", 8080, addresses, None)?;
-        assert!(rt; are_these(&found, want));
-    }
-    Ok(())
-}
-
-#[test]
-fn an_address_is_not_looked_up(rt: HostRuntime) -> Result<(), Fail> {
-    let refusal = Some(ErrorKind::NotFound);
-    for (host, want) in [("192.0.2.7", v4(7, 81)), ("[2001:db8::7]", v6(7, 81))] {
-        let found = addresses_at(rt.alloc(), host, 81, &[], refusal)?;
-        assert!(rt; are_these(&found, Ok(&[want])));
-    }
-    Ok(())
-}
-
-#[test]
-fn a_failed_lookup_has_its_code(rt: HostRuntime) -> Result<(), Fail> {
-    let cases = [
-        (ErrorKind::NotFound, Code::CouldntResolveHost),
-        (ErrorKind::OutOfMemory, Code::OutOfMemory),
+    let sorted = [
+        v4([192, 0, 2, 2], 8080),
+        v4([192, 0, 2, 3], 8080),
+        v6(1, 8080),
+        v6(4, 8080),
     ];
-    for (kind, want) in cases {
-        let found = addresses_at(rt.alloc(), "example.com", 80, &[], Some(kind))?;
-        assert!(rt; are_these(&found, Err(want)));
-    }
-    Ok(())
-}
-
-#[test]
-fn want_of_memory_has_its_own_code(rt: HostRuntime) {
-    let cases = [
-        (ErrorKind::ConnectionRefused, Code::CouldntConnect),
-        (ErrorKind::OutOfMemory, Code::OutOfMemory),
+    let pair = [v4([192, 0, 2, 1], 0), v6(2, 0)];
+    let unknown = Err(Code::CouldntResolveHost);
+    let answers = [
+        has(alloc, name, Ok(&mixed), Ok(&sorted))?,
+        has(alloc, name, Ok(&[v6(1, 0)]), Ok(&[v6(1, 8080)]))?,
+        has(
+            alloc,
+            name,
+            Ok(&pair),
+            Ok(&[v4([192, 0, 2, 1], 8080), v6(2, 8080)]),
+        )?,
+        has(alloc, name, Ok(&[]), unknown)?,
+        has(alloc, name, Err(ErrorKind::NotFound), unknown)?,
+        has(
+            alloc,
+            name,
+            Err(ErrorKind::OutOfMemory),
+            Err(Code::OutOfMemory),
+        )?,
+        // an address is not looked up
+        has(
+            alloc,
+            ("192.0.2.7", 81),
+            Err(ErrorKind::NotFound),
+            Ok(&[v4([192, 0, 2, 7], 81)]),
+        )?,
+        has(
+            alloc,
+            ("[2001:db8::7]", 81),
+            Err(ErrorKind::NotFound),
+            Ok(&[v6(7, 81)]),
+        )?,
     ];
-    for (kind, want) in cases {
-        assert_eq!(rt; connect_code(&Error::from(kind)), want);
-    }
-}
-
-#[test]
-fn too_many_open_files_are_known(rt: HostRuntime) {
-    // ENFILE, EMFILE, ENOMEM, ECONNREFUSED
-    for (number, want) in [(23, true), (24, true), (12, false), (111, false)] {
-        let error = Error::from_raw_os_error(number);
-        assert_eq!(rt; meets_file_limit(&error), want);
-    }
-    assert!(rt; !meets_file_limit(&Error::from(ErrorKind::OutOfMemory)));
+    assert!(rt; answers == [true; 8], "addresses: {answers:?}");
+    let wrong = first_wrong(&HOSTS, &CODES, &FILE_LIMITS);
+    assert!(rt; wrong.is_none(), "something else of {wrong:?}");
+    Ok(())
 }

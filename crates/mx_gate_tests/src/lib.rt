@@ -1,17 +1,34 @@
-//! Gates over loopback connections, and over a network and a clock of the tests' own. There is nothing in this crate but tests.
+//! Gates over loopback connections, over a network and a clock of the tests' own, and from scripts; what is known of hosts, and gates that
+//! wait for no name. There is nothing in this crate but tests.
 #![tactic(auto)]
 
 #[cfg(test)]
 mod addresses;
 #[cfg(test)]
-mod dialling;
+mod connections;
 #[cfg(test)]
-mod edges;
+mod fakes;
+#[cfg(test)]
+mod gates;
+#[cfg(test)]
+pub mod hosts;
+#[cfg(test)]
+mod moments;
+#[cfg(test)]
+mod named;
+#[cfg(test)]
+mod names;
 #[cfg(test)]
 mod outside;
 #[cfg(test)]
+mod peers;
+#[cfg(test)]
+mod ready;
+#[cfg(test)]
 mod refused;
 #[cfg(test)]
-mod sockets;
+mod resolver;
 #[cfg(test)]
-mod writers;
+mod scripted;
+#[cfg(test)]
+mod turns;

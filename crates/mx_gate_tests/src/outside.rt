@@ -2,21 +2,31 @@
 use mx_request::Endpoint;
 use std::alloc::{Alloc, Global};
 use std::io;
-use std::net::{Net, SocketAddr, TcpListener, TcpStream};
+use std::net::{Ipv4Addr, Ipv6Addr, Net, SocketAddr, TcpListener, TcpStream};
 use std::rt::Clock;
 use std::sync::atomic::{AtomicBool, AtomicU64, Ordering};
 use std::test::Fail;
 use std::time::Duration;
 
 /// The endpoint of a host and a port.
-pub fn endpoint(alloc: Global, host: &str, port: u16) -> Result<Endpoint, Fail> {
+pub(crate) fn endpoint(alloc: Global, host: &str, port: u16) -> Result<Endpoint, Fail> {
     let host = String::from_str(alloc, host)?;
     Ok(Endpoint { host, port })
 }
 
+/// An address of these bytes.
+pub(crate) fn v4(bytes: [u8; 4], port: u16) -> SocketAddr {
+    SocketAddr::from((Ipv4Addr::from(bytes), port))
+}
+
+/// An address of the block for documentation (RFC 3849) with this last number.
+pub(crate) fn v6(last: u16, port: u16) -> SocketAddr {
+    SocketAddr::from((Ipv6Addr::new(0x2001, 0xdb8, 0, 0, 0, 0, 0, last), port))
+}
+
 /// A runtime whose lookups give these addresses, or fail, and whose clock stands where the test puts it.
 #[derive(Drop)]
-pub struct Outside<'a> {
+pub(crate) struct Outside<'a> {
     pub alloc: Global,
     pub addresses: &'a [SocketAddr],
     pub refusal: Option<io::ErrorKind>,
@@ -25,7 +35,7 @@ pub struct Outside<'a> {
 }
 
 impl Outside<'_> {
-    pub fn new(alloc: Global, addresses: &[SocketAddr]) -> Outside<'_> {
+    pub(crate) fn new(alloc: Global, addresses: &[SocketAddr]) -> Outside<'_> {
         Outside {
             alloc,
             addresses,

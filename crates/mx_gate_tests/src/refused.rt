@@ -1,8 +1,8 @@
 //! A gate and a link that are refused memory. They are made again, and have then to answer as if they had been the first; only then does
 //! the test fail, by a text of its own. What it needs for itself is refused as any allocation is. Without a refusal it passes.
 
+use crate::gates::{connect, flag, given, listening};
 use crate::outside::endpoint;
-use crate::sockets::{connect, flag, given, listening};
 use mx_gate::{Gate, SocketGate};
 use mx_link::Connect;
 use mx_request::Endpoint;
@@ -64,11 +64,11 @@ fn open_to<R: Net + Clock + AllocGlobal>(rt: &R, port: u16) -> Result<(Connect, 
 /// Nobody accepts the connection, which stands all the same.
 #[test]
 fn a_gate_and_its_link_are_made_again(rt: HostRuntime) -> Result<(), Fail> {
-    let (listener, port) = listening(&rt)?;
+    let (listener, port) = listening(&rt, "127.0.0.1:0")?;
     let opened = open_to(&rt, port);
     drop(listener);
     let (connected, is_refused) = opened?;
-    assert_eq!(rt; connected, Connect::Done);
+    assert!(rt; connected == Connect::Done);
     if is_refused {
         return Err(AGAIN.into());
     }

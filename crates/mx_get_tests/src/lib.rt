@@ -3,12 +3,10 @@
 #![tactic(auto)]
 
 #[cfg(test)]
-mod explained;
-#[cfg(test)]
 mod open_requests;
+#[cfg(test)]
+mod rows;
 #[cfg(test)]
 mod server;
 #[cfg(test)]
-mod tests;
-#[cfg(test)]
-mod width_tests;
+mod widths;

@@ -2,16 +2,16 @@
 #![tactic(auto)]
 
 #[cfg(test)]
-mod back;
+mod appends;
+#[cfg(test)]
+mod caller;
 #[cfg(test)]
 pub mod callers;
 #[cfg(test)]
+mod lists;
+#[cfg(test)]
 mod refused;
 #[cfg(test)]
-mod removals;
-#[cfg(test)]
-mod retirings;
+mod rows;
 #[cfg(test)]
 mod sample;
-#[cfg(test)]
-mod tests;

@@ -1,5 +1,5 @@
 //! A control core whose calls are refused memory. One that was is made again, and has then to answer as if it had been the first; only then
-//! does the test fail, by a text of its own. Without a refusal it passes. Which appends of its log may be refused is tried in `tests`.
+//! does the test fail, by a text of its own. Without a refusal it passes. Which appends of its log may be refused is tried in `appends`.
 
 use crate::sample::{End, Job, SEAT};
 use mx_journal::{AddReply, Control, RemoveReply, VecLog, WakeupReply};
@@ -72,6 +72,8 @@ fn a_control_state_is_made_again(rt: HostRuntime) -> Result<(), Fail> {
     let mut log = VecLog::new(rt.alloc());
     let (are_made, at_an_event) = make_four(&mut control, &mut log);
     let (kept, at_last) = kept(rt.alloc(), &control)?;
-    assert_eq!(rt; (are_made, kept.as_slice()), (true, KEPT.as_slice()));
+    if !are_made || kept.as_slice() != KEPT.as_slice() {
+        return Err("other events".into());
+    }
     end(at_first || at_an_event || at_last)
 }

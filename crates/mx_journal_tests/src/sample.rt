@@ -1,14 +1,16 @@
-//! Endings, work, and claims for the tests.
-ghost use Rattle.std.specs.Prelude.{◌≡◌};
-ghost use Rattle.mx_types.specs.Origin.{no_request};
+//! Endings, work and claims for the tests, a log that refuses an append, and what a test of rows fails with.
 
-use mx_journal::{Claim, Control, FinishReply, GiveBackReply, VecLog};
-use mx_types::{Code, Ending, Who, Work};
+use mx_journal::{Claim, Log, VecLog};
+use mx_types::{Code, Ending, Event, OutOfMemory, Who, Work};
+use std::alloc::Global;
 use std::marker::Model;
+use std::test::Fail;
 
-pub const SEAT: Who = Who::Seat(0);
+/// The maker of all events but the ends.
+pub const SEAT: Who = Who::Seat(3);
 
-const WORKER: Who = Who::Worker(0);
+/// The maker of the ends.
+pub const WORKER: Who = Who::Worker(0);
 
 /// An ending without a request.
 #[derive(Drop)]
@@ -49,8 +51,8 @@ impl Work for Job {
 /// A claim with its work.
 #[derive(Drop)]
 pub struct Held {
-    claim: Claim<Job>,
-    job: Job,
+    pub claim: Claim<Job>,
+    pub job: Job,
 }
 
 impl Model for Held {
@@ -64,43 +66,49 @@ impl Model for Held {
     ghost invariant = { λ h. h.claim.origin ≡ no_request };
 }
 
-/// The next claim.
-pub fn claim(control: &mut Control<Job, End>) -> Option<Held> {
-    let (claim, job) = control.claim()?;
-    Some(Held { claim, job })
+/// A log that refuses at most one append: the one that finds `accepts` at 0.
+#[derive(Drop)]
+pub struct RefusesOnce {
+    pub list: VecLog,
+    accepts: u32,
+    refused: bool,
 }
 
-impl Held {
-    /// Its ticket, and the number of its work.
-    pub fn numbers(&self) -> (u32, u32) {
-        (self.claim.ticket().0, self.job.number)
-    }
-
-    /// Gives the work back; its number where it is stale.
-    pub fn give_back(self, control: &mut Control<Job, End>) -> Option<u32> {
-        match control.give_back(self.claim, self.job) {
-            GiveBackReply::Back => None,
-            GiveBackReply::Stale(job) => Some(job.number),
-        }
-    }
-
-    /// Ends with this code; that of what is handed back where it isn't recorded.
-    pub fn finish(
-        self,
-        control: &mut Control<Job, End>,
-        log: &mut VecLog,
-        code: Code,
-    ) -> Option<Code> {
-        match control.finish(log, WORKER, self.claim, End { code }) {
-            FinishReply::Recorded => None,
-            FinishReply::Stale(end) => Some(end.code),
-            FinishReply::OutOfMemory(_, _) => Some(Code::OutOfMemory),
+impl RefusesOnce {
+    /// An empty log that refuses the append of this number; none without a number.
+    pub fn new(alloc: Global, refused: Option<u32>) -> RefusesOnce {
+        RefusesOnce {
+            list: VecLog::new(alloc),
+            accepts: refused.unwrap_or(0),
+            refused: refused.is_none(),
         }
     }
 }
 
-/// The ticket and the number of the work that is claimed next.
-pub fn next(control: &mut Control<Job, End>) -> Option<(u32, u32)> {
-    let held = claim(control)?;
-    Some(held.numbers())
+impl Log for RefusesOnce {
+    ghost events = { λ l. l.list };
+
+    fn append(&mut self, event: Event) -> Result<(), OutOfMemory> {
+        if self.accepts == 0 && !self.refused {
+            self.refused = true;
+            return Err(OutOfMemory);
+        }
+        self.accepts = self.accepts.saturating_sub(1);
+        self.list.append(event)
+    }
+}
+
+/// The row that is not as it is to be, and its step.
+#[derive(Clone, Copy)]
+pub struct Wrong {
+    pub row: &'static str,
+    pub step: usize,
+}
+
+/// The end of a test: it fails with the row and the step.
+pub fn verdict(alloc: Global, wrong: Option<Wrong>) -> Result<(), Fail> {
+    let Some(Wrong { row, step }) = wrong else {
+        return Ok(());
+    };
+    Err(format!(in alloc; "{row}: step {step}")?.into())
 }

@@ -1,34 +1,40 @@
-//! A multi handle that threads share, by its public calls alone: the caller in the documentation of `mx_multi`; and tests of what each of a
-//! script's calls answers, many threads' calls played again on one thread, and wake-ups that mustn't be lost.
+//! The shared multi handle and its board, by their public calls alone: scripts of calls by seats and workers, on one thread and on many,
+//! with what each answers; what readers of a board are told; and progress words.
 #![tactic(auto)]
 
 #[cfg(test)]
-pub mod caller;
+mod board_desk;
 #[cfg(test)]
-mod caller_tests;
+mod boards;
 #[cfg(test)]
-mod checks;
+mod client;
 #[cfg(test)]
-mod desk;
+mod entries;
 #[cfg(test)]
-mod held;
+mod hand;
 #[cfg(test)]
-mod meetings;
+mod hold;
 #[cfg(test)]
-mod place;
+pub mod notes;
 #[cfg(test)]
-mod retirings;
+mod one_thread;
 #[cfg(test)]
-mod rounds;
+mod party;
 #[cfg(test)]
-mod script;
+mod play;
 #[cfg(test)]
-mod scripts;
+mod refused;
 #[cfg(test)]
-mod seats;
+mod rows;
 #[cfg(test)]
-mod storms;
+mod sample;
 #[cfg(test)]
-mod turns;
+mod stress;
 #[cfg(test)]
-mod two_threads;
+mod texts;
+#[cfg(test)]
+mod threads;
+#[cfg(test)]
+mod whole;
+#[cfg(test)]
+mod words;

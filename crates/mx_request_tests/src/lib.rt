@@ -3,12 +3,22 @@
 #![tactic(auto)]
 
 #[cfg(test)]
-mod cache_tests;
+mod deadlines;
 #[cfg(test)]
-mod clock_tests;
+mod fields;
 #[cfg(test)]
-mod redirect_tests;
+mod idle;
+#[cfg(test)]
+mod redirects;
+#[cfg(test)]
+mod refusals;
 #[cfg(test)]
 mod refused;
 #[cfg(test)]
-mod request_tests;
+mod row;
+#[cfg(test)]
+mod settings;
+#[cfg(test)]
+mod table;
+#[cfg(test)]
+mod urls;

@@ -1,94 +1,77 @@
-//! Calls that may be refused memory. One that was is made again, and has then to answer as if it had been the first; only then does its test
-//! fail, by a text of its own. What a test needs for itself is refused as any allocation is. Without a refusal all of them pass.
-use crate::request_tests::{with_all, with_field};
+//! Calls that may be refused memory. One that was is made again, and has then to answer as if it had been the first; only then does the test
+//! fail, by a text of its own. What a test needs for itself is refused as any allocation is. Without a refusal it passes.
+
+use crate::idle::endpoint;
+use crate::row::{GET, Row, Seen, is_right};
+use crate::settings::{Given, settings_of};
 use mx_cache::IdleCache;
 use mx_request::{Endpoint, Request, RequestError};
-use mx_types::{Method, OutOfMemory, Settings};
+use mx_types::{Method, OutOfMemory};
 use std::alloc::{AllocError, Global};
 use std::test::Fail;
 
 /// What a test ends with in which a call was refused memory.
 const AGAIN: &str = "memory was refused, and the call answered when it was made again";
 
-/// What a request is built with, beside its method and its URL.
-#[derive(Clone, Copy)]
-enum Given {
-    Nothing,
-    /// A user agent, a field, the body `hi` and a limit of time.
-    All,
-    /// This field.
-    Field(&'static str, &'static str),
-}
-
-/// A request to be built, and its bytes, or why it is refused.
-#[derive(Clone, Copy)]
-struct Row {
-    method: Method,
-    url: &'static str,
-    given: Given,
-    answer: Result<&'static str, RequestError>,
-}
-
-/// A GET of a URL without more.
-const GET: Row = Row {
-    method: Method::Get,
-    url: "http://127.0.0.1:8080/a?b#c",
-    given: Given::Nothing,
-    answer: Ok("GET /a?b HTTP/1.1\r\nHost: 127.0.0.1:8080\r\nAccept: */*\r\n\r\n"),
+/// A POST with a user agent, a field, the body `hi` and a limit of time.
+const POST: Row = Row {
+    method: Method::Post,
+    given: Given::All,
+    ..GET
 };
 
 static ROWS: [Row; 8] = [
-    GET,
     Row {
-        url: "HTTP://EXAMPLE.com:80/x y",
-        answer: Ok("GET /x%20y HTTP/1.1\r\nHost: example.com\r\nAccept: */*\r\n\r\n"),
+        name: "url_with_port_query_and_fragment",
+        url: "http://127.0.0.1:8080/a?b#c",
+        seen: Seen::Sent("GET /a?b HTTP/1.1\r\nHost: 127.0.0.1:8080\r\nAccept: */*\r\n\r\n"),
         ..GET
     },
     Row {
-        method: Method::Post,
+        name: "url_in_capitals_with_port_80_and_a_blank",
+        url: "HTTP://EXAMPLE.com:80/x y",
+        seen: Seen::Sent("GET /x%20y HTTP/1.1\r\nHost: example.com\r\nAccept: */*\r\n\r\n"),
+        ..GET
+    },
+    Row {
+        name: "all_that_settings_add",
         url: "http://example.com/p",
-        given: Given::All,
-        answer: Ok(
+        seen: Seen::Sent(
             "POST /p HTTP/1.1\r\nHost: example.com\r\nUser-Agent: mx/1\r\nAccept: */*\r\nX-A: 1\r\nContent-Length: 2\r\n\r\nhi",
         ),
+        ..POST
     },
     Row {
-        url: "http://example.com/",
+        name: "a_callers_own_accept",
         given: Given::Field("accept", "text/plain"),
-        answer: Ok("GET / HTTP/1.1\r\nHost: example.com\r\naccept: text/plain\r\n\r\n"),
+        seen: Seen::Sent("GET / HTTP/1.1\r\nHost: example.com\r\naccept: text/plain\r\n\r\n"),
         ..GET
     },
     Row {
+        name: "https_with_a_user",
         url: "https://u@example.com/",
-        answer: Err(RequestError::Scheme),
+        seen: Seen::Refused(RequestError::Scheme),
         ..GET
     },
     Row {
+        name: "no_scheme",
         url: "example.com",
-        answer: Err(RequestError::Malformed),
+        seen: Seen::Refused(RequestError::Malformed),
         ..GET
     },
     Row {
+        name: "user",
         url: "http://u@example.com/",
-        answer: Err(RequestError::UserInfo),
+        seen: Seen::Refused(RequestError::UserInfo),
         ..GET
     },
     Row {
-        url: "http://example.com/",
+        name: "field_with_a_cr",
         given: Given::Field("X-A", "1\r2"),
-        answer: Err(RequestError::BadField),
+        seen: Seen::Refused(RequestError::BadField),
         ..GET
     },
 ];
-
-// The settings of a row.
-fn settings_of(alloc: Global, given: Given) -> Result<Settings, AllocError> {
-    match given {
-        Given::Nothing => Ok(Settings::new(alloc)),
-        Given::All => with_all(alloc),
-        Given::Field(name, value) => with_field(alloc, name, value),
-    }
-}
 
 /// How a call went.
 #[derive(Clone, Copy, PartialEq, Eq)]
@@ -101,22 +84,25 @@ enum Went {
     Wrong,
 }
 
-// How an answer compares with a row's, bytes or a refusal.
-fn compare(answer: Result<Request, RequestError>, expected: Result<&str, RequestError>) -> Went {
-    let is_right = match (&answer, expected) {
-        (Err(RequestError::OutOfMemory), _) => return Went::Refused,
-        (Ok(request), Ok(bytes)) => request.bytes() == bytes.as_bytes(),
-        (Err(error), Err(other)) => *error == other,
-        _ => false,
-    };
-    if is_right { Went::Right } else { Went::Wrong }
+// How an answer compares with what is to be seen.
+fn compare(
+    alloc: Global,
+    answer: Result<Request, RequestError>,
+    given: Given,
+    seen: &Seen,
+) -> Went {
+    match answer {
+        Err(RequestError::OutOfMemory) => Went::Refused,
+        answer if is_right(alloc, &answer, given, seen) => Went::Right,
+        _ => Went::Wrong,
+    }
 }
 
 // Builds a row's request.
 fn build(alloc: Global, row: &Row) -> Result<Went, AllocError> {
     let settings = settings_of(alloc, row.given)?;
     let answer = Request::build(alloc, row.method, row.url, settings);
-    Ok(compare(answer, row.answer))
+    Ok(compare(alloc, answer, row.given, &row.seen))
 }
 
 // Whether memory was refused at one of the calls, each of which is made again then. It fails where one went wrong.
@@ -129,57 +115,45 @@ fn judge(went: Went, again: Went) -> Result<bool, Fail> {
     }
 }
 
-// The end of a test, in which memory was refused at a call or not.
-fn end(is_refused: bool) -> Result<(), Fail> {
-    if is_refused {
-        return Err(AGAIN.into());
-    }
-    Ok(())
-}
-
-#[test]
-fn requests_are_built_again(rt: HostRuntime) -> Result<(), Fail> {
+// Builds the requests of these rows, again where memory was refused.
+fn build_again(alloc: Global, rows: &[Row]) -> Result<bool, Fail> {
     let mut is_refused = false;
-    for row in &ROWS {
-        let went = build(rt.alloc(), row)?;
+    for row in rows {
+        let went = build(alloc, row)?;
         if went != Went::Right {
-            is_refused = judge(went, build(rt.alloc(), row)?)?;
+            is_refused = judge(went, build(alloc, row)?)?;
         }
     }
-    end(is_refused)
+    Ok(is_refused)
 }
 
+/// The request to /c that follows that POST.
+const FOLLOWS: Seen = Seen::Sent(
+    "GET /c HTTP/1.1\r\nHost: h\r\nUser-Agent: mx/1\r\nAccept: */*\r\nX-A: 1\r\n\r\n",
+);
+
 // Follows a request at a redirect.
-fn follow(alloc: Global, request: &Request, location: &[u8], expected: &str) -> Went {
-    compare(request.follow(alloc, 302, location), Ok(expected))
+fn follow(alloc: Global, request: &Request) -> Went {
+    let answer = request.follow(alloc, 302, b"/c");
+    compare(alloc, answer, Given::All, &FOLLOWS)
+}
+
+// How it went, and how again where it didn't go right.
+fn follow_twice(alloc: Global, request: &Request) -> (Went, Went) {
+    let went = follow(alloc, request);
+    if went == Went::Right {
+        return (went, went);
+    }
+    (went, follow(alloc, request))
 }
 
 // Follows a request, again where memory was refused.
-fn follow_again(
-    alloc: Global,
-    request: &Request,
-    location: &[u8],
-    expected: &str,
-) -> Result<bool, Fail> {
-    let went = follow(alloc, request, location, expected);
-    if went == Went::Right {
-        return Ok(false);
-    }
-    judge(went, follow(alloc, request, location, expected))
-}
-
-#[test]
-fn requests_are_followed_again(rt: HostRuntime) -> Result<(), Fail> {
-    let settings = with_all(rt.alloc())?;
-    let request = Request::build(rt.alloc(), Method::Post, "http://h/p", settings)?;
-    let told = follow_again(
-        rt.alloc(),
-        &request,
-        b"/c",
-        "GET /c HTTP/1.1\r\nHost: h\r\nUser-Agent: mx/1\r\nAccept: */*\r\nX-A: 1\r\n\r\n",
-    );
+fn follow_again(alloc: Global) -> Result<bool, Fail> {
+    let settings = settings_of(alloc, Given::All)?;
+    let request = Request::build(alloc, Method::Post, "http://h/p", settings)?;
+    let (went, again) = follow_twice(alloc, &request);
     drop(request);
-    end(told?)
+    judge(went, again)
 }
 
 // Copies an endpoint.
@@ -192,51 +166,39 @@ fn copy(alloc: Global, endpoint: &Endpoint) -> Went {
 }
 
 // Copies an endpoint, again where memory was refused.
-fn copy_again(alloc: Global, endpoint: &Endpoint) -> Result<bool, Fail> {
-    let went = copy(alloc, endpoint);
+fn copy_again(alloc: Global) -> Result<bool, Fail> {
+    let endpoint = Endpoint {
+        host: String::from_str(alloc, "[::1]")?,
+        port: 81,
+    };
+    let went = copy(alloc, &endpoint);
     if went == Went::Right {
         return Ok(false);
     }
-    judge(went, copy(alloc, endpoint))
-}
-
-#[test]
-fn endpoints_are_copied_again(rt: HostRuntime) -> Result<(), Fail> {
-    let endpoint = Endpoint {
-        host: String::from_str(rt.alloc(), "[::1]")?,
-        port: 81,
-    };
-    end(copy_again(rt.alloc(), &endpoint)?)
+    judge(went, copy(alloc, &endpoint))
 }
 
 // Makes a cache of two links, again where memory was refused; and whether it was.
-fn cache(alloc: Global) -> Result<(IdleCache<u32>, bool), OutOfMemory> {
+fn cache(alloc: Global) -> Result<(IdleCache<u32>, bool), AllocError> {
     match IdleCache::with_limit(alloc, 2) {
         Ok(cache) => Ok((cache, false)),
-        Err(OutOfMemory) => Ok((IdleCache::with_limit(alloc, 2)?, true)),
+        Err(OutOfMemory) => match IdleCache::with_limit(alloc, 2) {
+            Ok(cache) => Ok((cache, true)),
+            Err(OutOfMemory) => Err(AllocError),
+        },
     }
 }
 
-// Puts three links of two endpoints, and takes two: which come back, and which are taken.
-fn put_three(
-    cache: &mut IdleCache<u32>,
-    endpoints: [Endpoint; 3],
-    there: &Endpoint,
-) -> ([Option<u32>; 3], [Option<u32>; 2], usize) {
+// Puts three links of two endpoints, and takes two: whether the first comes back, and the third is taken.
+fn put_three(cache: &mut IdleCache<u32>, endpoints: [Endpoint; 3], there: &Endpoint) -> bool {
     let [a, b, c] = endpoints;
     let back = [cache.put(a, 1), cache.put(b, 2), cache.put(c, 3)];
     let taken = [cache.take(there), cache.take(there)];
-    (back, taken, cache.len())
+    back == [None, None, Some(1)] && taken == [Some(3), None] && cache.len() == 1
 }
 
-fn endpoint(alloc: Global, host: &str) -> Result<Endpoint, AllocError> {
-    let host = String::from_str(alloc, host)?;
-    Ok(Endpoint { host, port: 80 })
-}
-
-#[test]
-fn an_idle_cache_is_made_again(rt: HostRuntime) -> Result<(), Fail> {
-    let alloc = rt.alloc();
+// Fills a cache that is made again where memory was refused.
+fn fill_again(alloc: Global) -> Result<bool, Fail> {
     let there = endpoint(alloc, "a")?;
     let endpoints = [
         endpoint(alloc, "a")?,
@@ -244,7 +206,21 @@ fn an_idle_cache_is_made_again(rt: HostRuntime) -> Result<(), Fail> {
         endpoint(alloc, "a")?,
     ];
     let (mut cache, is_refused) = cache(alloc)?;
-    let said = put_three(&mut cache, endpoints, &there);
-    assert_eq!(rt; said, ([None, None, Some(1)], [Some(3), None], 1));
-    end(is_refused)
+    if put_three(&mut cache, endpoints, &there) {
+        return Ok(is_refused);
+    }
+    Err("another link".into())
+}
+
+#[test]
+fn calls_are_made_again(rt: HostRuntime) -> Result<(), Fail> {
+    let alloc = rt.alloc();
+    let is_copied_again = copy_again(alloc)?;
+    let is_filled_again = fill_again(alloc)?;
+    let is_followed_again = follow_again(alloc)?;
+    let is_built_again = build_again(alloc, &ROWS)?;
+    if is_copied_again || is_filled_again || is_followed_again || is_built_again {
+        return Err(AGAIN.into());
+    }
+    Ok(())
 }

@@ -1,36 +1,33 @@
-//! Readers and writers for tests.
+//! Readers and writers that fail.
 use std::io;
 use std::io::{Error, ErrorKind, Read, Write};
 
-/// Gives its bytes one at a time, and then ends; but after so many reads it fails.
+/// Gives at most so many of its bytes a read, and then ends; but after so many reads it fails.
 #[derive(Drop)]
-pub struct Trickle<'a> {
-    pub bytes: &'a [u8],
-    pub reads: usize,
+pub(crate) struct Pieces<'a> {
+    pub(crate) bytes: &'a [u8],
+    pub(crate) most: usize,
+    pub(crate) reads: usize,
 }
 
-impl Read for Trickle<'_> {
+impl Read for Pieces<'_> {
     fn read(&mut self, buffer: &mut [u8]) -> io::Result<usize> {
         if self.reads == 0 {
             return Err(Error::from(ErrorKind::ConnectionReset));
         }
         self.reads -= 1;
-        match self.bytes.split_first() {
-            Some((first, rest)) if !buffer.is_empty() => {
-                buffer[0] = *first;
-                self.bytes = rest;
-                Ok(1)
-            }
-            _ => Ok(0),
-        }
+        let count = self.bytes.len().min(buffer.len()).min(self.most);
+        buffer[..count].copy_from_slice(&self.bytes[..count]);
+        self.bytes = &self.bytes[count..];
+        Ok(count)
     }
 }
 
 /// Gives its first bytes, and then so many of the letter `v`, as many as each read asks for.
 #[derive(Drop)]
-pub struct Filler<'a> {
-    pub first: &'a [u8],
-    pub letters: usize,
+pub(crate) struct Filler<'a> {
+    pub(crate) first: &'a [u8],
+    pub(crate) letters: usize,
 }
 
 impl Read for Filler<'_> {
@@ -48,11 +45,11 @@ impl Read for Filler<'_> {
     }
 }
 
-/// Takes so many writes, and then fails.
+/// Takes so many writes, and then fails. So does its flush then.
 #[derive(Drop)]
-pub struct Full<'a> {
-    pub taken: &'a mut Vec<u8>,
-    pub writes: u8,
+pub(crate) struct Full<'a> {
+    pub(crate) taken: &'a mut Vec<u8>,
+    pub(crate) writes: u8,
 }
 
 impl Write for Full<'_> {
@@ -72,16 +69,27 @@ impl Write for Full<'_> {
     }
 }
 
-/// Takes each write, and refuses the flush.
+/// Takes so many writes, and then fails; its flush fails, or it doesn't, whatever was written.
 #[derive(Drop)]
-pub struct Unflushed;
+pub(crate) struct Pipe {
+    pub(crate) writes: usize,
+    pub(crate) is_flushed: bool,
+}
 
-impl Write for Unflushed {
+impl Write for Pipe {
     fn write(&mut self, bytes: &[u8]) -> io::Result<usize> {
+        if self.writes == 0 {
+            return Err(Error::from(ErrorKind::StorageFull));
+        }
+        self.writes -= 1;
         Ok(bytes.len())
     }
 
     fn flush(&mut self) -> io::Result<()> {
-        Err(Error::from(ErrorKind::StorageFull))
+        if self.is_flushed {
+            Ok(())
+        } else {
+            Err(Error::from(ErrorKind::StorageFull))
+        }
     }
 }

@@ -1,20 +1,73 @@
-//! What tests of rows end in.
-//!
-//! An assertion costs more to prove than what it asserts, so it stands here, and tests tell it which row is wrong.
+//! Rows of text. A row begins with its kind and its name. In the lines behind it `<` stands before its input, and before what is to be seen
+//! `>` where it is printed, `!` where it is told on standard error, and `=` before the exit status. Blank lines, and lines that begin with
+//! `#`, say nothing. In an input, and in what is seen, bytes are escaped.
+use crate::escapes::add_unescaped;
+use std::alloc::{AllocError, Global};
 
-use std::process::Abort;
-
-/// Stops the test where a row is wrong: its number, from 0.
-pub(crate) fn none_is_wrong(rt: &impl Abort, wrong: Option<usize>) {
-    assert_eq!(rt; wrong, None);
+#[derive(Drop)]
+pub(crate) struct Row<'a> {
+    /// Its first line, which has its kind and its name.
+    pub(crate) title: &'a str,
+    pub(crate) kind: &'a str,
+    pub(crate) name: &'a str,
+    pub(crate) input: Vec<u8>,
+    /// What is to be seen, as it stands there.
+    pub(crate) wanted: String,
 }
 
-/// The first row that is `false`.
-pub(crate) fn first_false(rows: &[bool]) -> Option<usize> {
-    for at in 0..rows.len() {
-        if !rows[at] {
-            return Some(at);
+fn row_of<'a>(alloc: Global, title: &'a str) -> Row<'a> {
+    let (kind, name) = match title.split_once(' ') {
+        Some(parts) => parts,
+        None => (title, ""),
+    };
+    Row {
+        title,
+        kind,
+        name,
+        input: Vec::new(alloc),
+        wanted: String::new(alloc),
+    }
+}
+
+/// Adds a line of its input, behind its mark and one space.
+fn add_input(row: &mut Row<'_>, text: &str) -> Result<(), AllocError> {
+    let text = text.strip_prefix(' ').unwrap_or(text);
+    if add_unescaped(&mut row.input, text)? {
+        return Ok(());
+    }
+    row.input.push(b'\n')?;
+    Ok(())
+}
+
+fn add_wanted(row: &mut Row<'_>, line: &str) -> Result<(), AllocError> {
+    row.wanted.push_str(line)?;
+    row.wanted.push('\n')
+}
+
+/// Adds a line of the last row.
+fn add_line(row: &mut Row<'_>, line: &str) -> Result<(), AllocError> {
+    match line.strip_prefix('<') {
+        Some(text) => add_input(row, text),
+        None => add_wanted(row, line),
+    }
+}
+
+/// Whether the line belongs to the row before it.
+fn is_of_row(line: &str) -> bool {
+    matches!(line.as_bytes().first(), Some(b'<' | b'>' | b'!' | b'='))
+}
+
+/// All rows of a text.
+pub(crate) fn rows_of<'a>(alloc: Global, text: &'a str) -> Result<Vec<Row<'a>>, AllocError> {
+    let mut rows: Vec<Row<'a>> = Vec::new(alloc);
+    for line in text.lines() {
+        if line.is_empty() || line.starts_with('#') {
+            continue;
+        }
+        match rows.last_mut() {
+            Some(row) if is_of_row(line) => add_line(row, line)?,
+            _ => rows.push(row_of(alloc, line))?,
         }
     }
-    None
+    Ok(rows)
 }

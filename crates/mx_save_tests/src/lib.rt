@@ -1,9 +1,18 @@
-//! Tests of saving, over a folder in memory and over one of the system. There is nothing in this crate but tests.
+//! Tests of the names of files, of saving over a folder in memory and over one of the system, and of `save` over loopback. There is nothing in
+//! this crate but tests.
 #![tactic(auto)]
 
 #[cfg(test)]
+mod bodies;
+#[cfg(test)]
 mod memory;
 #[cfg(test)]
-mod pieces;
+mod names;
+#[cfg(test)]
+mod refused;
+#[cfg(test)]
+mod runs;
+#[cfg(test)]
+mod server;
 #[cfg(test)]
 mod system;

@@ -1,7 +1,8 @@
 //! Saving to a folder in memory.
+ghost use Rattle.std.specs.Prelude.{◌≢◌};
 
-use crate::pieces::{Pieces, name_of};
-use mx_file_name::part_name;
+use crate::bodies::{Pieces, is_same, name_of};
+use mx_file_name::{FileName, PartName, part_name};
 use mx_folder::{Folder, FolderError, Kind, MemoryFolder};
 use mx_save::{Ledger, PART_TRIES, SaveError, save_body};
 use mx_types::OutOfMemory;
@@ -14,25 +15,12 @@ static HELLO: Pieces = Pieces {
 
 static BYE: Pieces = Pieces { pieces: &[b"bye"] };
 
-// What a save answers where the call of this number fails, by writes of 4 bytes: flushed, and not.
-static FLUSHED: [Result<(), SaveError>; 7] = [
-    Err(SaveError::Create(FolderError::Full)),
-    Err(SaveError::Write(FolderError::Full)),
-    Err(SaveError::Write(FolderError::Full)),
-    Err(SaveError::Write(FolderError::Full)),
-    Err(SaveError::Flush(FolderError::Full)),
-    Err(SaveError::Place(FolderError::Full)),
-    Ok(()),
-];
-
-static UNFLUSHED: [Result<(), SaveError>; 6] = [
-    Err(SaveError::Create(FolderError::Full)),
-    Err(SaveError::Write(FolderError::Full)),
-    Err(SaveError::Write(FolderError::Full)),
-    Err(SaveError::Write(FolderError::Full)),
-    Err(SaveError::Place(FolderError::Full)),
-    Ok(()),
-];
+fn is_wanted(bytes: &[u8], wanted: Option<&[u8]>) -> bool {
+    match wanted {
+        Some(wanted) => is_same(bytes, wanted),
+        None => false,
+    }
+}
 
 // Whether the name holds these bytes, or nothing where there are none.
 fn holds(
@@ -41,199 +29,428 @@ fn holds(
     name: &str,
     wanted: Option<&[u8]>,
 ) -> Result<bool, OutOfMemory> {
-    let held = folder.held(alloc, name)?;
-    Ok(match (held.as_ref(), wanted) {
-        (Some(bytes), Some(wanted)) => bytes.as_slice() == wanted,
-        (None, None) => true,
-        _ => false,
-    })
+    match folder.held(alloc, name)? {
+        Some(bytes) => Ok(is_wanted(bytes.as_slice(), wanted)),
+        None => Ok(wanted.is_none()),
+    }
 }
 
-// The first call whose failing leaves something else than its row: the answer, no part, and the whole body under its name or nothing.
-fn first_wrong(
-    alloc: Global,
+// A save by writes of 4 bytes whose call of this number fails: whether it is flushed, and what it answers.
+struct Fault {
+    name: &'static str,
     flush: bool,
-    rows: &[Result<(), SaveError>],
-) -> Result<Option<usize>, OutOfMemory> {
+    call: u64,
+    saved: Result<(), SaveError>,
+}
+
+static FAULTS: [Fault; 13] = [
+    Fault {
+        name: "flushed, no part can be made",
+        flush: true,
+        call: 0,
+        saved: Err(SaveError::Create(FolderError::Full)),
+    },
+    Fault {
+        name: "flushed, the first write fails",
+        flush: true,
+        call: 1,
+        saved: Err(SaveError::Write(FolderError::Full)),
+    },
+    Fault {
+        name: "flushed, the second write fails",
+        flush: true,
+        call: 2,
+        saved: Err(SaveError::Write(FolderError::Full)),
+    },
+    Fault {
+        name: "flushed, the third write fails",
+        flush: true,
+        call: 3,
+        saved: Err(SaveError::Write(FolderError::Full)),
+    },
+    Fault {
+        name: "flushed, the flush fails",
+        flush: true,
+        call: 4,
+        saved: Err(SaveError::Flush(FolderError::Full)),
+    },
+    Fault {
+        name: "flushed, the part can't be renamed",
+        flush: true,
+        call: 5,
+        saved: Err(SaveError::Place(FolderError::Full)),
+    },
+    Fault {
+        name: "flushed, no call fails",
+        flush: true,
+        call: 6,
+        saved: Ok(()),
+    },
+    Fault {
+        name: "not flushed, no part can be made",
+        flush: false,
+        call: 0,
+        saved: Err(SaveError::Create(FolderError::Full)),
+    },
+    Fault {
+        name: "not flushed, the first write fails",
+        flush: false,
+        call: 1,
+        saved: Err(SaveError::Write(FolderError::Full)),
+    },
+    Fault {
+        name: "not flushed, the second write fails",
+        flush: false,
+        call: 2,
+        saved: Err(SaveError::Write(FolderError::Full)),
+    },
+    Fault {
+        name: "not flushed, the third write fails",
+        flush: false,
+        call: 3,
+        saved: Err(SaveError::Write(FolderError::Full)),
+    },
+    Fault {
+        name: "not flushed, the part can't be renamed",
+        flush: false,
+        call: 4,
+        saved: Err(SaveError::Place(FolderError::Full)),
+    },
+    Fault {
+        name: "not flushed, no call fails",
+        flush: false,
+        call: 5,
+        saved: Ok(()),
+    },
+];
+
+// Whether the folder has no part, and the whole body under its name, or nothing where it wasn't saved.
+fn is_left(
+    alloc: Global,
+    folder: &MemoryFolder,
+    part: &PartName,
+    name: &FileName,
+    is_saved: bool,
+) -> Result<bool, OutOfMemory> {
+    let bytes = is_saved.then_some(b"hello you".as_slice());
+    Ok(holds(alloc, folder, part.as_str(), None)? && holds(alloc, folder, name.as_str(), bytes)?)
+}
+
+// Whether a save answers what its row says, and leaves that.
+fn is_right(
+    alloc: Global,
+    part: &PartName,
+    name: &FileName,
+    row: &Fault,
+) -> Result<bool, OutOfMemory> {
+    let mut folder = MemoryFolder::new(alloc, 4, row.call, FolderError::Full);
+    let saved = save_body(&mut folder, part, name, &HELLO, row.flush);
+    let left = is_left(alloc, &folder, part, name, saved.is_ok());
+    drop(folder);
+    Ok(left? && saved == row.saved)
+}
+
+// The first save that leaves something else: the answer, no part, and the whole body under its name or nothing.
+fn wrong_of_faults(alloc: Global) -> Result<Option<&'static str>, OutOfMemory> {
     let part = part_name(alloc, 42, 0)?;
     let name = name_of(alloc, "http://h/x")?;
-    for (call, wanted) in rows.iter().enumerate() {
-        let mut folder = MemoryFolder::new(alloc, 4, call as u64, FolderError::Full);
-        let saved = save_body(&mut folder, &part, &name, &HELLO, flush);
-        let bytes = match saved {
-            Ok(()) => Some(b"hello you".as_slice()),
-            Err(_) => None,
-        };
-        if saved != *wanted
-            || !holds(alloc, &folder, part.as_str(), None)?
-            || !holds(alloc, &folder, name.as_str(), bytes)?
-        {
-            return Ok(Some(call));
+    for row in FAULTS.iter() {
+        if !is_right(alloc, &part, &name, row)? {
+            return Ok(Some(row.name));
         }
     }
     Ok(None)
 }
 
-#[test]
-fn each_call_fails_in_turn(rt: HostRuntime) -> Result<(), Fail> {
-    let wrong = (
-        first_wrong(rt.alloc(), true, FLUSHED.as_slice())?,
-        first_wrong(rt.alloc(), false, UNFLUSHED.as_slice())?,
-    );
-    assert_eq!(rt; wrong, (None, None));
-    Ok(())
+// A run of two saves whose call of this number fails: whether each is told as saved, and whether the folder is flushed.
+struct Two {
+    name: &'static str,
+    call: u64,
+    told: (bool, bool, bool),
 }
 
-// What came of a run of two saves whose call of this number fails: whether each was told as saved, and whether the folder was flushed.
-#[derive(Clone, Copy, Debug, PartialEq, Eq)]
-struct Told {
-    first: bool,
-    second: bool,
-    flushed: bool,
+static RUNS_OF_TWO: [Two; 12] = [
+    Two {
+        name: "the first part can't be made",
+        call: 0,
+        told: (false, true, true),
+    },
+    Two {
+        name: "the first write of the first body fails",
+        call: 1,
+        told: (false, true, true),
+    },
+    Two {
+        name: "the second write of the first body fails",
+        call: 2,
+        told: (false, true, true),
+    },
+    Two {
+        name: "the third write of the first body fails",
+        call: 3,
+        told: (false, true, true),
+    },
+    Two {
+        name: "the flush of the first body fails",
+        call: 4,
+        told: (false, true, true),
+    },
+    Two {
+        name: "the first part can't be renamed",
+        call: 5,
+        told: (false, true, true),
+    },
+    Two {
+        name: "the second part can't be made",
+        call: 6,
+        told: (true, false, true),
+    },
+    Two {
+        name: "the write of the second body fails",
+        call: 7,
+        told: (true, false, true),
+    },
+    Two {
+        name: "the flush of the second body fails",
+        call: 8,
+        told: (true, false, true),
+    },
+    Two {
+        name: "the second part can't be renamed",
+        call: 9,
+        told: (true, false, true),
+    },
+    Two {
+        name: "the folder can't be flushed",
+        call: 10,
+        told: (true, true, false),
+    },
+    Two {
+        name: "no call of a run of two fails",
+        call: 11,
+        told: (true, true, true),
+    },
+];
+
+// Whether the folder has what was told, no more and no less.
+fn has_told(
+    alloc: Global,
+    folder: &MemoryFolder,
+    one: bool,
+    two: bool,
+) -> Result<bool, OutOfMemory> {
+    let first = one.then_some(b"hello you".as_slice());
+    let second = two.then_some(b"bye".as_slice());
+    Ok(
+        holds(alloc, folder, "x", first)?
+            && holds(alloc, folder, "y", second)?
+            && holds(alloc, folder, ".mxfetch-42-0.part", None)?
+            && holds(alloc, folder, ".mxfetch-42-1.part", None)?,
+    )
 }
 
-impl Told {
-    fn failures(self) -> u32 {
-        u32::from(!self.first) + u32::from(!self.second) + u32::from(!self.flushed)
-    }
+// Whether such a run tells what its row says, and leaves that.
+fn is_told(
+    alloc: Global,
+    first: &FileName,
+    second: &FileName,
+    row: &Two,
+) -> Result<bool, OutOfMemory>
+    requires { second.now ≢ first.now }
+{
+    let folder = MemoryFolder::new(alloc, 4, row.call, FolderError::Full);
+    let mut ledger = Ledger::new(alloc, 42, folder, true);
+    let one = ledger.save(first, &HELLO).is_ok();
+    let two = ledger.save(second, &BYE).is_ok();
+    let (folder, flushed) = ledger.finish();
+    let left = has_told(alloc, &folder, one, two);
+    drop(folder);
+    Ok(left? && (one, two, flushed.is_ok()) == row.told)
 }
 
-// The run; `None` where the folder doesn't have what was told, no more and no less.
-fn run_of_two(alloc: Global, fails_at: u64) -> Result<Option<Told>, OutOfMemory> {
+// The first of these runs that tells something else.
+fn wrong_of_two(alloc: Global) -> Result<Option<&'static str>, OutOfMemory> {
     let first = name_of(alloc, "http://h/x")?;
     let second = name_of(alloc, "http://h/y")?;
     if second.is_same(&first) {
-        return Ok(None);
+        return Ok(Some("the names of a run of two"));
     }
-    let folder = MemoryFolder::new(alloc, 4, fails_at, FolderError::Full);
-    let mut ledger = Ledger::new(alloc, 42, folder, true);
-    let one = ledger.save(&first, &HELLO).is_ok();
-    let two = ledger.save(&second, &BYE).is_ok();
-    let (folder, flushed) = ledger.finish();
-    let told = Told {
-        first: one,
-        second: two,
-        flushed: flushed.is_ok(),
-    };
-    let is_there = holds(alloc, &folder, "x", one.then_some(b"hello you".as_slice()))?
-        && holds(alloc, &folder, "y", two.then_some(b"bye".as_slice()))?
-        && holds(alloc, &folder, ".mxfetch-42-0.part", None)?
-        && holds(alloc, &folder, ".mxfetch-42-1.part", None)?;
-    Ok(if is_there { Some(told) } else { None })
-}
-
-// The first call, of the eleven that such a run makes, whose failing isn't told as one failure; and the twelfth, where all goes well.
-fn first_wrong_run(alloc: Global) -> Result<Option<u64>, OutOfMemory> {
-    for fails_at in 0..12 {
-        let failures = run_of_two(alloc, fails_at)?.map(Told::failures);
-        if failures != Some(u32::from(fails_at < 11)) {
-            return Ok(Some(fails_at));
+    for row in RUNS_OF_TWO.iter() {
+        if !is_told(alloc, &first, &second, row)? {
+            return Ok(Some(row.name));
         }
     }
     Ok(None)
 }
 
-#[test]
-fn a_run_tells_what_is_there(rt: HostRuntime) -> Result<(), Fail> {
-    assert_eq!(rt; first_wrong_run(rt.alloc())?, None);
+// How many names of parts are taken, and what a save answers then.
+struct Taken {
+    name: &'static str,
+    count: u32,
+    saved: Result<(), SaveError>,
+}
+
+static TAKEN: [Taken; 3] = [
+    Taken {
+        name: "one part is there",
+        count: 1,
+        saved: Ok(()),
+    },
+    Taken {
+        name: "all parts but one that are tried are there",
+        count: PART_TRIES - 1,
+        saved: Ok(()),
+    },
+    Taken {
+        name: "all parts that are tried are there",
+        count: PART_TRIES,
+        saved: Err(SaveError::Create(FolderError::AlreadyThere)),
+    },
+];
+
+fn add_part(alloc: Global, folder: &mut MemoryFolder, number: u32) -> Result<(), OutOfMemory> {
+    let part = part_name(alloc, 42, u64::from(number))?;
+    match folder.create(&part) {
+        Ok(()) => Ok(()),
+        Err(_) => Err(OutOfMemory),
+    }
+}
+
+// Gives the first parts of process 42 their names.
+fn add_parts(alloc: Global, folder: &mut MemoryFolder, count: u32) -> Result<(), OutOfMemory> {
+    for number in 0..count {
+        add_part(alloc, folder, number)?;
+    }
     Ok(())
 }
 
-// A folder in which the first parts of process 42 have their names already.
-fn with_parts(alloc: Global, count: u32) -> Result<MemoryFolder, OutOfMemory> {
+// A save into a folder: its answer, and the folder.
+fn save_beside(
+    alloc: Global,
+    name: &FileName,
+    folder: MemoryFolder,
+) -> (Result<(), SaveError>, MemoryFolder) {
+    let mut ledger = Ledger::new(alloc, 42, folder, false);
+    let saved = ledger.save(name, &HELLO);
+    (saved, ledger.finish().0)
+}
+
+// Whether a save where so many names of parts are taken answers what its row says, and leaves the last of those parts there, with no byte.
+fn is_beside(alloc: Global, name: &FileName, row: &Taken) -> Result<bool, OutOfMemory> {
+    let last = part_name(alloc, 42, u64::from(row.count.saturating_sub(1)))?;
     let mut folder = MemoryFolder::new(alloc, 100, u64::MAX, FolderError::Failed);
-    for number in 0..count {
-        let part = part_name(alloc, 42, u64::from(number))?;
-        if folder.create(&part).is_err() {
-            return Err(OutOfMemory);
+    let added = add_parts(alloc, &mut folder, row.count);
+    let (saved, folder) = save_beside(alloc, name, folder);
+    let left = holds(alloc, &folder, last.as_str(), Some(b""));
+    drop(folder);
+    added?;
+    Ok(left? && saved == row.saved)
+}
+
+// The first row of these whose save answers something else, or touches the last part.
+fn wrong_of_taken(alloc: Global) -> Result<Option<&'static str>, OutOfMemory> {
+    let name = name_of(alloc, "http://h/x")?;
+    for row in TAKEN.iter() {
+        if !is_beside(alloc, &name, row)? {
+            return Ok(Some(row.name));
         }
     }
-    Ok(folder)
+    Ok(None)
 }
 
-// A save where so many names of parts are taken: its answer, and whether the last of those parts is still there, with no byte.
-fn save_beside(alloc: Global, count: u32) -> Result<(Result<(), SaveError>, bool), OutOfMemory> {
-    let name = name_of(alloc, "http://h/x")?;
-    let mut ledger = Ledger::new(alloc, 42, with_parts(alloc, count)?, false);
-    let saved = ledger.save(&name, &HELLO);
-    let (folder, _) = ledger.finish();
-    let last = part_name(alloc, 42, u64::from(count.saturating_sub(1)))?;
-    Ok((saved, holds(alloc, &folder, last.as_str(), Some(b""))?))
+// Whether the body is under its name. Where memory is refused, it is looked for once more.
+fn is_saved(alloc: Global, folder: &MemoryFolder) -> Result<bool, OutOfMemory> {
+    match holds(alloc, folder, "x", Some(b"hello you")) {
+        Ok(is_there) => Ok(is_there),
+        Err(OutOfMemory) => holds(alloc, folder, "x", Some(b"hello you")),
+    }
 }
 
-#[test]
-fn taken_names_of_parts(rt: HostRuntime) -> Result<(), Fail> {
-    let taken = Err(SaveError::Create(FolderError::AlreadyThere));
-    let answers = (
-        save_beside(rt.alloc(), 1)?,
-        save_beside(rt.alloc(), PART_TRIES - 1)?,
-        save_beside(rt.alloc(), PART_TRIES)?,
-    );
-    assert_eq!(rt; answers, ((Ok(()), true), (Ok(()), true), (taken, true)));
-    Ok(())
-}
-
-// A save; where it was refused, for want of memory, the same one again, which is to be there then.
-fn saved_at_last(alloc: Global) -> Result<bool, OutOfMemory> {
-    let name = name_of(alloc, "http://h/x")?;
+// A save, and where it was refused, for want of memory, the same one again: whether the first and the last went well, and the folder.
+fn save_twice(alloc: Global, name: &FileName) -> (bool, bool, MemoryFolder) {
     let folder = MemoryFolder::new(alloc, 4, u64::MAX, FolderError::Full);
     let mut ledger = Ledger::new(alloc, 42, folder, true);
-    let first = ledger.save(&name, &HELLO);
+    let first = ledger.save(name, &HELLO);
     let last = match first {
         Ok(()) => Ok(()),
-        Err(_) => ledger.save(&name, &HELLO),
+        Err(_) => ledger.save(name, &HELLO),
     };
-    let (folder, _) = ledger.finish();
-    let is_there = match holds(alloc, &folder, "x", Some(b"hello you")) {
-        Ok(is_there) => is_there,
-        Err(OutOfMemory) => holds(alloc, &folder, "x", Some(b"hello you"))?,
-    };
-    if last.is_ok() && is_there && first.is_err() {
+    (first.is_ok(), last.is_ok(), ledger.finish().0)
+}
+
+// Whether the body is there then. The want of memory is told after that.
+fn is_saved_at_last(alloc: Global) -> Result<bool, OutOfMemory> {
+    let name = name_of(alloc, "http://h/x")?;
+    let (first, last, folder) = save_twice(alloc, &name);
+    let found = is_saved(alloc, &folder);
+    drop(folder);
+    let is_there = found? && last;
+    if is_there && !first {
         return Err(OutOfMemory);
     }
-    Ok(last.is_ok() && is_there)
+    Ok(is_there)
 }
 
-#[test]
-fn a_save_after_the_want_of_memory(rt: HostRuntime) -> Result<(), Fail> {
-    let there = saved_at_last(rt.alloc())?;
-    assert!(rt; there);
-    Ok(())
+fn wrong_of_want(alloc: Global) -> Result<Option<&'static str>, OutOfMemory> {
+    Ok((!is_saved_at_last(alloc)?).then_some("a save after the want of memory"))
 }
 
-// What is under a name before and after it is saved.
-fn kinds(alloc: Global) -> Result<[Result<Kind, FolderError>; 2], OutOfMemory> {
-    let name = name_of(alloc, "http://h/x")?;
+// What looks find before and after a save.
+fn kinds(alloc: Global, name: &FileName) -> [Result<Kind, FolderError>; 2] {
     let folder = MemoryFolder::new(alloc, 4, u64::MAX, FolderError::Full);
     let mut ledger = Ledger::new(alloc, 42, folder, false);
-    let before = ledger.look(&name);
-    let _ = ledger.save(&name, &BYE);
-    let after = ledger.look(&name);
-    Ok([before, after])
+    let before = ledger.look(name);
+    let _ = ledger.save(name, &BYE);
+    let after = ledger.look(name);
+    drop(ledger);
+    [before, after]
+}
+
+// Whether a look finds nothing under a name before it is saved, and a file after.
+fn wrong_of_looks(alloc: Global) -> Result<Option<&'static str>, OutOfMemory> {
+    let name = name_of(alloc, "http://h/x")?;
+    let [before, after] = kinds(alloc, &name);
+    if before != Ok(Kind::Absent) {
+        return Ok(Some("a look before the save"));
+    }
+    Ok((after != Ok(Kind::File)).then_some("a look after the save"))
+}
+
+// An error of a save, and its words.
+static WORDS: [(SaveError, &str); 4] = [
+    (
+        SaveError::Create(FolderError::Denied),
+        "the folder may not be written",
+    ),
+    (SaveError::Write(FolderError::Full), "the disk is full"),
+    (
+        SaveError::Place(FolderError::AlreadyThere),
+        "something else has that name",
+    ),
+    (SaveError::OutOfMemory, "out of memory"),
+];
+
+// The first words that aren't those of their error.
+fn wrong_words() -> Option<&'static str> {
+    for (error, wanted) in WORDS.iter() {
+        if !is_same(error.words().as_bytes(), wanted.as_bytes()) {
+            return Some(*wanted);
+        }
+    }
+    None
 }
 
 #[test]
-fn a_look(rt: HostRuntime) -> Result<(), Fail> {
-    assert_eq!(rt; kinds(rt.alloc())?, [Ok(Kind::Absent), Ok(Kind::File)]);
-    Ok(())
-}
-
-#[test]
-fn words(rt: HostRuntime) -> Result<(), Fail> {
-    let words = [
-        SaveError::Create(FolderError::Denied).words(),
-        SaveError::Write(FolderError::Full).words(),
-        SaveError::Place(FolderError::AlreadyThere).words(),
-        SaveError::OutOfMemory.words(),
+fn each_row(rt: HostRuntime) -> Result<(), Fail> {
+    let alloc = rt.alloc();
+    let wrong = [
+        wrong_of_faults(alloc)?,
+        wrong_of_two(alloc)?,
+        wrong_of_taken(alloc)?,
+        wrong_of_want(alloc)?,
+        wrong_of_looks(alloc)?,
+        wrong_words(),
     ];
-    assert_eq!(rt;
-        words,
-        [
-            "the folder may not be written",
-            "the disk is full",
-            "something else has that name",
-            "out of memory"
-        ]
-    );
+    assert_eq!(rt; wrong, [None; 6]);
     Ok(())
 }

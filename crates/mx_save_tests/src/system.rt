@@ -1,211 +1,339 @@
-//! Saving to a folder of the system.
+//! Saving to a folder of the system: scenarios, each a list of steps.
 
-use crate::pieces::{Pieces, name_of};
-use mx_file_name::{FileName, part_name};
+use crate::bodies::{Pieces, is_same, name_of};
+use mx_file_name::{FileName, PartName, part_name};
 use mx_folder::{Folder, FolderError, Kind, SystemFolder};
 use mx_save::{Ledger, SaveError, save_body};
 use mx_types::OutOfMemory;
+use std::alloc::Global;
 use std::fs;
 use std::os::unix::fs::symlink;
 use std::rt::Files;
 use std::test::Fail;
 
-static ONE: Pieces = Pieces {
-    pieces: &[b"o", b"ne"],
-};
+// A step over files, by their paths.
+enum OnFiles {
+    MakeFolder(&'static str),
+    MakeFile(&'static str, &'static str),
+    // What the link leads to, and the link.
+    MakeLink(&'static str, &'static str),
+    RemoveFolder(&'static str),
+    RemoveFile(&'static str),
+    // The text of a file.
+    Holds(&'static str, &'static str),
+    // Nothing is there.
+    Lacks(&'static str),
+}
 
-static OTHER: Pieces = Pieces {
-    pieces: &[b"other"],
-};
+// A save by a run of its own, flushed or not, and what it answers.
+struct Save {
+    folder: &'static str,
+    url: &'static str,
+    body: &'static [&'static [u8]],
+    flush: bool,
+    answer: Result<(), SaveError>,
+}
 
-// Saves a body by a run of its own.
-fn save<R: Files + AllocGlobal>(
-    rt: &R,
-    folder: &str,
+// A call of the folder for a part, and what it answers.
+enum OnPart {
+    Create(Result<(), FolderError>),
+    Append(&'static [u8], Result<usize, FolderError>),
+    Flush(Result<(), FolderError>),
+    Remove(Result<(), FolderError>),
+}
+
+// A call of the folder that is open.
+enum OnOpen {
+    // The number of the part.
+    Part(u64, OnPart),
+    // The URL that gives the name, and what is answered.
+    Look(&'static str, Result<Kind, FolderError>),
+    // A save, flushed, by the first part.
+    Save(&'static str, &'static [&'static [u8]], Result<(), SaveError>),
+}
+
+enum Step {
+    Files(OnFiles),
+    Save(Save),
+    // Opens the folder of this path.
+    Open(&'static str),
+    Folder(OnOpen),
+}
+
+// What is removed before the steps, if it is there, and the steps, each of which has to answer what it says.
+struct Scenario {
+    name: &'static str,
+    root: &'static str,
+    steps: &'static [Step],
+}
+
+static SCENARIOS: [Scenario; 6] = [
+    Scenario {
+        name: "a folder is made",
+        root: "made-by-a-test",
+        steps: &[
+            Step::Save(Save {
+                folder: "made-by-a-test/a/b",
+                url: "http://h/x",
+                body: &[b"o", b"ne"],
+                flush: false,
+                answer: Ok(()),
+            }),
+            Step::Files(OnFiles::Holds("made-by-a-test/a/b/x", "one")),
+            Step::Save(Save {
+                folder: "made-by-a-test/a/b",
+                url: "http://h/x",
+                body: &[b"other"],
+                flush: true,
+                answer: Ok(()),
+            }),
+            Step::Files(OnFiles::Holds("made-by-a-test/a/b/x", "other")),
+            Step::Files(OnFiles::RemoveFolder("made-by-a-test")),
+        ],
+    },
+    Scenario {
+        name: "a part that is there isn't touched, and the next number is taken",
+        root: "part-of-a-test",
+        steps: &[
+            Step::Files(OnFiles::MakeFolder("part-of-a-test")),
+            Step::Files(OnFiles::MakeFile("part-of-a-test/.mxfetch-42-0.part", "mine")),
+            Step::Save(Save {
+                folder: "part-of-a-test",
+                url: "http://h/x",
+                body: &[b"o", b"ne"],
+                flush: false,
+                answer: Ok(()),
+            }),
+            Step::Files(OnFiles::Holds("part-of-a-test/x", "one")),
+            Step::Files(OnFiles::Holds("part-of-a-test/.mxfetch-42-0.part", "mine")),
+            Step::Files(OnFiles::Lacks("part-of-a-test/.mxfetch-42-1.part")),
+            Step::Files(OnFiles::RemoveFolder("part-of-a-test")),
+        ],
+    },
+    Scenario {
+        name: "a folder is in the way, and a link is replaced",
+        root: "way-of-a-test",
+        steps: &[
+            Step::Files(OnFiles::MakeFolder("way-of-a-test")),
+            Step::Files(OnFiles::MakeFolder("way-of-a-test/x")),
+            Step::Files(OnFiles::MakeFile("way-of-a-test/far", "far")),
+            Step::Files(OnFiles::MakeLink("far", "way-of-a-test/y")),
+            Step::Save(Save {
+                folder: "way-of-a-test",
+                url: "http://h/x",
+                body: &[b"o", b"ne"],
+                flush: false,
+                answer: Err(SaveError::Place(FolderError::AlreadyThere)),
+            }),
+            Step::Files(OnFiles::Lacks("way-of-a-test/.mxfetch-42-0.part")),
+            Step::Save(Save {
+                folder: "way-of-a-test",
+                url: "http://h/y",
+                body: &[b"other"],
+                flush: false,
+                answer: Ok(()),
+            }),
+            Step::Files(OnFiles::Holds("way-of-a-test/y", "other")),
+            Step::Files(OnFiles::Holds("way-of-a-test/far", "far")),
+            Step::Files(OnFiles::RemoveFolder("way-of-a-test")),
+        ],
+    },
+    Scenario {
+        name: "looks",
+        root: "look-of-a-test",
+        steps: &[
+            Step::Files(OnFiles::MakeFolder("look-of-a-test")),
+            Step::Files(OnFiles::MakeFile("look-of-a-test/file", "")),
+            Step::Files(OnFiles::MakeFolder("look-of-a-test/folder")),
+            Step::Files(OnFiles::MakeLink("file", "look-of-a-test/link")),
+            Step::Open("look-of-a-test"),
+            Step::Folder(OnOpen::Look("http://h/absent", Ok(Kind::Absent))),
+            Step::Folder(OnOpen::Look("http://h/file", Ok(Kind::File))),
+            Step::Folder(OnOpen::Look("http://h/folder", Ok(Kind::Other))),
+            Step::Folder(OnOpen::Look("http://h/link", Ok(Kind::Other))),
+            Step::Files(OnFiles::RemoveFolder("look-of-a-test")),
+        ],
+    },
+    Scenario {
+        name: "what is written for a part that isn't open goes nowhere, and is told",
+        root: "other-of-a-test",
+        steps: &[
+            Step::Open("other-of-a-test"),
+            Step::Folder(OnOpen::Part(0, OnPart::Append(b"a", Err(FolderError::NotOpen)))),
+            Step::Folder(OnOpen::Part(0, OnPart::Create(Ok(())))),
+            Step::Folder(OnOpen::Part(1, OnPart::Append(b"b", Err(FolderError::NotOpen)))),
+            Step::Folder(OnOpen::Part(1, OnPart::Flush(Err(FolderError::NotOpen)))),
+            Step::Folder(OnOpen::Part(0, OnPart::Append(b"c", Ok(1)))),
+            Step::Folder(OnOpen::Part(1, OnPart::Remove(Err(FolderError::NotThere)))),
+            Step::Folder(OnOpen::Part(0, OnPart::Append(b"d", Ok(1)))),
+            Step::Files(OnFiles::Holds("other-of-a-test/.mxfetch-42-0.part", "cd")),
+            Step::Files(OnFiles::RemoveFolder("other-of-a-test")),
+        ],
+    },
+    Scenario {
+        name: "a folder that is gone, and a file where the folder is to be",
+        root: "gone-of-a-test",
+        steps: &[
+            Step::Open("gone-of-a-test"),
+            Step::Files(OnFiles::RemoveFolder("gone-of-a-test")),
+            Step::Folder(OnOpen::Save(
+                "http://h/x",
+                &[b"o", b"ne"],
+                Err(SaveError::Create(FolderError::NotThere)),
+            )),
+            Step::Files(OnFiles::MakeFile("gone-of-a-test", "")),
+            Step::Save(Save {
+                folder: "gone-of-a-test",
+                url: "http://h/x",
+                body: &[b"o", b"ne"],
+                flush: true,
+                answer: Err(SaveError::Create(FolderError::AlreadyThere)),
+            }),
+            Step::Files(OnFiles::RemoveFile("gone-of-a-test")),
+        ],
+    },
+];
+
+// Whether this file has this text.
+fn holds<R: Files + AllocGlobal>(rt: &R, path: &str, wanted: &str) -> bool {
+    match fs::read_to_string(rt, path).ok() {
+        Some(text) => is_same(text.as_str().as_bytes(), wanted.as_bytes()),
+        None => false,
+    }
+}
+
+// Whether a step over files went well.
+fn is_done<R: Files + AllocGlobal>(rt: &R, step: &OnFiles) -> bool {
+    match step {
+        OnFiles::MakeFolder(path) => fs::create_dir(rt, *path).is_ok(),
+        OnFiles::MakeFile(path, text) => fs::write(rt, *path, *text).is_ok(),
+        OnFiles::MakeLink(far, path) => symlink(rt, *far, *path).is_ok(),
+        OnFiles::RemoveFolder(path) => fs::remove_dir_all(rt, *path).is_ok(),
+        OnFiles::RemoveFile(path) => fs::remove_file(rt, *path).is_ok(),
+        OnFiles::Holds(path, text) => holds(rt, *path, *text),
+        OnFiles::Lacks(path) => matches!(fs::exists(rt, *path), Ok(false)),
+    }
+}
+
+// Saves in a folder by a run of its own.
+fn save_in<R: Files>(
+    alloc: Global,
+    folder: SystemFolder<'_, R>,
     name: &FileName,
     body: &Pieces,
     flush: bool,
 ) -> Result<(), SaveError> {
-    let folder = match SystemFolder::open(rt.alloc(), rt, folder) {
-        Ok(folder) => folder,
-        Err(error) => return Err(SaveError::Create(error)),
+    let mut ledger = Ledger::new(alloc, 42, folder, flush);
+    let saved = ledger.save(name, body);
+    let (folder, flushed) = ledger.finish();
+    drop(folder);
+    match (saved, flushed) {
+        (Ok(()), Ok(())) => Ok(()),
+        (Ok(()), Err(error)) => Err(SaveError::Flush(error)),
+        (Err(error), _) => Err(error),
+    }
+}
+
+// Whether a save by a run of its own answers what it has to.
+fn is_saved<R: Files + AllocGlobal>(rt: &R, save: &Save) -> Result<bool, OutOfMemory> {
+    let name = name_of(rt.alloc(), save.url)?;
+    let body = Pieces { pieces: save.body };
+    let saved = match SystemFolder::open(rt.alloc(), rt, save.folder) {
+        Ok(folder) => save_in(rt.alloc(), folder, &name, &body, save.flush),
+        Err(error) => Err(SaveError::Create(error)),
     };
-    let mut ledger = Ledger::new(rt.alloc(), 42, folder, flush);
-    ledger.save(name, body)?;
-    match ledger.finish().1 {
-        Ok(()) => Ok(()),
-        Err(error) => Err(SaveError::Flush(error)),
+    Ok(saved == save.answer)
+}
+
+// Whether a call for a part answers what it has to.
+fn is_part_answered<R: Files>(
+    folder: &mut SystemFolder<'_, R>,
+    part: &PartName,
+    call: &OnPart,
+) -> bool {
+    match call {
+        OnPart::Create(wanted) => folder.create(part) == *wanted,
+        OnPart::Append(bytes, wanted) => {
+            !bytes.is_empty() && folder.append(part, *bytes) == *wanted
+        }
+        OnPart::Flush(wanted) => folder.flush(part) == *wanted,
+        OnPart::Remove(wanted) => folder.remove(part) == *wanted,
     }
 }
 
-fn is_text<R: Files + AllocGlobal>(rt: &R, path: &str, wanted: &str) -> bool {
-    match fs::read_to_string(rt, path) {
-        Ok(text) => text.as_str() == wanted,
-        Err(_) => false,
+// Whether a call of the folder that is open answers what it has to.
+fn is_answered<R: Files>(
+    alloc: Global,
+    folder: &mut SystemFolder<'_, R>,
+    step: &OnOpen,
+) -> Result<bool, OutOfMemory> {
+    match step {
+        OnOpen::Part(number, call) => {
+            let part = part_name(alloc, 42, *number)?;
+            Ok(is_part_answered(folder, &part, call))
+        }
+        OnOpen::Look(url, wanted) => {
+            let name = name_of(alloc, *url)?;
+            Ok(folder.look(&name) == *wanted)
+        }
+        OnOpen::Save(url, body, wanted) => {
+            let name = name_of(alloc, *url)?;
+            let part = part_name(alloc, 42, 0)?;
+            let body = Pieces { pieces: *body };
+            Ok(save_body(folder, &part, &name, &body, true) == *wanted)
+        }
     }
 }
 
-fn is_absent<R: Files>(rt: &R, path: &str) -> bool {
-    matches!(fs::exists(rt, path), Ok(false))
+// Whether a step answers what it has to.
+fn is_right<'a, R: Files + AllocGlobal>(
+    rt: &'a R,
+    open: &mut Option<SystemFolder<'a, R>>,
+    step: &Step,
+) -> Result<bool, OutOfMemory> {
+    match step {
+        Step::Files(step) => Ok(is_done(rt, step)),
+        Step::Save(save) => is_saved(rt, save),
+        Step::Open(path) => {
+            *open = SystemFolder::open(rt.alloc(), rt, *path).ok();
+            Ok(open.is_some())
+        }
+        Step::Folder(step) => match open {
+            Some(folder) => is_answered(rt.alloc(), folder, step),
+            None => Ok(false),
+        },
+    }
 }
 
-// A save into folders that weren't there, and another one over it, flushed.
-#[test]
-fn a_folder_is_made(rt: HostRuntime) -> Result<(), Fail> {
-    let _ = fs::remove_dir_all(&rt, "made-by-a-test");
-    let name = name_of(rt.alloc(), "http://h/x")?;
-    let saved = (
-        save(&rt, "made-by-a-test/a/b", &name, &ONE, false),
-        is_text(&rt, "made-by-a-test/a/b/x", "one"),
-        save(&rt, "made-by-a-test/a/b", &name, &OTHER, true),
-        is_text(&rt, "made-by-a-test/a/b/x", "other"),
-    );
-    assert_eq!(rt; saved, (Ok(()), true, Ok(()), true));
-    fs::remove_dir_all(&rt, "made-by-a-test")?;
-    Ok(())
-}
-
-// A part that is there isn't touched, and the next number is taken.
-#[test]
-fn a_part_that_is_there(rt: HostRuntime) -> Result<(), Fail> {
-    let _ = fs::remove_dir_all(&rt, "part-of-a-test");
-    fs::create_dir(&rt, "part-of-a-test")?;
-    fs::write(&rt, "part-of-a-test/.mxfetch-42-0.part", "mine")?;
-    let name = name_of(rt.alloc(), "http://h/x")?;
-    let saved = (
-        save(&rt, "part-of-a-test", &name, &ONE, false),
-        is_text(&rt, "part-of-a-test/x", "one"),
-        is_text(&rt, "part-of-a-test/.mxfetch-42-0.part", "mine"),
-        is_absent(&rt, "part-of-a-test/.mxfetch-42-1.part"),
-    );
-    assert_eq!(rt; saved, (Ok(()), true, true, true));
-    fs::remove_dir_all(&rt, "part-of-a-test")?;
-    Ok(())
-}
-
-// A folder under the name is in the way; a link is replaced, and what it leads to is left as it is.
-#[test]
-fn what_is_in_the_way(rt: HostRuntime) -> Result<(), Fail> {
-    let _ = fs::remove_dir_all(&rt, "way-of-a-test");
-    fs::create_dir(&rt, "way-of-a-test")?;
-    fs::create_dir(&rt, "way-of-a-test/x")?;
-    fs::write(&rt, "way-of-a-test/far", "far")?;
-    symlink(&rt, "far", "way-of-a-test/y")?;
-    let folder = name_of(rt.alloc(), "http://h/x")?;
-    let link = name_of(rt.alloc(), "http://h/y")?;
-    let saved = (
-        save(&rt, "way-of-a-test", &folder, &ONE, false),
-        is_absent(&rt, "way-of-a-test/.mxfetch-42-0.part"),
-        save(&rt, "way-of-a-test", &link, &OTHER, false),
-        is_text(&rt, "way-of-a-test/y", "other"),
-        is_text(&rt, "way-of-a-test/far", "far"),
-    );
-    assert_eq!(rt;
-        saved,
-        (
-            Err(SaveError::Place(FolderError::AlreadyThere)),
-            true,
-            Ok(()),
-            true,
-            true
-        )
-    );
-    fs::remove_dir_all(&rt, "way-of-a-test")?;
-    Ok(())
-}
-
-// What a look tells of four names.
-fn kinds<R: Files + AllocGlobal>(
+// The number of the first step, from 0 on, that answers something else.
+fn wrong_step<R: Files + AllocGlobal>(
     rt: &R,
-    path: &str,
-) -> Result<[Result<Kind, FolderError>; 4], Fail> {
-    let mut folder = SystemFolder::open(rt.alloc(), rt, path).map_err(SaveError::Create)?;
-    let absent = name_of(rt.alloc(), "http://h/absent")?;
-    let file = name_of(rt.alloc(), "http://h/file")?;
-    let inner = name_of(rt.alloc(), "http://h/folder")?;
-    let link = name_of(rt.alloc(), "http://h/link")?;
-    Ok([
-        folder.look(&absent),
-        folder.look(&file),
-        folder.look(&inner),
-        folder.look(&link),
-    ])
+    steps: &[Step],
+) -> Result<Option<usize>, OutOfMemory> {
+    let mut open = None;
+    for (i, step) in steps.iter().enumerate() {
+        if !is_right(rt, &mut open, step)? {
+            return Ok(Some(i));
+        }
+    }
+    Ok(None)
+}
+
+// The first scenario with such a step, and the number of that.
+fn first_wrong<R: Files + AllocGlobal>(
+    rt: &R,
+) -> Result<Option<(&'static str, usize)>, OutOfMemory> {
+    for row in SCENARIOS.iter() {
+        let _ = fs::remove_dir_all(rt, row.root);
+        if let Some(step) = wrong_step(rt, row.steps)? {
+            return Ok(Some((row.name, step)));
+        }
+    }
+    Ok(None)
 }
 
 #[test]
-fn looks(rt: HostRuntime) -> Result<(), Fail> {
-    let _ = fs::remove_dir_all(&rt, "look-of-a-test");
-    fs::create_dir(&rt, "look-of-a-test")?;
-    fs::write(&rt, "look-of-a-test/file", "")?;
-    fs::create_dir(&rt, "look-of-a-test/folder")?;
-    symlink(&rt, "file", "look-of-a-test/link")?;
-    let told = kinds(&rt, "look-of-a-test")?;
-    assert_eq!(rt;
-        told,
-        [
-            Ok(Kind::Absent),
-            Ok(Kind::File),
-            Ok(Kind::Other),
-            Ok(Kind::Other)
-        ]
-    );
-    fs::remove_dir_all(&rt, "look-of-a-test")?;
-    Ok(())
-}
-
-// What is written for a part that isn't open goes nowhere, and is told.
-#[test]
-fn another_part(rt: HostRuntime) -> Result<(), Fail> {
-    let _ = fs::remove_dir_all(&rt, "other-of-a-test");
-    let one = part_name(rt.alloc(), 42, 0)?;
-    let other = part_name(rt.alloc(), 42, 1)?;
-    let mut folder = match SystemFolder::open(rt.alloc(), &rt, "other-of-a-test") {
-        Ok(folder) => folder,
-        Err(_) => return Err(OutOfMemory.into()),
-    };
-    let answers = (
-        folder.append(&one, b"a"),
-        folder.create(&one),
-        folder.append(&other, b"b"),
-        folder.flush(&other),
-        folder.append(&one, b"c"),
-        folder.remove(&other),
-        folder.append(&one, b"d"),
-        is_text(&rt, "other-of-a-test/.mxfetch-42-0.part", "cd"),
-    );
-    assert_eq!(rt;
-        answers,
-        (
-            Err(FolderError::NotOpen),
-            Ok(()),
-            Err(FolderError::NotOpen),
-            Err(FolderError::NotOpen),
-            Ok(1),
-            Err(FolderError::NotThere),
-            Ok(1),
-            true
-        )
-    );
-    fs::remove_dir_all(&rt, "other-of-a-test")?;
-    Ok(())
-}
-
-// A folder that is gone, and a file where the folder is to be.
-#[test]
-fn no_folder(rt: HostRuntime) -> Result<(), Fail> {
-    let _ = fs::remove_dir_all(&rt, "gone-of-a-test");
-    let name = name_of(rt.alloc(), "http://h/x")?;
-    let part = part_name(rt.alloc(), 42, 0)?;
-    let mut folder = match SystemFolder::open(rt.alloc(), &rt, "gone-of-a-test") {
-        Ok(folder) => folder,
-        Err(_) => return Err(OutOfMemory.into()),
-    };
-    fs::remove_dir_all(&rt, "gone-of-a-test")?;
-    let gone = save_body(&mut folder, &part, &name, &ONE, true);
-    fs::write(&rt, "gone-of-a-test", "")?;
-    let is_file = save(&rt, "gone-of-a-test", &name, &ONE, true);
-    fs::remove_file(&rt, "gone-of-a-test")?;
-    assert_eq!(rt; gone, Err(SaveError::Create(FolderError::NotThere)));
-    assert_eq!(rt; is_file, Err(SaveError::Create(FolderError::AlreadyThere)));
+fn each_row(rt: HostRuntime) -> Result<(), Fail> {
+    assert_eq!(rt; first_wrong(&rt)?, None);
     Ok(())
 }

@@ -1,27 +1,35 @@
-//! Workers over scripted links, on one thread: tests, and polls by hand.
+//! Workers over scripted links: rows of tables on one thread, and two workers on threads of their own. Tests alone.
 #![tactic(auto)]
 
 #[cfg(test)]
-mod between;
-#[cfg(test)]
 mod by_hand;
 #[cfg(test)]
-mod ends;
+mod crew;
 #[cfg(test)]
-mod hops;
+mod gates;
+#[cfg(test)]
+pub mod holding;
 #[cfg(test)]
 mod links;
 #[cfg(test)]
-mod paused;
+mod messages;
+#[cfg(test)]
+mod open;
+#[cfg(test)]
+mod play;
 #[cfg(test)]
 pub mod polls;
 #[cfg(test)]
 mod refused;
 #[cfg(test)]
-mod removed;
+mod rows;
 #[cfg(test)]
-mod script;
+mod runs;
 #[cfg(test)]
-mod takeover;
+pub mod stage;
 #[cfg(test)]
-mod waits;
+mod steps;
+#[cfg(test)]
+mod table;
+#[cfg(test)]
+mod trouble;

@@ -30,12 +30,8 @@ pub fn poll_at(
     }
 }
 
-/// Polls a transfer at the moments 0 and 1: the outcome, if it ends at the second.
-pub fn poll_twice(
-    solo: &Solo,
-    transfer: &mut Transfer<ScriptLink>,
-    is_paused: bool,
-) -> Option<Outcome>
+// Polls a transfer at the moments 0 and 1: the outcome, if it ends at the second.
+fn poll_twice(solo: &Solo, transfer: &mut Transfer<ScriptLink>, is_paused: bool) -> Option<Outcome>
     requires running { transfer.old.chain.code ≡ None }
     ensures request { IfSome result (λ outcome. outcome.request ≡ transfer.old.chain.request) }
 {

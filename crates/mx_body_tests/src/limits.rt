@@ -1,0 +1,79 @@
+//! Responses as long as one may be.
+
+use crate::row::Bytes::Filled;
+use crate::row::{Row, Seen};
+use crate::told::is_told;
+use mx_responses::bases::{LARGE, OPEN, SHORT};
+use mx_responses::response::Response;
+use std::alloc::Global;
+
+/// The most bytes of a whole response.
+const MOST_BYTES: usize = 67_108_864;
+
+/// A body that goes on to the end of that many bytes.
+const OPEN_BODY: Response = Response {
+    parts: &[(19, 67_108_864)],
+    ..OPEN
+};
+
+/// One byte more decides that it can't be.
+const ONE_BYTE_MORE: Response = Response {
+    decided: Some(MOST_BYTES + 1),
+    ..LARGE
+};
+
+/// What a response at a limit comes to.
+#[derive(Clone, Copy)]
+pub(crate) enum Told {
+    /// A body of all its bytes, where they end there.
+    Open,
+    /// A body that hasn't ended.
+    Short,
+    /// Too many bytes, with the last one.
+    OneByteMore,
+}
+
+/// Whether it comes to that, before its end and with it.
+pub(crate) fn is_told_anyhow(alloc: Global, told: Told, bytes: &[u8]) -> bool {
+    let row = match told {
+        Told::Open => OPEN_BODY,
+        Told::Short => SHORT,
+        Told::OneByteMore => ONE_BYTE_MORE,
+    };
+    is_told(alloc, &row, bytes, true) && is_told(alloc, &row, bytes, false)
+}
+
+static LIMITS: [Row; 4] = [
+    (
+        "open_body_at_the_limit",
+        Filled(b"HTTP/1.0 200 OK\r\n\r\n", MOST_BYTES),
+        Seen::Told(Told::Open),
+    ),
+    (
+        "open_body_past_the_limit",
+        Filled(b"HTTP/1.0 200 OK\r\n\r\n", MOST_BYTES + 1),
+        Seen::Told(Told::OneByteMore),
+    ),
+    // the greatest size, which can't fit behind a head
+    (
+        "chunk_at_the_limit",
+        Filled(
+            b"HTTP/1.1 200 OK\r\nTransfer-Encoding: chunked\r\n\r\n4000000\r\n",
+            MOST_BYTES,
+        ),
+        Seen::Told(Told::Short),
+    ),
+    (
+        "chunk_past_the_limit",
+        Filled(
+            b"HTTP/1.1 200 OK\r\nTransfer-Encoding: chunked\r\n\r\n4000000\r\n",
+            MOST_BYTES + 1,
+        ),
+        Seen::Told(Told::OneByteMore),
+    ),
+];
+
+/// Responses at the limit of all bytes.
+pub(crate) fn limits() -> &'static [Row] {
+    &LIMITS
+}

@@ -1,0 +1,189 @@
+//! Rows: bytes, and what is seen of them. The offsets and lengths of all rows were counted by hand.
+
+use crate::chunked::{has_parts, is_bad_at_last, is_scanned, is_too_large_from, waits_for_each};
+use crate::cuts::is_known_anywhere;
+use crate::heads::{is_framed, is_head, is_kept, refuses_front, wants_more_of};
+use crate::limits::{Told, is_told_anyhow};
+use crate::locations::{is_located, is_located_behind};
+use crate::pieces::{completes, has_all_chunks, is_refused_at_last};
+use crate::reasons::{is_cut_so, is_fault, is_refused, is_whole};
+use mx_body::chunked::scan::ChunkedScan;
+use mx_head::Framing;
+use mx_reason::{Cut, Fault};
+use mx_types::{Code, Method};
+use std::alloc::{AllocError, Global};
+
+/// The bytes of a row.
+#[derive(Clone, Copy)]
+pub(crate) enum Bytes {
+    /// These.
+    Of(&'static [u8]),
+    /// A front, a unit so often, and an end.
+    Often(&'static [u8], &'static [u8], usize, &'static [u8]),
+    /// A front, and then `x` until there are so many.
+    Filled(&'static [u8], usize),
+    /// A front, and so many chunks of 65,536 bytes.
+    Chunks(&'static [u8], usize),
+    /// A head of so many short field lines, and one that makes it so long.
+    LongField(usize, usize),
+}
+
+/// What is seen of them.
+#[derive(Clone, Copy)]
+pub(crate) enum Seen {
+    /// A head of this length, status and minor version.
+    Head(usize, u16, u8),
+    /// More is wanted where so many of them are read as a head.
+    Wants(usize),
+    /// So many of them are refused as a head.
+    Refuses(usize, Code),
+    /// How the head frames its body in the answer to that method, and whether it keeps its connection.
+    Framed(Method, Result<Framing, Code>, bool),
+    /// Whether the head keeps its connection.
+    Keeps(bool),
+    /// The head is known to a decoder with the byte with which `read_head` knows it.
+    KnownInTime,
+    /// Where the location of the head, and of the response, begins and ends, and its value.
+    Location(Option<(usize, usize)>, &'static [u8]),
+    /// The same of a response that has an interim head.
+    LocationBehind(Option<(usize, usize)>, &'static [u8]),
+    /// 100,000 chunks of one byte, in pieces of that length.
+    ManyChunks(usize),
+    /// A whole response of that status and that length, in pieces of each of these lengths.
+    Completes(&'static [usize], u16, usize),
+    /// A decoder refuses the last of them, and none before it.
+    RefusedAtLast(Code),
+    /// A response at a limit.
+    Told(Told),
+    /// What a scan for a chunked body with that limit finds.
+    Scan(u32, ChunkedScan),
+    /// They are a chunked body, and no front of them is.
+    Waits,
+    /// The last of them is the first that no chunked body has.
+    BadAtLast,
+    /// They are the digits of a size that is too large with the digit of this number, from 1.
+    TooLargeFrom(usize),
+    /// Where the parts of the chunked body at that offset begin and end.
+    Parts(u32, &'static [(u32, u32)]),
+    /// They are refused with so many of them, for this, with the code of that number.
+    Refused(usize, Fault, u32),
+    /// The same of so many bytes that only all of them are tried.
+    RefusedAsAll(usize, Fault, u32),
+    /// Where they end.
+    Ends(Cut),
+    /// They begin with a whole response to that method.
+    Whole(Method),
+}
+
+/// A row's name, its bytes, and what is seen of them.
+pub(crate) type Row = (&'static str, Bytes, Seen);
+
+/// The front, and the unit so often.
+fn repeated(alloc: Global, front: &[u8], unit: &[u8], count: usize) -> Result<Vec<u8>, AllocError> {
+    let mut bytes = Vec::from_slice(alloc, front)?;
+    for _ in 0..count {
+        bytes.extend_from_slice(unit)?;
+    }
+    Ok(bytes)
+}
+
+/// The front, the unit so often, and the end.
+fn often(
+    alloc: Global,
+    front: &[u8],
+    unit: &[u8],
+    count: usize,
+    end: &[u8],
+) -> Result<Vec<u8>, AllocError> {
+    let mut bytes = repeated(alloc, front, unit, count)?;
+    bytes.extend_from_slice(end)?;
+    Ok(bytes)
+}
+
+/// The front, and then as many bytes that there are `len` in all.
+fn filled(alloc: Global, front: &[u8], len: usize) -> Result<Vec<u8>, AllocError> {
+    let block = [b'x'; 65536];
+    let mut bytes = Vec::with_capacity(alloc, len)?;
+    bytes.extend_from_slice(front)?;
+    for _ in 0..1025 {
+        let left = len.saturating_sub(bytes.len());
+        bytes.extend_from_slice(&block[..left.min(65536)])?;
+    }
+    Ok(bytes)
+}
+
+/// The front, and so many chunks of 65,536 bytes.
+fn chunks(alloc: Global, front: &[u8], count: usize) -> Result<Vec<u8>, AllocError> {
+    let chunk = often(alloc, b"10000\r\n", b"0123456789abcdef", 4096, b"\r\n")?;
+    repeated(alloc, front, &chunk, count)
+}
+
+/// A status line, so many short field lines, and one that is as long as the head of that length needs.
+fn with_long_field(alloc: Global, count: usize, len: usize) -> Result<Vec<u8>, AllocError> {
+    let mut bytes = repeated(alloc, b"HTTP/1.1 200 OK\r\n", b"A: b\r\n", count)?;
+    bytes.extend_from_slice(b"B: ")?;
+    for _ in 0..len.saturating_sub(bytes.len().saturating_add(4)) {
+        bytes.push(b'c')?;
+    }
+    bytes.extend_from_slice(b"\r\n\r\n")?;
+    Ok(bytes)
+}
+
+/// All bytes of a row.
+pub(crate) fn bytes_of(alloc: Global, bytes: &Bytes) -> Result<Vec<u8>, AllocError> {
+    match *bytes {
+        Bytes::Of(bytes) => Vec::from_slice(alloc, bytes),
+        Bytes::Often(front, unit, count, end) => often(alloc, front, unit, count, end),
+        Bytes::Filled(front, len) => filled(alloc, front, len),
+        Bytes::Chunks(front, count) => chunks(alloc, front, count),
+        Bytes::LongField(count, len) => with_long_field(alloc, count, len),
+    }
+}
+
+/// Whether a row has as many bytes as it says.
+fn is_as_long(told: &Bytes, len: usize) -> bool {
+    match *told {
+        Bytes::Filled(_, all) | Bytes::LongField(_, all) => len == all,
+        _ => true,
+    }
+}
+
+/// Whether this is seen of these bytes.
+fn is_seen(alloc: Global, seen: &Seen, bytes: &[u8]) -> bool {
+    match *seen {
+        Seen::Head(len, status, minor) => is_head(bytes, len, status, minor),
+        Seen::Wants(len) => wants_more_of(bytes, len),
+        Seen::Refuses(len, code) => refuses_front(bytes, len, code),
+        Seen::Framed(method, framing, keep) => is_framed(method, bytes, framing, keep),
+        Seen::Keeps(keep) => is_kept(bytes, keep),
+        Seen::KnownInTime => is_known_anywhere(alloc, bytes),
+        Seen::Location(place, value) => is_located(alloc, bytes, place, value),
+        Seen::LocationBehind(place, value) => is_located_behind(alloc, bytes, place, value),
+        Seen::ManyChunks(len) => has_all_chunks(alloc, bytes, len),
+        Seen::Completes(lens, status, len) => completes(alloc, bytes, lens, status, len),
+        Seen::RefusedAtLast(code) => is_refused_at_last(alloc, bytes, code),
+        Seen::Told(told) => is_told_anyhow(alloc, told, bytes),
+        Seen::Scan(limit, scan) => is_scanned(bytes, limit, scan),
+        Seen::Waits => waits_for_each(bytes),
+        Seen::BadAtLast => is_bad_at_last(bytes),
+        Seen::TooLargeFrom(digit) => is_too_large_from(bytes, digit),
+        Seen::Parts(at, parts) => has_parts(alloc, bytes, at, parts),
+        Seen::Refused(at, fault, number) => is_refused(alloc, bytes, at, fault, number),
+        Seen::RefusedAsAll(at, fault, number) => {
+            fault.code().number() == number && is_fault(alloc, bytes, at, fault)
+        }
+        Seen::Ends(cut) => is_cut_so(alloc, bytes, cut),
+        Seen::Whole(method) => is_whole(alloc, method, bytes),
+    }
+}
+
+/// The name of the first of these rows of which something else is seen.
+pub(crate) fn first_wrong(alloc: Global, rows: &[Row]) -> Result<Option<&'static str>, AllocError> {
+    for row in rows {
+        let bytes = bytes_of(alloc, &row.1)?;
+        if !is_as_long(&row.1, bytes.len()) || !is_seen(alloc, &row.2, &bytes) {
+            return Ok(Some(row.0));
+        }
+    }
+    Ok(None)
+}

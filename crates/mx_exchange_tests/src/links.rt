@@ -1,0 +1,188 @@
+//! Links that follow a script, and links over a stream that is interrupted: a row is a link, the calls of it, and what each answers.
+
+use crate::interrupted::interrupted;
+use mx_link::{Connect, Link, Read, ScriptLink, ScriptRead, Write};
+use std::alloc::{AllocGlobal, Global};
+use std::test::Fail;
+
+/// A call of a link, and what it is to answer.
+#[derive(Clone, Copy)]
+pub(crate) enum Step<'a> {
+    /// A read into a buffer of three dashes, and what stands at its front then.
+    Read(Read, &'a [u8]),
+    /// A write of these bytes, one at least.
+    Write(&'a [u8], Write),
+    /// Whether the connection stands.
+    Connect(Connect),
+    Token(u64),
+    /// How many reads and writes have failed.
+    Failures(u64),
+}
+
+/// What a link is made of.
+#[derive(Clone, Copy)]
+enum Made {
+    /// Its reads and its writes answer so, and then they end, or take all.
+    Script(&'static [ScriptRead<'static>], &'static [Write]),
+    /// Its stream is interrupted so often, and then gives `x`s and takes bytes, one at a time.
+    Interrupted(u32),
+}
+
+struct Row {
+    name: &'static str,
+    link: Made,
+    steps: &'static [Step<'static>],
+}
+
+static SCRIPTED: [Row; 3] = [
+    Row {
+        name: "what_a_buffer_cannot_hold_comes_with_the_next_read",
+        link: Made::Script(
+            &[
+                ScriptRead::Bytes(b"hello"),
+                ScriptRead::Bytes(b""),
+                ScriptRead::WouldBlock,
+            ],
+            &[],
+        ),
+        steps: &[
+            Step::Read(Read::Bytes(3), b"hel"),
+            Step::Read(Read::Bytes(2), b"lo-"),
+            Step::Read(Read::WouldBlock, b"---"),
+            Step::Read(Read::End, b"---"),
+        ],
+    },
+    Row {
+        name: "a_fault_is_counted",
+        link: Made::Script(&[ScriptRead::End, ScriptRead::Fault], &[]),
+        steps: &[
+            Step::Token(0),
+            Step::Connect(Connect::Done),
+            Step::Read(Read::End, b"---"),
+            Step::Failures(0),
+            Step::Read(Read::Fault, b"---"),
+            Step::Failures(1),
+        ],
+    },
+    Row {
+        name: "writes_take_what_is_planned",
+        link: Made::Script(
+            &[],
+            &[
+                Write::Bytes(0),
+                Write::Bytes(2),
+                Write::WouldBlock,
+                Write::Bytes(9),
+                Write::Fault,
+            ],
+        ),
+        steps: &[
+            Step::Write(b"hello", Write::Bytes(2)),
+            Step::Write(b"llo", Write::WouldBlock),
+            Step::Write(b"llo", Write::Bytes(3)),
+            Step::Write(b"!", Write::Fault),
+            Step::Write(b"all of it", Write::Bytes(9)),
+        ],
+    },
+];
+
+/// What is interrupted (EINTR) is asked again at once, 64 times at most: the answer is that of the call that went through.
+static INTERRUPTED: [Row; 6] = [
+    Row {
+        name: "an_interrupted_read_is_made_again",
+        link: Made::Interrupted(1),
+        steps: &[Step::Read(Read::Bytes(1), b"x--")],
+    },
+    Row {
+        name: "an_interrupted_write_is_made_again",
+        link: Made::Interrupted(1),
+        steps: &[Step::Write(b"bytes", Write::Bytes(1))],
+    },
+    Row {
+        name: "a_read_is_made_again_64_times",
+        link: Made::Interrupted(64),
+        steps: &[Step::Read(Read::Bytes(1), b"x--")],
+    },
+    Row {
+        name: "a_write_is_made_again_64_times",
+        link: Made::Interrupted(64),
+        steps: &[Step::Write(b"bytes", Write::Bytes(1))],
+    },
+    Row {
+        name: "a_read_that_is_interrupted_65_times_has_failed",
+        link: Made::Interrupted(65),
+        steps: &[Step::Read(Read::Fault, b"")],
+    },
+    Row {
+        name: "a_write_that_is_interrupted_65_times_has_failed",
+        link: Made::Interrupted(65),
+        steps: &[Step::Write(b"bytes", Write::Fault)],
+    },
+];
+
+/// What a read into a buffer of three dashes answers, and the buffer.
+pub(crate) fn read_three<L: Link>(link: &mut L) -> (Read, [u8; 3]) {
+    let mut buffer = [b'-'; 3];
+    let read = link.try_read(&mut buffer);
+    (read, buffer)
+}
+
+/// What a write answers; of nothing, that it took nothing.
+pub(crate) fn write<L: Link>(link: &mut L, bytes: &[u8]) -> Write {
+    if bytes.is_empty() {
+        return Write::Bytes(0);
+    }
+    link.try_write(bytes)
+}
+
+/// Makes the call: whether it answers so.
+fn is_so<L: Link>(link: &mut L, step: Step<'_>) -> bool {
+    match step {
+        Step::Read(answer, front) => {
+            let (read, buffer) = read_three(link);
+            read == answer && buffer.starts_with(front)
+        }
+        Step::Write(bytes, answer) => write(link, bytes) == answer,
+        Step::Connect(answer) => link.try_connect() == answer,
+        Step::Token(token) => link.token() == token,
+        Step::Failures(count) => link.failures() == count,
+    }
+}
+
+/// The place of the first call that answers otherwise, counted from 0.
+pub(crate) fn first_wrong<L: Link>(link: &mut L, steps: &[Step<'_>]) -> Option<usize> {
+    for place in 0..steps.len() {
+        if !is_so(link, steps[place]) {
+            return Some(place);
+        }
+    }
+    None
+}
+
+/// The same, of a new link.
+fn first_wrong_of(alloc: Global, row: &Row) -> Result<Option<usize>, Fail> {
+    Ok(match row.link {
+        Made::Script(reads, writes) => {
+            let mut link = ScriptLink::new(alloc, reads, writes)?;
+            first_wrong(&mut link, row.steps)
+        }
+        Made::Interrupted(count) => first_wrong(&mut interrupted(count), row.steps),
+    })
+}
+
+/// Fails with the first row that isn't so, and names it.
+fn are_so(alloc: Global, rows: &[Row]) -> Result<(), Fail> {
+    for row in rows {
+        if let Some(place) = first_wrong_of(alloc, row)? {
+            let name = row.name;
+            return Err(format!(in alloc; "{name}: step {place} answers something else")?.into());
+        }
+    }
+    Ok(())
+}
+
+#[test]
+fn links_without_a_socket(rt: HostRuntime) -> Result<(), Fail> {
+    are_so(rt.alloc(), &SCRIPTED)?;
+    are_so(rt.alloc(), &INTERRUPTED)
+}

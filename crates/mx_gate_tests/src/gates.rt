@@ -1,0 +1,216 @@
+//! A new gate over sockets, and a new link of it: one function owns each, lends it to what a test does there, and drops it. So a test's own
+//! functions own neither.
+
+use crate::moments::{tells_beside, tells_moments};
+use crate::outside::Outside;
+use crate::peers::{Peer, Told, meets};
+use crate::turns::{Turns, takes};
+use mx_gate::{Gate, SocketGate};
+use mx_link::{Connect, Link, Read, Write};
+use mx_request::Endpoint;
+use mx_types::Code;
+use std::alloc::{AllocError, AllocGlobal, Global};
+use std::io::{Read as _, Write as _};
+use std::net::{Net, TcpListener, TcpStream};
+use std::rt::Clock;
+use std::sync::atomic::AtomicBool;
+use std::sync::{Arc, Wait};
+use std::test::Fail;
+use std::thread;
+use std::thread::{JoinHandle, Threads};
+
+/// How often a test waits for a link, ten milliseconds each time, before it gives up.
+pub(crate) const TURNS: u32 = 1000;
+
+/// What a test does at a link.
+#[derive(Clone, Copy)]
+pub(crate) enum Task<'a> {
+    /// It writes four bytes to a peer that sends them back, reads them and sees the end. The link is the first of its gate.
+    Send,
+    /// It sees that the connection fails.
+    Fail,
+    /// It sees that the link has this token.
+    Token(u64),
+    /// It meets a peer that waits until it is told to go on, and offers these bytes in each write.
+    Meet(&'a Told, Peer, &'a [u8]),
+}
+
+/// What a test does at a gate.
+#[derive(Clone, Copy)]
+pub(crate) enum Work<'a> {
+    /// This, at a link to the endpoint.
+    Link(&'a Endpoint, Task<'a>),
+    /// It opens three links to the endpoint, one after another, and sees their tokens.
+    Tokens(&'a Endpoint),
+    /// It takes turns.
+    Turns(Turns),
+    /// It moves the clock.
+    Moments(&'a Outside<'a>),
+    /// The same, with a second gate that has the start of the first.
+    Beside(&'a Outside<'a>),
+}
+
+/// What is seen: nothing where something isn't as it is to be, else how many bytes its peer has to have read; or the code with which no link
+/// is opened.
+pub(crate) type Seen = Result<Option<u64>, Code>;
+
+/// All is as it is to be.
+pub(crate) const RIGHT: Seen = Ok(Some(0));
+
+/// The first answer that isn't that the connection is still being made.
+pub(crate) fn connect<G: Gate>(gate: &mut G, link: &mut G::Link) -> Connect {
+    for _ in 0..TURNS {
+        match link.try_connect() {
+            Connect::WouldBlock => {
+                gate.turn(10);
+            }
+            answer => return answer,
+        }
+    }
+    Connect::WouldBlock
+}
+
+/// The first read that isn't `WouldBlock`.
+pub(crate) fn read<G: Gate>(gate: &mut G, link: &mut G::Link) -> (Read, [u8; 8]) {
+    let mut buffer = [b'-'; 8];
+    for _ in 0..TURNS {
+        match link.try_read(&mut buffer) {
+            Read::WouldBlock => {
+                gate.turn(10);
+            }
+            answer => return (answer, buffer),
+        }
+    }
+    (Read::WouldBlock, buffer)
+}
+
+fn sends_and_reads<G: Gate>(gate: &mut G, link: &mut G::Link) -> bool {
+    let connected = connect(gate, link);
+    let written = link.try_write(b"ping");
+    let came = read(gate, link);
+    let (last, _) = read(gate, link);
+    (connected, written, last) == (Connect::Done, Write::Bytes(4), Read::End)
+        && came == (Read::Bytes(4), *b"ping----")
+        && (link.token(), link.failures()) == (1, 0)
+}
+
+fn do_task<R: Clock + Wait, G: Gate>(
+    rt: &R,
+    gate: &mut G,
+    link: &mut G::Link,
+    task: Task<'_>,
+) -> Option<u64> {
+    match task {
+        Task::Send => sends_and_reads(gate, link).then_some(0),
+        Task::Fail => (connect(gate, link) == Connect::Fault).then_some(0),
+        Task::Token(token) => (link.token() == token).then_some(0),
+        Task::Meet(told, peer, bytes) => meets(rt, gate, link, told, peer, bytes),
+    }
+}
+
+/// What is seen at a new link to the endpoint.
+pub(crate) fn at_link<R: Clock + Wait, G: Gate>(
+    rt: &R,
+    gate: &mut G,
+    there: &Endpoint,
+    task: Task<'_>,
+) -> Seen {
+    let mut link = gate.open(there)?;
+    let seen = do_task(rt, gate, &mut link, task);
+    drop(link);
+    Ok(seen)
+}
+
+/// Each link is let go before the next.
+fn has_three_tokens<R: Clock + Wait, G: Gate>(rt: &R, gate: &mut G, there: &Endpoint) -> bool {
+    for token in 1..=3 {
+        if at_link(rt, gate, there, Task::Token(token)) != RIGHT {
+            return false;
+        }
+    }
+    true
+}
+
+fn do_work<
+    R: Clock + Wait + Threads + AllocGlobal + Copy + Send + Drop + 'static,
+    N: Net + Clock + AllocGlobal,
+>(rt: &R, gate: &mut SocketGate<'_, N>, stop: &AtomicBool, work: Work<'_>) -> Result<Seen, Fail> {
+    let is_right = match work {
+        Work::Link(there, task) => return Ok(at_link(rt, gate, there, task)),
+        Work::Tokens(there) => has_three_tokens(rt, gate, there),
+        Work::Turns(turns) => takes(rt, gate, stop, turns)?,
+        Work::Moments(outside) => tells_moments(outside, gate),
+        Work::Beside(outside) => {
+            let start = gate.start();
+            tells_beside(outside, start, gate)?
+        }
+    };
+    Ok(Ok(is_right.then_some(0)))
+}
+
+/// A flag that isn't set.
+pub(crate) fn flag(alloc: Global) -> Result<Arc<AtomicBool>, AllocError> {
+    Ok(Arc::new(alloc, AtomicBool::new(false))?)
+}
+
+/// What a gate gives, or the number of the code with which it is refused.
+pub(crate) fn given<T>(given: Result<T, Code>) -> Result<T, Fail> {
+    match given {
+        Ok(value) => Ok(value),
+        Err(code) => Err(Fail::from(code.number())),
+    }
+}
+
+/// What is seen at a new gate over this network.
+pub(crate) fn at_gate<
+    R: Clock + Wait + Threads + AllocGlobal + Copy + Send + Drop + 'static,
+    N: Net + Clock + AllocGlobal,
+>(rt: &R, net: &N, work: Work<'_>) -> Result<Seen, Fail> {
+    let stop = flag(rt.alloc())?;
+    let mut gate = given(SocketGate::new(net, Arc::try_clone(&stop)?))?;
+    let seen = do_work(rt, &mut gate, &stop, work);
+    drop(gate);
+    drop(stop);
+    seen
+}
+
+/// A listener at a port of this address that was free, and that port.
+pub(crate) fn listening<R: Net<Listener = TcpListener, Stream = TcpStream>>(
+    rt: &R,
+    address: &str,
+) -> Result<(TcpListener, u16), Fail> {
+    let listener = TcpListener::bind(rt, address)?;
+    let port = listener.local_addr()?.port();
+    Ok((listener, port))
+}
+
+/// A thread that serves one connection, and its port: it reads four bytes and sends them back.
+pub(crate) fn one_server<R: Net<Listener = TcpListener, Stream = TcpStream> + Threads>(
+    rt: &R,
+    address: &str,
+) -> Result<(u16, JoinHandle<bool>), Fail> {
+    let (listener, port) = listening(rt, address)?;
+    let server = thread::spawn(rt, move || {
+        let Ok((mut stream, _)) = listener.accept() else {
+            return false;
+        };
+        let mut four = [0; 4];
+        stream.read_exact(&mut four).is_ok() && stream.write_all(&four).is_ok()
+    })?;
+    Ok((port, server))
+}
+
+/// What was done, and what the thread beside it says, which is waited for only where it was done.
+pub(crate) fn joined<R: Threads, T: Drop, U: Drop>(
+    rt: &R,
+    done: Result<T, Fail>,
+    there: JoinHandle<U>,
+) -> Result<(T, U), Fail> {
+    match done {
+        Ok(done) => Ok((done, there.join(rt))),
+        Err(fail) => {
+            drop(there);
+            Err(fail)
+        }
+    }
+}

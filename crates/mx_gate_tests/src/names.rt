@@ -1,0 +1,148 @@
+//! What is known of hosts: a row is the calls of a table of names, and what each answers.
+
+use crate::fakes::{Fake, numbers};
+use mx_names::{Finding, Names, spelled};
+use std::alloc::Global;
+use std::test::Fail;
+
+/// A call of a table, and what it is to answer.
+enum Step {
+    /// Of a host, since a moment, now: the answer as numbers.
+    Ask(&'static str, u64, u64, &'static [u64]),
+    /// Of a host, since a moment, now: whether a lookup begins.
+    Begin(&'static str, u64, u64, bool),
+    /// Of the hosts `host0`, `host1` and so on, so many, at once: how many lookups begin.
+    BeginMany(u64, u64),
+    /// What the lookup of a host gives is learnt now: whether one was under way.
+    Learn(&'static str, u64, bool),
+    /// The lookup of a host wasn't had.
+    Forget(&'static str),
+}
+
+fn begin(
+    alloc: Global,
+    names: &mut Names<Fake>,
+    host: &str,
+    since: u64,
+    now: u64,
+) -> Result<bool, Fail> {
+    match spelled(host) {
+        Some(_) => Ok(false),
+        None => Ok(names.begin(alloc, host, since, now)?),
+    }
+}
+
+/// Of how many of so many hosts a lookup begins.
+fn begin_many(alloc: Global, names: &mut Names<Fake>, count: u64) -> Result<u64, Fail> {
+    let mut begun = 0u64;
+    for number in 0..count {
+        let host = format!(in alloc; "host{number}")?;
+        if begin(alloc, names, host.as_str(), 0, 0)? {
+            begun = begun.saturating_add(1);
+        }
+    }
+    Ok(begun)
+}
+
+fn is_as_said(alloc: Global, names: &mut Names<Fake>, step: &Step) -> Result<bool, Fail> {
+    match step {
+        Step::Ask(host, since, now, answer) => {
+            let told = names.ask(alloc, host, *since, *now)?;
+            Ok(numbers(alloc, &told)?.as_slice() == *answer)
+        }
+        Step::Begin(host, since, now, begins) => {
+            Ok(begin(alloc, names, host, *since, *now)? == *begins)
+        }
+        Step::BeginMany(count, begun) => Ok(begin_many(alloc, names, *count)? == *begun),
+        Step::Learn(host, now, learns) => {
+            let finding = Finding::by(&Fake { alloc }, alloc, String::from_str(alloc, host)?);
+            Ok(names.learn(finding, *now) == *learns)
+        }
+        Step::Forget(host) => {
+            names.forget(host);
+            Ok(true)
+        }
+    }
+}
+
+/// The first step that isn't as it says.
+fn first_wrong(alloc: Global, steps: &[Step]) -> Result<Option<usize>, Fail> {
+    let mut names = Names::new(alloc);
+    for (place, step) in steps.iter().enumerate() {
+        if !is_as_said(alloc, &mut names, step)? {
+            return Ok(Some(place));
+        }
+    }
+    Ok(None)
+}
+
+struct Row {
+    name: &'static str,
+    steps: &'static [Step],
+}
+
+static ROWS: [Row; 4] = [
+    Row {
+        name: "addresses_are_kept_for_a_minute",
+        steps: &[
+            Step::Ask("both", 0, 0, &[]),
+            Step::Begin("both", 0, 0, true),
+            Step::Begin("both", 0, 1, false),
+            Step::Begin("four", 0, 1, true),
+            Step::Ask("both", 0, 1, &[]),
+            Step::Learn("both", 100, true),
+            Step::Ask("both", 0, 100, &[2, 4, 101, 103]),
+            Step::Ask("both", 60_099, 60_099, &[2, 4, 101, 103]),
+            Step::Begin("both", 60_099, 60_099, false),
+            Step::Ask("both", 60_100, 60_100, &[]),
+            Step::Ask("four", 0, 60_100, &[]),
+            Step::Begin("both", 60_100, 60_100, true),
+        ],
+    },
+    Row {
+        name: "a_failure_is_told_to_those_who_waited",
+        steps: &[
+            Step::Begin("none", 0, 0, true),
+            Step::Learn("none", 50, true),
+            Step::Ask("none", 20, 60, &[0, 6]),
+            Step::Ask("none", 50, 60, &[0, 6]),
+            Step::Ask("none", 51, 60, &[]),
+            Step::Begin("none", 50, 60, false),
+            Step::Begin("none", 51, 60, true),
+            Step::Begin("huge", 0, 0, true),
+            Step::Learn("huge", 50, true),
+            Step::Ask("huge", 0, 60, &[0, 27]),
+        ],
+    },
+    Row {
+        name: "only_a_lookup_that_is_under_way_is_learnt",
+        steps: &[
+            Step::Learn("four", 0, false),
+            Step::Ask("four", 0, 0, &[]),
+            Step::Begin("four", 0, 0, true),
+            Step::Learn("six", 1, false),
+            Step::Forget("six"),
+            Step::Begin("four", 0, 1, false),
+            Step::Forget("four"),
+            Step::Begin("four", 0, 1, true),
+            Step::Begin("192.0.2.1", 0, 0, false),
+        ],
+    },
+    Row {
+        name: "at_most_64_lookups_are_under_way",
+        steps: &[
+            Step::BeginMany(66, 64),
+            Step::Forget("host0"),
+            Step::Begin("host65", 0, 0, true),
+        ],
+    },
+];
+
+#[test]
+fn hosts_that_are_known(rt: HostRuntime) -> Result<(), Fail> {
+    for row in &ROWS {
+        let wrong = first_wrong(rt.alloc(), row.steps)?;
+        assert!(rt; wrong.is_none(), "{}: step {wrong:?}", row.name);
+    }
+    Ok(())
+}

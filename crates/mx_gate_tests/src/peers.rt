@@ -1,0 +1,321 @@
+//! Links whose peer waits until the test tells it to go on, so that the test knows when bytes, room, the end or an error come: when such a
+//! link is asked, and when not.
+
+use crate::gates::{TURNS, Task, Work, at_gate, connect, joined, listening, read};
+use crate::outside::endpoint;
+use mx_gate::Gate;
+use mx_link::{Connect, Link, Read, Write};
+use std::alloc::AllocGlobal;
+use std::io::{Read as _, Write as _};
+use std::net::{Net, TcpListener, TcpStream};
+use std::rt::Clock;
+use std::sync::atomic::{AtomicBool, Ordering};
+use std::sync::{Arc, Wait};
+use std::test::Fail;
+use std::thread;
+use std::thread::{JoinHandle, Threads};
+use std::time::Duration;
+
+/// How many bytes a write offers. That is less than a connection has room for in all, and no divisor of it, so that a write is short.
+const OFFERED: usize = 1_000_003;
+
+/// How often a test and its peer look what they are told, a millisecond apart, and how often a peer reads at most. A peer that gave up while
+/// the test still fills the connection would make room for it, and unproved builds fill it slowly.
+const LOOKS: u32 = 200_000;
+
+/// What a test and its peer tell each other: that the peer is to go on, and that it has sent.
+#[derive(Drop)]
+pub(crate) struct Told {
+    go: AtomicBool,
+    sent: AtomicBool,
+}
+
+/// What a peer does.
+#[derive(Clone, Copy)]
+pub(crate) enum Peer {
+    /// It sends `ab` once it is told to, and closes later.
+    SendsLate,
+    /// It sends `ab` at once, `cd` once it is told to, and closes later.
+    SendsTwice,
+    /// It sends `ab` once it is told to, and closes.
+    SendsAndCloses,
+    /// It reads to the end, once it is told to.
+    Reads,
+    /// It closes with bytes unread, once it is told to: the connection is then reset.
+    Resets,
+}
+
+/// Waits until the other has said so.
+fn wait_for<R: Clock + Wait>(rt: &R, told: &AtomicBool) {
+    for _ in 0..LOOKS {
+        if told.load(Ordering::SeqCst) {
+            return;
+        }
+        thread::sleep(rt, Duration::from_millis(1));
+    }
+}
+
+/// Sends to one connection.
+fn send<R: Clock + Wait>(rt: &R, mut stream: TcpStream, told: &Told, peer: Peer) -> bool {
+    let is_begun = match peer {
+        Peer::SendsTwice => stream.write_all(b"ab").is_ok(),
+        _ => true,
+    };
+    wait_for(rt, &told.go);
+    let rest: &[u8] = match peer {
+        Peer::SendsTwice => b"cd",
+        _ => b"ab",
+    };
+    let is_sent = stream.write_all(rest).is_ok();
+    if matches!(peer, Peer::SendsAndCloses) {
+        drop(stream);
+        told.sent.store(true, Ordering::SeqCst);
+    } else {
+        told.sent.store(true, Ordering::SeqCst);
+        thread::sleep(rt, Duration::from_millis(100));
+        drop(stream);
+    }
+    is_begun && is_sent
+}
+
+/// Reads to the end: how many bytes came.
+fn read_all(stream: &mut TcpStream) -> u64 {
+    let mut all: u64 = 0;
+    let mut buffer = [0; 4096];
+    for _ in 0..LOOKS {
+        match stream.read(&mut buffer) {
+            Ok(0) => return all,
+            Ok(n) => all = all.saturating_add(n as u64),
+            Err(_) => return all,
+        }
+    }
+    all
+}
+
+/// Accepts one connection, and is its peer: how many bytes it read, or nothing where it couldn't do what it is to.
+fn be_peer<R: Clock + Wait>(
+    rt: &R,
+    listener: &TcpListener,
+    told: &Told,
+    peer: Peer,
+) -> Option<u64> {
+    let Ok((mut stream, _)) = listener.accept() else {
+        return None;
+    };
+    match peer {
+        Peer::Reads => {
+            wait_for(rt, &told.go);
+            Some(read_all(&mut stream))
+        }
+        Peer::Resets => {
+            wait_for(rt, &told.go);
+            Some(0)
+        }
+        _ => send(rt, stream, told, peer).then_some(0),
+    }
+}
+
+/// Reads the first two bytes, where some come at once. Finds then nothing to read, nor more before a turn though bytes came, and then
+/// those and the end.
+fn reads_after_a_turn<R: Clock + Wait, G: Gate>(
+    rt: &R,
+    gate: &mut G,
+    link: &mut G::Link,
+    told: &Told,
+    comes_at_once: bool,
+) -> bool {
+    let connected = connect(gate, link);
+    let is_begun = !comes_at_once || read(gate, link) == (Read::Bytes(2), *b"ab------");
+    gate.turn(0);
+    let mut buffer = [0; 8];
+    let early = link.try_read(&mut buffer);
+    told.go.store(true, Ordering::SeqCst);
+    wait_for(rt, &told.sent);
+    let before = link.try_read(&mut buffer);
+    let after = read(gate, link);
+    let (last, _) = read(gate, link);
+    let bytes = if comes_at_once {
+        *b"cd------"
+    } else {
+        *b"ab------"
+    };
+    is_begun
+        && connected == Connect::Done
+        && (early, before) == (Read::WouldBlock, Read::WouldBlock)
+        && after == (Read::Bytes(2), bytes)
+        && last == Read::End
+}
+
+/// Takes one turn when bytes and the end have come, and reads both.
+fn reads_to_the_end<R: Clock + Wait, G: Gate>(
+    rt: &R,
+    gate: &mut G,
+    link: &mut G::Link,
+    told: &Told,
+) -> bool {
+    let connected = connect(gate, link);
+    told.go.store(true, Ordering::SeqCst);
+    wait_for(rt, &told.sent);
+    thread::sleep(rt, Duration::from_millis(20));
+    gate.turn(1000);
+    let mut buffer = [b'-'; 8];
+    let first = (link.try_read(&mut buffer), buffer);
+    let last = link.try_read(&mut buffer);
+    connected == Connect::Done && first == (Read::Bytes(2), *b"ab------") && last == Read::End
+}
+
+/// What a write answers; of nothing, that it failed.
+pub(crate) fn write<L: Link>(link: &mut L, bytes: &[u8]) -> Write {
+    if bytes.is_empty() {
+        return Write::Fault;
+    }
+    link.try_write(bytes)
+}
+
+/// Writes until a write takes nothing: how many bytes were taken, and that write's answer.
+fn fill<L: Link>(link: &mut L, bytes: &[u8]) -> (u64, Write) {
+    let mut taken: u64 = 0;
+    for _ in 0..TURNS {
+        match write(link, bytes) {
+            Write::Bytes(n) => taken = taken.saturating_add(n as u64),
+            answer => return (taken, answer),
+        }
+    }
+    (taken, Write::Bytes(0))
+}
+
+/// The first write that isn't `WouldBlock`.
+fn write_on<G: Gate>(gate: &mut G, link: &mut G::Link, bytes: &[u8]) -> Write {
+    for _ in 0..TURNS {
+        match write(link, bytes) {
+            Write::WouldBlock => {
+                gate.turn(10);
+            }
+            answer => return answer,
+        }
+    }
+    Write::WouldBlock
+}
+
+/// Writes until there is no room, tells the peer to go on, and writes on: how many bytes were taken where the link is told of room, and none
+/// where it is told of an error.
+fn writes_all<G: Gate>(
+    gate: &mut G,
+    link: &mut G::Link,
+    told: &Told,
+    peer: Peer,
+    bytes: &[u8],
+) -> Option<u64> {
+    let connected = connect(gate, link);
+    let (taken, full) = fill(link, bytes);
+    told.go.store(true, Ordering::SeqCst);
+    let last = write_on(gate, link, bytes);
+    if (connected, full) != (Connect::Done, Write::WouldBlock) {
+        return None;
+    }
+    match (peer, last) {
+        (Peer::Reads, Write::Bytes(n)) => Some(taken.saturating_add(n as u64)),
+        (Peer::Resets, Write::Fault) => Some(0),
+        _ => None,
+    }
+}
+
+/// What is seen at a link to such a peer, whose writes offer these bytes.
+pub(crate) fn meets<R: Clock + Wait, G: Gate>(
+    rt: &R,
+    gate: &mut G,
+    link: &mut G::Link,
+    told: &Told,
+    peer: Peer,
+    bytes: &[u8],
+) -> Option<u64> {
+    match peer {
+        Peer::SendsLate => reads_after_a_turn(rt, gate, link, told, false).then_some(0),
+        Peer::SendsTwice => reads_after_a_turn(rt, gate, link, told, true).then_some(0),
+        Peer::SendsAndCloses => reads_to_the_end(rt, gate, link, told).then_some(0),
+        _ => writes_all(gate, link, told, peer, bytes),
+    }
+}
+
+/// A thread that is a peer, and its port.
+fn peer_there<
+    R: Net<Listener = TcpListener, Stream = TcpStream>
+        + Clock
+        + Wait
+        + Threads
+        + Copy
+        + Send
+        + Drop
+        + 'static,
+>(rt: &R, told: Arc<Told>, peer: Peer) -> Result<(u16, JoinHandle<Option<u64>>), Fail> {
+    let (listener, port) = listening(rt, "127.0.0.1:0")?;
+    let rt_there = *rt;
+    let there = thread::spawn(rt, move || be_peer(&rt_there, &listener, &told, peer))?;
+    Ok((port, there))
+}
+
+/// What is seen at a link to the peer at this port.
+fn meet<R: Net + Clock + Wait + Threads + AllocGlobal + Copy + Send + Drop + 'static>(
+    rt: &R,
+    port: u16,
+    told: &Told,
+    peer: Peer,
+) -> Result<Option<u64>, Fail> {
+    let bytes = vec![in rt.alloc(); b'x'; OFFERED]?;
+    let there = endpoint(rt.alloc(), "127.0.0.1", port)?;
+    let work = Work::Link(&there, Task::Meet(told, peer, bytes.as_slice()));
+    Ok(at_gate(rt, rt, work)?.ok().flatten())
+}
+
+/// Whether the link sees what it is to, and its peer read all that was taken.
+fn is_met<
+    R: Net<Listener = TcpListener, Stream = TcpStream>
+        + Clock
+        + Wait
+        + Threads
+        + AllocGlobal
+        + Copy
+        + Send
+        + Drop
+        + 'static,
+>(rt: &R, peer: Peer) -> Result<bool, Fail> {
+    let go = AtomicBool::new(false);
+    let sent = AtomicBool::new(false);
+    let told = Arc::new(rt.alloc(), Told { go, sent })?;
+    let (port, there) = peer_there(rt, Arc::try_clone(&told)?, peer)?;
+    let near = meet(rt, port, &told, peer);
+    drop(told);
+    let (near, far) = joined(rt, near, there)?;
+    Ok(near.is_some() && near == far)
+}
+
+static ROWS: [(&'static str, Peer); 5] = [
+    // bytes that came are not read before a turn has told of them
+    (
+        "a_link_that_waits_is_not_asked_before_a_turn",
+        Peer::SendsLate,
+    ),
+    // nor are they after a read that left none
+    (
+        "a_link_that_gave_all_is_not_asked_before_a_turn",
+        Peer::SendsTwice,
+    ),
+    // the end that was told with the last bytes is told no second time, so the link is asked for it
+    (
+        "the_end_in_one_edge_with_bytes_is_seen",
+        Peer::SendsAndCloses,
+    ),
+    // what its writes said that they took, the short ones too, is what its peer reads
+    ("a_writer_is_told_of_room", Peer::Reads),
+    ("a_writer_is_told_of_an_error", Peer::Resets),
+];
+
+#[test]
+fn peers_that_wait(rt: HostRuntime) -> Result<(), Fail> {
+    for row in &ROWS {
+        if !is_met(&rt, row.1)? {
+            return Err(row.0.into());
+        }
+    }
+    Ok(())
+}

@@ -1,0 +1,206 @@
+//! Links that a gate asks once: a row is what the link under one answers where it is asked, the calls of it, and what each answers.
+
+use crate::peers::write;
+use mx_gate::{ReadyLink, Signals};
+use mx_link::{Link, Read, ScriptLink, ScriptRead, Write};
+use std::alloc::Global;
+use std::sync::Arc;
+use std::test::Fail;
+
+/// A call of a link with what it is to answer, or what is told of connections.
+#[derive(Clone, Copy)]
+pub(crate) enum Step {
+    /// A read into a buffer of one or two dashes, and what then stands there.
+    Read(Read, &'static [u8]),
+    /// A write of these bytes, one at least.
+    Write(&'static [u8], Write),
+    /// It is told that the connections from one token to before another may be read.
+    TellReads(u64, u64),
+    /// It is told that the other side of the connection of a token sends no more.
+    TellEnd(u64),
+    /// It is told that the connection of a token may be written to.
+    TellWrite(u64),
+    /// How many of its calls failed.
+    Failures(u64),
+}
+
+const NOTHING: Step = Step::Read(Read::WouldBlock, b"--");
+
+const END: Step = Step::Read(Read::End, b"--");
+
+const TELL_READ: Step = Step::TellReads(0, 1);
+
+const NO_ROOM: Step = Step::Write(b"abc", Write::WouldBlock);
+
+pub(crate) struct Row {
+    name: &'static str,
+    reads: &'static [ScriptRead<'static>],
+    writes: &'static [Write],
+    steps: &'static [Step],
+}
+
+pub(crate) static ROWS: [Row; 5] = [
+    Row {
+        name: "a_link_that_waits_to_read_is_asked_once",
+        reads: &[
+            ScriptRead::WouldBlock,
+            ScriptRead::Bytes(b"ab"),
+            ScriptRead::WouldBlock,
+            ScriptRead::End,
+        ],
+        writes: &[],
+        steps: &[
+            NOTHING,
+            NOTHING,
+            NOTHING,
+            Step::TellWrite(0),
+            NOTHING,
+            TELL_READ,
+            Step::Read(Read::Bytes(2), b"ab"),
+            NOTHING,
+            NOTHING,
+            TELL_READ,
+            END,
+            Step::Failures(0),
+        ],
+    },
+    Row {
+        name: "a_link_that_waits_to_write_is_asked_once",
+        reads: &[],
+        writes: &[Write::WouldBlock, Write::Bytes(2), Write::Fault],
+        steps: &[
+            NO_ROOM,
+            NO_ROOM,
+            NO_ROOM,
+            TELL_READ,
+            NO_ROOM,
+            Step::TellWrite(0),
+            Step::Write(b"abc", Write::Bytes(2)),
+            Step::Write(b"c", Write::Fault),
+            Step::Failures(1),
+        ],
+    },
+    Row {
+        name: "what_is_told_of_another_connection_tells_nothing",
+        reads: &[ScriptRead::WouldBlock, ScriptRead::End],
+        writes: &[],
+        steps: &[
+            NOTHING,
+            Step::TellReads(1, 256),
+            NOTHING,
+            TELL_READ,
+            END,
+            Step::Failures(0),
+        ],
+    },
+    Row {
+        name: "a_link_that_gave_less_than_it_was_asked_for_is_not_asked",
+        reads: &[
+            ScriptRead::Bytes(b"a"),
+            ScriptRead::Bytes(b"bc"),
+            ScriptRead::Bytes(b"d"),
+            ScriptRead::Bytes(b"e"),
+            ScriptRead::End,
+        ],
+        writes: &[],
+        steps: &[
+            Step::Read(Read::Bytes(1), b"a-"),
+            NOTHING,
+            Step::TellWrite(0),
+            NOTHING,
+            TELL_READ,
+            Step::Read(Read::Bytes(2), b"bc"),
+            Step::Read(Read::Bytes(1), b"d-"),
+            NOTHING,
+            Step::Read(Read::Bytes(1), b"e"),
+            END,
+            Step::Failures(0),
+        ],
+    },
+    Row {
+        name: "a_link_whose_end_was_told_is_asked_until_it_gives_it",
+        reads: &[
+            ScriptRead::Bytes(b"a"),
+            ScriptRead::Bytes(b"b"),
+            ScriptRead::End,
+        ],
+        writes: &[],
+        steps: &[
+            Step::TellEnd(1),
+            Step::Read(Read::Bytes(1), b"a-"),
+            NOTHING,
+            Step::TellEnd(0),
+            TELL_READ,
+            Step::Read(Read::Bytes(1), b"b-"),
+            END,
+            Step::Failures(0),
+        ],
+    },
+];
+
+/// Reads into as many dashes as there are bytes, one or two, and compares.
+fn reads<L: Link>(link: &mut ReadyLink<L>, answer: Read, bytes: &[u8]) -> bool {
+    let mut buffer = [b'-'; 2];
+    let len = if bytes.len() == 1 { 1 } else { 2 };
+    let read = link.try_read(&mut buffer[..len]);
+    read == answer && buffer.starts_with(bytes)
+}
+
+/// Takes the step: whether it answers so.
+fn is_so<L: Link>(link: &mut ReadyLink<L>, signals: &Signals, step: Step) -> bool {
+    match step {
+        Step::Read(answer, bytes) => reads(link, answer, bytes),
+        Step::Write(bytes, answer) => write(link, bytes) == answer,
+        Step::Failures(count) => link.failures() == count,
+        Step::TellReads(from, to) => {
+            for token in from..to {
+                signals.tell_read(token);
+            }
+            true
+        }
+        Step::TellEnd(token) => {
+            signals.tell_end(token);
+            true
+        }
+        Step::TellWrite(token) => {
+            signals.tell_write(token);
+            true
+        }
+    }
+}
+
+/// The place of the first step that answers otherwise, counted from 0.
+fn first_wrong<L: Link>(
+    link: &mut ReadyLink<L>,
+    signals: &Signals,
+    steps: &[Step],
+) -> Option<usize> {
+    for place in 0..steps.len() {
+        if !is_so(link, signals, steps[place]) {
+            return Some(place);
+        }
+    }
+    None
+}
+
+/// The same, of a new link.
+fn first_wrong_of(alloc: Global, row: &Row) -> Result<Option<usize>, Fail> {
+    let signals = Arc::new(alloc, Signals::new(alloc)?)?;
+    let script = ScriptLink::new(alloc, row.reads, row.writes)?;
+    let mut link = ReadyLink::over(script, Arc::try_clone(&signals)?);
+    let wrong = first_wrong(&mut link, &signals, row.steps);
+    drop(link);
+    drop(signals);
+    Ok(wrong)
+}
+
+/// Fails with the first row that isn't so, and names it.
+pub(crate) fn are_so(alloc: Global, rows: &[Row]) -> Result<(), Fail> {
+    for row in rows {
+        if let Some(place) = first_wrong_of(alloc, row)? {
+            let name = row.name;
+            return Err(format!(in alloc; "{name}: step {place} answers something else")?.into());
+        }
+    }
+    Ok(())
+}

@@ -1,0 +1,158 @@
+//! Gates that follow a script: a row is what a gate is planned to answer, the calls of it, and what each answers.
+
+use crate::outside::endpoint;
+use crate::ready;
+use mx_gate::{Gate, ScriptGate, Turn};
+use mx_link::{Link, ScriptLink};
+use mx_request::Endpoint;
+use mx_types::Code;
+use std::alloc::Global;
+use std::test::Fail;
+
+/// A call of a gate, with what it is to answer.
+#[derive(Clone, Copy)]
+enum Step {
+    /// It is planned to open a link.
+    PlanLink,
+    /// It is planned to refuse one, as its host is not known.
+    PlanUnknownHost,
+    /// It is planned to refuse one for want of memory.
+    PlanNoMemory,
+    PlanMoment(u64),
+    /// How many planned openings are left.
+    Left(usize),
+    /// A link is opened whose token is 0.
+    Opens,
+    Refuses(Code),
+    Now(u64),
+    /// A turn that waits so long.
+    Turn(u32, Turn),
+    /// How long the last turn was to wait.
+    Waited(Option<u32>),
+}
+
+struct Row {
+    name: &'static str,
+    /// How many turns it has.
+    turns: u32,
+    steps: &'static [Step],
+}
+
+static ROWS: [Row; 3] = [
+    // behind the script's end it refuses
+    Row {
+        name: "a_script_is_answered_in_order",
+        turns: 2,
+        steps: &[
+            Step::PlanLink,
+            Step::PlanUnknownHost,
+            Step::PlanNoMemory,
+            Step::Left(3),
+            Step::Opens,
+            Step::Refuses(Code::CouldntResolveHost),
+            Step::Refuses(Code::OutOfMemory),
+            Step::Refuses(Code::CouldntConnect),
+            Step::Left(0),
+        ],
+    },
+    // where the script falls, and behind its end, a moment is told again
+    Row {
+        name: "moments_never_fall",
+        turns: 0,
+        steps: &[
+            Step::PlanMoment(5),
+            Step::PlanMoment(3),
+            Step::PlanMoment(9),
+            Step::Now(5),
+            Step::Now(5),
+            Step::Now(9),
+            Step::Now(9),
+        ],
+    },
+    Row {
+        name: "turns_stop_after_the_script",
+        turns: 2,
+        steps: &[
+            Step::Waited(None),
+            Step::Turn(20, Turn::Continue),
+            Step::Turn(7, Turn::Continue),
+            Step::Waited(Some(7)),
+            Step::Turn(0, Turn::Stop),
+            Step::Turn(0, Turn::Stop),
+        ],
+    },
+];
+
+/// The token of a link that is opened, and let go.
+fn opened(gate: &mut ScriptGate<ScriptLink>, there: &Endpoint) -> Result<u64, Code> {
+    Ok(gate.open(there)?.token())
+}
+
+/// Takes the step: whether it answers so.
+fn is_so(
+    alloc: Global,
+    gate: &mut ScriptGate<ScriptLink>,
+    there: &Endpoint,
+    step: Step,
+) -> Result<bool, Fail> {
+    Ok(match step {
+        Step::PlanLink => {
+            let link = ScriptLink::new(alloc, &[], &[])?;
+            gate.plan_opening(Ok(link))?;
+            true
+        }
+        Step::PlanUnknownHost => {
+            gate.plan_opening(Err(Code::CouldntResolveHost))?;
+            true
+        }
+        Step::PlanNoMemory => {
+            gate.plan_opening(Err(Code::OutOfMemory))?;
+            true
+        }
+        Step::PlanMoment(moment) => {
+            gate.plan_moment(moment)?;
+            true
+        }
+        Step::Left(count) => gate.openings_left() == count,
+        Step::Opens => opened(gate, there) == Ok(0),
+        Step::Refuses(code) => opened(gate, there) == Err(code),
+        Step::Now(moment) => gate.now() == moment,
+        Step::Turn(wait_ms, turn) => gate.turn(wait_ms) == turn,
+        Step::Waited(wait_ms) => gate.last_wait() == wait_ms,
+    })
+}
+
+/// The place of the first step that answers otherwise, counted from 0.
+fn first_wrong(
+    alloc: Global,
+    gate: &mut ScriptGate<ScriptLink>,
+    there: &Endpoint,
+    steps: &[Step],
+) -> Result<Option<usize>, Fail> {
+    for place in 0..steps.len() {
+        if !is_so(alloc, gate, there, steps[place])? {
+            return Ok(Some(place));
+        }
+    }
+    Ok(None)
+}
+
+/// The same, of a new gate.
+fn first_wrong_of(alloc: Global, there: &Endpoint, row: &Row) -> Result<Option<usize>, Fail> {
+    let mut gate: ScriptGate<ScriptLink> = ScriptGate::new(alloc, row.turns);
+    let wrong = first_wrong(alloc, &mut gate, there, row.steps);
+    drop(gate);
+    wrong
+}
+
+#[test]
+fn gates_and_links_from_scripts(rt: HostRuntime) -> Result<(), Fail> {
+    ready::are_so(rt.alloc(), &ready::ROWS)?;
+    let there = endpoint(rt.alloc(), "example.com", 80)?;
+    for row in &ROWS {
+        if first_wrong_of(rt.alloc(), &there, row)?.is_some() {
+            return Err(row.name.into());
+        }
+    }
+    Ok(())
+}

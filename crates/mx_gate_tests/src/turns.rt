@@ -1,0 +1,137 @@
+//! Turns of gates over sockets: what ends them, and how long they take.
+
+use crate::gates::{RIGHT, Work, at_gate, joined};
+use mx_gate::{Bell, Gate, SocketGate, Turn};
+use std::alloc::AllocGlobal;
+use std::net::Net;
+use std::rt::Clock;
+use std::sync::Wait;
+use std::sync::atomic::{AtomicBool, Ordering};
+use std::test::Fail;
+use std::thread;
+use std::thread::{JoinHandle, Threads};
+use std::time::{Duration, Instant};
+
+/// A thread that rings after a while.
+fn ringer<R: Clock + Wait + Threads + Copy + Send + Drop + 'static>(
+    rt: &R,
+    bell: Bell,
+) -> Result<JoinHandle<bool>, Fail> {
+    let rt_there = *rt;
+    Ok(thread::spawn(rt, move || {
+        thread::sleep(&rt_there, Duration::from_millis(50));
+        bell.ring().is_ok()
+    })?)
+}
+
+/// A long turn, in which a thread rings, ends in time, but not before it is rung.
+fn turns_until_rung<R: Clock + Wait + Threads + Copy + Send + Drop + 'static, G: Gate>(
+    rt: &R,
+    gate: &mut G,
+    bell: Bell,
+) -> Result<bool, Fail> {
+    let start = Instant::now(rt)?;
+    let ringer = ringer(rt, bell)?;
+    let turn = gate.turn(20_000);
+    let passed = start.elapsed(rt).map_err(Fail::from);
+    let (passed, is_rung) = joined(rt, passed, ringer)?;
+    let in_time = passed >= Duration::from_millis(40) && passed < Duration::from_secs(10);
+    Ok(turn == Turn::Continue && in_time && is_rung)
+}
+
+/// A ring ends the next wait.
+fn is_rung_before<R: Clock, N: Net + Clock + AllocGlobal>(
+    rt: &R,
+    gate: &mut SocketGate<'_, N>,
+) -> Result<bool, Fail> {
+    let bells = (gate.bell()?, gate.bell()?);
+    let start = Instant::now(rt)?;
+    bells.0.ring()?;
+    bells.1.ring()?;
+    gate.turn(20_000);
+    Ok(start.elapsed(rt)? < Duration::from_secs(10))
+}
+
+/// Whether a turn of 20 milliseconds takes less than 35. Where the machine has much else to do one may take longer, but not each of a
+/// hundred.
+fn ends_in_time<R: Clock, G: Gate>(rt: &R, gate: &mut G) -> Result<bool, Fail> {
+    for _ in 0..100 {
+        let start = Instant::now(rt)?;
+        gate.turn(20);
+        if start.elapsed(rt)? < Duration::from_millis(35) {
+            return Ok(true);
+        }
+    }
+    Ok(false)
+}
+
+/// A hundred turns that don't wait take less than 290 milliseconds, and longer together with one that waits 300.
+fn takes_its_time<R: Clock, G: Gate>(rt: &R, gate: &mut G) -> Result<bool, Fail> {
+    let start = Instant::now(rt)?;
+    for _ in 0..100 {
+        gate.turn(0);
+    }
+    let at_once = start.elapsed(rt)?;
+    gate.turn(300);
+    let waited = start.elapsed(rt)?;
+    let least = Duration::from_millis(290);
+    let in_time = at_once < least && waited >= least && waited < Duration::from_secs(10);
+    Ok(in_time && ends_in_time(rt, gate)?)
+}
+
+/// Turns stop while the flag is set, and go on when it is clear again.
+fn stops_by_the_flag<G: Gate>(gate: &mut G, stop: &AtomicBool) -> bool {
+    let clear = gate.turn(0);
+    stop.store(true, Ordering::SeqCst);
+    let set = gate.turn(0);
+    let still = gate.turn(0);
+    stop.store(false, Ordering::SeqCst);
+    let again = gate.turn(0);
+    (clear, set) == (Turn::Continue, Turn::Stop) && (still, again) == (Turn::Stop, Turn::Continue)
+}
+
+/// The turns that a test takes.
+#[derive(Clone, Copy)]
+pub(crate) enum Turns {
+    /// A bell is rung in one.
+    RungLater,
+    /// Two bells are rung before one.
+    RungBefore,
+    /// They are measured.
+    Times,
+    /// The flag is set and cleared between them.
+    Flag,
+}
+
+/// Whether all is as it is to be.
+pub(crate) fn takes<
+    R: Clock + Wait + Threads + Copy + Send + Drop + 'static,
+    N: Net + Clock + AllocGlobal,
+>(rt: &R, gate: &mut SocketGate<'_, N>, stop: &AtomicBool, turns: Turns) -> Result<bool, Fail> {
+    match turns {
+        Turns::RungLater => {
+            let bell = gate.bell()?;
+            turns_until_rung(rt, gate, bell)
+        }
+        Turns::RungBefore => is_rung_before(rt, gate),
+        Turns::Times => takes_its_time(rt, gate),
+        Turns::Flag => Ok(stops_by_the_flag(gate, stop)),
+    }
+}
+
+static ROWS: [(&'static str, Turns); 4] = [
+    ("the_bell_ends_a_wait", Turns::RungLater),
+    ("a_ring_ends_the_next_wait", Turns::RungBefore),
+    ("a_wait_takes_its_time", Turns::Times),
+    ("the_flag_stops_turns_while_it_is_set", Turns::Flag),
+];
+
+#[test]
+fn turns_of_a_gate(rt: HostRuntime) -> Result<(), Fail> {
+    for row in &ROWS {
+        if at_gate(&rt, &rt, Work::Turns(row.1))? != RIGHT {
+            return Err(row.0.into());
+        }
+    }
+    Ok(())
+}

@@ -1,0 +1,297 @@
+//! A control core with its log, the calls that rows make on it, and what they answer.
+ghost use Rattle.mx_types.specs.Limits.{IsHistory};
+
+use crate::callers::{claim_and_give_back, retire_and_see};
+use crate::sample::{End, Held, Job, RefusesOnce, SEAT, WORKER};
+use mx_journal::{
+    AddReply, Control, FinishReply, GiveBackReply, InfoReply, Log, PauseReply, RemoveReply,
+    RetireReply, WakeupReply, definitions,
+};
+use mx_types::{Code, Event, HandleId, Look, OutOfMemory, State, Ticket, What};
+use std::alloc::Global;
+
+/// A call.
+#[derive(Clone, Copy)]
+pub enum Step {
+    /// Adds the handle, with work of this number.
+    Add(u32, u32),
+    Pause(u32),
+    Unpause(u32),
+    Remove(u32),
+    /// Claims the next work, and holds the claim.
+    Claim,
+    /// The same, and lets the claim go.
+    Next,
+    /// Ends the transfer of the last claim that is held, with this code.
+    Finish(Code),
+    /// Gives back the work of the last claim that is held.
+    GiveBack,
+    /// Claims the next work and gives it back.
+    Undo,
+    Read,
+    Wakeup,
+    /// A poll with this mark.
+    Poll(u32),
+    Retire,
+    /// The same, where this and nothing else is what the log says that is kept, and what is found in the journal then.
+    RetireTo(&'static [What]),
+    /// Retires, and sees where the handle stands.
+    RetireAndSee(u32),
+    State(u32),
+    Look(u32),
+    /// How many run.
+    Running,
+    /// How many messages wait, and the ticket of the first.
+    Waiting,
+    /// How many events there are in the journal, and in the log.
+    Events,
+    /// How many calls of the seat are in the journal.
+    Made,
+}
+
+/// What a call answers.
+#[derive(Clone, Copy, PartialEq, Eq)]
+pub enum Said {
+    Added(u32),
+    AddedAlready,
+    TableFull,
+    TicketsSpent,
+    HistoryFull,
+    Removed,
+    Changed,
+    NoChange,
+    NotRunning,
+    NotAdded,
+    /// A ticket, and the number of its work.
+    Claimed(u32, u32),
+    NoClaim,
+    Recorded,
+    /// What is handed back.
+    StaleEnd(Code),
+    Back,
+    /// The number of the work that is handed back.
+    StaleWork(u32),
+    Undone,
+    /// Of a handle, its ticket, its code, and how many messages are left.
+    Message(u32, u32, Code, u32),
+    Empty,
+    Ok,
+    Failure,
+    Ready(bool),
+    Retired(u32),
+    ClaimOut,
+    State(State),
+    Look(Look),
+    Count(u32),
+    First(usize, Option<Ticket>),
+    Events(u32, usize),
+    OutOfMemory,
+    /// It isn't kept so.
+    Else,
+}
+
+/// A control core, its log, and the claims that are held.
+#[derive(Drop)]
+pub struct Caller {
+    pub control: Control<Job, End>,
+    pub log: RefusesOnce,
+    held: Vec<Held>,
+}
+
+impl Caller {
+    /// A core of so many events that begins with this ticket, and a log that refuses the append of that number.
+    pub fn new(
+        alloc: Global,
+        history: u32,
+        first: u32,
+        refused: Option<u32>,
+    ) -> Result<Caller, OutOfMemory>
+        requires { IsHistory history }
+    {
+        Ok(Caller {
+            control: Control::starting(alloc, history, first)?,
+            log: RefusesOnce::new(alloc, refused),
+            held: Vec::new(alloc),
+        })
+    }
+
+    fn add(&mut self, handle: u32, number: u32) -> Said {
+        let handle = HandleId(handle);
+        match self
+            .control
+            .add(&mut self.log, SEAT, handle, Job { number })
+        {
+            AddReply::Added(ticket) => Said::Added(ticket.0),
+            AddReply::AddedAlready(_) => Said::AddedAlready,
+            AddReply::TableFull(_) => Said::TableFull,
+            AddReply::TicketsSpent(_) => Said::TicketsSpent,
+            AddReply::HistoryFull(_) => Said::HistoryFull,
+            AddReply::OutOfMemory(_) => Said::OutOfMemory,
+        }
+    }
+
+    fn remove(&mut self, handle: u32) -> Said {
+        match self.control.remove(&mut self.log, SEAT, HandleId(handle)) {
+            RemoveReply::Removed => Said::Removed,
+            RemoveReply::NotAdded => Said::NotAdded,
+            RemoveReply::OutOfMemory => Said::OutOfMemory,
+        }
+    }
+
+    fn pause(&mut self, handle: u32, resumes: bool) -> Said {
+        let handle = HandleId(handle);
+        let reply = if resumes {
+            self.control.unpause(&mut self.log, SEAT, handle)
+        } else {
+            self.control.pause(&mut self.log, SEAT, handle)
+        };
+        match reply {
+            PauseReply::Changed => Said::Changed,
+            PauseReply::NotAdded => Said::NotAdded,
+            PauseReply::NotRunning => Said::NotRunning,
+            PauseReply::NoChange => Said::NoChange,
+            PauseReply::HistoryFull => Said::HistoryFull,
+            PauseReply::OutOfMemory => Said::OutOfMemory,
+        }
+    }
+
+    fn claim(&mut self, holds: bool) -> Result<Said, OutOfMemory> {
+        let Some((claim, job)) = self.control.claim() else {
+            return Ok(Said::NoClaim);
+        };
+        let said = Said::Claimed(claim.ticket().0, job.number);
+        if holds {
+            self.held.push(Held { claim, job })?;
+        }
+        Ok(said)
+    }
+
+    fn finish(&mut self, code: Code) -> Result<Said, OutOfMemory> {
+        let Some(Held { claim, job }) = self.held.pop() else {
+            return Ok(Said::NoClaim);
+        };
+        Ok(
+            match self
+                .control
+                .finish(&mut self.log, WORKER, claim, End { code })
+            {
+                FinishReply::Recorded => Said::Recorded,
+                FinishReply::Stale(end) => Said::StaleEnd(end.code),
+                FinishReply::OutOfMemory(claim, _end) => {
+                    self.held.push(Held { claim, job })?;
+                    Said::OutOfMemory
+                }
+            },
+        )
+    }
+
+    fn give_back(&mut self) -> Said {
+        let Some(Held { claim, job }) = self.held.pop() else {
+            return Said::NoClaim;
+        };
+        match self.control.give_back(claim, job) {
+            GiveBackReply::Back => Said::Back,
+            GiveBackReply::Stale(job) => Said::StaleWork(job.number),
+        }
+    }
+
+    fn read(&mut self) -> Said {
+        match self.control.info_read(&mut self.log, SEAT) {
+            InfoReply::Message {
+                handle,
+                ticket,
+                ending,
+                left,
+            } => Said::Message(handle.0, ticket.0, ending.code, left),
+            InfoReply::Empty => Said::Empty,
+            InfoReply::OutOfMemory => Said::OutOfMemory,
+        }
+    }
+
+    fn wakeup(&mut self) -> Said {
+        match self.control.wakeup(&mut self.log, SEAT) {
+            WakeupReply::Ok => Said::Ok,
+            WakeupReply::Failure => Said::Failure,
+            WakeupReply::OutOfMemory => Said::OutOfMemory,
+        }
+    }
+
+    fn retire(&mut self) -> Said {
+        match self.control.retire() {
+            RetireReply::Retired(kept) => Said::Retired(kept),
+            RetireReply::ClaimOut => Said::ClaimOut,
+        }
+    }
+
+    // What is kept is what the plain program finds in the log, and is the journal then.
+    fn retire_to(&mut self, alloc: Global, whats: &[What]) -> Result<Said, OutOfMemory> {
+        let kept = self.control.kept(alloc)?;
+        let told = definitions::retire(alloc, self.log.list.events())?;
+        let are_told = kept.as_slice() == told.as_slice() && have(kept.as_slice(), whats);
+        let said = self.retire();
+        let journal = journal(alloc, &self.control)?;
+        if are_told && journal.as_slice() == kept.as_slice() {
+            return Ok(said);
+        }
+        Ok(Said::Else)
+    }
+
+    // What changes nothing.
+    fn looks(&self, step: Step) -> Said {
+        match step {
+            Step::Poll(mark) => Said::Ready(self.control.poll_ready(mark)),
+            Step::State(handle) => Said::State(self.control.state(HandleId(handle))),
+            Step::Look(ticket) => Said::Look(self.control.look(Ticket(ticket))),
+            Step::Running => Said::Count(self.control.running()),
+            Step::Waiting => {
+                let waiting = self.control.waiting();
+                Said::First(waiting.len(), waiting.first().copied())
+            }
+            Step::Events => Said::Events(self.control.len(), self.log.list.events().len()),
+            Step::Made => Said::Count(self.control.made(SEAT)),
+            _ => Said::Else,
+        }
+    }
+
+    /// Makes the call: what it answers.
+    pub fn makes(&mut self, alloc: Global, step: Step) -> Result<Said, OutOfMemory> {
+        Ok(match step {
+            Step::Add(handle, number) => self.add(handle, number),
+            Step::Pause(handle) => self.pause(handle, false),
+            Step::Unpause(handle) => self.pause(handle, true),
+            Step::Remove(handle) => self.remove(handle),
+            Step::Claim => self.claim(true)?,
+            Step::Next => self.claim(false)?,
+            Step::Finish(code) => self.finish(code)?,
+            Step::GiveBack => self.give_back(),
+            Step::Undo => {
+                claim_and_give_back(&mut self.control);
+                Said::Undone
+            }
+            Step::Read => self.read(),
+            Step::Wakeup => self.wakeup(),
+            Step::Retire => self.retire(),
+            Step::RetireTo(whats) => self.retire_to(alloc, whats)?,
+            Step::RetireAndSee(handle) => {
+                Said::State(retire_and_see(&mut self.control, HandleId(handle)))
+            }
+            _ => self.looks(step),
+        })
+    }
+}
+
+// Whether this is what happened in the events.
+fn have(events: &[Event], whats: &[What]) -> bool {
+    events.len() == whats.len() && events.iter().zip(whats).all(|(e, what)| e.what == *what)
+}
+
+// The events of the journal.
+fn journal(alloc: Global, control: &Control<Job, End>) -> Result<Vec<Event>, OutOfMemory> {
+    let mut list = Vec::new(alloc);
+    for at in 0..control.len() {
+        if let Some(event) = control.event(at) {
+            list.push(event)?;
+        }
+    }
+    Ok(list)
+}

@@ -1,0 +1,2 @@
+mod Hands
+pub mod Parties

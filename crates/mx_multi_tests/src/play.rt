@@ -1,0 +1,423 @@
+//! Scripts of calls at a multi handle of its own, each with what it is to answer. A call that is refused memory is made once more, and is
+//! then to answer the same as if it had been the first.
+
+use crate::entries::{Entry, Stop, text_of};
+use crate::hold::Hold;
+use crate::one_thread::OneThread;
+use crate::party::Task;
+use crate::sample::End;
+use crate::stress::{THREADS, differs_from};
+use crate::whole::Whole;
+use mx_multi::{HistoryUse, Limits, OpenError, Progress, Refusal};
+use mx_types::{Call, Code, HandleId, OutOfMemory, Reply, Ticket};
+use std::alloc::Global;
+use std::sync::{Arc, Wait};
+use std::test::Fail;
+use std::thread::Threads;
+use std::time::Clock;
+
+/// What a call answers.
+#[derive(Clone, Copy)]
+pub enum Said {
+    /// In the words of `mxfetch play`.
+    Text(&'static str),
+    /// An addition, with its ticket.
+    Added(Ticket),
+    /// A message of a handle and a ticket, with code 0 and 5 bytes, and none left.
+    Message(HandleId, Ticket),
+}
+
+/// A call, with what it is to answer.
+#[derive(Clone, Copy)]
+pub enum Step {
+    /// A seat's call: its number, the answer, and how many events the seat has then seen.
+    Make(usize, Call, Said, u32),
+    /// A seat polls, for a millisecond at most, and whether that returns.
+    PollFor(usize, bool),
+    /// The last seat makes all calls of a script, and has then seen so many events.
+    Run(&'static [Call], u32),
+    /// The last two seats meet, and have then both seen so many events.
+    MeetTwo(u32),
+    /// All seats meet, and have then all seen so many events.
+    MeetAll(u32),
+    /// The worker claims the next work, which is of that ticket.
+    Claim(Ticket),
+    /// The worker ends the transfer of its last claim, with a code and a size: how many events its seat has then seen.
+    Finish(Code, u32, u32),
+    /// The worker gives the work of its last claim back, and whether its ticket ran and was claimed.
+    GiveBack(bool),
+    /// The worker notes so many bytes for its last claim.
+    Note(u32),
+    /// The worker looks at a ticket: the answer, and how many events its seat has then seen.
+    Look(Ticket, Said, u32),
+    /// The last seat reads how far a handle's transfer is.
+    Progress(HandleId, Progress),
+    /// How full the history was when the first seat last saw it.
+    History(HistoryUse),
+    /// All is retired, and each new seat has seen so many events, or any number.
+    Retire(Option<u32>),
+    /// All is to be retired, and isn't.
+    Hindered(Refusal),
+    /// All but the last seat is to be retired, and isn't.
+    HinderedWithoutLast(Refusal),
+    /// Threads do their tasks, so many times. The control core of one thread, which makes all their calls in the order of their cuts,
+    /// answers the same.
+    Beside(&'static [Task], u32),
+    /// So many turns of each of eight threads, by chance from a seed; and one thread, as above.
+    Storm(u64, u32),
+    /// Two threads make all calls of a script each, and have then seen so many events.
+    Two(&'static [Call], &'static [Call], u32),
+}
+
+/// A multi handle, the control core of one thread beside it where threads made calls, and whether memory was refused.
+#[derive(Drop)]
+pub struct Play {
+    /// It is always there, but for the calls that take it and answer another in its place.
+    place: Option<Whole>,
+    one: Option<OneThread>,
+    history: u32,
+    refused: bool,
+}
+
+// Whether this was answered. The text of an answer is tried once more where memory was refused.
+fn is_said(alloc: Global, reply: &Option<Reply>, said: Said) -> Result<bool, OutOfMemory> {
+    let Some(reply) = reply else {
+        return Ok(false);
+    };
+    Ok(match (reply, said) {
+        (Reply::Added(ticket), Said::Added(given)) => *ticket == given,
+        (
+            Reply::Message {
+                handle,
+                ticket,
+                code: Code::Ok,
+                size: 5,
+                left: 0,
+            },
+            Said::Message(of, read),
+        ) => *handle == of && *ticket == read,
+        (_, Said::Text(text)) => match text_of(alloc, reply) {
+            Ok(told) => told.as_str() == text,
+            Err(_) => text_of(alloc, reply)?.as_str() == text,
+        },
+        _ => false,
+    })
+}
+
+// A seat's call, once more where it was refused memory; and whether it was.
+fn make<R: Wait>(rt: &R, whole: &mut Whole, number: usize, call: Call) -> (Option<Reply>, bool) {
+    let reply = whole.make(rt, number, call);
+    if !matches!(reply, Some(Reply::OutOfMemory)) {
+        return (reply, false);
+    }
+    (whole.make(rt, number, call), true)
+}
+
+// Ends the transfer of the last claim; once more where it was refused memory, and whether it was.
+fn finish<R: Wait>(rt: &R, whole: &mut Whole, code: Code, size: u32) -> (Option<Reply>, bool) {
+    let reply = whole.finish(rt, End::new(code, size));
+    if !matches!(reply, Some(Reply::OutOfMemory)) {
+        return (reply, false);
+    }
+    (whole.finish(rt, End::new(code, size)), true)
+}
+
+// A call that may be refused memory: whether it is as it is to be, and whether it was refused.
+fn ask<R: Wait>(
+    rt: &R,
+    alloc: Global,
+    whole: &mut Whole,
+    step: &Step,
+) -> Result<(bool, bool), OutOfMemory> {
+    let (reply, is_refused, said, seen, cut) = match *step {
+        Step::Make(number, call, said, cut) => {
+            let (reply, is_refused) = make(rt, whole, number, call);
+            (reply, is_refused, said, whole.cut(number), cut)
+        }
+        Step::Finish(code, size, cut) => {
+            let (reply, is_refused) = finish(rt, whole, code, size);
+            (
+                reply,
+                is_refused,
+                Said::Text("recorded"),
+                whole.worker_cut(),
+                cut,
+            )
+        }
+        Step::Look(ticket, said, cut) => {
+            let look = whole.look(ticket).map(Reply::Look);
+            (look, false, said, whole.worker_cut(), cut)
+        }
+        _ => return Ok((false, false)),
+    };
+    let is_so = is_said(alloc, &reply, said)? && seen == Some(cut);
+    Ok((is_so, is_refused))
+}
+
+// A call that is refused no memory but this crate's own: whether it is as it is to be.
+fn call<R: Threads + Wait + Sync + Clock>(
+    rt: &R,
+    whole: &mut Whole,
+    step: &Step,
+) -> Result<bool, OutOfMemory> {
+    Ok(match *step {
+        Step::PollFor(number, is_woken) => whole.poll_for(rt, number, 1) == Some(is_woken),
+        Step::Run(calls, cut) => whole.run(rt, calls)? == Some((calls.len(), cut)),
+        Step::MeetTwo(cut) => whole.meet_two(rt)? == Some(cut),
+        Step::MeetAll(cut) => whole.meet_all(rt) == Some(cut) && whole.have_all_seen(cut),
+        Step::Claim(ticket) => whole.claim(rt)? == Some(ticket),
+        Step::GiveBack(is_back) => whole.give_back(rt) == Some(is_back),
+        Step::Note(count) => whole.note(count),
+        Step::Progress(handle, progress) => whole.progress(handle) == Some(progress),
+        Step::History(used) => whole.history(0) == Some(used),
+        Step::Two(one, two, cut) => {
+            whole.run_two(rt, (one, two))? == Some(((one.len(), two.len()), [cut, cut]))
+        }
+        _ => false,
+    })
+}
+
+impl Play {
+    // Puts a multi handle in its place.
+    fn put(&mut self, whole: Whole) {
+        drop(self.place.replace(whole));
+    }
+
+    // Retires, with all its seats or without the last; or why not, and whether there was a multi handle.
+    fn retire_once<R: Wait>(
+        &mut self,
+        rt: &R,
+        alloc: Global,
+        with_last: bool,
+    ) -> (bool, Option<Refusal>) {
+        let Some(whole) = self.place.take() else {
+            return (false, None);
+        };
+        let (whole, why) = if with_last {
+            whole.retire(rt, alloc)
+        } else {
+            whole.retire_without_last(rt, alloc)
+        };
+        self.put(whole);
+        (true, why)
+    }
+
+    // The same with all its seats, once more where it was refused memory.
+    fn retire<R: Wait>(&mut self, rt: &R, alloc: Global) -> (bool, Option<Refusal>) {
+        let (is_there, why) = self.retire_once(rt, alloc, true);
+        if why != Some(Refusal::OutOfMemory) {
+            return (is_there, why);
+        }
+        self.refused = true;
+        self.retire_once(rt, alloc, true)
+    }
+
+    // Whether each seat and each worker's seat has seen so many events, and the control core was retired, too.
+    fn is_retired(&mut self, cut: Option<u32>) -> bool {
+        let have_seen = match (&self.place, cut) {
+            (Some(whole), Some(cut)) => whole.have_all_seen(cut),
+            (Some(_), None) => true,
+            (None, _) => false,
+        };
+        match &mut self.one {
+            Some(one) => have_seen && one.retire(),
+            None => have_seen,
+        }
+    }
+
+    // Whether one thread, which makes the calls in the order of their cuts, answers one of them otherwise.
+    fn differs(&mut self, alloc: Global, entries: &mut Vec<Entry>) -> Result<bool, OutOfMemory> {
+        let mut one = match self.one.take() {
+            Some(one) => one,
+            None => OneThread::new(alloc, self.history)?,
+        };
+        one.begin();
+        let place = differs_from(alloc, &mut one, entries);
+        drop(self.one.replace(one));
+        Ok(place?.is_some())
+    }
+
+    // Threads do their tasks: how many calls were answered. None where one was answered otherwise than it is to be, or than by one thread.
+    fn beside<R: Threads + Wait + Sync>(
+        &mut self,
+        rt: &R,
+        alloc: Global,
+        tasks: &[Task],
+    ) -> Result<Option<usize>, OutOfMemory> {
+        let Ok(hold) = Arc::new(alloc, Hold::new()) else {
+            return Err(OutOfMemory);
+        };
+        let Some(whole) = self.place.take() else {
+            return Ok(None);
+        };
+        let (whole, told) = whole.beside(rt, alloc, tasks, &hold);
+        self.put(whole);
+        let mut entries = match told {
+            Ok(entries) => entries,
+            Err(Stop::Memory) => return Err(OutOfMemory),
+            Err(_) => return Ok(None),
+        };
+        if !hold.was_in_time() || self.differs(alloc, &mut entries)? {
+            return Ok(None);
+        }
+        Ok(Some(entries.len()))
+    }
+
+    // The same, so many times: whether all calls were answered as they are to be.
+    fn beside_often<R: Threads + Wait + Sync>(
+        &mut self,
+        rt: &R,
+        alloc: Global,
+        tasks: &[Task],
+        times: u32,
+    ) -> Result<bool, OutOfMemory> {
+        for _ in 0..times {
+            if self.beside(rt, alloc, tasks)?.is_none() {
+                return Ok(false);
+            }
+        }
+        Ok(true)
+    }
+
+    // Makes a call at the multi handle: whether it is as it is to be.
+    fn call<R: Threads + Wait + Sync + Clock>(
+        &mut self,
+        rt: &R,
+        alloc: Global,
+        step: &Step,
+    ) -> Result<bool, OutOfMemory> {
+        let Some(whole) = &mut self.place else {
+            return Ok(false);
+        };
+        if !matches!(step, Step::Make(..) | Step::Finish(..) | Step::Look(..)) {
+            return call(rt, whole, step);
+        }
+        let (is_so, is_refused) = ask(rt, alloc, whole, step)?;
+        if is_refused {
+            self.refused = true;
+        }
+        Ok(is_so)
+    }
+
+    // Whether a step is as it is to be.
+    fn take_step<R: Threads + Wait + Sync + Clock>(
+        &mut self,
+        rt: &R,
+        alloc: Global,
+        step: &Step,
+    ) -> Result<bool, OutOfMemory> {
+        match *step {
+            Step::Retire(cut) => {
+                let told = self.retire(rt, alloc);
+                Ok(told == (true, None) && self.is_retired(cut))
+            }
+            Step::Hindered(why) => Ok(self.retire(rt, alloc) == (true, Some(why))),
+            Step::HinderedWithoutLast(why) => {
+                Ok(self.retire_once(rt, alloc, false) == (true, Some(why)))
+            }
+            Step::Beside(tasks, times) => self.beside_often(rt, alloc, tasks, times),
+            Step::Storm(seed, turns) => {
+                let tasks = [Task::Chance(seed, turns); THREADS];
+                let calls = self.beside(rt, alloc, &tasks)?;
+                Ok(calls.unwrap_or(0) as u64 > u64::from(turns) * 16)
+            }
+            _ => self.call(rt, alloc, step),
+        }
+    }
+
+    // The first step that isn't as it is to be.
+    fn first_wrong<R: Threads + Wait + Sync + Clock>(
+        &mut self,
+        rt: &R,
+        alloc: Global,
+        steps: &[Step],
+    ) -> Result<Option<usize>, OutOfMemory> {
+        for (at, step) in steps.iter().enumerate() {
+            if !self.take_step(rt, alloc, step)? {
+                return Ok(Some(at));
+            }
+        }
+        Ok(None)
+    }
+}
+
+// Opens a multi handle, once more where it was refused memory.
+fn open<R: Wait>(rt: &R, alloc: Global, limits: Limits) -> Result<Play, OpenError> {
+    let mut refused = false;
+    let mut answer = Whole::open(rt, alloc, limits);
+    if matches!(answer, Err(OpenError::OutOfMemory)) {
+        refused = true;
+        answer = Whole::open(rt, alloc, limits);
+    }
+    Ok(Play {
+        place: Some(answer?),
+        one: None,
+        history: limits.history,
+        refused,
+    })
+}
+
+/// A script: its name, the limits of its multi handle, and its steps.
+#[derive(Clone, Copy)]
+pub struct Row {
+    pub name: &'static str,
+    pub limits: Limits,
+    pub steps: &'static [Step],
+}
+
+/// The script that isn't as it is to be, and its step.
+#[derive(Clone, Copy)]
+pub struct Wrong {
+    pub row: &'static str,
+    pub step: usize,
+}
+
+/// The first step of a script that isn't as it is to be. It notes where a call was refused memory.
+pub fn play_steps<R: Threads + Wait + Sync + Clock>(
+    rt: &R,
+    alloc: Global,
+    limits: Limits,
+    steps: &[Step],
+    refused: &mut bool,
+) -> Result<Option<usize>, OutOfMemory> {
+    let mut play = match open(rt, alloc, limits) {
+        Ok(play) => play,
+        Err(OpenError::OutOfMemory) => return Err(OutOfMemory),
+        Err(OpenError::BadLimits) => return Ok(Some(0)),
+    };
+    let wrong = play.first_wrong(rt, alloc, steps);
+    if play.refused {
+        *refused = true;
+    }
+    drop(play);
+    wrong
+}
+
+/// The same of the first of these scripts.
+pub fn play_all<R: Threads + Wait + Sync + Clock>(
+    rt: &R,
+    alloc: Global,
+    rows: &[Row],
+    refused: &mut bool,
+) -> Result<Option<Wrong>, OutOfMemory> {
+    for row in rows {
+        if let Some(step) = play_steps(rt, alloc, row.limits, row.steps, refused)? {
+            return Ok(Some(Wrong {
+                row: row.name,
+                step,
+            }));
+        }
+    }
+    Ok(None)
+}
+
+/// The end of a test: it fails with the script and the step, and else, where a call was refused memory, by a text of its own.
+pub fn end(alloc: Global, wrong: Option<Wrong>, refused: bool) -> Result<(), Fail> {
+    if let Some(Wrong { row, step }) = wrong {
+        return Err(format!(in alloc; "{row}: step {step}")?.into());
+    }
+    if refused {
+        return Err("memory was refused, and the call answered when it was made again".into());
+    }
+    Ok(())
+}

@@ -1,0 +1,293 @@
+//! Seats of one multi handle on many threads, and the same calls on one.
+ghost use Rattle.std.specs.Prelude.{◌≡◌, ◌<◌, ℕ, length, slice_index_or, IfOk, IfSome};
+ghost use Rattle.std.specs.List.{All};
+
+use crate::client::{Client, Worker};
+use crate::entries::{Entry, Notes, Stop};
+use crate::hold::Hold;
+use crate::one_thread::OneThread;
+use crate::party::{Chance, Party, Place, Task};
+use crate::sample::{End, Handle, Job};
+use mx_multi::{Seat, WorkerSeat};
+use mx_types::{OutOfMemory, Who};
+use std::alloc::Global;
+use std::sync::{Arc, Wait};
+use std::thread::{Threads, for_each_mut};
+
+/// How many threads there are at most, each with two seats and a worker's.
+pub const THREADS: usize = 8;
+
+/// The seats of a multi handle that no thread has.
+#[derive(Drop)]
+pub struct Pool<'a> {
+    pub multi: &'a Handle,
+    pub seats: Vec<Seat<Job, End>>,
+    pub workers: Vec<WorkerSeat<Job, End>>,
+    pub ghost own: { All (λ s. s.of ≡ multi.now) seats.items × All (λ s. s.of ≡ multi.now) workers.items },
+}
+
+fn notes_of(alloc: Global, who: Who) -> Notes {
+    Notes {
+        alloc,
+        who,
+        entries: Vec::new(alloc),
+    }
+}
+
+impl<'a> Pool<'a> {
+    // The last seat with its handle.
+    fn take(&mut self) -> Option<Client<'a>>
+        ensures same { self.new.multi ≡ self.old.multi }
+        ensures own { IfSome result (λ c. c.of ≡ self.old.multi.now) }
+    {
+        let seat = self.seats.pop()?;
+        Some(self.multi.at(seat))
+    }
+
+    // The last worker's seat with its handle, and no claim yet.
+    fn take_worker(&mut self, alloc: Global) -> Option<Worker<'a>>
+        ensures same { self.new.multi ≡ self.old.multi }
+        ensures own { IfSome result (λ w. w.seat.of ≡ self.old.multi.now) }
+    {
+        let seat = self.workers.pop()?;
+        Some(Worker::new(alloc, self.multi.at(seat)))
+    }
+
+    // The last seat, whose number is how many stand before it, and no call yet.
+    fn take_place(&mut self, alloc: Global) -> Option<Place<'a>>
+        ensures same { self.new.multi ≡ self.old.multi }
+        ensures own { IfSome result (λ p. p.client.of ≡ self.old.multi.now) }
+    {
+        let client = self.take()?;
+        let number = (self.seats.len() % 16) as u8;
+        Some(Place {
+            client,
+            notes: notes_of(alloc, Who::Seat(number)),
+        })
+    }
+
+    // The last two seats with the last worker's seat, which do the task of that worker's number. None where there are not so many.
+    fn take_party(&mut self, alloc: Global, tasks: &[Task], hold: Arc<Hold>) -> Option<Party<'a>>
+        ensures same { self.new.multi ≡ self.old.multi }
+        ensures own { IfSome result (λ p. p.one.client.of ≡ self.old.multi.now) }
+    {
+        let two = self.take_place(alloc)?;
+        let one = self.take_place(alloc)?;
+        let worker = self.take_worker(alloc)?;
+        let number = (self.workers.len() % 16) as u8;
+        let task = tasks
+            .get(usize::from(number))
+            .copied()
+            .unwrap_or(Task::Nothing);
+        let seed = match task {
+            Task::Chance(seed, _) => seed.wrapping_add(u64::from(number)),
+            _ => 0,
+        };
+        Some(Party {
+            one,
+            two,
+            worker,
+            notes: notes_of(alloc, Who::Worker(number)),
+            chance: Chance::new(seed),
+            task,
+            hold,
+            stop: None,
+        })
+    }
+
+    // Puts a seat behind the others.
+    fn put(&mut self, client: Client) -> Result<(), OutOfMemory>
+        requires { client.of ≡ self.old.multi.now }
+        ensures { self.new.multi ≡ self.old.multi }
+    {
+        self.seats.push(client.into_seat())?;
+        Ok(())
+    }
+
+    // Puts a worker's seat behind the others.
+    fn put_worker(&mut self, worker: Worker) -> Result<(), OutOfMemory>
+        requires { worker.seat.of ≡ self.old.multi.now }
+        ensures { self.new.multi ≡ self.old.multi }
+    {
+        self.workers.push(worker.seat.into_seat())?;
+        Ok(())
+    }
+
+    // Puts the seats of a thread behind the others.
+    fn put_party(&mut self, party: Party) -> Result<(), OutOfMemory>
+        requires { party.one.client.of ≡ self.old.multi.now }
+        ensures { self.new.multi ≡ self.old.multi }
+    {
+        let Party {
+            one,
+            two,
+            worker,
+            ..
+        } = party;
+        self.put(one.client)?;
+        self.put(two.client)?;
+        self.put_worker(worker)
+    }
+}
+
+/// The threads, each with its seats.
+#[derive(Drop)]
+struct Parties<'a> {
+    multi: &'a Handle,
+    list: Vec<Party<'a>>,
+    ghost own: { All (λ p. p.one.client.of ≡ multi.now) list.items },
+}
+
+// Puts a party behind the others, which have seats of this multi handle.
+fn keep_party<'a>(
+    multi: &'a Handle,
+    party: Party<'a>,
+    parties: &mut Vec<Party<'a>>,
+) -> Result<(), OutOfMemory>
+    requires own { (party.one.client.of ≡ multi.now) × All (λ p. p.one.client.of ≡ multi.now) parties.old.items }
+    ensures own { All (λ p. p.one.client.of ≡ multi.now) parties.new.items }
+{
+    // For the prover alone.
+    let _ = multi;
+    parties.push(party)?;
+    Ok(())
+}
+
+// Each party does its task, in a thread of its own.
+fn run_parties<R: Threads + Wait + Sync>(rt: &R, parties: &mut [Party])
+    ensures count { length parties.new ≡ length parties.old }
+    ensures each { (k : ℕ) (d : Party) → k < length parties.old → (slice_index_or parties.new k d).one.client.of ≡ (slice_index_or parties.old k d).one.client.of }
+{
+    for_each_mut(
+        rt,
+        parties,
+        THREADS,
+        &|_: usize, party: &mut Party|
+            ensures { party.new.one.client.of ≡ party.old.one.client.of }
+        { party.run(rt) },
+    );
+}
+
+impl<'a> Parties<'a> {
+    // A party for each task.
+    fn of(
+        alloc: Global,
+        pool: &mut Pool<'a>,
+        tasks: &[Task],
+        hold: &Arc<Hold>,
+    ) -> Result<Parties<'a>, OutOfMemory>
+        ensures same { pool.new.multi ≡ pool.old.multi }
+        ensures own { IfOk result (λ p. p.multi.now ≡ pool.old.multi.now) }
+    {
+        let mut parties = Parties {
+            multi: pool.multi,
+            list: Vec::new(alloc),
+        };
+        for _ in 0..tasks.len() {
+            let Ok(hold) = hold.clone() else {
+                return Err(OutOfMemory);
+            };
+            let Some(party) = pool.take_party(alloc, tasks, hold) else {
+                return Ok(parties);
+            };
+            parties.keep(party)?;
+        }
+        Ok(parties)
+    }
+
+    // Puts a party behind the others.
+    fn keep(&mut self, party: Party<'a>) -> Result<(), OutOfMemory>
+        requires { party.one.client.of ≡ self.old.multi.now }
+        ensures { self.new.multi ≡ self.old.multi }
+    {
+        keep_party(self.multi, party, &mut self.list)
+    }
+
+    fn run<R: Threads + Wait + Sync>(&mut self, rt: &R)
+        ensures { self.new.multi ≡ self.old.multi }
+    {
+        run_parties(rt, self.list.as_mut_slice());
+    }
+
+    // The last of them.
+    fn take(&mut self) -> Option<Party<'a>>
+        ensures same { self.new.multi ≡ self.old.multi }
+        ensures own { IfSome result (λ p. p.one.client.of ≡ self.old.multi.now) }
+    {
+        let party = self.list.pop()?;
+        Some(party)
+    }
+}
+
+// Moves what the makers of a party were answered behind the others'.
+fn take_entries(party: &mut Party, all: &mut Vec<Entry>) -> Result<(), OutOfMemory>
+    ensures { party.new.one.client.of ≡ party.old.one.client.of }
+{
+    all.append(&mut party.one.notes.entries)?;
+    all.append(&mut party.two.notes.entries)?;
+    all.append(&mut party.notes.entries)?;
+    Ok(())
+}
+
+// The same, and puts their seats back.
+fn take_apart(pool: &mut Pool, party: Party, all: &mut Vec<Entry>) -> Result<(), Stop>
+    requires { party.one.client.of ≡ pool.old.multi.now }
+    ensures { pool.new.multi ≡ pool.old.multi }
+{
+    let mut party = party;
+    let stop = party.stop;
+    take_entries(&mut party, all)?;
+    pool.put_party(party)?;
+    match stop {
+        Some(stop) => Err(stop),
+        None => Ok(()),
+    }
+}
+
+// Takes all parties apart, or those up to one that stopped: what was answered.
+fn take_all_apart(alloc: Global, pool: &mut Pool, parties: Parties) -> Result<Vec<Entry>, Stop>
+    requires { parties.multi.now ≡ pool.old.multi.now }
+    ensures { pool.new.multi ≡ pool.old.multi }
+{
+    let mut parties = parties;
+    let mut all = Vec::new(alloc);
+    for _ in 0..parties.list.len() {
+        let Some(party) = parties.take() else {
+            return Ok(all);
+        };
+        take_apart(pool, party, &mut all)?;
+    }
+    Ok(all)
+}
+
+/// Each thread does its task at seats of the pool: what was answered, each maker's in its own order. All claimed work was given back then.
+/// Where it stops, a thread did; seats may be missing then.
+pub fn run<R: Threads + Wait + Sync>(
+    rt: &R,
+    alloc: Global,
+    pool: &mut Pool,
+    tasks: &[Task],
+    hold: &Arc<Hold>,
+) -> Result<Vec<Entry>, Stop>
+    ensures { pool.new.multi ≡ pool.old.multi }
+{
+    let mut parties = Parties::of(alloc, pool, tasks, hold)?;
+    parties.run(rt);
+    take_all_apart(alloc, pool, parties)
+}
+
+// What calls are put in order by.
+fn order_of(entry: &Entry) -> (u32, bool) {
+    (entry.cut, !entry.makes_event)
+}
+
+/// Puts the calls into the order of their cuts, at one cut the call that made the event first, and makes them on one thread, behind those
+/// that it has made. The place of the first that differs there.
+pub fn differs_from(
+    alloc: Global,
+    one: &mut OneThread,
+    entries: &mut Vec<Entry>,
+) -> Result<Option<usize>, OutOfMemory> {
+    entries.sort_by_key(order_of)?;
+    one.first_that_differs(alloc, entries.as_slice())
+}

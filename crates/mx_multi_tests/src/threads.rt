@@ -1,0 +1,224 @@
+//! Scripts whose calls are made by threads at the same time: reads while another call keeps the lock, turns that are taken by polls and
+//! wake-ups, and calls by chance, which one thread answers the same.
+
+use crate::boards::three_threads;
+use crate::party::{Act, Task};
+use crate::play::{Row, Said, Step, Wrong, end, play_all, play_steps};
+use crate::rows::FOUR_SEATS;
+use crate::words::two_threads;
+use mx_multi::Limits;
+use mx_types::{Call, Code, HandleId, OutOfMemory, Ticket};
+use std::alloc::Global;
+use std::sync::Wait;
+use std::test::Fail;
+use std::thread::Threads;
+use std::time::Clock;
+
+const ONE: HandleId = HandleId(1);
+
+/// Two threads with two seats and a worker's seat each.
+const TWO_THREADS: Limits = Limits {
+    seats: 4,
+    workers: 2,
+    history: 8192,
+    max_connects: 4,
+};
+
+/// 16 seats and 8 workers' seats.
+const EIGHT_THREADS: Limits = Limits {
+    seats: 16,
+    workers: 8,
+    history: 1_048_576,
+    max_connects: 0,
+};
+
+/// Two threads make the calls of a script each, at a seat of its own, and both seats have then seen what both did.
+const TWO_SCRIPTS: &[Step] = &[Step::Two(
+    &[Call::Wakeup, Call::Poll, Call::Running],
+    &[
+        Call::Handles,
+        Call::Wakeup,
+        Call::State(HandleId(1)),
+        Call::Poll,
+    ],
+    2,
+)];
+
+/// Reads are answered while the end of a transfer, in another thread, asks for its code under the lock, by what was published before.
+const HELD_LOCK: &[Step] = &[Step::Beside(
+    &[
+        Task::Acts(&[
+            Act::Make(Call::Add(ONE), "added 0", 1),
+            Act::Claim,
+            Act::FinishHeld(Code::Ok, 5),
+        ]),
+        Task::Acts(&[
+            Act::AwaitHold,
+            Act::Make(Call::Handles, "handles 1", 1),
+            Act::Make(Call::Running, "running 1", 1),
+            Act::Make(Call::State(ONE), "running 0", 1),
+            Act::Release,
+        ]),
+    ],
+    1,
+)];
+
+/// What one seat adds or removes, each other one sees in its first call; and one that lists all beside the addition sees all of it or
+/// nothing.
+const SEEN: &[Step] = &[
+    Step::Beside(
+        &[
+            Task::Acts(&[
+                Act::Make(Call::Add(ONE), "added 0", 1),
+                Act::Make(Call::Handles, "handles 1", 1),
+            ]),
+            Task::Acts(&[Act::Any(Call::Handles)]),
+        ],
+        1,
+    ),
+    Step::Make(2, Call::Handles, Said::Text("handles 1"), 1),
+    Step::Make(3, Call::Running, Said::Text("running 1"), 1),
+    Step::Make(1, Call::State(ONE), Said::Text("running 0"), 1),
+    Step::Look(Ticket(0), Said::Text("go"), 1),
+    Step::MeetTwo(1),
+    Step::Make(0, Call::Remove(ONE), Said::Text("removed"), 2),
+    Step::Make(2, Call::Handles, Said::Text("handles"), 2),
+    Step::Make(3, Call::Running, Said::Text("running 0"), 2),
+    Step::Make(1, Call::State(ONE), Said::Text("not-added"), 2),
+    Step::Look(Ticket(0), Said::Text("gone"), 2),
+];
+
+/// 1,000 turns of two threads, which pause and resume a handle, poll, and wake each other: a wake-up that is lost leaves both asleep.
+const TURNS: &[Step] = &[
+    Step::Beside(
+        &[
+            Task::Acts(&[
+                Act::Make(Call::Add(ONE), "added 0", 1),
+                Act::Turns(false, 1000),
+            ]),
+            Task::Acts(&[Act::Turns(true, 1000)]),
+        ],
+        1,
+    ),
+    Step::Make(0, Call::State(ONE), Said::Text("running 0"), 4001),
+];
+
+/// Two polls at a time, and one wake-up for both: where it wakes but one, the other stays asleep.
+const POLLS: &[Step] = &[
+    Step::Beside(
+        &[
+            Task::Acts(&[Act::Say(Call::Poll, "woken")]),
+            Task::Acts(&[Act::Say(Call::Poll, "woken")]),
+            Task::Acts(&[Act::Say(Call::Wakeup, "ok")]),
+        ],
+        300,
+    ),
+    Step::Make(0, Call::Running, Said::Text("running 0"), 300),
+];
+
+static ROWS: [Row; 6] = [
+    Row {
+        name: "two_threads_make_all_their_calls",
+        limits: FOUR_SEATS,
+        steps: TWO_SCRIPTS,
+    },
+    Row {
+        name: "reads_take_no_lock",
+        limits: TWO_THREADS,
+        steps: HELD_LOCK,
+    },
+    Row {
+        name: "seats_see_what_another_did",
+        limits: TWO_THREADS,
+        steps: SEEN,
+    },
+    Row {
+        name: "no_wake_up_is_lost",
+        limits: TWO_THREADS,
+        steps: TURNS,
+    },
+    Row {
+        name: "one_wake_up_wakes_two_polls",
+        limits: Limits {
+            seats: 6,
+            workers: 3,
+            history: 2048,
+            max_connects: 4,
+        },
+        steps: POLLS,
+    },
+    Row {
+        name: "one_thread_answers_the_same",
+        limits: EIGHT_THREADS,
+        steps: &[Step::Storm(20261123, 4000)],
+    },
+];
+
+// 40 turns of each of eight threads, and so again behind each of a hundred retirings.
+fn retired_storms(alloc: Global) -> Result<Vec<Step>, OutOfMemory> {
+    let mut steps = Vec::new(alloc);
+    let seed = 20261127;
+    steps.push(Step::Storm(seed, 40))?;
+    for number in 1..101u64 {
+        steps.push(Step::Retire(None))?;
+        steps.push(Step::Storm(seed ^ number << 32, 40))?;
+    }
+    Ok(steps)
+}
+
+fn play_threads<R: Threads + Wait + Sync + Clock>(
+    rt: &R,
+    alloc: Global,
+    refused: &mut bool,
+) -> Result<Option<Wrong>, OutOfMemory> {
+    if let Some(wrong) = play_all(rt, alloc, &ROWS, refused)? {
+        return Ok(Some(wrong));
+    }
+    let steps = retired_storms(alloc)?;
+    let limits = Limits {
+        history: 8192,
+        ..EIGHT_THREADS
+    };
+    let Some(step) = play_steps(rt, alloc, limits, steps.as_slice(), refused)? else {
+        return Ok(None);
+    };
+    Ok(Some(Wrong {
+        row: "a_retired_handle_answers_as_one_thread_does",
+        step,
+    }))
+}
+
+/// What threads do at the same time is answered as it is to be, and as one thread answers it.
+#[test]
+fn threads_answer_as_one_does(rt: HostRuntime) -> Result<(), Fail> {
+    let mut refused = false;
+    let wrong = play_threads(&rt, rt.alloc(), &mut refused)?;
+    end(rt.alloc(), wrong, refused)
+}
+
+// What threads do at a board, and at a table of words.
+fn first_board<R: Threads + Wait + Sync>(
+    rt: &R,
+    alloc: Global,
+) -> Result<Option<Wrong>, OutOfMemory> {
+    let told = [
+        (
+            "two_threads_read_what_a_third_adds",
+            three_threads(rt, alloc)?,
+        ),
+        ("notes_of_two_threads", two_threads(rt, alloc)?),
+    ];
+    for (row, is_so) in told {
+        if !is_so {
+            return Ok(Some(Wrong { row, step: 0 }));
+        }
+    }
+    Ok(None)
+}
+
+/// Readers of a board, and the seats of a table of words, in threads of their own.
+#[test]
+fn boards_beside_their_readers(rt: HostRuntime) -> Result<(), Fail> {
+    let wrong = first_board(&rt, rt.alloc())?;
+    end(rt.alloc(), wrong, false)
+}

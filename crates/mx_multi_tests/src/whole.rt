@@ -1,0 +1,392 @@
+//! A multi handle with all its seats, which can be retired.
+ghost use Rattle.std.specs.Prelude.{◌≡◌, IfSome};
+ghost use Rattle.std.specs.List.{All};
+
+use crate::entries::{Entry, Stop};
+use crate::hand::Hand;
+use crate::hold::Hold;
+use crate::party::Task;
+use crate::sample::{End, Handle, Job};
+use crate::stress;
+use crate::stress::Pool;
+use mx_journal::{FinishReply, GiveBackReply};
+use mx_multi::{
+    HistoryUse, Limits, OpenError, Progress, Refusal, Retiring, Seat, WorkerSeat, run_two,
+};
+use mx_types::{Call, HandleId, Look, OutOfMemory, Reply, Ticket};
+use std::alloc::Global;
+use std::sync::{Arc, Wait};
+use std::thread::Threads;
+use std::time::Clock;
+
+/// A multi handle, all its seats and its workers' seats, and what the first worker has claimed.
+#[derive(Drop)]
+pub struct Whole {
+    pub multi: Handle,
+    pub seats: Vec<Seat<Job, End>>,
+    pub workers: Vec<WorkerSeat<Job, End>>,
+    pub hand: Hand,
+    pub ghost own: { All (λ s. s.of ≡ multi) seats.items × All (λ s. s.of ≡ multi) workers.items },
+    pub ghost claims: { hand ≡ multi.engine.ties },
+}
+
+// Makes a call at a seat, an addition with this crate's work.
+fn make_at<R: Wait>(rt: &R, multi: &Handle, seat: &mut Seat<Job, End>, call: Call) -> Option<Reply>
+    requires { seat.old.of ≡ multi.now }
+    ensures { seat.new.of ≡ seat.old.of }
+{
+    match call {
+        Call::Add(handle) => match multi.add(rt, seat, handle, Job) {
+            Ok(reply) => Some(reply.reply()),
+            Err(_) => None,
+        },
+        _ => {
+            let Some(reply) = multi.make(rt, seat, call) else {
+                return None;
+            };
+            Some(reply)
+        }
+    }
+}
+
+// Polls at a seat, for so many milliseconds at most.
+fn poll_at<R: Wait + Clock>(
+    rt: &R,
+    multi: &Handle,
+    seat: &mut Seat<Job, End>,
+    milliseconds: u32,
+) -> Option<bool>
+    requires { seat.old.of ≡ multi.now }
+    ensures { seat.new.of ≡ seat.old.of }
+{
+    match multi.poll_for(rt, seat, milliseconds) {
+        Ok(woken) => Some(woken),
+        Err(_) => None,
+    }
+}
+
+impl Whole {
+    pub fn open<R: Wait>(rt: &R, alloc: Global, limits: Limits) -> Result<Whole, OpenError> {
+        match Handle::open(rt, alloc, limits) {
+            Ok((multi, seats, workers)) => {
+                let hand = Hand::new(alloc, multi.first_ties());
+                Ok(Whole {
+                    multi,
+                    seats,
+                    workers,
+                    hand,
+                })
+            }
+            Err(error) => Err(error),
+        }
+    }
+
+    /// Makes a call at the seat with this number, an addition with this crate's work; None where there is no such seat, where it was
+    /// answered `WrongSeat` or None, or where it is a worker's.
+    pub fn make<R: Wait>(&mut self, rt: &R, number: usize, call: Call) -> Option<Reply>
+        ensures { self.new.multi ≡ self.old.multi }
+    {
+        let seat = self.seats.get_mut(number)?;
+        make_at(rt, &self.multi, seat, call)
+    }
+
+    /// Polls at the seat with this number, for so many milliseconds at most: whether the poll returned. None where there is no such seat, or
+    /// where it was answered `WrongSeat`.
+    pub fn poll_for<R: Wait + Clock>(
+        &mut self,
+        rt: &R,
+        number: usize,
+        milliseconds: u32,
+    ) -> Option<bool>
+        ensures { self.new.multi ≡ self.old.multi }
+    {
+        let seat = self.seats.get_mut(number)?;
+        poll_at(rt, &self.multi, seat, milliseconds)
+    }
+
+    /// Takes the next work at the first worker's seat, and keeps the claim alone: its ticket.
+    pub fn claim<R: Wait>(&mut self, rt: &R) -> Result<Option<Ticket>, OutOfMemory>
+        ensures { self.new.multi ≡ self.old.multi }
+    {
+        let Some(seat) = self.workers.first_mut() else {
+            return Ok(None);
+        };
+        let Some((claim, _work)) = self.multi.claim(rt, seat) else {
+            return Ok(None);
+        };
+        let ticket = claim.ticket();
+        self.hand.keep(claim)?;
+        Ok(Some(ticket))
+    }
+
+    /// What the first worker is told of a ticket. None where there is no such seat, or no answer.
+    pub fn look(&mut self, ticket: Ticket) -> Option<Look>
+        ensures { self.new.multi ≡ self.old.multi }
+    {
+        let seat = self.workers.first_mut()?;
+        let look = self.multi.look(seat, ticket)?;
+        Some(look)
+    }
+
+    /// The first worker notes so many bytes for its last claim. False where there is none.
+    pub fn note(&mut self, count: u32) -> bool
+        ensures { self.new.multi ≡ self.old.multi }
+    {
+        let Some(seat) = self.workers.first_mut() else {
+            return false;
+        };
+        let Some(claim) = self.hand.claims().last() else {
+            return false;
+        };
+        self.multi.note(seat, claim, count);
+        true
+    }
+
+    /// The last seat reads how far a handle's transfer is. None where there is no such seat, or no answer.
+    pub fn progress(&mut self, handle: HandleId) -> Option<Progress>
+        ensures { self.new.multi ≡ self.old.multi }
+    {
+        let seat = self.seats.last_mut()?;
+        let progress = self.multi.progress(seat, handle)?;
+        Some(progress)
+    }
+
+    /// The last seat makes the calls of a script: how many, and how many events it has then seen. None where there is no such seat.
+    pub fn run<R: Wait>(
+        &mut self,
+        rt: &R,
+        calls: &[Call],
+    ) -> Result<Option<(usize, u32)>, OutOfMemory>
+        ensures { self.new.multi ≡ self.old.multi }
+    {
+        let Some(seat) = self.take_last() else {
+            return Ok(None);
+        };
+        let mut client = self.multi.at(seat);
+        let made = client.run_script(rt, calls);
+        let cut = client.cut();
+        let seat = client.into_seat();
+        self.put_last(seat)?;
+        Ok(Some((made, cut)))
+    }
+
+    /// The last two seats meet: how many events both have then seen. None where there are no such seats, where it was answered
+    /// `WrongSeat`, and where they have seen other numbers.
+    pub fn meet_two<R: Wait>(&mut self, rt: &R) -> Result<Option<u32>, OutOfMemory>
+        ensures { self.new.multi ≡ self.old.multi }
+    {
+        let Some(two) = self.take_last() else {
+            return Ok(None);
+        };
+        let Some(one) = self.take_last() else {
+            return Ok(None);
+        };
+        let mut one = self.multi.at(one);
+        let mut two = self.multi.at(two);
+        let met = one.meet(rt, &mut two).ok();
+        let cuts = [Some(one.cut()), Some(two.cut())];
+        let (one, two) = (one.into_seat(), two.into_seat());
+        self.put_last(one)?;
+        self.put_last(two)?;
+        if cuts == [met, met] {
+            return Ok(met);
+        }
+        Ok(None)
+    }
+
+    /// Two threads make the calls of a script each, at the last two seats: how many each made, where they met, and how many events each seat
+    /// has then seen.
+    pub fn run_two<R: Threads + Wait + Sync>(
+        &mut self,
+        rt: &R,
+        scripts: (&[Call], &[Call]),
+    ) -> Result<Option<((usize, usize), [u32; 2])>, OutOfMemory>
+        ensures { self.new.multi ≡ self.old.multi }
+    {
+        let Some(two) = self.take_last() else {
+            return Ok(None);
+        };
+        let Some(one) = self.take_last() else {
+            return Ok(None);
+        };
+        let (one, two, made) = run_two(rt, &self.multi, one, scripts.0, two, scripts.1);
+        let cuts = [one.cut(), two.cut()];
+        self.put_last(one)?;
+        self.put_last(two)?;
+        Ok(made.map(|made| (made, cuts)))
+    }
+
+    /// Gives the work of the last claim back: whether its ticket ran and was claimed. None where it was answered `WrongSeat`, or where
+    /// there is no claim.
+    pub fn give_back<R: Wait>(&mut self, rt: &R) -> Option<bool>
+        ensures { self.new.multi ≡ self.old.multi }
+    {
+        let claim = self.hand.take()?;
+        let seat = self.workers.first_mut()?;
+        match self.multi.give_back(rt, seat, claim, Job) {
+            Ok(GiveBackReply::Back) => Some(true),
+            Ok(GiveBackReply::Stale(_)) => Some(false),
+            Err(_) => None,
+        }
+    }
+
+    /// Ends the transfer of the last claim; None where it was answered `WrongSeat`, or where there is no claim. A claim that comes back
+    /// for want of memory is kept again, where there is memory for that.
+    pub fn finish<R: Wait>(&mut self, rt: &R, end: End) -> Option<Reply>
+        ensures { self.new.multi ≡ self.old.multi }
+    {
+        let claim = self.hand.take()?;
+        let seat = self.workers.first_mut()?;
+        match self.multi.finish(rt, seat, claim, end) {
+            Ok(FinishReply::OutOfMemory(claim, _)) => {
+                let _kept = self.hand.keep(claim);
+                Some(Reply::OutOfMemory)
+            }
+            Ok(FinishReply::Recorded) => Some(Reply::Recorded),
+            Ok(FinishReply::Stale(_)) => Some(Reply::Stale),
+            Err(_) => None,
+        }
+    }
+
+    /// How many events the seat with this number has seen; None where there is no such seat.
+    pub fn cut(&self, number: usize) -> Option<u32> {
+        Some(self.seats.get(number)?.cut())
+    }
+
+    /// How many events the first worker's seat has seen; None where there is no such seat.
+    pub fn worker_cut(&self) -> Option<u32> {
+        Some(self.workers.first()?.cut())
+    }
+
+    /// How full the history was when the seat with this number last saw it; None where there is no such seat.
+    pub fn history(&self, number: usize) -> Option<HistoryUse> {
+        Some(self.seats.get(number)?.history())
+    }
+
+    /// Whether each seat and each worker's seat has seen so many events.
+    pub fn have_all_seen(&self, events: u32) -> bool {
+        for seat in &self.seats {
+            if seat.cut() != events {
+                return false;
+            }
+        }
+        for seat in &self.workers {
+            if seat.cut() != events {
+                return false;
+            }
+        }
+        true
+    }
+
+    /// Lets all seats see one journal: how many events it has. None where there is no seat, or where it was answered `WrongSeat`.
+    pub fn meet_all<R: Wait>(&mut self, rt: &R) -> Option<u32>
+        ensures { self.new.multi ≡ self.old.multi }
+    {
+        if self.seats.is_empty() {
+            return None;
+        }
+        let Ok(events) = self
+            .multi
+            .meet_all(rt, self.seats.as_mut_slice(), self.workers.as_mut_slice())
+        else {
+            return None;
+        };
+        Some(events)
+    }
+
+    /// Retires the multi handle; or why not, and then all is as it was. Once it is retired, there is no claim of the first worker.
+    pub fn retire<R: Wait>(self, rt: &R, alloc: Global) -> (Whole, Option<Refusal>)
+        ensures { IfSome result.1 (λ _. result.0.multi ≡ self.multi) }
+    {
+        let Whole {
+            multi,
+            seats,
+            workers,
+            hand,
+        } = self;
+        match multi.retire(rt, alloc, seats, workers) {
+            Retiring::Retired((multi, seats, workers)) => {
+                let hand = Hand::new(alloc, multi.first_ties());
+                let whole = Whole {
+                    multi,
+                    seats,
+                    workers,
+                    hand,
+                };
+                (whole, None)
+            }
+            Retiring::Refused(why, (multi, seats, workers)) => {
+                let whole = Whole {
+                    multi,
+                    seats,
+                    workers,
+                    hand,
+                };
+                (whole, Some(why))
+            }
+        }
+    }
+
+    // The last seat, which is then missing.
+    fn take_last(&mut self) -> Option<Seat<Job, End>>
+        ensures same { self.new.multi ≡ self.old.multi }
+        ensures own { IfSome result (λ s. s.of ≡ self.old.multi) }
+    {
+        let seat = self.seats.pop()?;
+        Some(seat)
+    }
+
+    // Puts a seat behind the others.
+    fn put_last(&mut self, seat: Seat<Job, End>) -> Result<(), OutOfMemory>
+        requires { seat.of ≡ self.old.multi }
+        ensures { self.new.multi ≡ self.old.multi }
+    {
+        self.seats.push(seat)?;
+        Ok(())
+    }
+
+    /// Threads do their tasks at the seats, as `stress::run`.
+    pub fn beside<R: Threads + Wait + Sync>(
+        self,
+        rt: &R,
+        alloc: Global,
+        tasks: &[Task],
+        hold: &Arc<Hold>,
+    ) -> (Whole, Result<Vec<Entry>, Stop>) {
+        let Whole {
+            multi,
+            seats,
+            workers,
+            hand,
+        } = self;
+        let mut pool = Pool {
+            multi: &multi,
+            seats,
+            workers,
+        };
+        let told = stress::run(rt, alloc, &mut pool, tasks, hold);
+        let Pool { seats, workers, .. } = pool;
+        let whole = Whole {
+            multi,
+            seats,
+            workers,
+            hand,
+        };
+        (whole, told)
+    }
+
+    /// The same with the last seat held back. Where it isn't retired, that stands in its place again; were there no room for it, it would
+    /// be let go, and the answer were `OutOfMemory`.
+    pub fn retire_without_last<R: Wait>(self, rt: &R, alloc: Global) -> (Whole, Option<Refusal>) {
+        let mut whole = self;
+        let held = whole.take_last();
+        let (mut whole, refused) = whole.retire(rt, alloc);
+        if refused.is_some()
+            && let Some(seat) = held
+            && whole.put_last(seat).is_err()
+        {
+            return (whole, Some(Refusal::OutOfMemory));
+        }
+        (whole, refused)
+    }
+}

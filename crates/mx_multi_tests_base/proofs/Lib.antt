@@ -1,3 +1,0 @@
-pub mod Hands
-pub mod Parties
-pub mod Sends

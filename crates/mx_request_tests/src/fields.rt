@@ -1,0 +1,233 @@
+//! Fields that are refused, and each character in a name and a value.
+
+use crate::row::{GET, Row, Seen};
+use crate::settings::{Given, with_field};
+use mx_request::{Request, RequestError};
+use mx_types::Method;
+use std::alloc::{AllocError, Global};
+
+/// A field that is refused.
+const BAD: Row = Row {
+    seen: Seen::Refused(RequestError::BadField),
+    ..GET
+};
+
+static ALONE: [Row; 11] = [
+    Row {
+        name: "refused_field_host",
+        given: Given::Field("Host", "x"),
+        ..BAD
+    },
+    Row {
+        name: "refused_field_user_agent",
+        given: Given::Field("USER-AGENT", "x"),
+        ..BAD
+    },
+    Row {
+        name: "refused_field_content_length",
+        given: Given::Field("content-length", "2"),
+        ..BAD
+    },
+    Row {
+        name: "refused_field_transfer_encoding",
+        given: Given::Field("Transfer-encoding", "chunked"),
+        ..BAD
+    },
+    Row {
+        name: "refused_field_connection",
+        given: Given::Field("Connection", "close"),
+        ..BAD
+    },
+    Row {
+        name: "refused_field_expect",
+        given: Given::Field("Expect", "100-continue"),
+        ..BAD
+    },
+    Row {
+        name: "refused_field_upgrade",
+        given: Given::Field("upgrade", "h2c"),
+        ..BAD
+    },
+    Row {
+        name: "refused_field_te",
+        given: Given::Field("te", "trailers"),
+        ..BAD
+    },
+    Row {
+        name: "refused_field_trailer",
+        given: Given::Field("Trailer", "X"),
+        ..BAD
+    },
+    Row {
+        name: "refused_field_without_a_name",
+        given: Given::Field("", "1"),
+        ..BAD
+    },
+    Row {
+        name: "refused_field_with_a_cr",
+        given: Given::Field("X-A", "1\r2"),
+        ..BAD
+    },
+];
+
+/// Fields that are refused.
+pub(crate) fn alone() -> &'static [Row] {
+    &ALONE
+}
+
+static WITH_BODY: [Row; 11] = [
+    Row {
+        name: "refused_field_host_and_a_large_body",
+        given: Given::FieldAndBody("Host", "x"),
+        ..BAD
+    },
+    Row {
+        name: "refused_field_user_agent_and_a_large_body",
+        given: Given::FieldAndBody("USER-AGENT", "x"),
+        ..BAD
+    },
+    Row {
+        name: "refused_field_content_length_and_a_large_body",
+        given: Given::FieldAndBody("content-length", "2"),
+        ..BAD
+    },
+    Row {
+        name: "refused_field_transfer_encoding_and_a_large_body",
+        given: Given::FieldAndBody("Transfer-encoding", "chunked"),
+        ..BAD
+    },
+    Row {
+        name: "refused_field_connection_and_a_large_body",
+        given: Given::FieldAndBody("Connection", "close"),
+        ..BAD
+    },
+    Row {
+        name: "refused_field_expect_and_a_large_body",
+        given: Given::FieldAndBody("Expect", "100-continue"),
+        ..BAD
+    },
+    Row {
+        name: "refused_field_upgrade_and_a_large_body",
+        given: Given::FieldAndBody("upgrade", "h2c"),
+        ..BAD
+    },
+    Row {
+        name: "refused_field_te_and_a_large_body",
+        given: Given::FieldAndBody("te", "trailers"),
+        ..BAD
+    },
+    Row {
+        name: "refused_field_trailer_and_a_large_body",
+        given: Given::FieldAndBody("Trailer", "X"),
+        ..BAD
+    },
+    Row {
+        name: "refused_field_without_a_name_and_a_large_body",
+        given: Given::FieldAndBody("", "1"),
+        ..BAD
+    },
+    Row {
+        name: "refused_field_with_a_cr_and_a_large_body",
+        given: Given::FieldAndBody("X-A", "1\r2"),
+        ..BAD
+    },
+];
+
+/// The same, with a body that is too large.
+pub(crate) fn with_body() -> &'static [Row] {
+    &WITH_BODY
+}
+
+/// Three letters with this character in place of the one at the place.
+fn placed(alloc: Global, c: char, place: usize) -> Result<String, AllocError> {
+    let mut text = String::new(alloc);
+    for i in 0..3 {
+        text.push(if i == place { c } else { 'a' })?;
+    }
+    Ok(text)
+}
+
+/// How often the byte stands among the bytes.
+fn count_of(bytes: &[u8], byte: u8) -> usize {
+    bytes.iter().filter(|b| **b == byte).count()
+}
+
+/// How many LF and CR a request with the field has, or what it is refused for.
+fn line_ends(
+    alloc: Global,
+    name: &str,
+    value: &str,
+) -> Result<Result<(usize, usize), RequestError>, AllocError> {
+    let settings = with_field(alloc, name, value)?;
+    Ok(
+        match Request::build(alloc, Method::Get, "http://example.com/", settings) {
+            Ok(request) => Ok((
+                count_of(request.bytes(), b'\n'),
+                count_of(request.bytes(), b'\r'),
+            )),
+            Err(refused) => Err(refused),
+        },
+    )
+}
+
+/// Whether a field is refused exactly where it isn't allowed, and a request that is built has no line beside its own.
+fn is_field_right(
+    alloc: Global,
+    name: &str,
+    value: &str,
+    is_allowed: bool,
+) -> Result<bool, AllocError> {
+    let expected = if is_allowed {
+        Ok((5, 5))
+    } else {
+        Err(RequestError::BadField)
+    };
+    Ok(line_ends(alloc, name, value)? == expected)
+}
+
+/// Whether a name is allowed where the character stands in it, and a value.
+///
+/// RFC 9110, section 5.6.2, lists the marks of a name.
+fn are_allowed(c: char, place: usize) -> (bool, bool) {
+    let is_token = c.is_ascii_alphanumeric() || "!#$%&'*+-.^_`|~".contains(c);
+    let is_blank = c == ' ' || c == '\t';
+    let is_control = (c < ' ' && c != '\t') || c == '\u{7f}';
+    (is_token, !is_control && (!is_blank || place == 1))
+}
+
+/// Whether names and values are right that have the character at that place of three.
+fn is_right_at(alloc: Global, c: char, place: usize) -> Result<bool, AllocError> {
+    let text = placed(alloc, c, place)?;
+    let (as_name, as_value) = are_allowed(c, place);
+    let is_name_right = is_field_right(alloc, text.as_str(), "v", as_name)?;
+    let is_value_right = is_field_right(alloc, "X", text.as_str(), as_value)?;
+    Ok(is_name_right && is_value_right)
+}
+
+/// Whether they are at the first, the middle and the last place.
+fn is_character_right(alloc: Global, c: char) -> Result<bool, AllocError> {
+    for place in 0..3 {
+        if !is_right_at(alloc, c, place)? {
+            return Ok(false);
+        }
+    }
+    Ok(true)
+}
+
+/// The first character that isn't right in a name or in a value.
+///
+/// The characters up to 255 have each byte below 128, the bytes 128 to 191 and two more; the others begin with bytes up to 244. No other
+/// byte is in a text.
+pub(crate) fn wrong_character(alloc: Global) -> Result<Option<char>, AllocError> {
+    for byte in 0..=255u8 {
+        if !is_character_right(alloc, char::from(byte))? {
+            return Ok(Some(char::from(byte)));
+        }
+    }
+    for c in ['\u{7ff}', '\u{ffff}', '\u{10ffff}'] {
+        if !is_character_right(alloc, c)? {
+            return Ok(Some(c));
+        }
+    }
+    Ok(None)
+}

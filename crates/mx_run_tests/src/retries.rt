@@ -1,0 +1,151 @@
+//! What `save` tries again, and when.
+use crate::tally::Tally;
+use mx_retry::{MOST_WAITING, Wait, Waiting, delay_ms, is_retried};
+use mx_types::{Code, Method};
+use std::alloc::{AllocError, Global};
+
+static TRANSIENT: [Code; 7] = [
+    Code::CouldntResolveHost,
+    Code::CouldntConnect,
+    Code::PartialFile,
+    Code::OperationTimedout,
+    Code::GotNothing,
+    Code::SendError,
+    Code::RecvError,
+];
+
+static LASTING: [Code; 9] = [
+    Code::Ok,
+    Code::UnsupportedProtocol,
+    Code::UrlMalformat,
+    Code::WeirdServerReply,
+    Code::OutOfMemory,
+    Code::TooManyRedirects,
+    Code::BadContentEncoding,
+    Code::FilesizeExceeded,
+    Code::TooLarge,
+];
+
+/// Each method, and whether it is tried again: nothing is asked for twice that may change something.
+static METHODS: [(Method, bool); 6] = [
+    (Method::Get, true),
+    (Method::Head, true),
+    (Method::Post, false),
+    (Method::Put, false),
+    (Method::Delete, false),
+    (Method::Options, false),
+];
+
+/// The statuses of responses that are tried again though they are whole.
+static STATUSES: [u16; 6] = [408, 429, 500, 502, 503, 504];
+
+/// Whether the codes are all tried again by that method, or none of them is.
+fn all_are(codes: &[Code], method: Method, are: bool) -> bool {
+    for code in codes {
+        if is_retried(method, *code, 200) != are {
+            return false;
+        }
+    }
+    true
+}
+
+fn see_codes(tally: &mut Tally) -> Result<(), AllocError> {
+    for row in &METHODS {
+        let (method, is_repeated) = *row;
+        let are_right = all_are(&TRANSIENT, method, is_repeated);
+        tally.see(are_right, method.as_str(), "transient codes\n")?;
+        let are_right = all_are(&LASTING, method, false);
+        tally.see(are_right, method.as_str(), "lasting codes\n")?;
+        let is_right = is_retried(method, Code::Ok, 503) == is_repeated;
+        tally.see(is_right, method.as_str(), "status 503\n")?;
+    }
+    Ok(())
+}
+
+fn see_statuses(alloc: Global, tally: &mut Tally) -> Result<(), AllocError> {
+    for status in 0..1_000u16 {
+        let is_right = is_retried(Method::Get, Code::Ok, status) == STATUSES.contains(&status);
+        tally.hold(format!(in alloc; "status {status}")?.as_str(), is_right)?;
+    }
+    Ok(())
+}
+
+/// After how many tries there is which delay, in milliseconds.
+static DELAYS: [(u32, u64); 8] = [
+    (1, 1_000),
+    (2, 2_000),
+    (3, 4_000),
+    (4, 8_000),
+    (5, 16_000),
+    (6, 32_000),
+    (7, 60_000),
+    (256, 60_000),
+];
+
+fn see_delays(alloc: Global, tally: &mut Tally) -> Result<(), AllocError> {
+    for row in &DELAYS {
+        let (tries, delay) = *row;
+        let is_right = tries >= 1 && delay_ms(tries) == delay;
+        tally.hold(format!(in alloc; "delay {tries}")?.as_str(), is_right)?;
+    }
+    Ok(())
+}
+
+fn add(waiting: &mut Waiting, moment: u64, job: u64) -> Result<bool, AllocError> {
+    if waiting.is_full() {
+        return Ok(false);
+    }
+    waiting.add(Wait { moment, job })?;
+    Ok(true)
+}
+
+/// The moment and the number of each job, out of order.
+static JOBS: [(u64, u64); 4] = [(30, 1), (10, 2), (20, 3), (10, 4)];
+
+/// Which job comes out at which moment, one after another.
+static DUE: [(u64, Option<u64>); 6] = [
+    (9, None),
+    (10, Some(2)),
+    (25, Some(4)),
+    (25, Some(3)),
+    (29, None),
+    (30, Some(1)),
+];
+
+fn see_due(alloc: Global, tally: &mut Tally) -> Result<(), AllocError> {
+    let mut waiting = Waiting::new(alloc);
+    for job in &JOBS {
+        add(&mut waiting, job.0, job.1)?;
+    }
+    tally.hold("the next moment", waiting.next() == Some(10))?;
+    for row in &DUE {
+        let (moment, job) = *row;
+        let is_right = waiting.pop_due(moment) == job;
+        tally.hold(format!(in alloc; "due at {moment}")?.as_str(), is_right)?;
+    }
+    tally.hold("no next moment", waiting.next().is_none())
+}
+
+/// As many jobs find room as may wait.
+fn see_most(alloc: Global, tally: &mut Tally) -> Result<(), AllocError> {
+    let mut waiting = Waiting::new(alloc);
+    let mut added = 0usize;
+    for job in 0..5_000u64 {
+        if add(&mut waiting, job, job)? {
+            added = added.saturating_add(1);
+        }
+    }
+    let is_right = added == MOST_WAITING && waiting.len() == 4_096;
+    tally.hold("as many as may wait", is_right)
+}
+
+/// Goes through all of them.
+pub(crate) fn tally(alloc: Global) -> Result<Tally, AllocError> {
+    let mut tally = Tally::new(alloc);
+    see_codes(&mut tally)?;
+    see_statuses(alloc, &mut tally)?;
+    see_delays(alloc, &mut tally)?;
+    see_due(alloc, &mut tally)?;
+    see_most(alloc, &mut tally)?;
+    Ok(tally)
+}

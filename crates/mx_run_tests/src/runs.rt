@@ -1,0 +1,103 @@
+//! Command lines that are run on an input.
+ghost use Rattle.mx_command.specs.Asked.{IsTask};
+
+use crate::escapes::Seen;
+use crate::words::words_of;
+use mx_command::{Asked, Task, read_command};
+use mx_run_body::{MOST_READS, run_body, run_body_explained};
+use mx_run_io::{Input, Output};
+use mx_run_task::{most_reads, run_task};
+use mx_types::Method;
+use std::alloc::{AllocError, Global};
+
+/// What was written, and the exit status.
+#[derive(Drop)]
+struct Written {
+    written: Vec<u8>,
+    told: Vec<u8>,
+    status: u8,
+}
+
+fn run(alloc: Global, task: Task, input: &[u8]) -> Written
+    requires { IsTask task }
+{
+    let mut written = Vec::new(alloc);
+    let status = run_task(
+        alloc,
+        task,
+        &mut Input::new(input, most_reads(task)),
+        &mut Output::new(&mut written),
+    );
+    Written {
+        written,
+        told: Vec::new(alloc),
+        status,
+    }
+}
+
+fn decode(alloc: Global, method: Method, input: &[u8]) -> Written {
+    let mut written = Vec::new(alloc);
+    let status = run_body(
+        alloc,
+        method,
+        &mut Input::new(input, MOST_READS),
+        &mut Output::new(&mut written),
+    );
+    Written {
+        written,
+        told: Vec::new(alloc),
+        status,
+    }
+}
+
+fn explain(alloc: Global, method: Method, input: &[u8]) -> Written {
+    let mut written = Vec::new(alloc);
+    let mut told = Vec::new(alloc);
+    let status = run_body_explained(
+        alloc,
+        method,
+        &mut Input::new(input, MOST_READS),
+        &mut Output::new(&mut written),
+        &mut Output::new(&mut told),
+    );
+    Written {
+        written,
+        told,
+        status,
+    }
+}
+
+fn tell_run(alloc: Global, run: &Written) -> Result<String, AllocError> {
+    let mut seen = Seen::new(alloc);
+    seen.see('>', run.written.as_slice())?;
+    seen.see('!', run.told.as_slice())?;
+    seen.end(run.status)?;
+    Ok(seen.text)
+}
+
+/// What is seen of `body --explain`, which has to print and to end with what `body` does.
+fn see_explained(alloc: Global, method: Method, input: &[u8]) -> Result<String, AllocError> {
+    let plain = decode(alloc, method, input);
+    let explained = explain(alloc, method, input);
+    if explained.status == plain.status
+        && explained.written.as_slice() == plain.written.as_slice()
+    {
+        tell_run(alloc, &explained)
+    } else {
+        String::from_str(alloc, "> other than without --explain\n")
+    }
+}
+
+/// What is seen of a command line, behind the name and a colon, that is run on an input.
+pub(crate) fn see_run(alloc: Global, name: &str, input: &[u8]) -> Result<String, AllocError> {
+    let line = match name.split_once(": ") {
+        Some((_, line)) => line,
+        None => name,
+    };
+    let words = words_of(alloc, line)?;
+    match read_command(alloc, words.as_slice()) {
+        Ok(Asked::Task(task)) => tell_run(alloc, &run(alloc, task, input)),
+        Ok(Asked::Explain(method)) => see_explained(alloc, method, input),
+        _ => String::from_str(alloc, "> no run\n"),
+    }
+}

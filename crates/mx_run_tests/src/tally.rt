@@ -1,0 +1,39 @@
+//! What became of the rows of a table.
+use std::alloc::{AllocError, Global};
+
+/// How many rows were gone through, how many of them are wrong, and what is said of these.
+#[derive(Drop)]
+pub(crate) struct Tally {
+    pub(crate) rows: u64,
+    pub(crate) wrong: u64,
+    pub(crate) text: String,
+}
+
+impl Tally {
+    /// That of no rows.
+    pub(crate) fn new(alloc: Global) -> Tally {
+        Tally {
+            rows: 0,
+            wrong: 0,
+            text: String::new(alloc),
+        }
+    }
+
+    /// Counts a row. Of a wrong one its name and what was seen are said.
+    pub(crate) fn see(&mut self, is_right: bool, name: &str, seen: &str) -> Result<(), AllocError> {
+        self.rows = self.rows.saturating_add(1);
+        if is_right {
+            return Ok(());
+        }
+        self.wrong = self.wrong.saturating_add(1);
+        self.text.push_str("WRONG: ")?;
+        self.text.push_str(name)?;
+        self.text.push('\n')?;
+        self.text.push_str(seen)
+    }
+
+    /// Counts a row of which no more is to be said than that it is wrong.
+    pub(crate) fn hold(&mut self, name: &str, is_right: bool) -> Result<(), AllocError> {
+        self.see(is_right, name, "")
+    }
+}

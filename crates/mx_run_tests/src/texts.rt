@@ -1,0 +1,35 @@
+//! What is seen of a row of text, by its kind.
+use crate::lists::{see_failing_list, see_list};
+use crate::rows::{Row, rows_of};
+use crate::runs::see_run;
+use crate::saves::see_save;
+use crate::tally::Tally;
+use crate::words::{see_command, see_hint};
+use std::alloc::{AllocError, Global};
+
+fn see(alloc: Global, row: &Row<'_>) -> Result<String, AllocError> {
+    match row.kind {
+        "command" => see_command(alloc, row.name),
+        "save" => see_save(alloc, row.name),
+        "hint" => see_hint(alloc, row.name),
+        "run" => see_run(alloc, row.name, row.input.as_slice()),
+        "list" => see_list(alloc, row.input.as_slice()),
+        "failing-list" => see_failing_list(alloc, row.name, row.input.as_slice()),
+        _ => String::from_str(alloc, "> no such kind\n"),
+    }
+}
+
+/// Goes through the rows of a text.
+pub(crate) fn tally(alloc: Global, text: &str) -> Result<Tally, AllocError> {
+    let mut tally = Tally::new(alloc);
+    let rows = rows_of(alloc, text)?;
+    for row in &rows {
+        let seen = see(alloc, row)?;
+        tally.see(
+            seen.as_str() == row.wanted.as_str(),
+            row.title,
+            seen.as_str(),
+        )?;
+    }
+    Ok(tally)
+}

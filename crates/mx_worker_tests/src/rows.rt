@@ -1,0 +1,14 @@
+//! The rows that are played without a refusal alone.
+
+use crate::links::{LINKS, WAITING};
+use crate::play::try_rows;
+use crate::table::{BY_HAND, ENDING};
+use std::test::Fail;
+
+#[test]
+fn each_row_comes_as_it_says(rt: HostRuntime) -> Result<(), Fail> {
+    try_rows(&rt, &ENDING)?;
+    try_rows(&rt, &BY_HAND)?;
+    try_rows(&rt, &LINKS)?;
+    try_rows(&rt, &WAITING)
+}

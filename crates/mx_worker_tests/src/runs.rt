@@ -1,0 +1,150 @@
+//! What a worker's run needs: its request, its start, what it ended with.
+ghost use Rattle.std.specs.Prelude.{◌≡◌};
+
+use crate::stage::Worker;
+use crate::steps::Answer;
+use crate::trouble::{Trouble, holds};
+use mx_gate::Gate;
+use mx_journal::AddReply;
+use mx_link::{Link, ScriptLink};
+use mx_request::{Request, RequestError};
+use mx_types::{Method, Reply, Settings, State};
+use mx_worker::{Queued, run_worker};
+use std::alloc::{Alloc, AllocGlobal, Global};
+use std::io;
+use std::io::ErrorKind;
+use std::random::RandomSource;
+use std::sync::Wait;
+
+/// A GET of the URL, which has so many milliseconds, or no deadline where these are 0, and follows so many redirects at most.
+pub fn work_of<L: Link>(
+    alloc: Global,
+    url: &str,
+    timeout_ms: u32,
+    max_redirects: u8,
+) -> Result<Queued<L>, Trouble> {
+    let mut settings = Settings::new(alloc);
+    settings.timeout_ms = timeout_ms;
+    settings.max_redirects = max_redirects;
+    queue(alloc, Request::build(alloc, Method::Get, url, settings))
+}
+
+// The work of a request that was built.
+fn queue<L: Link>(
+    alloc: Global,
+    built: Result<Request, RequestError>,
+) -> Result<Queued<L>, Trouble> {
+    match built {
+        Ok(request) => match Queued::new(alloc, request) {
+            Ok(work) => Ok(work),
+            Err(_) => Err(Trouble::NoMemory),
+        },
+        Err(RequestError::OutOfMemory) => Err(Trouble::NoMemory),
+        Err(_) => Err(Trouble::Wrong),
+    }
+}
+
+/// Fails unless an addition was made. It is of any work, so that what is handed back is let go as one value, whatever that is.
+pub fn added<Q: Drop, W: Drop>(answer: Result<AddReply<Q>, W>) -> Result<(), Trouble> {
+    match answer {
+        Ok(AddReply::Added(_)) => Ok(()),
+        Ok(AddReply::OutOfMemory(_)) => Err(Trouble::Refused),
+        _ => Err(Trouble::Wrong),
+    }
+}
+
+// Whether a reply is what it is to be.
+fn is_answer(reply: &Reply, answer: Answer) -> bool {
+    match (answer, reply) {
+        (Answer::Removed, Reply::Removed) => true,
+        (Answer::NotAdded, Reply::NotAdded) => true,
+        (Answer::Changed, Reply::Changed) => true,
+        (Answer::NoChange, Reply::NoChange) => true,
+        (Answer::NotRunning, Reply::NotRunning) => true,
+        (Answer::Paused(own), Reply::State(State::Paused(ticket))) => ticket.0 == own,
+        (Answer::Done(own, code), Reply::State(State::Done(ticket, ended))) => {
+            ticket.0 == own && *ended == code
+        }
+        (Answer::Running(count), Reply::Running(running)) => *running == count,
+        (Answer::Handle(own), Reply::Handles(handles)) => {
+            let handles = handles.as_slice();
+            handles.len() == 1 && handles[0].0 == own
+        }
+        _ => false,
+    }
+}
+
+/// Fails unless a reply is what it is to be: as refused where memory was.
+pub fn compare_reply(reply: &Reply, answer: Answer) -> Result<(), Trouble> {
+    if matches!(reply, Reply::OutOfMemory) {
+        return Err(Trouble::Refused);
+    }
+    holds(is_answer(reply, answer))
+}
+
+/// A runtime that has no random bytes, so that no worker can make its task.
+#[derive(Drop)]
+pub struct Unlucky<'a, R> {
+    rt: &'a R,
+}
+
+impl<'a, R: Wait> Wait for Unlucky<'a, R> {}
+
+impl<'a, R: AllocGlobal> Alloc for Unlucky<'a, R> {
+    type A = Global;
+
+    fn alloc(&self) -> Global {
+        self.rt.alloc()
+    }
+}
+
+impl<'a, R> RandomSource for Unlucky<'a, R> {
+    fn fill_bytes(&self, _buf: &mut [u8]) -> io::Result<()> {
+        Err(ErrorKind::Unsupported.into())
+    }
+}
+
+/// Starts a worker that is refused. It is to have done nothing; its seat comes back.
+pub fn refuse<'m, R: Wait + RandomSource + AllocGlobal, G: Gate<Link = ScriptLink>>(
+    rt: &R,
+    worker: Worker<'m>,
+    gate: &mut G,
+) -> Result<Worker<'m>, Trouble> {
+    let end = run_worker(&Unlucky { rt }, worker, gate);
+    if end.refused && (end.recorded, end.stale, end.given_back) == (0, 0, 0) {
+        return Ok(end.seat);
+    }
+    Err(Trouble::Wrong)
+}
+
+/// What a worker ended with.
+#[derive(Clone, Copy)]
+pub struct Ran {
+    pub recorded: u32,
+    pub stale: u32,
+    pub given_back: u32,
+    /// Whether memory for its start was refused at first.
+    pub is_second: bool,
+}
+
+/// Runs a worker, once more where memory for its start was refused.
+pub fn work<R: Wait + RandomSource + AllocGlobal, G: Gate<Link = ScriptLink>>(
+    rt: &R,
+    worker: Worker<'_>,
+    gate: &mut G,
+) -> Result<Ran, Trouble> {
+    let mut worker = worker;
+    for is_second in [false, true] {
+        let end = run_worker(rt, worker, gate);
+        if !end.refused {
+            return Ok(Ran {
+                recorded: end.recorded,
+                stale: end.stale,
+                given_back: end.given_back,
+                is_second,
+            });
+        }
+        worker = end.seat;
+    }
+    Err(Trouble::Refused)
+}
