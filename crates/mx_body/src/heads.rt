@@ -13,7 +13,7 @@ use mx_types::Code;
 const SWITCHING_PROTOCOLS: u16 = 101;
 
 /// What the heads at the front of the bytes come to.
-#[derive(Clone, Copy, Debug, PartialEq, Eq)]
+#[derive(Clone, Copy)]
 pub(crate) enum FinalStep {
     /// The final head, and where it ends in the bytes.
     Head { head: Head, end: usize },
@@ -24,7 +24,7 @@ pub(crate) enum FinalStep {
 }
 
 /// What one head of them comes to.
-#[derive(Clone, Copy, Debug, PartialEq, Eq)]
+#[derive(Clone, Copy)]
 enum Next {
     /// An interim head that is passed over, and where it ends.
     Passed(usize),
@@ -69,7 +69,7 @@ fn next_head(text: &[u8], start: usize, passed: usize) -> Next
 }
 
 /// How many interim heads have passed, where the next head begins, and how far that has been scanned.
-#[derive(Clone, Copy, Debug, PartialEq, Eq)]
+#[derive(Clone, Copy)]
 pub(crate) struct Passed {
     pub(crate) start: usize,
     pub(crate) count: usize,

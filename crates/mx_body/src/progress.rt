@@ -26,7 +26,7 @@ use std::alloc::Global;
 use std::mem;
 
 /// Where the bytes of an exchange have led, while they decide nothing.
-#[derive(Clone, Copy, Debug, PartialEq, Eq)]
+#[derive(Clone, Copy)]
 pub(crate) enum Phase {
     /// In a head.
     Heads(Passed),

@@ -6,7 +6,7 @@ use mx_types::{MOST_TRANSFERS, Ticket};
 use std::marker::Model;
 
 /// A moment that is set for a ticket. Moments are milliseconds on whatever clock the caller reads.
-#[derive(Clone, Copy, Debug, Default, PartialEq, Eq)]
+#[derive(Clone, Copy, Default)]
 pub struct Deadline {
     pub moment: u64,
     pub ticket: Ticket,

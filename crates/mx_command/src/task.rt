@@ -2,7 +2,7 @@
 use mx_types::Method;
 
 /// What a command line asks for, over standard input.
-#[derive(Clone, Copy, Debug, PartialEq, Eq)]
+#[derive(Clone, Copy, PartialEq, Eq)]
 pub enum Task {
     /// Decode the response that is read, as the answer to that method.
     Body(Method),

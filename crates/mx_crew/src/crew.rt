@@ -1,5 +1,5 @@
 //! What wakes workers, and what stops them.
-ghost use Rattle.std.specs.Prelude.{◌≡◌, ◌↔◌, IfOk, vec_len};
+ghost use Rattle.std.specs.Prelude.{◌≡◌, ◌↔◌, IfOk, OnOk, vec_len};
 ghost use Rattle.mx_types.specs.declared.code.Code.TheVariants as codes;
 ghost use Rattle.mx_crew.specs.declared.error.CrewError.TheVariants as crew_error;
 
@@ -101,9 +101,23 @@ impl Crew {
             Ok(gate) => gate,
             Err(code) => return Err(no_gate(code)),
         };
+        match self.know(&gate) {
+            Ok(()) => Ok(NamedGate::new(rt, gate, resolver)?),
+            Err(error) => {
+                drop(gate);
+                Err(error)
+            }
+        }
+    }
+
+    // Keeps what wakes the worker at this gate, and what tells whether too many files were open for it.
+    fn know<R: Net + Clock + AllocGlobal>(
+        &mut self,
+        gate: &SocketGate<'_, R>,
+    ) -> Result<(), CrewError> {
         self.bells.push(gate.bell()?)?;
         self.file_limits.push(gate.file_limit()?)?;
-        Ok(NamedGate::new(rt, gate, resolver)?)
+        Ok(())
     }
 
     /// So many gates, which this crew wakes and stops. They share a resolver, and their clocks and its own have one start. A thread begins
@@ -126,14 +140,57 @@ impl Crew {
         ensures { IfOk result (λ gates. vec_len gates ≡ count) }
     {
         let mut gates = Vec::with_capacity(rt.alloc(), usize::from(count))?;
-        let resolver = Resolver::new(rt.alloc(), SystemLookup::new(*rt), start)?;
-        serve(rt, resolver.share()?)?;
+        let resolver = served(rt, start)?;
+        let filled = self.fill(rt, start, &resolver, &mut gates, count);
+        drop(resolver);
+        match filled {
+            Ok(()) => Ok(gates),
+            Err(error) => {
+                drop(gates);
+                Err(error)
+            }
+        }
+    }
+
+    // Makes so many gates. It owns none of them, so that its exits let none go.
+    fn fill<
+        'r,
+        R: Net<Listener = TcpListener, Stream = TcpStream> + Clock + AllocGlobal + Wait + Drop,
+    >(
+        &mut self,
+        rt: &'r R,
+        start: Instant,
+        resolver: &Resolver<SystemLookup<R>, NameBell>,
+        gates: &mut Vec<HostGate<'r, R>>,
+        count: u8,
+    ) -> Result<(), CrewError>
+        requires { vec_len gates.old ≡ 0 }
+        ensures { OnOk result (vec_len gates.new ≡ count) }
+    {
         for made in 0..count {
             let _ = made;
-            gates.push(self.gate(rt, start, &resolver)?)?;
+            gates.push(self.gate(rt, start, resolver)?)?;
         }
-        Ok(gates)
+        Ok(())
     }
+}
+
+// A resolver whose clock started at `start`, and a thread that begins the lookups that it is asked for.
+fn served<
+    R: Net<Listener = TcpListener, Stream = TcpStream>
+        + Clock
+        + AllocGlobal
+        + Threads
+        + Wait
+        + Copy
+        + Send
+        + Sync
+        + Drop
+        + 'static,
+>(rt: &R, start: Instant) -> Result<Resolver<SystemLookup<R>, NameBell>, CrewError> {
+    let resolver = Resolver::new(rt.alloc(), SystemLookup::new(*rt), start)?;
+    serve(rt, resolver.share()?)?;
+    Ok(resolver)
 }
 
 // Starts a thread that begins the lookups that are wanted.

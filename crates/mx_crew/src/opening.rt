@@ -4,9 +4,9 @@ ghost use Rattle.mx_multi.specs.Opening.{are_within};
 
 use mx_link::Link;
 use mx_multi::{Limits, Multi, OpenError, Seat, WorkerSeat};
+use mx_queue::Queued;
 use mx_transfer::Outcome;
 use mx_types::OutOfMemory;
-use mx_worker::Queued;
 use std::alloc::AllocGlobal;
 use std::sync::Wait;
 

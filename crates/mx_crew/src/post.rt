@@ -1,11 +1,12 @@
 //! A worker's post.
-ghost use Rattle.std.specs.Prelude.{◌≡◌, All, IfErr, IfOk, min, vec_len};
+ghost use Rattle.std.specs.Prelude.{◌≡◌, ◌≤◌, All, IfErr, IfOk, min, vec_capacity, vec_len};
 
 use mx_gate::{Gate, Turn};
 use mx_link::Link;
 use mx_multi::{AtWork, Multi, Seated, WorkerSeat};
+use mx_queue::Queued;
 use mx_transfer::Outcome;
-use mx_worker::{Queued, run_worker};
+use mx_worker::{WorkerEnd, run_worker};
 use std::alloc::{AllocGlobal, Global};
 use std::random::RandomSource;
 use std::sync::Wait;
@@ -28,7 +29,7 @@ pub struct NoPosts<L: Link, G> {
 }
 
 /// What a worker did: how many ends it recorded, how many were stale, and how many transfers went back to the queue.
-#[derive(Clone, Copy, Debug, PartialEq, Eq)]
+#[derive(Clone, Copy)]
 pub struct Counts {
     pub recorded: u32,
     pub stale: u32,
@@ -58,16 +59,40 @@ pub fn posts<'m, L: Link, G: Gate<Link = L> + Drop>(
         return Err(NoPosts { seats, gates });
     };
     let (mut seats, mut gates) = (seats, gates);
+    fill(multi, &mut seats, &mut gates, &mut posts);
+    Ok(posts)
+}
+
+// Makes a post of each seat, as far as there are gates: there is room for them. It owns none of these, so that its exits let none go.
+fn fill<'m, L: Link, G: Gate<Link = L> + Drop>(
+    multi: &'m Multi<Queued<L>, Outcome>,
+    seats: &mut Vec<WorkerSeat<Queued<L>, Outcome>>,
+    gates: &mut Vec<G>,
+    posts: &mut Vec<Post<'m, L, G>>,
+)
+    requires own { All (λ s. s.of ≡ multi.now) seats.old.items }
+    requires none { vec_len posts.old ≡ 0 }
+    requires room { vec_len seats.old ≤ vec_capacity posts.old }
+    ensures { vec_len posts.new ≡ min (vec_len seats.old) (vec_len gates.old) }
+{
     while let Some(seat) = seats.pop() {
         let Some(gate) = gates.pop() else {
-            return Ok(posts);
+            return;
         };
         posts.push_reserved(Post {
             seat: multi.at(seat),
             gate,
         });
     }
-    Ok(posts)
+}
+
+// What a worker did. Its seat is let go.
+fn counts_of<L: Link>(end: WorkerEnd<'_, L>) -> Counts {
+    Counts {
+        recorded: end.recorded,
+        stale: end.stale,
+        given_back: end.given_back,
+    }
 }
 
 // Works until the gate stops it, and says what it did. The seat comes back as it was where there was no memory for the start, and the gate
@@ -83,11 +108,7 @@ fn work_once<'m, L: Link, R: Wait + RandomSource + AllocGlobal, G: Gate<Link = L
     if end.refused && matches!(gate.turn(START_AGAIN), Turn::Continue) {
         return Err(end.seat);
     }
-    Ok(Counts {
-        recorded: end.recorded,
-        stale: end.stale,
-        given_back: end.given_back,
-    })
+    Ok(counts_of(end))
 }
 
 // Works with a seat and a gate until the gate stops it, and says what it did: the gate comes back. Where there is no memory for its start it

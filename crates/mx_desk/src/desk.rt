@@ -13,10 +13,10 @@ use mx_journal::{AddReply, RemoveReply};
 use mx_link::Link;
 use mx_message::next_message_within;
 use mx_multi::{Application, Progress, Seated, WrongSeat};
+use mx_queue::Queued;
 use mx_request::Request;
 use mx_request::laws::origin_is_whole_request;
 use mx_types::{HandleId, OutOfMemory, Ticket};
-use mx_worker::Queued;
 use std::alloc::{AllocGlobal, Global};
 use std::marker::Model;
 use std::rt::Clock;
@@ -232,6 +232,7 @@ impl<'m, L: Link> Desk<'m, L> {
         ensures kept { OnErr result (Stays self.old self.new) }
     {
         let Some(handle) = free_handle(self.additions.as_slice(), at) else {
+            drop(request);
             return Err(DeskError::NotAdded);
         };
         let Some(addition) = add_transfer(rt, &mut self.seat, handle, request)? else {
@@ -273,8 +274,14 @@ impl<'m, L: Link> Desk<'m, L> {
             return Ok(None);
         };
         let at = message.handle.0 as usize;
-        self.take(at, message.ticket, &message.outcome)?;
-        remove(rt, &mut self.seat, message.handle)?;
+        if let Err(error) = self.take(at, message.ticket, &message.outcome) {
+            drop(message);
+            return Err(error);
+        }
+        if let Err(error) = remove(rt, &mut self.seat, message.handle) {
+            drop(message);
+            return Err(error);
+        }
         Ok(Some(Ended {
             at,
             ticket: message.ticket,

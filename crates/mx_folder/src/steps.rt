@@ -27,7 +27,7 @@ pub enum Step {
 }
 
 /// What is under a name. A link is followed to nothing: it is `Other`.
-#[derive(Clone, Copy, Debug, PartialEq, Eq)]
+#[derive(Clone, Copy, PartialEq, Eq)]
 pub enum Kind {
     /// Nothing.
     Absent,

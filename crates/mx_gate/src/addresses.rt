@@ -63,7 +63,6 @@ fn set_port(mut address: SocketAddr, port: u16) -> SocketAddr
 }
 
 // These addresses, at this port.
-#[tactic(auto, using(crate::proofs::FirstLemmas::all_at_more))]
 pub(crate) fn at_port(
     alloc: Global,
     addresses: &[SocketAddr],

@@ -65,7 +65,6 @@ impl<D: Dial> Model for DialLink<D> {
 }
 
 // Dials what is left, one address after another, until one isn't refused at once.
-#[tactic(auto, using(crate::proofs::DialLemmas::dials_none, crate::proofs::DialLemmas::dials_more))]
 fn dial_left<D: Dial>(
     dial: &mut D,
     left: &mut VecDeque<SocketAddr>,

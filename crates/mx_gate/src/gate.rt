@@ -7,7 +7,7 @@ use mx_request::Endpoint;
 use mx_types::Code;
 
 /// Whether a worker goes on.
-#[derive(Clone, Copy, Debug, PartialEq, Eq)]
+#[derive(Clone, Copy, PartialEq, Eq)]
 pub enum Turn {
     Continue,
     /// The worker is to take no more work.

@@ -20,4 +20,4 @@ pub use crate::ready::ReadyLink;
 pub use crate::said::Said;
 pub use crate::scripted::ScriptGate;
 pub use crate::signals::Signals;
-pub use crate::sockets::{Bell, FileLimit, SocketDial, SocketGate, SocketLink};
+pub use crate::sockets::{Bell, FileLimit, SocketDial, SocketGate, SocketLink, number_of};

@@ -59,6 +59,13 @@ impl Said {
             Ok(link) => Ok(link.token()),
             Err(code) => Err(*code),
         };
+        Said::opened_under(endpoint, number)
+    }
+
+    /// It opened a link of this number for the endpoint, or couldn't.
+    pub fn opened_under(endpoint: &Endpoint, number: Result<u64, Code>) -> Said
+        ensures { result ≡ opened endpoint.now number }
+    {
         Said {
             note: Note::Opened(Snapshot::of(endpoint), number),
         }

@@ -18,7 +18,7 @@ use crate::signals::Signals;
 use mio::event::Event;
 use mio::net::TcpStream;
 use mio::{Events, Interest, Poll, Registry, Token, Waker};
-use mx_link::TcpLink;
+use mx_link::{Link, TcpLink};
 use mx_request::Endpoint;
 use mx_types::{Code, History};
 use std::alloc::{AllocError, AllocGlobal, Global};
@@ -45,6 +45,18 @@ pub type SocketLink<'r, R> = ReadyLink<DialLink<SocketDial<'r, R>>>;
 struct Shared {
     registry: Registry,
     met_file_limit: AtomicBool,
+}
+
+impl Shared {
+    // The code of a connection that couldn't be begun. It is noted where too many files were open.
+    fn refused(&self, error: &io::Error) -> Code
+        ensures { is_link_code result ≡ true }
+    {
+        if meets_file_limit(error) {
+            self.met_file_limit.store(true, Ordering::SeqCst);
+        }
+        connect_code(error)
+    }
 }
 
 /// What opens the connections of one link of a `SocketGate`, and has its poll report when they are ready. Contracts see what it dialled.
@@ -89,12 +101,7 @@ impl<R: Net> Dial for SocketDial<'_, R> {
         self.dialled.note(address);
         match connect(self.rt, &self.shared.registry, address, token) {
             Ok(stream) => Ok(TcpLink::new(stream, token)),
-            Err(error) => {
-                if meets_file_limit(&error) {
-                    self.shared.met_file_limit.store(true, Ordering::SeqCst);
-                }
-                Err(connect_code(&error))
-            }
+            Err(error) => Err(self.shared.refused(&error)),
         }
     }
 }
@@ -161,6 +168,28 @@ impl<'r, R> Model for SocketGate<'r, R> {
 
 type Parts = (Poll, Arc<Shared>, Events<Global>, Arc<Waker>, Arc<Signals>);
 
+// The part of a gate of this poll that its links share.
+fn share(alloc: Global, poll: &Poll) -> io::Result<Arc<Shared>> {
+    let shared = Shared {
+        registry: poll.registry().try_clone()?,
+        met_file_limit: AtomicBool::new(false),
+    };
+    Ok(Arc::new(alloc, shared)?)
+}
+
+// The bell that ends a wait of this poll.
+fn bell_of(alloc: Global, poll: &Poll) -> io::Result<Arc<Waker>> {
+    Ok(Arc::new(alloc, Waker::new(poll.registry(), BELL)?)?)
+}
+
+// The events of this poll, the bell that ends its waits, and the signals that its links look at.
+fn tellers(alloc: Global, poll: &Poll) -> io::Result<(Events<Global>, Arc<Waker>, Arc<Signals>)> {
+    let events = Events::with_capacity(alloc, MOST_EVENTS)?;
+    let bell = bell_of(alloc, poll)?;
+    let signals = Arc::new(alloc, Signals::new(alloc)?)?;
+    Ok((events, bell, signals))
+}
+
 // What an event tells of its connection.
 #[derive(Clone, Copy)]
 struct News {
@@ -191,6 +220,35 @@ fn moment_after(latest: u64, passed: Duration) -> u64
 {
     let moment = u64::try_from(passed.as_millis()).unwrap_or(u64::MAX);
     latest.max(moment)
+}
+
+// A link over these addresses. The dial opens its connections, and the signals tell when they are ready.
+fn link_over<'r, R: Net>(
+    dialler: (SocketDial<'r, R>, Arc<Signals>),
+    addresses: Vec<SocketAddr>,
+    token: u64,
+) -> Result<SocketLink<'r, R>, Code>
+    requires { dialler.0 ≡ [] }
+    ensures opened { IfOk result (λ link. (link.link.token ≡ token) × (link.history ≡ [])) }
+    ensures addresses { IfOk result (λ link. addresses_of link.link ≡ addresses.items) }
+    ensures some { IfOk result (λ link. 0 < length link.link.dialled) }
+    ensures code { IfErr result (λ code. is_link_code code ≡ true) }
+{
+    let (dial, signals) = dialler;
+    match DialLink::over(dial, addresses, token) {
+        Ok(link) => Ok(ReadyLink::over(link, signals)),
+        Err(code) => Err(code),
+    }
+}
+
+/// The number of the link that was opened, or the code of why it couldn't be.
+pub fn number_of<R: Net>(answer: &Result<SocketLink<'_, R>, Code>) -> Result<u64, Code>
+    ensures { result ≡ numbered (λ link. link.link.token) answer.now }
+{
+    match answer {
+        Ok(link) => Ok(link.token()),
+        Err(code) => Err(*code),
+    }
 }
 
 fn turn_of(is_stopped: bool) -> Turn
@@ -252,14 +310,8 @@ impl<'r, R: Net + Clock + AllocGlobal> SocketGate<'r, R> {
 
     fn parts(rt: &'r R) -> io::Result<Parts> {
         let poll = Poll::new(rt)?;
-        let shared = Shared {
-            registry: poll.registry().try_clone()?,
-            met_file_limit: AtomicBool::new(false),
-        };
-        let shared = Arc::new(rt.alloc(), shared)?;
-        let events = Events::with_capacity(rt.alloc(), MOST_EVENTS)?;
-        let bell = Arc::new(rt.alloc(), Waker::new(poll.registry(), BELL)?)?;
-        let signals = Arc::new(rt.alloc(), Signals::new(rt.alloc())?)?;
+        let shared = share(rt.alloc(), &poll)?;
+        let (events, bell, signals) = tellers(rt.alloc(), &poll)?;
         Ok((poll, shared, events, bell, signals))
     }
 
@@ -290,17 +342,17 @@ impl<'r, R: Net + Clock + AllocGlobal> SocketGate<'r, R> {
     fn dialler(&self) -> Result<(SocketDial<'r, R>, Arc<Signals>), AllocError>
         ensures { IfOk result (λ dialler. dialler.0 ≡ []) }
     {
+        let shared = Arc::try_clone(&self.shared)?;
+        let signals = Arc::try_clone(&self.signals)?;
         let dial = SocketDial {
             rt: self.rt,
-            shared: Arc::try_clone(&self.shared)?,
+            shared,
             dialled: History::new(),
         };
-        let signals = Arc::try_clone(&self.signals)?;
         Ok((dial, signals))
     }
 
     // Begins to connect to the first of these addresses that isn't refused at once. The first of them is noted just before it is dialled.
-    #[tactic(auto, using(crate::proofs::FirstLemmas::notes_first))]
     fn begin_at(&mut self, addresses: Vec<SocketAddr>) -> Result<SocketLink<'r, R>, Code>
         ensures code { IfErr result (λ code. is_link_code code ≡ true) }
         ensures opened { IfOk result (λ link. (link.link.token ≡ self.old.next_token) × (link.history ≡ [])
@@ -311,7 +363,7 @@ impl<'r, R: Net + Clock + AllocGlobal> SocketGate<'r, R> {
         ensures dialled { IfOk result (λ _. NotesFirst addresses.items self.old.dialled self.new.dialled) }
         ensures undialled { OnErr result ((self.new.dialled ≡ self.old.dialled) ⊎ NotesFirst addresses.items self.old.dialled self.new.dialled) }
     {
-        let Ok((dial, signals)) = self.dialler() else {
+        let Ok(dialler) = self.dialler() else {
             return Err(Code::OutOfMemory);
         };
         let Some(first) = addresses.first().copied() else {
@@ -319,11 +371,11 @@ impl<'r, R: Net + Clock + AllocGlobal> SocketGate<'r, R> {
         };
         self.dialled.note(first);
         let token = self.next_token;
-        match DialLink::over(dial, addresses, token) {
+        match link_over(dialler, addresses, token) {
             Ok(link) => {
                 self.may_skip = false;
                 self.next_token = token.saturating_add(1);
-                Ok(ReadyLink::over(link, signals))
+                Ok(link)
             }
             Err(code) => Err(code),
         }
@@ -388,7 +440,8 @@ impl<'r, R: Net + Clock + AllocGlobal> SocketGate<'r, R> {
         ensures noted { self.new.said ≡ self.old.said ++ opened endpoint.now (numbered (λ link. link.link.token) result) ∷ [] }
     {
         let answer = self.begin_with(endpoint, addresses);
-        self.said.note(Said::opened(endpoint, &answer));
+        let number = number_of(&answer);
+        self.said.note(Said::opened_under(endpoint, number));
         answer
     }
 
@@ -475,7 +528,8 @@ impl<'r, R: Net + Clock + AllocGlobal> Gate for SocketGate<'r, R> {
         ensures noted { self.new.said ≡ self.old.said ++ opened endpoint.now (numbered (λ link. link.link.token) result) ∷ [] }
     {
         let answer = self.begin(endpoint);
-        self.said.note(Said::opened(endpoint, &answer));
+        let number = number_of(&answer);
+        self.said.note(Said::opened_under(endpoint, number));
         answer
     }
 

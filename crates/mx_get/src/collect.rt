@@ -17,19 +17,19 @@ ghost use Rattle.mx_get.specs.Places.{asked_at, awaits_at, is_awaiting, noted_at
 use crate::addition::Addition;
 use crate::end::End;
 use crate::error::FetchError;
-use crate::place::{Place, awaits, ends_at};
+use crate::place::{Place, ended_at, ends_at};
 use mx_crew::Crew;
 use mx_journal::AddReply;
 use mx_link::Link;
 use mx_message::{NoMessage, next_message};
 use mx_multi::{Application, Seated, WrongSeat};
+use mx_queue::Queued;
 use mx_request::laws::origin_is_whole_request;
 use mx_request::{Request, RequestError};
 use mx_run_get::Fetched;
 use mx_run_io::Options;
 use mx_transfer::Outcome;
 use mx_types::{HandleId, Method, OutOfMemory, Settings, Ticket};
-use mx_worker::Queued;
 use std::alloc::{AllocGlobal, Global};
 use std::marker::Model;
 use std::snapshot::Snapshot;
@@ -79,9 +79,7 @@ fn add_transfer<L: Link, R: Wait + AllocGlobal>(
 {
     request.know();
     let asked = Snapshot::of(&request);
-    let Ok(work) = Queued::new(rt.alloc(), request) else {
-        return Err(FetchError::OutOfMemory);
-    };
+    let work = Queued::new(rt.alloc(), request)?;
     let ticket = added(seat.add(rt, handle, work))?;
     Ok(Addition::new(ticket, asked))
 }
@@ -121,12 +119,18 @@ impl<'m, L: Link> Desk<'m, L> {
         ensures seat { IfOk result (λ desk. desk.seat ≡ seat.entry) }
         ensures fresh { IfOk result (IsNewFor options) }
     {
-        Ok(Desk {
-            seat,
-            places: Vec::with_capacity(alloc, count)?,
-            waiting: 0,
-            width: usize::from(options.width()),
-        })
+        match Vec::with_capacity(alloc, count) {
+            Ok(places) => Ok(Desk {
+                seat,
+                places,
+                waiting: 0,
+                width: usize::from(options.width()),
+            }),
+            Err(_) => {
+                drop(seat);
+                Err(OutOfMemory)
+            }
+        }
     }
 
     // Adds the transfer of a request, whose handle is the number of the next place.
@@ -191,8 +195,7 @@ impl<'m, L: Link> Desk<'m, L> {
         let at = handle.0 as usize;
         outcome.request().know();
         origin_is_whole_request();
-        if awaits(self.places.as_slice(), at, ticket) {
-            self.places[at] = Place::Known(End::ended(alloc, outcome));
+        if ended_at(alloc, &mut self.places, at, ticket, outcome) {
             self.waiting -= 1;
             return Ok(());
         }
@@ -281,7 +284,12 @@ impl<'m, L: Link> Desk<'m, L> {
         ensures cause { IfErr result (λ e. is_of_run e ≡ true) }
     {
         let mut desk = self;
-        desk.fill(rt, crew, urls, options)?;
-        ends_at(rt.alloc(), desk.places)
+        match desk.fill(rt, crew, urls, options) {
+            Ok(()) => ends_at(rt.alloc(), desk.places),
+            Err(error) => {
+                drop(desk);
+                Err(error)
+            }
+        }
     }
 }

@@ -13,11 +13,11 @@ use crate::error::FetchError;
 use mx_crew::{Crew, CrewError, Opened, Post, Runtime, open_one, posts, run_beside};
 use mx_gate::Gate;
 use mx_link::Link;
-use mx_multi::{Limits, Multi, Seat, WorkerSeat};
+use mx_multi::{Application, Limits, Multi, Seat, Seated, WorkerSeat};
+use mx_queue::Queued;
 use mx_run_get::Fetched;
 use mx_run_io::Options;
 use mx_transfer::Outcome;
-use mx_worker::Queued;
 use std::alloc::AllocGlobal;
 use std::net::{Net, TcpListener, TcpStream};
 use std::random::RandomSource;
@@ -73,11 +73,43 @@ fn collect_beside<
             ensures ends { IfOk result (λ ends. AreEndsOf options.timeout_ms options.max_redirects (map (λ u. u.now) urls.entry.now) ends.items) }
             ensures cause { IfErr result (λ e. is_of_run e ≡ true) }
         {
-            stands?;
-            desk.collect(rt, crew, urls, options)
+            match stands {
+                Ok(()) => desk.collect(rt, crew, urls, options),
+                Err(error) => {
+                    drop(desk);
+                    Err(FetchError::from(error))
+                }
+            }
         },
     );
     collected
+}
+
+// Fetches from an application's seat, with a worker at each post.
+fn fetch_beside<
+    'm,
+    L: Link + Send,
+    R: Threads + Wait + RandomSource + AllocGlobal + Sync,
+    G: Gate<Link = L> + Send + Drop,
+>(
+    rt: &'m R,
+    seat: Seated<'m, Application, Queued<L>, Outcome>,
+    crew: &'m Crew,
+    posts: Vec<Post<'m, L, G>>,
+    urls: &[&str],
+    options: Options,
+) -> Result<Vec<Fetched>, FetchError>
+    requires posts { vec_len posts ≡ options.workers }
+    ensures ends { IfOk result (λ ends. AreEndsOf options.timeout_ms options.max_redirects (map (λ u. u.now) urls.now) ends.items) }
+    ensures cause { IfErr result (λ e. is_of_run e ≡ true) }
+{
+    match Desk::new(rt.alloc(), seat, urls.len(), options) {
+        Ok(desk) => collect_beside(rt, crew, posts, desk, urls, options),
+        Err(error) => {
+            drop(posts);
+            Err(FetchError::from(error))
+        }
+    }
 }
 
 // Fetches at a multi handle that is open, with a worker at each gate. What is let go where memory is wanting is here, and not where the
@@ -106,11 +138,44 @@ fn fetch_with<
     ensures cause { IfErr result (λ e. is_of_run e ≡ true) }
 {
     let (seat, workers) = seats;
-    let Ok(posts) = posts(rt.alloc(), multi, workers, gates) else {
-        return Err(FetchError::OutOfMemory);
-    };
-    let desk = Desk::new(rt.alloc(), multi.at(seat), urls.len(), options)?;
-    collect_beside(rt, crew, posts, desk, urls, options)
+    match posts(rt.alloc(), multi, workers, gates) {
+        Ok(posts) => fetch_beside(rt, multi.at(seat), crew, posts, urls, options),
+        Err(refused) => {
+            drop(refused);
+            drop(seat);
+            Err(FetchError::OutOfMemory)
+        }
+    }
+}
+
+// Fetches at a multi handle that was opened as the options ask for, and lets it go.
+fn fetch_opened<
+    L: Link + Send,
+    R: Threads + Wait + RandomSource + AllocGlobal + Sync,
+    G: Gate<Link = L> + Send + Drop,
+>(
+    rt: &R,
+    opened: Opened<L>,
+    crew: &Crew,
+    gates: Vec<G>,
+    urls: &[&str],
+    options: Options,
+) -> Result<Vec<Fetched>, FetchError>
+    requires opened { IsOpenedFor options opened.multi }
+    requires seat { opened.seat.of ≡ opened.multi }
+    requires workers { All (λ s. s.of ≡ opened.multi) opened.workers.items }
+    requires counts { (vec_len opened.workers ≡ options.workers) × (vec_len gates ≡ options.workers) }
+    ensures ends { IfOk result (λ ends. AreEndsOf options.timeout_ms options.max_redirects (map (λ u. u.now) urls.now) ends.items) }
+    ensures cause { IfErr result (λ e. is_of_run e ≡ true) }
+{
+    let Opened {
+        multi,
+        seat,
+        workers,
+    } = opened;
+    let fetched = fetch_with(rt, &multi, (seat, workers), crew, gates, urls, options);
+    drop(multi);
+    fetched
 }
 
 // Fetches with a worker at each gate, which are as many as the options ask for. It knows nothing of sockets: what it lets go, in each of
@@ -131,12 +196,32 @@ fn fetch_at<
     ensures ends { IfOk result (λ ends. AreEndsOf options.timeout_ms options.max_redirects (map (λ u. u.now) urls.now) ends.items) }
     ensures cause { IfErr result (λ e. is_of_run e ≡ true) }
 {
-    let Opened {
-        multi,
-        seat,
-        workers,
-    } = open_one(rt, limits(options))?;
-    fetch_with(rt, &multi, (seat, workers), crew, gates, urls, options)
+    match open_one(rt, limits(options)) {
+        Ok(opened) => fetch_opened(rt, opened, crew, gates, urls, options),
+        Err(error) => {
+            drop(gates);
+            Err(FetchError::from(error))
+        }
+    }
+}
+
+// Fetches with workers over sockets that this crew wakes and stops. It owns no crew, so that its exits let none go.
+fn fetch_by<R: Runtime + Net<Listener = TcpListener, Stream = TcpStream>>(
+    rt: &R,
+    crew: &mut Crew,
+    urls: &[&str],
+    options: Options,
+    start: Instant,
+    met_file_limit: &mut bool,
+) -> Result<Vec<Fetched>, FetchError>
+    requires { are_within options ≡ true }
+    ensures ends { IfOk result (λ ends. AreEndsOf options.timeout_ms options.max_redirects (map (λ u. u.now) urls.now) ends.items) }
+    ensures cause { IfErr result (λ e. is_of_run e ≡ true) }
+{
+    let gates = crew.gates(rt, start, options.workers)?;
+    let fetched = fetch_at(rt, crew, gates, urls, options);
+    *met_file_limit = crew.met_file_limit();
+    fetched
 }
 
 // Fetches with workers over sockets, whose clocks have one start.
@@ -152,9 +237,8 @@ fn fetch_from<R: Runtime + Net<Listener = TcpListener, Stream = TcpStream>>(
     ensures cause { IfErr result (λ e. is_of_run e ≡ true) }
 {
     let mut crew = Crew::new(rt.alloc())?;
-    let gates = crew.gates(rt, start, options.workers)?;
-    let fetched = fetch_at(rt, &crew, gates, urls, options);
-    *met_file_limit = crew.met_file_limit();
+    let fetched = fetch_by(rt, &mut crew, urls, options, start, met_file_limit);
+    drop(crew);
     fetched
 }
 

@@ -15,7 +15,7 @@ use crate::types::{Coding, Length};
 use httparse::spans::{HeaderSpan, Span};
 
 /// What the elements of Transfer-Encoding that were read come to.
-#[derive(Clone, Copy, Debug, PartialEq, Eq)]
+#[derive(Clone, Copy)]
 enum Seen {
     Nothing,
     Blank,

@@ -11,7 +11,7 @@ use httparse::{is_header_name_token, is_header_value, is_header_value_token};
 use memchr::memchr2;
 
 /// Where in the grammar of a head the bytes so far lead.
-#[derive(Clone, Copy, Debug, PartialEq, Eq)]
+#[derive(Clone, Copy)]
 pub(crate) enum Spot {
     /// At the beginning of a line, before the status line.
     Blank,
@@ -36,14 +36,14 @@ pub(crate) enum Spot {
 }
 
 /// A spot, and how many field lines have begun before it.
-#[derive(Clone, Copy, Debug, PartialEq, Eq)]
+#[derive(Clone, Copy)]
 pub(crate) struct Reached {
     pub(crate) spot: Spot,
     pub(crate) fields: usize,
 }
 
 /// How far the bytes of a head have been scanned.
-#[derive(Clone, Copy, Debug, PartialEq, Eq)]
+#[derive(Clone, Copy)]
 pub struct HeadScan {
     pub(crate) read: usize,
     pub(crate) reached: Reached,

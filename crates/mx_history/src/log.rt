@@ -39,6 +39,7 @@ impl std::marker::Model for VecLog {
 }
 
 impl VecLog {
+    /// No event; those that come take memory from `alloc`.
     pub fn new(alloc: Global) -> VecLog
         ensures { result ≡ [] }
     {
@@ -47,6 +48,7 @@ impl VecLog {
         }
     }
 
+    /// The events, in order.
     pub fn events(&self) -> &[Event]
         ensures { result.now ≡ self.now }
     {

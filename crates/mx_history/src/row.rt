@@ -6,7 +6,7 @@ ghost use Rattle.mx_history.specs.Rows.{is_paused, ended_phase, is_open, places_
 use mx_types::{Code, HandleId, State, Ticket, What};
 
 /// How far an addition is.
-#[derive(Clone, Copy, Debug, PartialEq, Eq)]
+#[derive(Clone, Copy)]
 pub enum Phase {
     Running,
     Paused,
@@ -17,7 +17,7 @@ pub enum Phase {
 }
 
 /// An added handle in the table: its ticket, its slot from 0 to 255, and how far it is.
-#[derive(Clone, Copy, Debug, PartialEq, Eq)]
+#[derive(Clone, Copy)]
 pub struct Row {
     pub handle: HandleId,
     pub ticket: Ticket,
@@ -26,6 +26,7 @@ pub struct Row {
 }
 
 impl Phase {
+    /// Whether the transfer has not ended.
     pub fn is_open(self) -> bool
         ensures { result ≡ is_open self }
     {
@@ -35,6 +36,7 @@ impl Phase {
         }
     }
 
+    /// Whether the transfer has not ended and is paused.
     pub fn is_paused(self) -> bool
         ensures { result ≡ is_paused self }
     {

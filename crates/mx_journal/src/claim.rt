@@ -35,18 +35,21 @@ impl<Q: Work> Claim<Q> {
         }
     }
 
+    /// The handle that was added.
     pub fn handle(&self) -> HandleId
         ensures { result ≡ self.now.handle }
     {
         self.handle
     }
 
+    /// The ticket of the addition.
     pub fn ticket(&self) -> Ticket
         ensures { result ≡ self.now.ticket }
     {
         self.ticket
     }
 
+    /// The slot of the handle in the table.
     pub fn slot(&self) -> u8
         ensures { result ≡ self.now.slot }
     {

@@ -15,7 +15,8 @@ pub enum AddReply<Q> {
     OutOfMemory(Q),
 }
 
-#[derive(Clone, Copy, Debug, PartialEq, Eq)]
+/// Of `remove`.
+#[derive(Clone, Copy, PartialEq, Eq)]
 pub enum RemoveReply {
     Removed,
     NotAdded,
@@ -23,7 +24,7 @@ pub enum RemoveReply {
 }
 
 /// Of `pause` and `unpause`.
-#[derive(Clone, Copy, Debug, PartialEq, Eq)]
+#[derive(Clone, Copy, PartialEq, Eq)]
 pub enum PauseReply {
     Changed,
     NotAdded,
@@ -46,7 +47,8 @@ pub enum InfoReply<O> {
     OutOfMemory,
 }
 
-#[derive(Clone, Copy, Debug, PartialEq, Eq)]
+/// Of `wakeup`.
+#[derive(Clone, Copy)]
 pub enum WakeupReply {
     Ok,
     Failure,
@@ -69,7 +71,7 @@ pub enum GiveBackReply<Q> {
 }
 
 /// Of `retire`: how many events are kept, or that a claim is out.
-#[derive(Clone, Copy, Debug, PartialEq, Eq)]
+#[derive(Clone, Copy)]
 pub enum RetireReply {
     Retired(u32),
     ClaimOut,

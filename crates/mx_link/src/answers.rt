@@ -5,7 +5,7 @@ use mx_types::History;
 use std::marker::Model;
 
 /// Whether a connection stands.
-#[derive(Clone, Copy, Debug, PartialEq, Eq)]
+#[derive(Clone, Copy, PartialEq, Eq)]
 pub enum Connect {
     /// It does.
     Done,
@@ -16,7 +16,7 @@ pub enum Connect {
 }
 
 /// What a read gave.
-#[derive(Clone, Copy, Debug, PartialEq, Eq)]
+#[derive(Clone, Copy, PartialEq, Eq)]
 pub enum Read {
     /// So many bytes, at the front of the buffer: at least 1.
     Bytes(usize),
@@ -29,7 +29,7 @@ pub enum Read {
 }
 
 /// What a write took.
-#[derive(Clone, Copy, Debug, PartialEq, Eq)]
+#[derive(Clone, Copy, PartialEq, Eq)]
 pub enum Write {
     /// So many bytes, from the front: at least 1.
     Bytes(usize),

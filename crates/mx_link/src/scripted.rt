@@ -11,7 +11,7 @@ use std::alloc::{AllocError, Global};
 use std::marker::Model;
 
 /// An entry of a script: what a read is to answer.
-#[derive(Clone, Copy, Debug)]
+#[derive(Clone, Copy)]
 pub enum ScriptRead<'a> {
     /// These bytes. What a read's buffer can't hold comes with the next read. An entry of no bytes is skipped.
     Bytes(&'a [u8]),

@@ -49,18 +49,21 @@ impl<Q: Work> TiedClaim<Q> {
         (self.claim, self.mark)
     }
 
+    /// The handle that was added.
     pub fn handle(&self) -> HandleId
         ensures { result ≡ self.now.handle }
     {
         self.claim.handle()
     }
 
+    /// The ticket of the addition.
     pub fn ticket(&self) -> Ticket
         ensures { result ≡ self.now.ticket }
     {
         self.claim.ticket()
     }
 
+    /// The slot of the handle in the table.
     pub fn slot(&self) -> u8
         ensures { result ≡ self.now.slot }
     {

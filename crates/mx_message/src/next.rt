@@ -24,7 +24,7 @@ pub struct Message {
 }
 
 /// No message was read: a call was answered `WrongSeat`, or there was no memory.
-#[derive(Clone, Copy, Debug, PartialEq, Eq)]
+#[derive(Clone, Copy)]
 pub struct NoMessage;
 
 // What is known of an outcome.

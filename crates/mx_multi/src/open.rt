@@ -17,7 +17,7 @@ use thiserror::Error;
 pub const MOST_CONNECTS: u8 = 64;
 
 /// What a multi handle is opened with.
-#[derive(Clone, Copy, Debug, PartialEq, Eq)]
+#[derive(Clone, Copy)]
 pub struct Limits {
     /// Seats for application threads, 1 to [`MOST_SEATS`].
     pub seats: u8,
@@ -146,5 +146,7 @@ impl<Q: Work + Drop, O: Ending + Drop> Multi<Q, O> {
     {
         let mut seat = seat;
         self.lock.end(rt, &mut seat.key);
+        // By a call, which is less to prove than to let go at the end of the block.
+        drop(self);
     }
 }

@@ -6,7 +6,7 @@ use mx_board::{Found, NoteSeat, ProgressTable};
 use mx_types::Ticket;
 
 /// How far a handle's transfer is.
-#[derive(Clone, Copy, Debug, PartialEq, Eq)]
+#[derive(Clone, Copy, PartialEq, Eq)]
 pub enum Progress {
     /// The ticket of its addition, and how many bytes of its response were received; 0 where none were noted for it.
     Bytes(Ticket, u32),

@@ -125,7 +125,13 @@ impl<Q: Work + Drop, O: Ending + Drop> Multi<Q, O> {
             return Retiring::Refused(Refusal::SeatsMissing, (self, seats, workers));
         };
         match self.retire_by(rt, alloc, last, &seats, &workers) {
-            Ok(retired) => Retiring::Retired(retired),
+            Ok(retired) => {
+                // By calls, which are less to prove than to let go at the end of the block.
+                drop(seats);
+                drop(workers);
+                drop(self);
+                Retiring::Retired(retired)
+            }
             Err((why, last)) => {
                 seats.push_reserved(last);
                 Retiring::Refused(why, (self, seats, workers))

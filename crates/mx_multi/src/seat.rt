@@ -22,7 +22,7 @@ pub type Seat<Q, O> = SeatOf<Application, Q, O>;
 pub type WorkerSeat<Q, O> = SeatOf<AtWork, Q, O>;
 
 /// How many events a history has, those that the last retiring kept among them, and the most that it may have.
-#[derive(Clone, Copy, Debug, PartialEq, Eq)]
+#[derive(Clone, Copy, PartialEq, Eq)]
 pub struct HistoryUse {
     pub events: u32,
     pub most: u32,

@@ -9,7 +9,7 @@ ghost use Rattle.mx_named_gate.specs.Named.{IsToldOf, AreOf};
 
 use crate::bell::NameBell;
 use crate::waiting::Waiting;
-use mx_gate::{Gate, Said, SocketGate, SocketLink, Turn};
+use mx_gate::{Gate, Said, SocketGate, SocketLink, Turn, number_of};
 use mx_names::{Answer, Lookup, Resolver};
 use mx_request::Endpoint;
 use mx_types::{Code, History, OutOfMemory};
@@ -107,6 +107,16 @@ fn failure(code: Code) -> Code
     }
 }
 
+// A share of the resolver, which rings the gate's bell from now on. It owns no gate, so that its exits let none go.
+fn listening<R: Net + Clock + AllocGlobal + Wait, L: Lookup>(
+    rt: &R,
+    gate: &SocketGate<'_, R>,
+    resolver: &Resolver<L, NameBell>,
+) -> Result<Resolver<L, NameBell>, OutOfMemory> {
+    resolver.add_bell(rt, NameBell::of(gate.bell()?))?;
+    resolver.share()
+}
+
 impl<'r, R: Net + Clock + AllocGlobal + Wait, L: Lookup> NamedGate<'r, R, L> {
     /// A gate that opens links as this one, whose names this resolver looks up; it rings the gate's bell where a lookup has ended. Both are
     /// to have one start: `SocketGate::start` of the gate, and the start that the resolver was made with. The gate starts no thread: somebody
@@ -120,15 +130,17 @@ impl<'r, R: Net + Clock + AllocGlobal + Wait, L: Lookup> NamedGate<'r, R, L> {
     ) -> Result<NamedGate<'r, R, L>, OutOfMemory>
         ensures { IfOk result (λ named. named.said ≡ []) }
     {
-        resolver.add_bell(rt, NameBell::of(gate.bell()?))?;
-        Ok(NamedGate {
-            rt,
-            gate,
-            resolver: resolver.share()?,
-            waiting: Waiting::new(rt.alloc()),
-            told: None,
-            said: History::new(),
-        })
+        match listening(rt, &gate, resolver) {
+            Ok(resolver) => Ok(NamedGate {
+                rt,
+                gate,
+                resolver,
+                waiting: Waiting::new(rt.alloc()),
+                told: None,
+                said: History::new(),
+            }),
+            Err(error) => Err(error),
+        }
     }
 
     // What the resolver tells of the host now.
@@ -232,7 +244,8 @@ impl<'r, R: Net + Clock + AllocGlobal + Wait, L: Lookup> Gate for NamedGate<'r, 
         ensures noted { self.new.said ≡ self.old.said ++ opened endpoint.now (numbered (λ link. link.link.token) result) ∷ [] }
     {
         let answer = self.begin(endpoint);
-        self.said.note(Said::opened(endpoint, &answer));
+        let number = number_of(&answer);
+        self.said.note(Said::opened_under(endpoint, number));
         answer
     }
 

@@ -14,6 +14,7 @@ pub struct SystemLookup<R> {
 }
 
 impl<R> SystemLookup<R> {
+    /// A lookup by the system, through this runtime.
     pub fn new(rt: R) -> SystemLookup<R> {
         SystemLookup { rt }
     }

@@ -10,7 +10,7 @@ use mx_types::{Code, Method};
 use std::alloc::Global;
 
 /// What bytes decide that may be followed by others.
-#[derive(Clone, Copy, Debug, PartialEq, Eq)]
+#[derive(Clone, Copy)]
 pub(crate) enum Standing {
     /// Nothing yet.
     Open,
@@ -31,7 +31,7 @@ pub(crate) fn judge(alloc: Global, method: Method, bytes: &[u8]) -> Standing
 }
 
 /// How many bytes of a wire decide nothing yet, and how many more are refused.
-#[derive(Clone, Copy, Debug, PartialEq, Eq)]
+#[derive(Clone, Copy)]
 struct Bracket {
     undecided: usize,
     decided: usize,

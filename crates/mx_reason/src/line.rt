@@ -3,7 +3,7 @@ ghost use Rattle.std.specs.Prelude.{◌≡◌};
 ghost use Rattle.mx_reason.specs.Lines.{line_after, line_behind, is_behind};
 
 /// Where in a head the next byte stands.
-#[derive(Clone, Copy, Debug, PartialEq, Eq)]
+#[derive(Clone, Copy)]
 enum Line {
     /// Before its status line.
     Before,

@@ -5,7 +5,7 @@ ghost use Rattle.mx_reason.specs.Faults.{fault_code};
 use mx_types::Code;
 
 /// Why the bytes of an exchange are no whole response.
-#[derive(Clone, Copy, Debug, PartialEq, Eq)]
+#[derive(Clone, Copy, PartialEq, Eq)]
 pub struct Reason {
     /// After how many bytes it is decided; how many there are, where nothing is.
     pub at: usize,
@@ -13,7 +13,7 @@ pub struct Reason {
 }
 
 /// What is wrong with them.
-#[derive(Clone, Copy, Debug, PartialEq, Eq)]
+#[derive(Clone, Copy, PartialEq, Eq)]
 pub enum What {
     /// They are refused, whatever follows.
     Fault(Fault),
@@ -22,7 +22,7 @@ pub enum What {
 }
 
 /// What stands wrong where bytes are refused.
-#[derive(Clone, Copy, Debug, PartialEq, Eq)]
+#[derive(Clone, Copy, PartialEq, Eq)]
 pub enum Fault {
     /// A byte in or before a status line with which the bytes begin no head (RFC 9112, section 4).
     StatusLine,
@@ -53,7 +53,7 @@ pub enum Fault {
 }
 
 /// Where bytes end that decide nothing.
-#[derive(Clone, Copy, Debug, PartialEq, Eq)]
+#[derive(Clone, Copy, PartialEq, Eq)]
 pub enum Cut {
     /// In a head, or before it.
     Head,

@@ -12,7 +12,7 @@ use mx_head::{Head, HeadStep, read_head};
 const SWITCHING_PROTOCOLS: u16 = 101;
 
 /// What stands behind the interim heads of a text.
-#[derive(Clone, Copy, Debug, PartialEq, Eq)]
+#[derive(Clone, Copy)]
 pub(crate) enum Walked {
     /// The final head, which ends there.
     Final { head: Head, end: usize },
@@ -23,7 +23,7 @@ pub(crate) enum Walked {
 }
 
 /// What one head of them comes to.
-#[derive(Clone, Copy, Debug, PartialEq, Eq)]
+#[derive(Clone, Copy)]
 enum Step {
     /// It is an interim head, which ends there.
     Passed(usize),

@@ -10,7 +10,7 @@ use std::marker::Model;
 
 /// Where a request goes: a host and a TCP port (RFC 9110, section 4.3.1). Contracts see it as the bytes of
 /// the host and the port.
-#[derive(Debug, Drop)]
+#[derive(Drop)]
 pub struct Endpoint {
     /// The host as its URL writes it: a name, an IPv4 address, or an IPv6 address in brackets.
     pub host: String,

@@ -24,7 +24,7 @@ const MOST_BODY: usize = 1_048_576;
 
 /// A request: its method, its URL, where it goes, the bytes that go there, and how long it may take; and what a request that follows
 /// it is made from: its settings, and the endpoint of the first request of its chain. Contracts see it as these.
-#[derive(Debug, Drop)]
+#[derive(Drop)]
 pub struct Request {
     method: Method,
     url: Url,

@@ -8,7 +8,7 @@ use std::marker::Model;
 pub const MOST_WAITING: usize = 4_096;
 
 /// A job that waits. Its number is the caller's own; moments are milliseconds on whatever clock the caller reads.
-#[derive(Clone, Copy, Debug, Default, PartialEq, Eq)]
+#[derive(Clone, Copy)]
 pub struct Wait {
     pub moment: u64,
     pub job: u64,

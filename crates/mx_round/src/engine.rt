@@ -30,6 +30,7 @@ pub trait Right: Tied + Drop {
 
     ghost origin_of: { Self → Origin };
 
+    /// The ticket of the addition that it claims.
     fn ticket(&self) -> Ticket
         ensures { result ≡ ticket_of self.now };
 }
@@ -77,6 +78,7 @@ impl<L: Link, C: Right> Held<L, C> {
         (self.right, self.transfer)
     }
 
+    /// The ticket of the addition whose transfer it holds.
     pub fn ticket(&self) -> Ticket
         ensures { result ≡ self.now.held.ticket }
     {

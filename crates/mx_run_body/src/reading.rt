@@ -13,7 +13,7 @@ use std::alloc::Global;
 use std::io::Read;
 
 /// Why an input wasn't read whole.
-#[derive(Clone, Copy, Debug, PartialEq, Eq)]
+#[derive(Clone, Copy)]
 pub enum InputError {
     /// A read failed.
     Failed,

@@ -2,7 +2,7 @@
 use std::io::Read;
 
 /// A read failed, or was one more than are allowed.
-#[derive(Clone, Copy, Debug, PartialEq, Eq)]
+#[derive(Clone, Copy)]
 pub struct ReadFailed;
 
 /// A reader whose reads are counted. Once a read failed, each further one fails too and reads nothing.

@@ -6,7 +6,7 @@ use std::io::Write;
 pub const UNWRITTEN: u8 = 121;
 
 /// A write failed.
-#[derive(Clone, Copy, Debug, PartialEq, Eq)]
+#[derive(Clone, Copy)]
 pub struct WriteFailed;
 
 /// A writer that remembers whether a write failed, and whether something was written since it was last flushed.

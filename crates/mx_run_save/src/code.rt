@@ -5,7 +5,7 @@ ghost use Rattle.mx_run_save.specs.Codes.{save_number};
 use mx_types::Code;
 
 /// The code with which a URL ends: that of its transfer, or one that only a save has (libcurl-errors(3)).
-#[derive(Clone, Copy, Debug, PartialEq, Eq)]
+#[derive(Clone, Copy, PartialEq, Eq)]
 pub enum SaveCode {
     /// The transfer's code, or the one with which its URL was refused.
     Transfer(Code),

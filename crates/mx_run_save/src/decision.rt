@@ -7,7 +7,7 @@ use crate::code::SaveCode;
 use mx_types::{Code, Method};
 
 /// What is done with a response.
-#[derive(Clone, Copy, Debug, PartialEq, Eq)]
+#[derive(Clone, Copy, PartialEq, Eq)]
 pub enum Decision {
     /// Its body is saved.
     Save,

@@ -9,7 +9,7 @@ use mx_types::Code;
 use std::marker::Model;
 
 /// What became of a URL.
-#[derive(Clone, Copy, Debug, PartialEq, Eq)]
+#[derive(Clone, Copy)]
 pub enum Verdict {
     /// Its body is in its file.
     Saved,
@@ -36,7 +36,7 @@ impl Verdict {
 }
 
 /// How the end of a body was found (RFC 9112, section 6.3), as far as it is told.
-#[derive(Clone, Copy, Debug, PartialEq, Eq)]
+#[derive(Clone, Copy)]
 pub enum FramingWord {
     /// By its length.
     Length,
@@ -48,7 +48,7 @@ pub enum FramingWord {
 
 /// What is told of the transfers of a URL: of the last response its status (0 where none was read), the length of its body in bytes and its
 /// framing; how many hops the last transfer had; and how many tries were made.
-#[derive(Clone, Copy, Debug, PartialEq, Eq)]
+#[derive(Clone, Copy)]
 pub struct Transferred {
     pub status: u16,
     pub length: u32,

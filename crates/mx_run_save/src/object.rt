@@ -14,7 +14,7 @@ use std::alloc::{AllocError, Global};
 use std::io::Write;
 
 /// Why the object of a URL isn't printed.
-#[derive(Clone, Copy, Debug, PartialEq, Eq)]
+#[derive(Clone, Copy)]
 pub enum JsonError {
     /// There was no memory for its texts, and nothing was written.
     OutOfMemory,

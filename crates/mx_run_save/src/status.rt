@@ -6,14 +6,14 @@ ghost use Rattle.mx_run_save.specs.Status.{first_of, after_note, status_of};
 use crate::code::SaveCode;
 
 /// A code's number, and the place of its URL among all of the run, from 0 on.
-#[derive(Clone, Copy, Debug, PartialEq, Eq)]
+#[derive(Clone, Copy)]
 pub struct PlacedCode {
     pub place: u64,
     pub number: u8,
 }
 
 /// What the exit status will be, of the ends that came so far: the first code that isn't 0, in the order of the URLs.
-#[derive(Clone, Copy, Debug, PartialEq, Eq)]
+#[derive(Clone, Copy)]
 pub struct ExitStatus {
     first: Option<PlacedCode>,
 }

@@ -3,7 +3,7 @@ use mx_run_io::Options;
 use mx_types::Method;
 
 /// Where further URLs are read, one a line.
-#[derive(Clone, Copy, Debug, PartialEq, Eq)]
+#[derive(Clone, Copy)]
 pub enum ListSource<'a> {
     /// From that file.
     File(&'a str),
@@ -12,7 +12,7 @@ pub enum ListSource<'a> {
 }
 
 /// The body of the requests.
-#[derive(Clone, Copy, Debug, PartialEq, Eq)]
+#[derive(Clone, Copy)]
 pub enum BodySource<'a> {
     /// The text itself.
     Text(&'a str),
@@ -21,14 +21,14 @@ pub enum BodySource<'a> {
 }
 
 /// A header field of the requests: its name, and its value without blanks at its ends. Whether a request may have it is not asked here.
-#[derive(Clone, Copy, Debug, PartialEq, Eq)]
+#[derive(Clone, Copy)]
 pub struct Header<'a> {
     pub name: &'a str,
     pub value: &'a str,
 }
 
 /// The numbers of `save`.
-#[derive(Clone, Copy, Debug, PartialEq, Eq)]
+#[derive(Clone, Copy)]
 pub struct SaveNumbers {
     /// How the URLs are fetched. `at_once` says how many transfers run, whatever the workers, and `timeout_ms` is of each try.
     pub options: Options,
@@ -39,7 +39,7 @@ pub struct SaveNumbers {
 }
 
 /// What `save` does or leaves.
-#[derive(Clone, Copy, Debug, PartialEq, Eq)]
+#[derive(Clone, Copy)]
 pub struct SaveFlags {
     /// A URL whose file is there isn't asked for.
     pub skip_existing: bool,

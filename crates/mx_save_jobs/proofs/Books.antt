@@ -1,6 +1,6 @@
 -- A book, one URL further, and one end further.
 use Rattle.std.proofs.Common.{◌≡◌, ◌≢◌, ◌∙◌, refl, ap, sym, subst, ℕ, ◌+◌, ◌<◌, ◌≤◌, ◌^◌, suc, zero, List, [], ◌∷◌, ◌++◌, map, length, length-append, Bool, true, false, cond, inl, inr, arith}
-use Rattle.std.specs.Prelude.{◌⊎◌, Option, Some, None, IsSome, Result, Ok, Err, IfOk, count_by, slice_get, slice_set}
+use Rattle.std.specs.Prelude.{◌⊎◌, Option, Some, None, IfSome, IsSome, SomeIff, Result, Ok, Err, IfOk, count_by, slice_get, slice_set}
 use Rattle.std.specs.List.{Contains, AllByRecursion}
 use Rattle.std.proofs.lemmas.List.Elements.{Contains-append_left, Contains-push}
 use Rattle.std.proofs.lemmas.List.Sums.{sum_by_push}
@@ -27,6 +27,11 @@ use Rattle.mx_save_jobs.specs.Lines.{ToldValue}
 use Rattle.mx_save_jobs.specs.Books.{HaveEnded, IsJobFor}
 use Rattle.mx_save_jobs.proofs.Names.{all_given_more, fresh_on, given_more, given_new, given_on, is_fresh, is_new, saved_on}
 use Rattle.mx_save_jobs.proofs.Slots.{as_many, cases, fresh_count, fresh_none, inside, none, one_less, one_more, stays, there}
+
+-- a sum that fits
+pub next_fits : (P : ℕ → Type 0) (n : ℕ) (r : Option ℕ) → SomeIff r (P n) n → IfSome r (λ m. (m ≡ n) × P m)
+next_fits P n None is = tt
+next_fits P n (Some m) is = (is.1, subst P (sym is.1) is.0)
 
 -- lists that grow at their ends
 get_more : {X : Type 0} (xs ys : List X) (i : ℕ) (x : X) → slice_get xs i ≡ Some x → slice_get (xs ++ ys) i ≡ Some x

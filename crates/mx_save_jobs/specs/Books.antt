@@ -48,6 +48,16 @@ pub record IsAdded (old new : List Slot) (at : ℕ) (ticket : Ticket) : Type 0 w
   pub there : job_at old at ≡ Some job
   pub is : new ≡ slice_set old at (slot.Added job ticket)
 
+-- the URL in the slot waits for a further try
+pub record WaitsAgain (old new : List Slot) (at : ℕ) : Type 0 where
+  pub job : Job
+  pub next : Job
+  pub there : job_at old at ≡ Some job
+  pub is : new ≡ slice_set old at (slot.Waiting next)
+  pub place : next.place ≡ job.place
+  pub url : next.url ≡ job.url
+  pub name : next.name ≡ job.name
+
 -- no transfer is added of what stands there
 abbrev pub is_unadded : Slot → Bool
 is_unadded slot.Free = true

@@ -1,7 +1,7 @@
 //! What is asked of each URL.
 ghost use Rattle.std.specs.Prelude.{◌≡◌, ◌⊎◌, Ok, Err, IfOk, MatchResult, map, option_map, string_bytes};
 ghost use Rattle.mx_types.specs.Settings.{field_of};
-ghost use Rattle.mx_request.specs.Request.{request_of};
+ghost use Rattle.mx_request.specs.Request.{IsRequest, request_of};
 ghost use Rattle.mx_request.specs.declared.error.RequestError.TheVariants as refusal;
 
 use mx_request::{Request, RequestError};
@@ -71,15 +71,27 @@ fn copy_settings(alloc: Global, settings: &Settings) -> Result<Settings, AllocEr
     })
 }
 
+// What was built, of which it is known that it is a request. It does nothing else.
+fn known(built: Result<Request, RequestError>) -> Result<Request, RequestError>
+    ensures same { result ≡ built }
+    ensures known { IfOk result IsRequest }
+{
+    if let Ok(request) = &built {
+        request.know();
+    }
+    built
+}
+
 impl Asking {
     /// The request of a URL, or why it is refused. `OutOfMemory` stands in place of either where a growth was refused.
     pub fn request(&self, alloc: Global, url: &str) -> Result<Request, RequestError>
-        ensures { MatchResult result (λ r. request_of self.now.method url.now self.now.settings ≡ Ok r)
+        ensures known { IfOk result IsRequest }
+        ensures answer { MatchResult result (λ r. request_of self.now.method url.now self.now.settings ≡ Ok r)
             (λ e. (request_of self.now.method url.now self.now.settings ≡ Err e) ⊎ (e ≡ refusal.OutOfMemory)) }
     {
         let Ok(settings) = copy_settings(alloc, &self.settings) else {
             return Err(RequestError::OutOfMemory);
         };
-        Request::build(alloc, self.method, url, settings)
+        known(Request::build(alloc, self.method, url, settings))
     }
 }

@@ -2,8 +2,9 @@
 ghost use Rattle.std.specs.Prelude.{◌≡◌, ◌≢◌, ◌+◌, ◌<◌, ◌^◌, All, ◌++◌, ◌∷◌, [], true, false, if◌then◌else◌, count_by, IfOk, OnErr, OnOk, Some, IsSome, IsNone, IfSome, MatchOption, slice_get, slice_set};
 ghost use Rattle.mx_types.specs.Code.{code_number};
 ghost use Rattle.mx_request.specs.Request.{IsRequest};
+ghost use Rattle.mx_run_save.specs.Ends.{skipped_end};
 ghost use Rattle.mx_save_jobs.specs.Jobs.{Asks, is_taken, job_at};
-ghost use Rattle.mx_save_jobs.specs.Books.{HasNoneAdded, HaveEnded, IsAdded, IsClosed, IsFreshBook, IsJobFor, IsSameRun, StandsAt, awaits_at};
+ghost use Rattle.mx_save_jobs.specs.Books.{HasNoneAdded, HaveEnded, IsAdded, IsClosed, IsFreshBook, IsJobFor, IsSameRun, StandsAt, WaitsAgain, awaits_at};
 ghost use Rattle.mx_save_jobs.specs.declared.job.Slot.TheVariants as slot;
 
 use crate::asking::Asking;
@@ -22,7 +23,7 @@ use mx_run_save::{End, SaveCode, Transferred};
 use mx_save::Ledger;
 use mx_types::{Code, History, OutOfMemory, Ticket};
 use mx_words::code_words;
-use std::alloc::Global;
+use std::alloc::{AllocError, Global};
 use std::io::Write;
 use std::marker::Model;
 use std::{mem, str};
@@ -76,10 +77,7 @@ impl<F: Folder, W: Write> Model for Book<F, W> {
 fn one_more(count: u64) -> Option<u64>
     ensures { IfSome result (λ n. (n ≡ count + 1) × (n < 2 ^ 64)) }
 {
-    if count == u64::MAX {
-        return None;
-    }
-    Some(count + 1)
+    count.checked_add(1)
 }
 
 // A URL of which no transfer was made.
@@ -221,21 +219,32 @@ impl<F: Folder, W: Write> Book<F, W> {
         if !self.asking.skip_existing {
             return Ok(false);
         }
-        let Some(job) = waiting_job(self.slots.as_slice(), at) else {
+        if !is_there(&mut self.ledger, self.slots.as_slice(), at) {
             return Ok(false);
-        };
-        let Ok(Kind::File) = self.ledger.look(&job.name) else {
-            return Ok(false);
-        };
+        }
+        self.pass_over(at)?;
+        Ok(true)
+    }
+
+    // Ends the URL in that slot, which isn't asked for.
+    fn pass_over(&mut self, at: usize) -> Result<(), Stop>
+        requires going { self.old.is_stopped ≡ false }
+        requires there { IsSome (job_at self.old.slots at) }
+        ensures slots { OnOk result (self.new.slots ≡ slice_set self.old.slots at slot.Free) }
+        ensures urls { self.new.urls ≡ self.old.urls }
+        ensures going { OnOk result (self.new.is_stopped ≡ false) }
+        ensures stopped { OnErr result (self.new.is_stopped ≡ true) }
+        ensures run { IsSameRun self.old self.new }
+    {
         self.is_stopped = true;
         let Some(job) = take_job(&mut self.slots, at) else {
             unreachable!();
         };
-        let file = String::from_str(self.alloc, job.name.as_str())?;
-        let end = End::skipped(job.url, file);
-        self.lines.tell(job.place, end)?;
+        let position = job.place;
+        let end = skipped(self.alloc, job)?;
+        self.lines.tell(position, end)?;
         self.is_stopped = false;
-        Ok(true)
+        Ok(())
     }
 
     /// Notes that the transfer of the URL in that slot is added under this ticket.
@@ -246,10 +255,7 @@ impl<F: Folder, W: Write> Book<F, W> {
         ensures going { self.new.is_stopped ≡ self.old.is_stopped }
         ensures run { IsSameRun self.old self.new }
     {
-        let Some(job) = take_job(&mut self.slots, at) else {
-            unreachable!();
-        };
-        self.slots[at] = Slot::Added(job, ticket);
+        set_added(&mut self.slots, at, ticket);
     }
 
     /// Whether the addition of this ticket is that of the URL in that slot.
@@ -257,8 +263,8 @@ impl<F: Folder, W: Write> Book<F, W> {
         ensures { result ≡ awaits_at self.now.slots at ticket }
     {
         match self.slots.get(at) {
-            Some(Slot::Added(_, own)) => *own == ticket,
-            _ => false,
+            Some(slot) => slot.awaits(ticket),
+            None => false,
         }
     }
 
@@ -273,23 +279,45 @@ impl<F: Folder, W: Write> Book<F, W> {
         ensures stopped { OnErr result (self.new.is_stopped ≡ true) }
         ensures run { IsSameRun self.old self.new }
     {
+        if let Some(delay) = self.delay(at, &outcome) {
+            drop(outcome);
+            set_waiting(&mut self.slots, at);
+            return Ok(Some(delay));
+        }
+        self.end_with(at, outcome)?;
+        Ok(None)
+    }
+
+    // How many milliseconds the URL in that slot waits, where its transfer ended so and it is to be tried again.
+    fn delay(&self, at: usize, outcome: &Outcome) -> Option<u64> {
+        let job = self.slots.get(at)?.job()?;
+        if job.tries <= u32::from(self.asking.retries)
+            && is_retried(self.asking.method, outcome.code(), outcome.status())
+        {
+            return Some(delay_ms(job.tries.max(1)));
+        }
+        None
+    }
+
+    // Ends the URL in that slot, whose transfer ended so.
+    fn end_with(&mut self, at: usize, outcome: Outcome) -> Result<(), Stop>
+        requires going { self.old.is_stopped ≡ false }
+        requires asked { IsJobFor self.old.asking self.old.slots at outcome.request }
+        ensures slots { OnOk result (self.new.slots ≡ slice_set self.old.slots at slot.Free) }
+        ensures urls { self.new.urls ≡ self.old.urls }
+        ensures going { OnOk result (self.new.is_stopped ≡ false) }
+        ensures stopped { OnErr result (self.new.is_stopped ≡ true) }
+        ensures run { IsSameRun self.old self.new }
+    {
         self.is_stopped = true;
         let Some(job) = take_job(&mut self.slots, at) else {
             unreachable!();
         };
-        if job.tries <= u32::from(self.asking.retries)
-            && is_retried(self.asking.method, outcome.code(), outcome.status())
-        {
-            let delay = delay_ms(job.tries.max(1));
-            self.slots[at] = Slot::Waiting(again(job));
-            self.is_stopped = false;
-            return Ok(Some(delay));
-        }
         let place = job.place;
         let end = finish(self.alloc, &self.asking, &mut self.ledger, job, outcome)?;
         self.lines.tell(place, end)?;
         self.is_stopped = false;
-        Ok(None)
+        Ok(())
     }
 
     /// How many URLs were read.
@@ -357,12 +385,10 @@ impl<F: Folder, W: Write> Book<F, W> {
 fn build(alloc: Global, asking: &Asking, url: &[u8]) -> Result<Request, RequestError>
     ensures { IfOk result (λ r. Asks asking.now url.now r × IsRequest r) }
 {
-    let Ok(text) = str::from_utf8(url) else {
-        return Err(RequestError::Malformed);
-    };
-    let request = asking.request(alloc, text)?;
-    request.know();
-    Ok(request)
+    match str::from_utf8(url) {
+        Ok(text) => asking.request(alloc, text),
+        Err(_) => Err(RequestError::Malformed),
+    }
 }
 
 // The URL that waits in a slot.
@@ -373,6 +399,48 @@ fn waiting_job(slots: &[Slot], at: usize) -> Option<&Job>
         Some(Slot::Waiting(job)) => Some(job),
         _ => None,
     }
+}
+
+// Whether a regular file has the name of the URL that waits in a slot.
+fn is_there<F: Folder>(ledger: &mut Ledger<F, WholeBody>, slots: &[Slot], at: usize) -> bool
+    ensures there { result ≡ true → IsSome (job_at slots.now at) }
+    ensures entries { ledger.new.entries ≡ ledger.old.entries }
+    ensures run { (ledger.new.start ≡ ledger.old.start) × (ledger.new.flush ≡ ledger.old.flush) }
+{
+    match waiting_job(slots, at) {
+        Some(job) => matches!(ledger.look(&job.name), Ok(Kind::File)),
+        None => false,
+    }
+}
+
+// The end of a URL that isn't asked for.
+fn skipped(alloc: Global, job: Job) -> Result<End, AllocError>
+    ensures { IfOk result (λ end. end ≡ skipped_end job.url.items job.name) }
+{
+    let file = String::from_str(alloc, job.name.as_str())?;
+    Ok(End::skipped(job.url, file))
+}
+
+// Has the transfer of the URL in a slot added under this ticket.
+fn set_added(slots: &mut Vec<Slot>, at: usize, ticket: Ticket)
+    requires there { IsSome (job_at slots.old.items at) }
+    ensures { IsAdded slots.old.items slots.new.items at ticket }
+{
+    let Some(job) = take_job(slots, at) else {
+        unreachable!();
+    };
+    slots[at] = Slot::Added(job, ticket);
+}
+
+// Has the URL in a slot wait for a further try.
+fn set_waiting(slots: &mut Vec<Slot>, at: usize)
+    requires there { IsSome (job_at slots.old.items at) }
+    ensures { WaitsAgain slots.old.items slots.new.items at }
+{
+    let Some(job) = take_job(slots, at) else {
+        unreachable!();
+    };
+    slots[at] = Slot::Waiting(again(job));
 }
 
 // Frees a slot. The URL that stood in it comes back.
@@ -387,15 +455,11 @@ fn take_job(slots: &mut Vec<Slot>, at: usize) -> Option<Job>
 }
 
 // The URL before a further try.
-fn again(job: Job) -> Job
+fn again(mut job: Job) -> Job
     ensures { result ≡ record job { tries = result.tries } }
 {
-    Job {
-        place: job.place,
-        url: job.url,
-        name: job.name,
-        tries: job.tries.saturating_add(1),
-    }
+    job.tries = job.tries.saturating_add(1);
+    job
 }
 
 /// So many free slots.

@@ -68,14 +68,24 @@ fn save<F: Folder>(
 {
     let told = transferred(&outcome, job.tries);
     let Job { url, name, .. } = job;
-    let file = String::from_str(alloc, name.as_str())?;
+    let file = match String::from_str(alloc, name.as_str()) {
+        Ok(file) => file,
+        Err(error) => {
+            drop(outcome);
+            return Err(error);
+        }
+    };
     let _asked = asking.method;
     let Ok(body) = WholeBody::of(outcome) else {
         unreachable!();
     };
     match ledger.save(&name, &body) {
-        Ok(()) => Ok(End::saved(url, file, told)),
+        Ok(()) => {
+            drop(body);
+            Ok(End::saved(url, file, told))
+        }
         Err(error) => {
+            drop(body);
             let words = String::from_str(alloc, error.words())?;
             Ok(End::failed(url, code_of(error), told, Some(words)))
         }
@@ -105,11 +115,14 @@ pub(crate) fn finish<F: Folder>(
         Decision::Save => save(alloc, asking, ledger, job, outcome),
         Decision::Done => {
             let told = transferred(&outcome, job.tries);
+            drop(outcome);
             Ok(End::done(job.url, told))
         }
         Decision::Fail(code) => {
             let told = transferred(&outcome, job.tries);
-            let words = failure_words(alloc, &outcome)?;
+            let words = failure_words(alloc, &outcome);
+            drop(outcome);
+            let words = words?;
             Ok(End::failed(job.url, code, told, Some(words)))
         }
     }

@@ -1,6 +1,7 @@
 //! The URLs that have no end yet.
 ghost use Rattle.std.specs.Prelude.{◌≡◌, option_copied};
 ghost use Rattle.mx_save_jobs.specs.Jobs.{job_of};
+ghost use Rattle.mx_save_jobs.specs.Books.{awaits};
 
 use mx_file_name::FileName;
 use mx_types::Ticket;
@@ -38,6 +39,17 @@ impl Slot {
             Slot::Free => None,
             Slot::Waiting(job) => Some(job),
             Slot::Added(job, _) => Some(job),
+        }
+    }
+
+    /// Whether the addition of this ticket is that of its URL.
+    pub(crate) fn awaits(&self, ticket: Ticket) -> bool
+        ensures { result ≡ awaits ticket self.now }
+    {
+        match self {
+            Slot::Free => false,
+            Slot::Waiting(_) => false,
+            Slot::Added(_, own) => *own == ticket,
         }
     }
 

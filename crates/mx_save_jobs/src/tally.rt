@@ -2,7 +2,7 @@
 use mx_run_save::{End, Verdict};
 
 /// How many URLs of a run have ended, how many of these failed, and how many bytes the bodies of the others have.
-#[derive(Clone, Copy, Debug, PartialEq, Eq)]
+#[derive(Clone, Copy)]
 pub struct Tally {
     pub ended: u64,
     pub failed: u64,

@@ -8,7 +8,7 @@ use mx_retry::MOST_WAITING;
 use mx_run_io::Options;
 
 /// How the URLs of a run are fetched.
-#[derive(Clone, Copy, Debug, PartialEq, Eq)]
+#[derive(Clone, Copy)]
 pub struct Plan {
     /// By how many workers, how many at a time, and how. `at_once` says how many transfers run, whatever the workers.
     pub options: Options,

@@ -17,7 +17,7 @@ use std::io::{Read, Write};
 use std::sync::Wait;
 
 /// What came of an attempt to begin a transfer.
-#[derive(Clone, Copy, Debug, PartialEq, Eq)]
+#[derive(Clone, Copy)]
 pub enum Begun {
     /// One is added.
     Added,

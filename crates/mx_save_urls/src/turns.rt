@@ -23,7 +23,7 @@ use std::sync::Wait;
 const LONGEST_WAIT_MS: u32 = 60_000;
 
 /// How a run left its desk: nothing is added there.
-#[derive(Clone, Copy, Debug, PartialEq, Eq)]
+#[derive(Clone, Copy)]
 pub enum Turned {
     /// All URLs were read and have ended.
     AllEnded,
@@ -32,7 +32,7 @@ pub enum Turned {
 }
 
 // What was seen of a run: how many URLs had ended, and when it is shown next how it stands.
-#[derive(Clone, Copy, Debug, PartialEq, Eq)]
+#[derive(Clone, Copy)]
 struct Seen {
     ended: u64,
     next: u64,

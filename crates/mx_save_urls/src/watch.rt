@@ -3,7 +3,7 @@ use mx_run_save::End;
 use mx_save_jobs::Tally;
 
 /// How a run stands.
-#[derive(Clone, Copy, Debug, PartialEq, Eq)]
+#[derive(Clone, Copy)]
 pub struct Standing {
     /// How long it runs, in milliseconds.
     pub moment: u64,
@@ -18,7 +18,7 @@ pub struct Standing {
 }
 
 /// Nobody watches.
-#[derive(Clone, Copy, Debug, PartialEq, Eq)]
+#[derive(Clone, Copy)]
 pub struct Nobody;
 
 impl Watch for Nobody {

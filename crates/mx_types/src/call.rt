@@ -5,7 +5,7 @@ use crate::names::{HandleId, Ticket};
 use crate::reply::Reply;
 
 /// A call on a multi handle, with what it names.
-#[derive(Clone, Copy, Debug, PartialEq, Eq)]
+#[derive(Clone, Copy, PartialEq, Eq)]
 pub enum Call {
     Add(HandleId),
     Remove(HandleId),

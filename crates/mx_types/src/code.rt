@@ -4,7 +4,7 @@ ghost use Rattle.mx_types.specs.Code.{code_number};
 
 /// How a transfer ended, after libcurl's `CURLcode` (libcurl-errors(3)). Which fault gives which code is
 /// this engine's own choice.
-#[derive(Clone, Copy, Debug, PartialEq, Eq)]
+#[derive(Clone, Copy, PartialEq, Eq)]
 pub enum Code {
     /// 0: a whole response was read, whatever its status.
     Ok,

@@ -4,14 +4,14 @@ use crate::code::Code;
 use crate::names::{HandleId, Ticket};
 
 /// Who made an event: a seat of an application thread or a worker, by its number from 0 to 15.
-#[derive(Clone, Copy, Debug, PartialEq, Eq)]
+#[derive(Clone, Copy, PartialEq, Eq)]
 pub enum Who {
     Seat(u8),
     Worker(u8),
 }
 
 /// What an event did.
-#[derive(Clone, Copy, Debug, PartialEq, Eq)]
+#[derive(Clone, Copy, PartialEq, Eq)]
 pub enum What {
     /// The handle was added under the ticket (curl_multi_add_handle(3)).
     Added(HandleId, Ticket),
@@ -30,7 +30,7 @@ pub enum What {
 }
 
 /// An event of the history, with its maker.
-#[derive(Clone, Copy, Debug, PartialEq, Eq)]
+#[derive(Clone, Copy, PartialEq, Eq)]
 pub struct Event {
     pub who: Who,
     pub what: What,

@@ -7,7 +7,7 @@ use std::fmt;
 use std::str::FromStr;
 
 /// The method of a request (RFC 9110, section 9.3).
-#[derive(Clone, Copy, Debug, PartialEq, Eq)]
+#[derive(Clone, Copy, PartialEq, Eq)]
 pub enum Method {
     Get,
     Head,
@@ -61,7 +61,7 @@ impl fmt::Display for Method {
 }
 
 /// The text is the name of no method that the engine sends.
-#[derive(Clone, Copy, Debug, PartialEq, Eq)]
+#[derive(Clone, Copy, Debug)]
 pub struct ParseMethodError;
 
 impl fmt::Display for ParseMethodError {

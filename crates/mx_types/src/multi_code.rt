@@ -3,7 +3,7 @@ ghost use Rattle.std.specs.Prelude.{◌≡◌};
 ghost use Rattle.mx_types.specs.MultiCode.{multi_number};
 
 /// What a call on a multi handle answers, after libcurl's `CURLMcode` (libcurl-errors(3)).
-#[derive(Clone, Copy, Debug, PartialEq, Eq)]
+#[derive(Clone, Copy)]
 pub enum MCode {
     /// 0: all is well.
     Ok,

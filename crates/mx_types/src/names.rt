@@ -1,11 +1,11 @@
 //! The names that a multi handle gives to transfers.
 
 /// The name that a caller gives to a transfer: its handle.
-#[derive(Clone, Copy, Debug, Default, PartialEq, Eq, PartialOrd, Ord, Hash)]
+#[derive(Clone, Copy, Default, PartialEq, Eq)]
 pub struct HandleId(pub u32);
 
 /// The number of an addition. Tickets only rise: that of an addition is greater than each that was given before it, where
 /// older history was retired, too. They begin at 0, or where the multi handle was told to begin, and end at
 /// `GREATEST_TICKET`. A handle that is added again gets another ticket.
-#[derive(Clone, Copy, Debug, Default, PartialEq, Eq, PartialOrd, Ord, Hash)]
+#[derive(Clone, Copy, Default, PartialEq, Eq)]
 pub struct Ticket(pub u32);

@@ -10,7 +10,7 @@ use arrayvec::ArrayVec;
 use std::marker::Model;
 
 /// Where a handle stands.
-#[derive(Clone, Copy, Debug, PartialEq, Eq)]
+#[derive(Clone, Copy, PartialEq, Eq)]
 pub enum State {
     NotAdded,
     Running(Ticket),
@@ -22,7 +22,7 @@ pub enum State {
 }
 
 /// What a worker is told of a transfer that it holds.
-#[derive(Clone, Copy, Debug, PartialEq, Eq)]
+#[derive(Clone, Copy, PartialEq, Eq)]
 pub enum Look {
     /// It runs.
     Go,
@@ -49,12 +49,14 @@ impl Model for AddedHandles {
 }
 
 impl AddedHandles {
+    /// The list of these handles.
     pub fn new(list: ArrayVec<HandleId, MOST_HANDLES>) -> AddedHandles
         ensures { result ≡ list.items }
     {
         AddedHandles { list }
     }
 
+    /// The handles, as a slice.
     pub fn as_slice(&self) -> &[HandleId]
         ensures { result.now ≡ self.now }
     {

@@ -7,7 +7,7 @@ use std::marker::Model;
 
 /// What a caller sets for a request, beside its method and its URL. Contracts see it as bytes, lists of bytes
 /// and numbers.
-#[derive(Debug, Drop)]
+#[derive(Drop)]
 pub struct Settings {
     /// The value of `User-Agent`; without one no such field is sent.
     pub user_agent: Option<String>,

@@ -9,7 +9,7 @@ use std::str;
 pub const MOST_LINE: usize = 65_536;
 
 /// What a line of a list says, without the ASCII white space at its ends.
-#[derive(Debug, Drop)]
+#[derive(Drop)]
 pub enum Entry {
     /// A text, which may be a URL or not.
     Url(String),

@@ -14,7 +14,7 @@ const READ_SIZE: usize = 4096;
 const MOST_READS: u64 = 4_294_967_295;
 
 /// Why the next entry of a list isn't had.
-#[derive(Clone, Copy, Debug, PartialEq, Eq)]
+#[derive(Clone, Copy)]
 pub enum ListError {
     /// A read failed, and each further one will; or so many as are allowed were made.
     Unread,

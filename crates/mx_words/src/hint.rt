@@ -6,7 +6,7 @@ use mx_reason::{Fault, Reason, What};
 use mx_types::Code;
 
 /// What is said to a mistake that everybody makes first.
-#[derive(Clone, Copy, Debug, PartialEq, Eq)]
+#[derive(Clone, Copy)]
 pub enum Hint {
     /// A URL begins with `http://`.
     NoScheme,

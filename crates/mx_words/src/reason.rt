@@ -35,7 +35,7 @@ pub fn fault_words(fault: Fault) -> &'static str
 }
 
 /// How much of a response came, behind the words of a code: of how many bytes that was, and where they end.
-#[derive(Clone, Copy, Debug, PartialEq, Eq)]
+#[derive(Clone, Copy)]
 pub(crate) struct CutText {
     pub at: usize,
     pub cut: Cut,

@@ -10,7 +10,7 @@ use std::fmt;
 
 /// What is told of a failure: the words of its code; of a response that is refused, at which of its bytes, counted from 1, and what stands
 /// wrong there; of one that ended, how much of it came.
-#[derive(Clone, Copy, Debug, PartialEq, Eq)]
+#[derive(Clone, Copy)]
 pub struct Told {
     pub code: Code,
     /// What was wrong with the bytes that came, if it is known.

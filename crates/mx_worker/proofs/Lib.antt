@@ -1,2 +1,1 @@
-pub mod Sends
 pub mod Tallies

@@ -1,9 +1,9 @@
 //! A worker's claim, as the right that its turns go by.
 ghost use Rattle.std.specs.Prelude.{◌≡◌};
 
-use crate::queued::Queued;
 use mx_link::Link;
 use mx_lock::TiedClaim;
+use mx_queue::Queued;
 use mx_round::{Right, Tied};
 use mx_types::Ticket;
 use std::marker::Model;

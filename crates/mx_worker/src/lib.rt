@@ -2,9 +2,8 @@
 #![tactic(auto)]
 
 mod claims;
-mod queued;
 mod tally;
 mod worker;
 
-pub use crate::queued::Queued;
 pub use crate::worker::{WorkerEnd, run_worker};
+pub use mx_queue::Queued;

@@ -5,14 +5,15 @@ ghost use Rattle.mx_round.specs.Desks.{HandsIn};
 ghost use Rattle.mx_worker.specs.Work.{AreCounted, IsDone};
 
 use crate::claims::WorkerClaim;
-use crate::queued::Queued;
 use mx_journal::{FinishReply, GiveBackReply};
 use mx_link::Link;
 use mx_multi::{AtWork, Seated};
+use mx_queue::Queued;
 use mx_round::{Done, Engine, Finished, Held, Tied};
 use mx_transfer::Outcome;
 use mx_types::{History, Look, Ticket};
 use std::marker::Model;
+use std::mem;
 use std::snapshot::Snapshot;
 use std::sync::Wait;
 
@@ -181,7 +182,9 @@ impl<'m, L: Link> Engine<L, WorkerClaim<L>> for Tally<'m, L> {
         let Some(end) = finished.take() else {
             return;
         };
-        *finished = self.hand_in(rt, end);
+        let handed = self.hand_in(rt, end);
+        // An assignment would write out in this function how an end is let go: a call takes less to prove.
+        drop(mem::replace(finished, handed));
     }
 
     fn give_back<R: Wait>(&mut self, rt: &R, held: &mut Option<Held<L, WorkerClaim<L>>>)

@@ -2,11 +2,11 @@
 ghost use Rattle.std.specs.Prelude.{◌≡◌, true, false};
 ghost use Rattle.mx_worker.specs.Work.{AreCounted, IsDone, WorkerRan};
 
-use crate::queued::Queued;
 use crate::tally::Tally;
 use mx_gate::Gate;
 use mx_link::Link;
 use mx_multi::{AtWork, Seated};
+use mx_queue::Queued;
 use mx_round::run_at;
 use mx_transfer::Outcome;
 use std::alloc::AllocGlobal;

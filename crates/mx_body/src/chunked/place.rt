@@ -6,7 +6,7 @@ ghost use Rattle.mx_body.specs.ChunkedPlace.{sized, after_digits, in_line, expec
 use httparse::parse_hex_digit;
 
 /// Where the bytes of a chunked body have led a reader.
-#[derive(Clone, Copy, Debug, PartialEq, Eq)]
+#[derive(Clone, Copy)]
 pub enum Place {
     /// Before the first digit of a size.
     Start,

@@ -6,7 +6,7 @@ ghost use Rattle.mx_body.specs.ChunkedScan.{IsChunkedScan};
 use crate::chunked::place::Place;
 
 /// What the first bytes of an input are, read as a chunked body with no size over a limit.
-#[derive(Clone, Copy, Debug, PartialEq, Eq)]
+#[derive(Clone, Copy, PartialEq, Eq)]
 pub enum ChunkedScan {
     /// The first `len` bytes are a chunked body.
     Whole { len: usize },

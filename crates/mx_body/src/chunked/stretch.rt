@@ -15,7 +15,7 @@ use memchr::memchr2;
 use mx_types::OutOfMemory;
 
 /// Some bytes that are gone over at once.
-#[derive(Clone, Copy, Debug, PartialEq, Eq)]
+#[derive(Clone, Copy)]
 pub(crate) struct Stretch {
     /// The place behind them.
     pub(crate) next: Place,

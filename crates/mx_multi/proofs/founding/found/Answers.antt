@@ -1,16 +1,24 @@
-use Rattle.std.proofs.Common.{◌≡◌, ◌∙◌, ap, sym, subst, refl, true, false, List, arith}
+use Rattle.std.proofs.Common.{◌≡◌, ◌∙◌, ℕ, ap, sym, subst, refl, true, false, List, length, arith}
 use Rattle.crossbeam_channel.specs.Claims.{view}
 use Rattle.mx_append_log.specs.Log.{Mark}
 use Rattle.mx_types.specs.declared.event.Event.{Event}
 use Rattle.mx_types.specs.declared.origin.Origin.{Origin}
-use Rattle.mx_lock.specs.Engine.{EngineId, content}
-use Rattle.mx_lock.specs.Lock.{engine_of}
+use Rattle.mx_lock.specs.Engine.{Content, EngineId, content}
+use Rattle.mx_lock.specs.Lock.{engine_of, founder_at, known_of}
 use Rattle.mx_lock.specs.Ties.{TieState}
 use Rattle.mx_lock.specs.declared.key_view.KeyView.{KeyView}
 use Rattle.mx_multi.specs.Seats.{MultiView}
-use Rattle.mx_multi.specs.Opening.{AreNew, IsFounded}
+use Rattle.mx_multi.specs.Opening.{AreNew, AreReaders, IsFounded}
 use Rattle.mx_multi.proofs.Opening.{all_own}
 use Rattle.mx_multi.proofs.founding.found.Goals as goal
+
+-- a founder's key, by what it knows
+founder_is : (v : KeyView) (x : Content) (n : ℕ) → v ≡ founder_at x n → v ≡ founder_at (known_of v) n
+founder_is v x n e = e ∙ ap (λ (w : KeyView). founder_at (known_of w) n) (sym e)
+
+-- and once it has made others
+later_is : (v w : KeyView) (x : Content) (n m k : ℕ) → v ≡ founder_at x k → w ≡ founder_at (known_of v) n → founder_at (known_of w) m ≡ founder_at x m
+later_is v w x n m k e f = ap (λ (u : KeyView). founder_at (known_of u) m) f ∙ ap (λ (u : KeyView). founder_at (known_of u) m) e
 
 pub returns : goal.returns
 returns g c =
@@ -48,3 +56,39 @@ returns g c =
       seats_own = all_own m x.core.journal x.ties.entries false 0 c.seated-seats.result.items seats;
       workers_own = all_own m x.core.journal x.ties.entries true 0 c.seated-workers.result.items workers;
     })
+
+pub seated-seats-requires-clause-founder : goal.seated-seats-requires-clause-founder
+seated-seats-requires-clause-founder g c = founder_is _ _ _ c.found-lock.ensures.key.1
+
+pub seated-seats-requires-clause-readers : goal.seated-seats-requires-clause-readers
+seated-seats-requires-clause-readers g c =
+    let key = c.found-lock.ensures.key.1 in
+    subst (λ (v : KeyView). AreReaders false 0 v.seen (engine_of v).book c.args.rooms.for_seats.items) (sym key) c.requires.rooms.seats.0
+
+pub seated-seats-requires-clause-begun : goal.seated-seats-requires-clause-begun
+seated-seats-requires-clause-begun g c =
+    let key = c.found-lock.ensures.key.1 in
+    (c.len-from.ensures.length ∙ sym c.requires.begun ∙ sym (ap (λ (v : KeyView). (engine_of v).opening.from) key), c.len-from.ensures.length ∙ sym (ap (λ (v : KeyView). length v.seen) key))
+
+pub seated-seats-requires-clause-ties : goal.seated-seats-requires-clause-ties
+seated-seats-requires-clause-ties g c =
+    let key = c.found-lock.ensures.key.1 in
+    ap (λ (m : TieState). m.book) c.tie_mark-ties.ensures ∙ sym (ap (λ (v : KeyView). (engine_of v).ties) key)
+
+pub seated-workers-requires-clause-founder : goal.seated-workers-requires-clause-founder
+seated-workers-requires-clause-founder g c = founder_is _ _ _ c.skip.ensures.next
+
+pub seated-workers-requires-clause-readers : goal.seated-workers-requires-clause-readers
+seated-workers-requires-clause-readers g c =
+    let key = c.skip.ensures.next ∙ later_is _ _ _ _ 17 _ c.found-lock.ensures.key.1 c.seated-seats.ensures.next in
+    subst (λ (v : KeyView). AreReaders true 0 v.seen (engine_of v).book c.args.rooms.for_workers.items) (sym key) c.requires.rooms.workers.0
+
+pub seated-workers-requires-clause-begun : goal.seated-workers-requires-clause-begun
+seated-workers-requires-clause-begun g c =
+    let key = c.skip.ensures.next ∙ later_is _ _ _ _ 17 _ c.found-lock.ensures.key.1 c.seated-seats.ensures.next in
+    (c.len-from.ensures.length ∙ sym c.requires.begun ∙ sym (ap (λ (v : KeyView). (engine_of v).opening.from) key), c.len-from.ensures.length ∙ sym (ap (λ (v : KeyView). length v.seen) key))
+
+pub seated-workers-requires-clause-ties : goal.seated-workers-requires-clause-ties
+seated-workers-requires-clause-ties g c =
+    let key = c.skip.ensures.next ∙ later_is _ _ _ _ 17 _ c.found-lock.ensures.key.1 c.seated-seats.ensures.next in
+    ap (λ (m : TieState). m.book) c.tie_mark-ties.ensures ∙ sym (ap (λ (v : KeyView). (engine_of v).ties) key)

@@ -10,5 +10,5 @@ unreachable-requires g c = let bad : decision.Save ≡ decision.Fail (code.Trans
 pub returns-in-Ok-save-clause-holds : goal.returns-in-Ok-save-clause-holds
 returns-in-Ok-save-clause-holds g c =
     saved_holds c.args.asking.now c.save.new.self.entries c.args.ledger.now.entries c.args.job.url.items _ c.args.job.name c.transferred-told.result c.args.outcome c.saved.result
-    (c.in-Ok-save.ensures.saved ∙ ap (λ o. (c.args.job.name, o) ∷ c.args.ledger.now.entries) c.in-Ok.ensures.same)
-    (c.in_ok-file.ensures.ok ∙ c.as_str.ensures) c.requires.asked c.requires.decided c.transferred-told.ensures.status c.transferred-told.ensures.length c.saved.ensures
+    (c.in-Ok-save.ensures.saved ∙ ap (λ o. (c.args.job.name, o) ∷ c.args.ledger.now.entries) c.in-Ok-of.ensures.same)
+    (c.in-Ok.ensures.ok ∙ c.as_str.ensures) c.requires.asked c.requires.decided c.transferred-told.ensures.status c.transferred-told.ensures.length c.saved.ensures

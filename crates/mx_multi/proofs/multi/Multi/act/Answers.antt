@@ -1,9 +1,10 @@
 use Rattle.std.proofs.Common.{◌∙◌, ap, subst, sym, refl}
+use Rattle.crossbeam_channel.specs.Claims.{view}
 use Rattle.std.proofs.lemmas.Bool.{false≢true}
 use Rattle.mx_lock.specs.Lock.{IsKeyOf}
 use Rattle.mx_multi.specs.Seats.{MultiView, SeatView}
 use Rattle.mx_board.specs.Board.{ReaderState}
-use Rattle.mx_multi.proofs.Standing.{found_left, finds, left_from, list_kept, list_of, grows_by, begins_by, seat_after, receipt_is, received_more, lock_stands, same_of, engine_kept, stands_from, quiet_mark, tells_on, list_found, locked_as}
+use Rattle.mx_multi.proofs.Standing.{found_left, finds, left_from, list_kept, list_of, grows_by, begins_by, seat_after, receipt_is, received_more, lock_stands, same_of, engine_kept, stands_from, quiet_mark, tells_on, list_found, locked_as, finds_other, other_from}
 use Rattle.mx_multi.proofs.multi.Multi.act.Goals as goal
 
 pub leave-requires-clause-grows : goal.leave-requires-clause-grows
@@ -76,3 +77,8 @@ returns-clause-left g c =
       out = leaves.out;
       unchanged = leaves.unchanged;
     })
+
+pub returns-in-Err-clause-right : goal.returns-in-Err-clause-right
+returns-in-Err-clause-right g c =
+    other_from g.O.Ending.code_of g.O.Ending.size_of _ _ c.seat.view_is
+    (finds_other g.O.Ending.code_of g.O.Ending.size_of (view c.seat.inside.key) c.seat.inside.reader c.in-Err._found.value _ c.seat.inside.polled c.seat.inside.notes c.seat.inside.ties.entries c.seat.inside.mine c.seat.inside.given refl c.in-Err.ensures.right.0 c.in-Err.ensures.right.1)

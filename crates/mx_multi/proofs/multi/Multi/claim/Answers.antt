@@ -1,12 +1,15 @@
-use Rattle.std.proofs.Common.{rules, ◌≡◌, ◌∙◌, ap, sym, refl, [], ◌∷◌, ◌++◌, inr}
+use Rattle.std.proofs.Common.{rules, ◌≡◌, ◌∙◌, ap, sym, refl, [], ◌∷◌, ◌++◌, inr, inl}
+use Rattle.crossbeam_channel.specs.Claims.{view}
 use Rattle.mx_lock.specs.Lock.{IsKeyOf}
+use Rattle.mx_journal.specs.Answers.{handle_of}
 use Rattle.mx_journal.specs.History.{is_legal}
+use Rattle.mx_journal.specs.Slots.{slot_of}
 use Rattle.mx_lock.specs.Engine.{IsLeft}
 use Rattle.mx_lock.specs.Ties.{TieState}
 use Rattle.mx_multi.specs.Seats.{MultiView, SeatView}
 use Rattle.mx_board.specs.Board.{ReaderState}
 use Rattle.mx_lock.proofs.Tying.{has_more}
-use Rattle.mx_multi.proofs.Standing.{list_kept, seat_after, received_same, lock_sees, same_of, engine_kept, sees_from, claims_after, claims_one, list_of, none_claimed, found_state, found_left, legal_as, locked_as}
+use Rattle.mx_multi.proofs.Standing.{list_kept, seat_after, received_same, lock_sees, same_of, engine_kept, sees_from, claims_after, claims_one, list_of, none_claimed, found_state, found_left, legal_as, locked_as, finds_other, other_from}
 use Rattle.mx_multi.proofs.Claiming.{claims_new}
 use Rattle.mx_multi.proofs.multi.Multi.claim.Goals as goal
 
@@ -129,3 +132,27 @@ returns-in_default-clause-given g c = ap (λ (s : SeatView g.row.Q.Denot g.row.O
 
 pub returns-clause-given : goal.returns-clause-given
 returns-clause-given g c = ap (λ (s : SeatView g.row.Q.Denot g.row.O.Denot). s.given) c.seat.view_is
+
+pub returns-in-Err-clause-right : goal.returns-in-Err-clause-right
+returns-in-Err-clause-right g c =
+    inl (other_from g.O.Ending.code_of g.O.Ending.size_of _ _ c.seat.view_is
+    (finds_other g.O.Ending.code_of g.O.Ending.size_of (view c.seat.inside.key) c.seat.inside.reader c.in-Err._found.value _ c.seat.inside.polled c.seat.inside.notes c.seat.inside.ties.entries c.seat.inside.mine c.seat.inside.given refl c.in-Err.ensures.right.0 c.in-Err.ensures.right.1))
+
+pub returns-in_default-clause-right : goal.returns-in_default-clause-right
+returns-in_default-clause-right g c =
+    let took = c.in-Ok.ensures.entered.0 in
+    let x = c.in-Ok.taken in
+    let y = c.claim-claimed.new.self in
+    let none : (x.core.queue ≡ []) × (y.core.queue ≡ []) = search rules in
+    inr
+    (record {
+      found = x;
+      is = found_state _ _ c.seat.inside.reader x c.seat.invariant.0 took g.O.Ending.code_of g.O.Ending.size_of _ x refl (ap (λ (t : ReaderState). t.seen) c.leave.ensures.reader ∙ c.claim-claimed.ensures.journal.0) (engine_kept _ _ c.seat.inside.reader x c.seat.invariant.0 took _ y c.leave.ensures.gave) (locked_as _ _ _ _ c.engine-found.ensures c.know-known.ensures.locked);
+      none = none.0;
+    })
+
+pub returns-clause-handle : goal.returns-clause-handle
+returns-clause-handle g c = ap (λ (t : ReaderState). handle_of c.in-Some.claimed.0.ticket t.seen) c.leave.ensures.reader ∙ ap (handle_of c.in-Some.claimed.0.ticket) c.claim-claimed.ensures.journal.0 ∙ c.in-Some.ensures.handle
+
+pub returns-clause-slot : goal.returns-clause-slot
+returns-clause-slot g c = ap (λ (t : ReaderState). slot_of c.in-Some.claimed.0.ticket t.seen) c.leave.ensures.reader ∙ ap (slot_of c.in-Some.claimed.0.ticket) c.claim-claimed.ensures.journal.0 ∙ c.in-Some.ensures.slot

@@ -1,11 +1,12 @@
 use Rattle.std.proofs.Common.{◌≡◌, ◌∙◌, sym, ap, refl}
+use Rattle.crossbeam_channel.specs.Claims.{view}
 use Rattle.mx_journal.specs.History.{is_legal, has_ticket, running}
 use Rattle.mx_board.specs.Board.{ReaderState}
 use Rattle.mx_lock.specs.Lock.{IsKeyOf}
 use Rattle.mx_lock.specs.Engine.{IsLeft}
 use Rattle.mx_lock.specs.Ties.{TieState}
 use Rattle.mx_multi.specs.Seats.{MultiView, SeatView, given_with}
-use Rattle.mx_multi.proofs.Standing.{list_kept, list_of, seat_after, received_same, lock_sees, same_of, engine_kept, sees_from, claims_after, found_state, found_left, legal_as, locked_as}
+use Rattle.mx_multi.proofs.Standing.{list_kept, list_of, seat_after, received_same, lock_sees, same_of, engine_kept, sees_from, claims_after, found_state, found_left, legal_as, locked_as, finds_other, other_from}
 use Rattle.mx_multi.proofs.multi.Multi.give_back.Goals as goal
 
 pub invariant_of-seat-2 : goal.invariant_of-seat-2
@@ -74,3 +75,8 @@ returns-clause-given g c =
     let reply = c.give_back-reply.result in
     let same : given_with reply c.ticket-ticket.result c.seat.inside.given ≡ given_with reply c.args.claim.ticket c.args.seat.now.given = λ i. given_with reply (c.ticket-ticket.ensures i) ((c.seat.view_is i).given) in
     c.note_given.ensures ∙ same
+
+pub returns-in-Err-clause-right : goal.returns-in-Err-clause-right
+returns-in-Err-clause-right g c =
+    other_from g.O.Ending.code_of g.O.Ending.size_of _ _ c.seat.view_is
+    (finds_other g.O.Ending.code_of g.O.Ending.size_of (view c.seat.inside.key) c.seat.inside.reader c.in-Err._found.value _ c.seat.inside.polled c.seat.inside.notes c.seat.inside.ties.entries c.seat.inside.mine c.seat.inside.given refl c.in-Err.ensures.right.0 c.in-Err.ensures.right.1)

@@ -1,9 +1,10 @@
 use Rattle.std.proofs.Common.{◌∙◌, ap, refl}
+use Rattle.crossbeam_channel.specs.Claims.{view}
 use Rattle.mx_lock.specs.Lock.{IsKeyOf}
 use Rattle.mx_lock.specs.Engine.{IsLeft}
 use Rattle.mx_board.specs.Board.{ReaderState}
 use Rattle.mx_multi.specs.Seats.{SeatView}
-use Rattle.mx_multi.proofs.Standing.{list_kept, seat_after, received_same, lock_sees, same_of, engine_kept, sees_from, claims_after, left_same, no_other, found_state, legal_as, locked_as}
+use Rattle.mx_multi.proofs.Standing.{list_kept, seat_after, received_same, lock_sees, same_of, engine_kept, sees_from, claims_after, left_same, no_other, found_state, legal_as, locked_as, finds_other, other_from}
 use Rattle.mx_multi.proofs.multi.Multi.locked_state.Goals as goal
 
 pub invariant_of-seat-2 : goal.invariant_of-seat-2
@@ -43,3 +44,8 @@ returns-clause-claims g c =
 
 pub returns-clause-given : goal.returns-clause-given
 returns-clause-given g c = ap (λ (s : SeatView g.row.Q.Denot g.row.O.Denot). s.given) c.seat.view_is
+
+pub returns-in-Err-clause-right : goal.returns-in-Err-clause-right
+returns-in-Err-clause-right g c =
+    other_from g.O.Ending.code_of g.O.Ending.size_of _ _ c.seat.view_is
+    (finds_other g.O.Ending.code_of g.O.Ending.size_of (view c.seat.inside.key) c.seat.inside.reader c.in-Err._found.value _ c.seat.inside.polled c.seat.inside.notes c.seat.inside.ties.entries c.seat.inside.mine c.seat.inside.given refl c.in-Err.ensures.right.0 c.in-Err.ensures.right.1)

@@ -1,10 +1,45 @@
-use Rattle.std.proofs.Common.{◌≡◌, List, subst, sym}
+use Rattle.std.proofs.Common.{rules, arith, ◌≡◌, ◌∙◌, ℕ, zero, suc, ◌<◌, List, ◌∷◌, length, ap, subst, sym}
+use Rattle.std.specs.Prelude.{slice_index_or}
 use Rattle.std.specs.List.{All}
 use Rattle.std.proofs.lemmas.List.Elements.{All-head, All-tail}
+use Rattle.mx_types.specs.declared.event.Event.{Event}
+use Rattle.mx_multi.specs.Meeting.{AllSee, Meets, SeesAll}
 use Rattle.mx_multi.specs.Retiring.{HasWrongSeat}
 use Rattle.mx_multi.specs.Seats.{SeatView}
 use Rattle.mx_multi.proofs.Kept.{wrong_of_seats, wrong_of_workers}
 use Rattle.mx_multi.proofs.multi.Multi.meet_all.Goals as goal
+
+module _ {Q O : Type 0} where
+  -- a seat sees the journal, and so do those behind it
+  all_first : (j : List Event) (s t : SeatView Q O) (ss ts : List (SeatView Q O)) → SeesAll j s t → AllSee j ss ts → AllSee j (s ∷ ss) (t ∷ ts)
+  all_first j s t ss ts h all = (ap suc all.0, each) where
+    each : (k : ℕ) (d : SeatView Q O) → k < length (s ∷ ss) → SeesAll j (slice_index_or (s ∷ ss) k d) (slice_index_or (t ∷ ts) k d)
+    each zero d lt = h
+    each (suc k) d lt = all.1 k d (omega arith)
+
+  -- they meet through the first of the seats
+  meets_first : (s t : SeatView Q O) (all ss ts workers met : List (SeatView Q O)) (n : ℕ) → all ≡ s ∷ ss → SeesAll t.seen s t → AllSee t.seen ss ts → AllSee t.seen workers met → n ≡ length t.seen → Meets all (t ∷ ts) workers met n
+  meets_first s t all ss ts workers met n e h rest others count = record {
+    list = t.seen;
+    legal = h.sees.legal;
+    count = count;
+    for_seats = subst (λ (l : List (SeatView Q O)). AllSee t.seen l (t ∷ ts)) (sym e) (all_first t.seen s t ss ts h rest);
+    for_workers = others;
+  }
+
+  -- they meet through the first of the workers' seats
+  meets_worker : (s t : SeatView Q O) (all ss ts seats met : List (SeatView Q O)) (n : ℕ) → all ≡ s ∷ ss → SeesAll t.seen s t → AllSee t.seen seats met → AllSee t.seen ss ts → n ≡ length t.seen → Meets seats met all (t ∷ ts) n
+  meets_worker s t all ss ts seats met n e h others rest count = record {
+    list = t.seen;
+    legal = h.sees.legal;
+    count = count;
+    for_seats = others;
+    for_workers = subst (λ (l : List (SeatView Q O)). AllSee t.seen l (t ∷ ts)) (sym e) (all_first t.seen s t ss ts h rest);
+  }
+
+  -- none has changed
+  as_they_were : (s t : SeatView Q O) (all ss ts : List (SeatView Q O)) → all ≡ s ∷ ss → t ≡ s → ts ≡ ss → t ∷ ts ≡ all
+  as_they_were s t all ss ts e one rest = ap (λ (x : SeatView Q O). x ∷ ts) one ∙ ap (λ (l : List (SeatView Q O)). s ∷ l) rest ∙ sym e
 
 pub meet_by-requires : goal.meet_by-requires
 meet_by-requires g c =
@@ -35,3 +70,21 @@ returns-clause-right g c =
     let rest = c.in-Some-split_first_mut.rest.now in
     subst (λ (ws : List (SeatView g.row.Q.Denot g.row.O.Denot)). HasWrongSeat g.O.Ending.code_of g.O.Ending.size_of m seats ws) (sym c.in-Some-split_first_mut.ensures.cases.0)
     (wrong_of_workers g.O.Ending.code_of g.O.Ending.size_of m one seats rest c.if-meet_by-2.ensures.right)
+
+pub returns-then-meet_by-clause-meets : goal.returns-then-meet_by-clause-meets
+returns-then-meet_by-clause-meets g c =
+    let met = c.if-meet_by.ensures.meets in
+    meets_first _ _ _ _ _ _ _ _ c.in-Some.ensures.cases.0 met.0 met.1 met.2 (search rules)
+
+pub returns-in-Some-clause-meets : goal.returns-in-Some-clause-meets
+returns-in-Some-clause-meets g c =
+    let kept = c.if-meet_by.ensures.meets in (as_they_were _ _ _ _ _ c.in-Some.ensures.cases.0 kept.0 kept.1, kept.2)
+
+pub returns-then-meet_by-2-clause-meets : goal.returns-then-meet_by-2-clause-meets
+returns-then-meet_by-2-clause-meets g c =
+    let met = c.if-meet_by-2.ensures.meets in
+    meets_worker _ _ _ _ _ _ _ _ c.in-Some-split_first_mut.ensures.cases.0 met.0 met.1 met.2 (search rules)
+
+pub returns-clause-meets : goal.returns-clause-meets
+returns-clause-meets g c =
+    let kept = c.if-meet_by-2.ensures.meets in (kept.1, as_they_were _ _ _ _ _ c.in-Some-split_first_mut.ensures.cases.0 kept.0 kept.2)

@@ -1,12 +1,12 @@
-use Rattle.std.proofs.Common.{◌≡◌, ◌∙◌, ap, refl, sym, subst}
+use Rattle.std.proofs.Common.{◌≡◌, ◌∙◌, ap, refl, sym, subst, inl}
 use Rattle.crossbeam_channel.specs.Claims.{view}
 use Rattle.mx_lock.specs.Lock.{IsKeyOf}
 use Rattle.mx_board.specs.Board.{ReaderState}
 use Rattle.mx_lock.specs.Engine.{EngineState, IsLeft}
 use Rattle.mx_multi.specs.Meeting.{AllSee}
 use Rattle.mx_multi.specs.Retiring.{AllFind}
-use Rattle.mx_multi.specs.Seats.{SeatView}
-use Rattle.mx_multi.proofs.Standing.{list_kept, list_released, seat_after, seat_released, received_same, received_released, lock_sees, same_of, engine_kept, engine_released, sees_from, claims_after, left_same, no_other, legal_as}
+use Rattle.mx_multi.specs.Seats.{FindsOther, MultiView, SeatView}
+use Rattle.mx_multi.proofs.Standing.{list_kept, list_released, seat_after, seat_released, received_same, received_released, lock_sees, same_of, engine_kept, engine_released, sees_from, claims_after, left_same, no_other, legal_as, finds_other, other_from}
 use Rattle.mx_multi.proofs.multi.Multi.meet_by.Goals as goal
 
 pub see_each-requires-clause-find : goal.see_each-requires-clause-find
@@ -69,3 +69,12 @@ returns-then-all_find-2 g c =
       );
       right = tt;
     }
+
+pub returns-in-Err-clause-right : goal.returns-in-Err-clause-right
+returns-in-Err-clause-right g c =
+    let h : FindsOther g.O.Ending.code_of g.O.Ending.size_of c.args.one.now = other_from g.O.Ending.code_of g.O.Ending.size_of _ _ c.one.view_is
+    (finds_other g.O.Ending.code_of g.O.Ending.size_of (view c.one.inside.key) c.one.inside.reader c.in-Err._found.value _ c.one.inside.polled c.one.inside.notes c.one.inside.ties.entries c.one.inside.mine c.one.inside.given refl c.in-Err.ensures.right.0 c.in-Err.ensures.right.1) in (
+      h.found,
+      record { engine = h.engine ∙ ap (λ (m : MultiView g.row.Q.Denot g.row.O.Denot). m.engine) c.requires.own.0; locked = h.locked },
+      inl h.other,
+    )

@@ -1,10 +1,10 @@
-use Rattle.std.proofs.Common.{rules, ◌≡◌, ◌∙◌, ap, refl, sym, inr}
+use Rattle.std.proofs.Common.{rules, ◌≡◌, ◌∙◌, ap, refl, sym, inr, inl}
 use Rattle.crossbeam_channel.specs.Claims.{view}
 use Rattle.mx_lock.specs.Lock.{IsKeyOf}
 use Rattle.mx_board.specs.Board.{ReaderState}
 use Rattle.mx_lock.specs.Engine.{EngineState, IsLeft}
 use Rattle.mx_multi.specs.Seats.{MultiView, SeatView}
-use Rattle.mx_multi.proofs.Standing.{list_kept, list_released, seat_after, seat_released, received_same, received_released, lock_sees, other_sees, seat_sees, same_of, engine_kept, engine_released, sees_from, claims_after, left_same, no_other, legal_as, locked_as, ahead_as, behind_as, not_ahead, other_from}
+use Rattle.mx_multi.proofs.Standing.{list_kept, list_released, seat_after, seat_released, received_same, received_released, lock_sees, other_sees, seat_sees, same_of, engine_kept, engine_released, sees_from, claims_after, left_same, no_other, legal_as, locked_as, ahead_as, behind_as, not_ahead, other_from, finds_other}
 use Rattle.mx_multi.proofs.multi.Multi.try_meet.Goals as goal
 
 pub invariant_of-one-then-fits : goal.invariant_of-one-then-fits
@@ -92,3 +92,8 @@ returns-clause-right g c =
     inr (other_from g.O.Ending.code_of g.O.Ending.size_of _ _ c.two.view_is
     (not_ahead g.O.Ending.code_of g.O.Ending.size_of (view c.two.inside.key) r x _ c.two.inside.polled c.two.inside.notes c.two.inside.ties.entries c.two.inside.mine c.two.inside.given engine (locked_as _ _ _ _ c.engine-found.ensures c.know-known.ensures.locked)
     (behind_as c.fits.result r _ x c.engine-found.ensures c.if-fits.false c.fits.ensures)))
+
+pub returns-in-Err-clause-right : goal.returns-in-Err-clause-right
+returns-in-Err-clause-right g c =
+    inl (other_from g.O.Ending.code_of g.O.Ending.size_of _ _ c.one.view_is
+    (finds_other g.O.Ending.code_of g.O.Ending.size_of (view c.one.inside.key) c.one.inside.reader c.in-Err._found.value _ c.one.inside.polled c.one.inside.notes c.one.inside.ties.entries c.one.inside.mine c.one.inside.given refl c.in-Err.ensures.right.0 c.in-Err.ensures.right.1))

@@ -6,7 +6,7 @@ use Rattle.mx_multi.specs.Seats.{SeatView}
 use Rattle.mx_types.specs.declared.call.Call.TheVariants as call
 use Rattle.mx_types.specs.declared.reply.Reply.TheVariants as reply
 use Rattle.mx_lock.specs.Engine.{Leaves}
-use Rattle.mx_multi.proofs.Standing.{list_kept, list_released, seat_after, seat_released, receipt_is, received_more, lock_stands, same_of, engine_kept, engine_released, received_released, stands_from, woken, caught_confirmed, legal_as, length_as, ready_as, finds_none_ready, none_ready_from, locked_as}
+use Rattle.mx_multi.proofs.Standing.{list_kept, list_released, seat_after, seat_released, receipt_is, received_more, lock_stands, same_of, engine_kept, engine_released, received_released, stands_from, woken, caught_confirmed, legal_as, length_as, ready_as, finds_none_ready, none_ready_from, locked_as, finds_other, other_from}
 use Rattle.mx_multi.proofs.multi.Multi.try_poll.Goals as goal
 
 pub invariant_of-seat-then-is_ready : goal.invariant_of-seat-then-is_ready
@@ -56,3 +56,8 @@ returns-clause-asleep g c =
     none_ready_from g.O.Ending.code_of g.O.Ending.size_of _ _ c.seat.view_is
     (finds_none_ready (view c.seat.inside.key) _ c.seat.inside.reader c.in-Ok.taken c.seat.invariant.0 c.in-Ok.ensures.entered.0 g.O.Ending.code_of g.O.Ending.size_of _ c.seat.inside.polled c.seat.inside.notes c.seat.inside.ties.entries c.seat.inside.mine c.seat.inside.given refl c.in-Ok.ensures.entered.1
     (locked_as _ _ _ _ c.engine-found.ensures c.know-known.ensures.locked) (sym (ready_as _ _ _ _ c.engine-found.ensures c.is_ready.ensures) ∙ c.if-is_ready.false))
+
+pub returns-in-Err-clause-right : goal.returns-in-Err-clause-right
+returns-in-Err-clause-right g c =
+    other_from g.O.Ending.code_of g.O.Ending.size_of _ _ c.seat.view_is
+    (finds_other g.O.Ending.code_of g.O.Ending.size_of (view c.seat.inside.key) c.seat.inside.reader c.in-Err._found.value _ c.seat.inside.polled c.seat.inside.notes c.seat.inside.ties.entries c.seat.inside.mine c.seat.inside.given refl c.in-Err.ensures.right.0 c.in-Err.ensures.right.1)

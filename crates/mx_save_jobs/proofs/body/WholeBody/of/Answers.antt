@@ -1,4 +1,4 @@
-use Rattle.std.proofs.Common.{◌≡◌, ◌∙◌, sym}
+use Rattle.std.proofs.Common.{◌∙◌, sym}
 use Rattle.mx_save_jobs.proofs.Bodies.{whole}
 use Rattle.mx_save_jobs.proofs.body.WholeBody.of.Goals as goal
 

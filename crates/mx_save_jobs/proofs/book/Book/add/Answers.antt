@@ -1,13 +1,14 @@
-use Rattle.std.proofs.Common.{◌≡◌, ◌∙◌, ap, sym, refl, subst, map}
-use Rattle.std.specs.Prelude.{slice_set}
-use Rattle.mx_save_jobs.specs.Jobs.{IsBook, job_at}
+use Rattle.std.proofs.Common.{sym, refl, subst, map}
+use Rattle.mx_save_jobs.specs.Books.{IsAdded}
+use Rattle.mx_save_jobs.specs.Jobs.{IsBook}
 use Rattle.mx_save_jobs.specs.declared.job.Slot.TheVariants as slot
-use Rattle.mx_save_jobs.proofs.Books.{again, set_again}
+use Rattle.mx_save_jobs.proofs.Books.{again}
 use Rattle.mx_save_jobs.proofs.book.Book.add.Goals as goal
 
 pub invariant_of-self : goal.invariant_of-self
 invariant_of-self g c = λ e.
     let was = c.self.invariant e in
+    let a = c.set_added.ensures in
     subst (λ l. IsBook (record {
       asking = c.self.inside.asking;
       urls = map (λ u. u.items) c.self.inside.urls;
@@ -15,12 +16,8 @@ invariant_of-self g c = λ e.
       slots = l;
       told = c.self.inside.lines.told;
       saves = c.self.inside.ledger.entries;
-    }) c.self.inside.read c.self.inside.names) (sym (set_again c.self.inside.slots.items c.take_job.new.slots.items c.args.at _ _ c.take_job.ensures.free))
-    (again _ c.self.inside.read c.self.inside.names c.args.at c.in-Some.job c.in-Some.job _ was (sym c.take_job.ensures.job ∙ c.in-Some.is) refl refl refl refl)
+    }) c.self.inside.read c.self.inside.names) (sym a.is)
+    (again _ c.self.inside.read c.self.inside.names c.args.at a.job a.job (slot.Added a.job c.args.ticket) was a.there refl refl refl refl)
 
 pub returns-clause-added : goal.returns-clause-added
-returns-clause-added g c = record {
-  job = c.in-Some.job;
-  there = ap (λ b. job_at b.slots c.args.at) (sym c.self.view_is) ∙ sym c.take_job.ensures.job ∙ c.in-Some.is;
-  is = set_again c.self.inside.slots.items c.take_job.new.slots.items c.args.at _ _ c.take_job.ensures.free ∙ ap (λ b. slice_set b.slots c.args.at (slot.Added c.in-Some.job c.args.ticket)) c.self.view_is;
-}
+returns-clause-added g c = subst (λ b. IsAdded b.slots c.set_added.new.slots.items c.args.at c.args.ticket) c.self.view_is c.set_added.ensures

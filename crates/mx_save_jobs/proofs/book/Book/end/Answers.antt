@@ -1,4 +1,3 @@
-use Rattle.std.proofs.Common.{◌≡◌, ◌∙◌, ap}
 use Rattle.mx_save_jobs.proofs.Books.{ended_of}
 use Rattle.mx_save_jobs.proofs.book.Book.end.Goals as goal
 

@@ -1,4 +1,4 @@
-use Rattle.std.proofs.Common.{◌≡◌, ◌∙◌, ap, refl, sym, subst, map}
+use Rattle.std.proofs.Common.{◌∙◌, ap, refl, sym, subst, map}
 use Rattle.std.specs.Prelude.{IsSome}
 use Rattle.mx_save_jobs.proofs.Books.{refused_as, texts_push}
 use Rattle.mx_save_jobs.proofs.book.Book.refuse.Goals as goal

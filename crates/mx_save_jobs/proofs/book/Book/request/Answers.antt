@@ -1,4 +1,4 @@
-use Rattle.std.proofs.Common.{◌≡◌, ◌∙◌, ap, subst, sym}
+use Rattle.std.proofs.Common.{◌∙◌, ap, subst, sym}
 use Rattle.std.specs.Prelude.{IfOk}
 use Rattle.mx_request.specs.Request.{IsRequest}
 use Rattle.mx_save_jobs.specs.Jobs.{Asks, job_at}

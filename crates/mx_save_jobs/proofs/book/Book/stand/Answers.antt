@@ -1,4 +1,4 @@
-use Rattle.std.proofs.Common.{◌≡◌, ◌∙◌, ap, sym, refl, map, arith, ◌++◌, ◌∷◌, []}
+use Rattle.std.proofs.Common.{◌∙◌, ap, refl, map, ◌++◌, ◌∷◌, []}
 use Rattle.std.specs.Prelude.{slice_get, slice_set}
 use Rattle.mx_file_name.specs.Names.{base_name, count_of, numbered}
 use Rattle.mx_save_jobs.specs.declared.job.Job.{Job}

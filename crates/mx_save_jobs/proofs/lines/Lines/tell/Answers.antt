@@ -1,4 +1,4 @@
-use Rattle.std.proofs.Common.{◌≡◌, ◌∙◌, ap, sym, ◌++◌, ◌∷◌, []}
+use Rattle.std.proofs.Common.{◌∙◌, ap, sym, ◌++◌, ◌∷◌, []}
 use Rattle.mx_run_io.specs.Ends.{has_failed_write}
 use Rattle.mx_run_save.specs.Codes.{save_number}
 use Rattle.mx_run_save.specs.Status.{after_note, first_of}

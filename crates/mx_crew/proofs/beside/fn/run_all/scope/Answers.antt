@@ -2,7 +2,7 @@ use denote.Param.Send.{sendable}
 use Rattle.std.proofs.Crossing.{crosses}
 use Rattle.mx_chain.proofs.Sends.{outcome_send}
 use Rattle.mx_multi.proofs.Sends.{at_work_send, seated_send}
-use Rattle.mx_worker.proofs.Sends.{queued_send}
+use Rattle.mx_queue.proofs.Sends.{queued_send}
 use Rattle.mx_crew.proofs.beside.fn.run_all.scope.Goals as goal
 
 pub spawn-started-requires-send-F : goal.spawn-started-requires-send-F

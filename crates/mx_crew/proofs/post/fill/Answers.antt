@@ -2,7 +2,7 @@ use Rattle.std.proofs.Common.{◌≡◌, arith}
 use Rattle.std.specs.Prelude.{Some}
 use Rattle.std.proofs.lemmas.List.Elements.{All-pop}
 use Rattle.mx_multi.specs.Seats.{SeatView}
-use Rattle.mx_crew.proofs.post.posts.Goals as goal
+use Rattle.mx_crew.proofs.post.fill.Goals as goal
 
 pub loop-seat-preserved : goal.loop-seat-preserved
 loop-seat-preserved g c =

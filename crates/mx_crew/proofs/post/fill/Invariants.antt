@@ -1,6 +1,6 @@
 use Rattle.std.proofs.Common.{◌≡◌, ◌≤◌, ◌+◌}
 use Rattle.std.specs.Prelude.{All, vec_capacity, vec_len}
-use Rattle.mx_crew.proofs.post.posts.Given as goal
+use Rattle.mx_crew.proofs.post.fill.Given as goal
 
 abbrev pub invariant-loop-seat : goal.invariant-loop-seat
 invariant-loop-seat g l = record {

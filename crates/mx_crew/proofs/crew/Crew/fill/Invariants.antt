@@ -1,6 +1,6 @@
 use Rattle.std.proofs.Common.{◌≡◌}
 use Rattle.std.specs.Prelude.{vec_len}
-use Rattle.mx_crew.proofs.crew.Crew.gates.Given as goal
+use Rattle.mx_crew.proofs.crew.Crew.fill.Given as goal
 
 abbrev pub invariant-loop-made : goal.invariant-loop-made
 invariant-loop-made g l = vec_len l.gates ≡ l.made

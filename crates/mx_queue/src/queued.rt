@@ -1,4 +1,4 @@
-//! The work of a multi handle with workers.
+//! A transfer that waits for a worker.
 ghost use Rattle.std.specs.Prelude.{◌≡◌, None, false, IfOk, IfErr};
 
 use mx_link::Link;

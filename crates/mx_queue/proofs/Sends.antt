@@ -5,8 +5,8 @@ use denote.Struct.Declared.{shape}
 use Rattle.mx_link.specs.declared.links.Link as link
 use Rattle.std.proofs.Crossing.{crosses}
 use Rattle.mx_transfer.proofs.Sends.{transfer_send}
-use Rattle.mx_worker.specs.contracts.queued.Queued as Queued
-use Rattle.mx_worker.specs.contracts.queued.Queued.TheInside as QueuedInside
+use Rattle.mx_queue.specs.contracts.queued.Queued as Queued
+use Rattle.mx_queue.specs.contracts.queued.Queued.TheInside as QueuedInside
 
 queued_inside : (L : RattleType) (g : link.Ghosts L.Denot) → IsSend L → IsSend (QueuedInside.the_field L g).row
 queued_inside L g s =
