@@ -14,8 +14,7 @@ for tool in python3 unshare ip; do
     command -v "$tool" > /dev/null || { echo "checks/names.sh: there is no $tool" >&2; exit 1; }
 done
 if [ -z "${PROGRAM:-}" ]; then
-    "$top/run" --version > /dev/null
-    PROGRAM=$top/crates/mxfetch/out/mxfetch
+    PROGRAM=$("$top/run" --which)
 fi
 work=$(mktemp -d)
 trap 'rm -rf "$work"' EXIT

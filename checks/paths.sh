@@ -21,7 +21,7 @@ MOST = 140
 
 # What the pages name that isn't of this tree: libcurl's, the system's and the toolchain's words, and what a build leaves.
 OUTSIDE = set("""
-    rt rt-plant cat curl awk valgrind callgrind python3 cc gcc curl_multi_add_handle curl_multi_remove_handle out/ out
+    rt rt-plant Abort cat curl awk valgrind callgrind python3 cc gcc curl_multi_add_handle curl_multi_remove_handle out/ out
     libcurl4 git proofs src specs must-fail more-edits --jobs N
     crates/*/out crates/mxfetch/out/mxfetch crates/mxfetch/out/seconds.txt
 """.split())

@@ -1,19 +1,20 @@
 #!/usr/bin/env bash
-# Runs what `rt ci` built with each growth of memory refused in turn, the first, the second, and so on until a run asks for no
+# Runs the program and tests with each growth of memory refused in turn, the first, the second, and so on until a run asks for no
 # more, by a library of its own (checks/refuse.c). A program has to print what memory allows and end with 27, or to do without
 # that growth and print all. Of a test that asks for more than 400 growths the first 400 are refused. A test has to
 #   - make a call that was refused memory once more, compare what that answers with what it is to answer, and only then fail, by
 #     words of its own, which it says for no other cause: at one growth at least, or there is no such call; or
 #   - fail with the want of memory, where the growth was one of what the test needs for itself; or
 #   - pass, where the engine does without that growth.
-# A few tests more, of workers and of a run that saves, make no call again; they have to fail with the want of memory, or to pass.
+# A few tests more, of a run that saves, make no call again; they have to fail with the want of memory, or to pass.
 # Anything else is wrong: an assertion that fails, other words, a signal, a run that doesn't end. Prints one line for each program
 # and test, and ends with 0 where all did as they have to, with 1 where one didn't, and with 2 where something that it needs isn't
 # there: a program, a test, a C compiler.
 #
 # Use: checks/refused-growths.sh [WORD]    after `rt ci`, on Linux; a C compiler is in Debian's package gcc
 #
-# With a word it takes only the programs and the crates of tests whose names have it.
+# With a word it takes only the programs and the crates of tests whose names have it. It takes what `rt ci` built, or, with
+# BUILT=out/unproved, what ./run and checks/tests.sh compiled without proofs.
 set -u
 [ "${1-}" != -h ] && [ "${1-}" != --help ] || { sed -n '2,/^set/s/^# \{0,1\}//p' "$0"; exit 0; }
 
@@ -21,19 +22,15 @@ set -u
 tests='
 mx_request_tests    ^refused
 mx_body_tests       ^refused
-mx_link_tests       ^refused
-mx_chain_tests      ^refused
+mx_exchange_tests   ^refused
 mx_journal_tests    ^refused
-mx_board_tests      ^boards::two_seats\|^boards::a_reader\|^kept\|^words::a_word
 mx_gate_tests       ^refused
-mx_multi_tests      ^scripts\|^meetings\|^retirings\|^seats::the_table
-mx_worker_tests     ^refused::one_worker
-mx_crew_tests       ^refused
+mx_multi_tests      ^refused
+mx_worker_tests     ^refused
 '
 # Those that make no call again.
 others='
-mx_worker_tests     ^ends::one_worker\|^ends::a_removed\|^paused\|^takeover
-mx_save_task_tests  ^refused
+mx_save_tests       ^refused
 '
 
 # What such a test says where a call that was refused memory answered when it was made again.
@@ -56,10 +53,12 @@ missing() {
 }
 
 # all that is needed, before anything is run
-program=$top/crates/mxfetch/out/mxfetch
-[ -x "$program" ] || missing "there is no $program: run rt ci, or ./run body GET < /dev/null"
+built=${BUILT:-out}
+program=${PROGRAM:-$top/crates/mxfetch/$built/mxfetch}
+[ -x "$program" ] || missing "there is no $program: ./run compiles one, ./run --prove proves it"
 for crate in $(printf '%s\n' "$tests" "$others" | awk '{ print $1 }'); do
-  [ -x "$top/crates/$crate/out/${crate}_tests" ] || missing "there is no crates/$crate/out/${crate}_tests: run rt ci, or rt test in crates/$crate"
+  [ -x "$top/crates/$crate/$built/${crate}_tests" ] ||
+    missing "there is no crates/$crate/$built/${crate}_tests: rt ci builds it; with BUILT=out/unproved, checks/tests.sh"
 done
 for tool in cc:gcc timeout:coreutils cmp:diffutils; do
   command -v "${tool%:*}" > /dev/null || missing "there is no ${tool%:*} on the path: it is in Debian's package ${tool#*:}"
@@ -239,7 +238,7 @@ ends=0
 
 # the tests of a crate, each up to its 400th growth: CRATE WORD LEAST, the least number of growths whose call is made again
 try_tests() {
-  local crate=$1 word=$2 least=$3 test names which again wanting without tests=$top/crates/$1/out/$1_tests
+  local crate=$1 word=$2 least=$3 test names which again wanting without tests=$top/crates/$1/$built/$1_tests
   names=$("$tests" --list | sed -n 's/: test$//p' | grep "$word")
   [ -n "$names" ] || { status=0; : > "$work/printed"; : > "$work/said"; wrong "$crate: its tests name no test"; }
   for test in $names; do

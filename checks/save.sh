@@ -16,8 +16,7 @@ for tool in nginx python3 cc; do
     command -v "$tool" > /dev/null || { echo "checks/save.sh: there is no $tool" >&2; exit 1; }
 done
 if [ -z "${PROGRAM:-}" ]; then
-    "$top/run" --version > /dev/null
-    PROGRAM=$top/crates/mxfetch/out/mxfetch
+    PROGRAM=$("$top/run" --which)
 fi
 export RES_OPTIONS='timeout:1 attempts:1' # a name server that can't be reached is soon given up
 work=$(mktemp -d)

@@ -1,10 +1,15 @@
-"""The first run of ./run: proves the crates below mxfetch side by side, then proves and builds mxfetch, and becomes it.
+"""./run --prove: proves the crates below mxfetch, then proves and builds mxfetch, and becomes it.
 
-    prove.py TOP COMMAND..      becomes COMMAND, once the program is built from what is there now
-    prove.py --look TOP         status 0 where it is built from that, else 1; proves nothing
+    prove.py TOP [COMMAND..]    becomes COMMAND, once the program is built from what is there now
+    prove.py --sum TOP          prints the sum of all that it would be built from
+    prove.py --note TOP SUM     notes that what `rt ci` has built is built from that, if it is still there; ./run then starts it
+
+It calls `rt ci` in a copy of the crates without their tests and mutants. What that passes is kept beside the toolchain, crate by crate, so
+an interrupted run goes on where it was, and neither a later run nor CI proves it again.
 
 What it has to say goes to standard error. Exit status: COMMAND's; 125 where the program couldn't be built; 128 and the signal's number
-where that was interrupted. It keeps in crates/mxfetch/out what ./run and it compare: see Record.
+where that was interrupted. It keeps in crates/mxfetch/out what ./run and it compare: see Record. While it is at work ./run starts the program
+without its proofs (first-run/unproved.py), which has a lock of its own.
 """
 
 import collections
@@ -19,22 +24,24 @@ import shutil
 import signal
 import subprocess
 import sys
+import tempfile
 import time
 
 PROGRAM = "mxfetch"
 FAILED = 125
 SIGNALS = (signal.SIGINT, signal.SIGTERM, signal.SIGHUP)
-JOB_MEMORY = 2 << 30        # what most jobs take at most, in bytes; three of the last take twice as much, and run one or two at a time
-READING_MEMORY = 12_000_000_000  # what the quick pass over the sources, with which rt begins, takes, in bytes
-ALL_FILES = 15_900_000_000  # what all crates/*/out take, in bytes
+JOB_MEMORY = 2 << 30        # what most crates take at most, in bytes; the last take twice as much, and run one at a time
+ALL_FILES = 6_000_000_000   # what a proof of all crates keeps and takes while it is at work, in bytes
 KILLED = (-9, 137, 247)     # how rt ends where the system kills it or its prover, as where memory runs out
-READING = 200               # seconds, of the quick pass
 UNLISTED = 120              # seconds, of a crate that seconds.txt doesn't list
 UNWRITABLE = (errno.EPERM, errno.EACCES, errno.EROFS)
 TAIL = 12                   # how many of the prover's last lines are shown
-MEMORY_TAKEN = f"the quick pass over the sources takes {READING_MEMORY / 1e9:.0f} GB, a job 1 to 4 GB"
+MEMORY_TAKEN = "a crate takes 1 to 4 GB"
+NO_RT = ("there is no rt on the path. rt is the command of the Rattle toolchain (compiler, prover and proved libraries), which compiles and "
+         "proves mxfetch: install the toolchain, and put its folder bin on the path")
+PARTS = ("src", "specs", "proofs", "data", "args", "stdin", "stdout", "status")  # what is proved of a crate, and what a program is run on
 
-NO_MEMORY = re.compile(r"Cannot allocate memory|memory allocation of|MemoryError|bad_alloc|^Killed", re.M)
+NO_MEMORY = re.compile(r"Cannot allocate memory|memory allocation of|MemoryError|bad_alloc|^Killed|killed, most likely for memory", re.M)
 NO_DISK = re.compile(r"No space left on device|os error 28\b|Errno 28\b|Disk quota exceeded")
 
 
@@ -76,65 +83,83 @@ def length_of(seconds):
 
 # --- what the program is made from ---------------------------------------------------------------------------------------
 
-def crates_below(top):
-    """mxfetch and the crates below it, lowest first: a dict from each to those that it uses."""
-    uses = {}
+def lines_of(top):
+    """The line of each crate in crates.txt, without its comment, lowest first."""
+    found = {}
     with open(f"{top}/crates.txt", encoding="utf-8") as lines:
         for line in lines:
-            words, colon, used = line.partition("#")[0].partition(":")
-            if colon and words.split():
-                uses[words.split()[0]] = used.split()
-    wanted, found = [PROGRAM], set()
-    while wanted:
-        crate = wanted.pop()
-        if crate in uses and crate not in found:
-            found.add(crate)
-            wanted += uses[crate]
-    if PROGRAM not in found:
-        raise Stop(f"crates.txt doesn't list {PROGRAM}")
-    return {crate: [it for it in uses[crate] if it in uses] for crate in uses if crate in found}
+            line = line.partition("#")[0].strip()
+            if ":" in line:
+                found[line.split()[0].rstrip(":")] = line
+    return found
+
+
+def uses_of(top):
+    """The repository's crates, lowest first: a dict from each to those that it uses."""
+    used = {crate: line.partition(":")[2].split() for crate, line in lines_of(top).items()}
+    return {crate: [it for it in its if it in used] for crate, its in used.items()}
+
+
+def crates_below(top, program=PROGRAM):
+    """A crate and the crates below it, as uses_of."""
+    uses = uses_of(top)
+    if program not in uses:
+        raise Stop(f"crates.txt doesn't list {program}")
+    found = {program} | all_below(uses, program)
+    return {crate: uses[crate] for crate in uses if crate in found}
 
 
 def all_below(crates, crate):
-    below = set()
-    for it in crates[crate]:
-        below |= {it} | all_below(crates, it)
+    below, wanted = set(), [crate]
+    while wanted:
+        more = set(crates[wanted.pop()]) - below
+        below |= more
+        wanted += more
     return below
 
 
-def places_of(top, crate):
-    """The crate's folders, and its files that are read by the prover."""
+def places_of(top, crate, endings):
+    """The crate's folders, and its files with these endings."""
     for folder, folders, files in os.walk(f"{top}/crates/{crate}"):
         folders[:] = [it for it in folders if it != "out"]
         yield folder
-        yield from (f"{folder}/{it}" for it in files if it.endswith((".rt", ".antt")))
+        yield from (f"{folder}/{it}" for it in files if it.endswith(endings))
 
 
-def sources_of(top, crate):
-    return (it for it in places_of(top, crate) if it.endswith((".rt", ".antt")))
+def sources_of(top, crate, endings=(".rt", ".antt")):
+    return (it for it in places_of(top, crate, endings) if it.endswith(endings))
 
 
-def sum_of(path):
+def sum_of(path, change=lambda content: content):
     with open(path, "rb") as file:
-        return hashlib.sha256(file.read()).hexdigest()
+        return hashlib.sha256(change(file.read())).hexdigest()
 
 
 class Record:
-    """What crates/mxfetch/out keeps of a build.
+    """What a folder keeps of a program that is built from sources: crates/mxfetch/out of the proved one, its folder `unproved` of one
+    without proofs, NAME being the program's.
 
-    mxfetch.made-from   the sum of all that it was made from, with the toolchain's words, and the sum of the program
-    mxfetch.now         a script that prints the list: of each file and folder what tells whether anything has changed
-    mxfetch.list        what it printed when these sums were last seen to agree
+    NAME.made-from   the sum of all that it was made from, with the toolchain's words, and the sum of the program
+    NAME.now         a script that prints the list: of each file and folder what tells whether anything has changed
+    NAME.list        what it printed when these sums were last seen to agree
     """
 
-    def __init__(self, top, crates, toolchain):
-        self.top, self.crates, self.toolchain = top, crates, toolchain
-        self.program = f"{top}/crates/{PROGRAM}/out/{PROGRAM}"
+    endings = (".rt", ".antt")  # of the sources that it is made from
+    made_by = ()                # what else in the repository decides what comes out
+
+    def __init__(self, top, toolchain, crate=PROGRAM, folder="out", name=PROGRAM):
+        self.top, self.toolchain, self.crates = top, toolchain, crates_below(top, crate)
+        self.folder = f"{top}/crates/{crate}/{folder}"
+        self.program = f"{self.folder}/{name}"
+
+    def sum_of_source(self, path):
+        return sum_of(path)
 
     def sum_of_all(self):
-        lines = [self.toolchain, f"crates.txt {sum_of(f'{self.top}/crates.txt')}"]
+        listed = lines_of(self.top)
+        lines = [self.toolchain, *(f"{it} {sum_of(f'{self.top}/{it}')}" for it in self.made_by), *(listed[it] for it in self.crates)]
         for crate in self.crates:
-            lines += sorted(f"{path[len(self.top):]} {sum_of(path)}" for path in sources_of(self.top, crate))
+            lines += sorted(f"{path[len(self.top):]} {self.sum_of_source(path)}" for path in sources_of(self.top, crate, self.endings))
         return hashlib.sha256("\n".join(lines).encode()).hexdigest()
 
     def is_built(self):
@@ -149,8 +174,9 @@ class Record:
         rt = os.path.realpath(shutil.which("rt"))
         beside = os.path.dirname(rt)
         files = [f"{beside}/rattle", f"{beside}/KIT-ID", f"{os.path.dirname(beside)}/KIT-ID"]
-        places = ["../crates.txt", f"{PROGRAM}/out/{PROGRAM}", *filter(os.path.isfile, files)]
-        places += [os.path.relpath(it, f"{self.top}/crates") for crate in self.crates for it in places_of(self.top, crate)]
+        own = [f"{self.top}/{it}" for it in ("crates.txt", *self.made_by)] + [self.program]
+        own += [it for crate in self.crates for it in places_of(self.top, crate, self.endings)]
+        places = [os.path.relpath(it, f"{self.top}/crates") for it in own] + [it for it in files if os.path.isfile(it)]
         self.keep("now", f"{NOW}{' '.join(map(shlex.quote, places))}\n".encode())
 
     def keep(self, what, content):
@@ -159,11 +185,19 @@ class Record:
             file.write(content)
         os.replace(f"{path}.new", path)
 
+    def keep_made_from(self, before):
+        """Notes that the program was made from what has this sum, if that is still there; returns whether it is."""
+        if self.sum_of_all() != before:
+            return False
+        self.keep("made-from", f"{before}\n{sum_of(self.program)}\n".encode())
+        return self.renew()
+
     def note_list(self):
         """The list as it is now; None where it can't be told."""
         if not os.path.isabs(shutil.which("rt")):
             return None
-        told = subprocess.run(["sh", f"{self.program}.now"], cwd=f"{self.top}/crates", stdout=subprocess.PIPE, stderr=subprocess.DEVNULL)
+        told = subprocess.run(["sh", f"{self.program}.now"], cwd=f"{self.top}/crates", stdout=subprocess.PIPE, stderr=subprocess.DEVNULL,
+                              check=False)
         return told.stdout if told.returncode == 0 else None
 
     def renew(self):
@@ -242,7 +276,7 @@ class Progress:
     """The crates, which of them are done and since when others are at work."""
 
     def __init__(self, top, crates, jobs):
-        self.top, self.crates, self.jobs = top, crates, jobs
+        self.crates, self.jobs = crates, jobs
         self.begun = time.monotonic()
         self.started, self.took, self.done = {}, {}, set()
         self.listed = {it: UNLISTED for it in crates}
@@ -251,21 +285,7 @@ class Progress:
                 crate, _, seconds = line.partition("#")[0].partition(":")
                 if crate in crates:
                     self.listed[crate] = float(seconds)
-        self.anew = {it for it in crates if not os.path.isdir(f"{top}/crates/{it}/out")}
-        self.kept = self.kept_crates()
         self.order = sorted(crates, key=lambda it: len(all_below(crates, it)))
-
-    def kept_crates(self):
-        """Those that were built before, and of which no source has changed since: a guess, by times."""
-        kept = set()
-        for crate, below in self.crates.items():
-            try:
-                built = os.stat(f"{self.top}/crates/{crate}/out/rlib/stamp").st_mtime
-            except OSError:
-                continue
-            if kept.issuperset(below) and all(os.stat(it).st_mtime <= built for it in sources_of(self.top, crate)):
-                kept.add(crate)
-        return kept
 
     def seconds(self):
         return time.monotonic() - self.begun
@@ -278,28 +298,26 @@ class Progress:
         return [it for it in self.order if it in self.started and it not in self.done]
 
     def note_done(self, crate):
-        now = time.monotonic()
-        self.took[crate] = now - self.started.get(crate, now)
+        if crate in self.started:
+            self.took[crate] = time.monotonic() - self.started[crate]
         self.done.add(crate)
 
     def scale(self):
         """How long this machine takes, beside the list; one minute of the list counts as if it had been seen."""
-        known = [it for it in self.done if it in self.anew and it in self.started]
-        return (60 + sum(self.took[it] for it in known)) / (60 + sum(self.listed[it] for it in known))
+        return (60 + sum(self.took.values())) / (60 + sum(self.listed[it] for it in self.took))
 
     def left(self):
         """About how many seconds are left: each job takes the next crate in order, and waits for those below it."""
         scale, now, ends = self.scale(), time.monotonic(), dict.fromkeys(self.done, 0.0)
         free = [0.0] * self.jobs
         for crate in [it for it in self.order if it not in ends]:
-            whole = 1 if crate in self.kept else self.listed[crate] * scale
+            whole = self.listed[crate] * scale
             if crate in self.started:
                 whole = max(whole - (now - self.started[crate]), whole / 10)
             free.sort()
             ends[crate] = max([free[0], *(ends[it] for it in self.crates[crate])]) + whole
             free[0] = ends[crate]
-        reading = 0 if self.started else max(READING - self.seconds(), 0)
-        return reading + max(ends.values())
+        return max(ends.values())
 
     def times(self):
         if len(self.done) == len(self.crates):
@@ -330,9 +348,25 @@ class Screen:
         self.shown = words
 
 
-# --- the first run -------------------------------------------------------------------------------------------------------
+# --- the proofs ----------------------------------------------------------------------------------------------------------
 
-class FirstRun:
+def copy_of(top, crates, to):
+    """Copies to a folder what is proved of these crates: a repository of its own, for rt."""
+    os.makedirs(f"{to}/.git")  # the top of a repository is where this is
+    shutil.copyfile(f"{top}/HANDLES", f"{to}/HANDLES")
+    with open(f"{to}/crates.txt", "w", encoding="utf-8") as file:
+        file.write("".join(f"{line}\n" for crate, line in lines_of(top).items() if crate in crates))
+    for crate in crates:
+        os.makedirs(f"{to}/crates/{crate}")
+        for part in PARTS:
+            from_, to_ = f"{top}/crates/{crate}/{part}", f"{to}/crates/{crate}/{part}"
+            if os.path.isdir(from_):
+                shutil.copytree(from_, to_)
+            elif os.path.isfile(from_):
+                shutil.copyfile(from_, to_)
+
+
+class Proof:
     """Proves and builds all, and tells of it as it goes."""
 
     def __init__(self, record, log_path):
@@ -341,68 +375,58 @@ class FirstRun:
         self.jobs = max(1, min(len(os.sched_getaffinity(0)), self.memory // JOB_MEMORY))
         self.progress = Progress(record.top, record.crates, self.jobs)
         self.screen = Screen()
-        self.section, self.is_summary = None, False
+        self.section = None
         self.said = {}          # of each crate, the prover's last lines
         self.tail = collections.deque(maxlen=TAIL)
-        self.failed = []        # crates, with the prover's exit status
+        self.failed = []        # crates that the prover refused
 
     def prove(self):
-        crates, progress = self.record.crates, self.progress
-        say(f"proving and building {len(crates)} crates, once; to look at the program at once: ./run --unproved COMMAND..")
-        say(f"{self.jobs} at a time, about {length_of(progress.left())}; what the prover says is in {self.log_path}; Ctrl-C loses the "
+        progress, top = self.progress, self.record.top
+        say(f"proving and building {len(self.record.crates)} crates, once; meanwhile ./run COMMAND.. starts the program without its proofs")
+        say(f"{self.jobs} at a time, at most about {length_of(progress.left())}; what the prover says is in {self.log_path}; Ctrl-C loses the "
             "crates at hand alone")
-        self.warn()
-        with open(self.log_path, "wb") as self.log:
-            # All below the program. Its own check begins when they are built, and is ended then: the run below checks and builds in one go.
-            status = self.follow(["all", "check", "--jobs", str(self.jobs)])
-            Signals.heed()
-            self.end_section()
-            if status or self.failed:
+        with tempfile.TemporaryDirectory(prefix="mxfetch-proof-", dir=None if "TMPDIR" in os.environ else "/var/tmp") as folder:
+            self.warn(folder)
+            copy_of(top, self.record.crates, folder)
+            with open(self.log_path, "wb") as self.log:
+                status = self.follow(folder)
+                Signals.heed()
+            program = f"{folder}/crates/{PROGRAM}/out/{PROGRAM}"
+            if status or self.failed or not os.path.isfile(program):
                 self.stop(status)
-            status = self.follow(["run", "--", "--version"])
-            Signals.heed()
-        if status:
-            self.section = PROGRAM
-            self.stop(status)
-        self.note_done(PROGRAM)
+            shutil.copy(program, f"{self.record.program}.new")
+            os.replace(f"{self.record.program}.new", self.record.program)
         self.screen.tell(f"all is proved, and the program built: {progress.times()}")
         self.keep_times()
 
-    def warn(self):
-        folder = f"{self.record.top}/crates"
-        if self.memory < READING_MEMORY:
+    def warn(self, folder):
+        if self.memory < 2 * JOB_MEMORY:
             say(f"{self.memory / 1e9:.1f} GB of memory are available, and {MEMORY_TAKEN}: it may be too little")
-        share = 1 - len(self.progress.kept) / len(self.record.crates)
-        if disk_free(folder) < ALL_FILES * share:
-            say(f"{disk_free(folder) / 1e9:.1f} GB are free on the disk, and {ALL_FILES * share / 1e9:.1f} GB may be needed: "
-                "it may be too little")
+        if disk_free(folder) < ALL_FILES:
+            say(f"{disk_free(folder) / 1e9:.1f} GB are free on the disk of {os.path.dirname(folder)}, and {ALL_FILES / 1e9:.0f} GB may be "
+                "needed: it may be too little")
 
-    def follow(self, words):
-        """Runs rt in the program's folder, and listens to it until it ends or has no more to do; returns its status."""
-        folder = f"{self.record.top}/crates/{PROGRAM}"
+    def follow(self, folder):
+        """Runs the prover in the copy, and listens to it until it ends; returns its status."""
         how = {"stdin": subprocess.DEVNULL, "stdout": subprocess.PIPE, "stderr": subprocess.STDOUT, "start_new_session": True}
-        rest, is_building = b"", words[0] == "run"
+        rest = b""
         Signals.are_held = True
-        child = subprocess.Popen(["rt", *words], cwd=folder, **how)
+        child = subprocess.Popen(["rt", "ci"], cwd=folder, **how)
         Signals.paused_with = child.pid
         try:
             while True:
                 Signals.heed()
-                ready = select.select([child.stdout], [], [], 0.5)[0]
-                if ready:
-                    given = os.read(child.stdout.fileno(), 65536)
-                    if not given:
-                        return child.wait()
-                    self.log.write(given)
-                    self.log.flush()
-                    *lines, rest = (rest + given).split(b"\n")
-                    for line in lines:
-                        self.hear(line.decode("utf-8", "replace"))
-                elif self.section and not self.said[self.section]:
-                    self.end_section()  # nothing was to be said of it: it was built before
-                self.look(child, is_building)
-                if not is_building and len(self.progress.done) == len(self.record.crates) - 1:
-                    return 0
+                self.look(child, folder)
+                if not select.select([child.stdout], [], [], 0.5)[0]:
+                    continue
+                given = os.read(child.stdout.fileno(), 65536)
+                if not given:
+                    return child.wait()
+                self.log.write(given)
+                self.log.flush()
+                *lines, rest = (rest + given).split(b"\n")
+                for line in lines:
+                    self.hear(line.decode("utf-8", "replace"))
         finally:
             Signals.paused_with = None
             end(child)
@@ -410,71 +434,62 @@ class FirstRun:
             Signals.are_held = False
 
     def hear(self, line):
-        """A line of rt's."""
+        """A line of rt's. It tells of a crate when that has ended: what the prover said behind a head, and then the verdict."""
         self.tail.append(line)
-        waits = re.match(r"rt: waiting for another rt to finish in (.*)", line)
         head = re.fullmatch(r"== (\w+)", line)
-        if waits:
-            self.screen.tell(f"another rt works in {waits[1]}: waiting until it ends")
-        elif head:
-            self.end_section()
-            self.is_summary = head[1] == "summary"
-            if head[1] in self.record.crates:
-                self.section = head[1]
-                self.said[self.section] = collections.deque(maxlen=TAIL)
-        elif self.is_summary:
-            failed = re.match(r"(\w+): failed \((-?\d+)\)", line)
-            if failed:
-                self.failed.append((failed[1], int(failed[2])))
+        verdict = re.match(r"rt: (\w+)(?: (proved|NOT PROVED)$| (is kept): |: (another run on this machine)|: (note: .*))", line)
+        if head:
+            self.section = head[1]
+            self.said[self.section] = collections.deque(maxlen=TAIL)
+        elif line.startswith("rt: note: "):
+            self.screen.tell(line[len("rt: "):])
+        elif verdict and verdict[1] in self.record.crates:
+            crate, is_proved, is_kept, waits = verdict[1], verdict[2] == "proved", verdict[3], verdict[4]
+            self.section = None
+            if waits:
+                self.screen.tell(f"{crate}: another run on this machine proves the same: waiting until it has ended")
+            elif is_proved or is_kept:
+                self.note_done(crate, is_kept)
+            elif verdict[2]:
+                self.failed.append(crate)
+                self.screen.tell(f"{crate} isn't proved; what doesn't stand on it goes on")
         elif self.section:
             self.said[self.section].append(line)
-            if line.startswith("logic=proved"):
-                self.end_section()
 
-    def end_section(self):
-        """What rt had to say of a crate has ended."""
-        crate, self.section = self.section, None
-        if crate is None or crate in self.progress.done:
-            return
-        if not self.said[crate] or self.said[crate][-1].startswith("logic=proved"):
-            self.note_done(crate)
-        elif crate != PROGRAM:
-            self.screen.tell(f"{crate} ended without a proof; what doesn't stand on it goes on")
-
-    def note_done(self, crate):
+    def note_done(self, crate, is_kept):
         progress = self.progress
         progress.note_done(crate)
         if not self.screen.is_terminal and crate != PROGRAM:
-            took = "was built before" if crate in self.said and not self.said[crate] else f"took {length_of(progress.took[crate])}"
+            took = "was proved before" if is_kept else f"took {length_of(progress.took.get(crate, 0))}"
             beside = ", ".join(progress.at_work())
             self.screen.tell(f"{progress.count()}, {crate} {took}{beside and f'; at work: {beside}'}; {progress.times()}")
 
-    def look(self, child, is_building):
-        """Sees which crates are at work, by the folders of rt's processes; rt itself works in the program's."""
+    def look(self, child, folder):
+        """Sees which crates are at work, by the folders of the prover's processes."""
         found = set()
         for pid in processes_of(child.pid):
             try:
-                folder, crate = os.path.split(os.readlink(f"/proc/{pid}/cwd"))
+                above, crate = os.path.split(os.readlink(f"/proc/{pid}/cwd"))
             except OSError:
                 continue
-            if crate in self.record.crates and os.path.basename(folder) == "crates":
+            if crate in self.record.crates and above == f"{folder}/crates":
                 found.add(crate)
         progress = self.progress
-        progress.note_at_work(found if is_building else found - {PROGRAM})
-        words = ", ".join(progress.at_work()) or "reading the sources"
+        progress.note_at_work(found)
+        words = ", ".join(progress.at_work()) or ("builds the program" if PROGRAM in progress.done else "begins")
         self.screen.show(f"run: {progress.count()}, {progress.times()}; at work: {words}")
 
     def stop(self, status):
         """Says why the program isn't built."""
         self.screen.show("")
-        crate, status = next(iter(self.failed), (self.section, status))
+        crate = next(iter(self.failed), None)
         last = list(self.said.get(crate) or self.tail)
-        text, free = "\n".join([*last, *self.tail]), disk_free(f"{self.record.top}/crates")
+        text, free = "\n".join([*last, *self.tail]), disk_free(self.record.folder)
         print("\n".join(last), file=sys.stderr)
         raise Stop(why_not(crate, status, text, free, self.jobs, self.memory, self.log_path))
 
     def keep_times(self):
-        if self.progress.anew >= set(self.record.crates) - {PROGRAM}:
+        if set(self.progress.took) == set(self.record.crates):
             times = "".join(f"{it}: {seconds:.0f}\n" for it, seconds in self.progress.took.items())
             with open(f"{os.path.dirname(self.log_path)}/seconds.txt", "w", encoding="utf-8") as file:
                 file.write(times)
@@ -486,15 +501,15 @@ def why_not(crate, status, text, free, jobs, memory, log):
         return disk_is_full(free)
     if NO_MEMORY.search(text) or status in KILLED:
         return (f"there is too little memory: {MEMORY_TAKEN}, and {jobs} at a time had {memory / 1e9:.1f} GB; what was proved is kept, and "
-                f"./run goes on from there, with fewer jobs where fewer cores are given to it: taskset -c 0 ./run ({log})")
+                f"./run --prove goes on from there, with fewer jobs where fewer cores are given to it: taskset -c 0 ./run --prove ({log})")
     name = crate or "the program"
     ended = f"the prover of {name} was ended by signal {-status}" if status < 0 else f"{name} isn't proved and built"
     return f"{ended}: the whole of what the prover said is in {log}"
 
 
 def disk_is_full(free):
-    return (f"the disk is full: the files of all crates, crates/*/out, take {ALL_FILES / 1e9:.1f} GB, and {free / 1e9:.1f} GB are free; "
-            "what was proved is kept, and ./run goes on from there")
+    return (f"the disk is full: a proof of all crates takes {ALL_FILES / 1e9:.0f} GB, and {free / 1e9:.1f} GB are free; "
+            "what was proved is kept, and ./run --prove goes on from there")
 
 
 # --- in order ------------------------------------------------------------------------------------------------------------
@@ -539,8 +554,9 @@ class Signals:
             signal.signal(it, signal.SIG_DFL)
 
 
-def lock(path):
-    """Keeps another ./run out until this process ends or becomes another; None where nothing can be written."""
+def lock(path, words="another ./run --prove proves and builds here", waits=True):
+    """Keeps another ./run out until this process ends or becomes another; None where nothing can be written, and False where another has
+    it and this isn't to wait."""
     try:
         os.makedirs(os.path.dirname(path), exist_ok=True)
         held = open(path, "w", encoding="ascii")
@@ -554,7 +570,9 @@ def lock(path):
             return held
         except BlockingIOError:
             time.sleep(0.1)  # it may only compare what is there
-    say("another ./run proves and builds here: waiting until it has ended")
+    if not waits:
+        return False
+    say(f"{words}: waiting until it has ended")
     fcntl.flock(held, fcntl.LOCK_EX)
     return held
 
@@ -565,42 +583,42 @@ def version():
         told = subprocess.run(["rt", "version"], stdin=subprocess.DEVNULL, stdout=subprocess.PIPE, stderr=subprocess.DEVNULL)
         if told.returncode == 0 and told.stdout.strip():
             return told.stdout.decode("utf-8", "replace").strip()
-    raise Stop("there is no rt on the path: mxfetch is proved and built with the Rattle toolchain")
+    raise Stop(NO_RT)
 
 
 def build(top):
     """Returns when the program is built from what is there."""
-    record = Record(top, crates_below(top), version())
-    out = f"{top}/crates/{PROGRAM}/out"
+    record = Record(top, version())
+    out = record.folder
     held = lock(f"{out}/run.lock")
     if record.renew():
         return held
     if held is None:
         raise Stop(f"the program isn't built, and {out} can't be written")
     before = record.sum_of_all()
-    FirstRun(record, f"{out}/run.log").prove()
-    if record.sum_of_all() == before:
-        record.keep("made-from", f"{before}\n{sum_of(record.program)}\n".encode())
-        record.renew()
+    Proof(record, f"{out}/run.log").prove()
+    record.keep_made_from(before)
     return held
 
 
-def look(top):
-    try:
-        return 0 if Record(top, crates_below(top), version()).is_built() else 1
-    except (Stop, OSError):
-        return 1
+def note(top, before):
+    record = Record(top, version())
+    return 0 if os.access(record.program, os.X_OK) and record.keep_made_from(before) else 1
 
 
 def main(words):
-    if words[0] == "--look":
-        return look(os.path.realpath(words[1]))
+    if words[0] in ("--sum", "--note"):
+        top = os.path.realpath(words[1])
+        if words[0] == "--note":
+            return note(top, words[2])
+        print(Record(top, version()).sum_of_all())
+        return 0
     Signals.begin()
     try:
         held = build(os.path.realpath(words[0]))  # until COMMAND begins
     except Interrupted as signalled:
         print(file=sys.stderr, end="\n" if sys.stderr.isatty() else "")
-        say("interrupted: what was proved is kept, the crates at hand begin anew; ./run goes on from there")
+        say("interrupted: what was proved is kept, the crates at hand begin anew; ./run --prove goes on from there")
         return 128 + signalled.args[0]
     except Stop as why:
         say(why)
@@ -612,6 +630,9 @@ def main(words):
         is_full = error.errno in (errno.ENOSPC, errno.EDQUOT)
         say(disk_is_full(disk_free(words[0])) if is_full else f"the program can't be built: {error}")
         return FAILED
+    if not words[1:]:
+        say("the program is proved and built from what is there now")
+        return 0
     Signals.end()
     os.execvp(words[1], words[1:])
 
