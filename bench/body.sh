@@ -10,7 +10,7 @@ top=$(cd "$(dirname "$0")/.." && pwd)
 for tool in python3 cc; do
     command -v "$tool" > /dev/null || { echo "bench/body.sh: there is no $tool" >&2; exit 1; }
 done
-"$top/run" --version > /dev/null
+"$top/run" --prove
 work=$(mktemp -d)
 trap 'rm -rf "$work"' EXIT
 cat > "$work/copies.c" <<'C'

@@ -18,7 +18,7 @@ for tool in nginx curl strace python3; do
     command -v "$tool" > /dev/null || { echo "bench/get.sh: there is no $tool" >&2; exit 1; }
 done
 if [ -z "${PROGRAM:-}" ]; then
-    "$top/run" --version > /dev/null
+    "$top/run" --prove
     PROGRAM=$top/crates/mxfetch/out/mxfetch
 fi
 work=$(mktemp -d)

@@ -30,9 +30,9 @@ build() {
 command -v rt > /dev/null || { echo "there is no rt on the path: it is in the Rattle toolchain" >&2; exit 2; }
 mkdir -p "$work/crates/multi_program/src" "$work/crates/multi_program/specs" "$work/crates/multi_program/proofs"
 cp "$top/HANDLES" "$work/"
-# mx_multi_tests_base and all crates below it, with what is built of them
-(cd "$top/crates/mx_multi_tests_base" && rt lib) > "$work/build.log" 2>&1 || { tail -n 20 "$work/build.log"; exit 1; }
-reached=mx_multi_tests_base seen=
+# mx_multi and all crates below it, with what is built of them
+(cd "$top/crates/mx_multi" && rt lib) > "$work/build.log" 2>&1 || { tail -n 20 "$work/build.log"; exit 1; }
+reached=mx_multi seen=
 while [ "$reached" != "$seen" ]; do
   seen=$reached
   reached=$(for crate in $seen; do
@@ -48,7 +48,13 @@ for crate in $reached; do
   done
   grep "^$crate\( [^:]*\)\?:" "$top/crates.txt" >> "$work/crates.txt"
 done
-echo 'multi_program: mx_types mx_journal mx_multi mx_multi_tests_base' >> "$work/crates.txt"
+# the seats, the claims and the calls by chance that the programs are made of: text here, as the programs are
+(cd "$top/bench/multi-seats" && find . -name '*.txt') | while read -r file; do
+  mkdir -p "$work/crates/multi_seats/${file%/*}"
+  cp "$top/bench/multi-seats/$file" "$work/crates/multi_seats/${file%.txt}"
+done
+echo 'multi_seats: mx_types mx_append_log mx_journal mx_lock mx_multi logbook' >> "$work/crates.txt"
+echo 'multi_program: mx_types mx_journal mx_multi multi_seats' >> "$work/crates.txt"
 cp "$top/bench/multi-program.txt" "$work/crates/multi_program/src/main.rt"
 touch "$work/crates/multi_program/specs/Lib.antt"
 cat > "$work/crates/multi_program/proofs/Lib.antt" <<'ANTT'
@@ -60,7 +66,7 @@ use denote.Ref.{NamedLft}
 use denote.Param.Send.{IsSend, struct_send, recorded_send, sendable}
 use denote.Struct.Declared.{shape}
 use Rattle.std.proofs.Crossing.{crosses}
-use Rattle.mx_multi_tests_base.proofs.Sends.{client_send}
+use Rattle.multi_seats.proofs.Sends.{client_send}
 use Rattle.multi_program.specs.contracts.Meter as Meter
 
 pub meter_field : (x : NamedLft) → IsSend (Meter.the_field x).row
@@ -85,7 +91,7 @@ for_each_mut-requires-send-T g c κs within = search (meter_send, sendable) dept
 ANTT
 cat > "$work/crates/multi_program/proofs/repeat_kept/Answers.antt" <<'ANTT'
 use denote.Param.Send.{sendable}
-use Rattle.mx_multi_tests_base.proofs.Sends.{worker_field, worker_send, end_field, end_send}
+use Rattle.multi_seats.proofs.Sends.{worker_field, worker_send, end_field, end_send}
 use Rattle.multi_program.proofs.repeat_kept.Goals as goal
 
 pub join-meters-requires-send-F : goal.join-meters-requires-send-F

@@ -26,7 +26,7 @@ esac
 command -v python3 > /dev/null || { echo "bench/play.sh: there is no python3" >&2; exit 2; }
 [ "$unit" = ns ] || command -v valgrind > /dev/null || { echo "bench/play.sh: there is no valgrind" >&2; exit 2; }
 if [ -z "${PROGRAM:-}" ]; then # else it names the program
-  "$top/run" --version > /dev/null
+  "$top/run" --prove
   PROGRAM=$top/crates/mxfetch/out/mxfetch
 fi
 work=$(mktemp -d)

@@ -15,9 +15,9 @@ work=$(mktemp -d)
 trap 'rm -rf "$work"' EXIT
 mkdir -p "$work/crates/retire_program/src" "$work/crates/retire_program/specs"
 cp "$top/HANDLES" "$work/"
-# mx_multi_tests_base and all crates below it, with what is built of them
-(cd "$top/crates/mx_multi_tests_base" && rt lib) > "$work/build.log" 2>&1 || { tail -n 20 "$work/build.log"; exit 1; }
-reached=mx_multi_tests_base seen=
+# mx_multi and all crates below it, with what is built of them
+(cd "$top/crates/mx_multi" && rt lib) > "$work/build.log" 2>&1 || { tail -n 20 "$work/build.log"; exit 1; }
+reached=mx_multi seen=
 while [ "$reached" != "$seen" ]; do
   seen=$reached
   reached=$(for crate in $seen; do
@@ -33,7 +33,13 @@ for crate in $reached; do
   done
   grep "^$crate\( [^:]*\)\?:" "$top/crates.txt" >> "$work/crates.txt"
 done
-echo 'retire_program: mx_types mx_multi mx_multi_tests_base' >> "$work/crates.txt"
+# the seats, the claims and the calls by chance that the programs are made of: text here, as the programs are
+(cd "$top/bench/multi-seats" && find . -name '*.txt') | while read -r file; do
+  mkdir -p "$work/crates/multi_seats/${file%/*}"
+  cp "$top/bench/multi-seats/$file" "$work/crates/multi_seats/${file%.txt}"
+done
+echo 'multi_seats: mx_types mx_append_log mx_journal mx_lock mx_multi logbook' >> "$work/crates.txt"
+echo 'retire_program: mx_types mx_multi multi_seats' >> "$work/crates.txt"
 cp "$top/bench/retire-program.txt" "$work/crates/retire_program/src/main.rt"
 touch "$work/crates/retire_program/specs/Lib.antt"
 cd "$work/crates/retire_program"

@@ -15,7 +15,7 @@ for tool in nginx curl aria2c python3; do
     command -v "$tool" > /dev/null || { echo "bench/save.sh: there is no $tool" >&2; exit 1; }
 done
 if [ -z "${PROGRAM:-}" ]; then
-    "$top/run" --version > /dev/null
+    "$top/run" --prove
     PROGRAM=$top/crates/mxfetch/out/mxfetch
 fi
 memory=$(mktemp -d -p "${MEMORY:-/dev/shm}") disk=$(mktemp -d -p "${DISK:-/tmp}")

@@ -13,7 +13,7 @@
 set -eu
 top=$(cd "$(dirname "$0")/.." && pwd)
 if [ -z "${PROGRAM:-}" ]; then
-    "$top/run" --version > /dev/null
+    "$top/run" --prove
     PROGRAM=$top/crates/mxfetch/out/mxfetch
 fi
 work=$(mktemp -d)

@@ -1,0 +1,335 @@
+#!/usr/bin/env python3
+"""Prints docs/generated/API.md from the sources: each library crate's public items, with their contracts.
+
+    docs/api.py              compares the page with the sources; ends with 1 where they differ, or where an item has no doc comment
+    docs/api.py --write      writes the page anew
+
+Of each crate: the header of its src/lib.rt, then each item that another crate can name, with its signature, its doc comment and its clauses,
+then each definition of specs/ that these clauses name, with the comment over it and its file. Columns in front of a function: `waits` where
+a bound lets it wait; `refused` what it answers in place of a value (the type of its error, or `None`); `left` the clauses named `refused`,
+`kept` or `back`, which say what a refusal leaves. Crates of tests are left out.
+"""
+
+import difflib
+import os
+import re
+import sys
+
+TOP = os.path.dirname(os.path.dirname(os.path.realpath(__file__)))
+PAGE = f"{TOP}/docs/generated/API.md"
+LEFT = ("refused", "kept", "back")
+ITEM = re.compile(r"(?:pub )?(?:unsafe )?(?:const )?(fn|struct|enum|trait|const|static|type|mod|impl|macro_rules!)\b")
+HEAD = """# API
+
+What each library crate has for those above it: printed by `docs/api.py` from the sources, and compared with them by `./check`. An item is
+written with its contract. A clause is what is proved of each call that meets the `requires`; the words in it are the definitions below
+each crate, and where they are of another crate, below that. A function that *waits* need not return. What is *refused* comes in place of a
+value, and the clauses under *left* say what it leaves. A law is a function whose body does nothing and whose contract is what it shows.
+"""
+
+
+def read(path):
+    with open(f"{TOP}/{path}", encoding="utf-8") as file:
+        return file.read()
+
+
+def library_crates():
+    for line in read("crates.txt").splitlines():
+        name = line.partition("#")[0].split(" ")[0].rstrip(":").strip()
+        if name and "_tests" not in name and name != "mx_responses" and os.path.isfile(f"{TOP}/crates/{name}/src/lib.rt"):
+            yield name
+
+
+def without_literals(line):
+    """A line with the insides of its strings and comments blanked, so that brackets can be counted."""
+    line = re.sub(r'"(?:\\.|[^"\\])*"', lambda it: '"' + " " * (len(it[0]) - 2) + '"', line)
+    line = re.sub(r"'(?:\\.|[^'\\])'", lambda it: "' '", line)
+    return line.partition("//")[0]
+
+
+class Item:
+    """A public item: how it is named, its kind, signature, doc comment and clauses, and its trait, where it is a method of one."""
+
+    def __init__(self, kind, name, signature, doc, clauses, module):
+        self.kind, self.name, self.signature, self.doc, self.clauses, self.module = kind, name, signature, doc, clauses, module
+
+    def waits(self):
+        return bool(re.search(r"\bWait\b", self.signature))
+
+    def refuses(self):
+        result = self.signature.rpartition("-> ")[2] if "-> " in self.signature else ""
+        result = re.split(r"\s+where\b", result)[0].strip()
+        if result.startswith("Option<"):
+            return "`None`"
+        if result.startswith(("Result<", "io::Result<")):
+            inner = result[result.index("<") + 1:result.rindex(">")]
+            depth, at = 0, None
+            for i, it in enumerate(inner):
+                depth += it in "<([" and 1 or it in ">)]" and -1 or 0
+                if it == "," and depth == 0:
+                    at = i
+            return f"`{inner[at + 1:].strip()}`" if at is not None else "`Err`"
+        return ""
+
+
+class File:
+    """The items of one source file."""
+
+    def __init__(self, crate, path, module):
+        self.crate, self.path, self.module = crate, path, module
+        self.lines = read(path).splitlines()
+        self.items, self.modules, self.exports, self.uses = [], [], [], {}
+        self.parse(0, len(self.lines), "", None)
+
+    def parse(self, first, last, indent, owner):
+        """Reads the items of a block, which begin at this indent; owner is the type or trait that an impl is of."""
+        doc, at = [], first
+        while at < last:
+            line = self.lines[at]
+            text = line[len(indent):] if line.startswith(indent) else None
+            if text is None or text.startswith((" ", "}", ")")) or not text:
+                doc, at = ([], at + 1) if text is None or text.startswith(("}", ")")) or not text else (doc, at + 1)
+                continue
+            if text.startswith("///"):
+                doc.append(text[3:].strip())
+            elif text.startswith("//") or text.startswith("#"):
+                while text.startswith("#") and without_literals(self.lines[at]).count("[") > without_literals(self.lines[at]).count("]"):
+                    at += 1
+                    if self.lines[at].strip().startswith(("]", ")]")) or at >= last:
+                        break
+            elif text.startswith("ghost use "):
+                self.note_use(at)
+                doc = []
+            else:
+                at = self.item(at, last, indent, owner, doc)
+                doc = []
+                continue
+            at += 1
+
+    def note_use(self, at):
+        text = self.lines[at].strip()
+        while not text.endswith(";"):
+            at += 1
+            text += " " + self.lines[at].strip()
+        found = re.match(r"ghost use Rattle\.(\w+)\.specs\.([\w.]+?)\.\{(.*)\};", text)
+        if found and found[2].split(".")[0] != "declared":
+            for name in re.split(r",\s*", found[3]):
+                self.uses[name.rpartition(" as ")[2].strip()] = (found[1], found[2], name.partition(" as ")[0].strip())
+
+    def end_of(self, at, last):
+        """The line behind an item: where its brackets are closed and it ends with ; or }."""
+        depth = 0
+        while at < last:
+            line = without_literals(self.lines[at])
+            depth += sum(line.count(it) for it in "{([") - sum(line.count(it) for it in "})]")
+            if depth <= 0 and line.rstrip().endswith((";", "}")) and not self.is_clause(at):
+                return at + 1
+            at += 1
+        return last
+
+    def is_clause(self, at):
+        """Whether the line is a clause, or goes on with one, so that a body comes later."""
+        line = self.lines[at].strip()
+        following = self.lines[at + 1].strip() if at + 1 < len(self.lines) else ""
+        return bool(re.match(r"(ensures|requires|ghost \w+:)", line) and re.match(r"(ensures|requires|\{$)", following)) or \
+            following == "{" or bool(re.match(r"(ensures|requires)\b", following))
+
+    def item(self, at, last, indent, owner, doc):
+        line = self.lines[at][len(indent):]
+        found, end = ITEM.match(line), self.end_of(at, last)
+        is_public = line.startswith("pub ")
+        if found and found[1] == "mod":
+            name = re.match(r"(?:pub )?mod (\w+)", line)[1]
+            if line.rstrip().endswith(";"):
+                self.modules.append((name, is_public))
+        elif re.match(r"pub use ", line):
+            self.exports.append(" ".join(it.strip() for it in self.lines[at:end]))
+        elif found and found[1] == "impl":
+            if self.opens(at) > end - 1:
+                return end  # an impl with an empty body
+            head = " ".join(it.strip() for it in self.lines[at:self.opens(at)])
+            of = re.match(r"impl(?:<.*?>)? (?:(.*?) for )?&?(?:'\w+ )?(?:mut )?([\w:]+)", self.without_generics(head))
+            self.parse(self.opens(at), end - 1, f"{indent}    ", (of[2].rpartition("::")[2], of[1]) if of else None)
+        elif found and (is_public or owner and (owner[1] or owner[0] == "trait") and found[1] == "fn"):
+            self.add(found[1], at, end, owner, doc)
+            if found[1] == "trait" and self.opens(at) < end:
+                name = re.search(r"trait (\w+)", line)[1]
+                self.parse(self.opens(at), end - 1, f"{indent}    ", (name, "trait"))
+        return end
+
+    @staticmethod
+    def without_generics(text):
+        found = re.match(r"impl<", text)
+        if not found:
+            return text
+        depth, at = 0, 4
+        for at in range(4, len(text)):
+            depth += text[at] == "<" and 1 or text[at] == ">" and text[at - 1] != "-" and -1 or 0
+            if depth == 0:
+                break
+        return "impl" + text[at + 1:]
+
+    def opens(self, at):
+        """The line behind the one that opens the block of an item."""
+        while at < len(self.lines) and not without_literals(self.lines[at]).rstrip().endswith("{"):
+            at += 1
+        return at + 1
+
+    def add(self, kind, at, end, owner, doc):
+        head, clauses = [], []
+        for line in self.lines[at:end]:
+            text = line.strip()
+            if re.match(r"(ensures|requires)\b", text):
+                clauses.append(text)
+            elif clauses:
+                if text in ("{", "{}", ";") or text.startswith("{ ") and not clauses[-1].rstrip().endswith(("(", "{")) and self.is_closed(clauses[-1]):
+                    break
+                clauses[-1] += f" {text}"
+            elif kind == "fn":
+                head.append(text)
+                if re.search(r"[{;]$", text) or re.search(r"\{ .* \}$|\{\}$", text):
+                    break
+            else:
+                head.append(line.rstrip())
+                if kind in ("const", "static", "type", "trait") and (text.endswith((";", "{"))):
+                    break
+        clauses = [it[:-1].rstrip() if it.endswith(";") else it for it in clauses]
+        text = " ".join(it.strip() for it in head)
+        signature = re.sub(r"\s*\{(?:\s*\}| .* \})?$|;$", "", text) if kind == "fn" else self.shape(kind, head)
+        signature = re.sub(r"\( ", "(", re.sub(r",? \)", ")", signature))
+        name = re.search(rf"{kind} (?:mut )?(\w+)", text)
+        name = name[1] if name else text
+        full = f"{owner[0]}::{name}" if owner else name
+        of = owner[1] if owner and owner[1] not in (None, "trait") else None
+        self.items.append(Item(kind, full, signature, doc, clauses, self))
+        self.items[-1].of_trait = of
+        self.items[-1].owner = owner[0] if owner else None
+
+    @staticmethod
+    def is_closed(text):
+        blank = without_literals(text)
+        return blank.count("{") == blank.count("}")
+
+    @staticmethod
+    def shape(kind, head):
+        """The public part of a type: its fields and variants, without private ones."""
+        if kind in ("const", "static", "type", "trait"):
+            return re.sub(r"\s*[{;]$", "", " ".join(it.strip() for it in head))
+        if kind == "struct":
+            kept = [it for it in head if not re.match(r"\s+(\w+:|//|#|ghost )", it)]
+            return "\n".join(kept)
+        return "\n".join(it for it in head if not re.match(r"\s*(//|#)", it))
+
+
+class Crate:
+    def __init__(self, name):
+        self.name, self.files = name, {}
+        self.root = self.load(f"crates/{name}/src/lib.rt", "")
+        self.header = " ".join(it[3:].strip() for it in read(f"crates/{name}/src/lib.rt").splitlines() if it.startswith("//!"))
+        self.public = self.exported()
+
+    def load(self, path, module):
+        file = self.files[module] = File(self.name, path, module)
+        base = os.path.dirname(path) if path.endswith(("lib.rt", "mod.rt")) else path[:-len(".rt")]
+        for name, _ in file.modules:
+            for it in (f"{base}/{name}.rt", f"{base}/{name}/mod.rt"):
+                if os.path.isfile(f"{TOP}/{it}"):
+                    self.load(it, f"{module}::{name}" if module else name)
+        return file
+
+    def exported(self):
+        """The items that another crate can name, in the order of the files."""
+        wanted, modules = set(), {""}
+        for module, file in self.files.items():
+            modules |= {f"{module}::{name}".lstrip(":") for name, is_public in file.modules if is_public and module in modules}
+            for it in file.exports:
+                names = re.search(r"\{(.*)\}", it)
+                wanted |= {name.strip().rpartition(" as ")[2].rpartition("::")[2] for name in (names[1] if names else it[:-1].rpartition("::")[2]).split(",")}
+        found = []
+        for module, file in self.files.items():
+            types = {it.name for it in file.items if it.kind != "fn" and "::" not in it.name} & wanted
+            for it in file.items:
+                own = it.owner or it.name
+                if module in modules or own in wanted or own in types:
+                    found.append(it)
+        return found
+
+    def definitions(self):
+        """The definitions of its own specs that the clauses of its public items name: word, comment, file."""
+        cited = {}
+        for item in self.public:
+            for word in re.findall(r"[\w◌-]+", " ".join(item.clauses)):
+                if word in item.module.uses:
+                    crate, module, name = item.module.uses[word]
+                    cited[crate, module, name] = None
+        found, others = [], []
+        for crate, module, name in cited:
+            path = f"crates/{crate}/specs/{module.replace('.', '/')}.antt"
+            if crate == self.name and os.path.isfile(f"{TOP}/{path}"):
+                found.append((name, self.comment_of(path, name), path))
+            elif crate.startswith("mx_"):
+                others.append((crate, name))
+        return found, others
+
+    @staticmethod
+    def comment_of(path, name):
+        lines = read(path).splitlines()
+        at = next((i for i, it in enumerate(lines) if re.match(rf"(abbrev |data |record |rec )?(pub )?(abbrev |record |data )?(pub )?{re.escape(name)}\b", it)), None)
+        comment = []
+        while at and lines[at - 1].startswith("-- "):
+            at -= 1
+            comment.insert(0, lines[at][3:])
+        return " ".join(comment)
+
+
+def page():
+    lines, lacking = [HEAD], []
+    for name in library_crates():
+        crate = Crate(name)
+        lines.append(f"## {name}\n\n{crate.header}\n")
+        for item in crate.public:
+            if item.of_trait and not item.clauses and not item.doc:
+                continue
+            if not item.doc and not item.of_trait:
+                lacking.append(f"crates/{name}: {item.name} in {item.module.path}")
+            facts = ["waits"] if item.kind == "fn" and item.waits() else []
+            refused = item.refuses() if item.kind == "fn" else ""
+            facts += [f"refused: {refused}"] if refused else []
+            left = [it for it in LEFT if any(re.match(rf"ensures\*? {it}\b", clause) for clause in item.clauses)]
+            facts += [f"left: {', '.join(left)}"] if refused and left else []
+            of = f" (of `{item.of_trait}`)" if item.of_trait else ""
+            lines.append(f"### {item.name}{of}\n")
+            if facts:
+                lines.append(f"*{'; '.join(facts)}*\n")
+            lines.append("\n".join(["```rust", item.signature, *(f"    {it}" for it in item.clauses), "```", ""]))
+            if item.doc:
+                lines.append("\n".join(item.doc) + "\n")
+        own, others = crate.definitions()
+        if own:
+            lines.append(f"### Definitions of {name}\n")
+            lines.append("\n".join(f"- `{word}` ([{os.path.basename(path)}](../../{path})){': ' if comment else ''}{comment}" for word, comment, path in own) + "\n")
+        if others:
+            by = {}
+            for other, word in others:
+                by.setdefault(other, []).append(word)
+            lines.append("Of other crates: " + "; ".join(f"{', '.join(f'`{it}`' for it in words)} of [{other}](#{other})" for other, words in by.items()) + ".\n")
+    return "\n".join(lines), lacking
+
+
+def main(words):
+    printed, lacking = page()
+    if words == ["--write"]:
+        os.makedirs(os.path.dirname(PAGE), exist_ok=True)
+        with open(PAGE, "w", encoding="utf-8") as file:
+            file.write(printed)
+        return 0
+    there = read(os.path.relpath(PAGE, TOP)) if os.path.isfile(PAGE) else ""
+    for it in lacking:
+        print(f"{it}: no doc comment")
+    for it in list(difflib.unified_diff(there.splitlines(), printed.splitlines(), "docs/generated/API.md", "the sources", lineterm="", n=0))[:40]:
+        print(it)
+    return 1 if lacking or there != printed else 0
+
+
+if __name__ == "__main__":
+    sys.exit(main(sys.argv[1:]))
