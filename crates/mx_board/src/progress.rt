@@ -130,6 +130,7 @@ impl ProgressTable {
         requires { seat.old.of ≡ self.now.id }
         ensures { seat.new ≡ record seat.old { noted = seat.old.noted ++ note slot (word_of ticket count) ∷ [] } }
     {
+        // Packed in one number, so that one `fetch_max` raises both.
         let word = u64::from(ticket.0) * 4294967296 + u64::from(count);
         self.table
             .shared

@@ -98,6 +98,7 @@ impl Decoder {
     /// Takes the next bytes of the response. Once the decoder has decided they are left alone.
     ///
     /// `OutOfMemory` leaves the decoder as it was, and never comes where the piece is empty.
+    /// It may come in place of a fault that stands later in the piece.
     #[tactic(auto, using(crate::proofs::DecoderLemmas::code_is, crate::proofs::DecoderLemmas::ended_is))]
     pub fn feed(&mut self, piece: &[u8]) -> Result<Stand, OutOfMemory>
         ensures over { self.old.verdict ≢ verdict.More → (self.new ≡ self.old) × (result ≡ Ok (spec.stand_of self.old.verdict)) }

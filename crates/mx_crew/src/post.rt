@@ -113,6 +113,7 @@ fn work_once<'m, L: Link, R: Wait + RandomSource + AllocGlobal, G: Gate<Link = L
 
 // Works with a seat and a gate until the gate stops it, and says what it did: the gate comes back. Where there is no memory for its start it
 // tries again after a while.
+// It has no clause, since nobody has the seat afterwards: `run_worker` has them. That it ends only where its gate stops it, tests show.
 pub(crate) fn work<'m, L: Link, R: Wait + RandomSource + AllocGlobal, G: Gate<Link = L> + Drop>(
     rt: &R,
     seat: Seated<'m, AtWork, Queued<L>, Outcome>,

@@ -119,6 +119,7 @@ impl<L: Link> Line<L> {
             },
             Read::WouldBlock => Step::Blocked,
             Read::End => {
+                // Before the decoder learns of the end, so that out of memory can't take the place of a retry.
                 if may_retry(request.method(), self.is_reused(), decoder) {
                     return Step::Lost;
                 }

@@ -139,6 +139,7 @@ fn segment_name(alloc: Global, segment: &[u8]) -> Result<String, OutOfMemory>
 }
 
 // The name that a URL gives, without a number.
+// It isn't percent-decoded, as with curl's -O: a decoded segment could have slashes and bytes of 0.
 pub(crate) fn base_name(alloc: Global, url: &[u8]) -> Result<String, OutOfMemory>
     ensures { IfOk result (λ name. string_bytes name ≡ base_name url.now) }
 {

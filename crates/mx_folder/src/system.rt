@@ -113,6 +113,7 @@ fn flush_part<F: OpenFile>(open: &mut Option<OpenPart<F>>, part: &str) -> Result
     file.sync_all().map_err(reason)
 }
 
+// By rename(2), and not link(2), which refuses a name that is taken, and which some file systems don't have.
 fn place_part<R: Files>(
     alloc: Global,
     files: &R,
@@ -187,6 +188,7 @@ impl<'a, R: Files> SystemFolder<'a, R> {
             None => false,
         };
         if is_open {
+            // What closing answers is lost: std's `File` reports nothing there.
             self.open = None;
         }
     }

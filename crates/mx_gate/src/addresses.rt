@@ -139,6 +139,7 @@ pub fn addresses_of<R: Net + AllocGlobal>(
     ensures code { IfErr result (λ code. is_lookup_code code ≡ true) }
 {
     let host = unbracketed(endpoint.host.as_str());
+    // Though std's lookup parses addresses as well: so the clause `spelled` rests on the parser alone.
     match spelled(host) {
         Some(ip) => match only(rt.alloc(), SocketAddr::new(ip, endpoint.port)) {
             Ok(all) => Ok(all),

@@ -59,6 +59,7 @@ impl<L: Link> Model for ReadyLink<L> {
     } };
 }
 
+// Urgent data of TCP, which no HTTP peer sends, end a read early, too: the bytes behind them wait until more is reported.
 // Whether this read has left nothing that was told already. The end may have been told with the last bytes, and isn't told again: a link
 // whose end was told is asked until it gives it.
 fn has_drained(read: Read, buffer: &[u8], is_ended: bool) -> bool
@@ -178,6 +179,7 @@ impl<L: Link> Link for ReadyLink<L> {
         ensures length { length buffer.new ≡ length buffer.old }
         ensures token { L.token_of self.new.link ≡ L.token_of self.old.link }
     {
+        // Before the call, so that what is reported meanwhile isn't lost.
         self.hear_reads();
         if !self.is_to_read(buffer.len()) {
             self.history.note(Answer::to_read(Read::WouldBlock, buffer));

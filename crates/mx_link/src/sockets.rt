@@ -10,6 +10,7 @@ use std::io;
 use std::io::{ErrorKind, Read as _, Write as _};
 use std::marker::Model;
 
+// The stream is handed to nobody: a read past the link would be in no list of results. A poll gets it by `register`.
 /// A TCP stream, with its system calls and their results for contracts alone. Contracts see these; what a socket gives and
 /// takes, and when, no contract can say.
 #[derive(Drop)]

@@ -74,6 +74,7 @@ pub trait Stream: Drop {
         ensures within { IsCountWithin result (length bytes.now) };
 }
 
+// It isn't answered as `WouldBlock`: readiness is reported on edges, so the transfer might wait for an event that never comes.
 /// How often in a row a call that was interrupted is made again. What is interrupted once more has failed.
 const MOST_AGAIN: u8 = 64;
 
@@ -133,6 +134,7 @@ fn connect_of(error: Result<Option<ErrorKind>, ErrorKind>, peer: Result<(), Erro
 {
     match (error, peer) {
         (Ok(None), Ok(())) => Connect::Done,
+        // Also where its error was taken before: a transfer ends at its first fault, and doesn't ask again.
         (Ok(None), Err(ErrorKind::NotConnected)) => Connect::WouldBlock,
         (Ok(None), Err(_)) => Connect::Fault,
         (Ok(Some(_)), _) => Connect::Fault,

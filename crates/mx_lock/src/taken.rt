@@ -49,6 +49,7 @@ impl<Q: Work + Drop, O: Ending + Drop> Taken<Q, O> {
         engine
     }
 
+    // Never lent mutably: who could change it could put another engine in its place, and drop this one.
     /// What lies in the lock, to look at.
     pub fn engine(&self) -> &Engine<Q, O>
         ensures { result.now ≡ self.now }

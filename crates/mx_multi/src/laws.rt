@@ -63,6 +63,7 @@ fn run_one<Q: Work + Drop, O: Ending + Drop, R: Wait>(
     (seat.into_seat(), made)
 }
 
+// Seats and handle are apart: with `Seated` in their place the borrow checker's part of the proof comes to no end.
 /// Two threads, each with a seat and a script of its own; then the seats meet. Where they met, both have seen one legal
 /// journal, in which the receipts of both runs are placed.
 pub fn run_two<Q: Work + Drop + Send, O: Ending + Drop + Send, R: Threads + Wait + Sync>(

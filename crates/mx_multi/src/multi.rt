@@ -149,6 +149,7 @@ impl<Q: Work + Drop, O: Ending + Drop> Multi<Q, O> {
         Ok(known)
     }
 
+    // Not `meet_all` of two: a slice can't be made of seats that are held apart without moving them.
     // Lets both seats see the journal. False, and nothing changes, where a seat isn't one of this multi handle's.
     pub(crate) fn try_meet<R: Wait>(
         &self,

@@ -138,6 +138,7 @@ impl<Q: Work + Drop, O: Ending + Drop> Multi<Q, O> {
         self.limits.max_connects
     }
 
+    // It takes a seat, since taking the engine out needs a key, and with a key in `Multi` threads couldn't share it.
     /// Ends the multi handle, through one of its seats, and gives all memory back, with the work that waits and the endings that
     /// were not read; of that no clause says anything. No call is under way then, and none can be made through another seat, a
     /// read neither, as the multi handle is gone.

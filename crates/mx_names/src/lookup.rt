@@ -10,6 +10,7 @@ use mx_types::Code;
 /// A way to look a host up.
 pub trait Lookup {
     // What the lookup of a host may give.
+    // A relation of the type, and not of a value, so that it holds of what lies behind a lock, too.
     ghost gives: { List ℕ → Result (List Address) OneCode → Type 0 };
 
     /// The addresses of the host. It may take as long as it likes.

@@ -22,6 +22,7 @@ pub const MOST_LOOKUPS: usize = 64;
 /// for a host. Moments are milliseconds on whatever clock the caller reads.
 #[derive(Drop)]
 pub struct Names<L: Lookup> {
+    // Each call goes through all records: a run has hundreds of hosts, and not millions.
     entries: Vec<Entry>,
     by: PhantomData<L>,
 }

@@ -74,6 +74,7 @@ fn ask_address<R: AllocGlobal>(rt: &R, ip: IpAddr) -> Answer
 
 impl<L: Lookup, B: Ring> Shared<L, B> {
     fn ring<R: Wait>(&self, rt: &R) {
+        // All bells, and not only those of who asked for this host: a place among the 64 lookups is free for others, too.
         for bell in self.bells.lock(rt).iter() {
             bell.ring();
         }

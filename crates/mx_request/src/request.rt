@@ -140,6 +140,7 @@ fn parse_url(alloc: Global, text: &str) -> Result<Url, RequestError>
     }
     match Url::parse(alloc, text) {
         Ok(url) => check_url(url),
+        // `Overflow` is a URL of over 4 GB, which a text of at most 65,536 bytes can't become.
         Err(ParseError::OutOfMemory | ParseError::Overflow) => Err(RequestError::OutOfMemory),
         Err(_) => Err(RequestError::Malformed),
     }

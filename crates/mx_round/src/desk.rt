@@ -62,6 +62,7 @@ fn least_left<L: Link, C: Right, E: Tied>(held: &Queue<Held<L, C>, E>, now: u64)
 }
 
 // One poll, in the context of the worker's one task. The task goes on whatever the poll answers.
+// A task that has ended can't tell whether a poll asked for another.
 fn poll_once<L: Link>(solo: &Solo, transfer: &mut Transfer<L>) -> Stepped
     requires running { transfer.old.chain.code ≡ None }
     ensures steps { Steps L.history transfer.old.chain transfer.new.chain (how_of result) }
@@ -238,6 +239,7 @@ impl<L: Link, C: Right, E: Engine<L, C>> Desk<L, C, E> {
         ensures same { self.new ≡ record self.old { worker = self.new.worker } }
     {
         let stepped = poll_once(&self.solo, transfer);
+        // Before the end is recorded: from then on the slot may be another transfer's.
         self.engine.note(right, transfer.received());
         self.links.keep(transfer);
         stepped
@@ -351,6 +353,7 @@ impl<L: Link, C: Right, E: Engine<L, C>> Desk<L, C, E> {
 
     // Goes through these and looks at each once: while one is due one that is, else the first. It asks for the moment before each that isn't
     // due, and the answer is the last.
+    // Once a turn would be too seldom: 64 transfers may make 64 reads each meanwhile.
     fn go_through<R: Wait, G: Gate<Link = L>>(
         &mut self,
         rt: &R,

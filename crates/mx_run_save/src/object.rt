@@ -126,6 +126,7 @@ fn print_back<W: Write>(
 }
 
 // Prints the object.
+// It is put together of values that `serde_json` writes: an object of its own has its keys in alphabetical order.
 fn print_object<W: Write>(
     output: &mut Output<W>,
     texts: &JsonTexts,

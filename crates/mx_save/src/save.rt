@@ -107,6 +107,7 @@ pub fn save_body<F: Folder, B: Body>(
 {
     part.know();
     match folder.create(part) {
+        // Nothing is removed: what has that name may be somebody else's.
         Err(error) => return Err(SaveError::Create(error)),
         Ok(()) => {}
     }

@@ -69,6 +69,7 @@ fn run<R: io::Input + Print + AllocGlobal>(rt: &R, task: Task) -> u8
     requires { IsTask task }
 {
     let mut input = Input::new(rt.reader(), most_reads(task));
+    // Parts smaller than the buffer are gathered, larger ones are written as they are.
     match BufWriter::with_capacity(rt.alloc(), 65_536, io::writer(rt)) {
         Ok(writer) => run_task(rt.alloc(), task, &mut input, &mut Output::new(writer)),
         Err(_) => out_of_memory(rt),
