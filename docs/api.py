@@ -1,13 +1,14 @@
 #!/usr/bin/env python3
-"""Prints docs/generated/API.md from the sources: each library crate's public items, with their contracts.
+"""Prints two pages from the sources: docs/generated/API.md, each library crate's public items with their contracts, and
+docs/generated/CRATES.md, what each crate does and stands on.
 
-    docs/api.py              compares the page with the sources; ends with 1 where they differ, or where an item has no doc comment
-    docs/api.py --write      writes the page anew
+    docs/api.py              compares the pages with the sources; ends with 1 where they differ, or where an item has no doc comment
+    docs/api.py --write      writes the pages anew
 
-Of each crate: the header of its src/lib.rt, then each item that another crate can name, with its signature, its doc comment and its clauses,
-then each definition of specs/ that these clauses name, with the comment over it and its file. Columns in front of a function: `waits` where
-a bound lets it wait; `refused` what it answers in place of a value (the type of its error, or `None`); `left` the clauses named `refused`,
-`kept` or `back`, which say what a refusal leaves. Crates of tests are left out.
+API has of each crate the header of its src/lib.rt, then each item that another crate can name, with its signature, its doc comment and its
+clauses, then each definition of specs/ that these clauses name, with the comment over it and its file. Columns in front of a function: `waits`
+where a bound lets it wait; `refused` what it answers in place of a value (the type of its error, or `None`); `left` the clauses named
+`refused`, `kept` or `back`, which say what a refusal leaves. Crates of tests are left out. CRATES has all crates, in the order of crates.txt.
 """
 
 import difflib
@@ -16,7 +17,7 @@ import re
 import sys
 
 TOP = os.path.dirname(os.path.dirname(os.path.realpath(__file__)))
-PAGE = f"{TOP}/docs/generated/API.md"
+GENERATED = "docs/generated"
 LEFT = ("refused", "kept", "back")
 ITEM = re.compile(r"(?:pub )?(?:unsafe )?(?:const )?(fn|struct|enum|trait|const|static|type|mod|impl|macro_rules!)\b")
 HEAD = """# API
@@ -26,6 +27,15 @@ written with its contract. A clause is what is proved of each call that meets th
 each crate, and where they are of another crate, below that. A function that *waits* need not return. What is *refused* comes in place of a
 value, and the clauses under *left* say what it leaves. A law is a function whose body does nothing and whose contract is what it shows.
 """
+
+CRATES_HEAD = """# Crates
+
+Each crate with the first sentence of its root file, lowest first: printed by `docs/api.py` from the sources, and compared with them by
+`./check`. Of the crates that its line in crates.txt names, those are left out that another one of them is built on. A name leads to the
+crate's public items; that of a program or of a crate of tests leads to its folder.
+
+| Crate | What it is | Built on | Of the toolchain |
+|---|---|---|---|"""
 
 
 def read(path):
@@ -316,19 +326,44 @@ def page():
     return "\n".join(lines), lacking
 
 
+def crates_page():
+    lines, names, below = [CRATES_HEAD], {}, {}
+    for line in read("crates.txt").splitlines():
+        front, _, rest = line.partition("#")[0].partition(":")
+        if front.strip():
+            names[front.split()[0]] = rest.split()
+    libraries = set(library_crates())
+    for name, used in names.items():
+        own = [it for it in used if it in names]
+        below[name] = set(own).union(*(below[it] for it in own))
+        nearest = [it for it in own if not any(it in below[other] for other in own)]
+        root = next(it for it in ("lib", "main") if os.path.isfile(f"{TOP}/crates/{name}/src/{it}.rt"))
+        header = " ".join(it[3:].strip() for it in read(f"crates/{name}/src/{root}.rt").splitlines() if it.startswith("//!"))
+        link = f"API.md#{name}" if name in libraries else f"../../crates/{name}"
+        kit = ", ".join(it for it in used if it not in names)
+        lines.append(f"| [{name}]({link}) | {header.partition('. ')[0].rstrip('.')} | {', '.join(nearest)} | {kit} |")
+    return "\n".join(lines) + "\n"
+
+
 def main(words):
-    printed, lacking = page()
+    api, lacking = page()
+    pages, differs = {"API.md": api, "CRATES.md": crates_page()}, False
+    for name, printed in pages.items():
+        path = f"{GENERATED}/{name}"
+        if words == ["--write"]:
+            os.makedirs(f"{TOP}/{GENERATED}", exist_ok=True)
+            with open(f"{TOP}/{path}", "w", encoding="utf-8") as file:
+                file.write(printed)
+            continue
+        there = read(path) if os.path.isfile(f"{TOP}/{path}") else ""
+        differs = differs or there != printed
+        for it in list(difflib.unified_diff(there.splitlines(), printed.splitlines(), path, "the sources", lineterm="", n=0))[:40]:
+            print(it)
     if words == ["--write"]:
-        os.makedirs(os.path.dirname(PAGE), exist_ok=True)
-        with open(PAGE, "w", encoding="utf-8") as file:
-            file.write(printed)
         return 0
-    there = read(os.path.relpath(PAGE, TOP)) if os.path.isfile(PAGE) else ""
     for it in lacking:
         print(f"{it}: no doc comment")
-    for it in list(difflib.unified_diff(there.splitlines(), printed.splitlines(), "docs/generated/API.md", "the sources", lineterm="", n=0))[:40]:
-        print(it)
-    return 1 if lacking or there != printed else 0
+    return 1 if lacking or differs else 0
 
 
 if __name__ == "__main__":
