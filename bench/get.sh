@@ -114,6 +114,7 @@ def peak_of(program, words):
         raise SystemExit(f"{words[:4]}: status {child.returncode}")
     return peak
 
+# rule gate-no-wait
 def calls(program, commands):
     total = {}
     for words in commands:

@@ -220,6 +220,8 @@ def case_at_once():
             run_with(["--workers", workers, "--at-once", str(width)], 1 if workers == "1" else min(width, 20))
 
 
+# rule gate-file-limit
+# rule program-file-limit-hint
 def case_too_many_open_files():
     hint = b"  hint: too many files were open for a connection: ulimit -n allows more, --at-once fewer transfers\n"
 
@@ -236,6 +238,7 @@ def case_too_many_open_files():
         want(run.returncode == 0 and run.stderr == b"", f"exit status {run.returncode}, {run.stderr[-300:]!r}")
 
 
+# rule get-url-count
 def case_257_urls():
     run = Run(["http://127.0.0.1:1/"] * 257)
     want(run.status == 120, f"exit status {run.status}")

@@ -269,6 +269,7 @@ def case_redirects_to():
            for number, (name, location, place, target, *rule) in enumerate(TARGETS)], 5)
 
 
+# rule redirect-condition
 def case_redirects_of():
     any_3xx = "curl follows each status from 300 to 399 that has a Location"
     late = b"HTTP/1.1 103 Early Hints\r\nLocation: /early\r\n\r\n"

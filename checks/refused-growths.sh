@@ -91,6 +91,7 @@ wrong() {
 # a program, whose whole output is $work/whole and whose status without a refusal is $ends, and what it prints where a growth is
 # refused: NAME INPUT ARGUMENT... (of `play` the replies to the lines before the fault; else nothing but the fault)
 ends=0
+# rule program-out-of-memory
 try_program() {
   local name=$1 input=$2 which=1 ended=0 without=0 lines
   shift 2

@@ -479,6 +479,8 @@ def case_output_that_is_closed():
 
 # --- what is said on standard error -------------------------------------------------------------------------------------
 
+# rule program-url-hint
+# rule save-failures
 def case_words_of_failures():
     def serve(connection, _):
         while (read := read_whole(connection)):
@@ -505,6 +507,8 @@ def case_words_of_failures():
         want(found == {url: words for url, _, words in rows}, f"{found}")
 
 
+# rule gate-file-limit
+# rule program-file-limit-hint
 def case_too_many_open_files():
     with Server(keeping) as server:
         into, urls = folder(), [server.url(f"/{number}") for number in range(150)]

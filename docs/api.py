@@ -6,7 +6,7 @@ docs/generated/CRATES.md, what each crate does and stands on.
     docs/api.py --write      writes the pages anew
 
 API has of each crate the header of its src/lib.rt, then each item that another crate can name, with its signature, its doc comment and its
-clauses, then each definition of specs/ that these clauses name, with the comment over it and its file. Columns in front of a function: `waits`
+clauses, then each definition of specs/ that these clauses name, with its file, the comment over it, and links to its rules. Columns in front of a function: `waits`
 where a bound lets it wait; `refused` what it answers in place of a value (the type of its error, or `None`); `left` the clauses named
 `refused`, `kept` or `back`, which say what a refusal leaves. Crates of tests are left out. CRATES has all crates, in the order of crates.txt.
 """
@@ -283,13 +283,20 @@ class Crate:
 
     @staticmethod
     def comment_of(path, name):
+        """The comment over a definition, or where it is of rules alone (docs/rules.py) their texts; and links to these."""
         lines = read(path).splitlines()
         at = next((i for i, it in enumerate(lines) if re.match(rf"(abbrev |data |record |rec )?(pub )?(abbrev |record |data )?(pub )?{re.escape(name)}\b", it)), None)
-        comment = []
-        while at and lines[at - 1].startswith("-- "):
-            at -= 1
-            comment.insert(0, lines[at][3:])
-        return " ".join(comment)
+        first = at
+        while first and lines[first - 1].startswith("--"):
+            first -= 1
+        own, texts, names, is_text = [], [], [], False
+        for line in lines[first:at] if at else []:
+            mark = re.match(r"-- rule ([^\s:]+)(?:: (.*))?$", line)
+            is_text = bool(mark[2]) if mark else is_text and line != "--"
+            names += [mark[1]] if mark else []
+            (texts if is_text else own).append((mark[2] or "") if mark else line[2:].strip())
+        named = ", ".join(f"[{it}](RULES.md#{it})" for it in dict.fromkeys(names))
+        return " ".join(filter(None, own or texts)) + (f" (rule {named})" if named else "")
 
 
 def page():

@@ -3,6 +3,8 @@ use Rattle.std.specs.Prelude.{ℕ, ◌≡◌, ◌⊎◌, ◌==◌, Bool, true, L
 use mathlib.Core.List.{IsPrefix}
 use Rattle.logbook.specs.Pages.{Cell, Step, View, Book, Named}
 
+-- rule board-marks: Of two marks of one journal the shorter is a prefix of the longer.
+--
 -- a beginning of the list that was reached, and which list it is
 pub record Mark (T : Type 0) : Type 0 where
   pub entries : List T

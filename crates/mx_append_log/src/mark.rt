@@ -87,6 +87,7 @@ impl<T> CountedMark<T> {
         self.count
     }
 
+    // rule board-marks
     /// Whether the other, a mark of the same list, has no more entries. Of two beginnings of one list the shorter begins the
     /// longer.
     pub fn reaches(&self, other: &CountedMark<T>) -> bool

@@ -28,6 +28,8 @@ pub record ReaderState : Type 0 where
 abbrev pub mark_of : List Event → Book → Mark Event
 mark_of j b = record { entries = j; book = b }
 
+-- rule board-catch-up: A reader that catches up has seen all that is published.
+--
 -- the reader has seen all these events, and they are confirmed
 abbrev pub caught_up : Who → List Event → Book → ReaderState
 caught_up w j b = record { who = w; seen = j; book = b; confirmed = length j }
@@ -36,6 +38,9 @@ caught_up w j b = record { who = w; seen = j; book = b; confirmed = length j }
 abbrev pub ConfirmsAllButLast : ReaderState → Type 0
 ConfirmsAllButLast r = (r.confirmed ≤ length r.seen) × (length r.seen ≤ r.confirmed + 1)
 
+-- rule board-reads: A read answers by what its reader has then seen, and never by less than it had seen.
+-- rule board-own-events: A version without the reader's own events isn't taken.
+--
 -- a read: what was seen afterwards is a legal list that begins with what was seen before, and has no event more of the reader's owner
 pub record Reads (r t : ReaderState) : Type 0 where
   pub who : t.who ≡ r.who

@@ -38,7 +38,10 @@ pub record ProgressState : Type 0 where
 abbrev pub new_seat : ProgressState → NoteState
 new_seat t = record { of = t.id; seats = t.seats; joined = 1; noted = []; read = [] }
 
--- a seat reads the word for the slot: it is no less than all that it had noted and read there, and where all seats are joined in it the greatest that was noted
+-- rule board-progress-word: A progress word is the greatest that was noted for its slot, or 0, first by ticket and then by count.
+--
+-- a seat reads the word for the slot: it is no less than all that it had noted and read there, and where all seats are joined in it the
+-- greatest that was noted
 pub record ReadsWord (s : NoteState) (k x : ℕ) : Type 0 where
   pub noted : greatest k s.noted ≤ x
   pub read : greatest k s.read ≤ x

@@ -124,6 +124,7 @@ impl ProgressTable {
         Ok((ProgressTable { table }, NoteSeat { seat }))
     }
 
+    // rule board-progress-word
     /// Notes that the ticket's transfer, which has the slot, has received so many bytes. Where a greater word was noted, the
     /// word stays as it was.
     pub fn note(&self, seat: &mut NoteSeat, slot: u8, ticket: Ticket, count: u32)
@@ -137,6 +138,7 @@ impl ProgressTable {
             .fetch_max::<Raises>(&mut seat.seat, usize::from(slot), word);
     }
 
+    // rule board-progress-word
     /// The ticket and the count of the slot's word.
     pub fn read(&self, seat: &mut NoteSeat, slot: u8) -> (Ticket, u32)
         requires { seat.old.of ≡ self.now.id }

@@ -159,6 +159,8 @@ impl BoardReader {
         false
     }
 
+    // rule board-reads
+    // rule board-own-events
     // A read. Where it finds nothing new, what is confirmed stays so.
     fn ask<Q: Query>(&mut self, query: &Q) -> Option<Q::Answer>
         ensures { MatchOption result (self.new ≡ self.old) (λ a. Reads self.old self.new × Q.is_answer query.now self.new.seen a) }
@@ -225,6 +227,7 @@ impl BoardReader {
         self.ask(&Find(handle))
     }
 
+    // rule board-catch-up
     /// Sees all that is published, and all of it is confirmed. It keeps its place where there was nothing new; else it gives
     /// it up and takes another, so that a board with as many places as readers has one for each. Where none is free,
     /// reads answer None until the reader catches up again.

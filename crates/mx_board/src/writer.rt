@@ -176,6 +176,7 @@ fn published<R: Wait>(board: BoardWriter, rt: &R) -> (BoardWriter, ())
 }
 
 impl BoardWriter {
+    // rule board-published
     /// Publishes what was appended: it waits for the readers that still read the copy that it changes. Where nothing waits
     /// to be published, it does nothing.
     pub fn publish<R: Wait>(&mut self, rt: &R)

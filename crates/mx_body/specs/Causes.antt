@@ -47,6 +47,8 @@ cause_line (at_head cause) = head_line cause
 cause_line refused_status = 2
 cause_line (at_body cause) = body_line cause
 
+-- rule body-interim-heads: At most 16 interim heads come before the final one. The 17th is 8, and so is status 101 anywhere.
+--
 -- behind the interim heads hs the head h is refused: one of status 101, or one interim head too many
 pub record IsRefused (hs : List ResponseHead) (h : ResponseHead) : Type 0 where
   pub head : IsHead h

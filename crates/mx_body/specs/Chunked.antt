@@ -104,11 +104,15 @@ IsChunked limit at bytes parts data_bytes =
     (body : ChunkedBody) × IsChunkedBody body × HasSizes limit body × (bytes ≡ chunked_bytes body)
     × (parts ≡ chunk_parts at body.chunks) × (data_bytes ≡ chunked_data body)
 
+-- rule body-chunk-framing: A byte that can't stand at its place in a chunked body is 56; a bare LF ends no line of its framing.
+--
 -- some bytes can follow that make these a chunked body, whatever its sizes
 abbrev pub MayBecomeChunked : List ℕ → Type 0
 MayBecomeChunked bytes =
     (body : ChunkedBody) × (more : List ℕ) × IsChunkedBody body × (bytes ++ more ≡ chunked_bytes body)
 
+-- rule body-chunk-size: A chunk's size over 67,108,864 is 63, at the digit that passes it.
+--
 -- the bytes end in the digits of a chunk's size, as far as they are there, which is over the limit
 abbrev pub EndsInLargeSize : ℕ → List ℕ → Type 0
 EndsInLargeSize limit bytes =

@@ -42,7 +42,7 @@ abbrev pub HasFinalHead : List ℕ → Type 0
 HasFinalHead input =
     (hs : List ResponseHead) × (h : ResponseHead) × (r : List ℕ) × StandsAtBody input hs h r
 
--- the code of an input that ended undecided: before any byte, in or before a head, or in a body
+-- rule body-truncated: An input that ends within the body is 18, within a head 8, before its first byte 52.
 abbrev pub EndsTooSoon : List ℕ → Code → Type 0
 EndsTooSoon input code =
     ((input ≡ []) × (code ≡ GotNothing))
@@ -57,6 +57,7 @@ FailsWith m input ended code =
     ⊎ (IsUndecided m input ended × (most_bytes < length input) × (code ≡ FilesizeExceeded))
     ⊎ (IsUndecided m input ended × (length input ≤ most_bytes) × (ended ≡ true) × EndsTooSoon input code)
 
+-- rule body-to-the-end: A body with no length and no chunks goes to the end of the input; its connection isn't kept.
 abbrev pub is_close : Framing → Bool
 is_close Empty = false
 is_close (Counted n) = false
@@ -98,6 +99,8 @@ HasLocation input place =
     × IsPartAt input (length (print_heads hs)) (length (print_heads hs ++ print_response h)) place (location_of h))
     ⊎ (¬ (HasFinalHead input) × (place ≡ None))
 
+-- rule redirect-interim-location: A Location of an interim head is ignored.
+--
 -- the value of the first Location line of the final head, unless it is empty; none where the input has no final head
 abbrev pub TellsLocation : List ℕ → Option (List ℕ) → Type 0
 TellsLocation input value =

@@ -17,7 +17,7 @@ pub record Decoded : Type 0 where
   pub ended : Bool
   pub verdict : Verdict
 
--- the verdict is that on all the bytes, however they were cut
+-- rule body-in-pieces: The verdict is on all the bytes, however they were cut into pieces, and stays once it has decided.
 abbrev pub IsExact : Decoded → Type 0
 IsExact d = IsVerdict d.method d.wire d.ended d.verdict
 

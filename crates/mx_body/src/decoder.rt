@@ -95,6 +95,7 @@ impl Decoder {
         stand_of(&self.verdict)
     }
 
+    // rule body-in-pieces
     /// Takes the next bytes of the response. Once the decoder has decided they are left alone.
     ///
     /// `OutOfMemory` leaves the decoder as it was, and never comes where the piece is empty.
@@ -192,6 +193,7 @@ impl Decoder {
         self.progress.status()
     }
 
+    // rule redirect-interim-location
     /// Where in the bytes fed the value of the first Location line of the final head stands (RFC 9110, section 10.2.2); `None` where
     /// that is empty, or there is no such line, or no final head. It takes no memory.
     pub fn location(&self) -> Option<Part>

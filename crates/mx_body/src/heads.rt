@@ -37,6 +37,7 @@ fn is_interim(status: u16) -> bool
     100 <= status && status < 200
 }
 
+// rule body-interim-heads
 /// What the head at `start` comes to by that answer, behind as many interim heads as have passed.
 fn next_by(text: &[u8], start: usize, passed: usize, step: HeadStep) -> Next
     requires behind { IsBehind text.now start passed }

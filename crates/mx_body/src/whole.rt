@@ -102,6 +102,7 @@ fn decode_chunked(
     }
 }
 
+// rule body-size
 /// Whether so many bytes of a body that begins at `at` are too many.
 fn is_too_large(n: u64, at: usize) -> bool
     requires { at ≤ most_bytes }
@@ -119,6 +120,8 @@ fn is_there(n: u64, left: usize) -> bool
     n <= left as u64
 }
 
+// rule body-truncated
+// rule body-to-the-end
 /// The verdict where the final head ends at `at`.
 pub(crate) fn decode_body(
     alloc: Global,
@@ -163,6 +166,7 @@ pub(crate) fn decode_body(
     }
 }
 
+// rule body-truncated
 /// The verdict where the bytes that are looked at have no final head, and meet no cause of a fault.
 pub(crate) fn decode_no_head(method: Method, input: &[u8], ended: bool) -> Verdict
     requires { IsFinalStepOn (first_bytes input.now) More }
@@ -181,6 +185,8 @@ pub(crate) fn decode_no_head(method: Method, input: &[u8], ended: bool) -> Verdi
     }
 }
 
+// rule body-out-of-memory: Out of memory (27) comes from `decode_whole` only in place of a complete response with a body: it masks no
+// fault. A decoder that is fed in pieces may run out of memory at a piece, before a fault in that piece, and is then as it was.
 /// The verdict on the bytes that the exchange for a request of that method gave, and whether they have
 /// ended (RFC 9112, sections 6 to 8). Only the first 67,108,864 bytes are looked at.
 ///

@@ -150,6 +150,7 @@ static BODIES: [Row; 20] = [
         Often(b"0\r\n", b"a", 65_536, b"\r\n\r\n"),
         Seen::Scan(LIMIT, ChunkedScan::Whole { len: 65_543 }),
     ),
+    // rule body-parts
     // where the data stand
     (
         "part_of_a_chunk",
@@ -163,6 +164,7 @@ static BODIES: [Row; 20] = [
         Of(b"0\r\nhello\r\n5\r\nhello\r\n\r\n"),
         Seen::Parts(0, &[]),
     ),
+    // rule body-parts
     (
         "parts_of_three_chunks",
         Of(b"1\r\na\r\n02\r\nbc\r\n3;\r\ndef\r\n0\r\n\r\n"),
@@ -181,6 +183,7 @@ pub(crate) fn bodies() -> &'static [Row] {
     &BODIES
 }
 
+// rule body-chunk-framing
 static BAD: [Row; 21] = [
     ("bare_lf_behind_a_size", Of(b"5\n"), Seen::BadAtLast),
     ("bare_lf_behind_an_extension", Of(b"5;a\n"), Seen::BadAtLast),
@@ -229,11 +232,13 @@ pub(crate) fn bad() -> &'static [Row] {
 static SIZES: [Row; 13] = [
     ("greatest_size_scanned", Of(b"4000000"), SHORT),
     ("greatest_size_and_its_end", Of(b"4000000\r\n"), SHORT),
+    // rule body-chunk-size
     (
         "greatest_size_behind_zeros",
         Of(b"000000000000000000004000000\r\n"),
         SHORT,
     ),
+    // rule body-chunk-size
     ("size_over_the_limit", Of(b"4000001"), TOO_LARGE),
     (
         "size_over_the_limit_behind_zeros",
@@ -275,6 +280,7 @@ static SIZES: [Row; 13] = [
         Of(b"6"),
         Seen::Scan(5, ChunkedScan::TooLarge),
     ),
+    // rule body-chunk-size
     // 1 to 40 digits, each the greatest
     (
         "sizes_of_1_to_40_digits",

@@ -100,6 +100,7 @@ static HEADS: [Row; 15] = [
         Of(b"HTTP/1.1 999 \r\n\r\n"),
         Seen::Head(17, 999, 1),
     ),
+    // rule head-size
     // as long as a head may be, and longer
     (
         "head_of_65536_without_its_last",
@@ -116,6 +117,7 @@ static HEADS: [Row; 15] = [
         LongField(0, 65_537),
         Seen::Refuses(65_536, Code::TooLarge),
     ),
+    // rule head-size
     (
         "head_of_65537",
         LongField(0, 65_537),
@@ -131,6 +133,7 @@ static HEADS: [Row; 15] = [
         LongField(0, 65_536),
         Seen::Framed(Method::Get, Ok(Framing::Close), true),
     ),
+    // rule head-size
     (
         "head_of_65536_in_128_field_lines",
         LongField(127, 65_536),
@@ -172,6 +175,7 @@ pub(crate) fn heads() -> &'static [Row] {
 /// No length that counts, and a connection that is kept.
 const BAD_LENGTH: Seen = Seen::Framed(Method::Get, Err(Code::WeirdServerReply), true);
 
+// rule head-content-length
 static LENGTHS: [Row; 15] = [
     (
         "length_5",
@@ -233,16 +237,19 @@ static LENGTHS: [Row; 15] = [
         Of(b"HTTP/1.1 200 OK\r\nContent-Length:\r\n\r\n"),
         BAD_LENGTH,
     ),
+    // rule head-huge-length
     (
         "greatest_length_of_64_bits",
         Of(b"HTTP/1.1 200 OK\r\nContent-Length: 18446744073709551615\r\n\r\n"),
         Seen::Framed(Method::Get, Ok(Framing::Counted(u64::MAX)), true),
     ),
+    // rule head-huge-length
     (
         "length_of_65_bits",
         Of(b"HTTP/1.1 200 OK\r\nContent-Length: 18446744073709551616\r\n\r\n"),
         Seen::Framed(Method::Get, Ok(Framing::Counted(u64::MAX)), true),
     ),
+    // rule head-huge-length
     (
         "two_lengths_of_65_bits",
         Of(
@@ -258,36 +265,43 @@ pub(crate) fn lengths() -> &'static [Row] {
 }
 
 static CODINGS: [Row; 14] = [
+    // rule head-transfer-coding
     (
         "chunked_coding",
         Of(b"HTTP/1.1 200 OK\r\nTransfer-Encoding: chunked\r\n\r\n"),
         Seen::Framed(Method::Get, Ok(Framing::Chunked), true),
     ),
+    // rule head-transfer-coding
     (
         "two_codings",
         Of(b"HTTP/1.1 200 OK\r\nTransfer-Encoding: gzip, chunked\r\n\r\n"),
         Seen::Framed(Method::Get, Err(Code::BadContentEncoding), true),
     ),
+    // rule head-transfer-coding
     (
         "coding_before_a_bad_length",
         Of(b"HTTP/1.1 200 OK\r\nTransfer-Encoding: chunked\r\nContent-Length: x\r\n\r\n"),
         Seen::Framed(Method::Get, Ok(Framing::Chunked), false),
     ),
+    // rule head-transfer-coding
     (
         "coding_of_http_1_0",
         Of(b"HTTP/1.0 200 OK\r\nTransfer-Encoding: chunked\r\n\r\n"),
         Seen::Framed(Method::Get, Err(Code::WeirdServerReply), false),
     ),
+    // rule head-no-body
     (
         "length_in_an_answer_to_head",
         Of(b"HTTP/1.1 200 OK\r\nContent-Length: 5\r\n\r\n"),
         Seen::Framed(Method::Head, Ok(Framing::Empty), true),
     ),
+    // rule head-no-body
     (
         "length_of_no_content",
         Of(b"HTTP/1.1 204 No Content\r\nContent-Length: 5\r\n\r\n"),
         Seen::Framed(Method::Post, Ok(Framing::Empty), true),
     ),
+    // rule head-no-body
     (
         "coding_of_not_modified",
         Of(b"HTTP/1.1 304 Not Modified\r\nTransfer-Encoding: gzip\r\n\r\n"),
@@ -303,26 +317,31 @@ static CODINGS: [Row; 14] = [
         Of(b"HTTP/1.1 200 OK\r\nConnection: x-close\r\n\r\n"),
         Seen::Keeps(true),
     ),
+    // rule head-connection
     (
         "connection_close_in_capitals",
         Of(b"HTTP/1.1 200 OK\r\nconnection:CLOSE\r\n\r\n"),
         Seen::Keeps(false),
     ),
+    // rule head-connection
     (
         "connection_close_and_keep_alive",
         Of(b"HTTP/1.1 200 OK\r\nConnection: close, keep-alive\r\n\r\n"),
         Seen::Keeps(false),
     ),
+    // rule head-connection
     (
         "connection_keep_alive_of_http_1_0_in_the_second_line",
         Of(b"HTTP/1.0 200 OK\r\nConnection: te\r\nConnection: , Keep-Alive\r\n\r\n"),
         Seen::Keeps(true),
     ),
+    // rule head-connection
     (
         "no_connection_of_http_1_0",
         Of(b"HTTP/1.0 200 OK\r\n\r\n"),
         Seen::Keeps(false),
     ),
+    // rule head-connection
     (
         "connection_keep_alive_of_http_1_0_and_an_empty_coding",
         Of(b"HTTP/1.0 200 OK\r\nConnection: keep-alive\r\nTransfer-Encoding:\r\n\r\n"),

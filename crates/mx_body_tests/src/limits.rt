@@ -44,11 +44,13 @@ pub(crate) fn is_told_anyhow(alloc: Global, told: Told, bytes: &[u8]) -> bool {
 }
 
 static LIMITS: [Row; 4] = [
+    // rule body-size
     (
         "open_body_at_the_limit",
         Filled(b"HTTP/1.0 200 OK\r\n\r\n", MOST_BYTES),
         Seen::Told(Told::Open),
     ),
+    // rule body-size
     (
         "open_body_past_the_limit",
         Filled(b"HTTP/1.0 200 OK\r\n\r\n", MOST_BYTES + 1),

@@ -174,11 +174,13 @@ static NOT_FOUND: [Row; 14] = [
         Of(b"HTTP/1.1 103 Early Hints\r\nLocation: /no\r\n\r\n"),
         Seen::LocationBehind(None, b""),
     ),
+    // rule redirect-interim-location
     (
         "location_of_an_interim_head",
         Of(b"HTTP/1.1 103 Early Hints\r\nLocation: /no\r\n\r\nHTTP/1.1 302 Found\r\n\r\n"),
         Seen::LocationBehind(None, b""),
     ),
+    // rule redirect-interim-location
     (
         "location_behind_an_interim_head",
         Of(

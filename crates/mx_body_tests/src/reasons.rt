@@ -49,6 +49,7 @@ pub(crate) fn is_whole(alloc: Global, method: Method, wire: &[u8]) -> bool {
     reason_of(alloc, method, wire).is_none()
 }
 
+// rule reason-refused
 static REFUSED: [Row; 25] = [
     (
         "letter_as_a_status_line",
@@ -182,6 +183,7 @@ pub(crate) fn refused() -> &'static [Row] {
     &REFUSED
 }
 
+// rule reason-truncated
 static ENDS: [Row; 15] = [
     ("end_before_a_head", Of(b""), Seen::Ends(Cut::Head)),
     (

@@ -49,6 +49,7 @@ fn decode_rows(
     Ok((is_refused, None))
 }
 
+// rule body-out-of-memory
 #[test]
 fn whole_responses_are_decoded_again(rt: HostRuntime) -> Result<(), Fail> {
     let mut is_refused = false;
@@ -126,6 +127,7 @@ fn feed_rows(alloc: Global, rows: &[Response]) -> Result<(bool, Option<&'static 
     Ok((is_refused, None))
 }
 
+// rule body-out-of-memory
 #[test]
 fn pieces_are_fed_again(rt: HostRuntime) -> Result<(), Fail> {
     let mut is_refused = false;

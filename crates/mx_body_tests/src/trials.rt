@@ -38,15 +38,20 @@ fn passes(alloc: Global, trial: Trial, row: &Response, bytes: &[u8]) -> bool {
 
 /// Trials by what was told of a response, and what they are called.
 static TOLD: [(Trial, &str); 3] = [
+    // rule body-to-the-end
     (Trial::Whole, "whole"),
+    // rule body-in-pieces
     (Trial::CutAnywhere, "cut anywhere"),
     (Trial::AByteAtATime, "a byte at a time"),
 ];
 
 /// Trials by a plain program, too.
 static COMPARED: [(Trial, &str); 4] = [
+    // rule head-first-bad-byte
+    // rule head-first-cause
     (Trial::Head, "its head"),
     (Trial::HeadInOnes, "its head, a byte at a time"),
+    // rule body-in-pieces
     (Trial::BothDecoders, "both decoders"),
     (Trial::BehindAnInterimHead, "behind an interim head"),
 ];

@@ -12,6 +12,8 @@ pub record Idle (L : Type 0) : Type 0 where
 abbrev pub kept : {L : Type 0} → ℕ → List (HostAndPort × L) → List (HostAndPort × L)
 kept limit links = if nat_le (length links) limit then links else drop 1 links
 
+-- rule idle-limit-0: A cache with limit 0 hands each link back.
+--
 -- the link that leaves
 abbrev pub left : {L : Type 0} → ℕ → List (HostAndPort × L) → Option L
 left limit [] = None
@@ -21,6 +23,8 @@ left limit (oldest ∷ links) = if nat_le (length (oldest ∷ links)) limit then
 abbrev pub HasNone : {L : Type 0} → HostAndPort → List (HostAndPort × L) → Type 0
 HasNone endpoint links = AllByRecursion (λ pair. pair.0 ≡ endpoint → ⊥) links
 
+-- rule idle-newest-first: Of idle links the newest of an endpoint is taken; over the limit the oldest leaves.
+--
 -- the newest link of the endpoint was taken out
 pub record TakesNewest {L : Type 0} (endpoint : HostAndPort) (old : List (HostAndPort × L)) (link : L) (new : List (HostAndPort × L)) : Type 0 where
   pub older : List (HostAndPort × L)

@@ -46,6 +46,8 @@ impl<L: Drop> IdleCache<L> {
         self.links.len()
     }
 
+    // rule idle-newest-first
+    // rule idle-limit-0
     /// Puts in a link of this endpoint. Gives back the link that was put first, where the cache was full; with a
     /// limit of 0 that is `link` itself.
     pub fn put(&mut self, endpoint: Endpoint, link: L) -> Option<L>
@@ -66,6 +68,7 @@ impl<L: Drop> IdleCache<L> {
         }
     }
 
+    // rule idle-newest-first
     /// Takes the link of this endpoint that was put last, if there is one.
     pub fn take(&mut self, endpoint: &Endpoint) -> Option<L>
         ensures links { MatchOption result (HasNone endpoint.now self.old.links) (λ link. TakesNewest endpoint.now self.old.links link self.new.links) }

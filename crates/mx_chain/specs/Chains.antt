@@ -58,6 +58,8 @@ home_by None true now hops home = Some now.endpoint
 home_by None false now hops home = last_home hops
 home_by (Some code) linked now hops home = home
 
+-- rule redirect-idle-link: The link of a hop that has ended, and may serve again, goes into its worker's cache under the endpoint of that
+-- hop.
 abbrev pub home_of : {L : Type 0} → ChainState L → Option HostAndPort
 home_of t = home_by t.code t.linked t.now.request t.hops t.home
 

@@ -13,6 +13,9 @@ abbrev pub is_ok : Code → Bool
 is_ok code.Ok = true
 is_ok _ = false
 
+-- rule redirect-condition: A whole response is a redirect where redirects are followed at all, its status is 301, 302, 303, 307 or 308, and
+-- the first Location line of its final head has a value that isn't empty.
+--
 -- a whole response that sends its request on, where at most so many redirects are followed
 abbrev pub is_redirect : ℕ → HopValue → Bool
 is_redirect most hop = not (most == 0) && is_ok hop.code && is_redirect_status hop.status && is_some hop.location
@@ -29,6 +32,8 @@ LeadTo most first (o ∷ hops) last =
     (o.request ≡ first) × (is_redirect most o ≡ true) × hop.IsHop o
     × ((next : RequestValue) × (next_of o ≡ Ok next) × LeadTo most next hops last)
 
+-- rule redirect-limit: Where as many were followed as may be, a redirect ends the transfer with 47.
+--
 -- Why a chain ends with this hop, where so many before it were followed, and with which code: the hop is no redirect that is followed;
 -- as many were followed as may be; the next request is refused; or a growth was.
 pub data EndsWith (most followed : ℕ) (hop : HopValue) : Code → Type 0 where

@@ -28,6 +28,8 @@ abbrev pub first_of : List HopValue → HopValue → RequestValue
 first_of [] last = last.request
 first_of (o ∷ hops) last = o.request
 
+-- rule redirect-outcome: Body, status and code are the last hop's.
+--
 -- the outcome that these hops make, with this code
 abbrev pub outcome_of : List HopValue → HopValue → Code → OutcomeValue
 outcome_of earlier last code = record {

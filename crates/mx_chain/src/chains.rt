@@ -244,6 +244,7 @@ impl<L: Link> Chain<L> {
         self.idle.take()
     }
 
+    // rule redirect-idle-link
     /// Where the link goes that was attached last. After the end it is told where that link may serve again.
     pub fn link_endpoint(&self) -> Option<&Endpoint>
         ensures { option_copied result ≡ home_of self.now }
@@ -354,6 +355,7 @@ impl<L: Link> Chain<L> {
         }
     }
 
+    // rule redirect-condition
     // Whether the hop sends its request on.
     fn redirects(&self, hop: &Hop) -> bool
         ensures { result ≡ is_redirect self.now.request.settings.max_redirects hop.now }
@@ -361,6 +363,7 @@ impl<L: Link> Chain<L> {
         self.most != 0 && is_ok(hop.code()) && sends_on(hop.status()) && hop.location().is_some()
     }
 
+    // rule redirect-limit
     // Whether as many hops were followed as may be.
     fn is_at_limit(&self) -> bool
         ensures full { IsTrue result → length self.now.hops ≡ self.now.request.settings.max_redirects }

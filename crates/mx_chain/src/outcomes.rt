@@ -17,6 +17,7 @@ use mx_types::{Code, Ending, OutOfMemory};
 use std::alloc::Global;
 use std::marker::Model;
 
+// rule redirect-outcome
 /// What a transfer ended with: its hops, of which each but the last was followed, and its code. What is told of the response is told of
 /// the last hop's.
 #[derive(Drop)]

@@ -37,6 +37,8 @@ pub record Sets (old new : List Deadline) (d : Deadline) : Type 0 where
 abbrev pub is_due : ℕ → Deadline → Bool
 is_due now d = nat_le d.moment now
 
+-- rule deadline-due: `due(now)` gives the tickets whose moment isn't after `now`, by moment and then by ticket.
+--
 -- the deadlines that are due
 abbrev pub due_at : List Deadline → ℕ → List Deadline
 due_at ds now = filter (is_due now) ds

@@ -56,6 +56,7 @@ impl Deadlines {
         }
     }
 
+    // rule deadline-count
     /// Whether `ticket` can be set: fewer than [`MOST_TRANSFERS`] other tickets are.
     pub fn has_room_for(&self, ticket: Ticket) -> bool
         ensures room { IsTrue result ↔ (count_by (is_other ticket) self.now < MOST_TRANSFERS) }
@@ -107,6 +108,7 @@ impl Deadlines {
         self.set.first().map(|d| d.moment)
     }
 
+    // rule deadline-due
     /// The tickets whose moment isn't after `now`, by moment and then by ticket. They are cleared.
     pub fn due(&mut self, now: u64) -> ArrayVec<Ticket, MOST_TRANSFERS>
         ensures due { result.items ≡ map (λ d. d.ticket) (due_at self.old now) }

@@ -137,6 +137,7 @@ fn mxfetch_command<'a>(alloc: Global) -> Result<Command<'a>, AllocError> {
     with_command(command, play_command(alloc))
 }
 
+// rule play-history
 /// The task that the matches name, if they name one. The history's range is tested here too, since clap's contract
 /// doesn't tell that it was.
 fn task_of(matches: &ArgMatches<'_>) -> Option<Task>
@@ -154,6 +155,7 @@ fn task_of(matches: &ArgMatches<'_>) -> Option<Task>
     Some(Task::Play { history, first })
 }
 
+// rule get-options
 /// How the URLs of `get` are fetched, if its values are there. Their ranges are tested here too.
 fn options_of(get: &ArgMatches<'_>) -> Option<Options>
     ensures { IfSome result (λ options. are_within options ≡ true) }

@@ -115,6 +115,7 @@ fn rooms<G: Drop>(
     Ok((handles, worked))
 }
 
+// rule worker-threads, unproved: Workers on threads run at the same time.
 /// Runs a worker at each post, on a thread of its own, while the application runs on this one. The application is told that the crew
 /// stands, or why it doesn't: then it runs without workers. Once it has returned the crew is dismissed. It answers what the application
 /// returned, and for each post what its worker did, with its gate; all workers have ended then. It may wait.

@@ -30,12 +30,15 @@ pub record IsNewDesk (n w : ℕ) (desk : DeskValue) : Type 0 where
   pub count : length desk.asked ≡ n
   pub width : desk.width ≡ w
 
+-- rule save-requests: What ends under a number is the request that was added there, and its URL is closed with that end.
+--
 -- this request is added under a number, where nothing was
 pub record Adds (old new : DeskValue) (at : ℕ) (request : RequestValue) : Type 0 where
   pub free : slice_get old.asked at ≡ Some None
   pub asked : new.asked ≡ slice_set old.asked at (Some request)
   pub width : new.width ≡ old.width
 
+-- rule save-requests
 -- the request that was added under this number has ended, and nothing is added under it now
 pub record Ends (old new : DeskValue) (at : ℕ) (request : RequestValue) : Type 0 where
   pub added : slice_get old.asked at ≡ Some (Some request)

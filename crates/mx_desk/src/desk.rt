@@ -216,6 +216,7 @@ impl<'m, L: Link> Desk<'m, L> {
         self.is_full
     }
 
+    // rule save-requests
     /// Adds a request under a number, under which nothing is added. Its ticket comes back; None where the history has no room for one more,
     /// and then nothing is added.
     ///
@@ -245,6 +246,7 @@ impl<'m, L: Link> Desk<'m, L> {
         Ok(Some(ticket))
     }
 
+    // rule save-requests
     // Takes an addition out, whose end came: nothing is added under its number then.
     fn take(&mut self, at: usize, ticket: Ticket, outcome: &Outcome) -> Result<(), DeskError>
         requires told { Has self.old.ties (tie ticket (request_origin outcome.now.request)) }

@@ -61,7 +61,7 @@ pub data EndsBy (kind : Method) (answers : List Answer) (wire : List ℕ) (v : V
   by_memory : (earlier : List Answer) (last : Answer) → EndsAt kind earlier last answers → is_heard last ≡ true
       → wire ≡ given earlier → v ≡ verdict.More → EndsBy kind answers wire v code.OutOfMemory
 
--- the link may serve again: the response says so, and is all that was read
+-- rule exchange-kept-link: A link may serve again where the response says so and is all that was read.
 abbrev pub may_keep : Verdict → List ℕ → Bool
 may_keep v wire = keep_of v && (len_of v == length wire)
 
@@ -78,7 +78,7 @@ is_loss said.ReadFailed = true
 is_loss said.ReadEnded = true
 is_loss _ = false
 
--- a reused link was lost before it gave a byte, and the method is one that is sent again
+-- rule exchange-retry: A GET or HEAD on a reused link that was lost before a byte came needs a fresh link, once.
 pub record MustRetry (kind : Method) (reused : Bool) (answers : List Answer) : Type 0 where
   pub reused_is : reused ≡ true
   pub repeated : is_repeated kind ≡ true

@@ -52,6 +52,8 @@ abbrev pub IsDue : Option ℕ → ℕ → Type 0
 IsDue None now = ⊥
 IsDue (Some deadline) now = deadline ≤ now
 
+-- rule exchange-timeout: A timeout counts from the first poll; a deadline past 2^64 - 1 ms is held there; a timeout of 0 is none.
+--
 -- the deadline of a request whose first turn is at this moment
 abbrev pub first_deadline : RequestValue → ℕ → Option ℕ
 first_deadline request moment =
@@ -108,6 +110,8 @@ dropped t = record t {
   received = 0;
 }
 
+-- rule redirect-deadline: The deadline is one for the whole chain.
+--
 -- the exchange, once it has ended, as it begins anew with another request: its clock goes on
 abbrev pub renewed : {L : Type 0} → ExchangeState L → RequestValue → ExchangeState L
 renewed t request = record t {

@@ -65,8 +65,9 @@ FollowInOrder reused bytes before (answer ∷ rest) =
 abbrev pub InOrder : Bool → List ℕ → List Answer → Type 0
 InOrder reused bytes answers = FollowInOrder reused bytes [] answers
 
--- How many bytes the link is asked for where it answers so after those before: a read asks for 16,384, and a write offers
--- all that the link hasn't taken.
+-- rule exchange-call-sizes: A read asks for 16,384 bytes, and a write offers all of the request that the link hasn't taken.
+--
+-- How many bytes the link is asked for where it answers so after those before.
 abbrev pub asked_at : List ℕ → List Answer → Answer → ℕ
 asked_at bytes before answer =
     if is_read answer then most_read else (if is_write answer then length bytes - length (taken before) else 0)

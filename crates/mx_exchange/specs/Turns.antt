@@ -17,6 +17,8 @@ use Rattle.mx_exchange.specs.Exchanges.{HopValue, ExchangeState, IsDue, LinkTold
 abbrev pub IsOnTime : {L : Type 0} → ExchangeState L → Type 0
 IsOnTime t = ¬ (IsDue t.deadline t.moment) × (t.failure ≡ None)
 
+-- rule exchange-pause: A pause stops the link and not the deadline.
+--
 -- it may touch its link
 abbrev pub MayTouch : {L : Type 0} → ExchangeState L → Type 0
 MayTouch t = IsOnTime t × (t.is_paused ≡ false)
@@ -30,6 +32,9 @@ pub record ProbeBlocks {L : Type 0} (history : L → List Answer) (t new : Excha
   pub told : history next ≡ history link ++ said.ReadBlocked ∷ []
   pub after : new ≡ record t { link = Some next; attached = Some next; needs_probe = false }
 
+-- rule exchange-probe: A reused link is probed by a read of one byte before it is used: anything but "would block" drops it, and its bytes
+-- are in no wire.
+--
 -- it gave a byte, had ended or failed, and is dropped
 pub record ProbeFails {L : Type 0} (history : L → List Answer) (t new : ExchangeState L) : Type 0 where
   pub link : L
@@ -46,6 +51,8 @@ pub record ProbeFails {L : Type 0} (history : L → List Answer) (t new : Exchan
 abbrev pub Probed : {L : Type 0} → (L → List Answer) → ExchangeState L → ExchangeState L → Type 0
 Probed history t mid = ((t.needs_probe ≡ false) × (mid ≡ t)) ⊎ ProbeBlocks history t mid
 
+-- rule exchange-turn-limits: A turn makes at most one connect, 64 writes and 64 reads, and then asks for another.
+--
 -- what the link answered in this turn, and how much it was asked at most
 pub record Answered {L : Type 0} (history : L → List Answer) (t new : ExchangeState L) : Type 0 where
   pub more : List Answer
@@ -107,8 +114,8 @@ pub data Exchanged {L : Type 0} (history : L → List Answer) (t new : ExchangeS
   ended : {o : HopValue} → Answered history t new → EndsOver t new o
       → ¬ (MustRetry t.request.method t.is_reused new.answers) → Exchanged history t new (ends o)
 
--- A turn of an exchange whose clock runs: first the deadline, then the code given in place of a link, then the pause; then the
--- probe of a reused link, and then what the link is asked in order, if there is one.
+-- rule exchange-order: A turn of an exchange whose clock runs looks first at the deadline, then at the code given in place of a link, then
+-- at the pause; then comes the probe of a reused link, and then what the link is asked in order, if there is one.
 pub data Turns {L : Type 0} (history : L → List Answer) (t new : ExchangeState L) : How → Type 0 where
   late : {o : HopValue} → IsDue t.deadline t.moment → o.code ≡ code.OperationTimedout → StopsWith t new o
       → Turns history t new (ends o)

@@ -4,6 +4,7 @@ ghost use Rattle.mx_exchange.specs.Order.{most_read};
 
 use std::alloc::Global;
 
+// rule exchange-call-sizes
 /// The most bytes of one read.
 pub(crate) const READ_BYTES: usize = 16_384;
 

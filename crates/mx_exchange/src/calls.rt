@@ -11,9 +11,11 @@ use mx_link::{Connect, Link, Read, Write};
 use mx_request::Request;
 use mx_types::{Code, Method};
 
+// rule exchange-turn-limits
 /// The most reads in one turn.
 const MOST_READS: usize = 64;
 
+// rule exchange-turn-limits
 /// The most writes in one turn.
 const MOST_WRITES: usize = 64;
 
@@ -43,6 +45,7 @@ pub(crate) enum Halt {
     Over(Code),
 }
 
+// rule exchange-retry
 /// Whether requests of that method may be sent again: GET and HEAD, which change nothing at the server (RFC 9110, section 9.2.1).
 fn is_repeated(method: Method) -> bool
     ensures { result ≡ is_repeated method }
@@ -50,6 +53,7 @@ fn is_repeated(method: Method) -> bool
     matches!(method, Method::Get | Method::Head)
 }
 
+// rule exchange-retry
 /// Whether a request of that method is sent again where a reused link is lost before it gave a byte.
 fn may_retry(method: Method, is_reused: bool, decoder: &Decoder) -> bool
     ensures { IsTrue result ↔ ((is_reused ≡ true) × (is_repeated method ≡ true) × (decoder.now.wire ≡ [])) }
@@ -61,6 +65,7 @@ fn may_retry(method: Method, is_reused: bool, decoder: &Decoder) -> bool
 }
 
 impl<L: Link> Line<L> {
+    // rule exchange-connect
     /// Asks whether the connection stands.
     fn connect_step(&mut self, decoder: &Decoder) -> Step
         requires open { IsOpen self.old }
@@ -158,6 +163,7 @@ impl<L: Link> Line<L> {
         self.read_step(request, decoder, buffer)
     }
 
+    // rule exchange-turn-limits
     /// One turn: it connects, writes the request and reads the response into this buffer, as far as the link goes.
     fn serve_into(&mut self, request: &Request, decoder: &mut Decoder, buffer: &mut [u8]) -> Halt
         requires open { IsOpen self.old }

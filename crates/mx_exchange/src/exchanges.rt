@@ -126,6 +126,7 @@ impl<L: Link> Exchange<L> {
         }
     }
 
+    // rule redirect-deadline
     /// Begins anew with another request, once it has ended. A link that it still has is dropped. Its clock goes on: the deadline stays.
     pub fn renew(&mut self, request: Request)
         requires { IsSome self.old.code }

@@ -141,6 +141,7 @@ impl<L: Link> Line<L> {
         self.link.token()
     }
 
+    // rule exchange-probe
     /// Asks a link that nothing was asked of for a byte. True where it has none now: from there on it serves.
     pub fn probe(&mut self) -> bool
         requires needed { self.old.needs_probe ≡ true }
@@ -175,6 +176,7 @@ impl<L: Link> Line<L> {
         connect
     }
 
+    // rule exchange-call-sizes
     /// Offers all of the request that the link has not taken.
     pub fn write(&mut self, request: &Request) -> Write
         requires open { IsOpen self.old }
@@ -192,6 +194,7 @@ impl<L: Link> Line<L> {
         write
     }
 
+    // rule exchange-call-sizes
     /// Reads what is there, once the request was taken, into a buffer of 16,384 bytes.
     pub fn read(&mut self, buffer: &mut [u8]) -> Read
         requires open { IsOpen self.old }

@@ -148,6 +148,7 @@ fn connections_that_take_some_polls(rt: HostRuntime) -> Result<(), Fail> {
         code: Some(Code::CouldntConnect),
         ..STANDS
     };
+    // rule exchange-connect
     if connect(&rt, 1, true)? != fails {
         return Err("a_connection_that_fails_is_code_7".into());
     }

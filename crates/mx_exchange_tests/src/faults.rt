@@ -148,6 +148,7 @@ fn ends_over<R: RandomSource + AllocGlobal>(
     sees(rt, name, &[reused, Poll, fresh, Poll], &[LOST], ends)
 }
 
+// rule exchange-retry
 fn a_fault_at_each_write<R: RandomSource + AllocGlobal>(rt: &R) -> Result<(), Fail> {
     for at in 0..56 {
         let writes = fails_at_write(rt.alloc(), at)?;

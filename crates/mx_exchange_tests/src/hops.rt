@@ -62,6 +62,7 @@ pub(crate) const TWICE: Row<'static> = Row {
 };
 
 static HOP_ENDS: [Row<'static>; 6] = [
+    // rule redirect-deadline
     Row {
         name: "one_deadline_is_for_all_hops",
         timeout_ms: 100,
@@ -143,6 +144,7 @@ static HOP_ENDS: [Row<'static>; 6] = [
         ends: Ends::Bodiless(Code::CouldntResolveHost, 0, b""),
         ..TWICE
     },
+    // rule redirect-limit
     // it is followed as often as may be
     Row {
         name: "a_redirect_to_itself_ends_with_47",

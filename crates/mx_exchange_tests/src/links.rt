@@ -52,6 +52,7 @@ static SCRIPTED: [Row; 3] = [
             Step::Read(Read::End, b"---"),
         ],
     },
+    // rule link-failures
     Row {
         name: "a_fault_is_counted",
         link: Made::Script(&[ScriptRead::End, ScriptRead::Fault], &[]),
@@ -64,6 +65,7 @@ static SCRIPTED: [Row; 3] = [
             Step::Failures(1),
         ],
     },
+    // rule link-counts
     Row {
         name: "writes_take_what_is_planned",
         link: Made::Script(
@@ -86,6 +88,7 @@ static SCRIPTED: [Row; 3] = [
     },
 ];
 
+// rule link-interrupted
 /// What is interrupted (EINTR) is asked again at once, 64 times at most: the answer is that of the call that went through.
 static INTERRUPTED: [Row; 6] = [
     Row {

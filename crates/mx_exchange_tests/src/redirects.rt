@@ -109,6 +109,7 @@ const GET_D_COOKIE: &[u8] =
     b"GET /d HTTP/1.1\r\nHost: 127.0.0.1:8080\r\nAccept: */*\r\ncookie: a=1\r\n\r\n";
 
 static REDIRECTS: [Row<'static>; 3] = [
+    // rule redirect-condition
     Row {
         name: "a_redirect_is_followed",
         max_redirects: 2,
@@ -192,6 +193,7 @@ const HINTED: &[u8] =
     b"HTTP/1.1 103 Early Hints\r\nLocation: /b\r\n\r\nHTTP/1.1 302 Found\r\nContent-Length: 0\r\n\r\n";
 
 static NOT_FOLLOWED: [Row<'static>; 4] = [
+    // rule redirect-condition
     Row {
         name: "without_a_limit_none_is_followed",
         max_redirects: 0,
@@ -215,6 +217,7 @@ static NOT_FOLLOWED: [Row<'static>; 4] = [
         }],
         ..AT_ONCE
     },
+    // rule redirect-condition
     Row {
         name: "an_empty_location_is_no_redirect",
         calls: &[Fresh(&[Bytes(EMPTY)], &[]), Poll],

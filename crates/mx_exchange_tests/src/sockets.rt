@@ -122,6 +122,7 @@ fn talks_and_ends<L: Link>(
     Ok(ends && near.failures() == 0 && near.token() == 7)
 }
 
+// rule link-bytes
 fn a_socket_reads_and_writes_and_sees_the_end(
     rt: &HostRuntime,
     waiter: &mut Waiter,

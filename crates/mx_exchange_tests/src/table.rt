@@ -116,6 +116,7 @@ static RESPONSES: [Row<'static>; 9] = [
         ends: Ends::Hello(INTERIM, 1),
         ..GET
     },
+    // rule exchange-kept-link
     Row {
         name: "a_link_with_bytes_left_over_is_not_kept",
         calls: &[Fresh(&[Bytes(LEFT_OVER)], &[]), Poll],
@@ -174,6 +175,7 @@ static REUSED_LINKS: [Row<'static>; 8] = [
         calls: &[ENDS, Poll, FRESH, Poll],
         ..AGAIN
     },
+    // rule exchange-retry
     Row {
         name: "a_get_is_sent_again_once",
         calls: &[ENDS, Poll, Fresh(&[End], &[]), Poll],
@@ -199,6 +201,7 @@ static REUSED_LINKS: [Row<'static>; 8] = [
         ends: Ends::Failed(Code::SendError, 0, b""),
         ..GET
     },
+    // rule exchange-probe
     Row {
         name: "what_a_probe_reads_is_in_no_wire",
         methods: &[Method::Get, Method::Post],
@@ -221,6 +224,7 @@ static REUSED_LINKS: [Row<'static>; 8] = [
 
 /// Polls that answer `Pending`.
 static POLLS: [Row<'static>; 6] = [
+    // rule exchange-call-sizes
     Row {
         name: "one_byte_written_then_all",
         calls: &[
@@ -231,18 +235,21 @@ static POLLS: [Row<'static>; 6] = [
         waits: &[SERVED],
         ..GET
     },
+    // rule exchange-turn-limits
     Row {
         name: "a_poll_writes_64_times_at_most",
         calls: &[Fresh(&[Bytes(COUNTED)], &[Write::Bytes(1); 64]), Poll, Poll],
         waits: &[ASKS],
         ..GET
     },
+    // rule exchange-order
     Row {
         name: "a_paused_transfer_touches_no_link",
         calls: &[FRESH, Prepare(0, true), Poll, Prepare(0, false), Poll],
         waits: &[ASKS],
         ..GET
     },
+    // rule exchange-pause
     Row {
         name: "a_deadline_counts_while_paused",
         calls: &[
@@ -257,12 +264,14 @@ static POLLS: [Row<'static>; 6] = [
         ends: Ends::Failed(Code::OperationTimedout, 0, b""),
         ..TIMED
     },
+    // rule exchange-timeout
     Row {
         name: "a_deadline_is_held_at_the_greatest_moment",
         calls: &[Prepare(LAST - 3, false), Poll],
         waits: &[DUE_AT_LAST],
         ..TIMED
     },
+    // rule exchange-timeout
     Row {
         name: "no_timeout_is_no_deadline",
         timeout_ms: 0,

@@ -29,6 +29,7 @@ AreEndTexts (url ∷ urls) [] text = text ≡ []
 AreEndTexts (url ∷ urls) (end ∷ ends) text =
     (first : List ℕ) × (rest : List ℕ) × IsEndText url end first × AreEndTexts urls ends rest × (text ≡ first ++ rest)
 
+-- rule program-file-limit-hint
 -- and behind them a hint, where the run met the limit of open files
 pub record IsRunText (urls : List (List ℕ)) (ends : List Fetched) (met_limit : Bool) (text : List ℕ) : Type 0 where
   pub of_ends : List ℕ

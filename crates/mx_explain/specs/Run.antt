@@ -26,6 +26,7 @@ pub record ExplainsFault (Printed Told : List ℕ → Type 0) (ends_with : ℕ) 
   pub printed : PrintsFault (code_number codes.OutOfMemory) Printed ends_with
   pub told : Told (body_line (cause_words cause) 27)
 
+-- rule program-explain
 abbrev pub ExplainsUrls : ℕ → ℕ → List (List ℕ) → (List ℕ → Type 0) → (List ℕ → Type 0) → ℕ → Type 0
 ExplainsUrls timeout_ms max_redirects urls Printed Told ends_with =
     ExplainsEnds timeout_ms max_redirects urls Printed Told ends_with ⊎ ExplainsFault Printed Told ends_with

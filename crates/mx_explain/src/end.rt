@@ -73,6 +73,7 @@ fn print_ends<W: Write>(
     Ok(())
 }
 
+// rule program-file-limit-hint
 /// Prints what is told of URLs that ended so, in their order, and behind it a hint, where the run met the limit of open files.
 pub(crate) fn print_all<W: Write>(
     output: &mut Output<W>,

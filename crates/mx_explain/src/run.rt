@@ -74,6 +74,7 @@ fn print_unfetched<W: Write, E: Write>(
     status
 }
 
+// rule program-explain
 /// Does what `run_get` does, and tells of each URL that failed, in their order, why: a line with the words of its code; of a response that
 /// is refused the byte of it, counted from 1, and what stands wrong there; of one that was cut how much of it came; and behind it a hint
 /// where there is one; and last, where a connection couldn't be begun since too many files were open, a hint that says so. Where `FAULT 27` is printed, it is told what the run lacked. What is told is put into an output of its own, once the

@@ -17,8 +17,10 @@ from stops text = drop (prefix_len (λ b. not (is_among stops b)) text) text
 abbrev pub behind : List ℕ → List ℕ → List ℕ
 behind skipped text = drop (prefix_len (is_among skipped) text) text
 
--- Behind the colon of the scheme and the slashes stands the authority, up to a slash, a question mark or a number sign; then the path, up to
--- the query or the fragment.
+-- rule file-url-path: The path of a URL is found in its text, as it stands there (RFC 3986, section 3).
+--
+-- Behind the colon of the scheme and the slashes stands the authority, up to a slash, a question mark or a number sign; then the path, up
+-- to the query or the fragment.
 unfoldable pub path_of : List ℕ → List ℕ
 path_of url = before (codes "?#") (from (codes "/?#") (behind (codes ":/") (from (codes ":") url)))
 

@@ -9,6 +9,7 @@ use mx_types::OutOfMemory;
 use std::alloc::Global;
 use std::marker::Model;
 
+// rule file-name-size
 // The most bytes of a name before its number: with a number it has 255 at most, which is what file systems take.
 const MOST_LEN: usize = 234;
 
@@ -138,6 +139,7 @@ fn segment_name(alloc: Global, segment: &[u8]) -> Result<String, OutOfMemory>
     Ok(name)
 }
 
+// rule file-base-name
 // The name that a URL gives, without a number.
 // It isn't percent-decoded, as with curl's -O: a decoded segment could have slashes and bytes of 0.
 pub(crate) fn base_name(alloc: Global, url: &[u8]) -> Result<String, OutOfMemory>

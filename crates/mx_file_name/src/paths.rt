@@ -49,6 +49,7 @@ fn behind<'a>(text: &'a [u8], skipped: &[u8]) -> &'a [u8]
 }
 
 // Read off the text, since a parser takes a last segment of two dots away. Any number of slashes is passed over, as in the URL Standard.
+// rule file-url-path
 /// The path in the text of a URL, as it stands there (RFC 3986, 3): behind the colon of the scheme, the slashes and the authority, up to
 /// the query or the fragment. It is empty where the text has no colon, and where the authority is all that follows. Whether the text is
 /// a URL isn't asked.

@@ -63,6 +63,7 @@ impl Names {
         Ok(())
     }
 
+    // rule file-numbered-name
     /// The name of the next URL, by its text: with the number of the URLs before it that gave the same.
     ///
     /// `OutOfMemory` comes where no room is had for it; then no name was given.

@@ -15,6 +15,8 @@ with_more more file = record { bytes = file.bytes ++ more; flushed = false }
 abbrev pub on_disk : File → File
 on_disk file = record { bytes = file.bytes; flushed = true }
 
+-- rule file-steps: What a name of a folder holds follows from what was done to it.
+--
 -- the file under a name, after these steps, the newest first, in a folder that had what `found` tells
 abbrev pub file : (List ℕ → Option File) → List Step → List ℕ → Option File
 file found [] name = found name

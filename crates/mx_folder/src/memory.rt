@@ -56,6 +56,7 @@ impl Model for MemoryFolder {
     } };
 }
 
+// rule file-steps
 // The bytes of this name, by what is kept of the calls.
 fn replay(alloc: Global, done: &[Done], name: &[u8]) -> Result<Option<Vec<u8>>, AllocError>
     ensures { IfOk result (λ held. option_map (λ v. v.items) held ≡ option_map (λ f. f.bytes) (file none (steps_of done.now) name.now)) }

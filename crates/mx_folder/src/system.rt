@@ -114,6 +114,8 @@ fn flush_part<F: OpenFile>(open: &mut Option<OpenPart<F>>, part: &str) -> Result
 }
 
 // By rename(2), and not link(2), which refuses a name that is taken, and which some file systems don't have.
+// rule file-links-and-folders, unproved: A link under the name is replaced and not followed; a folder under the name makes the call fail
+// (`AlreadyThere`).
 fn place_part<R: Files>(
     alloc: Global,
     files: &R,

@@ -34,12 +34,16 @@ IsUndone _ = Unit {0}
 abbrev pub is_connecting : List Answer → Bool
 is_connecting history = list_all is_unmade history
 
+-- rule gate-dialling: The addresses of a name are dialled in order, the IPv4 ones first, each once at most: the next where one is refused,
+-- and none once the connection is made or was asked to read or to write.
+--
 -- So many addresses more were dialled, from the first on of those that were left.
 pub record DialsNext (was left is rest : List SocketAddr) : Type 0 where
   pub next : List SocketAddr
   pub dialled : is ≡ was ++ next
   pub taken : left ≡ next ++ rest
 
+-- rule gate-dialling
 -- nothing was dialled; or nothing but whether the connection stands had been asked, and it doesn't stand yet
 abbrev pub MayDial : DialState → DialState → Connect → Type 0
 MayDial old new answer = (new.dialled ≡ old.dialled) ⊎ ((is_connecting old.history ≡ true) × IsUndone answer)

@@ -40,6 +40,8 @@ pub record IsFound (was is : List (List SocketAddr)) (asked : ℕ) (address : So
   pub more : is ≡ was ++ found ∷ []
   pub choice : IsChosenAt found asked address
 
+-- rule gate-spelled-address: An address in the URL is opened as it is, without the brackets of IPv6, and isn't looked up.
+--
 -- The addresses of an endpoint in the order in which they are dialled, where `was` is what the lookups before found, a list of addresses
 -- each, and `is` what all have since.
 pub data AreAddressesOf (endpoint : HostAndPort) (addresses : List SocketAddr) (was is : List (List SocketAddr)) : Type 0 where
@@ -56,6 +58,9 @@ pub data IsAddressOf (endpoint : HostAndPort) (address : SocketAddr) (was is : L
   -- where it spells none, the one that is chosen of what one lookup found, at the port
   looked_up : SpellsNone (unbracketed endpoint.host) → IsFound was is endpoint.port address → IsAddressOf endpoint address was is
 
+-- rule gate-first-address: What is dialled first for a link is at the endpoint's port: what its host spells, or the first IPv4 address that
+-- its lookup found, else the first.
+--
 -- a gate has dialled one address more, which is the endpoint's
 pub record Dials (endpoint : HostAndPort) (old new : SocketGateState) : Type 0 where
   pub address : SocketAddr

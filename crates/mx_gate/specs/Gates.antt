@@ -25,6 +25,8 @@ moment_after latest nanoseconds = max latest (min (nanoseconds / 1_000_000) (2 ^
 abbrev pub next_token : ℕ → ℕ
 next_token token = min (token + 1) (2 ^ 64 - 1)
 
+-- rule gate-stop: A turn answers `Stop` while the flag is set. It waits at most as long as it is asked to, which is left to the system.
+--
 -- a gate stops where its flag is set
 abbrev pub turn_of : Bool → Turn
 turn_of true = turn.Stop

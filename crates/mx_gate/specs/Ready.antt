@@ -29,6 +29,8 @@ abbrev pub waits : (Answer → Bool) → Bool → List Answer → Bool
 waits kind so [] = so
 waits kind so (answer ∷ rest) = waits kind (if kind answer then is_blocked answer else so) rest
 
+-- rule gate-waiting-link: A link that would have waited makes no system call before its gate was told something new of its connection.
+--
 -- The link answered so; or it wasn't asked, as the last it answered to this was that it would have waited, and so is this answer.
 abbrev pub IsAnswered : (Answer → Bool) → List Answer → List Answer → Answer → Type 0
 IsAnswered kind before after answer =
@@ -40,12 +42,16 @@ abbrev pub is_short : Answer → ℕ → Bool
 is_short (answers.Gave bytes) asked = nat_lt (length bytes) asked
 is_short _ asked = false
 
+-- rule gate-short-read
 -- whether the last read of these calls, by what each answered and was asked for, was short; so if there is none
 abbrev pub drained : Bool → List Answer → List ℕ → Bool
 drained so [] asked = so
 drained so (answer ∷ rest) [] = so
 drained so (answer ∷ rest) (n ∷ more) = drained (if is_read answer then is_short answer n else so) rest more
 
+-- rule gate-short-read: After a read that gave fewer bytes than it was asked for, a link isn't asked to read before its gate was told
+-- something new of its connection, but for one byte, or where the end was reported.
+--
 -- A read was answered so; or it wasn't asked, as the last read was short, and so is this answer. A read of one byte is asked.
 abbrev pub IsReadAnswered : List Answer → List ℕ → List Answer → Answer → ℕ → Type 0
 IsReadAnswered before asked after answer len =

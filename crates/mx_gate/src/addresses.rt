@@ -54,6 +54,7 @@ fn look_up<R: Net + AllocGlobal>(
     Ok(addresses)
 }
 
+// rule gate-first-address
 // The address, at this port.
 fn set_port(mut address: SocketAddr, port: u16) -> SocketAddr
     ensures { IsAt port address result }
@@ -124,6 +125,7 @@ fn only(alloc: Global, address: SocketAddr) -> Result<Vec<SocketAddr>, Code>
     Ok(all)
 }
 
+// rule gate-spelled-address
 /// The addresses of an endpoint, at least one, in the order in which they are dialled. A host that spells an address has that one, and isn't
 /// looked up; of any other they are all that the lookup of its name gives, which are added to those found, the IPv4 ones first.
 ///

@@ -64,6 +64,7 @@ impl<D: Dial> Model for DialLink<D> {
     } };
 }
 
+// rule gate-dialling
 // Dials what is left, one address after another, until one isn't refused at once.
 fn dial_left<D: Dial>(
     dial: &mut D,
@@ -107,6 +108,7 @@ fn replace<D: Dial>(dial: &mut D, left: &mut VecDeque<SocketAddr>, link: &mut D:
     }
 }
 
+// rule gate-dialling
 // Asks whether the connection stands. Where it is refused and may give way to the next address, it does.
 #[tactic(auto, using(crate::proofs::DialLemmas::dials_none))]
 fn ask<D: Dial>(

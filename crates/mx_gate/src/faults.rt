@@ -14,6 +14,7 @@ fn is_file_limit(number: i32) -> bool
     number == 23 || number == 24
 }
 
+// rule gate-file-limit
 /// Whether a socket can't be had since too many files are open.
 pub fn meets_file_limit(error: &io::Error) -> bool
     ensures { IsTrue result ↔ MeetsFileLimit error.now }
@@ -24,6 +25,7 @@ pub fn meets_file_limit(error: &io::Error) -> bool
     }
 }
 
+// rule gate-codes
 /// The code of a socket, or of a poll of sockets, that can't be had: `OutOfMemory` where memory was wanting, else
 /// `CouldntConnect`.
 pub fn connect_code(error: &io::Error) -> Code

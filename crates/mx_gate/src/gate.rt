@@ -14,6 +14,7 @@ pub enum Turn {
     Stop,
 }
 
+// rule gate-log
 /// What a worker needs of the outside: a clock, links, and a place to wait.
 pub trait Gate {
     type Link: Link;

@@ -60,6 +60,7 @@ impl<L: Link> Model for ReadyLink<L> {
 }
 
 // Urgent data of TCP, which no HTTP peer sends, end a read early, too: the bytes behind them wait until more is reported.
+// rule gate-short-read
 // Whether this read has left nothing that was told already. The end may have been told with the last bytes, and isn't told again: a link
 // whose end was told is asked until it gives it.
 fn has_drained(read: Read, buffer: &[u8], is_ended: bool) -> bool
@@ -131,6 +132,7 @@ impl<L: Link> ReadyLink<L> {
         }
     }
 
+    // rule gate-waiting-link
     // Whether a read of so many bytes is made. One byte is always asked for where the last read was short: that probes a link which lay idle.
     fn is_to_read(&self, len: usize) -> bool
         ensures { result ≡ not (self.now.waits_to_read || (self.now.is_drained && nat_lt 1 len)) }
@@ -149,6 +151,7 @@ impl<L: Link> Link for ReadyLink<L> {
 
     ghost token_of = { λ link. L.token_of link.link };
 
+    // rule gate-waiting-link
     #[tactic(auto, using(crate::proofs::ReadyLemmas::telling_both, crate::proofs::ReadyLemmas::telling_one, crate::proofs::ReadyLemmas::faults_both, crate::proofs::ReadyLemmas::faults_one, crate::proofs::ReadyLemmas::waits_last, crate::proofs::ReadyLemmas::calls_more, crate::proofs::ReadyLemmas::drained_past_connect))]
     fn try_connect(&mut self) -> Connect
         ensures answered { IsAnswered is_connect (L.history self.old.link) (L.history self.new.link) (connect_answer result) }
@@ -169,6 +172,7 @@ impl<L: Link> Link for ReadyLink<L> {
         connect
     }
 
+    // rule gate-short-read
     #[tactic(auto, using(crate::proofs::ReadyLemmas::telling_both, crate::proofs::ReadyLemmas::telling_one, crate::proofs::ReadyLemmas::faults_both, crate::proofs::ReadyLemmas::faults_one, crate::proofs::ReadyLemmas::waits_last, crate::proofs::ReadyLemmas::calls_more, crate::proofs::ReadyLemmas::drained_by_read))]
     fn try_read(&mut self, buffer: &mut [u8]) -> Read
         requires { 0 < length buffer.old }
@@ -196,6 +200,7 @@ impl<L: Link> Link for ReadyLink<L> {
         read
     }
 
+    // rule gate-waiting-link
     #[tactic(auto, using(crate::proofs::ReadyLemmas::telling_both, crate::proofs::ReadyLemmas::telling_one, crate::proofs::ReadyLemmas::faults_both, crate::proofs::ReadyLemmas::faults_one, crate::proofs::ReadyLemmas::waits_last, crate::proofs::ReadyLemmas::calls_more, crate::proofs::ReadyLemmas::drained_past_write))]
     fn try_write(&mut self, bytes: &[u8]) -> Write
         requires { 0 < length bytes.now }

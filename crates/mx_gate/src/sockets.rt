@@ -201,6 +201,7 @@ struct News {
     may_write: bool,
 }
 
+// rule gate-waiting-writer, unproved: A link that waits to write asks again once there is room, or an error.
 fn news_of(event: &Event) -> News
     ensures reads { result.may_read ≡ (is_readable event.now || (is_read_closed event.now || is_error event.now)) }
     ensures ends { result.has_ended ≡ (is_read_closed event.now || is_error event.now) }
@@ -251,6 +252,7 @@ pub fn number_of<R: Net>(answer: &Result<SocketLink<'_, R>, Code>) -> Result<u64
     }
 }
 
+// rule gate-stop
 fn turn_of(is_stopped: bool) -> Turn
     ensures { result ≡ turn_of is_stopped }
 {
@@ -381,6 +383,7 @@ impl<'r, R: Net + Clock + AllocGlobal> SocketGate<'r, R> {
         }
     }
 
+    // rule gate-first-address
     // Begins to connect to the addresses of the endpoint.
     fn begin(&mut self, endpoint: &Endpoint) -> Result<SocketLink<'r, R>, Code>
         ensures code { IfErr result (λ code. is_link_code code ≡ true) }
@@ -452,6 +455,7 @@ impl<'r, R: Net + Clock + AllocGlobal> SocketGate<'r, R> {
         self.latest
     }
 
+    // rule gate-stop
     // Waits, and counts what that told. A wait that fails ends at once, as one that a signal ends, and tells nothing.
     fn look(&mut self, wait_ms: u32)
         ensures { self.new ≡ self.old }
@@ -533,6 +537,7 @@ impl<'r, R: Net + Clock + AllocGlobal> Gate for SocketGate<'r, R> {
         answer
     }
 
+    // rule gate-no-wait, unproved: A turn of no wait asks the system once a millisecond, and where a link was opened since.
     /// Waits until a connection is ready or the bell is rung. What is told of connections lets their links be asked again. A turn of
     /// no wait looks once a millisecond of the clock, so that it costs a worker that has work at hand no system call each time; and where a link
     /// was opened since the last, so that a worker that begins many connections finds those that have become free meanwhile.

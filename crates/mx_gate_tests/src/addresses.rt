@@ -42,6 +42,7 @@ static HOSTS: [(&'static str, &'static str); 11] = [
     ("", ""),
 ];
 
+// rule gate-codes
 /// An error, and the codes of a lookup and of a connection that fail so.
 static CODES: [(&'static str, ErrorKind, Code, Code); 2] = [
     (
@@ -58,6 +59,7 @@ static CODES: [(&'static str, ErrorKind, Code, Code); 2] = [
     ),
 ];
 
+// rule gate-file-limit
 /// Errors of the system, and whether each says that too many files are open.
 static FILE_LIMITS: [(&'static str, i32, bool); 4] = [
     ("ENFILE", 23, true),
@@ -113,6 +115,7 @@ fn addresses_and_codes(rt: HostRuntime) -> Result<(), Fail> {
     let pair = [v4([192, 0, 2, 1], 0), v6(2, 0)];
     let unknown = Err(Code::CouldntResolveHost);
     let answers = [
+        // rule gate-first-address
         has(alloc, name, Ok(&mixed), Ok(&sorted))?,
         has(alloc, name, Ok(&[v6(1, 0)]), Ok(&[v6(1, 8080)]))?,
         has(
@@ -121,6 +124,7 @@ fn addresses_and_codes(rt: HostRuntime) -> Result<(), Fail> {
             Ok(&pair),
             Ok(&[v4([192, 0, 2, 1], 8080), v6(2, 8080)]),
         )?,
+        // rule gate-codes
         has(alloc, name, Ok(&[]), unknown)?,
         has(alloc, name, Err(ErrorKind::NotFound), unknown)?,
         has(
@@ -129,6 +133,7 @@ fn addresses_and_codes(rt: HostRuntime) -> Result<(), Fail> {
             Err(ErrorKind::OutOfMemory),
             Err(Code::OutOfMemory),
         )?,
+        // rule gate-spelled-address
         // an address is not looked up
         has(
             alloc,

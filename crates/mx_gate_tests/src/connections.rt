@@ -75,6 +75,7 @@ const FAILS: Row = Row {
 
 static ROWS: [Row; 7] = [
     SENDS,
+    // rule gate-dialling
     Row {
         name: "a_host_is_reached_at_its_second_address",
         host: "two.test",

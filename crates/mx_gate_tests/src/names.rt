@@ -82,6 +82,10 @@ struct Row {
 }
 
 static ROWS: [Row; 4] = [
+    // rule name-one-lookup
+    // rule name-own-answer
+    // rule name-kept-60-seconds
+    // rule name-ipv4-first
     Row {
         name: "addresses_are_kept_for_a_minute",
         steps: &[
@@ -99,6 +103,7 @@ static ROWS: [Row; 4] = [
             Step::Begin("both", 60_100, 60_100, true),
         ],
     },
+    // rule name-failures
     Row {
         name: "a_failure_is_told_to_those_who_waited",
         steps: &[
@@ -128,6 +133,7 @@ static ROWS: [Row; 4] = [
             Step::Begin("192.0.2.1", 0, 0, false),
         ],
     },
+    // rule name-lookup-count
     Row {
         name: "at_most_64_lookups_are_under_way",
         steps: &[

@@ -290,6 +290,7 @@ fn is_met<
 }
 
 static ROWS: [(&'static str, Peer); 5] = [
+    // rule gate-waiting-link
     // bytes that came are not read before a turn has told of them
     (
         "a_link_that_waits_is_not_asked_before_a_turn",
@@ -300,13 +301,16 @@ static ROWS: [(&'static str, Peer); 5] = [
         "a_link_that_gave_all_is_not_asked_before_a_turn",
         Peer::SendsTwice,
     ),
+    // rule gate-short-read
     // the end that was told with the last bytes is told no second time, so the link is asked for it
     (
         "the_end_in_one_edge_with_bytes_is_seen",
         Peer::SendsAndCloses,
     ),
+    // rule gate-waiting-writer
     // what its writes said that they took, the short ones too, is what its peer reads
     ("a_writer_is_told_of_room", Peer::Reads),
+    // rule gate-waiting-writer
     ("a_writer_is_told_of_an_error", Peer::Resets),
 ];
 

@@ -40,6 +40,7 @@ pub(crate) struct Row {
 }
 
 pub(crate) static ROWS: [Row; 5] = [
+    // rule gate-waiting-link
     Row {
         name: "a_link_that_waits_to_read_is_asked_once",
         reads: &[
@@ -93,6 +94,7 @@ pub(crate) static ROWS: [Row; 5] = [
             Step::Failures(0),
         ],
     },
+    // rule gate-short-read
     Row {
         name: "a_link_that_gave_less_than_it_was_asked_for_is_not_asked",
         reads: &[
@@ -117,6 +119,7 @@ pub(crate) static ROWS: [Row; 5] = [
             Step::Failures(0),
         ],
     },
+    // rule gate-short-read
     Row {
         name: "a_link_whose_end_was_told_is_asked_until_it_gives_it",
         reads: &[

@@ -104,6 +104,8 @@ fn first_wrong_of_new<
     wrong
 }
 
+// rule name-spelled-address
+// rule name-hanging-lookups
 #[test]
 fn lookups_that_hang_delay_no_other(rt: HostRuntime) -> Result<(), Fail> {
     let seen = Seen::new(rt.alloc())?;

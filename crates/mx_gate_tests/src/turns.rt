@@ -122,7 +122,9 @@ pub(crate) fn takes<
 static ROWS: [(&'static str, Turns); 4] = [
     ("the_bell_ends_a_wait", Turns::RungLater),
     ("a_ring_ends_the_next_wait", Turns::RungBefore),
+    // rule gate-stop
     ("a_wait_takes_its_time", Turns::Times),
+    // rule gate-stop
     ("the_flag_stops_turns_while_it_is_set", Turns::Flag),
 ];
 

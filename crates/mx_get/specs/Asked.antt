@@ -36,7 +36,8 @@ IsEnd (Refused _) = Unit {0}
 IsEnd (Ended outcome) = IsOutcome outcome × (outcome.code ≡ code.Ok) × HasContent outcome.last
 IsEnd (Failed outcome) = IsOutcome outcome × (outcome.code ≢ code.Ok)
 
--- One end for each URL, in their order: the code of its refusal, or what a transfer of its request ended with, with its truth.
+-- rule get-ends: What `get` prints of a URL is the code of its refusal, or what a transfer of its request ended with, with its truth: one
+-- end for each URL, in their order.
 pub record AreEndsOf (timeout_ms max_redirects : ℕ) (urls : List (List ℕ)) (ends : List Fetched) : Type 0 where
   pub asked : map asked_of ends ≡ map (asked_for timeout_ms max_redirects) urls
   pub outcomes : All IsEnd ends

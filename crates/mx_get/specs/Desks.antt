@@ -33,6 +33,7 @@ abbrev pub IsToldAt : List Origin → Place → Type 0
 IsToldAt ties (Awaited addition) = IsTold ties addition
 IsToldAt ties (Known _) = Unit {0}
 
+-- rule get-width
 -- The seat was told of the additions whose ends are awaited, and so many are, which are no more than may be.
 pub record IsDesk {Q : Type 0} (desk : DeskView Q) (count : ℕ) : Type 0 where
   pub told : All (IsToldAt desk.seat.ties) desk.places

@@ -233,6 +233,7 @@ impl<'m, L: Link> Desk<'m, L> {
         Ok(())
     }
 
+    // rule get-width
     // Adds the URLs, each once there is room for it.
     fn add_all<R: Wait + AllocGlobal>(
         &mut self,
@@ -271,6 +272,7 @@ impl<'m, L: Link> Desk<'m, L> {
         Ok(())
     }
 
+    // rule get-ends
     /// Adds the URLs, each once fewer ends are awaited than may be at a time, and waits for all messages.
     pub fn collect<R: Wait + AllocGlobal>(
         self,

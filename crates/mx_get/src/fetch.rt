@@ -242,6 +242,7 @@ fn fetch_from<R: Runtime + Net<Listener = TcpListener, Stream = TcpStream>>(
     fetched
 }
 
+// rule get-url-count: `get` takes 1 to 256 URLs (clauses `many` and `few`).
 /// Fetches the URLs by GET. What is answered is what each ended with, in their order: the code of its refusal, or what a
 /// transfer of its request ended with. It may wait.
 ///

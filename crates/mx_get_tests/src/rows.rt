@@ -25,6 +25,8 @@ struct Row {
 }
 
 static ROWS: [Row; 6] = [
+    // rule turn-links
+    // rule get-ends
     Row {
         name: "both bodies in the order of the URLs, over one connection",
         max_connects: 4,
@@ -55,6 +57,8 @@ static ROWS: [Row; 6] = [
         status: 18,
         connections: None,
     },
+    // rule redirect-outcome
+    // rule redirect-idle-link
     Row {
         name: "a redirect is followed, and one that leads to itself ends with 47 past the limit, over one connection",
         max_connects: 4,

@@ -12,6 +12,7 @@ const PATHS: &[u8] = b"abcdefghijklmnopqrst";
 /// Workers, how many transfers are added at a time, and how many requests are open at a time, at most.
 type Width = (u8, u16, u64);
 
+// rule get-width
 /// As many are open as the width, and never more; with one worker one URL is fetched after another, whatever the width.
 static WIDTHS: [Width; 8] = [
     (2, 1, 1),

@@ -11,9 +11,8 @@ use Rattle.mx_head.specs.Limits.{most_head_bytes, most_fields}
 -- A table of causes: `Meets p c` says that the bytes p meet the cause c, `code_of` is its code, and
 -- `line_of` its line in the table.
 
--- The code is the fault of the input: that of the shortest prefix that meets a cause, and of the upper
--- line's where it meets two. So some prefix meets a cause of that code, and a prefix that meets one of
--- another code is longer, or as long and the cause in a lower line.
+-- rule head-first-cause: The code is the fault of the shortest prefix of the input that meets a cause, and where that meets two, of the
+-- upper line of the table. So a prefix that meets a cause of another code is longer, or as long and the cause in a lower line.
 pub record ComesFirst
     {Cause : Type 0} (code_of : Cause → Code) (line_of : Cause → ℕ)
     (Meets : List ℕ → Cause → Type 0) (input : List ℕ) (code : Code) : Type 0 where
@@ -54,12 +53,17 @@ abbrev pub HasAllFields : List ℕ → Type 0
 HasAllFields s =
     (h : ResponseHead) × ReadsResponse (s ++ crlf_bytes) h [] × (length h.fields ≡ most_fields)
 
+-- rule head-field-count: A head has at most 128 field lines. A byte other than CR and LF behind the 128th decides: 100, though the line
+-- isn't whole.
+--
 -- behind 128 whole field lines stands a byte that doesn't end the section
 abbrev pub HasManyFields : List ℕ → Type 0
 HasManyFields r =
     (s : List ℕ) × (b : ℕ) × (r ≡ s ++ b ∷ []) × (b ≢ carriage_return) × (b ≢ line_feed)
     × HasAllFields s
 
+-- rule head-size: A head has at most 65,536 bytes, its empty line included. Where these don't end a head, the code is 100.
+--
 -- all the bytes that a head may have are there, and no head
 abbrev pub IsLongHead : List ℕ → Type 0
 IsLongHead r = (length r ≡ most_head_bytes) × HasNoHead r

@@ -26,7 +26,7 @@ asks_head_alone method.Options = false
 abbrev pub is_bodiless : ℕ → Bool
 is_bodiless status = (status == 204) || (status == 304)
 
--- no body follows, whatever the fields say: an answer to HEAD, 204 and 304
+-- rule head-no-body: The response to a HEAD, and one with status 204 or 304, has no body, whatever its fields say.
 abbrev pub has_no_body : Method → ℕ → Bool
 has_no_body m status = asks_head_alone m || is_bodiless status
 
@@ -49,7 +49,9 @@ is_number e = nat_lt 0 (length e) && list_all is_ascii_digit e
 abbrev pub is_number_of : ℕ → List ℕ → Bool
 is_number_of n e = is_number e && (digits_value 10 e == n)
 
--- every element is a number, and all are the same one; a number past 64 bits counts as the greatest
+-- rule head-content-length: Content-Length may come several times, and as a list, where all elements are one number; an empty element is no
+-- number: 8.
+-- rule head-huge-length: A length past 64 bits counts as the greatest, so it is too large (63) and not bad.
 abbrev pub by_length : List (List ℕ) → Result Framing Code
 by_length [] = Ok Close
 by_length (e ∷ es) =
@@ -61,6 +63,8 @@ by_length (e ∷ es) =
 abbrev pub chunked_framing : Result Framing Code
 chunked_framing = Ok Chunked
 
+-- rule head-transfer-coding: Transfer-Encoding wins over Content-Length. Any but exactly one `chunked` is 61; in HTTP/1.0 it is 8.
+--
 -- the table of section 6.3, from the version and the elements of Transfer-Encoding and Content-Length
 abbrev pub by_fields : ℕ → List (List ℕ) → List (List ℕ) → Result Framing Code
 by_fields minor [] lengths = by_length lengths
@@ -85,6 +89,9 @@ abbrev pub is_there : List (List ℕ) → Bool
 is_there [] = false
 is_there (e ∷ es) = true
 
+-- rule head-connection: A connection is kept unless `close` is said in any letter case; in HTTP/1.0 only with `keep-alive`; never with both
+-- Transfer-Encoding and Content-Length, nor with Transfer-Encoding in HTTP/1.0.
+--
 -- the connection may serve another request after the response (RFC 9112, sections 6.1 and 9.3)
 unfoldable pub keeps_of : ResponseHead → Bool
 keeps_of h =

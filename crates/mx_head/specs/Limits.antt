@@ -14,6 +14,7 @@ most_fields = 128
 abbrev pub most_interim : ℕ
 most_interim = 16
 
--- the bytes of a whole response: all its heads, and its body as it is framed
+-- rule body-size: A response has at most 67,108,864 bytes, heads and framing included. More bytes that decide nothing are 63, whether they
+-- have ended or not.
 abbrev pub most_bytes : ℕ
 most_bytes = 67108864

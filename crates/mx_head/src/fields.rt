@@ -124,6 +124,7 @@ fn is_number(digits: &[u8]) -> bool
     !digits.is_empty() && all
 }
 
+// rule head-huge-length
 /// The number that the digits write, or the greatest if it is past 64 bits.
 fn value_of(digits: &[u8]) -> u64
     requires { IsTrue (is_number digits.now) }
@@ -145,6 +146,7 @@ fn is_number_of(first: &[u8], digits: &[u8]) -> bool
     is_number(digits) && strip_zeros(first) == strip_zeros(digits)
 }
 
+// rule head-content-length
 fn all_numbers_of(value: &[u8], first: &[u8]) -> bool
     requires { IsTrue (is_number first.now) }
     ensures { result ≡ list_all (is_number_of (digits_value 10 first.now)) (elements_of value.now) }

@@ -1,5 +1,6 @@
 //! The limits of one head.
 
+// rule head-size
 /// The most bytes of a head, its empty line among them.
 pub const MOST_HEAD_BYTES: usize = 65536;
 

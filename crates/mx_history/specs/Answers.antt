@@ -52,14 +52,19 @@ look_of t j =
     else if has_ticket t (paused j) then look.Paused
     else look.Go)
 
+-- rule core-tickets: Tickets only rise, over history that was retired, too; the greatest is 4,294,967,294, and none is given after it.
+--
 -- the next addition's ticket: greater than each that was given, in older history too
 abbrev pub next_ticket : Opening → List Event → Ticket
 next_ticket opening j = record { 0 = max opening.first (beyond j) }
 
+-- rule core-tickets
 -- the greatest ticket, 4,294,967,294, was given
 abbrev pub are_spent : Opening → List Event → Bool
 are_spent opening j = nat_lt greatest_ticket (next_ticket opening j).0
 
+-- rule core-add-refusals: `add` refuses in this order: the handle is added already; 256 handles are added; no ticket is left; the history
+-- has no room for the addition and the three events that it may still bring; the log is out of memory.
 abbrev pub add_answer : Opening → List Event → HandleId → Answer
 add_answer opening j h =
     elim (ticket_of h j) [
@@ -106,6 +111,7 @@ read_answer j [] = only reply.Empty
 read_answer j (m ∷ ms) =
     (reply.Message (unwrap_or (handle_of m.ticket j) (record { 0 = 0 })) m.ticket m.code m.size (length ms), Some (what.Read m.ticket))
 
+-- rule core-stale-completion: A completion is recorded by ticket: one of a removed addition is stale, and changes nothing.
 abbrev pub answer : Opening → List Event → Call → Answer
 answer opening j (call.Add h) = add_answer opening j h
 answer opening j (call.Remove h) = remove_answer j h
@@ -121,10 +127,13 @@ answer opening j (call.Finish t code n) =
     (if has_ticket t (running j) then (reply.Recorded, Some (what.Done t code n)) else only reply.Stale)
 answer opening j (call.Look t) = only (reply.Look (look_of t j))
 
--- a poll with this mark may return
+-- rule core-poll: A poll may return where a wakeup or a completion is in the journal behind its mark. Its caller then moves the mark to the
+-- journal's end, so that several wakeups count as one.
 abbrev pub is_ready : ℕ → List Event → Bool
 is_ready mark j = occurs wakes (drop mark j)
 
+-- rule multi-out-of-memory: A call that is refused memory makes no event. Made again with memory, it answers what it would have answered.
+--
 -- The call was answered after j, and left k: with its event, made by the caller; or with no event; or an event had no memory.
 abbrev pub Answers : Opening → Who → Call → List Event → Reply → List Event → Type 0
 Answers opening who call j reply.OutOfMemory k = IsSome (answer opening j call).1 × (k ≡ j)

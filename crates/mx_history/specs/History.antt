@@ -83,10 +83,14 @@ standing gives takes [] = []
 standing gives takes (e ∷ later) =
     filter (λ x. not (occurs (takes x) later)) (option_to_list (gives e.what)) ++ standing gives takes later
 
+-- rule core-done-stays-added: A handle that is done stays added until it is removed; a removal drops its unread message.
+--
 -- the additions with no later removal
 abbrev pub added : List Event → List Addition
 added j = standing addition_of (λ a. removes a.ticket) j
 
+-- rule core-messages: Messages come first in, first out, at most one for an addition.
+--
 -- the messages with no later reading or removal
 abbrev pub waiting : List Event → List Message
 waiting j = standing message_of (λ m e. reads m.ticket e || removes m.ticket e) j
@@ -173,6 +177,7 @@ due_of t j = missing (ends t) j + missing (reads t) j + missing (removes t) j
 abbrev pub due : List Event → ℕ
 due j = sum_by (λ a. due_of a.ticket j) (added j)
 
+-- rule core-room: Pauses and wakeups take no place that a completion needs.
 abbrev pub has_room : ℕ → List Event → ℕ → Bool
 has_room history j k = nat_le (length j + due j + k) history
 
@@ -244,6 +249,8 @@ is_of_such p e = elim (ticket_in e) [ None ↦ false | Some t ↦ p t ]
 abbrev pub only_of : (Ticket → Bool) → List Event → List Event
 only_of p j = filter (λ e. is_of_such p e.what) j
 
+-- rule core-retire-keeps: Retiring keeps the events of the handles that are added, their messages with them, and no others.
+--
 -- what retiring keeps: the events of the tickets that are added, in order
 abbrev pub retire : List Event → List Event
 retire j = only_of (λ t. has_ticket t (map (λ a. a.ticket) (added j))) j

@@ -17,6 +17,8 @@ has_slot n slots = list_any (λ s. s.1 == n) slots
 unfoldable pub free_from : ℕ → ℕ → List (Ticket × ℕ) → Option ℕ
 free_from start n slots = find (λ k. not (has_slot k slots)) (range_with_len start n)
 
+-- rule core-slots: An addition takes the least slot of 0 to 255 that no added handle has.
+--
 -- the lowest free slot; where fewer than 256 tickets have slots, there is one
 unfoldable pub lowest_free : List (Ticket × ℕ) → ℕ
 lowest_free slots = unwrap_or (free_from 0 most_handles slots) 255

@@ -31,6 +31,8 @@ abbrev pub count_of : Who → Counts → ℕ
 count_of (maker.Seat n) c = slice_index c.seats n
 count_of (maker.Worker n) c = slice_index c.workers n
 
+-- rule board-published: The published version is the table of the published events; after a publish these are all events.
+--
 -- the table is that of the events, which are a legal history
 pub record IsTableOf (j : List Event) (t : TableView) : Type 0 where
   pub legal : is_legal j ≡ true

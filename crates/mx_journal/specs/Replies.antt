@@ -110,6 +110,9 @@ abbrev pub in_place : {Q : Type 0} → Ticket → Q → List (Ticket × Q) → L
 in_place t work [] = (t, work) ∷ []
 in_place t work (x ∷ queue) = (if nat_lt x.0.0 t.0 then x ∷ in_place t work queue else (t, work) ∷ x ∷ queue)
 
+-- rule core-requeued-work: Work that a worker requeues goes to the place of its ticket in the queue, and needs no memory for that; that of
+-- a removed or ended addition is stale.
+--
 -- the queue after work was given back
 abbrev pub queue_given : {Q : Type 0} → GiveBackReply Q → List (Ticket × Q) → Ticket → Q → List (Ticket × Q)
 queue_given giving.Back queue t work = in_place t work queue
@@ -150,6 +153,8 @@ abbrev pub answer_with_room : Bool → What → Answer
 answer_with_room true event = (reply.Changed, Some event)
 answer_with_room false event = only reply.HistoryFull
 
+-- rule core-retire-claims: Nothing is retired while a claim is out.
+--
 -- no claim was out, the core is retired, and so many events are kept; or a claim is out, and nothing changes
 abbrev pub IsRetiring : {Q O : Type 0} → Core Q O → RetireReply → Core Q O → Type 0
 IsRetiring old (retiring.Retired n) new = (old.out ≡ 0) × (new ≡ retired old) × (n ≡ length new.journal)

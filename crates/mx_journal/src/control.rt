@@ -117,6 +117,7 @@ impl<Q: Work + Drop, O: Ending + Drop> Control<Q, O> {
         let _ = &self.table;
     }
 
+    // rule core-add-refusals
     /// Adds a handle under the next ticket, and puts its work at the end of the queue (curl_multi_add_handle(3)). A handle
     /// that is done stays added until it is removed.
     ///
@@ -165,6 +166,7 @@ impl<Q: Work + Drop, O: Ending + Drop> Control<Q, O> {
         AddReply::Added(ticket)
     }
 
+    // rule core-done-stays-added
     /// Removes a handle, whether it runs or is done (curl_multi_remove_handle(3)). Its queued work and its unread ending are
     /// dropped; what still runs stays in the queue, and the endings whose messages still wait stay. It always finds
     /// room.
@@ -266,6 +268,7 @@ impl<Q: Work + Drop, O: Ending + Drop> Control<Q, O> {
         self.append_pausing(log, Event { who, what })
     }
 
+    // rule core-tickets
     // The number of the next ticket: one more than the greatest that was given, in older history too.
     fn next(&self) -> u32
         ensures { result ≡ (next_ticket self.now.opening self.now.journal).0 }
@@ -273,6 +276,7 @@ impl<Q: Work + Drop, O: Ending + Drop> Control<Q, O> {
         greater(u64::from(self.first), self.table.beyond()) as u32
     }
 
+    // rule core-room
     // Whether there is room for so many events beside those so far and those that are due.
     fn has_room(&self, more: u32) -> bool
         requires { more ≤ 4 }
@@ -281,6 +285,7 @@ impl<Q: Work + Drop, O: Ending + Drop> Control<Q, O> {
         self.journal.len() as u32 + self.table.due() + more <= self.history
     }
 
+    // rule core-room
     // Writes a pause or a resumption that may follow, where it has room: for each call whose answer that is.
     fn append_pausing<L: Log>(&mut self, log: &mut L, event: Event) -> PauseReply
         requires maker { is_maker event.who ≡ true }
@@ -339,6 +344,7 @@ impl<Q: Work + Drop, O: Ending + Drop> Control<Q, O> {
         }
     }
 
+    // rule core-messages
     // The addition whose message has waited longest. None where no message waits.
     fn oldest(&self) -> Option<Row>
         ensures none { IfNone result (self.now.endings ≡ []) }
@@ -378,6 +384,7 @@ impl<Q: Work + Drop, O: Ending + Drop> Control<Q, O> {
         WakeupReply::Ok
     }
 
+    // rule core-stale-completion
     /// Records the end of a claimed transfer: its message waits behind those that wait (curl_multi_info_read(3)). The claim
     /// is spent, and one claim less is out. It always finds room.
     ///
@@ -452,6 +459,7 @@ impl<Q: Work + Drop, O: Ending + Drop> Control<Q, O> {
         Some((claim, work))
     }
 
+    // rule core-requeued-work
     /// Puts claimed work back into the queue, to the place of its ticket; one claim less is out. It makes no event, and
     /// can't be refused for want of memory, since its place was kept.
     ///
@@ -491,6 +499,7 @@ impl<Q: Work + Drop, O: Ending + Drop> Control<Q, O> {
         self.runs(claim) && !has_ticket(&self.queue, claim.ticket())
     }
 
+    // rule core-stale-completion
     // Whether the claimed addition runs: its handle may have been removed, and added anew.
     fn runs(&self, claim: &Claim<Q>) -> bool
         ensures { result ≡ has_ticket claim.now.ticket (running self.now.journal) }
@@ -506,6 +515,7 @@ impl<Q: Work + Drop, O: Ending + Drop> Control<Q, O> {
         ensures { GiveBackUndoesClaim Q }
     {}
 
+    // rule core-poll
     /// Whether an event at or after the mark lets a poll return.
     pub fn poll_ready(&self, since: u32) -> bool
         ensures { result ≡ is_ready since self.now.journal }
@@ -596,6 +606,7 @@ impl<Q: Work + Drop, O: Ending + Drop> Control<Q, O> {
         self.out > 0
     }
 
+    // rule core-retire-claims
     /// Retires old history: of the journal it keeps the events of the tickets that are added, in order, and says how many they
     /// are. Handles, work and endings stay as they were, and so does the next ticket; makers' events are counted from there. It
     /// makes no event, and has no want of memory to answer.

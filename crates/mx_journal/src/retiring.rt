@@ -9,6 +9,7 @@ use mx_table::Table;
 use mx_types::{Event, OutOfMemory, What};
 use std::alloc::Global;
 
+// rule core-retire-keeps
 // Whether the event is of a ticket that has a row.
 fn stays(table: &Table, what: &What) -> bool
     ensures { result ≡ is_of_such (λ t. list_any (λ r. same_ticket t r.ticket) table.now.rows) what.now }
@@ -58,6 +59,7 @@ fn fill(table: &mut Table, journal: &[Event])
     }
 }
 
+// rule core-retire-keeps
 /// Keeps of a journal the events of the tickets that are added, and makes its table that of those.
 pub fn keep_the_added(history: u32, journal: &mut Vec<Event>, table: &mut Table)
     requires kept { HasRoomForDue history journal.old.items }

@@ -140,6 +140,7 @@ static ROWS: [Row; 21] = [
         4,
         Fact::Seven(State::Read(Ticket(0), Code::Ok)),
     ),
+    // rule core-slots
     (
         "the_lowest_slot_first",
         THREE,
@@ -182,6 +183,7 @@ fn first_wrong(alloc: Global) -> Result<Option<Wrong>, OutOfMemory> {
     Ok(None)
 }
 
+// rule core-slots
 /// The definitions as programs tell of each list what its row says.
 #[test]
 fn the_definitions_tell_histories(rt: HostRuntime) -> Result<(), Fail> {

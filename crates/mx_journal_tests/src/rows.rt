@@ -198,6 +198,7 @@ struct Row {
 }
 
 static ROWS: [Row; 18] = [
+    // rule core-requeued-work
     Row {
         name: "given_back_work_is_claimed_by_ticket",
         history: 64,
@@ -234,12 +235,14 @@ static ROWS: [Row; 18] = [
         first: 0,
         parts: &[ADDED, PAUSED, REMOVED, THREE_EVENTS, AGAIN],
     },
+    // rule core-stale-completion
     Row {
         name: "claimed_removed_and_ended",
         history: 64,
         first: 0,
         parts: &[ADDED, CLAIMED, REMOVED, STALE_END, TWO_EVENTS, AGAIN],
     },
+    // rule core-requeued-work
     Row {
         name: "claimed_removed_and_given_back",
         history: 64,
@@ -302,30 +305,36 @@ static ROWS: [Row; 18] = [
             AGAIN,
         ],
     },
+    // rule core-done-stays-added
     Row {
         name: "removed_when_done",
         history: 64,
         first: 0,
         parts: &[ADDED, CLAIMED, DONE, REMOVED, THREE_EVENTS, AGAIN],
     },
+    // rule core-done-stays-added
     Row {
         name: "removed_when_read",
         history: 64,
         first: 0,
         parts: &[ADDED, CLAIMED, DONE, READ, REMOVED, FOUR_EVENTS, AGAIN],
     },
+    // rule core-retire-keeps
     Row {
         name: "what_is_added_is_kept",
         history: 64,
         first: 0,
         parts: &[MIXED, SEEN, RETIRED, SEEN, BEHIND],
     },
+    // rule core-tickets
+    // rule core-retire-claims
     Row {
         name: "a_small_history_is_retired_and_filled_again",
         history: 8,
         first: 0,
         parts: &[SMALL],
     },
+    // rule core-tickets
     Row {
         name: "no_ticket_is_given_behind_the_greatest",
         history: 64,

@@ -63,6 +63,8 @@ given history = flat_map given_by history
 abbrev pub taken : List Answer → List ℕ
 taken history = flat_map taken_by history
 
+-- rule link-failures: Each fault, and nothing else, raises a link's count of failures.
+--
 -- how many calls failed
 abbrev pub faults : List Answer → ℕ
 faults history = count_by is_fault history

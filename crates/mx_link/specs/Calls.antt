@@ -27,6 +27,8 @@ write_answer (write.Bytes n) bytes = answers.Took (take n bytes)
 write_answer write.WouldBlock bytes = answers.WriteBlocked
 write_answer write.Fault bytes = answers.WriteFailed
 
+-- rule link-counts: A read gives, and a write takes, at least 1 byte and at most what the slice has room for.
+--
 -- a count of bytes read is at least 1 and at most the buffer's length
 abbrev pub IsReadWithin : Read → ℕ → Type 0
 IsReadWithin (read.Bytes n) len = (1 ≤ n) × (n ≤ len)

@@ -52,6 +52,8 @@ abbrev pub write_of : Result ℕ ErrorKind → Write
 write_of (Ok n) = if n == 0 then write.Fault else write.Bytes n
 write_of (Err e) = if is_wait e then write.WouldBlock else write.Fault
 
+-- rule exchange-connect: A connection that isn't there yet would block; one that fails is 7.
+--
 -- of the error that the socket holds (SO_ERROR), and of its peer, which it has once it is connected
 abbrev pub connect_of : {A : Type 0} → Result (Option ErrorKind) ErrorKind → Result A ErrorKind → Connect
 connect_of (Ok None) (Ok peer) = connect.Done
@@ -73,6 +75,8 @@ front_of (Err e) bytes = []
 abbrev pub read_call : Result ℕ ErrorKind → List ℕ → Called
 read_call count buffer = called.Read count (length buffer) (front_of count buffer)
 
+-- rule link-interrupted: A read or a write that is interrupted is made again at once, at most 64 times in a row.
+--
 -- The call was made, and again as long as it was interrupted, at most so many times. The last result counts; it is an interruption where
 -- the call was made again the most times.
 pub record IsSettled (called : Result ℕ ErrorKind → Called) (most : ℕ) (before after : List Called) (count : Result ℕ ErrorKind) : Type 0 where
@@ -81,10 +85,14 @@ pub record IsSettled (called : Result ℕ ErrorKind → Called) (most : ℕ) (be
   pub within : again ≤ most
   pub settled : is_interrupted count ≡ true → again ≡ most
 
+-- rule link-bytes: What a link over a stream is offered is offered to the stream, and the bytes that a read of the stream gave are those
+-- that the link gives.
+--
 -- A read of the stream that has left the buffer like this, and the answer is what its result means. What was interrupted gave nothing.
 abbrev pub IsReadBy : List Called → List Called → List ℕ → Read → Type 0
 IsReadBy before after buffer answer = (count : Result ℕ ErrorKind) × IsSettled (λ c. read_call c buffer) 64 before after count × (answer ≡ read_of count)
 
+-- rule link-bytes
 -- a write of these bytes
 abbrev pub IsWrittenBy : List Called → List Called → List ℕ → Write → Type 0
 IsWrittenBy before after bytes answer = (count : Result ℕ ErrorKind) × IsSettled (λ c. called.Write c bytes) 64 before after count × (answer ≡ write_of count)

@@ -129,6 +129,7 @@ impl Answers {
         }
     }
 
+    // rule link-failures
     pub fn note_connect(&mut self, connect: Connect)
         ensures { self.new ≡ with_answer self.old (connect_answer connect) 0 }
     {
@@ -139,6 +140,7 @@ impl Answers {
         }
     }
 
+    // rule link-failures
     pub fn note_read(&mut self, read: Read, buffer: &[u8])
         requires { IsReadWithin read (length buffer.now) }
         ensures { self.new ≡ with_answer self.old (read_answer read buffer.now) (length buffer.now) }
@@ -150,6 +152,7 @@ impl Answers {
         }
     }
 
+    // rule link-failures
     pub fn note_write(&mut self, write: Write, bytes: &[u8])
         requires { IsWriteWithin write (length bytes.now) }
         ensures { self.new ≡ with_answer self.old (write_answer write bytes.now) (length bytes.now) }

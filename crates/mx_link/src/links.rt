@@ -26,6 +26,7 @@ pub trait Link: Drop {
         ensures asked { asked self.new ≡ asked self.old ++ 0 ∷ [] }
         ensures token { token_of self.new ≡ token_of self.old };
 
+    // rule link-counts
     /// Reads what is there into the front of `buffer`, which isn't empty: at least one byte. Behind what was read
     /// the buffer may have changed.
     fn try_read(&mut self, buffer: &mut [u8]) -> Read
@@ -36,6 +37,7 @@ pub trait Link: Drop {
         ensures length { length buffer.new ≡ length buffer.old }
         ensures token { token_of self.new ≡ token_of self.old };
 
+    // rule link-counts
     /// Writes what there is room for of `bytes`, which aren't none: at least one byte.
     fn try_write(&mut self, bytes: &[u8]) -> Write
         requires { 0 < length bytes.now }

@@ -75,6 +75,7 @@ pub trait Stream: Drop {
 }
 
 // It isn't answered as `WouldBlock`: readiness is reported on edges, so the transfer might wait for an event that never comes.
+// rule link-interrupted
 /// How often in a row a call that was interrupted is made again. What is interrupted once more has failed.
 const MOST_AGAIN: u8 = 64;
 
@@ -84,6 +85,7 @@ fn is_wait(kind: ErrorKind) -> bool
     matches!(kind, ErrorKind::WouldBlock)
 }
 
+// rule link-interrupted
 // Reads, and at most `more` times again as long as the read is interrupted.
 fn read_until<S: Stream>(stream: &mut S, buffer: &mut [u8], more: u8) -> Result<usize, ErrorKind>
     ensures settled { IsSettled (λ c. read_call c buffer.new) more (S.results stream.old) (S.results stream.new) result }
@@ -96,6 +98,7 @@ fn read_until<S: Stream>(stream: &mut S, buffer: &mut [u8], more: u8) -> Result<
     }
 }
 
+// rule link-interrupted
 // Writes, and at most `more` times again as long as the write is interrupted.
 fn write_until<S: Stream>(stream: &mut S, bytes: &[u8], more: u8) -> Result<usize, ErrorKind>
     ensures settled { IsSettled (λ c. called.Write c bytes.now) more (S.results stream.old) (S.results stream.new) result }
@@ -129,6 +132,7 @@ fn write_of(count: Result<usize, ErrorKind>) -> Write
     }
 }
 
+// rule exchange-connect
 fn connect_of(error: Result<Option<ErrorKind>, ErrorKind>, peer: Result<(), ErrorKind>) -> Connect
     ensures { result ≡ connect_of error peer }
 {
@@ -192,6 +196,7 @@ impl<S: Stream> Link for StreamLink<S> {
         connect
     }
 
+    // rule link-bytes
     fn try_read(&mut self, buffer: &mut [u8]) -> Read
         requires { 0 < length buffer.old }
         ensures called { IsReadBy (S.results self.old.stream) (S.results self.new.stream) buffer.new result }
@@ -204,6 +209,7 @@ impl<S: Stream> Link for StreamLink<S> {
         read
     }
 
+    // rule link-bytes
     fn try_write(&mut self, bytes: &[u8]) -> Write
         requires { 0 < length bytes.now }
         ensures called { IsWrittenBy (S.results self.old.stream) (S.results self.new.stream) bytes.now result }

@@ -54,6 +54,7 @@ impl<L: Link> Links<L> {
         })
     }
 
+    // rule turn-links
     // The newest idle link of the endpoint, unless only a fresh one will do.
     fn take(&mut self, endpoint: &Endpoint, fresh: bool) -> Option<L>
         ensures { MatchOption result (HasNoIdle endpoint.now fresh self.old self.new) (λ link. TakesIdle endpoint.now fresh self.old link self.new) }
@@ -67,6 +68,7 @@ impl<L: Link> Links<L> {
         Some(link)
     }
 
+    // rule turn-links
     /// Hands a link to the transfer where it wants one: the newest idle one of its endpoint, unless only a fresh one will do, else one that
     /// the gate opens. Where that comes to nothing, the transfer is told why. The answer is whether the gate says that none can be opened yet:
     /// then it is given none.
@@ -92,6 +94,7 @@ impl<L: Link> Links<L> {
         false
     }
 
+    // rule redirect-idle-link
     /// Keeps the link that a hop of the transfer has left, where it may serve again. It is dropped where its endpoint can't be copied for
     /// want of memory; that it is dropped there alone no clause says.
     pub fn keep(&mut self, transfer: &mut Transfer<L>)

@@ -39,17 +39,21 @@ pub record Content : Type 0 where
 abbrev pub content : {Q O : Type 0} → EngineState Q O → Content
 content x = record { journal = x.core.journal; engine = record { book = x.book; opening = x.core.opening; ties = x.ties.book }; claimed = claimed x.core.journal x.core.queue }
 
--- what holds of everything that lies in the lock: its control state is sound, and the version that is published is that of its journal
+-- rule multi-lock: What lies in the lock is a sound control state, and the version that is published is that of its journal.
 pub record IsLocked {Q O : Type 0} (code : O → Code) (size : O → ℕ) (x : EngineState Q O) : Type 0 where
   pub sound : IsSound code size x.core.opening.history x.core.journal x.core.queue x.core.endings
   pub published : x.published ≡ x.core.journal
 
+-- rule multi-woken: A wake-up and a recorded end wake those that poll, and no other call does.
+--
 -- the answers of calls whose event lets a poll return: a wake-up, and an end that was recorded
 abbrev pub lets_polls_return : Reply → Bool
 lets_polls_return reply.Ok = true
 lets_polls_return reply.Recorded = true
 lets_polls_return _ = false
 
+-- rule multi-queue: While a seat has the lock, work leaves the queue only by a claim of that seat.
+--
 -- the second list has no ticket that the first hasn't
 abbrev pub HasNoOther : List Ticket → List Ticket → Type 0
 HasNoOther before after = (t : Ticket) → has_ticket t after ≡ true → has_ticket t before ≡ true

@@ -25,6 +25,8 @@ pub record Tie : Type 0 where
 abbrev pub tie : Ticket → Origin → Tie
 tie t origin = record { ticket = t; origin = origin }
 
+-- rule multi-origins: An addition has the request of its work, and so has the ending of its message, for every seat, whichever worker ended
+-- it.
 abbrev pub Has : List Origin → Tie → Type 0
 Has ties x = origin_of x.ticket ties ≡ Some x.origin
 
@@ -42,6 +44,8 @@ abbrev pub Tells : Option Tie → List Origin → Type 0
 Tells None ties = Unit {0}
 Tells (Some x) ties = Has ties x
 
+-- rule multi-claims: A claim is finished, or requeued, at the multi handle that made it, with an ending or work of its request.
+--
 -- a claim, with the list that has the tie of its addition
 pub record TiedClaimed : Type 0 where
   pub handle : HandleId
@@ -53,6 +57,7 @@ pub record TiedClaimed : Type 0 where
 abbrev pub tied : Claimed → Book → TiedClaimed
 tied c of = record { handle = c.handle; ticket = c.ticket; slot = c.slot; origin = c.origin; of = of }
 
+-- rule multi-origins
 -- The ties of a control state are the origins of its additions, and each ending that waits is of its ticket's.
 pub record IsTied {Q O : Type 0} (ending : O → Origin) (core : Core Q O) (ties : List Origin) : Type 0 where
   pub same : core.origins ≡ ties

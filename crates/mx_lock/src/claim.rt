@@ -10,6 +10,7 @@ use mx_types::{HandleId, Ticket, Work};
 use std::marker::Model;
 use std::snapshot::Snapshot;
 
+// rule multi-claims
 /// The right to finish or to give back one addition's work. The addition under its ticket is of its request: the list of ties that it
 /// names says so.
 #[derive(Drop)]

@@ -73,6 +73,7 @@ impl<Q: Work + Drop, O: Ending + Drop> Deed<Q, O> for Addition<Q> {
 
     ghost tie = { λ d r. tie_added r (Q.origin d.work) };
 
+    // rule multi-origins
     fn make<R: Wait>(self, rt: &R, who: Who, parts: &mut Parts<Q, O>) -> AddReply<Q> {
         parts.core.sound();
         let added = Snapshot::of(&self.work);
@@ -258,6 +259,7 @@ impl<Q: Work + Drop, O: Ending + Drop> Deed<Q, O> for Finishing<Q, O> {
     }
 }
 
+// rule multi-woken
 /// Whether a call with this answer lets polls return: a wake-up, or an end that was recorded.
 pub fn lets_polls_return(answer: &Reply) -> bool
     ensures { result ≡ lets_polls_return answer.now }

@@ -117,6 +117,7 @@ impl<Q: Work + Drop, O: Ending + Drop> Engine<Q, O> {
         Engine { parts }
     }
 
+    // rule multi-lock
     /// What holds of everything that lies in a lock, for contracts alone: the control state is sound, and the version that is
     /// published is that of its journal; there is a tie for each addition, and queued work and endings are of their tickets'
     /// additions.

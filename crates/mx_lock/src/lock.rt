@@ -175,6 +175,8 @@ impl<Q: Work + Drop, O: Ending + Drop> Lock<Q, O> {
         unreachable!()
     }
 
+    // rule multi-wrong-seat
+    // rule multi-queue
     /// Takes the engine for a reader, where the journal begins with what the reader has seen. Else the engine is put back
     /// as it was found, and what was found comes back, for contracts alone: its journal doesn't begin so.
     pub fn enter<R: Wait>(

@@ -93,6 +93,7 @@ impl<Q: Work + Drop, O: Ending + Drop> Taken<Q, O> {
         reader.catch_up(&mut self.engine.parts.log)
     }
 
+    // rule multi-least-ticket
     /// Takes the work of the lowest ticket in the queue.
     pub fn claim(&mut self) -> Option<(TiedClaim<Q>, Q)>
         ensures journal { (self.new.core.journal ≡ self.old.core.journal) × (self.new.core.opening ≡ self.old.core.opening) × (self.new.book ≡ self.old.book) }

@@ -26,6 +26,7 @@ impl<Q: Work> Plain<Snapshot<Q>, Origin, u64> for TiesAddition {
     ghost ask = { λ x. Q.origin x.value };
 }
 
+// rule multi-origins
 /// Puts in the tie of an addition, where there was one.
 pub(crate) fn tie_addition<Q: Work, R: Wait>(
     rt: &R,

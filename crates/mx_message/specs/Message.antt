@@ -66,7 +66,8 @@ pub record IsRead {Q : Type 0} (s t : SeatView Q OutcomeValue) (h : HandleId) (t
   pub body : o.code ≡ code.Ok → CarriesBody o
   pub of_addition : Has t.ties (tie ticket (request_origin o.request))
 
--- The headline, of one message:
+-- rule multi-next-message: The next message is a reading of the one legal history, of the request that was added under its ticket, and with
+-- code 0 it has its body.
 pub record IsNextMessage {Q : Type 0} (s t : SeatView Q OutcomeValue) (h : HandleId) (ticket : Ticket) (o : OutcomeValue) (left : ℕ) : Type 0 where
   -- the calls that waited for it, readings that found none and polls, have receipts behind those of the seat, and then the reading stands
   pub at : SeatView Q OutcomeValue

@@ -129,6 +129,7 @@ pub fn next_message_within<Q: Work + Drop, R: Wait + Clock>(
     }
 }
 
+// rule multi-next-message
 /// Waits for the next message, and reads it (curl_multi_info_read(3), curl_multi_poll(3)).
 ///
 /// The reading stands in the one legal history that the seat has then seen, behind all that it had seen, with the answer of a one-thread

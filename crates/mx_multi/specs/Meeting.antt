@@ -18,6 +18,8 @@ pub record SeesAll {Q O : Type 0} (j : List Event) (s t : SeatView Q O) : Type 0
 abbrev pub AllSee : {Q O : Type 0} → List Event → List (SeatView Q O) → List (SeatView Q O) → Type 0
 AllSee {Q} {O} j before after = (length after ≡ length before) × ((k : ℕ) (d : SeatView Q O) → k < length before → SeesAll j (slice_index_or before k d) (slice_index_or after k d))
 
+-- rule multi-meet-all: All seats that meet have seen one journal.
+--
 -- each seat and each worker's seat has then seen one legal journal, with so many events
 pub record Meets {Q O : Type 0} (seats met workers met_workers : List (SeatView Q O)) (n : ℕ) : Type 0 where
   pub list : List Event

@@ -20,7 +20,7 @@ use Rattle.mx_multi.specs.Seats.{MultiView, SeatView, IsNew}
 abbrev pub most_connects : ℕ
 most_connects = 64
 
--- at least one seat and one worker, and each number within its limits
+-- rule multi-limits: `open` takes 1 to 16 seats and workers, a history of 4 to 1,048,576 events, and at most 64 idle connections.
 abbrev pub are_within : Limits → Bool
 are_within l = nat_le 1 l.seats && nat_le l.seats most_seats && nat_le 1 l.workers && nat_le l.workers most_seats && nat_le least_history l.history && nat_le l.history most_history && nat_le l.max_connects most_connects
 

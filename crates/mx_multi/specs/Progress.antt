@@ -12,7 +12,10 @@ use Rattle.mx_multi.specs.declared.progress.Progress.{Progress}
 use Rattle.mx_multi.specs.declared.progress.Progress.TheVariants as progress
 use Rattle.mx_multi.specs.Seats.{SeatView}
 
--- what a word of the ticket u and the count n says of the ticket t: its count; 0, where the word is of an older ticket; or that a newer one has the slot
+-- rule multi-progress: A transfer's progress is the count of its slot's word, 0 where that is of an older ticket.
+--
+-- what a word of the ticket u and the count n says of the ticket t: its count; 0, where the word is of an older ticket; or that a newer one
+-- has the slot
 abbrev pub progress_of : Ticket → Ticket → ℕ → Progress
 progress_of t u n = if u.0 == t.0 then progress.Bytes t n else if nat_lt u.0 t.0 then progress.Bytes t 0 else progress.Replaced
 
@@ -37,7 +40,8 @@ pub record SaysAdded (h : HandleId) (j : List Event) (before after : NoteState) 
 abbrev pub IsProgress : HandleId → List Event → NoteState → NoteState → Progress → Type 0
 IsProgress h j before after p = ((ticket_of h j ≡ None) × (p ≡ progress.NotAdded) × (after ≡ before)) ⊎ SaysAdded h j before after p
 
--- Two answers of one seat for one ticket, the second after no less was seen and read: the second count is no less.
+-- rule multi-progress-never-falls: Of two answers to one seat for one ticket, the second after no less was seen and read, the later
+-- progress is no less.
 abbrev pub ProgressNeverFalls : Type 0
 ProgressNeverFalls =
     (h g : HandleId) (j more : List Event) (a b c d : NoteState) (since : List Note) (t : Ticket) (n m : ℕ)

@@ -36,8 +36,9 @@ pub record FoundIn {Q O : Type 0} (code : O → Code) (size : O → ℕ) (m : Mu
 abbrev pub LacksSeats : {Q O : Type 0} → MultiView Q O → List (SeatView Q O) → List (SeatView Q O) → Type 0
 LacksSeats m seats workers = (length seats < m.limits.seats) ⊎ (length workers < m.limits.workers)
 
--- The multi handle n, with new seats, is m retired: no seat was missing; its engine is what was found in the lock of m, at which no claim was out,
--- with its old history retired; and what was found goes on from what each old seat had seen and was told.
+-- rule multi-retire
+-- The multi handle n, with new seats, is m retired: no seat was missing; its engine is what was found in the lock of m, at which no claim
+-- was out, with its old history retired; and what was found goes on from what each old seat had seen and was told.
 pub record IsRetiredTo {Q O : Type 0} (code : O → Code) (size : O → ℕ) (m : MultiView Q O) (seats workers : List (SeatView Q O)) (n : MultiView Q O) (new_seats new_workers : List (SeatView Q O)) : Type 0 where
   pub all : LacksSeats m seats workers → ⊥
   pub found : EngineState Q O
@@ -59,6 +60,8 @@ HasWrongSeat {Q} {O} code size m seats workers =
 abbrev pub HasRightSeats : {Q O : Type 0} → (O → Code) → (O → ℕ) → MultiView Q O → List (SeatView Q O) → List (SeatView Q O) → EngineState Q O → Type 0
 HasRightSeats code size m seats workers x = FoundIn code size m x × AllFind x.core.journal seats × AllFind x.core.journal workers
 
+-- rule multi-retire: A multi handle is retired with all its seats, and only while no claim is out; else everything comes back.
+--
 -- why a multi handle isn't retired: the first of these that holds. Where there is no application's seat, none is looked at.
 abbrev pub IsRefused : {Q O : Type 0} → (O → Code) → (O → ℕ) → MultiView Q O → List (SeatView Q O) → List (SeatView Q O) → Refusal → Type 0
 IsRefused code size m seats workers refusal.WrongSeat = HasWrongSeat code size m seats workers

@@ -80,6 +80,9 @@ pub record Confirms {Q O : Type 0} (s t : SeatView Q O) : Type 0 where
   pub within : t.confirmed ≤ length t.seen
   pub but_last : length t.seen ≤ t.confirmed + 1
 
+-- rule multi-linearized: An answered call is linearized: it has one place in one legal journal, after all that its seat had seen.
+-- rule multi-reads: A read takes no lock: it has no bound by which it might block, and is answered while another call holds the lock.
+--
 -- The call was answered: after a journal that begins with what the seat has seen, it left the events that the seat has
 -- then seen, and its receipt stands behind the others.
 pub record Stands {Q O : Type 0} (s t : SeatView Q O) (call : Call) (reply : Reply) : Type 0 where
@@ -98,6 +101,8 @@ pub record Stands {Q O : Type 0} (s t : SeatView Q O) (call : Call) (reply : Rep
   pub mine : t.mine ≡ s.mine ++ record { cut = length t.seen; call = call; reply = reply } ∷ []
   pub placed : HasReceipts s → HasReceipts t
 
+-- rule multi-meeting: A meeting shows both seats one list.
+--
 -- the seat has seen a journal, with no receipt for that: those that it had stay placed
 pub record Sees {Q O : Type 0} (s t : SeatView Q O) : Type 0 where
   pub of : t.of ≡ s.of
@@ -131,8 +136,11 @@ pub record FoundState {Q O : Type 0} (code : O → Code) (size : O → ℕ) (s :
   pub engine : (content x).engine ≡ s.of.engine
   pub locked : IsLocked code size x
 
--- What lay in the lock of the seat's engine when a call was refused: its journal doesn't begin with what the seat has seen, or has another number
--- of events that are the seat's own.
+-- rule multi-wrong-seat: A call under the lock is answered `WrongSeat` only where the journal there doesn't begin with what its seat has
+-- seen, or has another number of the seat's own events.
+--
+-- What lay in the lock of the seat's engine when a call was refused: its journal doesn't begin with what the seat has seen, or has another
+-- number of events that are the seat's own.
 pub record FindsOther {Q O : Type 0} (code : O → Code) (size : O → ℕ) (s : SeatView Q O) : Type 0 where
   pub found : EngineState Q O
   pub engine : (content found).engine ≡ s.of.engine
@@ -160,8 +168,10 @@ pub record LeavesState {Q O : Type 0} (code : O → Code) (size : O → ℕ) (s 
   pub out : after.core.out ≡ out_after reply found.core.out
   pub unchanged : comes_with_event reply ≡ false → after.core ≡ with_out (out_after reply found.core.out) found.core
 
--- What was claimed came first in the queue that was found there, under the least ticket. The queue that was left is the rest, the ticket is then
--- claimed, the endings are as they were, and one claim more is out.
+-- rule multi-least-ticket: A claim takes the work of the least ticket in the queue.
+--
+-- What was claimed came first in the queue that was found there, under the least ticket. The queue that was left is the rest, the ticket is
+-- then claimed, the endings are as they were, and one claim more is out.
 pub record ClaimsLeast {Q O : Type 0} (code : O → Code) (size : O → ℕ) (s : SeatView Q O) (ticket : Ticket) (work : Q) : Type 0 where
   pub found : EngineState Q O
   pub is : FoundState code size s found

@@ -75,6 +75,7 @@ impl<Q: Work + Drop, O: Ending + Drop> Multi<Q, O> {
         false
     }
 
+    // rule multi-meet-all
     /// Lets all these seats, and all these workers' seats, see one journal: how many events it has. It takes the lock and no memory.
     ///
     /// # Refusals

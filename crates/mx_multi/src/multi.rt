@@ -76,6 +76,8 @@ pub(crate) fn fits<Q: Work + Drop, O: Ending + Drop>(
 }
 
 impl<Q: Work + Drop, O: Ending + Drop> Multi<Q, O> {
+    // rule multi-sleeping-poll, unproved: A poll that sleeps is woken.
+    //
     // Tells those that wait that they are to look again.
     pub(crate) fn tell<R: Wait>(&self, rt: &R) {
         let mut changes = self.changes.lock(rt);
@@ -83,6 +85,9 @@ impl<Q: Work + Drop, O: Ending + Drop> Multi<Q, O> {
         self.changed.notify_all();
     }
 
+    // rule multi-linearized
+    // rule multi-wrong-seat
+    // rule multi-out-of-memory
     // Makes a call under the lock.
     pub(crate) fn act<K, D: Deed<Q, O>, R: Wait>(
         &self,
@@ -150,6 +155,7 @@ impl<Q: Work + Drop, O: Ending + Drop> Multi<Q, O> {
     }
 
     // Not `meet_all` of two: a slice can't be made of seats that are held apart without moving them.
+    // rule multi-meeting
     // Lets both seats see the journal. False, and nothing changes, where a seat isn't one of this multi handle's.
     pub(crate) fn try_meet<R: Wait>(
         &self,
@@ -195,6 +201,7 @@ impl<Q: Work + Drop, O: Ending + Drop> Multi<Q, O> {
         *self.changes.lock(rt)
     }
 
+    // rule multi-sleeping-poll
     // Waits until something was told since `heard`.
     pub(crate) fn wait_after<R: Wait>(&self, rt: &R, heard: u64) {
         let mut changes = self.changes.lock(rt);
@@ -215,6 +222,7 @@ impl<Q: Work + Drop, O: Ending + Drop> Multi<Q, O> {
             .wait_timeout_while(rt, changes, most, |changes| *changes == heard);
     }
 
+    // rule multi-linearized
     // Polls once. False, and nothing changes, where no event of a journal that begins with what the seat has seen lets it return.
     pub(crate) fn try_poll<R: Wait>(
         &self,

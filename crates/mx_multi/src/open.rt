@@ -30,6 +30,7 @@ pub struct Limits {
 }
 
 impl Limits {
+    // rule multi-limits
     /// Whether each number is within its limits.
     pub fn are_within(&self) -> bool
         ensures { result ≡ are_within self.now }

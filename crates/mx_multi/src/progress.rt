@@ -25,6 +25,7 @@ pub(crate) fn read_word(words: &ProgressTable, notes: &mut NoteSeat, found: Foun
     progress_by(found.ticket, noted, count)
 }
 
+// rule multi-progress
 // What a word of the ticket `noted` and of so many bytes says of a ticket.
 fn progress_by(ticket: Ticket, noted: Ticket, count: u32) -> Progress
     ensures { result ≡ progress_of ticket noted count }
@@ -45,6 +46,7 @@ fn progress_by_another(ticket: Ticket, noted: Ticket) -> Progress
     Progress::Replaced
 }
 
+// rule multi-progress-never-falls
 /// Of two answers of `Multi::progress` to one seat, both of the bytes of one ticket, the later is no less: the ticket keeps its slot as long
 /// as its handle is added, and no word that is read for a slot is less than those that the seat had read there.
 pub fn progress_never_falls()

@@ -93,6 +93,7 @@ pub(crate) fn all_find<K, Q: Work + Drop, O: Ending + Drop>(
 }
 
 impl<Q: Work + Drop, O: Ending + Drop> Multi<Q, O> {
+    // rule multi-retire
     /// Retires old history: of the journal only the events of the handles that are added are kept, and the multi handle goes on with
     /// new seats, which have seen those. Handles, their work, their messages and pauses stay as they are. No ticket that
     /// was given is given again, and the list of requests goes on. Progress words, and the numbers of events that makers made, begin anew; a wake-up
@@ -197,6 +198,7 @@ impl<Q: Work + Drop, O: Ending + Drop> Multi<Q, O> {
         }
     }
 
+    // rule multi-retire
     // What hinders retiring, with one seat beside these, but for want of memory.
     fn hinders(
         &self,

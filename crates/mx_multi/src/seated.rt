@@ -252,6 +252,7 @@ impl<'m, Q: Work + Drop, O: Ending + Drop> Seated<'m, Application, Q, O> {
         self.multi.read(&mut self.seat, call)
     }
 
+    // rule multi-scripts, unproved: A script is run to its end where each of its calls is answered.
     /// Makes the calls of a script, until one is answered None. It answers how many were made: their receipts, whose calls are those
     /// of the script, stand behind all that the seat had.
     pub fn run_script<R: Wait>(&mut self, rt: &R, script: &[Call]) -> usize

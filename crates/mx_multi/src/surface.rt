@@ -309,6 +309,7 @@ impl<Q: Work + Drop, O: Ending + Drop> Multi<Q, O> {
         }
     }
 
+    // rule multi-reads
     /// As `Seated::read`, of a seat that is held apart.
     pub fn read(&self, seat: &mut Seat<Q, O>, call: Call) -> Option<Reply>
         requires own { seat.old.of ≡ self.now }
@@ -331,6 +332,7 @@ impl<Q: Work + Drop, O: Ending + Drop> Multi<Q, O> {
         }
     }
 
+    // rule multi-least-ticket
     /// As `Seated::claim`, of a seat that is held apart.
     pub fn claim<R: Wait>(&self, rt: &R, seat: &mut WorkerSeat<Q, O>) -> Option<(TiedClaim<Q>, Q)>
         requires own { seat.old.of ≡ self.now }

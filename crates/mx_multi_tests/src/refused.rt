@@ -52,6 +52,7 @@ fn play_retirings<R: Threads + Wait + Sync + Clock>(
     let Some(step) = play_steps(rt, alloc, SHORT_HISTORY, steps.as_slice(), refused)? else {
         return Ok(None);
     };
+    // rule multi-retire
     Ok(Some(Wrong {
         row: "a_full_history_goes_on",
         step,
@@ -69,9 +70,13 @@ fn retirings(rt: HostRuntime) -> Result<(), Fail> {
 // What is told of boards and of words: the first that isn't as it is to be, and whether memory was refused.
 fn first_board<R: Wait>(rt: &R, alloc: Global) -> Result<(Option<Wrong>, bool), OutOfMemory> {
     let told = [
+        // rule board-published
         ("two_seats_add_a_handle_each", two_seats(rt, alloc)?),
+        // rule board-own-events
+        // rule board-catch-up
         ("a_reader_waits_for_its_own_event", own_event(rt, alloc)?),
         ("a_kept_history_is_read_as_it_stands", kept(rt, alloc)?),
+        // rule board-progress-word
         ("a_word_is_the_greatest_that_was_noted", greatest(alloc)?),
     ];
     let mut refused = false;

@@ -165,6 +165,7 @@ const GIVEN_BACK: &[Step] = &[
 ];
 
 pub static SCRIPTS: [Row; 9] = [
+    // rule multi-out-of-memory
     Row {
         name: "every_call_that_may_find_no_memory",
         limits: FOUR_SEATS,
@@ -190,6 +191,8 @@ pub static SCRIPTS: [Row; 9] = [
         limits: FOUR_SEATS,
         steps: PAUSED,
     },
+    // rule multi-scripts
+    // rule multi-meeting
     Row {
         name: "two_seats_add_a_handle_each",
         limits: FOUR_SEATS,
@@ -200,11 +203,13 @@ pub static SCRIPTS: [Row; 9] = [
         limits: FOUR_SEATS,
         steps: READ_ANEW,
     },
+    // rule multi-progress
     Row {
         name: "progress_is_of_the_newest_addition",
         limits: FOUR_SEATS,
         steps: PROGRESS,
     },
+    // rule multi-least-ticket
     Row {
         name: "given_back_work_is_claimed_by_its_ticket",
         limits: FOUR_SEATS,
@@ -274,11 +279,14 @@ const KEPT: &[Step] = &[
 ];
 
 pub static RETIRINGS: [Row; 2] = [
+    // rule multi-retire
+    // rule multi-meet-all
     Row {
         name: "a_claim_hinders_until_it_is_back",
         limits: THREE_SEATS,
         steps: CLAIM_OUT,
     },
+    // rule multi-retire
     Row {
         name: "what_is_added_stays_as_it_is",
         limits: THREE_SEATS,
@@ -371,6 +379,7 @@ pub fn first_opened<R: Wait>(rt: &R, alloc: Global) -> Option<Wrong> {
             max_connects: *max_connects,
         };
         if !is_bad(Handle::open(rt, alloc, limits)) {
+            // rule multi-limits
             return Some(Wrong {
                 row: "bad_limits_are_refused",
                 step,

@@ -117,11 +117,13 @@ const POLLS: &[Step] = &[
 ];
 
 static ROWS: [Row; 6] = [
+    // rule multi-scripts
     Row {
         name: "two_threads_make_all_their_calls",
         limits: FOUR_SEATS,
         steps: TWO_SCRIPTS,
     },
+    // rule multi-reads
     Row {
         name: "reads_take_no_lock",
         limits: TWO_THREADS,
@@ -132,6 +134,8 @@ static ROWS: [Row; 6] = [
         limits: TWO_THREADS,
         steps: SEEN,
     },
+    // rule multi-woken
+    // rule multi-sleeping-poll
     Row {
         name: "no_wake_up_is_lost",
         limits: TWO_THREADS,
@@ -147,6 +151,7 @@ static ROWS: [Row; 6] = [
         },
         steps: POLLS,
     },
+    // rule multi-linearized
     Row {
         name: "one_thread_answers_the_same",
         limits: EIGHT_THREADS,
@@ -182,6 +187,7 @@ fn play_threads<R: Threads + Wait + Sync + Clock>(
     let Some(step) = play_steps(rt, alloc, limits, steps.as_slice(), refused)? else {
         return Ok(None);
     };
+    // rule multi-retire
     Ok(Some(Wrong {
         row: "a_retired_handle_answers_as_one_thread_does",
         step,
@@ -202,6 +208,7 @@ fn first_board<R: Threads + Wait + Sync>(
     alloc: Global,
 ) -> Result<Option<Wrong>, OutOfMemory> {
     let told = [
+        // rule board-reads
         (
             "two_threads_read_what_a_third_adds",
             three_threads(rt, alloc)?,

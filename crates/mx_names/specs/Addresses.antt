@@ -11,7 +11,7 @@ use Rattle.mx_types.specs.declared.code.Code.TheVariants as code
 abbrev pub is_v4 : SocketAddr → Bool
 is_v4 address = is_ipv4 (socket_ip address)
 
--- the IPv4 addresses as they come, and then the others as they come
+-- rule name-ipv4-first: The IPv4 addresses of a host come first; else the order is the lookup's.
 abbrev pub in_order : List SocketAddr → List SocketAddr
 in_order addresses = filter is_v4 addresses ++ filter (λ address. not (is_v4 address)) addresses
 

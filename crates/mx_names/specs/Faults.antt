@@ -12,6 +12,6 @@ abbrev pub is_memory : ErrorKind → Bool
 is_memory kind.OutOfMemory = true
 is_memory _ = false
 
--- the want of memory has its own code, whatever was asked for
+-- rule gate-codes: A lookup that fails is 6, a connection that can't be made 7, and out of memory 27, whatever was asked for.
 abbrev pub fault_code : Code → Error → Code
 fault_code other error = if is_memory (error_kind error) then code.OutOfMemory else other

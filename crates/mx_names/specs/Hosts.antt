@@ -22,6 +22,8 @@ IsAddress ip (answer.Known addresses) = (a : SocketAddr) × (addresses ≡ a ∷
 IsAddress ip (answer.Failed failed) = failed ≡ codes.OutOfMemory
 IsAddress ip answer.NotYet = ⊥
 
+-- rule name-spelled-address: A host that spells an address isn't looked up.
+--
 -- the one address that the text spells is told, or that memory was wanting
 abbrev pub IsSpelled : List ℕ → Answer → Type 0
 IsSpelled text told = (ip : IpAddr) × IsIpText text ip × IsAddress ip told

@@ -25,6 +25,7 @@ Gives = List ℕ → Outcome → Type 0
 abbrev pub kept_ms : ℕ
 kept_ms = 60_000
 
+-- rule name-lookup-count: At most 64 lookups are under way.
 abbrev pub most_lookups : ℕ
 most_lookups = 64
 
@@ -61,10 +62,14 @@ is_of host state = bytes_eq state.host host
 abbrev pub is_under_way : HostState → Bool
 is_under_way state = is_none state.learnt
 
+-- rule name-kept-60-seconds: Addresses are kept for 60 seconds.
+--
 -- it was learnt less than 60 seconds ago
 abbrev pub is_young : ℕ → Learnt → Bool
 is_young now learnt = nat_lt (now - learnt.moment) kept_ms
 
+-- rule name-failures: A failure is reported to those who asked before it was learnt, and isn't kept for others.
+--
 -- Who asks since a moment is told it: addresses while they are kept, and a failure only where it came after that moment.
 abbrev pub tells : ℕ → ℕ → Learnt → Bool
 tells since now learnt = is_young now learnt && (is_ok learnt.outcome || nat_le since learnt.moment)
@@ -92,6 +97,8 @@ abbrev pub is_open : ℕ → ℕ → Option HostState → Bool
 is_open since now None = true
 is_open since now (Some state) = is_over since now state.learnt
 
+-- rule name-hanging-lookups: Lookups that hang delay no other while fewer than 64 do.
+--
 -- A lookup of the host begins: none of it is under way, there is nothing to tell, and fewer than 64 others are.
 abbrev pub may_begin : List ℕ → ℕ → ℕ → List HostState → Bool
 may_begin host since now states = is_open since now (find (is_of host) states) && nat_lt (count_by is_under_way states) most_lookups
@@ -128,6 +135,8 @@ abbrev pub IsLearnt : Gives → List ℕ → Option Learnt → Type 0
 IsLearnt gives host None = Unit {0}
 IsLearnt gives host (Some learnt) = IsOutcome gives host learnt.outcome
 
+-- rule name-one-lookup: Of a host one lookup is under way at a time.
+--
 -- no two are of one host
 abbrev pub IsDistinct : List HostState → Type 0
 IsDistinct [] = Unit {0}
@@ -141,7 +150,7 @@ pub record IsTable (gives : Gives) (states : List HostState) : Type 0 where
   pub names : AllByRecursion (λ state. SpellsNone state.host) states
   pub true_to : AllByRecursion (λ state. IsLearnt gives state.host state.learnt) states
 
--- what is told is what a lookup of that host came to
+-- rule name-own-answer: What is reported of a host is what a lookup of that host came to.
 abbrev pub IsTrueOf : Gives → List ℕ → Answer → Type 0
 IsTrueOf gives host (answer.Known addresses) = IsFound gives host addresses
 IsTrueOf gives host (answer.Failed failed) = IsFailure gives host failed

@@ -24,6 +24,7 @@ impl Model for Addresses {
     ghost invariant = { λ a. 0 < length a.all.items };
 }
 
+// rule name-ipv4-first
 /// The IPv4 addresses first, and then the others; among each other both stay as they are.
 pub fn in_order(alloc: Global, all: &[SocketAddr]) -> Result<Vec<SocketAddr>, OutOfMemory>
     ensures { IfOk result (λ ordered. ordered.items ≡ in_order all.now) }

@@ -35,6 +35,7 @@ impl Model for Entry {
 impl Learnt {
     ghost use Rattle.mx_names.specs.Names.{is_young, tells, told_by};
 
+    // rule name-kept-60-seconds
     // Whether it is kept at this moment.
     pub(crate) fn is_young(&self, now: u64) -> bool
         ensures { result ≡ is_young now self.now }
@@ -55,6 +56,7 @@ impl Learnt {
         }
     }
 
+    // rule name-failures
     // Whether one who asks since this moment is told it.
     pub(crate) fn tells(&self, since: u64, now: u64) -> bool
         ensures { result ≡ tells since now self.now }
@@ -85,6 +87,7 @@ impl Entry {
         self.learnt = Some(Learnt { outcome, moment });
     }
 
+    // rule name-one-lookup
     // Whether its lookup isn't under way, and it has nothing to tell one who asks since that moment.
     pub fn is_over(&self, since: u64, now: u64) -> bool
         ensures { result ≡ is_over since now self.now.learnt }

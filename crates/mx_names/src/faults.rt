@@ -22,6 +22,7 @@ pub fn fault_code(other: Code, error: &io::Error) -> Code
     }
 }
 
+// rule gate-codes
 /// The code of a lookup that failed: `OutOfMemory` where memory was wanting, else `CouldntResolveHost`.
 pub fn lookup_code(error: &io::Error) -> Code
     ensures { result ≡ fault_code Code.CouldntResolveHost error.now }

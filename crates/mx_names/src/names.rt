@@ -12,9 +12,11 @@ use mx_types::OutOfMemory;
 use std::alloc::Global;
 use std::marker::{Model, PhantomData};
 
+// rule name-kept-60-seconds
 /// How long an answer is kept, in milliseconds.
 pub const KEPT_MS: u64 = 60_000;
 
+// rule name-lookup-count
 /// How many lookups may be under way.
 pub const MOST_LOOKUPS: usize = 64;
 
@@ -98,6 +100,7 @@ impl<L: Lookup> Names<L> {
         self.entries.iter().find(|e| e.is_of(host))
     }
 
+    // rule name-own-answer
     /// What is known of the host, to one who asks since a moment: addresses that were learnt less than 60 seconds ago, or the
     /// failure of a lookup, if that was learnt since.
     pub fn ask(
@@ -125,6 +128,7 @@ impl<L: Lookup> Names<L> {
         }
     }
 
+    // rule name-one-lookup
     // Whether no lookup of the host is under way, and there is nothing to tell of it.
     fn is_open(&self, host: &str, since: u64, now: u64) -> bool
         ensures { result ≡ is_open since now (find (is_of host.now) self.now) }
@@ -135,6 +139,7 @@ impl<L: Lookup> Names<L> {
         }
     }
 
+    // rule name-lookup-count
     // Whether a lookup of the host begins where it is asked for.
     fn may_begin(&self, host: &str, since: u64, now: u64) -> bool
         ensures { result ≡ may_begin host.now since now self.now }

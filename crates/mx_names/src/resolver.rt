@@ -154,6 +154,7 @@ impl<L: Lookup, B> Shared<L, B> {
 }
 
 impl<L: Lookup, B> Resolver<L, B> {
+    // rule name-spelled-address
     /// What is known of the host now, to one who asks since a moment; of a name of which nothing is known a lookup is wanted from then on,
     /// unless one of it is under way or 64 others are. `start_wanted` begins it, and so does `serve`, which waits for that. Who is told
     /// `NotYet` asks again, with the same `since`, when the bell is rung. A host that spells an address, in brackets or not, is that address
@@ -230,6 +231,7 @@ impl<L: Lookup + Send + Sync + Drop + 'static, B: Ring + Send + Sync + Drop + 's
         mem::replace(&mut *self.shared.wanted.lock(rt), none)
     }
 
+    // rule name-hanging-lookups
     /// Begins the lookups that are wanted, each on a thread of its own. Where a thread isn't had the lookup has failed (`OutOfMemory`). It
     /// waits for no lookup.
     pub fn start_wanted<R: Threads + Wait + Clock + AllocGlobal + Copy + Send + Drop + 'static>(

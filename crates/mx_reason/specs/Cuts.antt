@@ -9,6 +9,9 @@ use Rattle.mx_body.specs.Response.{StandsAtHead, StandsAtBody}
 use Rattle.mx_reason.specs.declared.reason.Cut.{Cut}
 use Rattle.mx_reason.specs.declared.reason.Cut.TheVariants.{Head, Counted, Chunked, Close}
 
+-- rule reason-truncated: Where nothing is decided, the reason says in which part of a response the bytes end, and of a counted body how
+-- many bytes of how many came.
+--
 -- in or before a head; or behind the final head, in a body of this framing
 abbrev pub IsCutIn : Method → List ℕ → Cut → Type 0
 IsCutIn m wire Head = (hs : List ResponseHead) × (r : List ℕ) × StandsAtHead wire hs r × HasNoHead r

@@ -95,8 +95,9 @@ TellsOfBody asked at r ChunkEnd = (asked ≡ Ok framing.Chunked) × TellsOfChunk
 TellsOfBody asked at r Trailer = (asked ≡ Ok framing.Chunked) × TellsOfChunks r Trailer
 TellsOfBody asked at r _ = ⊥
 
--- What stands wrong at the end of the bytes p, and in which part of a response that is: in a head behind interim heads; at the end of a head
--- that is refused by its status; at the end of the final head or in its body; or behind all bytes that a response may have.
+-- rule reason-refused
+-- What stands wrong at the end of the bytes p, and in which part of a response that is: in a head behind interim heads; at the end of a
+-- head that is refused by its status; at the end of the final head or in its body; or behind all bytes that a response may have.
 pub data Tells (m : Method) (p : List ℕ) (fault : Fault) : Type 0 where
   in_head : (hs : List ResponseHead) (r : List ℕ) → StandsAtHead p hs r → TellsOfHead r fault → Tells m p fault
   at_status : Meets m p refused_status → fault ≡ InterimHead → Tells m p fault

@@ -21,6 +21,9 @@ pub record Decides (m : Method) (bytes : List ℕ) (code : Code) : Type 0 where
   pub refused : IsVerdict m bytes false (verdict.Fault code)
   pub before : IsVerdict m (before_last bytes) false verdict.More
 
+-- rule reason-refused: The reason of a refusal is that of the fewest bytes that are refused: what the last of these makes wrong, in which
+-- part of a response.
+--
 -- so it is with the first `at` bytes
 pub record DecidesAt (m : Method) (wire : List ℕ) (at : ℕ) (code : Code) : Type 0 where
   pub within : at ≤ length wire

@@ -9,6 +9,7 @@ use crate::walk::{Walked, walk};
 use mx_head::{Framing, framing};
 use mx_types::Method;
 
+// rule reason-truncated
 /// Where the wire ends.
 pub(crate) fn cut_of(method: Method, wire: &[u8]) -> Cut
     requires { IsVerdict method wire.now false More }

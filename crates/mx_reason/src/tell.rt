@@ -24,6 +24,7 @@ fn refusal(alloc: Global, method: Method, wire: &[u8], code: Code) -> Reason
     }
 }
 
+// rule reason-refused
 /// Why the bytes that the exchange for a request of that method gave are no whole response. `None` where they begin with one.
 ///
 /// Where they are refused, whatever follows, it is told after how many bytes that is decided, which is the fault of `mx_body`'s

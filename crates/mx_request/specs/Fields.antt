@@ -26,6 +26,9 @@ reserved_names =
 abbrev pub is_reserved : List ℕ → Bool
 is_reserved name = list_any (λ reserved. str_eq_ignore_ascii_case name reserved) reserved_names
 
+-- rule request-field-names: A field's name is a token, and in no letter case one of the nine that the engine sends itself or that are about
+-- the connection.
+--
 -- a caller may add a field of this name
 unfoldable pub is_field_name : List ℕ → Bool
 is_field_name name = is_token name && not (is_reserved name)
@@ -42,7 +45,8 @@ is_blank b = b == 32 || b == 9
 abbrev pub is_blank_at : List ℕ → ℕ → Bool
 is_blank_at value place = option_map_or is_blank (slice_get value place) false
 
--- section 5.5: at most 8,192 bytes, no control but HTAB, and neither SP nor HTAB first or last
+-- rule request-field-values: A field's value, the user agent's too, has at most 8,192 bytes, no control but HTAB, and neither SP nor HTAB
+-- at an end (RFC 9110, section 5.5).
 unfoldable pub is_field_value : List ℕ → Bool
 is_field_value value =
     nat_le (length value) 8192 && list_all is_value_byte value && not (is_blank_at value 0)
@@ -52,7 +56,7 @@ is_field_value value =
 unfoldable pub is_field : Field → Bool
 is_field field = is_field_name field.name && is_field_value field.value
 
--- at most 64 fields, each of which may be added, and a user agent that is a value
+-- rule request-field-count: At most 64 fields are added, each of which may be, and a user agent that is a field's value.
 unfoldable pub are_fields : SettingsValue → Bool
 are_fields settings =
     nat_le (length settings.fields) 64 && list_all is_field settings.fields

@@ -28,7 +28,7 @@ abbrev pub is_head : Method → Bool
 is_head method.Head = true
 is_head _ = false
 
--- the next request is a GET without a body, whatever this one is: 303 but for HEAD, and POST at 301 and 302
+-- rule redirect-method: 303 makes each method but HEAD a GET without a body, 301 and 302 make POST one; all else keeps method and body.
 abbrev pub becomes_get : ℕ → Method → Bool
 becomes_get status m = (status == 303 && not (is_head m)) || (is_moved status && is_post m)
 
@@ -46,7 +46,9 @@ short_url (Err e) = Err refusal.Malformed
 short_url (Ok url) =
     if nat_lt 65536 (length (serialize url)) then Err refusal.Malformed else checked_url (Ok url)
 
--- the URL that a Location leads to, with the request's own as its base (URL Standard, section 4.4), or why it is refused
+-- rule redirect-next-url: The next URL is the join of the Location with the request's own as its base (URL Standard, section 4.4), of at
+-- most 65,536 bytes; it is refused as Malformed, for its scheme, or for a user name or a password, in this order, and the transfer then
+-- ends with 3, 1 or 3.
 abbrev pub joined_url : Parts → List ℕ → Result Parts RequestError
 joined_url base location =
     if not (is_utf8 location) then Err refusal.Malformed else short_url (parse_url (Some base) location)

@@ -40,13 +40,15 @@ checked_url (Ok url) =
     else (if has_credentials url then Err refusal.UserInfo
     else Ok url)
 
+-- rule request-url-size: A URL's text has at most 65,536 bytes.
+--
 -- the URL of a text of at most 65,536 bytes, or why it is refused
 abbrev pub url_of : List ℕ → Result Parts RequestError
 url_of text =
     if nat_lt 65536 (length text) then Err refusal.Malformed
     else checked_url (parse_url None text)
 
--- the body is over 1,048,576 bytes
+-- rule request-body-size: A body has at most 1,048,576 bytes.
 abbrev pub is_body_too_large : Option (List ℕ) → Bool
 is_body_too_large body = option_map_or (λ bytes. nat_lt 1048576 (length bytes)) body false
 
@@ -80,8 +82,8 @@ request_by method (Err refused) settings = Err refused
 request_by method (Ok url) settings =
     request_unless (refusal_of settings) (request_to method url settings)
 
--- what is built of a method, a text and settings: the request, or the first refusal in the order Malformed,
--- Scheme, UserInfo, BadField, BodyTooLarge
+-- rule request-refusals: A request is built of a method, a text and settings, or refused with the first that applies of: Malformed (3),
+-- Scheme (1), UserInfo (3), BadField (3), BodyTooLarge (63). In brackets are the codes that a transfer would end with.
 abbrev pub request_of : Method → List ℕ → SettingsValue → Result RequestValue RequestError
 request_of method text settings = request_by method (url_of text) settings
 

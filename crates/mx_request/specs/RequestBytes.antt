@@ -41,7 +41,7 @@ endpoint_of url = record {
 abbrev pub port_text : ℕ → List ℕ
 port_text port = if port == 80 then [] else codes ":" ++ decimal port
 
--- RFC 9110, section 7.2
+-- rule request-host: The host line names the port unless it is 80 (RFC 9110, section 7.2); an empty query stays, a fragment doesn't.
 abbrev pub host_field : HostAndPort → Field
 host_field endpoint = record {
   name = codes "Host";
@@ -57,13 +57,13 @@ user_agent_fields (Some agent) = record { name = codes "User-Agent"; value = age
 abbrev pub is_accept : Field → Bool
 is_accept field = str_eq_ignore_ascii_case field.name (codes "Accept")
 
--- RFC 9110, section 12.5.1: anything is accepted, unless the caller says what is
+-- rule request-accept: `Accept: */*` is sent first, unless the caller has an Accept field (RFC 9110, section 12.5.1).
 abbrev pub accept_fields : List Field → List Field
 accept_fields fields =
     if list_any is_accept fields then []
     else record { name = codes "Accept"; value = codes "*/*" } ∷ []
 
--- RFC 9110, section 8.6: where there is a body, an empty one too
+-- rule request-body-length: A body's length is sent wherever a body was given, also an empty one (RFC 9110, section 8.6).
 abbrev pub length_fields : Option (List ℕ) → List Field
 length_fields None = []
 length_fields (Some body) =
@@ -84,6 +84,8 @@ is_private_name name =
 abbrev pub is_private : Field → Bool
 is_private field = is_private_name field.name
 
+-- rule redirect-private-fields: Authorization and Cookie go to the endpoint of the chain's first request alone.
+--
 -- the caller's fields that an endpoint is told: all, where it is the first of its chain, and else those that aren't private
 unfoldable pub told_fields : Bool → List Field → List Field
 told_fields is_first fields = filter (λ field. is_first || not (is_private field)) fields

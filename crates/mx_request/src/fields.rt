@@ -22,9 +22,11 @@ const RESERVED: [&str; 9] = [
     "Trailer",
 ];
 
+// rule request-field-count
 /// The most fields that a caller may add.
 const MOST_FIELDS: usize = 64;
 
+// rule request-field-values
 /// The most bytes of a field's value.
 const MOST_VALUE: usize = 8_192;
 
@@ -72,6 +74,7 @@ fn is_reserved(name: &str) -> bool
     is_one_of(name, &RESERVED)
 }
 
+// rule request-field-names
 #[tactic(auto, unfolding(crate::specs::Fields::is_field_name))]
 fn is_field_name(name: &str) -> bool
     ensures { result ≡ spec.is_field_name name.now }
@@ -113,6 +116,7 @@ fn are_value_bytes(bytes: &[u8]) -> bool
     bytes.iter().all(|byte| is_value_byte(*byte))
 }
 
+// rule request-field-values
 #[tactic(auto, unfolding(crate::specs::Fields::is_field_value))]
 fn is_field_value(value: &str) -> bool
     ensures { result ≡ spec.is_field_value value.now }

@@ -45,6 +45,7 @@ fn moves_post(status: u16, method: Method) -> bool
     is_moved(status) && is_post(method)
 }
 
+// rule redirect-method
 /// Whether the next request is a GET without a body, whatever this one is.
 fn becomes_get(status: u16, method: Method) -> bool
     ensures { result ≡ spec.becomes_get status method }

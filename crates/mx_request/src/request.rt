@@ -16,9 +16,11 @@ use std::alloc::{AllocError, Global};
 use std::marker::Model;
 use url::{ParseError, Url};
 
+// rule request-url-size
 /// The most bytes of a URL's text.
 const MOST_TEXT: usize = 65_536;
 
+// rule request-body-size
 /// The most bytes of a body.
 const MOST_BODY: usize = 1_048_576;
 
@@ -129,6 +131,7 @@ fn check_url(url: Url) -> Result<Url, RequestError>
     Ok(url)
 }
 
+// rule request-url-size
 /// Parses a text without a base, and tests the URL.
 fn parse_url(alloc: Global, text: &str) -> Result<Url, RequestError>
     ensures answer { MatchResult result (λ url. url_of text.now ≡ Ok url)
@@ -156,6 +159,7 @@ fn is_body_too_large(body: &Option<Vec<u8>>) -> bool
     }
 }
 
+// rule request-refusals
 /// Why the settings are refused, if they are: the fields first, then the body.
 fn refusal_of(settings: &Settings) -> Option<RequestError>
     ensures { result ≡ spec.refusal_of settings.now }
@@ -169,6 +173,7 @@ fn refusal_of(settings: &Settings) -> Option<RequestError>
     None
 }
 
+// rule redirect-private-fields
 /// Whether an endpoint is the first of its chain.
 fn is_first(endpoint: &Endpoint, first: &Endpoint) -> bool
     ensures { result ≡ is_same_endpoint endpoint.now first.now }
@@ -211,6 +216,7 @@ fn check_joined(url: Url) -> Result<Url, RequestError>
     check_url(url)
 }
 
+// rule redirect-next-url
 /// The URL that a Location leads to, tested.
 fn join_url(base: &Url, location: &[u8]) -> Result<Url, RequestError>
     ensures { MatchResult result (λ url. joined_url base.now location.now ≡ Ok url)
@@ -227,6 +233,7 @@ fn join_url(base: &Url, location: &[u8]) -> Result<Url, RequestError>
 }
 
 impl Request {
+    // rule request-refusals
     /// Builds the request of a method for the URL in the text (URL Standard, section 4.4, without a base).
     ///
     /// # Errors

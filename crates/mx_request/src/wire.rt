@@ -24,6 +24,7 @@ pub fn endpoint_of(alloc: Global, url: &Url) -> Result<Endpoint, AllocError>
     Ok(Endpoint { host, port })
 }
 
+// rule request-host
 fn put_target(out: &mut Vec<u8>, url: &Url) -> Result<(), AllocError>
     ensures { OnOk result (out.new.items ≡ out.old.items ++ spec.target url.now) }
 {
@@ -64,6 +65,7 @@ fn has_port(endpoint: &Endpoint) -> bool
     endpoint.port != HTTP_PORT
 }
 
+// rule request-host
 /// Adds the line of the host.
 fn put_host(alloc: Global, out: &mut Vec<u8>, endpoint: &Endpoint) -> Result<(), AllocError>
     ensures { OnOk result (out.new.items ≡ out.old.items
@@ -98,6 +100,7 @@ fn says_accept(fields: &[(String, String)]) -> bool
         .any(|field| is_same_name(field.0.as_str(), "Accept"))
 }
 
+// rule request-accept
 /// Adds the line that anything is accepted, unless the caller says what is.
 fn put_accept(out: &mut Vec<u8>, fields: &[(String, String)]) -> Result<(), AllocError>
     ensures { OnOk result (out.new.items ≡ out.old.items
@@ -109,6 +112,7 @@ fn put_accept(out: &mut Vec<u8>, fields: &[(String, String)]) -> Result<(), Allo
     put_field(out, "Accept", "*/*")
 }
 
+// rule redirect-private-fields
 /// Whether an endpoint is told the field: unless it is private and the endpoint isn't the first of its chain.
 fn is_told(name: &str, is_first: bool) -> bool
     ensures { result ≡ (is_first || not (spec.is_private_name name.now)) }
@@ -142,6 +146,7 @@ fn put_fields(
     Ok(())
 }
 
+// rule request-body-length
 /// Adds the line of the body's length, where there is a body.
 fn put_length(alloc: Global, out: &mut Vec<u8>, body: &Option<Vec<u8>>) -> Result<(), AllocError>
     ensures { OnOk result (out.new.items ≡ out.old.items

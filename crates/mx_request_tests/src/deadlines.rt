@@ -22,6 +22,7 @@ enum Call {
 type Script = (&'static str, &'static [Call]);
 
 static SCRIPTS: [Script; 2] = [
+    // rule deadline-due
     (
         "due_tickets_come_by_moment_then_ticket",
         &[
@@ -34,6 +35,7 @@ static SCRIPTS: [Script; 2] = [
             Call::Next(None),
         ],
     ),
+    // rule deadline-count
     (
         "deadline_is_replaced_and_cleared",
         &[

@@ -12,6 +12,7 @@ const BAD: Row = Row {
     ..GET
 };
 
+// rule request-field-names
 static ALONE: [Row; 11] = [
     Row {
         name: "refused_field_host",
@@ -75,6 +76,7 @@ pub(crate) fn alone() -> &'static [Row] {
     &ALONE
 }
 
+// rule request-refusals
 static WITH_BODY: [Row; 11] = [
     Row {
         name: "refused_field_host_and_a_large_body",

@@ -21,6 +21,7 @@ enum Idle {
 type Script = (&'static str, usize, &'static [Idle]);
 
 static SCRIPTS: [Script; 3] = [
+    // rule idle-newest-first
     (
         "newest_is_taken_and_oldest_leaves",
         2,
@@ -33,6 +34,7 @@ static SCRIPTS: [Script; 3] = [
             Idle::Len(1),
         ],
     ),
+    // rule idle-limit-0
     (
         "limit_of_0_gives_each_link_back",
         0,

@@ -39,6 +39,7 @@ const DELETE_C_HI: &str =
 const OPTIONS_C_HI: &str =
     "OPTIONS /c HTTP/1.1\r\nHost: 127.0.0.1:8080\r\nAccept: */*\r\nContent-Length: 2\r\n\r\nhi";
 
+// rule redirect-method
 static GET_MADE: [Row; 18] = [
     Row {
         name: "get_at_301",
@@ -152,6 +153,7 @@ pub(crate) fn at_301_to_303() -> &'static [Row] {
     &GET_MADE
 }
 
+// rule redirect-method
 static KEPT: [Row; 12] = [
     Row {
         name: "get_at_307",
@@ -230,6 +232,7 @@ pub(crate) fn at_307_and_308() -> &'static [Row] {
     &KEPT
 }
 
+// rule redirect-next-url
 static LOCATIONS: [Row; 22] = [
     Row {
         name: "location_path",
@@ -486,6 +489,7 @@ pub(crate) fn refused_locations() -> &'static [Row] {
 }
 
 static CHAINS: [Row; 3] = [
+    // rule redirect-private-fields
     Row {
         name: "private_fields_go_to_the_first_endpoint_alone",
         url: "http://127.0.0.1:8080/a",

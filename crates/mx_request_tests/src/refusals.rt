@@ -79,6 +79,7 @@ struct Text {
 
 const MALFORMED: Option<RequestError> = Some(RequestError::Malformed);
 
+// rule request-url-size
 /// URLs.
 static URLS: [Text; 3] = [
     Text {

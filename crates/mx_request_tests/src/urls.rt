@@ -6,12 +6,14 @@ use mx_request::RequestError;
 use mx_types::Method;
 
 static SENT: [Row; 8] = [
+    // rule request-host
     Row {
         name: "url_with_port_query_and_fragment",
         url: "http://127.0.0.1:8080/a?b#c",
         seen: Seen::Sent("GET /a?b HTTP/1.1\r\nHost: 127.0.0.1:8080\r\nAccept: */*\r\n\r\n"),
         ..GET
     },
+    // rule request-host
     Row {
         name: "url_in_capitals_with_port_80_and_a_blank",
         url: "HTTP://EXAMPLE.com:80/x y",
@@ -31,6 +33,7 @@ static SENT: [Row; 8] = [
         seen: Seen::Sent("GET / HTTP/1.1\r\nHost: [::1]:81\r\nAccept: */*\r\n\r\n"),
         ..GET
     },
+    // rule request-host
     Row {
         name: "url_with_an_empty_query",
         url: "http://example.com/?",
@@ -48,12 +51,14 @@ static SENT: [Row; 8] = [
         ),
         ..GET
     },
+    // rule request-accept
     Row {
         name: "a_callers_own_accept",
         given: Given::Field("accept", "text/plain"),
         seen: Seen::Sent("GET / HTTP/1.1\r\nHost: example.com\r\naccept: text/plain\r\n\r\n"),
         ..GET
     },
+    // rule request-body-length
     Row {
         name: "an_empty_body_has_its_length",
         method: Method::Put,
@@ -163,6 +168,7 @@ const FAULTY: Row = Row {
     ..GET
 };
 
+// rule request-refusals
 static REFUSED: [Row; 10] = [
     Row {
         name: "refused_url_https_with_a_user",
@@ -240,44 +246,52 @@ const POST: Row = Row {
 };
 
 static LIMITS: [Row; 8] = [
+    // rule request-body-size
     Row {
         name: "body_of_1048576",
         given: Given::Body(1_048_576),
         ..POST
     },
+    // rule request-body-size
     Row {
         name: "body_of_1048577",
         given: Given::Body(1_048_577),
         seen: Seen::Refused(RequestError::BodyTooLarge),
         ..POST
     },
+    // rule request-field-count
     Row {
         name: "fields_64",
         given: Given::Fields(64),
         ..POST
     },
+    // rule request-field-count
     Row {
         name: "fields_65",
         given: Given::Fields(65),
         seen: Seen::Refused(RequestError::BadField),
         ..POST
     },
+    // rule request-field-values
     Row {
         name: "user_agent_of_8192",
         given: Given::Agent(8_192),
         ..POST
     },
+    // rule request-field-values
     Row {
         name: "user_agent_of_8193",
         given: Given::Agent(8_193),
         seen: Seen::Refused(RequestError::BadField),
         ..POST
     },
+    // rule request-field-values
     Row {
         name: "value_of_8192",
         given: Given::Value(8_192),
         ..POST
     },
+    // rule request-field-values
     Row {
         name: "value_of_8193",
         given: Given::Value(8_193),

@@ -107,6 +107,7 @@ static COUNTED_BODIES: [Response; 22] = [
         body: b"hello",
         ..WHOLE
     },
+    // rule program-response-line
     Response {
         name: "length_and_more",
         front: b"HTTP/1.1 200 OK\r\nContent-Length: 5\r\n\r\nhelloHTTP",
@@ -125,6 +126,7 @@ static COUNTED_BODIES: [Response; 22] = [
         body: b"hello",
         ..WHOLE
     },
+    // rule body-truncated
     Response {
         name: "length_of_one_byte_more",
         front: b"HTTP/1.1 200 OK\r\nContent-Length: 5\r\n\r\nhell",

@@ -186,6 +186,7 @@ static LIMITS: [Response; 10] = [
         decided: Some(787),
         ..NO_HEAD
     },
+    // rule head-field-count
     Response {
         name: "colon_as_field_line_129",
         front: b"HTTP/1.1 200 OK\r\n",
@@ -329,6 +330,7 @@ static INTERIM: [Response; 13] = [
         decided: Some(476),
         ..NO_HEAD
     },
+    // rule body-interim-heads
     Response {
         name: "interim_heads_17",
         unit: HINTS,

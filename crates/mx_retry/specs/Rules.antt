@@ -26,10 +26,14 @@ is_transient_code code = list_any (λ n. code_number code == n) transient_codes
 abbrev pub is_transient_status : ℕ → Bool
 is_transient_status status = list_any (λ n. status == n) transient_statuses
 
+-- rule save-retries: A GET or HEAD is tried again that ended with 6, 7, 18, 28, 52, 55, 56 or with status 408, 429, 500, 502, 503, 504;
+-- after 1, 2, 4 and up to 60 seconds.
+--
 -- the method is repeatable, and the code or the status may pass
 abbrev pub is_retried : Method → Code → ℕ → Bool
 is_retried method code status = is_repeatable method && (is_transient_code code || is_transient_status status)
 
+-- rule save-retries
 -- after so many tries: a second, twice as long each time, and at most a minute
 abbrev pub delay_seconds : ℕ → ℕ
 delay_seconds tries = min (2 ^ (tries - 1)) 60

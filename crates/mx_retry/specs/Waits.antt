@@ -8,6 +8,7 @@ abbrev pub IsInOrder : List Wait → Type 0
 IsInOrder [] = Unit {0}
 IsInOrder (w ∷ ws) = AllByRecursion (λ v. w.moment ≤ v.moment) ws × IsInOrder ws
 
+-- rule save-waiting
 -- one more, behind all that wait until its moment or an earlier one, and before the others
 pub record Adds (old new : List Wait) (w : Wait) : Type 0 where
   pub earlier : List Wait
@@ -17,6 +18,8 @@ pub record Adds (old new : List Wait) (w : Wait) : Type 0 where
   pub before : AllByRecursion (λ v. v.moment ≤ w.moment) earlier
   pub behind : AllByRecursion (λ v. w.moment < v.moment) later
 
+-- rule save-waiting: Those that wait to be tried again come out by moment, and then as they were added; at most 4,096 wait.
+--
 -- who has waited longest of those whose moment has come; where none's has, nothing changes
 abbrev pub PopsDue : ℕ → List Wait → Option ℕ → List Wait → Type 0
 PopsDue now old (Some job) new = (moment : ℕ) × (moment ≤ now) × (old ≡ record { moment = moment; job = job } ∷ new)

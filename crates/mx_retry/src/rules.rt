@@ -34,6 +34,7 @@ fn is_transient_status(status: u16) -> bool
     matches!(status, 408 | 429 | 500 | 502 | 503 | 504)
 }
 
+// rule save-retries
 /// Whether a URL may be tried again that was asked for by that method and ended with that code and that status: the method is GET or HEAD,
 /// and the code or the status is one that may pass. The method is the one that was given, not that of a request that a redirect led to.
 pub fn is_retried(method: Method, code: Code, status: u16) -> bool
@@ -42,6 +43,7 @@ pub fn is_retried(method: Method, code: Code, status: u16) -> bool
     is_repeatable(method) && (is_transient_code(code) || is_transient_status(status))
 }
 
+// rule save-retries
 /// How long a URL waits after so many tries, in milliseconds: 1, 2, 4, 8, 16 and 32 seconds after the first six, and 60 after each further
 /// one.
 pub fn delay_ms(tries: u32) -> u64

@@ -4,6 +4,7 @@ ghost use Rattle.std.specs.Prelude.{◌≡◌, ◌<◌, ◌≤◌, ◌↔◌, []
 use std::alloc::{AllocError, AllocFailed, Global};
 use std::marker::Model;
 
+// rule save-waiting
 /// The greatest number of jobs that wait at a time.
 pub const MOST_WAITING: usize = 4_096;
 
@@ -68,6 +69,7 @@ impl Waiting {
         self.waits.iter().filter(|w| w.moment <= moment).count()
     }
 
+    // rule save-waiting
     /// Adds a job that waits until that moment, behind those that wait until then already. Fewer than [`MOST_WAITING`] may wait.
     ///
     /// An error is the want of memory: nothing changes.
@@ -91,6 +93,7 @@ impl Waiting {
         self.waits.first().map(|w| w.moment)
     }
 
+    // rule save-waiting
     /// Takes out the job that has waited longest of those whose moment isn't after `now`: the one with the least moment, and of these the
     /// one that was added first. `None` where no job's moment has come, and then nothing changes.
     pub fn pop_due(&mut self, now: u64) -> Option<u64>

@@ -95,6 +95,7 @@ fn wants_link<L: Link>(transfer: &Transfer<L>) -> bool
     transfer.wants().is_some()
 }
 
+// rule turn-wait-for-link
 // Whether a transfer that waits could go on at once: one that may go on, and wants a link that may be opened.
 fn could_go_on(goes: bool, delayed: bool, wants: bool) -> bool
     ensures { result ≡ (goes && (not delayed && wants)) }
@@ -143,6 +144,7 @@ impl<L: Link, C: Right, E: Engine<L, C>> Desk<L, C, E> {
         self.engine
     }
 
+    // rule turn-over
     /// Whether it was told to stop, and has nothing in hand.
     pub fn is_over(&self) -> bool
         ensures { IsTrue result ↔ IsOver self.now.worker }
@@ -150,6 +152,7 @@ impl<L: Link, C: Right, E: Engine<L, C>> Desk<L, C, E> {
         self.is_stopping && self.rack.is_empty()
     }
 
+    // rule turn-claims
     // Holds a transfer, behind the others.
     fn hold(&mut self, held: Held<L, C>)
         requires room { in_hand self.old.worker < most_transfers }
@@ -179,6 +182,7 @@ impl<L: Link, C: Right, E: Engine<L, C>> Desk<L, C, E> {
         self.hold(Held::new(right, transfer));
     }
 
+    // rule turn-claims
     // Claims a transfer, if there is one and it has room for it.
     fn claim<R: Wait>(&mut self, rt: &R)
         ensures claims { Claims self.old.worker self.new.worker }
@@ -208,6 +212,7 @@ impl<L: Link, C: Right, E: Engine<L, C>> Desk<L, C, E> {
         }
     }
 
+    // rule turn-paused
     // Tells a transfer the moment and whether it is paused, and gives it a link where it goes on and wants one. The answer is whether none can
     // be opened for it yet.
     fn make_ready<G: Gate<Link = L>>(
@@ -229,6 +234,7 @@ impl<L: Link, C: Right, E: Engine<L, C>> Desk<L, C, E> {
         self.links.supply(gate, transfer)
     }
 
+    // rule turn-progress
     // Polls a transfer once, notes how many bytes it has received, and keeps the link that a hop left.
     fn poll(&mut self, right: &C, transfer: &mut Transfer<L>) -> Stepped
         requires running { transfer.old.chain.code ≡ None }
@@ -272,6 +278,7 @@ impl<L: Link, C: Right, E: Engine<L, C>> Desk<L, C, E> {
         }
     }
 
+    // rule worker-requeued-deadline
     // Gives a transfer back as it stands, with its link. It is held no more, whatever comes of that.
     fn give_back<R: Wait>(&mut self, rt: &R, held: Held<L, C>)
         requires own { held.of ≡ self.old.of }
@@ -282,6 +289,8 @@ impl<L: Link, C: Right, E: Engine<L, C>> Desk<L, C, E> {
         self.engine.give_back(rt, &mut place);
     }
 
+    // rule turn-gone
+    // rule turn-paused
     // Looks at a transfer, and polls it unless it is gone: then it is given back.
     fn look_at<R: Wait, G: Gate<Link = L>>(
         &mut self,
@@ -303,6 +312,7 @@ impl<L: Link, C: Right, E: Engine<L, C>> Desk<L, C, E> {
         }
     }
 
+    // rule turn-stop
     // Gives a transfer back that has not started. One that has is held on.
     fn hand_back<R: Wait>(&mut self, rt: &R, held: Held<L, C>)
         requires room { in_hand self.old.worker < most_transfers }
@@ -317,6 +327,7 @@ impl<L: Link, C: Right, E: Engine<L, C>> Desk<L, C, E> {
         self.give_back(rt, held);
     }
 
+    // rule turn-set-aside
     // Hands in the ends again that were set aside, in order.
     fn retry_those<R: Wait>(&mut self, rt: &R, todo: &mut Queue<Finished<C>, E>)
         requires fits { length todo.old.items + in_hand self.old.worker ≤ most_transfers }
@@ -411,6 +422,7 @@ impl<L: Link, C: Right, E: Engine<L, C>> Desk<L, C, E> {
         self.go_through(rt, gate, now, todo)
     }
 
+    // rule turn-wait
     // How long it may wait.
     fn wait_ms(&self, now: u64) -> u32
         ensures { result ≡ wait_of now self.now.worker }
@@ -434,6 +446,7 @@ impl<L: Link, C: Right, E: Engine<L, C>> Desk<L, C, E> {
         self.stop_those(rt, todo);
     }
 
+    // rule turn-stop
     // It is told to stop, or goes on.
     fn hear<R: Wait>(&mut self, rt: &R, turn: Turn, todo: &mut Queue<Held<L, C>, E>)
         requires spare { todo.old.items ≡ [] }

@@ -35,6 +35,8 @@ pub trait Right: Tied + Drop {
         ensures { result ≡ ticket_of self.now };
 }
 
+// rule worker-own-claim: A worker records an end only with the claim of its own transfer: both are of one request, by the invariants of
+// `Held` and `Finished`.
 /// A claimed transfer, which has not ended, and the right to it, which is of its request. Contracts see the ticket, the slot, how the
 /// transfer stands, and of which list of ties the right is. The transfer lies in a box, since it goes from list to list in each turn.
 #[derive(Drop)]
@@ -132,6 +134,7 @@ impl<L: Link, C: Right> Held<L, C> {
     }
 }
 
+// rule worker-own-claim
 /// The right to a claimed transfer, and the outcome that ends it, which are of one request. Contracts see the ticket, the outcome, and of
 /// which list of ties the right is.
 #[derive(Drop)]

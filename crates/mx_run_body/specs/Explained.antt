@@ -36,6 +36,9 @@ abbrev pub told_lines : Option Told → List ℕ
 told_lines None = []
 told_lines (Some told) = body_lines told.code told.reason
 
+-- rule program-explain: With `--explain` what `body` and `get` print and end with stays the same, and what failed is reported on standard
+-- error.
+--
 -- What is told is of the verdict on what was read; or it is the want of memory.
 abbrev pub TellsRead : Method → Option (List ℕ) → Option (List ℕ) → (List ℕ → Type 0) → Type 0
 TellsRead m known left Written =

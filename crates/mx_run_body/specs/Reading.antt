@@ -12,6 +12,9 @@ use Rattle.mx_run_body.specs.declared.reading.Received.{Received}
 unfoldable pub bytes_read : ℕ → List ℕ → List ℕ
 bytes_read most input = take (most + 1) input
 
+-- rule program-body-reads: `body` reads one byte more than a response may have, and no further; what is left is counted within what was
+-- read.
+--
 -- Reading went no further than the byte behind the most; and where a read failed, at most the most was there before it.
 pub record ReadsUpTo (most : ℕ) (failed : Bool) (known left : Option (List ℕ)) : Type 0 where
   pub front : List ℕ

@@ -10,8 +10,8 @@ three_digits status = replicate (3 - length (decimal status)) 48 ++ decimal stat
 abbrev pub yes_or_no : Bool → List ℕ
 yes_or_no b = if b then codes "yes" else codes "no"
 
--- the line of a whole response: its status, the length of its body, whether its connection may be kept, and
--- how many bytes of the input stand behind it
+-- rule program-response-line: The line of a whole response has its status in three digits, the length of its body, whether its connection
+-- may be kept, and how many bytes of the input stand behind it.
 unfoldable pub response_line : ℕ → ℕ → Bool → ℕ → List ℕ
 response_line status body keep left =
     codes "OK status=" ++ (three_digits status ++ (codes " body=" ++ (decimal body

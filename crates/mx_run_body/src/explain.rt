@@ -61,6 +61,7 @@ fn print_told<E: Write>(output: &mut Output<E>, told: Option<Told>) -> Result<()
     }
 }
 
+// rule program-explain
 /// Tells why what was received is no whole response, where it isn't one.
 pub(crate) fn explain<E: Write>(
     alloc: Global,

@@ -47,6 +47,7 @@ fn decide(mut decoder: Decoder, len: usize) -> Result<Received, InputError>
     }
 }
 
+// rule program-body-reads
 /// Reads to the end of the input, or until there are more bytes than a response may have, and then no further than
 /// that. What comes is decoded as it comes, up to the bytes that decide; those behind them are counted alone.
 pub fn receive<R: Read>(

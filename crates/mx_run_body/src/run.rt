@@ -22,6 +22,7 @@ use mx_types::{Code, Method};
 use std::alloc::Global;
 use std::io::{Read, Write};
 
+// rule program-reads
 /// The most reads that `run_body` makes: each but the last gives a byte.
 pub const MOST_READS: u64 = 67_108_866;
 
@@ -87,6 +88,7 @@ fn print_verdict<W: Write>(
     }
 }
 
+// rule program-failed-read
 // Prints what was received, and answers the exit status.
 fn print_received<W: Write>(
     output: &mut Output<W>,

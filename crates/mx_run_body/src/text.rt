@@ -15,6 +15,7 @@ fn yes_or_no(b: bool) -> &'static str
     if b { "yes" } else { "no" }
 }
 
+// rule program-response-line
 /// Prints the line of a whole response.
 pub fn print_response<W: Write>(
     output: &mut Output<W>,

@@ -17,6 +17,9 @@ transfer_text handle fetched =
     transfer_line handle (code_number (code_of fetched)) (status_of fetched) (length (body_of fetched))
     ++ (body_of fetched ++ 10 ∷ [])
 
+-- rule get-output: `get` prints a line, the body and LF for each handle, in order; its exit status is the first number of a code that isn't
+-- 0.
+--
 -- the texts of handles that are counted from this one
 abbrev pub texts_from : ℕ → List Fetched → List ℕ
 texts_from handle [] = []

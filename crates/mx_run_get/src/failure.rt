@@ -74,6 +74,7 @@ pub fn why_of(alloc: Global, outcome: &Outcome) -> Option<Reason>
 }
 
 impl Failure {
+    // rule get-failures
     /// What is kept of that outcome.
     pub(crate) fn of(alloc: Global, outcome: Outcome) -> Failure
         requires { outcome.code ≢ codes.Ok }

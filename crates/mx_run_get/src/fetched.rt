@@ -19,6 +19,7 @@ pub enum Fetched {
 }
 
 impl Fetched {
+    // rule get-failures
     /// What a transfer ended with. Of one that failed the bytes that came are let go.
     pub fn of(alloc: Global, outcome: Outcome) -> Fetched
         ensures { result ≡ fetched_of outcome }

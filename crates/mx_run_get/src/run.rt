@@ -8,6 +8,7 @@ use crate::text::print_transfer;
 use mx_run_io::{Output, UNWRITTEN, WriteFailed};
 use std::io::Write;
 
+// rule get-output
 /// The first code that isn't `Ok`, in the order of the handles, as the number that the program ends with.
 pub fn exit_status(fetched: &[Fetched]) -> u8
     ensures value { result ≡ exit_status fetched.now }
@@ -35,6 +36,7 @@ fn print_all<W: Write>(output: &mut Output<W>, fetched: &[Fetched]) -> Result<u8
     Ok(exit_status(fetched))
 }
 
+// rule get-output
 /// Prints what each handle ended with, in the order of the handles: a line, the body, and the end of a line. The
 /// answer is the exit status: the number of the first code that isn't `Ok`, 0 where there is none, or 121 where
 /// the output couldn't be written. All that is printed is flushed, unless the answer is 121. Bodies are written from

@@ -31,6 +31,8 @@ is_pending output = output.pending
 abbrev pub Wrote : {W : Type 0} → (W → Option (List ℕ)) → Output W → Output W → List ℕ → Type 0
 Wrote contents old new = Appends (contents (writer_of old)) (contents (writer_of new))
 
+-- rule program-unwritten: An output that couldn't be written or flushed ends with 121.
+--
 -- How a run ends: its status is 121 exactly where the output couldn't be written, and else nothing is left pending in it.
 pub record EndsRun {W : Type 0} (output : Output W) (status : ℕ) : Type 0 where
   pub unwritten : (status ≡ 121) ↔ (has_failed_write output ≡ true)

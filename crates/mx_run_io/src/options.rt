@@ -18,6 +18,7 @@ pub struct Options {
 }
 
 impl Options {
+    // rule get-options
     /// Whether each number is within its limits.
     pub fn are_within(&self) -> bool
         ensures { result ≡ are_within self.now }
@@ -29,6 +30,7 @@ impl Options {
             && self.max_connects <= 64
     }
 
+    // rule get-width
     /// How many transfers are added at a time: one where there is one worker.
     pub fn width(&self) -> u16
         ensures { result ≡ width self.now }

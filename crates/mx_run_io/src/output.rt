@@ -2,6 +2,7 @@
 use std::fmt::Display;
 use std::io::Write;
 
+// rule program-unwritten
 /// The exit status where the output couldn't be written.
 pub const UNWRITTEN: u8 = 121;
 
@@ -81,6 +82,7 @@ impl<W: Write> Output<W> {
         self.note(flushed)
     }
 
+    // rule program-unwritten
     /// Ends a run: flushes, and answers the exit status, or `UNWRITTEN` where the output couldn't be written. The
     /// status handed in is another than that, or the error of a write that failed.
     pub fn end(&mut self, status: Result<u8, WriteFailed>) -> u8

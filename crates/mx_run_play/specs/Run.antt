@@ -84,6 +84,8 @@ WantsEvent p (line.Call c) = MakesEvent p c
 WantsEvent p line.Retire = ⊥
 WantsEvent p line.Bad = ⊥
 
+-- rule program-out-of-memory: Out of memory is `FAULT 27`, in `play` behind the replies to the lines before.
+--
 -- There was no memory for the event of some line's call: what is written is the run of the lines before it, none of which was bad, and then
 -- the fault, and the program ends with its number.
 pub record PrintsNoMemory (p : PlayerView) (known : Option (List ℕ)) (Written : List ℕ → Type 0) (ends_with : ℕ) : Type 0 where

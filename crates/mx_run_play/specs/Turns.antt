@@ -40,6 +40,8 @@ abbrev pub without_claim : Ticket → List Ticket → List Ticket
 without_claim t [] = []
 without_claim t (u ∷ claims) = (if same_ticket t u then claims else u ∷ without_claim t claims)
 
+-- rule play-claims: `play` claims each addition at once, and keeps the claim until its end comes: the end of any other ticket is
+-- `no-claim`, that of a removed addition `stale`.
 abbrev pub says : PlayerView → Call → Said
 says p call.Poll = (if is_ready p.mark p.journal then replied reply.Woken else waits)
 says p (call.Finish t c n) = (if has_ticket t p.claims then replied (reply_to p (call.Finish t c n)) else unclaimed)

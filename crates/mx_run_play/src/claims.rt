@@ -41,6 +41,7 @@ impl Claims {
         })
     }
 
+    // rule play-claims
     /// Keeps the claim of the next addition.
     pub fn keep(&mut self, claim: Claim<NoWork>)
         requires next { claim.ticket.0 ≡ self.old.first + self.old.made }
@@ -54,6 +55,7 @@ impl Claims {
         self.places.push_reserved(Some(claim));
     }
 
+    // rule play-claims
     /// Takes the claim on a ticket. None where none is kept.
     pub fn take(&mut self, ticket: Ticket) -> Option<Claim<NoWork>>
         ensures none { IfNone result ((has_ticket ticket self.old.tickets ≡ false) × (self.new ≡ self.old)) }

@@ -14,6 +14,7 @@ use std::io::{Read, Write};
 /// The exit status after a bad line.
 const BAD_LINE: u8 = 122;
 
+// rule program-out-of-memory
 /// What `run_play` prints, and its exit status, where each write succeeds.
 fn play_script<R: Read, W: Write>(
     alloc: Global,

@@ -159,6 +159,7 @@ fn is_numeral(word: &[u8]) -> bool
     !word.is_empty() && word.len() <= 10 && all_digits(word)
 }
 
+// rule play-lines
 /// A number: 1 to 10 decimal digits of at most 4294967295.
 fn number_of(word: &[u8]) -> Option<u32>
     ensures { result ≡ number_of word.now }
@@ -245,6 +246,7 @@ fn retire_or_bad(line: &[u8]) -> Line
     Line::Bad
 }
 
+// rule play-lines
 /// What a line of at most 64 bytes is.
 pub fn read_line(line: &[u8]) -> Line
     requires { length line.now ≤ 64 }

@@ -15,9 +15,11 @@ use std::io::{Read, Write};
 /// How many bytes one read asks for.
 const READ_SIZE: usize = 4096;
 
+// rule program-reads
 /// The most reads that `run_play` makes.
 pub const MOST_READS: u64 = 4_294_967_295;
 
+// rule play-long-lines
 /// A run of a script: its player, the bytes of the line that is being read, and the number of lines before it.
 #[derive(Drop)]
 pub struct Session {
@@ -74,6 +76,7 @@ impl Session {
         Ok(Turn::On)
     }
 
+    // rule play-long-lines
     fn bad_line<W: Write>(&self, output: &mut Output<W>) -> Result<Turn, WriteFailed>
         requires counted { self.now.lines + 1 < 2 ^ 64 }
         ensures turn { IfOk result (λ turn. turn ≡ Bad) }

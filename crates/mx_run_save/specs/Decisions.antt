@@ -20,8 +20,8 @@ is_head _ = false
 abbrev pub has_no_file : Method → ℕ → Bool
 has_no_file method status = is_head method || (status == 204) || (status == 205) || (status == 304)
 
--- The list of cases: what failed fails with its code; a status that isn't 2xx fails with 22 unless it is asked for; what has no body is
--- done; all else is saved.
+-- rule save-decision: What failed fails with its code; a status that isn't 2xx fails with 22, unless it is asked for; the response to a
+-- HEAD, 204, 205 and 304 are done; all else is saved.
 pub record IsDecision (c : Code) (m : Method) (status : ℕ) (asked : Bool) (d : Decision) : Type 0 where
   pub failed : c ≢ codes.Ok → d ≡ decision.Fail (code.Transfer c)
   pub refused : c ≡ codes.Ok → is_success status ≡ false → asked ≡ false → d ≡ decision.Fail code.HttpReturnedError

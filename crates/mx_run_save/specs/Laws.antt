@@ -15,11 +15,14 @@ told_line e = (e.verdict, (save_number e.code, (e.status, (e.length, (option_map
 abbrev pub told_object : EndValue → (Verdict × (ℕ × (ℕ × (ℕ × (Option (List ℕ) × List ℕ))))) × (ℕ × (ℕ × (Option FramingWord × Option (List ℕ))))
 told_object e = (told_line e, (e.hops, (e.tries, (e.framing, e.error))))
 
+-- rule save-lines: One line, or one object, for each URL; no server and no list can forge one.
+--
 -- Equal lines come only from as many URLs that ended alike.
 abbrev pub LinesTell : Type 0
 LinesTell = (some others : List EndValue) → AllByRecursion IsEnd some → AllByRecursion IsEnd others
     → lines_text some ≡ lines_text others → map told_line some ≡ map told_line others
 
+-- rule save-lines
 -- Equal objects do so, too.
 abbrev pub ObjectsTell : Type 0
 ObjectsTell = (some others : List EndValue) → AllByRecursion IsEnd some → AllByRecursion IsEnd others

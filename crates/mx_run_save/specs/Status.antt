@@ -35,6 +35,6 @@ pub record AreNotesOf (numbers : List ℕ) (notes : List PlacedCode) : Type 0 wh
   pub all : (place number : ℕ) → slice_get numbers place ≡ Some number → number ≢ 0
       → (k : ℕ) × (slice_get notes k ≡ Some (record { place = place; number = number }))
 
--- However the ends come, the status is the first number that isn't 0, in the order of the URLs.
+-- rule save-exit-status: The exit status is the first code that isn't 0, in the order of the URLs, in whatever order they end.
 abbrev pub OrderDoesNotMatter : Type 0
 OrderDoesNotMatter = (numbers : List ℕ) (notes : List PlacedCode) → AreNotesOf numbers notes → status_of (after_notes None notes) ≡ first_code numbers

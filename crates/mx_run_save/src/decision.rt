@@ -32,6 +32,7 @@ fn has_no_file(method: Method, status: u16) -> bool
     matches!(method, Method::Head) || status == 204 || status == 205 || status == 304
 }
 
+// rule save-decision
 /// What is done with what a transfer ended with: its code, the status of the last response, and the method of the last request. A transfer
 /// that failed has its own code; a status that isn't 2xx fails with 22, for HEAD as well, unless `content_on_error` asks for such responses
 /// too; else the body is saved, where there can be one.

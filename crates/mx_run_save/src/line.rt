@@ -55,6 +55,7 @@ fn print_url<W: Write>(output: &mut Output<W>, end: &End) -> Result<(), WriteFai
     output.print(format_args!(" {url}\n"))
 }
 
+// rule save-lines
 /// Prints the line of a URL: verdict, code, status, length, file and URL, with one space between. Of the file and the URL each byte that
 /// isn't visible ASCII is escaped as `%XX`, with capital digits; where no file is named, `-` stands for it.
 ///

@@ -125,6 +125,7 @@ fn print_back<W: Write>(
     ))
 }
 
+// rule save-lines
 // Prints the object.
 // It is put together of values that `serde_json` writes: an object of its own has its keys in alphabetical order.
 fn print_object<W: Write>(

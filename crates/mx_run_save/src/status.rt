@@ -26,6 +26,7 @@ impl ExitStatus {
         ExitStatus { first: None }
     }
 
+    // rule save-exit-status
     /// Notes the code with which the URL at that place ended. The ends may come in any order.
     pub fn note(&mut self, place: u64, code: SaveCode)
         ensures { first_of self.new ≡ after_note (first_of self.old) (record { place = place; number = save_number code }) }

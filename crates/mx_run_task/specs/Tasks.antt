@@ -10,7 +10,7 @@ use Rattle.mx_run_play.specs.Run.{AnswersScript, PrintsUnread, fresh}
 use Rattle.mx_command.specs.declared.task.Task.{Task as Tasks}
 use Rattle.mx_command.specs.declared.task.Task.TheVariants.{Body, Play}
 
--- how often a task reads at most
+-- rule program-reads: `body` reads at most 67,108,866 times, `play` 4,294,967,295 times.
 abbrev pub most_reads : Tasks → ℕ
 most_reads (Body method) = most_bytes + 2
 most_reads (Play history first) = 4294967295

@@ -133,6 +133,7 @@ const UNFLUSHED: Pipe = Pipe {
     is_flushed: false,
 };
 
+// rule program-unwritten
 fn see_buffers(alloc: Global, tally: &mut Tally) -> Result<(), AllocError> {
     tally.hold("a buffer before a full disk", is_full_behind(alloc, 0))?;
     tally.hold(
@@ -185,6 +186,7 @@ static FILLED: [Filled; 4] = [
         line: b"OK status=200 body=67108845 keep=no left=0\n",
         count: 67_108_845,
     },
+    // rule program-body-reads
     Filled {
         name: "one byte more than a response may have",
         head: OPEN,

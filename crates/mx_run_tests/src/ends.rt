@@ -43,6 +43,7 @@ const NOTHING: Transferred = Transferred {
     tries: 0,
 };
 
+// rule save-lines
 static ENDS: [Row; 6] = [
     Row {
         name: "saved",
@@ -185,6 +186,7 @@ type Case = (Code, Method, u16, bool, Decision);
 
 const REFUSED: Decision = Decision::Fail(SaveCode::HttpReturnedError);
 
+// rule save-decision
 static CASES: [Case; 17] = [
     (Code::Ok, Method::Get, 200, false, Decision::Save),
     (Code::Ok, Method::Get, 299, false, Decision::Save),
@@ -234,6 +236,7 @@ const NO_HOST: SaveCode = SaveCode::Transfer(Code::CouldntResolveHost);
 /// How the URLs of a run end, in this order: the place and the code of each; and the status of the run.
 type Run = (&'static [(u64, SaveCode)], u8);
 
+// rule save-exit-status
 static RUNS: [Run; 6] = [
     (&[], 0),
     (&[(0, FINE), (1, FINE)], 0),

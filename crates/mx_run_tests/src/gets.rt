@@ -26,6 +26,7 @@ static PRINTED: [Row; 4] = [
         status: 0,
         printed: b"",
     },
+    // rule get-output
     Row {
         name: "bodies stand behind their lines",
         planned: &[
@@ -89,6 +90,7 @@ type Told = (Code, u16, usize, Option<Reason>);
 /// What is to become of a GET, and what is told of it, if it is a failure.
 type Failing = (&'static str, Planned, Option<Told>);
 
+// rule get-failures
 static FAILING: [Failing; 6] = [
     (
         "no failure",

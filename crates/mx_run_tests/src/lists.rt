@@ -55,6 +55,7 @@ fn seen(alloc: Global, told: &str) -> Result<String, AllocError> {
     Ok(seen.text)
 }
 
+// rule list-entries
 /// What is seen of a list, which has to be the same read by 4096 bytes, by threes and byte by byte.
 pub(crate) fn see_list(alloc: Global, bytes: &[u8]) -> Result<String, AllocError> {
     let whole = told(alloc, bytes, 4096, 1_000_000)?;

@@ -62,6 +62,7 @@ static FAULTS: [(usize, usize, &str); 4] = [
     (27, 34, "added 0\nadded-already\nhandles 1\nFAULT 56\n"),
 ];
 
+// rule program-failed-read
 fn see_failing_reads(alloc: Global, tally: &mut Tally) -> Result<(), AllocError> {
     for fault in &FAULTS {
         let (first, last, printed) = *fault;
@@ -85,6 +86,7 @@ fn printed_by(most: u64) -> (&'static str, u8) {
     }
 }
 
+// rule program-reads
 fn see_most_reads(alloc: Global, tally: &mut Tally) -> Result<(), AllocError> {
     for most in 0..=8 {
         let (printed, status) = printed_by(most);
@@ -130,6 +132,7 @@ fn is_answered(answer: Option<u8>, writes: u8, status: u8) -> bool {
     }
 }
 
+// rule program-unwritten
 fn see_failing_writes(alloc: Global, tally: &mut Tally) -> Result<(), AllocError> {
     for row in &WRITTEN {
         for writes in 0..40 {
@@ -166,6 +169,7 @@ const UNFLUSHED: Pipe = Pipe {
     is_flushed: false,
 };
 
+// rule program-unwritten
 fn see_buffers(alloc: Global, tally: &mut Tally) -> Result<(), AllocError> {
     tally.hold("a buffer before a full disk", is_full_behind(alloc, 0))?;
     tally.hold(
@@ -197,6 +201,8 @@ const BEHIND: &str = "add 256\nadd 0\npause 0\nwakeup\ndone 0 0 1\nread\nremove 
 const PRINTED_BEHIND: &str =
     "table-full\nadded-already\nhistory-full\nfailure\nrecorded\nmessage 0 0 0 1 left 0\nremoved\nhistory-full\n";
 
+// rule core-add-refusals
+// rule core-room
 fn see_full(alloc: Global, tally: &mut Tally) -> Result<(), AllocError> {
     let script = numbered(alloc, "add", BEHIND)?;
     let printed = numbered(alloc, "added", PRINTED_BEHIND)?;

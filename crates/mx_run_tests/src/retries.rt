@@ -4,6 +4,7 @@ use mx_retry::{MOST_WAITING, Wait, Waiting, delay_ms, is_retried};
 use mx_types::{Code, Method};
 use std::alloc::{AllocError, Global};
 
+// rule save-retries
 static TRANSIENT: [Code; 7] = [
     Code::CouldntResolveHost,
     Code::CouldntConnect,
@@ -26,6 +27,7 @@ static LASTING: [Code; 9] = [
     Code::TooLarge,
 ];
 
+// rule save-retries
 /// Each method, and whether it is tried again: nothing is asked for twice that may change something.
 static METHODS: [(Method, bool); 6] = [
     (Method::Get, true),
@@ -36,6 +38,7 @@ static METHODS: [(Method, bool); 6] = [
     (Method::Options, false),
 ];
 
+// rule save-retries
 /// The statuses of responses that are tried again though they are whole.
 static STATUSES: [u16; 6] = [408, 429, 500, 502, 503, 504];
 
@@ -70,6 +73,7 @@ fn see_statuses(alloc: Global, tally: &mut Tally) -> Result<(), AllocError> {
     Ok(())
 }
 
+// rule save-retries
 /// After how many tries there is which delay, in milliseconds.
 static DELAYS: [(u32, u64); 8] = [
     (1, 1_000),
@@ -112,6 +116,7 @@ static DUE: [(u64, Option<u64>); 6] = [
     (30, Some(1)),
 ];
 
+// rule save-waiting
 fn see_due(alloc: Global, tally: &mut Tally) -> Result<(), AllocError> {
     let mut waiting = Waiting::new(alloc);
     for job in &JOBS {
@@ -126,6 +131,7 @@ fn see_due(alloc: Global, tally: &mut Tally) -> Result<(), AllocError> {
     tally.hold("no next moment", waiting.next().is_none())
 }
 
+// rule save-waiting
 /// As many jobs find room as may wait.
 fn see_most(alloc: Global, tally: &mut Tally) -> Result<(), AllocError> {
     let mut waiting = Waiting::new(alloc);

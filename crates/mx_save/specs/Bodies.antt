@@ -24,10 +24,14 @@ Flushes name flushed old new = (bytes : List ℕ) → Holds name bytes false old
 abbrev pub IsOnlyPart : List ℕ → List Step → List Step → Type 0
 IsOnlyPart part old moment = (found : List ℕ → Option File) (name : List ℕ) → name ≢ part → file found moment name ≡ file found old name
 
+-- rule file-refused-save: A refused call leaves each file as it was, and no part, unless the folder refused to remove it.
+--
 -- each name of a file holds what it held
 abbrev pub FilesAreKept : List Step → List Step → Type 0
 FilesAreKept old new = (found : List ℕ → Option File) (name : List ℕ) → IsSafeName name → file found new name ≡ file found old name
 
+-- rule file-whole-body: A body has its name only when all of it was written, and flushed where that is asked for.
+--
 -- each name but that of the part holds what it held, or it is this one and holds this body, whole
 abbrev pub IsBeforeOrAfter : List ℕ → List ℕ → List ℕ → Bool → List Step → List Step → Type 0
 IsBeforeOrAfter part final body flushed old moment = (found : List ℕ → Option File) (name : List ℕ) → name ≢ part

@@ -123,6 +123,7 @@ impl<F: Folder, B: Body> Ledger<F, B> {
         }
     }
 
+    // rule file-part-that-exists, unproved: A part that exists is left alone, and the next number is taken.
     /// Saves a body under a name that none of those before has. It is written under the name of a part, which is another one for each try:
     /// where something else has that name, the next one is taken, up to `PART_TRIES` of them.
     ///

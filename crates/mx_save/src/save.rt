@@ -79,6 +79,7 @@ fn fill_part<F: Folder, B: Body>(
     flush_part(folder, part, flush)
 }
 
+// rule file-refused-save
 // Takes the part away, if that can be done.
 fn discard<F: Folder>(folder: &mut F, part: &PartName)
     ensures any_moment { AtEachMoment (IsOnlyPart part.now (F.steps folder.old)) (F.steps folder.old) (F.steps folder.new) }
@@ -87,6 +88,8 @@ fn discard<F: Folder>(folder: &mut F, part: &PartName)
     let _ = folder.remove(part);
 }
 
+// rule file-whole-body
+// rule file-refused-save
 /// Saves a body under a name: writes it under the name of the part, has it on the disk where `flush` says so, and gives it its name. What
 /// was under the name before is gone then; a moment earlier it is still there.
 ///

@@ -83,6 +83,8 @@ awaits t (slot.Added job ticket) = ticket.0 == t.0
 abbrev pub awaits_at : List Slot → ℕ → Ticket → Bool
 awaits_at slots i t = option_map_or (awaits t) (slice_get slots i) false
 
+-- rule save-bodies: A body is saved for a URL that is reported as saved, and for no other.
+--
 -- All URLs have ended: what was told holds, of each URL something was told, and as many ends were told as there are URLs;
 -- and no more bodies were saved than URLs were told as saved: of one that failed, or was skipped, nothing was.
 pub record HaveEnded (asking : Asking) (urls : List (List ℕ)) (saves : Saves) (told : List ToldValue) : Type 0 where

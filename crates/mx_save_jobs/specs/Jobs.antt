@@ -61,6 +61,9 @@ pub record IsDoneEnd (asking : Asking) (e : EndValue) : Type 0 where
   pub decided : IsDecision outcome.code outcome.last.request.method outcome.status asking.content_on_error decision.Done
   pub status : e.status ≡ outcome.status
 
+-- rule save-failures: Of each URL that failed it is said why: of a transfer what its bytes tell, of a whole response that its status isn't
+-- 2xx.
+--
 -- a URL that failed: it is said why
 abbrev pub IsFailedEnd : EndValue → Type 0
 IsFailedEnd e = IsSome e.error
@@ -139,6 +142,7 @@ pub record IsBook (b : State) (n : ℕ) (names : List (List ℕ)) : Type 0 where
 abbrev pub GrowsBy : List ℕ → Saves → Saves → Type 0
 GrowsBy name old new = (new ≡ old) ⊎ ((outcome : OutcomeValue) × (new ≡ (name, outcome) ∷ old))
 
+-- rule save-bodies
 -- they grow by one where a URL is told as saved, and only there
 abbrev pub GrowsFor : List ℕ → Verdict → Saves → Saves → Type 0
 GrowsFor name v old new =

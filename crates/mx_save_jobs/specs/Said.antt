@@ -10,6 +10,7 @@ use Rattle.mx_words.specs.Words.{told_text}
 abbrev pub IsToldOf : OutcomeValue → List ℕ → Type 0
 IsToldOf outcome text = (reason : Option Reason) × IsWhy outcome reason × (text ≡ told_text outcome.code reason)
 
+-- rule save-failures
 -- where it is whole, that its status isn't one of success
 pub record IsSaid (outcome : OutcomeValue) (text : List ℕ) : Type 0 where
   pub whole : outcome.code ≡ code.Ok → text ≡ codes "the status of the response isn't 2xx"

@@ -49,6 +49,7 @@ fn code_of(error: SaveError) -> SaveCode
     }
 }
 
+// rule save-bodies
 // Saves the body of an outcome.
 fn save<F: Folder>(
     alloc: Global,
@@ -92,6 +93,7 @@ fn save<F: Folder>(
     }
 }
 
+// rule save-failures
 // Ends a URL whose transfer ended so: its body is saved where it is to be.
 pub(crate) fn finish<F: Folder>(
     alloc: Global,

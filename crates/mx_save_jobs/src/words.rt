@@ -30,6 +30,7 @@ fn told_words(alloc: Global, outcome: &Outcome) -> Result<String, AllocError>
     format!(in alloc; "{told}")
 }
 
+// rule save-failures
 /// What is said of a URL whose transfer ended so, and of which nothing is saved: where it failed what its bytes tell, else that its status isn't
 /// one of success.
 pub(crate) fn failure_words(alloc: Global, outcome: &Outcome) -> Result<String, AllocError>

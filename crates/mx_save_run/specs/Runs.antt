@@ -13,6 +13,8 @@ pub record IsOneRun {W : Type 0} (old_ledger : LedgerValue OutcomeValue) (old_li
   pub output : lines.start ≡ old_lines.start
   pub json : lines.json ≡ old_lines.json
 
+-- rule save-each-once: Each URL that was read ends and is reported once; what was reported as saved is whole in its file.
+--
 -- Each URL has ended, and was told of once: one that was told as saved has the whole body of a response to the last request of its chain
 -- under the name that was told. Where it is known which URLs there were, these are the ones.
 pub record SavesAll (asking : Asking) (given : Option (List (List ℕ))) {W : Type 0} (ledger : LedgerValue OutcomeValue) (lines : LinesValue W) : Type 0 where

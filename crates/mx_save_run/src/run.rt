@@ -27,6 +27,7 @@ use std::sync::Wait;
 use std::thread::Threads;
 use std::time::Instant;
 
+// rule save-long-runs
 // Fetches at one multi handle after another, until all URLs have ended.
 fn run_epochs<
     'a,
@@ -118,6 +119,7 @@ pub struct Ended<F: Folder, W: Write, V> {
     pub stopped: Result<(), Stop>,
 }
 
+// rule save-each-once
 /// Has workers over sockets fetch the URLs, saves what is to be saved of each into the ledger's folder, and tells what each ended with. At most
 /// `at_once` transfers run at a time. Where the history of a multi handle is full the run waits until all that were added have ended, and goes
 /// on with a new one. Who watches is told of each end, how the run stands, and where a

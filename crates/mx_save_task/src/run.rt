@@ -34,6 +34,7 @@ pub struct Saved<F: Folder, W: Write> {
     pub flushed: Result<(), FolderError>,
 }
 
+// rule save-each-once
 /// Has the URLs of the command line, and behind them those of a list, fetched and saved in a folder, and tells what each ended with. The files
 /// that hold a part of a body are named for this process. It may wait.
 pub fn save_in<

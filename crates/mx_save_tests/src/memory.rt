@@ -43,6 +43,8 @@ struct Fault {
     saved: Result<(), SaveError>,
 }
 
+// rule file-steps
+// rule file-whole-body
 static FAULTS: [Fault; 13] = [
     Fault {
         name: "flushed, no part can be made",
@@ -169,6 +171,7 @@ struct Two {
     told: (bool, bool, bool),
 }
 
+// rule file-refused-save
 static RUNS_OF_TWO: [Two; 12] = [
     Two {
         name: "the first part can't be made",
@@ -290,6 +293,7 @@ struct Taken {
     saved: Result<(), SaveError>,
 }
 
+// rule file-part-that-exists
 static TAKEN: [Taken; 3] = [
     Taken {
         name: "one part is there",

@@ -6,6 +6,8 @@ use mx_types::OutOfMemory;
 use std::alloc::Global;
 use std::test::Fail;
 
+// rule file-url-path
+// rule file-base-name
 // The text of a URL, which names the row, its path, and the name that it gives.
 static OF_URLS: [(&str, &str, &str); 34] = [
     (
@@ -76,6 +78,7 @@ fn wrong_of_urls(alloc: Global) -> Result<Option<&'static str>, OutOfMemory> {
     Ok(None)
 }
 
+// rule file-numbered-name
 // The URLs of a run in their order, and their names: whether what came of them was saved has no part in it.
 static OF_A_RUN: [(&str, &str); 10] = [
     ("http://h/a/x", "x"),
@@ -119,6 +122,7 @@ fn wrong_of_a_run(alloc: Global) -> Result<Option<&'static str>, OutOfMemory> {
     if lacks { Err(OutOfMemory) } else { Ok(None) }
 }
 
+// rule file-name-size
 // What stands behind the name of a segment of so many letters, and how long the name is, by the number that it is given.
 static LONG: [(&str, u32, u64, usize); 2] = [
     ("300 letters, no number", 300, 0, 234),

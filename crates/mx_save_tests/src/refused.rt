@@ -69,6 +69,7 @@ fn is_right<R: Runtime + Net<Listener = TcpListener, Stream = TcpStream>>(
     Ok(first && second)
 }
 
+// rule save-bodies
 /// Two bodies are saved. Where a growth is refused, the folder holds the whole bodies of those URLs that were told as saved, and nothing that
 /// isn't whole.
 #[test]

@@ -75,7 +75,11 @@ const SECOND_FAILS: Row = Row {
     ..BOTH
 };
 
+// rule save-each-once
+// rule save-bodies
 static ROWS: [Row; 15] = [
+    // rule save-each-once
+    // rule save-requests
     Row {
         name: "two are saved, one is refused, one isn't there",
         urls: &["@one", "ftp://a/"],
@@ -87,6 +91,7 @@ static ROWS: [Row; 15] = [
         served: 3,
         ..BOTH
     },
+    // rule save-long-runs
     // There is room for one URL at a multi handle: five of them take five, one after another, at the same gates.
     Row {
         name: "the least history",

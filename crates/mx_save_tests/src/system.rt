@@ -91,6 +91,7 @@ static SCENARIOS: [Scenario; 6] = [
             Step::Files(OnFiles::RemoveFolder("made-by-a-test")),
         ],
     },
+    // rule file-part-that-exists
     Scenario {
         name: "a part that is there isn't touched, and the next number is taken",
         root: "part-of-a-test",
@@ -110,6 +111,7 @@ static SCENARIOS: [Scenario; 6] = [
             Step::Files(OnFiles::RemoveFolder("part-of-a-test")),
         ],
     },
+    // rule file-links-and-folders
     Scenario {
         name: "a folder is in the way, and a link is replaced",
         root: "way-of-a-test",

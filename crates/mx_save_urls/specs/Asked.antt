@@ -12,11 +12,15 @@ use Rattle.mx_save_work.specs.Works.{WorkValue}
 use Rattle.mx_save_urls.specs.declared.turns.Turned.{Turned}
 use Rattle.mx_save_urls.specs.declared.turns.Turned.TheVariants as how
 
+-- rule save-requests
 -- Of each URL whose transfer is added, its request is added under the number of its slot.
 abbrev pub AreAsked : Asking → List Slot → List (Option RequestValue) → Type 0
 AreAsked asking slots asked = (i : ℕ) (job : Job) (ticket : Ticket) → slice_get slots i ≡ Some (slot.Added job ticket)
     → (request : RequestValue) × (slice_get asked i ≡ Some (Some request)) × Asks asking job.url.items request
 
+-- rule save-long-runs: Where a history is full, the run goes on with another multi handle, at the same gates, once all that was added has
+-- ended.
+--
 -- no transfer is added; and where all URLs have ended, all were read and none has a slot
 abbrev pub HasTurned : {W : Type 0} → WorkValue W → Turned → Type 0
 HasTurned w how.AllEnded = HasNoneAdded w.book.slots × (w.is_read ≡ true) × (count_by is_taken w.book.slots ≡ 0)

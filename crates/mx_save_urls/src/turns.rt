@@ -86,6 +86,7 @@ fn wait_ms(period: Option<u32>, may_add: bool, next: Option<u64>, now: u64) -> u
     }
 }
 
+// rule save-requests
 // Ends the URL whose transfer has ended, or has it wait, where it is to be tried again.
 fn close<'a, F: Folder, W: Write, Rd: Read + Drop, R: Clock>(
     rt: &R,

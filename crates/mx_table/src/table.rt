@@ -60,6 +60,7 @@ impl Table {
         })
     }
 
+    // rule core-done-stays-added
     /// The row of a handle that is added.
     pub fn row_of_handle(&self, handle: HandleId) -> Option<Row>
         ensures ticket { (j : List Event) → IsTableOf j self.now → option_map (λ r. r.ticket) result ≡ ticket_of handle j }

@@ -21,7 +21,8 @@ abbrev pub Each : {X W : Type 0} → (X → W → W → Type 0) → List X → W
 Each Step [] w v = v ≡ w
 Each {X} {W} Step (x ∷ xs) w v = (mid : W) × Step x w mid × Each Step xs mid v
 
--- It claims at most one transfer.
+-- rule turn-claims: At each turn a worker claims one transfer at most, and holds what it claimed.
+-- rule turn-in-flight
 pub data Claims {L : Type 0} (w v : Worker L) : Type 0 where
   -- a worker that is stopping, or has as many in hand as it may have, claims none
   keeps : (w.is_stopping ≡ true) ⊎ (most_transfers ≤ in_hand w) → v ≡ w → Claims w v
@@ -39,6 +40,8 @@ handed_in ticket o lacking w =
     record (does w (finishes ticket o lacking)) { set_aside = w.set_aside ++ record { ticket = ticket; outcome = o } ∷ [] }
 handed_in ticket o f w = does w (finishes ticket o f)
 
+-- rule turn-set-aside: An end that was refused memory is tried again at each turn, in order.
+--
 -- an end that was set aside is tried again
 abbrev pub Retries : {L : Type 0} → SetAside → Worker L → Worker L → Type 0
 Retries s w v = (f : Finish) × (v ≡ handed_in s.ticket s.outcome f w)
@@ -55,6 +58,9 @@ unserved t c = record t { now = record t.now { failure = Some c } }
 abbrev pub MustOpen : {L : Type 0} → ChainState L → Idle L → Type 0
 MustOpen t idle = (t.now.needs_fresh ≡ true) ⊎ HasNone t.now.request.endpoint idle.links
 
+-- rule turn-links: A transfer gets an idle link of its endpoint, unless only a fresh one will do; else the gate opens one, once it says
+-- that it can.
+--
 -- A transfer comes by the link that it wants, for the endpoint of the hop that is under way; and this is what the gate said meanwhile.
 pub data Supplied {L : Type 0} (history : L → List Answer) (token_of : L → ℕ) (t new : ChainState L) (idle left : Idle L) : List Said → Type 0 where
   -- one that wants no link is given none
@@ -92,6 +98,9 @@ pub data Keeps {L : Type 0} (t : ChainState L) (idle left : Idle L) : Type 0 whe
   -- or it is dropped: where no memory is found for its endpoint, which nothing here can tell
   drops : (link : L) → t.link ≡ Some link → left ≡ idle → Keeps t idle left
 
+-- rule turn-wait-for-link: A worker doesn't wait where a transfer that goes on needs a link, unless its gate has said in this turn that
+-- none can be opened yet.
+--
 -- After its poll a transfer is held on, unless it has ended; and the worker is not to wait where the transfer could go on at once. `goes`
 -- tells whether it may go on, and `delayed` whether no link could be opened for it yet.
 abbrev pub Settles : {L : Type 0} → Held L → Bool → Bool → Worker L → Worker L → How → Type 0
@@ -112,11 +121,16 @@ is_go _ = false
 abbrev pub prepared : {L : Type 0} → ℕ → Bool → ChainState L → ChainState L
 prepared now goes t = record t { now = record t.now { moment = now; is_paused = not goes } }
 
+-- rule turn-paused: A transfer that is paused, or of which no version can be read, gets no link.
+--
 -- it comes by a link only where it goes on
 abbrev pub Readies : {L : Type 0} → (L → List Answer) → (L → ℕ) → Bool → ChainState L → ChainState L → Idle L → Idle L → List Said → Type 0
 Readies history token_of true t new idle left said = Supplied history token_of t new idle left said
 Readies history token_of false t new idle left said = (new ≡ t) × (left ≡ idle) × (said ≡ [])
 
+-- rule turn-gone: A transfer that is gone is requeued with its link, so that its claim comes back.
+-- rule turn-progress: What is noted is the count of the bytes that the transfer has received, after its poll.
+--
 -- It looks at a transfer.
 pub data LooksAt {L : Type 0} (history : L → List Answer) (token_of : L → ℕ) (now : ℕ) (h : Held L) (w v : Worker L) : Type 0 where
   -- one that is gone is given back as it stands, with its link, and is held no more
@@ -135,6 +149,9 @@ pub data LooksAt {L : Type 0} (history : L → List Answer) (token_of : L → �
 abbrev pub IsLate : {L : Type 0} → ℕ → Held L → Type 0
 IsLate now h = IsDue h.transfer.now.deadline now
 
+-- rule turn-order: The transfers whose deadline has come are looked at first, then the others in order of claim, each once.
+-- rule turn-clock: Before each transfer that isn't due the clock is asked, and what has become due comes first.
+--
 -- It goes through these transfers from here to its end, where the moment is `last`, and looks at each once. `now` is the moment here, and
 -- `is_new` tells that it has polled none since it was told so.
 pub data GoesThrough {L : Type 0} (history : L → List Answer) (token_of : L → ℕ) (last : ℕ) (v : Worker L) : ℕ → Bool → List (Held L) → Worker L → Type 0 where
@@ -161,7 +178,8 @@ abbrev pub time_left : ℕ → Option ℕ → ℕ
 time_left now None = longest_wait
 time_left now (Some deadline) = deadline - now
 
--- how long it waits: not at all where something of its own could go on at once; else until the next deadline, and at most the longest wait
+-- rule turn-wait: A turn waits until the next deadline, at most 20 milliseconds, and not at all where something of its own could go on at
+-- once.
 abbrev pub wait_of : {L : Type 0} → ℕ → Worker L → ℕ
 wait_of now w = if w.can_go_on then 0 else fold (λ ms h. min ms (time_left now h.transfer.now.deadline)) longest_wait w.held
 
@@ -172,6 +190,8 @@ pub data GivesBack {L : Type 0} (h : Held L) (w v : Worker L) : Type 0 where
   -- one that has not is given back as it stands, and is held no more
   returns : (r : Return) → h.transfer.now.is_started ≡ false → v ≡ does w (gives_back h r) → GivesBack h w v
 
+-- rule turn-stop: Once a worker is told to stop it requeues what has not started, and keeps the others.
+--
 -- What comes of whether it is told to stop, and whether it was before.
 abbrev pub Stops : {L : Type 0} → Bool → Bool → Worker L → Worker L → Type 0
 -- nothing where it isn't told, or was before

@@ -41,6 +41,7 @@ pub data Deed (L : Type 0) : Type 0 where
   looks : Ticket → Option Look → Deed L
   notes : Ticket → ℕ → ℕ → Deed L
   finishes : Ticket → OutcomeValue → Finish → Deed L
+  -- rule worker-requeued-deadline: A transfer that is requeued keeps its deadline.
   gives_back : Held L → Return → Deed L
 
 -- A worker. `held` are its transfers, in order of claim, and `set_aside` the ends that found no memory. `idle` are its idle links.
@@ -55,6 +56,8 @@ pub record Worker (L : Type 0) : Type 0 where
   pub did : List (Deed L)
   pub said : List Said
 
+-- rule turn-in-flight: A worker has at most 64 transfers and unrecorded ends in flight.
+--
 -- how many transfers and ends it has in hand
 abbrev pub in_hand : {L : Type 0} → Worker L → ℕ
 in_hand w = length w.held + length w.set_aside
@@ -83,6 +86,6 @@ starts limit = record {
   said = [];
 }
 
--- it was told to stop, and has nothing in hand
+-- rule turn-over: A worker is over once it was told to stop and has nothing in flight.
 abbrev pub IsOver : {L : Type 0} → Worker L → Type 0
 IsOver w = (w.is_stopping ≡ true) × (w.held ≡ []) × (w.set_aside ≡ [])

@@ -16,6 +16,8 @@ most_history = 1048576
 abbrev pub most_seats : ℕ
 most_seats = 16
 
+-- rule deadline-count: At most 64 tickets have a deadline at once.
+--
 -- the transfers that a worker holds at one time
 abbrev pub most_transfers : ℕ
 most_transfers = 64
@@ -24,6 +26,8 @@ most_transfers = 64
 abbrev pub greatest_ticket : ℕ
 greatest_ticket = 4294967294
 
+-- rule play-history: `play`'s history has room for 4 to 1,048,576 events.
+--
 -- a history may have room for so many events
 abbrev pub IsHistory : ℕ → Type 0
 IsHistory history = (least_history ≤ history) × (history ≤ most_history)

@@ -60,6 +60,8 @@ is_blank (b ∷ bytes) = false
 abbrev pub url_or_not : List ℕ → Told
 url_or_not text = if is_utf8 text then url text else not_text text
 
+-- rule list-bad-lines: A line of more than 65,536 bytes is an entry that is no URL, and so is one that isn't UTF-8.
+--
 -- What a line says with this text between its white space: a comment says nothing, one that is too long is refused, a blank one says
 -- nothing, and what else there is is a URL if it is UTF-8.
 abbrev pub entry_by : Bool → List ℕ → Option Told
@@ -85,6 +87,9 @@ entries_in is_first (line ∷ more) = option_to_list (entry_of is_first line) ++
 abbrev pub entries_from : Bool → List ℕ → List Told
 entries_from is_first bytes = entries_in is_first (lines_of bytes)
 
+-- rule list-entries: A list has an entry for each line that says something, however the reads cut it; a byte order mark, blanks, a CR,
+-- blank lines and lines that begin with `#` are ignored.
+--
 -- the entries of a whole list
 abbrev pub entries_of : List ℕ → List Told
 entries_of bytes = entries_from true bytes

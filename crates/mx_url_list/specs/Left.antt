@@ -24,6 +24,7 @@ held list = drop list.start (take list.end list.buffer)
 abbrev pub entries_left : {R : Type 0} → (R → Option (List ℕ)) → UrlList R → Option (List Told)
 entries_left remaining list = option_map (λ more. entries_after list.line (held list ++ more)) (remaining (reader_of list.input))
 
+-- rule list-entries
 -- the entries that are left begin with that one; or there is none, and none is left
 abbrev pub GivesNext : Option (List Told) → Option Entry → Option (List Told) → Type 0
 GivesNext None said new = ⊤

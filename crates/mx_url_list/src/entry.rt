@@ -5,6 +5,7 @@ ghost use Rattle.mx_url_list.specs.Entries.{told_if, told, url_or_not, trimmed, 
 use std::alloc::{AllocError, Global};
 use std::str;
 
+// rule list-bad-lines
 /// The most bytes that a line may have before its LF: as many as a URL may.
 pub const MOST_LINE: usize = 65_536;
 
@@ -39,6 +40,7 @@ fn trimmed(text: &[u8]) -> &[u8]
     text.trim_ascii()
 }
 
+// rule list-entries
 fn is_comment(text: &[u8]) -> bool
     ensures { result ≡ is_comment text.now }
 {
@@ -54,6 +56,7 @@ fn url_or_not(alloc: Global, text: &[u8]) -> Result<Entry, AllocError>
     }
 }
 
+// rule list-bad-lines
 fn entry_by(alloc: Global, is_long: bool, text: &[u8]) -> Result<Option<Entry>, AllocError>
     ensures { IfOk result (λ entry. told_if entry ≡ entry_by is_long text.now) }
 {

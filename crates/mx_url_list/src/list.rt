@@ -128,6 +128,7 @@ impl<R: Read + Drop> UrlList<R> {
         Ok(Turn::More)
     }
 
+    // rule list-entries
     /// The next entry, or `None` where the list is at its end: then each further call reads once more, since a terminal may go on.
     ///
     /// An error leaves the entries that are left as they were: `Unread` where a read failed, and then each further call answers so once

@@ -27,8 +27,10 @@ abbrev pub BeginsInAnyCase : List ℕ → List ℕ → Type 0
 BeginsInAnyCase front url =
     (length front ≤ length url) × (map to_ascii_lowercase (take (length front) url) ≡ map to_ascii_lowercase front)
 
--- What is said to a URL that failed with that code: that there is no TLS, if it begins with https; that it wants a scheme, if it begins with
--- neither that nor http. Nothing is said to another, nor with a code that may have other reasons.
+-- rule program-url-hint: A URL without `http:` gets a hint with a code of a refused URL, and with no other.
+--
+-- What is said to a URL that failed with that code: that there is no TLS, if it begins with https; that it wants a scheme, if it begins
+-- with neither that nor http. Nothing is said to another, nor with a code that may have other reasons.
 pub record IsUrlHint (url : List ℕ) (c : Code) (hint : Option Hint) : Type 0 where
   pub elsewhere : is_url_code c ≡ false → hint ≡ None
   pub https : is_url_code c ≡ true → BeginsInAnyCase (codes "https:") url → hint ≡ Some Https
@@ -36,6 +38,8 @@ pub record IsUrlHint (url : List ℕ) (c : Code) (hint : Option Hint) : Type 0 w
   pub other : is_url_code c ≡ true → ¬ (BeginsInAnyCase (codes "https:") url) → ¬ (BeginsInAnyCase (codes "http:") url)
       → hint ≡ Some NoScheme
 
+-- rule program-file-limit-hint: A run that met the limit of open files gets a hint, behind all, and no other does.
+--
 -- to a run that met the limit of open files
 abbrev pub file_limit_hint : Bool → Option Hint
 file_limit_hint true = Some FileLimit

@@ -25,6 +25,7 @@ line_front url = codes "mxfetch: " ++ (shown url ++ codes ": ")
 abbrev pub line_back : ℕ → List ℕ
 line_back number = codes " (" ++ (decimal number ++ 41 ∷ 10 ∷ [])
 
+-- rule program-failure-line
 abbrev pub failure_line : List ℕ → List ℕ → ℕ → List ℕ
 failure_line url words number = line_front url ++ (words ++ line_back number)
 

@@ -67,6 +67,8 @@ abbrev pub what_text : Code → ℕ → What → List ℕ
 what_text c at (what.Fault f) = refused_text at f
 what_text c at (what.Cut x) = cut_words c ++ cut_text at x
 
+-- rule program-failure-line: A failure's line has the URL, the words of its code or of what is wrong with the bytes, and the code's number.
+--
 -- what is told of a failure: of its code, and of why the bytes that came are no whole response
 abbrev pub told_text : Code → Option Reason → List ℕ
 told_text c None = code_words c

@@ -50,6 +50,7 @@ fn begins_with(url: &[u8], front: &[u8]) -> bool
     front.len() <= url.len() && url[..front.len()].eq_ignore_ascii_case(front)
 }
 
+// rule program-url-hint
 /// What is said to a URL that failed with that code, if anything.
 pub fn url_hint(url: &[u8], code: Code) -> Option<Hint>
     ensures { IsUrlHint url.now code result }
@@ -66,6 +67,7 @@ pub fn url_hint(url: &[u8], code: Code) -> Option<Hint>
     Some(Hint::NoScheme)
 }
 
+// rule program-file-limit-hint
 /// What is said of a run, if anything: where it `met` the limit of open files, that it did.
 pub fn file_limit_hint(met: bool) -> Option<Hint>
     ensures { result ≡ file_limit_hint met }

@@ -42,6 +42,7 @@ fn print_back<W: Write>(output: &mut Output<W>, number: u32) -> Result<(), Write
     output.print(format_args!(" ({number})\n"))
 }
 
+// rule program-failure-line
 /// Prints the line of a URL that failed: the URL, what is said of it, and the number of its code.
 pub fn print_words<W: Write, D: Display + Drop>(
     output: &mut Output<W>,

@@ -18,6 +18,7 @@ pub struct Told {
 }
 
 impl Told {
+    // rule program-failure-line
     /// A failure of which its code is known.
     pub fn by_code(code: Code) -> Told
         ensures code { result.code ≡ code }

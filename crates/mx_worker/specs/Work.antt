@@ -48,6 +48,8 @@ pub record FoundOther {Q : Type 0} (m : MultiView Q OutcomeValue) : Type 0 where
   pub of : seat.of ≡ m
   pub other : FindsOther code_of size_of seat
 
+-- rule worker-seat: What a worker does in its turns is what its seat does.
+--
 -- What the seat did, from s to t, is these deeds: its further receipts are those of the calls that were answered, in order; its further
 -- claims are what they claimed; likewise what it gave back and the words that it wrote. And nothing was lost as the seat was another
 -- handle's, unless what lay in the lock was another's indeed.
@@ -64,6 +66,8 @@ pub record IsDone {L Q : Type 0} (s t : SeatView Q OutcomeValue) (did : List (De
 abbrev pub held_count : List Ticket → ℕ
 held_count ts = min (length ts) (2 ^ 32 - 1)
 
+-- rule worker-counts: What a worker counts are the ends of its turns.
+--
 -- so many ends were recorded by these deeds, so many were stale, and so many transfers went back to the queue
 pub record AreCounted {L : Type 0} (did : List (Deed L)) (recorded_count stale_count given_back_count : ℕ) : Type 0 where
   pub recorded_is : recorded_count ≡ held_count (filter_map recorded_by did)

@@ -58,6 +58,7 @@ impl<'m, L: Link> Tally<'m, L> {
         }
     }
 
+    // rule worker-seat
     /// The seat, how many ends were recorded and how many were stale, and how many transfers went back to the queue.
     pub fn into_parts(self) -> (Seated<'m, AtWork, Queued<L>, Outcome>, u32, u32, u32)
         ensures seat { result.0 ≡ self.entry.seat }
@@ -67,6 +68,7 @@ impl<'m, L: Link> Tally<'m, L> {
         (self.seat, self.recorded, self.stale, self.given_back)
     }
 
+    // rule worker-counts
     // Hands in an end. One that finds no memory comes back.
     fn hand_in<R: Wait>(
         &mut self,

@@ -275,6 +275,7 @@ pub fn try_plan<R: Threads + Wait + RandomSource + AllocGlobal + Clock + Sync>(
     }
 }
 
+// rule worker-threads
 #[test]
 fn two_workers_run_at_the_same_time(rt: HostRuntime) -> Result<(), Fail> {
     try_plan(&rt, &HELD)

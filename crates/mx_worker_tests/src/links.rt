@@ -64,6 +64,7 @@ const GO_BACK: Step = Step::Run(Run {
 
 /// Rows of the links that a worker takes for one transfer after another, and for the hops of one.
 pub static LINKS: [Row; 9] = [
+    // rule turn-links
     // The worker keeps its link, and the gate opens one.
     Row {
         name: "an idle link serves the next transfer",
@@ -202,6 +203,7 @@ A: 1\r\nB: 2\r\nC: 3\r\nD: 4\r\nE: 5\r\nContent-Length: 5\r\n\r\nhello";
 
 /// Rows of how long a worker has its gate wait. In its first turn it claims, and there may be more: it doesn't wait.
 pub static WAITING: [Row; 6] = [
+    // rule turn-wait
     // In the second turn the deadline is 7 milliseconds away.
     Row {
         name: "a turn waits until the next deadline",
@@ -237,6 +239,7 @@ pub static WAITING: [Row; 6] = [
             Step::Waits(&[0, 20, 20, 20, 20]),
         ],
     },
+    // rule turn-wait-for-link
     // While no link can be opened yet, the worker waits as long as where there is nothing to do: it doesn't spin. Once one can it is opened.
     Row {
         name: "a worker waits for a name",
@@ -256,6 +259,7 @@ pub static WAITING: [Row; 6] = [
             Step::Waits(&[0, 20, 20, 20, 20]),
         ],
     },
+    // rule turn-wait
     // One that asked to be polled again, after the most reads of a poll, isn't kept waiting.
     Row {
         name: "a transfer that asks is polled at once",
@@ -274,6 +278,7 @@ pub static WAITING: [Row; 6] = [
             Step::Waits(&[0, 0, 20, 20, 20]),
         ],
     },
+    // rule turn-wait-for-link
     // The second transfer is given the link that the first has left, and which the server closes once it has been written to: it wants a
     // fresh one, and the worker doesn't wait before it has that opened.
     Row {

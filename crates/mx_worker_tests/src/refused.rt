@@ -21,6 +21,7 @@ fn a_stopped_worker_gives_back(rt: HostRuntime) -> Result<(), Fail> {
     try_rows(&rt, &GIVING_BACK)
 }
 
+// rule turn-in-flight
 #[test]
 fn a_worker_holds_64_at_most(rt: HostRuntime) -> Result<(), Fail> {
     try_rows(&rt, &HOLDING)

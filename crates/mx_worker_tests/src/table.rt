@@ -30,6 +30,10 @@ const THREE: HandleId = HandleId(3);
 
 /// Rows that are played with each growth of memory refused, too.
 pub static SERVING: [Row; 3] = [
+    // rule worker-own-claim
+    // rule worker-seat
+    // rule worker-counts
+    // rule turn-claims
     // Two handles and one worker: both messages have code 0, each the outcome of its own request.
     Row {
         name: "one worker serves two",
@@ -68,6 +72,7 @@ pub static SERVING: [Row; 3] = [
             Step::Read(Wanted::Nothing),
         ],
     },
+    // rule turn-paused
     // A transfer of one millisecond that is paused and resumed before a worker claims it, and then ends at its deadline: what each call
     // says of it.
     Row {
@@ -131,6 +136,7 @@ pub static TAKING_OVER: [Row; 1] = [Row {
 
 /// Rows of what a worker that is stopped gives back.
 pub static GIVING_BACK: [Row; 3] = [
+    // rule turn-stop
     // A worker that is stopped gives back a transfer that has no link yet, and another ends it.
     Row {
         name: "what has not started is given back",
@@ -152,6 +158,7 @@ pub static GIVING_BACK: [Row; 3] = [
             Step::Read(Wanted::Of(1, Code::Ok, b"hello")),
         ],
     },
+    // rule worker-requeued-deadline
     // A transfer that was given back keeps its deadline: it has ten milliseconds, is given back at the moment 100, and the next worker has
     // it at 110 and ends it.
     Row {
@@ -176,6 +183,7 @@ pub static GIVING_BACK: [Row; 3] = [
             Step::Read(Wanted::Of(1, Code::OperationTimedout, b"")),
         ],
     },
+    // rule turn-stop
     // Handles 0 to 4, of which 0, 2 and 3 are paused. A worker that is stopped ends what has started, and gives back the others, before
     // what no worker had claimed. They are resumed, the last one first: the next worker claims them in the order of their tickets.
     Row {
@@ -294,6 +302,7 @@ pub static ENDING: [Row; 10] = [
             Step::Waits(&[0, 3, 20]),
         ],
     },
+    // rule turn-progress
     // A seat reads how many bytes came for a transfer, whether it ended whole or within its response: the first link gives 40 bytes, three
     // less than a response has, and nothing more.
     Row {
@@ -338,6 +347,7 @@ pub static ENDING: [Row; 10] = [
             Step::Read(Wanted::Of(1, Code::Ok, b"hello")),
         ],
     },
+    // rule worker-counts
     // A transfer that ends after its handle was removed has a stale end, which is counted once, and no message. The handle, added again, is
     // fetched whole by another worker, under its new ticket.
     Row {
@@ -365,6 +375,7 @@ pub static ENDING: [Row; 10] = [
             Step::Read(Wanted::Answer(1, FROM_AGAIN, b"bye")),
         ],
     },
+    // rule turn-gone
     // A transfer that a worker holds is let go as soon as its look says that its handle is gone, without a message.
     Row {
         name: "a held transfer whose handle is removed is let go",
@@ -417,6 +428,8 @@ pub static ENDING: [Row; 10] = [
             Step::Read(Wanted::Answer(2, FROM_AGAIN, b"bye")),
         ],
     },
+    // rule turn-order
+    // rule turn-clock
     // The clock is asked once at the beginning of a turn and once before each transfer but the first. As many transfers as a worker holds
     // are claimed, one a turn. So the last transfer is polled for the first time at 2079, and the last turn begins at 2144: 75 milliseconds
     // after 2079 its first ten transfers have been polled. The one that is due then is served next, and not behind the 53 others.

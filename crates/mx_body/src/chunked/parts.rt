@@ -22,6 +22,7 @@ pub(crate) fn begun(place: Place, next: Place, at: u32) -> Option<Part>
     }
 }
 
+// rule body-parts
 /// The parts of a chunked body that `scan_chunked` found whole, one for each chunk with data, in order.
 ///
 /// `input` is the body, which begins at the offset `at`; the parts are offsets counted as `at` is. The error

@@ -38,6 +38,7 @@ pub enum Place {
     TooLarge,
 }
 
+// rule body-chunk-size
 fn sized(limit: u32, size: u64) -> Place
     ensures { result ≡ sized limit size }
 {
@@ -92,6 +93,7 @@ pub(crate) fn after_line(size: u32) -> Place
 }
 
 impl Place {
+    // rule body-chunk-framing
     /// The place after one more byte, where no size may be over the limit.
     pub fn step(self, limit: u32, b: u8) -> Place
         ensures { result ≡ next_place limit self b }

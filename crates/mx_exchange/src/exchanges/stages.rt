@@ -118,6 +118,7 @@ pub(super) fn received(decoder: &Decoder) -> usize
     decoder.wire().len()
 }
 
+// rule exchange-kept-link
 /// Whether a link that gave what the decoder has may serve again.
 pub(super) fn may_keep(decoder: &Decoder) -> bool
     ensures { result ≡ spec.may_keep decoder.now.verdict decoder.now.wire }

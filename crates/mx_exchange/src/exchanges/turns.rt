@@ -31,6 +31,7 @@ impl<L: Link> Exchange<L> {
     ghost use Rattle.mx_types.specs.declared.code.Code.TheVariants as code;
     ghost use Rattle.mx_exchange.specs.Stages.{alive, over, link_of, IsAlive, IsEnded};
 
+    // rule exchange-timeout
     // The first turn sets the deadline.
     fn start_clock(&mut self, timeout_ms: u32)
         requires { timeout_ms ≡ self.old.request.timeout_ms }
@@ -47,6 +48,7 @@ impl<L: Link> Exchange<L> {
         };
     }
 
+    // rule exchange-pause
     fn is_due(&self) -> bool
         ensures { IsTrue result ↔ IsDue self.now.deadline self.now.moment }
     {
@@ -106,6 +108,7 @@ impl<L: Link> Exchange<L> {
         end(request, decoder, code, answers, is_reused)
     }
 
+    // rule exchange-probe
     // Asks a reused link for a byte first, and drops it where it doesn't answer that it would wait. False where
     // it was dropped.
     fn probe(&mut self, live: &mut Live<L>) -> bool
@@ -187,6 +190,8 @@ impl<L: Link> Exchange<L> {
         }
     }
 
+    // rule exchange-order
+    // rule exchange-pause
     // The deadline, the code given in place of a link, the pause, the probe, and then the link.
     fn advance(&mut self, live: Live<L>) -> Turned
         requires away { self.old.link ≡ None }
