@@ -6,9 +6,10 @@ docs/generated/CRATES.md, what each crate does and stands on.
     docs/api.py --write      writes the pages anew
 
 API has of each crate the header of its src/lib.rt, then each item that another crate can name, with its signature, its doc comment and its
-clauses, then each definition of specs/ that these clauses name, with its file, the comment over it, and links to its rules. Columns in front of a function: `waits`
-where a bound lets it wait; `refused` what it answers in place of a value (the type of its error, or `None`); `left` the clauses named
-`refused`, `kept` or `back`, which say what a refusal leaves. Crates of tests are left out. CRATES has all crates, in the order of crates.txt.
+clauses, then each definition of specs/ that these clauses name, with its file, the comment over it, and links to its rules. Columns in
+front of a function: `waits` where a bound lets it wait; `refused` what it answers in place of a value (the type of its error, or `None`);
+`left` the clauses named `refused`, `kept` or `back`, which say what a refusal leaves. Crates of tests are left out. CRATES has all crates,
+in the order of crates.txt.
 """
 
 import difflib
