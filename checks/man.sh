@@ -1,6 +1,8 @@
 #!/usr/bin/env bash
-# Holds the manual page man/mxfetch.1 against the help: the page is made of the texts and the options that the sources have, and has to be
-# that, byte for byte. Prints the lines that differ, and ends with 1 where there are any, else with 0. Takes no second. It wants python3.
+# Compares the manual page man/mxfetch.1 with the sources: it is made of the texts and the options of the help, and of man/sections.1, which
+# is written by hand, and has to be that, byte for byte. Of man/sections.1 the keys of an object of `save --json` are compared with those that
+# are printed, and of CHANGES.md the latest version with the program's. Prints what differs, and ends with 1 where something does, else with
+# 0. Takes no second. It needs python3.
 #
 # Use: checks/man.sh                     compares
 #      checks/man.sh --write             writes the page anew
@@ -36,7 +38,7 @@ def options(path, table):
     return re.findall(front + r'default: (None|Some\("[^"]*"\)),\s*help: ' + TEXT, rows)
 
 
-# The arguments that stand in no table: id, what is called on it.
+# The arguments that are in no table: id, what is called on it.
 def others(path, command):
     body = re.search(rf"fn {command}<.*?\n}}\n", source(path), re.S).group(0)
     found = []
@@ -47,6 +49,12 @@ def others(path, command):
     return found
 
 
+# Ends where two lists that have to be the same aren't.
+def compare(what, there, sources):
+    if there != sources:
+        sys.exit(f"man: {what}: {there}, and in the sources {sources}")
+
+
 def escaped(line):
     line = line.replace("\\", r"\e").replace("-", r"\-")
     return r"\&" + line if line[:1] in (".", "'") else line
@@ -55,7 +63,7 @@ def escaped(line):
 lines = []
 
 
-# A text: what is indented, and what comes behind it without an empty line, stands as it is.
+# A text: what is indented, and what comes behind it without an empty line, is printed as it is.
 def add(text):
     for block in text.split("\n\n"):
         rows = block.split("\n")
@@ -95,7 +103,7 @@ commands = [
     ("play", main, "PLAY", options(command, "PLAY"), others(command, "play_command"), r"[\fIOPTIONS\fR]"),
 ]
 
-lines.append(rf'.\" Made of the texts of the help by checks/man.sh --write.')
+lines.append(r'.\" Made by checks/man.sh --write of the texts of the help, and of man/sections.1.')
 lines.append(f'.TH MXFETCH 1 "" "mxfetch {version}" "User Commands"')
 lines.extend([".SH NAME", r"mxfetch \- fetch and save URLs over plain HTTP/1.1, decode responses, play scripts of calls", ".SH SYNOPSIS"])
 for name, _, _, _, _, rest in commands:
@@ -111,6 +119,13 @@ for name, words, key, rows, arguments, _ in commands:
     for row in rows:
         add_option(*row)
     add(words[f"MORE_{key}"])
+with open(f"{top}/man/sections.1", encoding="utf-8") as it:
+    sections = it.read()
+keys = re.findall(r'\\"(\w+)\\":', source("mx_run_save/src/object.rt"))
+compare("the keys of an object of JSON", re.findall(r"(?m)^\.TP\n\\fB(\w+)\\fR$", sections), keys)
+with open(f"{top}/CHANGES.md", encoding="utf-8") as it:
+    compare("the latest version in CHANGES.md", re.findall(r"(?m)^## (\d\S*)$", it.read())[:1], [version])
+lines.extend(sections.splitlines())
 lines.extend([".SH SEE ALSO", r"\fBcurl\fR(1), \fBlibcurl\-errors\fR(3); RFC 9110, RFC 9112"])
 text = "\n".join(lines) + "\n"
 

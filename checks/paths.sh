@@ -1,13 +1,14 @@
 #!/usr/bin/env bash
-# Holds README.md and docs/ against the tree: each path and name in back quotes, each link, and the length of each line.
-# Prints what isn't there, one a line, and ends with 1 where there is any, else with 0. Takes a second. It wants python3.
+# Compares README.md and docs/ with the tree: each path and name in back quotes, each link, and the length of each line. A block of code
+# whose first line has a path behind ``` and the language, as ```rust crates/NAME/src/FILE.rt, has to be in that file, letter for letter.
+# Prints what isn't there, one a line, and ends with 1 where there is any, else with 0. Takes a second. It needs python3.
 #
 # In back quotes,
-#   a path             stands at the top, under crates/ or in a crate; NAME, FILE, EDIT, `*` and `…` stand for any text
+#   a path             is at the top, under crates/ or in a crate; NAME, FILE, EDIT, `*` and `…` are any text
 #   CRATE/EDIT         is an edit of that crate, in must-fail/ or more-edits/
 #   CRATE::PART::..    is a module of that crate, or a word in the module's file, or in the crate where no module is named
 #   a name             is a word of some file other than these pages, or the name of a file
-# What has a space or another sign in it is a command or a text: its words that are paths are held against the tree.
+# What has a space or another sign in it is a command or a text: its words that are paths are compared with the tree.
 #
 # Use: checks/paths.sh [TOP]             TOP is the tree's top, where it isn't this script's
 set -eu
@@ -97,6 +98,9 @@ def is_there(text):
 wrong = []
 for page in pages:
     headings = lambda path: {re.sub(r"[^\w -]", "", it.lower()).strip().replace(" ", "-") for it in re.findall(r"(?m)^#+ (.*)$", texts[path])}
+    for path, block in re.findall(r"(?ms)^```\w+ (\S+)\n(.*?)^```$", texts[page]):
+        if block not in texts.get(path, ""):
+            wrong.append(f"{page}: the block of {path} isn't in that file")
     fenced = False
     for number, line in enumerate(texts[page].split("\n"), 1):
         if len(line) > MOST:
