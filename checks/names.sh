@@ -1,7 +1,7 @@
 #!/usr/bin/env bash
 # `mxfetch get` where names are slow, unknown, silent or have several addresses: from a name server of its own, on 127.0.0.1 in a network and
 # with an /etc/resolv.conf and /etc/hosts of its own. It compares every code, body and order, and times with bounds ten times as wide as what
-# is promised; and it prints the times. It ends with 1 where one isn't as it is to be.
+# is promised; and it prints the times. It ends with 1 where one differs from what is expected.
 #
 #     checks/names.sh [WORD]        all cases, or those whose names have the word
 #

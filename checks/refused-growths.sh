@@ -2,11 +2,11 @@
 # Runs the program and tests with each growth of memory refused in turn, the first, the second, and so on until a run asks for no
 # more, by a library of its own (checks/refuse.c). A program has to print what memory allows and end with 27, or to do without
 # that growth and print all. Of a test that asks for more than 400 growths the first 400 are refused. A test has to
-#   - make a call that was refused memory once more, compare what that answers with what it is to answer, and only then fail, by
+#   - make a call that was refused memory once more, compare what that answers with what is expected, and only then fail, by
 #     words of its own, which it says for no other cause: at one growth at least, or there is no such call; or
-#   - fail with the want of memory, where the growth was one of what the test needs for itself; or
+#   - fail as out of memory, where the growth was one of what the test needs for itself; or
 #   - pass, where the engine does without that growth.
-# A few tests more, of a run that saves, make no call again; they have to fail with the want of memory, or to pass.
+# A few tests more, of a run that saves, make no call again; they have to fail as out of memory, or to pass.
 # Anything else is wrong: an assertion that fails, other words, a signal, a run that doesn't end. Prints one line for each program
 # and test, and ends with 0 where all did as they have to, with 1 where one didn't, and with 2 where something that it needs isn't
 # there: a program, a test, a C compiler.
@@ -35,7 +35,7 @@ mx_save_tests       ^refused
 
 # What such a test says where a call that was refused memory answered when it was made again.
 AGAIN='error: "memory was refused, and the call answered when it was made again"'
-# What it says of the want of memory for itself: of a vector, of a call of the engine, of the system, of a thread.
+# What it says where it is out of memory itself: of a vector, of a call of the engine, of the system, of a thread.
 WANTING='error: AllocError\|error: AllocFailed { .. }\|error: OutOfMemory\|error: Kind(OutOfMemory)\|error: SpawnError { .. }'
 
 # Of the crates those whose names have the word; whether a name has it.
@@ -222,7 +222,7 @@ handles = handles 2
 END
 try_play 'retiring' --history 8
 
-# words that are refused, and help: the want of memory is told as ever
+# words that are refused, and help: out of memory is printed as ever
 try_words() {
   local name=$1
   ends=$2

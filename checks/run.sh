@@ -1,6 +1,6 @@
 #!/bin/sh
 # Tests the script `run` over a copy of it and of the sources, with a stand-in for the toolchain (checks/stand-in-rt), which proves
-# nothing: so they take two minutes. Prints a line for each row, and ends with 1 where one isn't as it is to be.
+# nothing: so they take two minutes. Prints a line for each row, and ends with 1 where one failed.
 #
 #     checks/run.sh [WORD]             all rows, or those whose names have the word
 #     checks/run.sh --broken [WORD]    breaks the script in a way for each row, and wants that row to fail

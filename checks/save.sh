@@ -2,12 +2,12 @@
 # `mxfetch save` against real servers: nginx, Python's http.server, and small servers that fail, lie and hang. It kills the program in
 # mid-run and takes the run up again, fills a disk, refuses to flush, puts links and folders in the way, has servers forge lines and names,
 # and counts memory, threads and descriptors over 10,000 URLs; and it refuses each growth of memory in turn. Every file is compared byte by
-# byte, and every line with what is to be told. It ends with 1 where one isn't as it is to be.
+# byte, and every line with the expected one. It ends with 1 where one differs.
 #
 #     checks/save.sh [WORD]       all cases, or those whose names have the word
 #
 # It needs nginx, python3 and a C compiler (Debian: gcc), and installs nothing. It uses ports that the system gives, on 127.0.0.1, and no
-# other network. As root it mounts small file systems in its own folder, and takes them away; a case that can't is told as skipped. PROGRAM
+# other network. As root it mounts small file systems in its own folder, and takes them away; a case that can't is printed as skipped. PROGRAM
 # names the program, where it isn't the one that ./run builds.
 set -eu
 top=$(cd "$(dirname "$0")/.." && pwd)

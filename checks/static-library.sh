@@ -2,8 +2,8 @@
 # A C program fetches over redirects by a static library that is made of the chain of hops and the links: so nothing in them waits, takes
 # a lock, starts a thread or wakes one, as no static library may link any of these. It proves the crates below the library and the library
 # itself (checks/static-library-program.txt) in a folder of its own, which it removes, builds the archive, and fetches from two servers
-# on 127.0.0.1 by checks/static-library.c. Prints a line for each fetch, and ends with 1 where one isn't as it is to be, with 2 where
-# something that it needs isn't there.
+# on 127.0.0.1 by checks/static-library.c. Prints a line for each fetch, and ends with 1 where one differs from what is expected, with
+# 2 where something that it needs isn't there.
 #
 #     checks/static-library.sh
 #
@@ -89,7 +89,7 @@ with socket.socket() as taken:
         line, _, got = done.stdout.partition(b"\n")
         words = tuple(int(word) for word in line.split())
         good = done.returncode == 0 and words == wanted + (len(body),) and got == body
-        print(f"{name}: {'as it is to be' if good else f'status {done.returncode}, {words} in place of {wanted + (len(body),)}'}")
+        print(f"{name}: {'as expected' if good else f'status {done.returncode}, {words} in place of {wanted + (len(body),)}'}")
         failed += not good
 sys.exit(1 if failed else 0)
 PYTHON

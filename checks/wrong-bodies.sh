@@ -1,5 +1,5 @@
 #!/bin/sh
-# Has the prover try the wrong bodies (mutants) of crates, those of the gate too: crates/NAME/must-fail/*.edit and more-edits/*.edit.
+# Has the prover try the mutants of crates, those that `rt ci` tries, too: crates/NAME/must-fail/*.edit and more-edits/*.edit.
 #
 #     checks/wrong-bodies.sh [NAME..]      tries all of these crates, or of all crates; crates side by side, as memory allows
 #     checks/wrong-bodies.sh --applies     names those whose old text isn't in its file once; tries nothing
