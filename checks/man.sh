@@ -1,8 +1,8 @@
 #!/usr/bin/env bash
 # Compares the manual page man/mxfetch.1 with the sources: it is made of the texts and the options of the help, and of man/sections.1, which
-# is written by hand, and has to be that, byte for byte. Of man/sections.1 the keys of an object of `save --json` are compared with those that
-# are printed, and of CHANGES.md the latest version with the program's. Prints what differs, and ends with 1 where something does, else with
-# 0. Takes no second. It needs python3.
+# is written by hand, and has to be that, byte for byte. Of man/sections.1 the keys of an object of `save --json` are compared with those
+# that are printed, and of CHANGES.md the latest version with the program's. Prints what differs, and ends with 1 where something does,
+# else with 0. Takes no second. It needs python3.
 #
 # Use: checks/man.sh                     compares
 #      checks/man.sh --write             writes the page anew
