@@ -1,6 +1,8 @@
 -- Where the parts of a body stand.
-use Rattle.std.proofs.Common.{◌≡◌, ℕ, zero, suc, append-nil, ◌+◌, ◌-◌, ◌≤◌, ◌<◌, List, [], ◌∷◌, length, take, drop, ◌∙◌, ap, arith, length-drop, length-append}
-use Rattle.std.specs.Prelude.{slice_range}
+use Rattle.std.proofs.Common.{◌≡◌, ℕ, zero, suc, append-nil, append_assoc, ◌+◌, ◌-◌, ◌≤◌, ◌<◌, List, [], ◌∷◌, ◌++◌, length, take, drop, ◌∙◌, ap, sym, subst, arith, length-drop, length-append}
+use Rattle.std.specs.Prelude.{slice_range, Some}
+use Rattle.std.specs.List.{slice_get}
+use Rattle.std.proofs.lemmas.Option.{slice_get_within, get_or_from_slice_get}
 use Rattle.std.proofs.Math.ListN.{get_or}
 use Rattle.std.proofs.lemmas.List.{length-take-le}
 use Rattle.mx_body.specs.declared.part.Part.{Part}
@@ -40,3 +42,19 @@ joined_next x from to (p ∷ ps) zero d h fits less =
 joined_next x from to (p ∷ ps) (suc i) d h fits less =
     let r = joined_next x p.end to ps i d h.2 fits (omega (arith, less)) in
     length-append (slice_range x p.start p.end) (joined x (take (suc i) ps)) ∙ omega (arith, r, length-append (slice_range x p.start p.end) (joined x (take i ps)))
+
+-- a part that is read is within the text
+pub ordered_part : (x : List ℕ) (ps : List Part) (i : ℕ) (p : Part) → AreOrdered 0 (length x) ps → i < length ps → p ≡ get_or ps i p
+    → (p.start ≤ p.end) × (p.end ≤ length x)
+ordered_part x ps i p h less is =
+    let r = ordered_at 0 (length x) ps i p h less in
+    subst (λ (q : Part). (q.start ≤ q.end) × (q.end ≤ length x)) (sym is) (r.1, r.2)
+
+-- the body up to a part, and that part, are the body up to the next one
+pub joined_one : (x : List ℕ) (ps : List Part) (i : ℕ) (p : Part) → slice_get ps i ≡ Some p
+    → joined x (take (suc i) ps) ≡ joined x (take i ps) ++ slice_range x p.start p.end
+joined_one x [] i p is = absurd (omega (arith, slice_get_within {A = Part} [] i p is))
+joined_one x (q ∷ ps) zero p is = append-nil (slice_range x q.start q.end) ∙ ap (λ (r : Part). slice_range x r.start r.end) (get_or_from_slice_get (q ∷ ps) 0 p p is)
+joined_one x (q ∷ ps) (suc i) p is =
+    ap (λ (l : List ℕ). slice_range x q.start q.end ++ l) (joined_one x ps i p is)
+    ∙ sym (append_assoc (slice_range x q.start q.end) (joined x (take i ps)) (slice_range x p.start p.end))

@@ -13,6 +13,7 @@ use mx_request::{Endpoint, Request};
 use mx_types::Code;
 use std::alloc::Global;
 use std::marker::Model;
+use std::mem;
 use std::snapshot::Snapshot;
 
 /// The link that an exchange wants.
@@ -133,7 +134,8 @@ impl<L: Link> Exchange<L> {
         ensures { self.new ≡ renewed self.old request }
     {
         self.about = Snapshot::of(&request);
-        self.stage = Stage::Live(Live::new(self.alloc, request));
+        let live = Live::new(self.alloc, request);
+        drop(mem::replace(&mut self.stage, Stage::Live(live)));
         self.needs_fresh = false;
         self.failure = None;
     }

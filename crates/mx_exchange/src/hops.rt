@@ -186,17 +186,24 @@ impl Hop {
         self.parts.as_slice().len()
     }
 
+    // The bytes of a part that is there.
+    fn bytes_of(&self, i: usize) -> &[u8]
+        requires { i < length self.now.parts }
+        ensures { (p : Part) × (slice_get self.now.parts i ≡ Some p) × (result.now ≡ slice_range self.now.wire p.start p.end) }
+    {
+        let part = self.parts[i];
+        &self.wire[part.start as usize..part.end as usize]
+    }
+
     /// A part of the body, counted from 0; `None` past the last.
-    #[tactic(auto, using(crate::proofs::Bodies::ordered_at))]
     pub fn part(&self, i: usize) -> Option<&[u8]>
         ensures some { i < length self.now.parts → IfSome result (λ bytes. (p : Part) × (slice_get self.now.parts i ≡ Some p) × (bytes.now ≡ slice_range self.now.wire p.start p.end)) }
         ensures count { IsSome result ↔ (i < length self.now.parts) }
     {
-        if i >= self.parts.len() {
+        if i >= self.part_count() {
             return None;
         }
-        let part = self.parts[i];
-        Some(&self.wire[part.start as usize..part.end as usize])
+        Some(self.bytes_of(i))
     }
 
     /// The length of the body in bytes.
@@ -214,13 +221,12 @@ impl Hop {
     /// The body: its parts, joined.
     ///
     /// `OutOfMemory` comes where no room is had for it.
-    #[tactic(auto, using(crate::proofs::Bodies::ordered_at))]
     pub fn copy_body(&self, alloc: Global) -> Result<Vec<u8>, OutOfMemory>
         ensures { IfOk result (λ body. body.items ≡ joined self.now.wire self.now.parts) }
     {
         let mut body = Vec::new(alloc);
-        for part in &self.parts {
-            body.extend_from_slice(&self.wire[part.start as usize..part.end as usize])?;
+        for i in 0..self.part_count() {
+            body.extend_from_slice(self.bytes_of(i))?;
         }
         Ok(body)
     }

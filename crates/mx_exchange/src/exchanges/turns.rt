@@ -63,7 +63,7 @@ impl<L: Link> Exchange<L> {
         requires { IsAlive L.history L.asked L.token_of self.old.request self.old.needs_fresh self.old.failure live }
         ensures { self.new ≡ alive self.old live }
     {
-        self.stage = Stage::Live(live);
+        drop(mem::replace(&mut self.stage, Stage::Live(live)));
     }
 
     // Begins anew: only a link that was never in use will do.
@@ -72,7 +72,8 @@ impl<L: Link> Exchange<L> {
         ensures { self.new ≡ record (dropped self.old) { code = None; is_kept = false } }
     {
         self.needs_fresh = true;
-        self.stage = Stage::Live(Live::new(self.alloc, request));
+        let live = Live::new(self.alloc, request);
+        drop(mem::replace(&mut self.stage, Stage::Live(live)));
     }
 
     // Has ended, with this left of it.
@@ -80,7 +81,7 @@ impl<L: Link> Exchange<L> {
         requires { IsEnded L.history L.asked L.token_of self.old.request self.old.needs_fresh self.old.failure ended }
         ensures { self.new ≡ over self.old ended }
     {
-        self.stage = Stage::Ended(ended);
+        drop(mem::replace(&mut self.stage, Stage::Ended(ended)));
     }
 
     // Ends without a look at the link.
