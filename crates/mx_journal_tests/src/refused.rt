@@ -10,8 +10,8 @@ use std::test::Fail;
 /// What a test ends with in which a call was refused memory.
 const AGAIN: &str = "memory was refused, and the call answered when it was made again";
 
-// The end of a test, in which memory was refused at a call or not.
-fn end(is_refused: bool) -> Result<(), Fail> {
+/// The end of a test, in which memory was refused at a call or not.
+pub fn end(is_refused: bool) -> Result<(), Fail> {
     if is_refused {
         return Err(AGAIN.into());
     }

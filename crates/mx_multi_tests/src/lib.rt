@@ -1,11 +1,7 @@
-//! The shared multi handle and its board, by their public calls alone: scripts of calls by seats and workers, on one thread and on many,
-//! with what each answers; what readers of a board are told; and progress words.
+//! The shared multi handle, by its public calls alone: scripts of calls by seats and workers, on one thread and on many, with what each
+//! answers.
 #![tactic(auto)]
 
-#[cfg(test)]
-mod board_desk;
-#[cfg(test)]
-mod boards;
 #[cfg(test)]
 mod client;
 #[cfg(test)]
@@ -14,8 +10,6 @@ mod entries;
 mod hand;
 #[cfg(test)]
 mod hold;
-#[cfg(test)]
-pub mod notes;
 #[cfg(test)]
 mod one_thread;
 #[cfg(test)]
@@ -36,5 +30,3 @@ mod texts;
 mod threads;
 #[cfg(test)]
 mod whole;
-#[cfg(test)]
-mod words;

@@ -1,11 +1,9 @@
 //! Scripts whose calls are made by threads at the same time: reads while another call keeps the lock, turns that are taken by polls and
 //! wake-ups, and calls by chance, which one thread answers the same.
 
-use crate::boards::three_threads;
 use crate::party::{Act, Task};
 use crate::play::{Row, Said, Step, Wrong, end, play_all, play_steps};
 use crate::rows::FOUR_SEATS;
-use crate::words::two_threads;
 use mx_multi::Limits;
 use mx_types::{Call, Code, HandleId, OutOfMemory, Ticket};
 use std::alloc::Global;
@@ -194,38 +192,10 @@ fn play_threads<R: Threads + Wait + Sync + Clock>(
     }))
 }
 
-/// What threads do at the same time is answered as it is to be, and as one thread answers it.
+/// What threads do at the same time is answered as its row says, and as one thread answers it.
 #[test]
 fn threads_answer_as_one_does(rt: HostRuntime) -> Result<(), Fail> {
     let mut refused = false;
     let wrong = play_threads(&rt, rt.alloc(), &mut refused)?;
     end(rt.alloc(), wrong, refused)
-}
-
-// What threads do at a board, and at a table of words.
-fn first_board<R: Threads + Wait + Sync>(
-    rt: &R,
-    alloc: Global,
-) -> Result<Option<Wrong>, OutOfMemory> {
-    let told = [
-        // rule board-reads
-        (
-            "two_threads_read_what_a_third_adds",
-            three_threads(rt, alloc)?,
-        ),
-        ("notes_of_two_threads", two_threads(rt, alloc)?),
-    ];
-    for (row, is_so) in told {
-        if !is_so {
-            return Ok(Some(Wrong { row, step: 0 }));
-        }
-    }
-    Ok(None)
-}
-
-/// Readers of a board, and the seats of a table of words, in threads of their own.
-#[test]
-fn boards_beside_their_readers(rt: HostRuntime) -> Result<(), Fail> {
-    let wrong = first_board(&rt, rt.alloc())?;
-    end(rt.alloc(), wrong, false)
 }
