@@ -1,20 +1,23 @@
-//! A caller of a multi handle, with no proof of its own: what it adds, and what it reads of that.
+//! A caller of a multi handle, with no proof of its own: how it opens one, what it adds and what it reads of that, and how its seats meet.
 #![tactic(auto)]
 
-ghost use Rattle.std.specs.Prelude.{◌≡◌, IfSome};
+ghost use Rattle.std.specs.Prelude.{◌≡◌, ◌<◌, true, length, IfOk, IfSome};
+ghost use Rattle.std.specs.List.{All};
 ghost use Rattle.mx_types.specs.declared.code.Code.TheVariants as code;
 ghost use Rattle.mx_request.specs.Request.{request_origin};
 ghost use Rattle.mx_exchange.specs.Hops.{HasContent};
 ghost use Rattle.mx_chain.specs.Outcomes.{IsOutcome};
 ghost use Rattle.mx_lock.specs.Ties.{Has, tie};
+ghost use Rattle.mx_multi.specs.Meeting.{Meets};
 ghost use Rattle.mx_types.specs.declared.origin.Origin.{Origin};
 
 use mx_chain::Outcome;
 use mx_journal::AddReply;
 use mx_lock::TiedClaim;
 use mx_message::next_message;
-use mx_multi::{Application, AtWork, Seated};
+use mx_multi::{Application, AtWork, Limits, Multi, OpenError, Seat, Seated, WorkerSeat};
 use mx_types::{HandleId, Ticket, Work};
+use std::alloc::Global;
 use std::sync::Wait;
 
 // Reads the next message, and takes what comes of it where it is of this ticket.
@@ -117,4 +120,51 @@ pub fn claim_and_give_back<Q: Work + Drop, R: Wait>(
         return false;
     };
     worker.give_back(rt, claim, work).is_ok()
+}
+
+/// Opens a multi handle with these limits.
+pub fn open_with<Q: Work + Drop, R: Wait>(
+    rt: &R,
+    alloc: Global,
+    limits: Limits,
+) -> Result<
+    (
+        Multi<Q, Outcome>,
+        Vec<Seat<Q, Outcome>>,
+        Vec<WorkerSeat<Q, Outcome>>,
+    ),
+    OpenError,
+>
+    ensures { IfOk result (λ r. r.0.limits ≡ limits) }
+{
+    Multi::open(rt, alloc, limits)
+}
+
+/// Lets two seats see one list of events. False where one of them isn't the multi handle's any more.
+pub fn meet_two<Q: Work + Drop, R: Wait>(
+    rt: &R,
+    one: &mut Seated<'_, Application, Q, Outcome>,
+    two: &mut Seated<'_, Application, Q, Outcome>,
+) -> bool
+    requires { two.old.of ≡ one.old.of }
+    ensures { result ≡ true → one.new.seen ≡ two.new.seen }
+{
+    one.meet(rt, two).is_ok()
+}
+
+/// Lets all these seats see one list of events, and answers how many it has.
+pub fn meet_each<Q: Work + Drop, R: Wait>(
+    rt: &R,
+    multi: &Multi<Q, Outcome>,
+    seats: &mut [Seat<Q, Outcome>],
+    workers: &mut [WorkerSeat<Q, Outcome>],
+) -> Option<u32>
+    requires some { 0 < length workers.old }
+    requires own { All (λ s. s.of ≡ multi.now) seats.old × All (λ s. s.of ≡ multi.now) workers.old }
+    ensures { IfSome result (λ n. Meets seats.old seats.new workers.old workers.new n) }
+{
+    let Ok(count) = multi.meet_all(rt, seats, workers) else {
+        return None;
+    };
+    Some(count)
 }

@@ -9,7 +9,8 @@ ghost use Rattle.mx_request.specs.RequestError.{refusal_code};
 ghost use Rattle.mx_request.specs.declared.error.RequestError.TheVariants as refusal;
 ghost use Rattle.mx_lock.specs.Ties.{Has, tie};
 ghost use Rattle.mx_multi.specs.Seats.{Stands};
-ghost use Rattle.mx_get.specs.Asked.{asked_for, AreEndsOf};
+ghost use Rattle.mx_run_get.specs.Asking.{asked_for};
+ghost use Rattle.mx_get.specs.Asked.{AreEndsOf};
 ghost use Rattle.mx_get.specs.Desks.{Adds, HasRoom, IsNewFor, IsTold, Notes};
 ghost use Rattle.mx_get.specs.FetchError.{is_of_run};
 ghost use Rattle.mx_get.specs.Places.{asked_at, awaits_at, is_awaiting, noted_at};
@@ -26,30 +27,14 @@ use mx_multi::{Application, Seated, WrongSeat};
 use mx_queue::Queued;
 use mx_request::laws::origin_is_whole_request;
 use mx_request::{Request, RequestError};
-use mx_run_get::Fetched;
+use mx_run_get::{Fetched, build_get};
 use mx_run_io::Options;
 use mx_transfer::Outcome;
-use mx_types::{HandleId, Method, OutOfMemory, Settings, Ticket};
+use mx_types::{HandleId, OutOfMemory, Ticket};
 use std::alloc::{AllocGlobal, Global};
 use std::marker::Model;
 use std::snapshot::Snapshot;
 use std::sync::Wait;
-
-// A GET of the URL.
-fn build(
-    alloc: Global,
-    url: &str,
-    timeout_ms: u32,
-    max_redirects: u8,
-) -> Result<Request, RequestError>
-    ensures { MatchResult result (λ r. asked_for timeout_ms max_redirects url.now ≡ Ok r)
-        (λ e. (asked_for timeout_ms max_redirects url.now ≡ Err (refusal_code e)) ⊎ (e ≡ refusal.OutOfMemory)) }
-{
-    let mut settings = Settings::new(alloc);
-    settings.timeout_ms = timeout_ms;
-    settings.max_redirects = max_redirects;
-    Request::build(alloc, Method::Get, url, settings)
-}
 
 // The ticket of an addition that was made, or why none was. It is of any work, so that what is handed back is let go as one value, whatever
 // that is.
@@ -166,7 +151,7 @@ impl<'m, L: Link> Desk<'m, L> {
         ensures width { self.new.width ≡ self.old.width }
         ensures cause { IfErr result (λ e. is_of_run e ≡ true) }
     {
-        match build(rt.alloc(), url, timeout_ms, max_redirects) {
+        match build_get(rt.alloc(), url, timeout_ms, max_redirects) {
             Ok(request) => self.add_request(rt, request),
             Err(RequestError::OutOfMemory) => Err(FetchError::OutOfMemory),
             Err(error) => {

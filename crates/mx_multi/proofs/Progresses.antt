@@ -12,8 +12,8 @@ use Rattle.mx_journal.specs.Slots.{slot_of}
 use Rattle.mx_history.proofs.SlotStaying.{slot_stays}
 use Rattle.mx_board.specs.declared.note.Note.{Note}
 use Rattle.mx_board.specs.Progress.{NoteState, greatest, note, word_of}
-use Rattle.mx_multi.specs.declared.progress.Progress.{Progress}
-use Rattle.mx_multi.specs.declared.progress.Progress.TheVariants as progress
+use Rattle.mx_board.specs.declared.answer.Progress.{Progress}
+use Rattle.mx_board.specs.declared.answer.Progress.TheVariants as progress
 use Rattle.mx_multi.specs.Progress.{IsProgress, ProgressNeverFalls, SaysAdded}
 
 same_number : (n : ℕ) → (n == n) ≡ true

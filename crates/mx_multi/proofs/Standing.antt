@@ -29,7 +29,7 @@ use Rattle.mx_append_log.proofs.Prefixes.{prefix_self, prefix_trans}
 use Rattle.mx_lock.specs.Engine.{EngineState, EngineId, content, HasNoOther, IsLocked, Leaves, IsLeft}
 use Rattle.mx_lock.specs.Lock.{maker, engine_of, newly, IsFoundBy, Took, given, released}
 use Rattle.mx_multi.specs.Seats.{MultiView, SeatView, IsAhead, FindsNoneReady, FindsOther, IsSeat, HasReceipts, Finds, Confirms, Stands, Sees, SeesVersion, FoundState, LeavesState}
-use Rattle.mx_multi.specs.declared.progress.Progress.{Progress}
+use Rattle.mx_board.specs.declared.answer.Progress.{Progress}
 use Rattle.mx_multi.specs.Progress.{IsProgress}
 use Rattle.mx_types.specs.declared.names.HandleId.{HandleId}
 use Rattle.mx_types.specs.declared.origin.Origin.{Origin}

@@ -1,5 +1,5 @@
 -- How far a transfer is, by the progress word of its addition's slot.
-use Rattle.std.specs.Prelude.{◌≡◌, ◌⊎◌, ℕ, ◌<◌, ◌≤◌, ◌==◌, nat_lt, true, if◌then◌else◌, [], ◌∷◌, ◌++◌, List, None, Some}
+use Rattle.std.specs.Prelude.{◌≡◌, ◌⊎◌, ℕ, ◌<◌, ◌≤◌, true, [], ◌∷◌, ◌++◌, List, None, Some}
 use Rattle.mx_types.specs.declared.names.HandleId.{HandleId}
 use Rattle.mx_types.specs.declared.names.Ticket.{Ticket}
 use Rattle.mx_types.specs.declared.event.Event.{Event}
@@ -7,17 +7,11 @@ use Rattle.mx_journal.specs.History.{is_legal}
 use Rattle.mx_journal.specs.Answers.{ticket_of}
 use Rattle.mx_journal.specs.Slots.{slot_of}
 use Rattle.mx_board.specs.declared.note.Note.{Note}
+use Rattle.mx_board.specs.Answer.{progress_of}
 use Rattle.mx_board.specs.Progress.{NoteState, ReadsWord, note, word_of}
-use Rattle.mx_multi.specs.declared.progress.Progress.{Progress}
-use Rattle.mx_multi.specs.declared.progress.Progress.TheVariants as progress
+use Rattle.mx_board.specs.declared.answer.Progress.{Progress}
+use Rattle.mx_board.specs.declared.answer.Progress.TheVariants as progress
 use Rattle.mx_multi.specs.Seats.{SeatView}
-
--- rule multi-progress: A transfer's progress is the count of its slot's word, 0 where that is of an older ticket.
---
--- what a word of the ticket u and the count n says of the ticket t: its count; 0, where the word is of an older ticket; or that a newer one
--- has the slot
-abbrev pub progress_of : Ticket → Ticket → ℕ → Progress
-progress_of t u n = if u.0 == t.0 then progress.Bytes t n else if nat_lt u.0 t.0 then progress.Bytes t 0 else progress.Replaced
 
 -- the word of the slot was read, and says this of the ticket
 pub record SaysWord (t : Ticket) (slot : ℕ) (before after : NoteState) (p : Progress) : Type 0 where

@@ -13,8 +13,8 @@ ghost use Rattle.mx_multi.specs.Progress.{IsProgress, noted_by};
 ghost use Rattle.mx_multi.specs.Seats.{FindsNoneReady, FindsOther, HasReceipts, Stands, Sees, SeesVersion, GivesBack, ClaimsLeast, ClaimsNothing, LeavesState, given_with};
 
 use crate::multi::{HandleList, Multi, WrongSeat};
-use crate::progress::Progress;
 use crate::seat::{Application, AtWork, SeatOf};
+use mx_board::Progress;
 use mx_journal::{
     AddReply, FinishReply, GiveBackReply, InfoReply, PauseReply, RemoveReply, WakeupReply,
 };

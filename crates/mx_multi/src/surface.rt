@@ -12,8 +12,9 @@ ghost use Rattle.mx_multi.specs.Progress.{IsProgress, noted_by};
 ghost use Rattle.mx_multi.specs.Seats.{Stands, Sees, SeesVersion, FindsNoneReady, FindsOther, GivesBack, ClaimsLeast, ClaimsNothing, LeavesState, given_with};
 
 use crate::multi::{HandleList, Multi, WrongSeat};
-use crate::progress::{Progress, read_word};
+use crate::progress::read_word;
 use crate::seat::{Seat, WorkerSeat, note_given, note_receipt};
+use mx_board::Progress;
 use mx_journal::{
     AddReply, FinishReply, GiveBackReply, InfoReply, PauseReply, RemoveReply, WakeupReply,
 };

@@ -1,3 +1,4 @@
+pub mod Asking
 pub mod Fetched
 pub mod Failures
 pub mod Texts

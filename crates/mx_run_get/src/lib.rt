@@ -1,12 +1,14 @@
-//! What `mxfetch get` prints: a line and the body of each transfer.
+//! What `mxfetch get` asks for of a URL, and what it prints: a line and the body of each transfer.
 #![tactic(auto)]
 
+mod asking;
 mod failure;
 mod fetched;
 pub mod laws;
 mod run;
 mod text;
 
+pub use crate::asking::build_get;
 pub use crate::failure::{Failure, last_method, why_of};
 pub use crate::fetched::Fetched;
 pub use crate::run::print_get;

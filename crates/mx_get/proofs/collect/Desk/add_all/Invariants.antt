@@ -1,5 +1,5 @@
 use Rattle.std.proofs.Common.{◌≡◌, ◌++◌, map, take}
-use Rattle.mx_get.specs.Asked.{asked_for}
+use Rattle.mx_run_get.specs.Asking.{asked_for}
 use Rattle.mx_get.specs.Places.{asked_at}
 use Rattle.mx_get.proofs.collect.Desk.add_all.Given as goal
 

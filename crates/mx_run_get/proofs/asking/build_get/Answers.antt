@@ -1,7 +1,7 @@
 use Rattle.std.proofs.Common.{ap, ◌∙◌}
 use Rattle.mx_types.specs.Settings.{SettingsValue}
-use Rattle.mx_get.proofs.Asking.{built}
-use Rattle.mx_get.proofs.collect.build.Goals as goal
+use Rattle.mx_run_get.proofs.Building.{built}
+use Rattle.mx_run_get.proofs.asking.build_get.Goals as goal
 
 pub returns : goal.returns
 returns c =

@@ -7,7 +7,7 @@ use Rattle.mx_request.specs.Request.{RequestValue, request_of}
 use Rattle.mx_request.specs.RequestError.{refusal_code}
 use Rattle.mx_request.specs.declared.error.RequestError.{RequestError}
 use Rattle.mx_request.specs.declared.error.RequestError.TheVariants as refusal
-use Rattle.mx_get.specs.Asked.{asked_for, asked_or_code}
+use Rattle.mx_run_get.specs.Asking.{asked_for, asked_or_code}
 
 -- what was built, or why it was not
 pub built : (timeout_ms max_redirects : ℕ) (url : List ℕ) (settings : SettingsValue) (result : Result RequestValue RequestError)
