@@ -5,11 +5,12 @@ docs/generated/CRATES.md, what each crate does and stands on.
     docs/api.py              compares the pages with the sources; ends with 1 where they differ, or where an item has no doc comment
     docs/api.py --write      writes the pages anew
 
-API has of each crate the header of its src/lib.rt, then each item that another crate can name, with its signature, its doc comment and its
-clauses, then each definition of specs/ that these clauses name, with its file, the comment over it, and links to its rules. Columns in
-front of a function: `waits` where a bound lets it wait; `refused` what it answers in place of a value (the type of its error, or `None`);
-`left` the clauses named `refused`, `kept` or `back`, which say what a refusal leaves. Crates of tests are left out. CRATES has all crates,
-in the order of crates.txt.
+API has of each crate the header of its src/lib.rt, what it re-exports, then each item that another crate can name or call, whatever module
+it is in, with its signature, its clauses and the comments between them, its doc comment and its traits, then each definition of specs/ that
+these clauses name, with its file, the comment over it, and links to its rules. Columns in front of a function: `waits` where a bound lets
+it wait; `refused` what it answers in place of a value (the type of its error, or `None`); `left` the clauses named `refused`, `kept` or
+`back`, which say what a refusal leaves. Left out are methods of a trait's impl that have neither clause nor doc comment of their own, since
+the trait has theirs, derived traits, private fields, and crates of tests. CRATES has all crates, in the order of crates.txt.
 """
 
 import difflib
@@ -20,13 +21,16 @@ import sys
 TOP = os.path.dirname(os.path.dirname(os.path.realpath(__file__)))
 GENERATED = "docs/generated"
 LEFT = ("refused", "kept", "back")
-ITEM = re.compile(r"(?:pub )?(?:unsafe )?(?:const )?(fn|struct|enum|trait|const|static|type|mod|impl|macro_rules!)\b")
+ITEM = re.compile(r"(?:pub )?(?:unsafe )?(?:const )?(fn|struct|enum|trait|const|static|type|impl|macro_rules!)\b")
+MODULE = re.compile(r"(pub(?:\([\w ]+\))? )?mod (\w+);")
+IMPL = re.compile(r"impl(?:<.*?>)? (?:(.*?) for )?&?(?:'\w+ )?(?:mut )?([\w:]+)")
 HEAD = """# API
 
 What each library crate has for those above it: printed by `docs/api.py` from the sources, and compared with them by `./check`. An item is
 written with its contract. A clause is what is proved of each call that meets the `requires`; the words in it are the definitions below
 each crate, and where they are of another crate, below that. A function that *waits* need not return. What is *refused* comes in place of a
-value, and the clauses under *left* say what it leaves. A law is a function whose body does nothing and whose contract is what it shows.
+value, and the clauses under *left* say what it leaves. A law is a function whose body does nothing and whose contract is what it shows. A
+method that a type has from a trait is written at the type only where it has a clause or a comment of its own.
 """
 
 CRATES_HEAD = """# Crates
@@ -89,7 +93,7 @@ class File:
     def __init__(self, crate, path, module):
         self.crate, self.path, self.module = crate, path, module
         self.lines = read(path).splitlines()
-        self.items, self.modules, self.exports, self.uses = [], [], [], {}
+        self.items, self.modules, self.exports, self.uses, self.traits = [], [], [], {}, []
         self.parse(0, len(self.lines), "", None)
 
     def parse(self, first, last, indent, owner):
@@ -141,7 +145,7 @@ class File:
     def is_clause(self, at):
         """Whether the line is a clause, or goes on with one, so that a body comes later."""
         line = self.lines[at].strip()
-        following = self.lines[at + 1].strip() if at + 1 < len(self.lines) else ""
+        following = next((it.strip() for it in self.lines[at + 1:] if not it.strip().startswith("//")), "")
         return bool(re.match(r"(ensures|requires|ghost \w+:)", line) and re.match(r"(ensures|requires|\{$)", following)) or \
             following == "{" or bool(re.match(r"(ensures|requires)\b", following))
 
@@ -149,18 +153,18 @@ class File:
         line = self.lines[at][len(indent):]
         found, end = ITEM.match(line), self.end_of(at, last)
         is_public = line.startswith("pub ")
-        if found and found[1] == "mod":
-            name = re.match(r"(?:pub )?mod (\w+)", line)[1]
-            if line.rstrip().endswith(";"):
-                self.modules.append((name, is_public))
+        if MODULE.match(line):
+            self.modules.append((MODULE.match(line)[2], MODULE.match(line)[1] == "pub "))
         elif re.match(r"pub use ", line):
-            self.exports.append(" ".join(it.strip() for it in self.lines[at:end]))
+            self.exports.append("".join(it.strip() for it in self.lines[at:end]))
         elif found and found[1] == "impl":
-            if self.opens(at) > end - 1:
-                return end  # an impl with an empty body
-            head = " ".join(it.strip() for it in self.lines[at:self.opens(at)])
-            of = re.match(r"impl(?:<.*?>)? (?:(.*?) for )?&?(?:'\w+ )?(?:mut )?([\w:]+)", self.without_generics(head))
-            self.parse(self.opens(at), end - 1, f"{indent}    ", (of[2].rpartition("::")[2], of[1]) if of else None)
+            head = " ".join(it.strip() for it in self.lines[at:min(self.opens(at), end)])
+            of = IMPL.match(self.without_generics(head))
+            owner = (of[2].rpartition("::")[2], of[1]) if of else None
+            if owner and owner[1]:
+                self.traits.append((owner[0], owner[1]))
+            if self.opens(at) < end:
+                self.parse(self.opens(at), end - 1, f"{indent}    ", owner)
         elif found and (is_public or owner and (owner[1] or owner[0] == "trait") and found[1] == "fn"):
             self.add(found[1], at, end, owner, doc)
             if found[1] == "trait" and self.opens(at) < end:
@@ -190,10 +194,11 @@ class File:
         head, clauses = [], []
         for line in self.lines[at:end]:
             text = line.strip()
-            if re.match(r"(ensures|requires)\b", text):
+            if re.match(r"(ensures|requires)\b", text) or kind == "fn" and text.startswith("//"):
                 clauses.append(text)
             elif clauses:
-                if text in ("{", "{}", ";") or text.startswith("{ ") and not clauses[-1].rstrip().endswith(("(", "{")) and self.is_closed(clauses[-1]):
+                is_open = clauses[-1].rstrip().endswith(("(", "{")) or not self.is_closed(clauses[-1])
+                if text in ("{", "{}", ";") or text.startswith("{ ") and not is_open:
                     break
                 clauses[-1] += f" {text}"
             elif kind == "fn":
@@ -204,9 +209,11 @@ class File:
                 head.append(line.rstrip())
                 if kind in ("const", "static", "type", "trait") and (text.endswith((";", "{"))):
                     break
-        clauses = [it[:-1].rstrip() if it.endswith(";") else it for it in clauses]
+        while clauses and clauses[-1].startswith("//"):
+            clauses.pop()  # a comment before the body
+        clauses = [it[:-1].rstrip() if it.endswith(";") and not it.startswith("//") else it for it in clauses]
         text = " ".join(it.strip() for it in head)
-        signature = re.sub(r"\s*\{(?:\s*\}| .* \})?$|;$", "", text) if kind == "fn" else self.shape(kind, head)
+        signature = re.sub(r"\s*\{(?:\s*\}| .* \})?$|;$", "", text) if kind == "fn" else self.shape(kind, head, self.lines[at:end])
         signature = re.sub(r"\( ", "(", re.sub(r",? \)", ")", signature))
         name = re.search(rf"{kind} (?:mut )?(\w+)", text)
         name = name[1] if name else text
@@ -222,14 +229,22 @@ class File:
         return blank.count("{") == blank.count("}")
 
     @staticmethod
-    def shape(kind, head):
-        """The public part of a type: its fields and variants, without private ones."""
-        if kind in ("const", "static", "type", "trait"):
+    def shape(kind, head, lines):
+        """The public part of a type: its fields and variants, without private ones; and of a trait what its clauses and types name."""
+        if kind == "trait":
+            members = [it for it in lines if re.match(r"    (ghost \w+:|type |const )", it)]
+            head = re.sub(r"\s*[{;]$", "", " ".join(it.strip() for it in head))
+            return "\n".join([f"{head} {{", *members, "}"]) if members else head
+        if kind in ("const", "static", "type"):
             return re.sub(r"\s*[{;]$", "", " ".join(it.strip() for it in head))
-        if kind == "struct":
-            kept = [it for it in head if not re.match(r"\s+(\w+:|//|#|ghost )", it)]
-            return "\n".join(kept)
-        return "\n".join(it for it in head if not re.match(r"\s*(//|#)", it))
+        kept, doc = [], []
+        for it in head:
+            if it.strip().startswith("///"):
+                doc.append(it)
+            elif not re.match(r"\s*(//|#)", it):
+                kept += [] if kind == "struct" and re.match(r"\s+((pub\(\w+\) )?\w+:|ghost )", it) else [*doc, it]
+                doc = []
+        return "\n".join(kept)
 
 
 class Crate:
@@ -249,19 +264,30 @@ class Crate:
         return file
 
     def exported(self):
-        """The items that another crate can name, in the order of the files."""
-        wanted, modules = set(), {""}
+        """The items that another crate can name or call, in the order of the files. Notes their traits, and what is re-exported."""
+        wanted, modules, public, self.reexports = set(), {""}, set(), {}
         for module, file in self.files.items():
             modules |= {f"{module}::{name}".lstrip(":") for name, is_public in file.modules if is_public and module in modules}
             for it in file.exports:
-                names = re.search(r"\{(.*)\}", it)
-                wanted |= {name.strip().rpartition(" as ")[2].rpartition("::")[2] for name in (names[1] if names else it[:-1].rpartition("::")[2]).split(",")}
+                path, names = re.match(r"pub use ([\w:]+?)::(\w+|\{.*\});", it).groups()
+                names = [name.strip() for name in names.strip("{}").split(",") if name.strip()]
+                if path.split("::")[0] == "crate":
+                    wanted |= {(path.partition("::")[2], name) for name in names}
+                else:
+                    self.reexports.setdefault(path, []).extend(names)
+        for module, file in self.files.items():
+            public |= {it.name for it in file.items if not it.owner and (module in modules or (module, it.name) in wanted)}
+        traits = {it.name for file in self.files.values() for it in file.items if it.kind == "trait"}
+        self.traits = {}
+        for file in self.files.values():
+            for name, of in file.traits:
+                if name in public and of.partition("<")[0].rpartition("::")[2] not in ("Model", *(traits - public)):
+                    self.traits.setdefault(name, []).append(of)
         found = []
         for module, file in self.files.items():
-            types = {it.name for it in file.items if it.kind != "fn" and "::" not in it.name} & wanted
             for it in file.items:
-                own = it.owner or it.name
-                if module in modules or own in wanted or own in types:
+                is_named = module in modules or (module, it.name) in wanted
+                if it.owner in public and (not it.of_trait or it.of_trait in self.traits.get(it.owner, ())) if it.owner else is_named:
                     found.append(it)
         return found
 
@@ -269,7 +295,7 @@ class Crate:
         """The definitions of its own specs that the clauses of its public items name: word, comment, file."""
         cited = {}
         for item in self.public:
-            for word in re.findall(r"[\w◌-]+", " ".join(item.clauses)):
+            for word in re.findall(r"[\w◌-]+", " ".join(it for it in item.clauses if not it.startswith("//"))):
                 if word in item.module.uses:
                     crate, module, name = item.module.uses[word]
                     cited[crate, module, name] = None
@@ -286,7 +312,8 @@ class Crate:
     def comment_of(path, name):
         """The comment over a definition, or where it is of rules alone (docs/rules.py) their texts; and links to these."""
         lines = read(path).splitlines()
-        at = next((i for i, it in enumerate(lines) if re.match(rf"(abbrev |data |record |rec )?(pub )?(abbrev |record |data )?(pub )?{re.escape(name)}\b", it)), None)
+        mark = re.compile(rf"(abbrev |data |record |rec )?(pub )?(abbrev |record |data )?(pub )?{re.escape(name)}\b")
+        at = next((i for i, it in enumerate(lines) if mark.match(it)), None)
         first = at
         while first and lines[first - 1].startswith("--"):
             first -= 1
@@ -300,11 +327,17 @@ class Crate:
         return " ".join(filter(None, own or texts)) + (f" (rule {named})" if named else "")
 
 
+def listed(words):
+    return ", ".join(f"`{it}`" for it in words)
+
+
 def page():
     lines, lacking = [HEAD], []
     for name in library_crates():
         crate = Crate(name)
         lines.append(f"## {name}\n\n{crate.header}\n")
+        if crate.reexports:
+            lines.append("Re-exported: " + "; ".join(f"{listed(names)} of [{it}](#{it})" for it, names in crate.reexports.items()) + ".\n")
         for item in crate.public:
             if item.of_trait and not item.clauses and not item.doc:
                 continue
@@ -322,15 +355,19 @@ def page():
             lines.append("\n".join(["```rust", item.signature, *(f"    {it}" for it in item.clauses), "```", ""]))
             if item.doc:
                 lines.append("\n".join(item.doc) + "\n")
+            if item.kind != "fn" and item.name in crate.traits:
+                lines.append(f"Traits: {listed(crate.traits[item.name])}.\n")
         own, others = crate.definitions()
         if own:
             lines.append(f"### Definitions of {name}\n")
-            lines.append("\n".join(f"- `{word}` ([{os.path.basename(path)}](../../{path})){': ' if comment else ''}{comment}" for word, comment, path in own) + "\n")
+            for word, comment, path in own:
+                lines.append(f"- `{word}` ([{os.path.basename(path)}](../../{path})){': ' if comment else ''}{comment}")
+            lines.append("")
         if others:
             by = {}
             for other, word in others:
                 by.setdefault(other, []).append(word)
-            lines.append("Of other crates: " + "; ".join(f"{', '.join(f'`{it}`' for it in words)} of [{other}](#{other})" for other, words in by.items()) + ".\n")
+            lines.append("Of other crates: " + "; ".join(f"{listed(words)} of [{other}](#{other})" for other, words in by.items()) + ".\n")
     return "\n".join(lines), lacking
 
 
