@@ -63,13 +63,15 @@ def without_literals(line):
 
 
 class Item:
-    """A public item: how it is named, its kind, signature, doc comment and clauses, and its trait, where it is a method of one."""
+    """A public item: how it is named, its kind, signature, doc comment and clauses; and of a method its type or trait, the trait whose impl
+    it is in, and the first line of that impl."""
 
-    def __init__(self, kind, name, signature, doc, clauses, module):
+    def __init__(self, kind, name, signature, doc, clauses, module, owner=None, of_trait=None, block=""):
         self.kind, self.name, self.signature, self.doc, self.clauses, self.module = kind, name, signature, doc, clauses, module
+        self.owner, self.of_trait, self.block = owner, of_trait, block
 
     def waits(self):
-        return bool(re.search(r"\bWait\b", self.signature))
+        return bool(re.search(r"\b(Wait|Runtime)\b", f"{self.block} {self.signature}"))
 
     def refuses(self):
         result = self.signature.rpartition("-> ")[2] if "-> " in self.signature else ""
@@ -160,7 +162,7 @@ class File:
         elif found and found[1] == "impl":
             head = " ".join(it.strip() for it in self.lines[at:min(self.opens(at), end)])
             of = IMPL.match(self.without_generics(head))
-            owner = (of[2].rpartition("::")[2], of[1]) if of else None
+            owner = (of[2].rpartition("::")[2], of[1], head) if of else None
             if owner and owner[1]:
                 self.traits.append((owner[0], owner[1]))
             if self.opens(at) < end:
@@ -169,7 +171,7 @@ class File:
             self.add(found[1], at, end, owner, doc)
             if found[1] == "trait" and self.opens(at) < end:
                 name = re.search(r"trait (\w+)", line)[1]
-                self.parse(self.opens(at), end - 1, f"{indent}    ", (name, "trait"))
+                self.parse(self.opens(at), end - 1, f"{indent}    ", (name, "trait", ""))
         return end
 
     @staticmethod
@@ -217,11 +219,9 @@ class File:
         signature = re.sub(r"\( ", "(", re.sub(r",? \)", ")", signature))
         name = re.search(rf"{kind} (?:mut )?(\w+)", text)
         name = name[1] if name else text
-        full = f"{owner[0]}::{name}" if owner else name
-        of = owner[1] if owner and owner[1] not in (None, "trait") else None
-        self.items.append(Item(kind, full, signature, doc, clauses, self))
-        self.items[-1].of_trait = of
-        self.items[-1].owner = owner[0] if owner else None
+        of_type, of_trait, block = owner or (None, None, "")
+        full = f"{of_type}::{name}" if owner else name
+        self.items.append(Item(kind, full, signature, doc, clauses, self, of_type, of_trait if of_trait != "trait" else None, block))
 
     @staticmethod
     def is_closed(text):
@@ -233,7 +233,7 @@ class File:
         """The public part of a type: its fields and variants, without private ones; and of a trait what its clauses and types name."""
         if kind == "trait":
             members = [it for it in lines if re.match(r"    (ghost \w+:|type |const )", it)]
-            head = re.sub(r"\s*[{;]$", "", " ".join(it.strip() for it in head))
+            head = re.sub(r"\s*(\{\}|[{;])$", "", " ".join(it.strip() for it in head))
             return "\n".join([f"{head} {{", *members, "}"]) if members else head
         if kind in ("const", "static", "type"):
             return re.sub(r"\s*[{;]$", "", " ".join(it.strip() for it in head))
