@@ -24,6 +24,8 @@ use std::marker::Model;
 /// It takes no lock and no memory, and waits for nobody. It answers None, and nothing changes, where the board is
 /// closed, where the reader found no free place when it caught up, and where the version has an event of its maker that the
 /// reader hasn't seen: after its own event a maker catches up before it reads.
+///
+/// No clause says when None comes, or that an answer is of a newer version than the one that the reader has seen.
 #[derive(Drop)]
 pub struct BoardReader {
     place: Option<VersionReader>,

@@ -73,7 +73,8 @@ fn publish_all<R: Wait>(
     writer.publish_as::<CatchesUp, R>(rt).0
 }
 
-/// A board with no events, and places for so many readers at a time.
+/// A board with no events, and places for so many readers at a time. It waits for nobody, since it has no readers yet. The one error is
+/// that memory is refused.
 pub fn board<R: Wait>(rt: &R, alloc: Global, readers: usize) -> Result<BoardWriter, OutOfMemory>
     requires { (0 < readers) × (readers < 65) }
     ensures { IfOk result (λ w. (w.events ≡ []) × (w.published ≡ [])) }
@@ -95,7 +96,7 @@ pub fn board<R: Wait>(rt: &R, alloc: Global, readers: usize) -> Result<BoardWrit
 }
 
 /// A board with these events, all of them published, and places for so many readers at a time. It waits for nobody, since
-/// it has no readers yet. Where memory is refused, the board that was begun is closed.
+/// it has no readers yet. Where memory is refused, the board that was begun is closed, which no clause says.
 #[tactic(auto, using(crate::proofs::Filling::next_is_legal))]
 pub fn board_of<R: Wait>(
     rt: &R,
@@ -129,7 +130,10 @@ impl Log for BoardWriter {
 
     ghost name = { λ w. name_of w.book };
 
-    /// It is refused for want of memory, where an event waits to be published, and where the journal is as long as it can be.
+    /// `OutOfMemory` comes where memory is refused, where an event waits to be published, and where the journal is as long as it can be. It
+    /// would also come, from then on always, where something else had made the journal longer: nothing does, but no clause rules it out.
+    ///
+    /// No clause says that it leaves the published events as they were.
     fn append(&mut self, event: Event) -> Result<(), OutOfMemory> {
         if self.broken || self.writer.has_pending_operations() {
             return Err(OutOfMemory);

@@ -118,7 +118,7 @@ fn rooms<G: Drop>(
 // rule worker-threads, unproved: Workers on threads run at the same time.
 /// Runs a worker at each post, on a thread of its own, while the application runs on this one. The application is told that the crew
 /// stands, or why it doesn't: then it runs without workers. Once it has returned the crew is dismissed. It answers what the application
-/// returned, and for each post what its worker did, with its gate; all workers have ended then. It may wait.
+/// returned, and for each post what its worker did, with its gate; all workers have ended then. Seats don't come back. It may wait.
 ///
 /// # Errors
 ///
@@ -126,7 +126,7 @@ fn rooms<G: Drop>(
 /// workers that had started are dismissed then, and have ended. Posts and gates don't come back.
 ///
 /// Of all this the clauses say that what it answers first is what the application may return as it was told, and that it counts as many
-/// workers as there were posts.
+/// workers as there were posts. They don't say on which thread a worker runs, that it ends, or that its gate is that of its post.
 pub fn run_beside<
     'm,
     L: Link + Send,

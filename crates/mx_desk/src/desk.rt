@@ -160,7 +160,7 @@ impl<'m, L: Link> Model for Desk<'m, L> {
 impl<'m, L: Link> Desk<'m, L> {
     ghost use Rattle.mx_desk.specs.Desks.{Adds, Ends, Stays};
 
-    /// Nothing is added. There are so many numbers, from 0 on, and at most `width` requests are added at a time.
+    /// Nothing is added. There are so many numbers, from 0 on, and at most `width` requests are added at a time. An error drops the seat.
     pub fn new(
         alloc: Global,
         seat: Seated<'m, Application, Queued<L>, Outcome>,
@@ -265,6 +265,8 @@ impl<'m, L: Link> Desk<'m, L> {
 
     /// Reads the next message, for which it waits as long as that, at most: the request has ended that was added under its number, and its
     /// handle is removed. Where none came it answers None. After an error it isn't known what is added.
+    ///
+    /// A removal that is refused is an error; that the handle is removed, no clause says.
     pub fn next<R: Wait + AllocGlobal + Clock>(
         &mut self,
         rt: &R,

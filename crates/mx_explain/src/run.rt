@@ -79,6 +79,8 @@ fn print_unfetched<W: Write, E: Write>(
 /// is refused the byte of it, counted from 1, and what stands wrong there; of one that was cut how much of it came; and behind it a hint
 /// where there is one; and last, where a connection couldn't be begun since too many files were open, a hint that says so. Where `FAULT 27` is printed, it is told what the run lacked. What is told is put into an output of its own, once the
 /// other is flushed; whether it could be is no matter of the exit status. It may wait.
+///
+/// No clause says that the cause that is named beside `FAULT 27`, or the hint of too many open files, is the right one.
 pub fn run_get_explained<
     R: Runtime + Net<Listener = TcpListener, Stream = TcpStream>,
     W: Write,

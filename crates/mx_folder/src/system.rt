@@ -24,7 +24,7 @@ struct OpenPart<F> {
 }
 
 /// A folder of the system, one part of which is open at a time. Contracts see what it was told that the system did, the newest first; that
-/// the system did so, no contract can say.
+/// the system did so, no contract can say, and no clause says that a call of this folder makes the system call that its step names.
 #[derive(Drop)]
 pub struct SystemFolder<'a, R: Files> {
     alloc: Global,
@@ -162,7 +162,7 @@ fn flush_names<R: Files>(files: &R, folder: &str) -> Result<(), FolderError> {
 
 impl<'a, R: Files> SystemFolder<'a, R> {
     /// The folder of this path, which is made, with those above it, where it isn't there. A link at the path is followed, here and at each
-    /// call. Where the folder can't be made, the error says why.
+    /// call. Where the folder can't be made, the error says why; folders above it may have been made.
     pub fn open(alloc: Global, files: &'a R, path: &str) -> Result<SystemFolder<'a, R>, FolderError>
         ensures { IfOk result (λ folder. folder ≡ []) }
     {

@@ -129,7 +129,9 @@ fn only(alloc: Global, address: SocketAddr) -> Result<Vec<SocketAddr>, Code>
 /// The addresses of an endpoint, at least one, in the order in which they are dialled. A host that spells an address has that one, and isn't
 /// looked up; of any other they are all that the lookup of its name gives, which are added to those found, the IPv4 ones first.
 ///
-/// `CouldntResolveHost` comes where the lookup fails or gives nothing, `OutOfMemory` where memory is wanting.
+/// `CouldntResolveHost` comes where the lookup fails or gives nothing, `OutOfMemory` where memory is refused.
+///
+/// No clause says that the addresses that are added to `found` are what the system answered for this name.
 pub fn addresses_of<R: Net + AllocGlobal>(
     rt: &R,
     endpoint: &Endpoint,

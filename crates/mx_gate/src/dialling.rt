@@ -33,6 +33,8 @@ pub trait Dial: Drop {
 /// A link over the addresses of a host. It dials them in their order, each once: the next where one is refused, until a connection is made.
 /// Once it was asked to read or to write, or its connection stood, it dials no more. What it gave is what its one connection gave; an
 /// address that is refused while others are left is told as a connection that is still being made. All have one token.
+///
+/// No clause says that the next address is dialled only after a refusal.
 #[derive(Drop)]
 pub struct DialLink<D: Dial> {
     dial: D,
@@ -140,7 +142,7 @@ fn is_unmade(connect: Connect) -> bool
 impl<D: Dial> DialLink<D> {
     /// A link over these addresses, which are to be dialled in this order: to the first that isn't refused at once.
     ///
-    /// Where each is, the error is that of the last: `CouldntConnect`, or `OutOfMemory`.
+    /// Where each is, the error is that of the last: `CouldntConnect`, or `OutOfMemory`. An error drops the dialler and the addresses.
     #[tactic(auto, using(crate::proofs::DialLemmas::dialled_all, crate::proofs::DialLemmas::dialled_some))]
     pub fn over(mut dial: D, addresses: Vec<SocketAddr>, token: u64) -> Result<DialLink<D>, Code>
         requires { D.dialled dial ≡ [] }

@@ -13,6 +13,9 @@ use std::sync::Arc;
 /// before the gate was told something new: it answers so at once. Nor is a read of more than one byte made after one that
 /// gave fewer bytes than it was asked for, and so left none (epoll(7)), unless the gate was told that the other side sends
 /// no more.
+///
+/// No clause says that the link is asked again once the gate has reported something new of it, or that a link whose end was reported is
+/// read until it gives that end.
 #[derive(Drop)]
 pub struct ReadyLink<L: Link> {
     link: L,

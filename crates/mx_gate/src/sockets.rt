@@ -266,7 +266,7 @@ fn turn_of(is_stopped: bool) -> Turn
 impl<'r, R: Net + Clock + AllocGlobal> SocketGate<'r, R> {
     /// A gate whose clock starts now, and whose turns answer `Stop` while the flag is set.
     ///
-    /// `CouldntConnect` comes where the system gives no poll or no clock, `OutOfMemory` where memory is wanting.
+    /// `CouldntConnect` comes where the system gives no poll or no clock, `OutOfMemory` where memory is refused. An error drops the flag.
     pub fn new(rt: &'r R, stop: Arc<AtomicBool>) -> Result<SocketGate<'r, R>, Code>
         ensures opened { IfOk result (λ gate. gate ≡ record { latest = 0; next_token = 1; is_stopped = false; found = []; dialled = []; said = [] }) }
         ensures code { IfErr result (λ code. is_start_code code ≡ true) }
@@ -278,7 +278,7 @@ impl<'r, R: Net + Clock + AllocGlobal> SocketGate<'r, R> {
     }
 
     /// The same, with a clock that started at `start`. Gates among which transfers go back and forth have one start,
-    /// since a deadline is a moment of the gate that set it.
+    /// since a deadline is a moment of the gate that set it. An error drops the flag.
     pub fn starting_at(
         rt: &'r R,
         stop: Arc<AtomicBool>,
@@ -427,6 +427,8 @@ impl<'r, R: Net + Clock + AllocGlobal> SocketGate<'r, R> {
 
     /// A link to the endpoint, over these addresses of its host in their order, at the endpoint's port. They are the caller's: nothing is
     /// looked up. Without an address it is `CouldntConnect`.
+    ///
+    /// On an error no clause says what was added to the list of dialled addresses, which exists in contracts alone.
     pub fn open_at(
         &mut self,
         endpoint: &Endpoint,
@@ -518,6 +520,8 @@ impl<'r, R: Net + Clock + AllocGlobal> Gate for SocketGate<'r, R> {
     }
 
     /// Begins to connect to the addresses of the endpoint (`addresses_of`): to the first that isn't refused at once.
+    ///
+    /// On an error no clause says what was added to the list of lookups, which exists in contracts alone.
     fn open(&mut self, endpoint: &Endpoint) -> Result<SocketLink<'r, R>, Code>
         ensures fresh { IfOk result (λ link. link.history ≡ []) }
         ensures code { IfErr result (λ code. is_link_code code ≡ true) }
@@ -541,6 +545,9 @@ impl<'r, R: Net + Clock + AllocGlobal> Gate for SocketGate<'r, R> {
     /// Waits until a connection is ready or the bell is rung. What is told of connections lets their links be asked again. A turn of
     /// no wait looks once a millisecond of the clock, so that it costs a worker that has work at hand no system call each time; and where a link
     /// was opened since the last, so that a worker that begins many connections finds those that have become free meanwhile.
+    ///
+    /// It blocks in the system's poll, though it has no bound `Wait`. No clause says that the system is given this wait, or that the
+    /// answer is the flag's value.
     fn turn(&mut self, wait_ms: u32) -> Turn
         ensures stop { result ≡ turn_of self.new.is_stopped }
         ensures others { self.new ≡ record self.old { is_stopped = self.new.is_stopped; said = self.new.said } }

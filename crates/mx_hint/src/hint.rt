@@ -69,7 +69,8 @@ fn of_value(words: &[String]) -> Option<Hint>
     None
 }
 
-/// What is said to these words, which are a command line that is refused as that kind of error, if anything is.
+/// What is said to these words, which are a command line that is refused as that kind of error, if anything is. No clause says that
+/// anything is, or that the command that is named is the nearest.
 pub fn hint_of(alloc: Global, words: &[String], kind: ErrorKind) -> Result<Option<Hint>, AllocError>
     ensures { IfOk result (λ o. IfSome o (IsSaid kind (map string_bytes words.now))) }
 {

@@ -109,7 +109,7 @@ fn poll_within<Q: Work + Drop, R: Wait + Clock>(
 
 /// Reads the next message; where none waits, it waits for one as long as that, at most (curl_multi_poll(3) with its timeout). Of a message
 /// it says what `next_message` says. Where none came it answers None, and of the calls that waited for one the receipts stand behind those
-/// that the seat had, as they do where it answers `NoMessage`.
+/// that the seat had, as they do where it answers `NoMessage`. No clause says that it waits that long, or no longer.
 pub fn next_message_within<Q: Work + Drop, R: Wait + Clock>(
     rt: &R,
     seat: &mut Seated<'_, Application, Q, Outcome>,

@@ -65,7 +65,7 @@ fn run_one<Q: Work + Drop, O: Ending + Drop, R: Wait>(
 
 // Seats and handle are apart: with `Seated` in their place the borrow checker's part of the proof comes to no end.
 /// Two threads, each with a seat and a script of its own; then the seats meet. Where they met, both have seen one legal
-/// journal, in which the receipts of both runs are placed.
+/// journal, in which the receipts of both runs are placed. None where they didn't meet: no clause says then which calls were made.
 pub fn run_two<Q: Work + Drop + Send, O: Ending + Drop + Send, R: Threads + Wait + Sync>(
     rt: &R,
     multi: &Multi<Q, O>,

@@ -29,7 +29,8 @@ pub struct HandleList {
     pub list: AddedHandles,
 }
 
-/// A multi handle that threads share, each through a seat of its own.
+/// A multi handle that threads share, each through a seat of its own. One that is dropped without `close` leaks the two tables of its
+/// board.
 #[derive(Drop)]
 pub struct Multi<Q: Work + Drop, O: Ending + Drop> {
     pub(crate) lock: Lock<Q, O>,
@@ -129,6 +130,8 @@ impl<Q: Work + Drop, O: Ending + Drop> Multi<Q, O> {
     /// What lies in the lock, for contracts alone: the control state is sound, its journal is what the seat has then seen,
     /// and the version that is published is that of this journal. `WrongSeat`, and nothing changes, where the seat isn't one
     /// of this multi handle's.
+    ///
+    /// No clause says that it leaves queue and endings as they were.
     pub fn locked_state<R: Wait>(
         &self,
         rt: &R,

@@ -81,6 +81,11 @@ impl OpenError {
 
 impl<Q: Work + Drop, O: Ending + Drop> Multi<Q, O> {
     /// Opens a multi handle, with its seats and its workers' seats. It waits until the empty version is published.
+    ///
+    /// # Errors
+    ///
+    /// `BadLimits`, tried first, where a number isn't within its limits ([`Limits`]); `OutOfMemory` where memory is refused. No clause says
+    /// that an error frees what was allocated.
     pub fn open<R: Wait>(
         rt: &R,
         alloc: Global,

@@ -86,6 +86,19 @@ impl<'m, K, Q: Work + Drop, O: Ending + Drop> Seated<'m, K, Q, O> {
 impl<'m, Q: Work + Drop, O: Ending + Drop> Seated<'m, Application, Q, O> {
     /// Adds a handle with its work (curl_multi_add_handle(3)). The seat is then told that the ticket's addition is of the work's
     /// request.
+    ///
+    /// # Refusals
+    ///
+    /// The first that applies, in this order; each hands the work back. After all but the first the seat has seen the journal that the call
+    /// found:
+    ///
+    /// - `WrongSeat`: the journal in the lock doesn't begin with what the seat has seen, or has another number of the seat's own events;
+    ///   the seat stays as it was;
+    /// - `AddedAlready`: the handle is added;
+    /// - `TableFull`: as many handles are added as can be;
+    /// - `TicketsSpent`: no ticket is left;
+    /// - `HistoryFull`: the history has no room for the addition and its end, reading and removal;
+    /// - `OutOfMemory`: memory for the event was refused.
     pub fn add<R: Wait>(
         &mut self,
         rt: &R,
@@ -103,6 +116,10 @@ impl<'m, Q: Work + Drop, O: Ending + Drop> Seated<'m, Application, Q, O> {
     }
 
     /// Removes a handle, whatever its state (curl_multi_remove_handle(3)).
+    ///
+    /// # Refusals
+    ///
+    /// The first that applies, in this order, as for `add`: `WrongSeat`, `NotAdded`, `OutOfMemory`.
     pub fn remove<R: Wait>(
         &mut self,
         rt: &R,
@@ -117,6 +134,11 @@ impl<'m, Q: Work + Drop, O: Ending + Drop> Seated<'m, Application, Q, O> {
     }
 
     /// Pauses a handle's transfer.
+    ///
+    /// # Refusals
+    ///
+    /// The first that applies, in this order, as for `add`: `WrongSeat`, `NotAdded`, `NotRunning` (its transfer ended), `NoChange` (it is
+    /// paused), `HistoryFull`, `OutOfMemory`.
     pub fn pause<R: Wait>(&mut self, rt: &R, handle: HandleId) -> Result<PauseReply, WrongSeat<()>>
         ensures stands { MatchResult result (λ r. Stands self.old self.new (Call.Pause handle) (reply_of_pause r)) (λ _. self.new ≡ self.old) }
         ensures left { IfOk result (λ r. LeavesState O.code_of O.size_of self.old self.new (reply_of_pause r)) }
@@ -127,6 +149,10 @@ impl<'m, Q: Work + Drop, O: Ending + Drop> Seated<'m, Application, Q, O> {
     }
 
     /// Resumes a handle's transfer.
+    ///
+    /// # Refusals
+    ///
+    /// Those of `pause`, in the same order, with `NoChange` where it isn't paused.
     pub fn unpause<R: Wait>(
         &mut self,
         rt: &R,
@@ -142,6 +168,10 @@ impl<'m, Q: Work + Drop, O: Ending + Drop> Seated<'m, Application, Q, O> {
 
     /// Reads the first message (curl_multi_info_read(3)). The seat is then told that the addition under its ticket is of the ending's
     /// request, whoever worked.
+    ///
+    /// # Refusals
+    ///
+    /// The first that applies, in this order, as for `add`: `WrongSeat`, `Empty` (no message waits), `OutOfMemory`.
     pub fn info_read<R: Wait>(&mut self, rt: &R) -> Result<InfoReply<O>, WrongSeat<()>>
         ensures stands { MatchResult result (λ r. Stands self.old self.new Call.InfoRead (reply_of_info O.code_of O.size_of r)) (λ _. self.new ≡ self.old) }
         ensures tells { IfOk result (λ r. Tells (tie_read O.origin r) self.new.ties) }
@@ -153,6 +183,10 @@ impl<'m, Q: Work + Drop, O: Ending + Drop> Seated<'m, Application, Q, O> {
     }
 
     /// Lets polls return (curl_multi_wakeup(3)).
+    ///
+    /// # Refusals
+    ///
+    /// The first that applies, in this order, as for `add`: `WrongSeat`, `Failure` (the history has no room), `OutOfMemory`.
     pub fn wakeup<R: Wait>(&mut self, rt: &R) -> Result<WakeupReply, WrongSeat<()>>
         ensures stands { MatchResult result (λ r. Stands self.old self.new Call.Wakeup (reply_of_wakeup r)) (λ _. self.new ≡ self.old) }
         ensures left { IfOk result (λ r. LeavesState O.code_of O.size_of self.old self.new (reply_of_wakeup r)) }
@@ -164,6 +198,8 @@ impl<'m, Q: Work + Drop, O: Ending + Drop> Seated<'m, Application, Q, O> {
 
     /// Waits until there is a wake-up or an end at or after what the seat had seen at its last poll (curl_multi_poll(3)). It
     /// sleeps until one is told.
+    ///
+    /// No clause says that it leaves queue and endings as they were.
     pub fn poll<R: Wait>(&mut self, rt: &R) -> Result<(), WrongSeat<()>>
         ensures stands { MatchResult result (λ _. Stands self.old self.new Call.Poll Reply.Woken) (λ _. self.new ≡ self.old) }
         ensures confirmed { OnOk result (self.new.confirmed ≡ length self.new.seen) }
@@ -173,7 +209,7 @@ impl<'m, Q: Work + Drop, O: Ending + Drop> Seated<'m, Application, Q, O> {
     }
 
     /// As `poll`, but waits at most so many milliseconds: true where there was such a wake-up or end; false, and no call was made, where
-    /// there was none when it last looked.
+    /// there was none when it last looked. No clause says that it waits, or no longer than that.
     pub fn poll_for<R: Wait + Clock>(
         &mut self,
         rt: &R,
@@ -222,6 +258,8 @@ impl<'m, Q: Work + Drop, O: Ending + Drop> Seated<'m, Application, Q, O> {
 
     /// Both seats, of one multi handle, see the journal. It answers how many events that has. `WrongSeat`, and nothing changes,
     /// where a seat isn't one of the multi handle's.
+    ///
+    /// No clause says that it leaves queue and endings as they were.
     pub fn meet<R: Wait>(
         &mut self,
         rt: &R,
@@ -254,7 +292,7 @@ impl<'m, Q: Work + Drop, O: Ending + Drop> Seated<'m, Application, Q, O> {
 
     // rule multi-scripts, unproved: A script is run to its end where each of its calls is answered.
     /// Makes the calls of a script, until one is answered None. It answers how many were made: their receipts, whose calls are those
-    /// of the script, stand behind all that the seat had.
+    /// of the script, stand behind all that the seat had. No clause says that it makes any.
     pub fn run_script<R: Wait>(&mut self, rt: &R, script: &[Call]) -> usize
         ensures { RanScript self.old self.new (take result script.now) }
     {
@@ -307,6 +345,15 @@ impl<'m, Q: Work + Drop, O: Ending + Drop> Seated<'m, AtWork, Q, O> {
     }
 
     /// Records the end of a claimed transfer, with a claim that this multi handle gave. What isn't recorded comes back.
+    ///
+    /// # Refusals
+    ///
+    /// The first that applies, in this order. After all but the first the seat has seen the journal that the call found:
+    ///
+    /// - `WrongSeat`: the journal in the lock doesn't begin with what the seat has seen, or has another number of the seat's own events;
+    ///   the seat stays as it was, and claim and ending are handed back;
+    /// - `Stale`: the claimed addition was removed, or has ended; the ending is handed back, and the claim is spent;
+    /// - `OutOfMemory`: memory for the event was refused; claim and ending are handed back.
     pub fn finish<R: Wait>(
         &mut self,
         rt: &R,

@@ -78,6 +78,9 @@ impl<L: Lookup> Told<L> {
 
 /// A gate that opens TCP connections as a `SocketGate`, and has names looked up by a resolver, so that it waits for none. Contracts see
 /// the gate within, and all that was said.
+///
+/// Its `now` and `turn` have the bound `Wait` since the other methods of `Gate` need it. They take no lock, but `turn` blocks as that of
+/// the gate within.
 #[derive(Drop)]
 pub struct NamedGate<'r, R, L: Lookup> {
     rt: &'r R,
@@ -122,7 +125,7 @@ impl<'r, R: Net + Clock + AllocGlobal + Wait, L: Lookup> NamedGate<'r, R, L> {
     /// to have one start: `SocketGate::start` of the gate, and the start that the resolver was made with. The gate starts no thread: somebody
     /// is to begin the lookups that it wants, by `Resolver::serve`.
     ///
-    /// The one error is that memory was wanting.
+    /// The one error is that memory was refused. It drops the gate, and the resolver may keep the gate's bell, which then wakes nobody.
     pub fn new(
         rt: &'r R,
         gate: SocketGate<'r, R>,
@@ -234,6 +237,8 @@ impl<'r, R: Net + Clock + AllocGlobal + Wait, L: Lookup> Gate for NamedGate<'r, 
 
     /// Begins to connect to the addresses that the resolver told of the host, or answers why it has none. It uses what `can_open` was told just
     /// before, and else asks now; where nothing is known yet it looks the name up itself, and waits for that.
+    ///
+    /// Of an error no clause says that it is the resolver's, or that the gate within then keeps its next token.
     fn open(&mut self, endpoint: &Endpoint) -> Result<SocketLink<'r, R>, Code>
         ensures fresh { IfOk result (λ link. link.history ≡ []) }
         ensures code { IfErr result (λ code. is_link_code code ≡ true) }

@@ -7,7 +7,7 @@ use std::alloc::AllocGlobal;
 use std::net::{Net, SocketAddr, ToSocketAddrs};
 
 /// The system's lookup, by whatever it is set up for: a file of hosts, name servers. What it gives of a host no contract can
-/// say.
+/// say. It blocks as long as the system's lookup does, though it has no bound `Wait`.
 #[derive(Clone, Copy)]
 pub struct SystemLookup<R> {
     rt: R,

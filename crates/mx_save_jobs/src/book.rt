@@ -325,12 +325,12 @@ impl<F: Folder, W: Write> Book<F, W> {
         self.read
     }
 
-    /// How far the run is.
+    /// How far the run is. No clause says what it counts: only what is shown to who watches depends on it.
     pub fn tally(&self) -> Tally {
         self.lines.tally()
     }
 
-    /// What was told last, if anything was.
+    /// What was told last, if anything was. No clause says which end it is: only what is shown to who watches depends on it.
     pub fn last(&self) -> Option<&End> {
         self.lines.last()
     }

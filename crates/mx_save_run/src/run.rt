@@ -126,7 +126,8 @@ pub struct Ended<F: Folder, W: Write, V> {
 /// connection couldn't be begun since too many files were open. It may wait.
 ///
 /// It stops before all URLs have ended where memory is wanting, where the output can't be written, where the list of URLs can't be read, or
-/// where the system has no clock, no poll or no thread for it.
+/// where the system has no clock, no poll or no thread for it. No clause says that the cause it names is the right one, or which URLs were
+/// read of a list whose bytes std doesn't know.
 pub fn save_all<
     'a,
     R: Runtime + Net<Listener = TcpListener, Stream = TcpStream>,

@@ -130,6 +130,8 @@ fn save_aloud<
 /// run can't begin, or stopped, is told on standard error, and which URLs failed on `stderr`, where it is also shown how the run stands, if that
 /// is asked for, or if it is a terminal and that isn't forbidden. The answer is the exit status. The files that hold a part of a body are named for
 /// this process. It may wait.
+///
+/// It has no `ensures`: [`save_in`] has the promise, and the exit status and what is printed on standard error are left to tests.
 pub fn run_save<
     R: Runtime + Net<Listener = TcpListener, Stream = TcpStream> + Files + Input + Print + Eprint,
     E: Write + IsTerminal + Drop,

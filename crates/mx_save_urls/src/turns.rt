@@ -216,6 +216,8 @@ fn take_turns<
 
 /// Fetches the URLs of a run at a desk, where nothing is added yet, with the workers of a crew. It goes on until all have ended, or the history
 /// of the multi handle is full. Who watches is told of each end, and how the run stands. It may wait.
+///
+/// No clause says how long it waits, that it wakes the workers, or in which order it begins transfers and ends URLs.
 pub fn fetch<
     'a,
     L: Link,

@@ -52,7 +52,8 @@ fn end<'m, L: Link>(tally: Tally<'m, L>, refused: bool) -> WorkerEnd<'m, L>
 /// or with its transfer, which went back to the queue, or had ended before or was removed; or, where the seat isn't the multi handle's any
 /// more, it is lost. Where memory for the start is refused, nothing was claimed, and the seat is as it was.
 ///
-/// No clause says that it ends: one that has started and stays paused keeps it.
+/// No clause says that it ends: one that has started and stays paused keeps it. Nor does one say that the queue was empty where it claimed
+/// nothing, why a version couldn't be read, or that a link that might be kept is dropped only where memory is refused.
 pub fn run_worker<'m, L: Link, R: Wait + RandomSource + AllocGlobal, G: Gate<Link = L>>(
     rt: &R,
     seat: Seated<'m, AtWork, Queued<L>, Outcome>,
