@@ -1,5 +1,5 @@
-//! A list that only grows, and exists in contracts alone: a word says how long it is, and tokens say how far it was seen. They
-//! take no lock, and hold none of its entries.
+//! A list that only grows, and exists in contracts alone: an atomic word has its length, and tokens show how much of it was seen. They take
+//! no lock, and hold none of its entries.
 #![tactic(auto)]
 
 mod log;

@@ -1,4 +1,4 @@
-//! Heads, bodies and what is wrong with them, by public calls alone. There is nothing in this crate but tests.
+//! Tests of heads and bodies, and of the reasons why bytes are refused, by public calls alone. There is nothing in this crate but tests.
 #![tactic(auto)]
 
 #[cfg(test)]

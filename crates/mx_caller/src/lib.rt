@@ -1,4 +1,4 @@
-//! A caller of a multi handle, with no proof of its own: how it opens one, what it adds and what it reads of that, and how its seats meet.
+//! A caller of a multi handle, with no proof of its own: it opens one, adds requests and reads their messages, and its seats meet.
 #![tactic(auto)]
 
 ghost use Rattle.std.specs.Prelude.{◌≡◌, ◌<◌, true, length, IfOk, IfSome};

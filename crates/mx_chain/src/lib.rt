@@ -1,4 +1,4 @@
-//! A transfer with its hops: one request over one link after another, as redirects lead on, and its outcome.
+//! A transfer with its hops: a request, and those to which redirects lead, each over a link; and the outcome.
 #![tactic(auto)]
 
 mod chains;

@@ -1,4 +1,4 @@
-//! `mxfetch get --explain`: what `get` does and prints, and what failed, told beside it in words.
+//! `mxfetch get --explain`: what `get` does and prints, and beside it why each URL failed, in words.
 #![tactic(auto)]
 
 mod end;

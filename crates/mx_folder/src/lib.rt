@@ -1,4 +1,4 @@
-//! Folders: where bodies are written. Each thing that was done to a folder stands in a list that contracts alone read.
+//! Folders: where bodies are written. Each operation on a folder is in a list that contracts alone read.
 #![tactic(auto)]
 
 mod errors;

@@ -1,4 +1,4 @@
-//! What a worker needs of the outside: a clock, links, and a place to wait.
+//! Gates: a worker's clock, its links to the network, and where it waits.
 #![tactic(auto)]
 
 mod addresses;

@@ -1,5 +1,5 @@
-//! Gates over loopback connections, over a network and a clock of the tests' own, and from scripts; what is known of hosts, and gates that
-//! wait for no name. There is nothing in this crate but tests.
+//! Tests of gates over loopback connections, over a network and a clock of the tests' own, and from scripts; of what is known of hosts; and
+//! of gates that wait for no lookup. There is nothing in this crate but tests.
 #![tactic(auto)]
 
 #[cfg(test)]

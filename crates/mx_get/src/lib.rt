@@ -1,4 +1,4 @@
-//! `mxfetch get`: URLs fetched by workers on threads, and what came of them printed.
+//! `mxfetch get`: URLs are fetched by workers on threads, and what each ended with is printed.
 #![tactic(auto)]
 
 mod addition;

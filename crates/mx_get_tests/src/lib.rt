@@ -1,4 +1,4 @@
-//! `get` over loopback: what `run_get` prints of the URLs of a server of the test's own, and what `run_get_explained` tells. There is nothing
+//! Tests of `get` over loopback: what `run_get` and `run_get_explained` print of the URLs of a server of the tests' own. There is nothing
 //! in this crate but tests.
 #![tactic(auto)]
 

@@ -1,4 +1,4 @@
-//! What is said behind clap's words for a command line that is refused: the command that was meant, or what an option takes.
+//! Hints that are printed after clap's error for a command line that is refused: the command that was meant, or what an option takes.
 #![tactic(auto)]
 
 mod command;

@@ -1,5 +1,5 @@
-//! What a multi handle's events come to: the definitions of histories and of what each call is answered after one, their
-//! laws, and plain programs that read the same off a whole list. No state is kept here.
+//! Histories of a multi handle's events: which are legal, and what each call is answered after one; the laws of these definitions; and
+//! plain programs that compute the same from a whole list. No state is kept here.
 #![tactic(auto)]
 
 pub mod definitions;

@@ -1,4 +1,4 @@
-//! The control core, and the board of a multi handle with its progress words, by their public calls: callers of the core, and tests.
+//! Tests of the control core, and of a multi handle's board with its progress words, by their public calls; and callers of the core.
 #![tactic(auto)]
 
 #[cfg(test)]

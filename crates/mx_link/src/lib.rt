@@ -1,5 +1,4 @@
-//! Links: what a transfer reads from and writes to. Each answer that a link gives is on record, in a history that
-//! contracts alone read.
+//! Links: what a transfer reads from and writes to. Each answer of a link is in a history that contracts alone read.
 #![tactic(auto)]
 
 mod answers;

@@ -1,5 +1,5 @@
-//! The lock of a multi handle: what lies in it, its rule, and how it is taken and given back. It is generic in the work that
-//! is added and in the endings that are recorded.
+//! The lock of a multi handle: what it protects, its rule, and how it is taken and released. It is generic in the work that is added and in
+//! the endings that are recorded.
 #![tactic(auto)]
 
 mod claim;

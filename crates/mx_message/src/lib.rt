@@ -1,4 +1,4 @@
-//! The next message of a multi handle of transfers, with all that is known of it.
+//! The next message of a multi handle of transfers, with all that is promised of it.
 #![tactic(auto)]
 
 mod next;

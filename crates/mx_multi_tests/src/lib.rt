@@ -1,5 +1,5 @@
-//! The shared multi handle, by its public calls alone: scripts of calls by seats and workers, on one thread and on many, with what each
-//! answers.
+//! Tests of the shared multi handle, by its public calls alone: scripts of calls by seats and workers, on one thread and on many, with the
+//! answer of each.
 #![tactic(auto)]
 
 #[cfg(test)]

@@ -1,4 +1,4 @@
-//! A gate to the network that waits for no name.
+//! A gate to the network that has names looked up on other threads, so that its worker waits for no lookup.
 #![tactic(auto)]
 
 mod bell;

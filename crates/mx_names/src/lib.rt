@@ -1,4 +1,4 @@
-//! Names of hosts: which lookups are under way, what they came to, and lookups on threads of their own.
+//! Names of hosts: which lookups are under way, what they gave, and lookups on threads of their own.
 #![tactic(auto)]
 
 mod addresses;

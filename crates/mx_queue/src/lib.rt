@@ -1,4 +1,4 @@
-//! The work of a multi handle with workers: transfers that wait for one.
+//! The work of a multi handle: transfers that wait for a worker.
 #![tactic(auto)]
 
 mod queued;

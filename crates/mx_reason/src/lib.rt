@@ -1,4 +1,4 @@
-//! Why the bytes of an exchange are no response: after how many of them that is decided, and what stands wrong there; or where they end, if
+//! Why the bytes of an exchange are no response: after how many of them that is decided, and what is wrong there; or where they end, if
 //! nothing is decided (RFC 9112, sections 2 to 8).
 #![tactic(auto)]
 

@@ -1,4 +1,4 @@
-//! Responses, each with what it comes to: the one table by which what decodes them is tested. Tests alone stand on it.
+//! A table of responses, each with its verdict, by which all that decodes them is tested. Only tests are built on it.
 #![tactic(auto)]
 
 pub mod bases;

@@ -1,4 +1,4 @@
-//! Trying again: after which ends a URL is tried once more, after how long, and which URLs wait until when.
+//! Retries: after which ends a URL is tried again, after how long, and which URLs wait until when.
 #![tactic(auto)]
 
 mod rules;

@@ -1,4 +1,4 @@
-//! What `mxfetch get` asks for of a URL, and what it prints: a line and the body of each transfer.
+//! The request that `mxfetch get` makes for a URL, and what it prints: a line and the body of each transfer.
 #![tactic(auto)]
 
 mod asking;

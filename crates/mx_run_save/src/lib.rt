@@ -1,4 +1,4 @@
-//! What `mxfetch save` prints, a line for each URL, which lets a file be saved, and the exit status.
+//! What `mxfetch save` prints, a line for each URL; after which ends a body is saved; and the exit status.
 #![tactic(auto)]
 
 mod code;

@@ -1,4 +1,4 @@
-//! The run of the task that a command line asks for.
+//! Runs what a command line asks for.
 #![tactic(auto)]
 
 mod task;

@@ -1,6 +1,6 @@
-//! The commands of `mxfetch` over readers and writers in memory: the command line, `body`, `play`, and the texts of `get` and `save`. It goes
-//! through tables of rows, those of text in `data/` and those of values here, and prints of each how many rows it has and how many are
-//! wrong, and behind that each wrong row, by its name and with what was seen.
+//! Tests of the commands of `mxfetch` over readers and writers in memory: the command line, `body`, `play`, and the texts of `get` and
+//! `save`. They are rows of tables, those of text in `data/` and those of values here; of each table it is printed how many rows it has and
+//! how many are wrong, and then each wrong row, by its name and with what was seen.
 #![tactic(auto)]
 
 mod body;

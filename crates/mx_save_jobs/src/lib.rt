@@ -1,4 +1,4 @@
-//! The URLs of a run that saves: the names of their files, what each ended with, and what is told of it.
+//! The URLs of a run that saves: the names of their files, what each ended with, and what is printed of it.
 #![tactic(auto)]
 
 mod asking;

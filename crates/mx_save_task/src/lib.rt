@@ -1,4 +1,4 @@
-//! The command `save`: from what it is asked for to what was saved and told.
+//! The command `save`: from what it is asked for to the files that were saved and the lines that were printed.
 #![tactic(auto)]
 
 mod asked;

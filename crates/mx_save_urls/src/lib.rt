@@ -1,4 +1,4 @@
-//! The URLs of a run at a desk: each is added as there is room, and what each ended with is saved and told.
+//! The URLs of a run at a desk: each is added as there is room, and what each ended with is saved and printed.
 #![tactic(auto)]
 
 mod adding;

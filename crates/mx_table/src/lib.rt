@@ -1,4 +1,4 @@
-//! The table of a multi handle: what its events come to, kept event by event.
+//! The table of a multi handle: the state after its events, updated event by event.
 #![tactic(auto)]
 
 mod makers;

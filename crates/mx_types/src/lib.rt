@@ -1,4 +1,4 @@
-//! The names that every layer speaks of: methods, codes, events, calls and replies, limits, and the want of memory.
+//! The types that every layer uses: methods, codes, events, calls and replies, limits, and the error of a refused allocation.
 #![tactic(auto)]
 
 mod call;

@@ -1,4 +1,4 @@
-//! What is told of a failure, in words: its code's, where the bytes of a response are refused and by which rule, or how much of one came.
+//! Failures in words: the code, where the bytes of a response are refused and by which rule, or how much of one came.
 #![tactic(auto)]
 
 mod code;

@@ -1,4 +1,4 @@
-//! Workers over scripted links: rows of tables on one thread, and two workers on threads of their own. Tests alone.
+//! Tests of workers over scripted links: rows of tables on one thread, and two workers on threads of their own.
 #![tactic(auto)]
 
 #[cfg(test)]

@@ -1,4 +1,4 @@
-//! `mxfetch`: URLs fetched over HTTP/1.1, and responses from bytes to bodies.
+//! `mxfetch`: fetches URLs over HTTP/1.1, and decodes responses from bytes to bodies.
 #![tactic(auto)]
 
 ghost use Rattle.std.specs.Prelude.{◌≡◌, ◌≢◌, ◌<◌, ◌⊎◌, true, IfErr, length};
