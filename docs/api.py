@@ -95,7 +95,8 @@ class File:
     def __init__(self, crate, path, module):
         self.crate, self.path, self.module = crate, path, module
         self.lines = read(path).splitlines()
-        self.items, self.modules, self.exports, self.uses, self.traits = [], [], [], {}, []
+        self.items, self.modules, self.exports, self.traits = [], [], [], []
+        self.uses, self.specs = {}, {}
         self.parse(0, len(self.lines), "", None)
 
     def parse(self, first, last, indent, owner):
@@ -128,8 +129,10 @@ class File:
         while not text.endswith(";"):
             at += 1
             text += " " + self.lines[at].strip()
-        found = re.match(r"ghost use Rattle\.(\w+)\.specs\.([\w.]+?)\.\{(.*)\};", text)
-        if found and found[2].split(".")[0] != "declared":
+        found = re.match(r"ghost use Rattle\.(\w+)\.specs\.(?!declared\.)([\w.]+?)(?:\.\{(.*)\}| as (\w+));", text)
+        if found and found[4]:
+            self.specs[found[4]] = (found[1], found[2])
+        elif found:
             for name in re.split(r",\s*", found[3]):
                 self.uses[name.rpartition(" as ")[2].strip()] = (found[1], found[2], name.partition(" as ")[0].strip())
 
@@ -247,6 +250,15 @@ class File:
         return "\n".join(kept)
 
 
+def own_module(crate, module):
+    """The crate that has this module of specs, where it is one that the crate hands on."""
+    names = f"crates/{crate}/specs/Lib.antt"
+    if crate.startswith("mx_") and not os.path.isfile(f"{TOP}/crates/{crate}/specs/{module.replace('.', '/')}.antt"):
+        found = re.search(rf"^pub use Rattle\.(\w+)\.specs\.{re.escape(module)}$", read(names), re.MULTILINE)
+        return (found[1] if found else crate, module)
+    return (crate, module)
+
+
 class Crate:
     def __init__(self, name):
         self.name, self.files = name, {}
@@ -291,22 +303,27 @@ class Crate:
                     found.append(it)
         return found
 
-    def definitions(self):
-        """The definitions of its own specs that the clauses of its public items name: word, comment, file."""
+    def cited(self):
+        """The definitions that the clauses of its public items name, each by its crate, module and name, in that order."""
         cited = {}
         for item in self.public:
-            for word in re.findall(r"[\w◌-]+", " ".join(it for it in item.clauses if not it.startswith("//"))):
-                if word in item.module.uses:
-                    crate, module, name = item.module.uses[word]
-                    cited[crate, module, name] = None
-        found, others = [], []
+            for word in re.findall(r"[\w◌.-]+", " ".join(it for it in item.clauses if not it.startswith("//"))):
+                first, _, second = word.partition(".")
+                if first in item.module.specs and second:
+                    cited[own_module(*item.module.specs[first]) + (second.partition(".")[0],)] = None
+                elif first in item.module.uses:
+                    crate, module, name = item.module.uses[first]
+                    cited[own_module(crate, module) + (name,)] = None
+        return cited
+
+    def definitions(self, cited):
+        """Those of its own specs among the definitions that some crate's clauses name: word, comment, file."""
+        found = []
         for crate, module, name in cited:
             path = f"crates/{crate}/specs/{module.replace('.', '/')}.antt"
             if crate == self.name and os.path.isfile(f"{TOP}/{path}"):
                 found.append((name, self.comment_of(path, name), path))
-            elif crate.startswith("mx_"):
-                others.append((crate, name))
-        return found, others
+        return found
 
     @staticmethod
     def comment_of(path, name):
@@ -333,8 +350,10 @@ def listed(words):
 
 def page():
     lines, lacking = [HEAD], []
-    for name in library_crates():
-        crate = Crate(name)
+    crates = [Crate(it) for it in library_crates()]
+    cited = {it.name: it.cited() for it in crates}
+    for crate in crates:
+        name = crate.name
         lines.append(f"## {name}\n\n{crate.header}\n")
         if crate.reexports:
             lines.append("Re-exported: " + "; ".join(f"{listed(names)} of [{it}](#{it})" for it, names in crate.reexports.items()) + ".\n")
@@ -357,16 +376,17 @@ def page():
                 lines.append("\n".join(item.doc) + "\n")
             if item.kind != "fn" and item.name in crate.traits:
                 lines.append(f"Traits: {listed(crate.traits[item.name])}.\n")
-        own, others = crate.definitions()
+        own = crate.definitions({**cited[name], **{it: None for words in cited.values() for it in words}})
         if own:
             lines.append(f"### Definitions of {name}\n")
             for word, comment, path in own:
                 lines.append(f"- `{word}` ([{os.path.basename(path)}](../../{path})){': ' if comment else ''}{comment}")
             lines.append("")
-        if others:
-            by = {}
-            for other, word in others:
+        by = {}
+        for other, _, word in cited[name]:
+            if other != name and other in cited:
                 by.setdefault(other, []).append(word)
+        if by:
             lines.append("Of other crates: " + "; ".join(f"{listed(words)} of [{other}](#{other})" for other, words in by.items()) + ".\n")
     return "\n".join(lines), lacking
 
