@@ -317,25 +317,35 @@ class Crate:
         return cited
 
     def definitions(self, cited):
-        """Those of its own specs among the definitions that some crate's clauses name: word, comment, file."""
-        found = []
+        """Those of its own specs among the definitions that some crate's clauses name: words, comment, file. The values of a data type are
+        together."""
+        found = {}
         for crate, module, name in cited:
             path = f"crates/{crate}/specs/{module.replace('.', '/')}.antt"
             if crate == self.name and os.path.isfile(f"{TOP}/{path}"):
-                found.append((name, self.comment_of(path, name), path))
-        return found
+                lines = read(path).splitlines()
+                at = self.place_of(lines, name)
+                words, _ = found.setdefault((path, at if at is not None else name), ([], self.comment_over(lines, at)))
+                words.append(name)
+        return [(words, comment, path) for (path, _), (words, comment) in found.items()]
 
     @staticmethod
-    def comment_of(path, name):
+    def place_of(lines, name):
+        """The line of a definition; of a value of a data type, that of the type."""
+        mark = rf"(abbrev |data |record |rec )?(pub )?(abbrev |record |data )?(pub )?{re.escape(name)}\b"
+        at = next((i for indent in ("", " +") for i, it in enumerate(lines) if re.match(indent + mark, it)), None)
+        if at and re.match(rf" +{re.escape(name)} :", lines[at]):
+            at = next(i for i in range(at, -1, -1) if re.match(r"(pub )?data ", lines[i]))
+        return at
+
+    @staticmethod
+    def comment_over(lines, at):
         """The comment over a definition, or where it is of rules alone (docs/rules.py) their texts; and links to these."""
-        lines = read(path).splitlines()
-        mark = re.compile(rf"(abbrev |data |record |rec )?(pub )?(abbrev |record |data )?(pub )?{re.escape(name)}\b")
-        at = next((i for i, it in enumerate(lines) if mark.match(it)), None)
         first = at
-        while first and lines[first - 1].startswith("--"):
+        while first and lines[first - 1].lstrip().startswith("--"):
             first -= 1
         own, texts, names, is_text = [], [], [], False
-        for line in lines[first:at] if at else []:
+        for line in map(str.lstrip, lines[first:at] if at else []):
             mark = re.match(r"-- rule ([^\s:]+)(?:: (.*))?$", line)
             is_text = bool(mark[2]) if mark else is_text and line != "--"
             names += [mark[1]] if mark else []
@@ -379,8 +389,8 @@ def page():
         own = crate.definitions({**cited[name], **{it: None for words in cited.values() for it in words}})
         if own:
             lines.append(f"### Definitions of {name}\n")
-            for word, comment, path in own:
-                lines.append(f"- `{word}` ([{os.path.basename(path)}](../../{path})){': ' if comment else ''}{comment}")
+            for words, comment, path in own:
+                lines.append(f"- {listed(words)} ([{os.path.basename(path)}](../../{path})){': ' if comment else ''}{comment}")
             lines.append("")
         by = {}
         for other, _, word in cited[name]:
