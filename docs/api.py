@@ -240,13 +240,17 @@ class File:
             return "\n".join([f"{head} {{", *members, "}"]) if members else head
         if kind in ("const", "static", "type"):
             return re.sub(r"\s*[{;]$", "", " ".join(it.strip() for it in head))
-        kept, doc = [], []
+        kept, doc, has_private = [], [], False
         for it in head:
+            is_private = kind == "struct" and bool(re.match(r"\s+((pub\(\w+\) )?\w+:|ghost )", it))
+            has_private = has_private or is_private
             if it.strip().startswith("///"):
                 doc.append(it)
             elif not re.match(r"\s*(//|#)", it):
-                kept += [] if kind == "struct" and re.match(r"\s+((pub\(\w+\) )?\w+:|ghost )", it) else [*doc, it]
+                kept += [] if is_private else [*doc, it]
                 doc = []
+        if has_private:
+            kept.insert(-1, "    /* private fields */")
         return "\n".join(kept)
 
 
