@@ -71,7 +71,7 @@ impl<T> AppendLog<T> {
     }
 
     /// Puts an entry behind the others. False, and nothing changes, where the list has more entries than were seen here, or as many as
-    /// it can have: 2^61. No clause rules out false.
+    /// it can have: 2^61. No clause says that it isn't false otherwise.
     pub fn try_add<X, M: Plain<X, T, u64>>(&mut self, about: &X) -> bool
         requires { M.state about.now ≡ None }
         ensures { MatchBool result ((self.new.book ≡ self.old.book) × (self.new.entries ≡ self.old.entries ++ M.ask about.now ∷ [])) (self.new ≡ self.old) }

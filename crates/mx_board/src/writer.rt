@@ -130,8 +130,9 @@ impl Log for BoardWriter {
 
     ghost name = { λ w. name_of w.book };
 
-    /// `OutOfMemory` comes where memory is refused, where an event waits to be published, and where the journal is as long as it can be. It
-    /// would also come, from then on always, where something else had made the journal longer: nothing does, but no clause rules it out.
+    /// `OutOfMemory` comes where memory is refused, where an appended event isn't published yet, and where the journal is as long as it can
+    /// be. It would also come, from then on always, where something else had made the journal longer: nothing does, but no clause rules it
+    /// out.
     ///
     /// No clause says that it leaves the published events as they were.
     fn append(&mut self, event: Event) -> Result<(), OutOfMemory> {

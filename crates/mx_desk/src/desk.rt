@@ -266,7 +266,7 @@ impl<'m, L: Link> Desk<'m, L> {
     /// Reads the next message, for which it waits as long as that, at most: the request has ended that was added under its number, and its
     /// handle is removed. Where none came it answers None. After an error it isn't known what is added.
     ///
-    /// A removal that is refused is an error; that the handle is removed, no clause says.
+    /// A removal that is refused is an error. No clause says that the handle is removed.
     pub fn next<R: Wait + AllocGlobal + Clock>(
         &mut self,
         rt: &R,

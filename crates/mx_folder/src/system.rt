@@ -24,7 +24,7 @@ struct OpenPart<F> {
 }
 
 /// A folder of the system, one part of which is open at a time. Contracts see what it was told that the system did, the newest first; that
-/// the system did so, no contract can say, and no clause says that a call of this folder makes the system call that its step names.
+/// the system did so, no contract can say. Nor does a clause say that a call of this folder makes the system call that its step names.
 #[derive(Drop)]
 pub struct SystemFolder<'a, R: Files> {
     alloc: Global,

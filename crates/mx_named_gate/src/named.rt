@@ -238,7 +238,7 @@ impl<'r, R: Net + Clock + AllocGlobal + Wait, L: Lookup> Gate for NamedGate<'r, 
     /// Begins to connect to the addresses that the resolver told of the host, or answers why it has none. It uses what `can_open` was told just
     /// before, and else asks now; where nothing is known yet it looks the name up itself, and waits for that.
     ///
-    /// Of an error no clause says that it is the resolver's, or that the gate within then keeps its next token.
+    /// No clause says that an error is the one that the resolver told, or that the gate within keeps its next token on an error.
     fn open(&mut self, endpoint: &Endpoint) -> Result<SocketLink<'r, R>, Code>
         ensures fresh { IfOk result (λ link. link.history ≡ []) }
         ensures code { IfErr result (λ code. is_link_code code ≡ true) }

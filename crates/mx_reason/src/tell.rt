@@ -30,8 +30,7 @@ fn refusal(alloc: Global, method: Method, wire: &[u8], code: Code) -> Reason
 /// Where they are refused, whatever follows, it is told after how many bytes that is decided, which is the fault of `mx_body`'s
 /// `decode_whole`, and what stands wrong at the end of these. Where nothing is decided it is told where they end.
 ///
-/// No clause bounds the time. The byte is looked for at a likely place, and then by bisection, and each step decides over the bytes before
-/// it anew.
+/// No clause bounds the time. It tries a likely place first, then bisects, and each step decides anew over all bytes up to its place.
 pub fn reason_of(alloc: Global, method: Method, wire: &[u8]) -> Option<Reason>
     ensures some { IfSome result (IsReason method wire.now) }
     ensures none { IfNone result (BeginsWithAny method wire.now) }

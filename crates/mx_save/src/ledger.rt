@@ -125,7 +125,7 @@ impl<F: Folder, B: Body> Ledger<F, B> {
 
     // rule file-part-that-exists, unproved: A part that exists is left alone, and the next number is taken.
     /// Saves a body under a name that none of those before has. It is written under the name of a part, which is another one for each try:
-    /// where something else has that name, the next one is taken, up to `PART_TRIES` of them. How many are tried no clause says.
+    /// where something else has that name, the next one is taken, up to `PART_TRIES` of them. No clause says how many are tried.
     ///
     /// An error says at which call it came, and that the folder refused it, or that memory was refused. It leaves each file as it was,
     /// and the part stays behind only where the folder refused to remove it.
