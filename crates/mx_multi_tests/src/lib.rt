@@ -3,29 +3,11 @@
 #![tactic(auto)]
 
 #[cfg(test)]
-mod client;
-#[cfg(test)]
-mod entries;
-#[cfg(test)]
-mod hand;
-#[cfg(test)]
-mod hold;
-#[cfg(test)]
-mod one_thread;
-#[cfg(test)]
-mod party;
-#[cfg(test)]
 mod play;
 #[cfg(test)]
 mod refused;
 #[cfg(test)]
 mod rows;
-#[cfg(test)]
-mod sample;
-#[cfg(test)]
-mod stress;
-#[cfg(test)]
-mod texts;
 #[cfg(test)]
 mod threads;
 #[cfg(test)]

@@ -1,14 +1,14 @@
 //! Scripts of calls at a multi handle of its own, each with what it is to answer. A call that is refused memory is made once more, and is
 //! then to answer the same as if it had been the first.
 
-use crate::entries::{Entry, Stop, text_of};
-use crate::hold::Hold;
-use crate::one_thread::OneThread;
-use crate::party::Task;
-use crate::sample::End;
-use crate::stress::{THREADS, differs_from};
 use crate::whole::Whole;
 use mx_multi::{HistoryUse, Limits, OpenError, Progress, Refusal};
+use mx_multi_tests_base::entries::{Entry, Stop, text_of};
+use mx_multi_tests_base::hold::Hold;
+use mx_multi_tests_base::one_thread::OneThread;
+use mx_multi_tests_base::party::Task;
+use mx_multi_tests_base::sample::End;
+use mx_multi_tests_base::stress::{THREADS, differs_from};
 use mx_types::{Call, Code, HandleId, OutOfMemory, Reply, Ticket};
 use std::alloc::Global;
 use std::sync::{Arc, Wait};

@@ -1,8 +1,8 @@
 //! Scripts of calls on one thread, each with what it answers and how many events the seat has then seen.
 
 use crate::play::{Row, Said, Step, Wrong};
-use crate::sample::Handle;
 use mx_multi::{HistoryUse, Limits, OpenError, Progress, Refusal};
+use mx_multi_tests_base::sample::Handle;
 use mx_types::{Call, Code, HandleId, OutOfMemory, Ticket};
 use std::alloc::Global;
 use std::sync::Wait;

@@ -1,10 +1,10 @@
 //! Scripts whose calls are made by threads at the same time: reads while another call keeps the lock, turns that are taken by polls and
 //! wake-ups, and calls by chance, which one thread answers the same.
 
-use crate::party::{Act, Task};
 use crate::play::{Row, Said, Step, Wrong, end, play_all, play_steps};
 use crate::rows::FOUR_SEATS;
 use mx_multi::Limits;
+use mx_multi_tests_base::party::{Act, Task};
 use mx_types::{Call, Code, HandleId, OutOfMemory, Ticket};
 use std::alloc::Global;
 use std::sync::Wait;

@@ -2,17 +2,17 @@
 ghost use Rattle.std.specs.Prelude.{◌≡◌, IfSome};
 ghost use Rattle.std.specs.List.{All};
 
-use crate::entries::{Entry, Stop};
-use crate::hand::Hand;
-use crate::hold::Hold;
-use crate::party::Task;
-use crate::sample::{End, Handle, Job};
-use crate::stress;
-use crate::stress::Pool;
 use mx_journal::{FinishReply, GiveBackReply};
 use mx_multi::{
     HistoryUse, Limits, OpenError, Progress, Refusal, Retiring, Seat, WorkerSeat, run_two,
 };
+use mx_multi_tests_base::entries::{Entry, Stop};
+use mx_multi_tests_base::hand::Hand;
+use mx_multi_tests_base::hold::Hold;
+use mx_multi_tests_base::party::Task;
+use mx_multi_tests_base::sample::{End, Handle, Job};
+use mx_multi_tests_base::stress;
+use mx_multi_tests_base::stress::Pool;
 use mx_types::{Call, HandleId, Look, OutOfMemory, Reply, Ticket};
 use std::alloc::Global;
 use std::sync::{Arc, Wait};

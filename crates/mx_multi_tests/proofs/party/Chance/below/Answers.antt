@@ -1,5 +1,0 @@
-use Rattle.std.proofs.Common.{rules}
-use Rattle.mx_multi_tests.proofs.party.Chance.below.Goals as goal
-
-pub returns : goal.returns
-returns c = search rules

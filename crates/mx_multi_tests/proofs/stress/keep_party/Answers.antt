@@ -1,5 +1,0 @@
-use Rattle.mx_multi_tests.proofs.Parties.{more_seated}
-use Rattle.mx_multi_tests.proofs.stress.keep_party.Goals as goal
-
-pub returns : goal.returns
-returns c = record { own = more_seated c.args.multi.now c.args.party c.args.parties.now.items c.push.new.self.items c.in_ok-push.ensures.items c.requires.own.0 c.requires.own.1 }
