@@ -24,7 +24,7 @@ use Rattle.mx_body.proofs.VerdictLemmas.{body_fault, body_undecided, input_lengt
 use Rattle.mx_body.proofs.ResponseLemmas.{same_split}
 use Rattle.mx_body.proofs.ContentLemmas.{slice_at}
 
--- what the bytes behind the final head meet
+-- what the bytes after the final head meet
 abbrev ChunkedCause : List ℕ → BodyCause → Type 0
 ChunkedCause q bad_framing = ⊥
 ChunkedCause q unknown_coding = ⊥
@@ -85,7 +85,7 @@ undecided_meets q front rest more cause u e le x = by_cause cause x
         let may = u.may_become in
         bad (may.0, behind.0 ++ may.1, may.2, sym (append_assoc q behind.0 may.1) ∙ ap (λ (t : List ℕ). t ++ may.1) (sym behind.1) ∙ may.3)
 
--- where a byte decides, a prefix that meets a cause ends with it, or behind it
+-- where a byte decides, a prefix that meets a cause ends with it, or after it
 at_byte : (text q more front rest : List ℕ) (b : ℕ) (cause : BodyCause) → text ≡ front ++ b ∷ rest → IsUndecidedChunked most_bytes front → text ≡ q ++ more
     → length q ≤ length (front ++ b ∷ []) → ChunkedCause q cause → q ≡ front ++ b ∷ []
 at_byte text q more front rest b cause is u e le x =

@@ -126,7 +126,7 @@ module _ (limit : ℕ) where
       let regrouped : ((t ++ crlf_bytes) ++ later) ++ rest ≡ t ++ (crlf_bytes ++ (later ++ rest)) = simp append_assoc in
       ap (place_after limit TrailerStart) regrouped ∙ run_trailer t _ (All-head IsTrailer t ts are) ∙ run_trailer_lines ts rest (All-tail IsTrailer t ts are)
 
-  -- a body leads behind it
+  -- a body leads to the place after it
   pub run_body : (body : ChunkedBody) (rest : List ℕ) → IsChunkedBody body → HasSizes limit body
       → place_after limit Start (chunked_bytes body ++ rest) ≡ place_after limit Done rest
   run_body body rest is fit =

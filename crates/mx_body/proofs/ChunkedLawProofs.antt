@@ -32,7 +32,7 @@ one_reading limit higher at bytes more parts others data_bytes other_bytes (body
       data_is ∙ ap chunked_data same.0 ∙ sym other_is,
     )
 
--- parts behind an offset are behind each one before it
+-- parts after an offset are after each offset before it
 ordered_from : (parts : List Part) (low from to : ℕ) → low ≤ from → AreOrdered from to parts → AreOrdered low to parts
 ordered_from [] low from to below h = omega arith
 ordered_from (p ∷ parts) low from to below h = (omega (arith, h.0), h.1, h.2)
@@ -111,7 +111,7 @@ large_may_become limit bytes large =
     let leads = large_leads limit bytes high large (omega arith) in
     (open_is_undecided high bytes (ap is_settled leads)).may_become
 
--- a front of what may become a body may
+-- a prefix of what may become a body may
 front_may : (front rest : List ℕ) → MayBecomeChunked (front ++ rest) → MayBecomeChunked front
 front_may front rest (body, more, is, e) = (body, rest ++ more, is, sym (append_assoc front rest more) ∙ e)
 
@@ -168,7 +168,7 @@ one_scan_each limit input scan.Bad scan.Short h k = absurd (short_or_bad limit i
 one_scan_each limit input scan.Bad scan.TooLarge h k = absurd (large_or_bad limit input k h)
 one_scan_each limit input scan.Bad scan.Bad h k = refl
 
--- a bare LF behind the digits of a size line or its extension
+-- a bare LF after the digits of a size line or its extension
 pub no_bare_lf : NoBareLfInSizeLine
 no_bare_lf chunks digits extension rest are is_size is_extension =
     let size = digits_value 16 digits in
@@ -200,7 +200,7 @@ crlf_behind_data chunks line bytes b c rest are is some sized may =
     let to_lf : place_after limit DataCr (b ∷ c ∷ rest) ≡ place_after limit DataLf (c ∷ rest) = ap (λ x. place_after limit DataCr (x ∷ c ∷ rest)) cr ∙ by_byte limit DataCr DataLf 13 (c ∷ rest) refl in
     (cr, wanted limit c 10 DataLf Start rest refl (λ bad. bad_never limit _ (to_cr ∙ to_lf ∙ bad) may))
   where
-    -- where one byte alone may stand, and the bytes aren't bad, it stands
+    -- where only one byte is allowed, and the bytes aren't bad, it is there
     wanted : (limit b w : ℕ) (place next : Place) (rest : List ℕ) → next_place limit place b ≡ expect b w next → ¬ (place_after limit place (b ∷ rest) ≡ Bad) → b ≡ w
     wanted limit b w place next rest step not_bad = by_test (eqb b w) refl
       where

@@ -79,7 +79,7 @@ module _ (limit : ℕ) where
   abbrev At : List ℕ → Place
   At bs = place_after limit Start bs
 
-  -- what is behind a whole body
+  -- what follows a whole body
   pub behind_body : (body : ChunkedBody) (rest : List ℕ) → IsChunkedBody body → (At (chunked_bytes body ++ rest) ≡ TooLarge) ⊎ (At (chunked_bytes body ++ rest) ≡ place_after limit Done rest)
   behind_body body rest is =
       let high = limit + length (chunked_bytes body) in
@@ -124,7 +124,7 @@ module _ (limit : ℕ) where
   pub done_reads : (at : ℕ) (bs : List ℕ) → At bs ≡ Done → IsRead limit at bs (parts_begun limit Start at bs)
   done_reads at bs done = subst (λ p. Reads limit at p bs (parts_begun limit Start at bs)) done (reads_input limit at bs (λ e. cc))
 
-  -- some bytes lead from any place behind a body
+  -- some bytes lead from any place to the end of a body
   abbrev CanFinish : Place → Type 0
   CanFinish place = (more : List ℕ) × (place_after limit place more ≡ Done)
 
@@ -202,7 +202,7 @@ module _ (limit : ℕ) where
             cc;
       }
 
-  -- two ways to cut a text: the first cut is not behind the byte, or it is
+  -- two ways to cut a text: the first cut isn't after the byte, or it is
   pub cut : (p rest front z : List ℕ) (b : ℕ) → p ++ rest ≡ front ++ b ∷ z → ((x : List ℕ) × (front ≡ p ++ x)) ⊎ ((x : List ℕ) × (p ≡ (front ++ b ∷ []) ++ x))
   cut [] rest front z b e = inl (front, refl)
   cut (a ∷ p) rest [] z b e = let h : a ≡ b = cc in inr (p, ap (λ x. x ∷ p) h)

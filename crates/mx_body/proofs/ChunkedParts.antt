@@ -13,7 +13,7 @@ use Rattle.mx_body.proofs.ChunkedComplete.{run_body}
 use Rattle.mx_body.proofs.ChunkedLemmas.{body_sizes_fit, done_reads}
 use Rattle.mx_body.proofs.ChunkedUnique.{body_unique}
 
--- data that a whole body has behind it is there
+-- data that a whole body still has is there
 data_fits : (limit : ℕ) (xs : List ℕ) (left : ℕ) → place_after limit (Data left) xs ≡ Done → left ≤ length xs
 data_fits limit [] left done = let here = place_after-nil limit (Data left) in cc
 data_fits limit (b ∷ []) left done = by_test (nat_le left 1) refl
@@ -35,7 +35,7 @@ module _ (limit at : ℕ) (input : List ℕ) where
   At n = place_after limit Start (take n input)
 
   -- the parts, a piece of the rest on
-  -- the parts begun further on, by the offset behind the bytes that begin them
+  -- the parts begun further on, by the offset after the bytes that begin them
   pub further_begun : (n len : ℕ) (place : Place) (more : ℕ → List Part) → n ≤ length input → At n ≡ place
       → parts_begun limit place (at + n) (take len (take (length input - n) (drop n input))) ≡ more (at + n + len)
       → parts_begun limit Start at (take (n + len) input) ≡ parts_begun limit Start at (take n input) ++ more (at + (n + len))

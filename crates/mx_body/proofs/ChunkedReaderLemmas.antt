@@ -41,7 +41,7 @@ whole_parts limit at text body is e fits =
     let same : length text ≤ length text = omega arith in
     ap (parts_begun limit Start at) (sym (take_all (length text) text same)) ∙ all_parts limit at text body is e fits (length text) same
 
--- all bytes that were not read are data of one chunk, and not its last
+-- all bytes that were not read are data of one chunk, without its end
 pub data_passed : (limit : ℕ) (body : List ℕ) (left n k : ℕ) (r : ChunkedReader) → HasRead limit body r → r.place ≡ Data left
     → length body < r.read + left → n + (length body - r.read) ≡ left → k ≡ length body
     → HasRead limit body (record r { place = Data n; read = k })

@@ -66,7 +66,7 @@ assigned_line None is = no_line
 assigned_line (Some a) is =
     both a.before _ (blank_line a.before is.0) (more 61 _ refl (both a.behind a.value (blank_line a.behind is.1) (⊎_elim (token_line a.value) (quoted_line a.value) is.2)))
 
--- what stands behind the `;` of an extension
+-- what follows the `;` of an extension
 abbrev behind_semicolon : OneExtension → List ℕ
 behind_semicolon e = e.behind ++ (e.name ++ print_assigned e.assigned)
 

@@ -1,4 +1,4 @@
--- How the reader of a chunked body goes over several bytes.
+-- How the reader of a chunked body passes several bytes.
 use Rattle.std.proofs.Common.{◌≡◌, ℕ, suc, ◌+◌, ◌-◌, ◌<◌, ◌≤◌, true, List, [], ◌∷◌, ◌++◌, length, get_or, take, refl, sym, ap, ◌∙◌, arith}
 use Rattle.std.proofs.lemmas.List.Sums.{fold-append}
 use Rattle.std.proofs.lemmas.List.{append_assoc, append-nil}
@@ -83,7 +83,7 @@ module _ (limit : ℕ) where
   first_byte place [] some = absurd (omega arith)
   first_byte place (b ∷ xs) some = refl
 
-  -- the parts that no byte, a byte and what is behind it, and two texts begin
+  -- the parts that no byte, a byte and what follows it, and two texts begin
   pub parts_begun-nil : (place : Place) (at : ℕ) → parts_begun limit place at [] ≡ []
   unfolding parts_begun
   parts_begun-nil place at = refl

@@ -277,7 +277,7 @@ module _ (limit at : ℕ) where
         regroup : (xs ys zs : List ℕ) → (xs ++ (ys ++ (zs ++ 13 ∷ []))) ++ 10 ∷ [] ≡ xs ++ (ys ++ (zs ++ crlf_bytes))
         regroup xs ys zs = simp append_assoc
 
-    -- the same trailer lines, with other bytes behind them
+    -- the same trailer lines, with other bytes after them
     behind_them : {behind : List ℕ} (h : InTrailers behind bytes parts) (more : List ℕ) (x : ℕ) → (b == x) ≡ true → behind ++ x ∷ [] ≡ more → InTrailers more (bytes ++ b ∷ []) parts
     behind_them {behind} h more x is e = record {
       chunks = h.chunks;

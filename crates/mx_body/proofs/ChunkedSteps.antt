@@ -1,4 +1,4 @@
--- A scan of an input: the place of a front of it that grows, and what the scan may answer there.
+-- A scan of an input: the place of a growing prefix of it, and what the scan may answer there.
 use Rattle.std.proofs.Common.{◌≡◌, ℕ, ◌+◌, ◌-◌, ◌<◌, ◌≤◌, false, List, [], ◌∷◌, ◌++◌, length, take, drop, get_or, refl, sym, ap, ◌∙◌, subst}
 use Rattle.std.proofs.lemmas.List.{take-append-drop, take_more, take_all, take_rest, length-take-le, drop_more}
 use Rattle.std.proofs.Math.Seq.{take-add}

@@ -1,4 +1,4 @@
--- How a reader goes over several bytes at once.
+-- How a reader passes several bytes at once.
 use Rattle.std.proofs.Common.{◌≡◌, ℕ, zero, suc, ◌+◌, ◌*◌, ◌<◌, ◌≤◌, Bool, true, false, not, cond, ◌||◌, List, [], ◌∷◌, ◌++◌, length, get_or, take, None, Some, ◌⊎◌, inl, inr, refl, sym, ap, subst, ◌∙◌, arith}
 use Rattle.std.specs.Prelude.{Option, ◌==◌}
 use Rattle.std.specs.Char.{digit_value, is_ascii_hexdigit}
@@ -33,7 +33,7 @@ module _ (limit : ℕ) where
     by_one_byte = λ settled. let both : true ≡ false = sym settled ∙ live in absurd (cc);
   }
 
-  -- bytes, and the CRLF behind them
+  -- bytes, and the CRLF after them
   pub with_crlf : (place mid next : Place) (n : ℕ) (ahead : Option ℕ) (input : List ℕ) → n + 2 ≤ length input → take (n + 2) input ≡ take n input ++ 13 ∷ 10 ∷ [] → GoesOn limit place mid n input
       → place_after limit mid (13 ∷ 10 ∷ []) ≡ next → ((at : ℕ) → parts_begun limit mid at (13 ∷ 10 ∷ []) ≡ part_begun ahead (at + 2)) → ((left : ℕ) → ahead ≡ Some left → next ≡ Data left) → is_settled next ≡ false
       → IsStretch limit place input (record { next = next; len = n + 2; ahead = ahead })
@@ -94,7 +94,7 @@ module _ (limit : ℕ) where
       by_test true = refl
       by_test false = refl
 
-  -- a size line that ends behind its digits, and behind its extension
+  -- a size line that ends after its digits, and after its extension
   pub size_ends : (place : Place) (size n : ℕ) (input : List ℕ) → n + 2 ≤ length input → take (n + 2) input ≡ take n input ++ 13 ∷ 10 ∷ [] → GoesOn limit place (Size size) n input
       → IsStretch limit place input (record { next = after_line size; len = n + 2; ahead = cond (size == 0) None (Some size) })
   size_ends place size n input within text g =
@@ -136,7 +136,7 @@ module _ (limit : ℕ) where
             ∙ parts_begun-cons limit (Size v) (at + length (take n input)) b [] ∙ parts_begun-nil limit _ _;
       }
 
-  -- digits read from the start are read as behind none
+  -- digits read from the start are read as after none
   pub from_start : (v n : ℕ) (input : List ℕ) → 0 < n → is_ascii_hexdigit (get_or input 0 0) ≡ true → GoesOn limit (Size 0) (Size v) n input → GoesOn limit Start (Size v) n input
   from_start v zero input some hex g = absurd (omega arith)
   from_start v (suc n) [] some hex g = absurd (omega (arith, g.within))
@@ -202,7 +202,7 @@ module _ (limit : ℕ) where
   trailer_goes_on place n xs (inl is) some le line = subst (λ (p : Place). GoesOn limit p Trailer n xs) (sym is) (trailer_start n xs some le line)
   trailer_goes_on place n xs (inr is) some le line = subst (λ (p : Place). GoesOn limit p Trailer n xs) (sym is) (trailer_line n xs le line)
 
-  -- data and the CRLF behind them
+  -- data and the CRLF after them
   pub data_ends : (left : ℕ) (input : List ℕ) → 0 < left → left + 2 ≤ length input → take (left + 2) input ≡ take left input ++ 13 ∷ 10 ∷ []
       → IsStretch limit (Data left) input (record { next = Start; len = left + 2; ahead = None })
   data_ends left input some within text =

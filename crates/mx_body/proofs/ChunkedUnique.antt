@@ -1,4 +1,4 @@
--- The grammar of chunked bodies is unambiguous, and none of its texts begins another.
+-- The grammar of chunked bodies is unambiguous, and none of its texts is a proper prefix of another.
 use Rattle.std.proofs.Common.{◌≡◌, ℕ, Bool, true, false, ◌==◌, ◌||◌, List, [], ◌∷◌, ◌++◌, length, refl, sym, ap, ◌∙◌, arith}
 use Rattle.std.specs.Prelude.{All, flat_map}
 use Rattle.std.specs.List.{AllPass}
@@ -31,7 +31,7 @@ span_unique p (x ∷ xs) (y ∷ ys) a b us vs are too stops ends e =
     let later = span_unique p xs ys a b us vs (pass_tail p x xs are) (pass_tail p y ys too) stops ends rest in
     (λ i. same i ∷ later.0 i, later.1)
 
--- what stands behind lists of one length
+-- what follows lists of one length
 append_unique : (xs ys us vs : List ℕ) → length xs ≡ length ys → xs ++ us ≡ ys ++ vs → (xs ≡ ys) × (us ≡ vs)
 append_unique [] [] us vs long e = (refl, e)
 append_unique [] (y ∷ ys) us vs long e = absurd (omega arith)
@@ -49,7 +49,7 @@ extension_line : (bytes : List ℕ) → IsChunkExtension bytes → AllPass is_li
 extension_line [] is = All-nil (λ b. is_line_byte b ≡ true)
 extension_line (b ∷ bytes) is = All-cons (λ b. is_line_byte b ≡ true) b bytes (opens_line b is.0) is.1
 
--- what stands behind the digits begins with no digit
+-- what follows the digits begins with no digit
 record StopsDigits (text : List ℕ) : Type 0 where
   first : ℕ
   rest : List ℕ

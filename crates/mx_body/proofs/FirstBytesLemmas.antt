@@ -14,7 +14,7 @@ use Rattle.mx_body.specs.Decision.{first_bytes, IsUndecided, HasFinalHead}
 use Rattle.mx_body.proofs.HeadsLemmas.{body_stands, body_start_small}
 use Rattle.mx_body.proofs.MeetsLemmas.{headless_no_response}
 
--- what stands behind the bytes that are looked at
+-- what follows the bytes that are looked at
 pub first_split : (input : List ℕ) → (after : List ℕ) × (input ≡ first_bytes input ++ after)
 unfolding first_bytes
 first_split input = (drop most_bytes input, sym (take-append-drop most_bytes input))

@@ -1,4 +1,4 @@
--- Which heads stand at the front of an input.
+-- The heads at the front of an input.
 use Rattle.std.proofs.Common.{suc, ◌≡◌, ℕ, ◌*◌, ◌<◌, ◌≤◌, ◌⊎◌, inl, inr, List, [], ◌∷◌, ◌++◌, length, refl, sym, ap, subst, ◌∙◌, arith, append_assoc, length-append, All}
 use Rattle.httparse.specs.Grammar.{ResponseHead, print_response, status_code}
 use Rattle.httparse.proofs.GrammarLemmas.{response_unique}
@@ -23,7 +23,7 @@ no_interim = record { each = λ k d lt. absurd (omega (arith, lt)); few = omega 
 tail_each : (h : ResponseHead) (hs : List ResponseHead) → All IsInterim (h ∷ hs) → All IsInterim hs
 tail_each h hs each k d lt = each (suc k) d (omega (arith, lt))
 
--- Behind the interim heads hs stands a, and behind ks stands b, of one input: where ks is shorter, b begins with an interim head.
+-- In one input a follows the interim heads hs, and b follows ks: where ks is shorter, b begins with an interim head.
 pub record IsEarlier (hs ks : List ResponseHead) (b : List ℕ) : Type 0 where
   pub next : ResponseHead
   pub rest : List ℕ
@@ -59,7 +59,7 @@ compare_heads (h ∷ hs) (k ∷ ks) a b x y e =
       ]
     ]
 
--- what stands behind a prefix of the input
+-- what follows a prefix of the input
 pub head_stands : (text p more : List ℕ) (hs : List ResponseHead) (r : List ℕ) → text ≡ p ++ more → StandsAtHead p hs r → StandsAtHead text hs (r ++ more)
 head_stands text p more hs r e s = (s.0, e ∙ ap (λ (t : List ℕ). t ++ more) s.1 ∙ append_assoc (print_heads hs) r more)
 
@@ -68,7 +68,7 @@ body_stands text p more hs h r e s =
     let at = head_stands text p more hs (print_response h ++ r) e s.1 in
     (s.0, (at.0, at.1 ∙ ap (λ (t : List ℕ). print_heads hs ++ t) (append_assoc (print_response h) r more)))
 
--- no interim head that is passed over stands behind hs
+-- no interim head that is passed follows hs
 abbrev pub Stops : List ResponseHead → List ℕ → Type 0
 Stops hs rest = (g : ResponseHead) (t : List ℕ) → IsInterim g → rest ≡ print_response g ++ t → length hs < most_interim → ⊥
 
@@ -88,7 +88,7 @@ refused_stops hs h rest after e refused g t interim is few =
       | inr over ↦ omega (arith, few, over.0)
     ]
 
--- where the interim heads stop behind hs, others stop there too, or before
+-- where the interim heads stop after hs, others stop there too, or before
 pub stand_there : (text : List ℕ) (hs ks : List ResponseHead) (a b : List ℕ) → StandsAtHead text hs a → Stops hs a → StandsAtHead text ks b
     → ((ks ≡ hs) × (b ≡ a)) ⊎ IsEarlier hs ks b
 stand_there text hs ks a b s stops t =

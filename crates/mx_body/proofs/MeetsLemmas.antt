@@ -1,4 +1,4 @@
--- Which causes the prefixes of an input meet, by what stands behind its interim heads.
+-- The causes that prefixes of an input meet, by what follows its interim heads.
 use Rattle.std.proofs.Common.{◌≡◌, ◌≢◌, ℕ, ◌+◌, ◌<◌, ◌≤◌, ◌⊎◌, inl, inr, Bool, List, [], ◌∷◌, ◌++◌, length, drop, ◌-◌, slice_range, refl, sym, ap, subst, ◌∙◌, arith, append_assoc, length-append, length-drop, Result, Ok}
 use Rattle.std.proofs.lemmas.List.{append-nil, take_all}
 use Rattle.std.proofs.lemmas.List.Elements.{All-cons, All-nil, All-append}
@@ -21,11 +21,11 @@ use Rattle.mx_body.specs.Decision.{BeginsWithResponse, IsNoResponse, HasFinalHea
 use Rattle.mx_body.specs.Steps.{IsBehind, HasHeadAt}
 use Rattle.mx_body.proofs.HeadsLemmas.{same_head, print_heads-append, head_stands, body_stands, Stops, none_stops, final_stops, refused_stops, stand_there, earlier_meets, earlier_refused, earlier_final, same_body, body_start_small, body_start_within}
 
--- the offset behind the final head
+-- the offset after the final head
 abbrev pub body_start : List ResponseHead → ResponseHead → ℕ
 body_start hs h = length (print_heads hs ++ print_response h)
 
--- ---- where no head stands behind the interim heads
+-- ---- where no head follows the interim heads
 
 -- what a prefix meets there: a cause of the next head alone
 pub record MeetsNext (hs : List ResponseHead) (rest q more : List ℕ) (cause : Cause) : Type 0 where
@@ -99,9 +99,9 @@ headless_nothing m text hs rest s none clear q more other e x =
     let n = headless_meets m text hs rest s none q more other e x in
     clear n.part more n.here n.splits n.meets
 
--- ---- where a refused head stands behind the interim heads
+-- ---- where a refused head follows the interim heads
 
--- no final head stands there
+-- no final head is there
 pub same_refused : (text : List ℕ) (hs : List ResponseHead) (h : ResponseHead) (after : List ℕ) → StandsAtHead text hs (print_response h ++ after) → IsRefused hs h
     → (ks : List ResponseHead) (k : ResponseHead) (r : List ℕ) → StandsAtBody text ks k r → ⊥
 same_refused text hs h after s refused ks k r t =
@@ -141,7 +141,7 @@ refused_first m text hs h after s refused = record {
   first = λ q more other e x ne le. absurd (ne (refused_code m text hs h after s refused q more other e x));
 }
 
--- ---- where the final head stands behind the interim heads
+-- ---- where the final head follows the interim heads
 
 -- what a prefix meets there: a cause of the body alone
 pub record MeetsBehind (asked : Result Framing Code) (at : ℕ) (hs : List ResponseHead) (h : ResponseHead) (rest q more : List ℕ) (cause : Cause) : Type 0 where
@@ -204,7 +204,7 @@ body_nothing m text hs h rest s clear q more other e x =
 
 -- ---- the response itself
 
--- the bytes behind the heads are a body of that framing, and then left
+-- the bytes after the heads are a body of that framing, and then left
 pub record BeginsWithBody (asked : Result Framing Code) (at : ℕ) (rest : List ℕ) (ended : Bool) (framing : Framing) (body : List ℕ) (parts : List Part) (content left : List ℕ) : Type 0 where
   pub splits : rest ≡ body ++ left
   pub fits : at + length body ≤ most_bytes
@@ -263,7 +263,7 @@ pub headless_no_response : (m : Method) (text : List ℕ) (ended : Bool) → (Ha
 headless_no_response m text ended none r left b =
     none (r.interim, r.head, r.body ++ left, body_stands text b.bytes left r.interim r.head r.body b.whole b.response.stands)
 
--- ---- what one more head comes to
+-- ---- the result of one more head
 
 -- what the code reads there
 abbrev pub tail_from : ℕ → List ℕ → List ℕ
@@ -291,7 +291,7 @@ more_next text start passed b x =
     let y = subst (λ (t : List ℕ). HasNoHead t × MeetsNothing MeetsAtHead t) (behind_reads text start passed b) x in
     (headless_final text b.interim b.rest b.stands y.0, λ m. headless_nothing m text b.interim b.rest b.stands y.0 y.1)
 
--- a head behind the interim heads that have passed
+-- a head after the interim heads that have passed
 pub head_next : (text : List ℕ) (start passed : ℕ) (h : ResponseHead) (rest : List ℕ) → (b : IsBehind text start passed) → tail_from start text ≡ print_response h ++ rest
     → StandsAtHead text b.interim (print_response h ++ rest)
 head_next text start passed h rest b e =

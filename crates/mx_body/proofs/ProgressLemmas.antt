@@ -1,4 +1,4 @@
--- What was read of an exchange still stands when more bytes have come.
+-- What was read of an exchange stays true when more bytes have come.
 use Rattle.std.proofs.Common.{◌≡◌, ℕ, suc, ◌+◌, ◌-◌, ◌<◌, ◌≤◌, Bool, false, List, [], ◌∷◌, ◌++◌, length, take, drop, slice_range, refl, sym, ap, subst, ◌∙◌, inl, inr, arith, length-take, length-append}
 use Rattle.std.specs.Prelude.{Ok, Option, Some, None, option_map}
 use Rattle.httparse.specs.Grammar.{print_response}
@@ -32,7 +32,7 @@ use Rattle.mx_body.proofs.ChunkedLemmas.{open_is_undecided}
 use Rattle.mx_body.proofs.ChunkedReaderLemmas.{data_passed}
 use Rattle.mx_body.proofs.HeadsLemmas.{head_stands, body_stands, no_interim}
 
--- a longer front of the bytes
+-- a longer prefix of the bytes
 longer : (wire : List ℕ) (before n : ℕ) → before ≤ n → take n wire ≡ take before wire ++ take (n - before) (drop before wire)
 longer wire before n le =
     let same : n ≡ before + (n - before) = omega (arith, le) in
@@ -68,7 +68,7 @@ head_grows wire before x end d = record {
   small = d.small;
 }
 
--- the bytes behind an offset, as far as they were there and as far as they are now, begin alike
+-- the bytes after an offset that were there are a prefix of those that are there now
 same_front : (wire : List ℕ) (before at n k : ℕ) → before ≤ length wire → at ≤ before → before ≤ n → k ≤ before - at
     → take k (drop at (take before wire)) ≡ take k (slice_range wire at n)
 same_front wire before at n k there le more within =
@@ -106,7 +106,7 @@ chunks_undecided m wire ended x at r small d chunked h unsettled whole =
     short_undecided m wire ended d.interim d.head d.rest d.stands (sym (framing_agrees _ _ d.head d.describes) ∙ chunked)
     (subst (IsUndecidedChunked most_bytes) (read ∙ sym all ∙ seen) undecided)
 
--- all bytes that have come are data of the chunk that is being read, and not its last
+-- all bytes that have come are data of the chunk that is being read, without its end
 pub chunks_pass : (m : Method) (wire : List ℕ) (before : ℕ) (x : Summary) (at left n k : ℕ) (r : ChunkedReader) → before ≤ length wire
     → IsPhase m (take before wire) (Chunks x at) r → r.place ≡ Data left → length wire < before + left
     → n + (length wire - before) ≡ left → k + at ≡ length wire
@@ -143,7 +143,7 @@ drop_past (b ∷ before) rest n =
     let more : length (b ∷ before) + n ≡ suc (length before + n) = omega arith in
     ap (λ (k : ℕ). drop k (b ∷ (before ++ rest))) more ∙ drop_past before rest n
 
--- a part of a text that stands in it behind other text
+-- a part of a text that follows other text in it
 shifted : (before mid after : List ℕ) (start end : ℕ) → start ≤ end → end ≤ length mid
     → slice_range (before ++ (mid ++ after)) (length before + start) (length before + end) ≡ slice_range mid start end
 shifted before mid after start end ordered within =
@@ -170,7 +170,7 @@ head_location wire x end (Some s) (Some value) d at =
       subst (λ (n : ℕ). slice_range wire (n + s.start) (n + s.end) ≡ value) (sym from) (bytes ∙ at.1),
     )
 
--- where the location stands that was read
+-- the place of the location that was read
 pub known_location : (wire : List ℕ) (p : Phase) → KnowsHead wire p → HasLocation wire (location_read p)
 known_location wire (Heads passed) none = inr (none, refl)
 known_location wire (Body x end) d = inl (d.interim, d.head, d.rest, d.stands, head_location wire x end x.location (location_of d.head) d d.describes.location)

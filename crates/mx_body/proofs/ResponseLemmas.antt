@@ -19,7 +19,7 @@ use Rattle.mx_body.proofs.ChunkedLawProofs.{body_is_sound}
 use Rattle.mx_body.proofs.HeadsLemmas.{body_stands}
 use Rattle.mx_body.proofs.MeetsLemmas.{body_start, body_meets, response_body}
 
--- fronts of one text that are as long are the same
+-- prefixes of one text that are as long are the same
 pub same_split : (a b x y : List ℕ) → a ++ x ≡ b ++ y → length a ≡ length b → (a ≡ b) × (x ≡ y)
 same_split a b x y e long =
     let r = front_of a b x y e (omega (arith, long)) in
@@ -58,7 +58,7 @@ one_body Close ended later at body other left after parts pieces content more x 
     let same : body ≡ other = sym (append-nil body) ∙ ap (λ (t : List ℕ). body ++ t) (sym none) ∙ e ∙ ap (λ (t : List ℕ). other ++ t) nothing ∙ append-nil other in
     (same, x.1 ∙ ap (λ (b : List ℕ). one_part at (length b)) same ∙ sym y.1, x.2 ∙ same ∙ sym y.2, none ∙ sym nothing)
 
--- a response stands at the front of the input
+-- a response is at the front of the input
 pub response_stands : (m : Method) (input : List ℕ) (ended : Bool) (r : Response) (left : List ℕ) → BeginsWithResponse m input ended r left
     → StandsAtBody input r.interim r.head (r.body ++ left)
 response_stands m input ended r left b = body_stands input b.bytes left r.interim r.head r.body b.whole b.response.stands

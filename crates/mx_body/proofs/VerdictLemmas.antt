@@ -60,7 +60,7 @@ framing_kind m h = by_body (has_no_body m (status_code h))
     by_body true = is_empty
     by_body false = by_fields_kind h.minor (elements (codes "transfer-encoding") (lines_of h)) (elements (codes "content-length") (lines_of h))
 
--- ---- what the bytes behind the final head decide
+-- ---- what the bytes after the final head decide
 
 pub body_fault : (m : Method) (input : List ℕ) (ended : Bool) (hs : List ResponseHead) (h : ResponseHead) (rest : List ℕ) (asked : Result Framing Code) (code : Code)
     → (s : StandsAtBody input hs h rest) → framing_of m h ≡ asked

@@ -13,11 +13,11 @@ use Rattle.mx_head.specs.Faults.{HeadCause, head_code, head_line, MeetsAtHead}
 use Rattle.mx_body.specs.Chunked.{MayBecomeChunked, EndsInLargeSize}
 use Rattle.mx_body.specs.Response.{IsInterimStatus, print_heads, StandsAtHead, StandsAtBody}
 
--- the causes behind the final head
+-- the causes after the final head
 pub data BodyCause : Type 0 where
   bad_framing unknown_coding too_big bad_chunk : BodyCause
 
--- all causes: in the bytes of a head, by the status of a head, and behind the final head
+-- all causes: in the bytes of a head, by the status of a head, and after the final head
 pub data Cause : Type 0 where
   at_head : (cause : HeadCause) → Cause
   refused_status : Cause
@@ -49,12 +49,12 @@ cause_line (at_body cause) = body_line cause
 
 -- rule body-interim-heads: At most 16 interim heads come before the final one. The 17th is 8, and so is status 101 anywhere.
 --
--- behind the interim heads hs the head h is refused: one of status 101, or one interim head too many
+-- after the interim heads hs the head h is refused: one of status 101, or one interim head too many
 pub record IsRefused (hs : List ResponseHead) (h : ResponseHead) : Type 0 where
   pub head : IsHead h
   pub refused : (status_code h ≡ 101) ⊎ ((length hs ≡ most_interim) × IsInterimStatus (status_code h))
 
--- What is met by the bytes r behind a final head that asks for this framing, and ends at the offset
+-- What is met by the bytes r after a final head that asks for this framing, and ends at the offset
 -- `at`: its framing is refused; it counts more bytes than a response may have, or a chunk's size does;
 -- no chunked body begins with r.
 abbrev pub MeetsAtBody : Result Framing Code → ℕ → List ℕ → BodyCause → Type 0

@@ -1,7 +1,7 @@
 -- What a chunked body is (RFC 9112, section 7.1): the parts that it is made of, and the bytes that they make.
 --
--- More is taken than the standard's grammar has, in two places: behind a blank or `;` in a chunk's first line, and
--- in a trailer line, stand any bytes but CR and LF. The standard's own grammar is in `ChunkedRfc`.
+-- More is taken than the standard's grammar has, in two places: any bytes but CR and LF may follow a blank or `;` in a chunk's first line,
+-- and be in a trailer line. The standard's own grammar is in `ChunkedRfc`.
 use Rattle.std.specs.Prelude.{◌≡◌, ℕ, ◌+◌, ◌<◌, ◌≤◌, Bool, not, ◌||◌, ◌==◌, List, [], ◌∷◌, ◌++◌, length, All, IsTrue, flat_map}
 use Rattle.std.specs.List.{AllPass}
 use Rattle.std.specs.Char.{is_ascii_hexdigit}
@@ -18,7 +18,7 @@ is_line_byte b = not (b == carriage_return || b == line_feed)
 abbrev pub IsChunkSize : List ℕ → Type 0
 IsChunkSize digits = (0 < length digits) × AllPass is_ascii_hexdigit digits
 
--- what stands between the digits and the CRLF of a chunk's first line: nothing, or SP, HTAB or `;` and then any
+-- what is between the digits and the CRLF of a chunk's first line: nothing, or SP, HTAB or `;` and then any
 -- bytes but CR and LF
 abbrev pub IsChunkExtension : List ℕ → Type 0
 IsChunkExtension [] = Unit {0}
@@ -68,7 +68,7 @@ pub record ChunkedBody : Type 0 where
 abbrev pub chunks_bytes : List Chunk → List ℕ
 chunks_bytes chunks = flat_map chunk_bytes chunks
 
--- each trailer line with its CRLF, and the CRLF behind them
+-- each trailer line with its CRLF, and the CRLF after them
 abbrev pub trailers_bytes : List (List ℕ) → List ℕ
 trailers_bytes trailers = flat_map (λ t. t ++ crlf_bytes) trailers ++ crlf_bytes
 
@@ -90,21 +90,20 @@ HasSizes limit body = All (λ c. chunk_size c.line ≤ limit) body.chunks
 abbrev pub chunked_data : ChunkedBody → List ℕ
 chunked_data body = flat_map (λ c. c.bytes) body.chunks
 
--- where the data of the chunks stand, the first of which begins at `at`
+-- where the data of the chunks are, the first of which begins at `at`
 abbrev pub chunk_parts : ℕ → List Chunk → List Part
 chunk_parts at [] = []
 chunk_parts at (c ∷ cs) =
     let start = at + length (opening_bytes c.line) in
     record { start = start; end = start + length c.bytes } ∷ chunk_parts (at + length (chunk_bytes c)) cs
 
--- the bytes are a chunked body with no size over the limit; where the body begins at `at`, its data stand at
--- these parts
+-- the bytes are a chunked body with no size over the limit; where the body begins at `at`, its data are at these parts
 abbrev pub IsChunked : ℕ → ℕ → List ℕ → List Part → List ℕ → Type 0
 IsChunked limit at bytes parts data_bytes =
     (body : ChunkedBody) × IsChunkedBody body × HasSizes limit body × (bytes ≡ chunked_bytes body)
     × (parts ≡ chunk_parts at body.chunks) × (data_bytes ≡ chunked_data body)
 
--- rule body-chunk-framing: A byte that can't stand at its place in a chunked body is 56; a bare LF ends no line of its framing.
+-- rule body-chunk-framing: A byte that isn't allowed at its place in a chunked body is 56; a bare LF ends no line of its framing.
 --
 -- some bytes can follow that make these a chunked body, whatever its sizes
 abbrev pub MayBecomeChunked : List ℕ → Type 0

@@ -9,7 +9,7 @@ use Rattle.mx_body.specs.declared.chunked.place.Place.TheVariants.{Start, Done, 
 use Rattle.mx_body.specs.ChunkedPlace.{place_after, is_settled, parts_begun}
 use Rattle.mx_body.specs.ChunkedRfc.{IsRfcChunked, HasRfcText}
 
--- the grammar is unambiguous, and no chunked body begins another: two at the front of one text are one tree
+-- the grammar is unambiguous, and no chunked body is a proper prefix of another: two at the front of one text are one tree
 abbrev pub OneBodyPerText : Type 0
 OneBodyPerText =
     (body other : ChunkedBody) (rest later : List ℕ) → IsChunkedBody body → IsChunkedBody other
@@ -22,7 +22,7 @@ OneReadingPerText =
     → IsChunked limit at bytes parts data_bytes → IsChunked higher at (bytes ++ more) others other_bytes
     → (more ≡ []) × (parts ≡ others) × (data_bytes ≡ other_bytes)
 
--- the parts lie within the body, in order, none is empty, and what stands at them is the data
+-- the parts are within the body, in order, none is empty, and their bytes are the data
 abbrev pub PartsAreData : Type 0
 PartsAreData =
     (limit : ℕ) (front bytes back : List ℕ) (parts : List Part) (data_bytes : List ℕ)
@@ -58,13 +58,13 @@ ChunkedIsRfc =
     (limit at : ℕ) (bytes data_bytes : List ℕ) (parts : List Part) (chunked : IsChunked limit at bytes parts data_bytes)
     → HasRfcText chunked.0 → IsRfcChunked limit bytes data_bytes
 
--- a size line ends in no bare LF: not right behind the digits, and not in or behind an extension
+-- a size line ends in no bare LF: not right after the digits, and not in or after an extension
 abbrev pub NoBareLfInSizeLine : Type 0
 NoBareLfInSizeLine =
     (chunks : List Chunk) (digits extension rest : List ℕ) → All IsChunk chunks → IsChunkSize digits → IsChunkExtension extension
     → ¬ (MayBecomeChunked (chunks_bytes chunks ++ (digits ++ (extension ++ 10 ∷ rest))))
 
--- behind the data of a chunk stands CRLF
+-- CRLF follows the data of a chunk
 abbrev pub CrlfBehindData : Type 0
 CrlfBehindData =
     (chunks : List Chunk) (line : ChunkOpening) (bytes : List ℕ) (b c : ℕ) (rest : List ℕ) → All IsChunk chunks → IsChunkOpening line
@@ -77,8 +77,7 @@ BareLfExamples =
     (rest : List ℕ) → ¬ (MayBecomeChunked (codes "5\n" ++ rest)) × ¬ (MayBecomeChunked (codes "0\r\n\n" ++ rest))
     × ¬ (MayBecomeChunked (codes "0\r\na:b\n" ++ rest))
 
--- what the places of a reader say of the bytes behind them, by the grammar alone: they are a body, and the
--- parts begun are its parts
+-- what the places of a reader say of the bytes read, by the grammar alone: they are a body, and the parts begun are its parts
 abbrev pub DoneIsWhole : Type 0
 DoneIsWhole =
     (limit at : ℕ) (bytes : List ℕ) → place_after limit Start bytes ≡ Done

@@ -1,5 +1,5 @@
 -- A reader of a chunked body that takes a byte at a time: its next place, and what it has passed. The grammar
--- of `Chunked` says what a body is; that the reader keeps to it is proved of the calls that run it.
+-- of `Chunked` says what a body is; it is proved of the calls that run the reader that they keep to it.
 use Rattle.std.specs.Prelude.{ℕ, ◌+◌, ◌-◌, ◌*◌, Bool, true, false, ◌||◌, List, [], ◌∷◌, ◌++◌, if◌then◌else◌, nat_le, ◌==◌, fold}
 use Rattle.std.specs.Char.{digit_value, is_ascii_hexdigit}
 use Rattle.httparse.specs.Ascii.{line_feed, carriage_return, semicolon}
@@ -22,7 +22,7 @@ after_digits size b =
 abbrev pub in_line : ℕ → Place → Place → Place
 in_line b on ends = if b == carriage_return then ends else (if b == line_feed then Bad else on)
 
--- after a byte where one byte alone may stand
+-- after a byte where only one byte is allowed
 abbrev pub expect : ℕ → ℕ → Place → Place
 expect b wanted next = if b == wanted then next else Bad
 
@@ -52,7 +52,7 @@ next_place limit TooLarge b = TooLarge
 unfoldable pub place_after : ℕ → Place → List ℕ → Place
 place_after limit place bytes = fold (next_place limit) place bytes
 
--- the bytes so far settle what they are: a body, no beginning of one, or one with a size over the limit
+-- the bytes so far settle what they are: a body, no prefix of one, or one with a size over the limit
 abbrev pub is_settled : Place → Bool
 is_settled Done = true
 is_settled Bad = true
@@ -64,12 +64,12 @@ abbrev pub data_left : Place → ℕ
 data_left (Data left) = left
 data_left _ = 0
 
--- the part that a byte begins, by the places before and after it, where `at` is the offset behind it
+-- the part that a byte begins, by the places before and after it, where `at` is the offset after it
 abbrev pub begun : Place → Place → ℕ → List Part
 begun (SizeLf size) (Data left) at = record { start = at; end = at + left } ∷ []
 begun _ _ at = []
 
--- the parts that some bytes begin, the first of which stands at the offset
+-- the parts that some bytes begin, the first of which is at the offset
 unfoldable pub parts_begun : ℕ → Place → ℕ → List ℕ → List Part
 parts_begun limit place at [] = []
 parts_begun limit place at (b ∷ bytes) =

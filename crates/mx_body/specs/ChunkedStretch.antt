@@ -1,4 +1,4 @@
--- Private: bytes of a chunked body that a reader goes over at once.
+-- Private: bytes of a chunked body that a reader passes at once.
 use Rattle.std.specs.Prelude.{◌≡◌, ℕ, ◌+◌, ◌<◌, ◌≤◌, true, List, [], ◌∷◌, length, take, Option, Some, None}
 use Rattle.mx_body.specs.declared.part.Part.{Part}
 use Rattle.mx_body.specs.declared.chunked.place.Place.{Place}
@@ -11,7 +11,7 @@ abbrev pub part_begun : Option ℕ → ℕ → List Part
 part_begun None at = []
 part_begun (Some left) at = record { start = at; end = at + left } ∷ []
 
--- from the place, the first bytes of the input lead to the next, and at most a part begins behind them; a byte that
+-- from the place, the first bytes of the input lead to the next, and at most one part begins after them; a byte that
 -- settles what they are comes alone
 pub record IsStretch (limit : ℕ) (place : Place) (input : List ℕ) (s : Stretch) : Type 0 where
   pub moved : 0 < s.len

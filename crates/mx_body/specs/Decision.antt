@@ -85,14 +85,14 @@ HasStatus input status =
     × StandsAtBody input hs h r × (status ≡ status_code h))
     ⊎ (¬ (HasFinalHead input) × (status ≡ 0))
 
--- the part stands in the text between two offsets, and its bytes are the value; there is one exactly where there is a value
+-- the part is in the text between two offsets, and its bytes are the value; there is one exactly where there is a value
 abbrev pub IsPartAt : List ℕ → ℕ → ℕ → Option Part → Option (List ℕ) → Type 0
 IsPartAt text from to None None = Unit {0}
 IsPartAt text from to (Some p) (Some value) =
     (from ≤ p.start) × (p.start ≤ p.end) × (p.end ≤ to) × (slice_range text p.start p.end ≡ value)
 IsPartAt text from to _ _ = ⊥
 
--- where in the final head the value of its first Location line stands; nowhere where that is empty, or the input has no final head
+-- where in the final head the value of its first Location line is; nowhere where that is empty, or the input has no final head
 abbrev pub HasLocation : List ℕ → Option Part → Type 0
 HasLocation input place =
     ((hs : List ResponseHead) × (h : ResponseHead) × (r : List ℕ) × StandsAtBody input hs h r
@@ -112,7 +112,7 @@ TellsLocation input value =
 abbrev pub bytes_at : List ℕ → Option Part → Option (List ℕ)
 bytes_at text place = option_map (λ p. slice_range text p.start p.end) place
 
--- the place, if there is one, lies in a text of so many bytes
+-- the place, if there is one, is in a text of so many bytes
 abbrev pub IsPlaceIn : ℕ → Option Part → Type 0
 IsPlaceIn len place = IfSome place (λ p. (p.start ≤ p.end) × (p.end ≤ len))
 

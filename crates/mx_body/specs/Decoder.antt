@@ -21,13 +21,13 @@ pub record Decoded : Type 0 where
 abbrev pub IsExact : Decoded → Type 0
 IsExact d = IsVerdict d.method d.wire d.ended d.verdict
 
--- what a verdict comes to
+-- the state of a verdict
 abbrev pub stand_of : Verdict → Stand
 stand_of (verdict.Complete status len parts keep) = stand.Complete
 stand_of verdict.More = stand.More
 stand_of (verdict.Fault c) = stand.Fault c
 
--- where the data of the body stand; of no other verdict than a whole response
+-- where the data of the body are; a whole response alone has any
 abbrev pub parts_of : Verdict → List Part
 parts_of (verdict.Complete status len parts keep) = parts.items
 parts_of verdict.More = []
@@ -45,7 +45,7 @@ keep_of (verdict.Complete status len parts keep) = keep
 keep_of verdict.More = false
 keep_of (verdict.Fault c) = false
 
--- the codes that the bytes of an exchange can come to
+-- the codes that the bytes of an exchange can give
 abbrev pub is_verdict_code : Code → Bool
 is_verdict_code code.WeirdServerReply = true
 is_verdict_code code.PartialFile = true

@@ -36,7 +36,7 @@ HasOneResponse =
 abbrev pub HasOneStatus : Type 0
 HasOneStatus = (input : List ℕ) (a b : ℕ) → HasStatus input a → HasStatus input b → a ≡ b
 
--- an input tells of one location at most, whichever place that is read from
+-- an input has one location at most, whichever place that is read from
 abbrev pub HasOneLocation : Type 0
 HasOneLocation = (input : List ℕ) (a b : Option (List ℕ)) → TellsLocation input a → TellsLocation input b → a ≡ b
 
@@ -69,7 +69,7 @@ IsComplete (Complete status len parts keep) = Unit {0}
 IsComplete More = ⊥
 IsComplete (Fault code) = ⊥
 
--- the very same complete response stands at the front of every continuation
+-- the very same complete response is at the front of every continuation
 abbrev pub CompleteStaysSame : Type 0
 CompleteStaysSame =
     (m : Method) (input more : List ℕ) (ended : Bool) (v : Verdict) → IsComplete v
@@ -94,8 +94,8 @@ ResponseMeetsNothing =
     (m : Method) (bytes : List ℕ) (ended : Bool) (r : Response)
     → IsResponse m bytes ended r → MeetsNothing (Meets m) bytes
 
--- The first `len` bytes of the input are a response. Its parts are not empty and stand in order within
--- them; what stands at the parts, joined, is its content.
+-- The first `len` bytes of the input are a response. Its parts are not empty and are in order within them; the bytes at the parts, joined,
+-- are its content.
 abbrev pub ContentIs : Method → List ℕ → Bool → Verdict → Type 0
 ContentIs m input ended (Complete status len parts keep) =
     AreOrdered 0 len parts.items × (len ≤ length input)

@@ -9,7 +9,7 @@ pub mod ChunkedScan
 pub mod ChunkedRfc
 pub mod ChunkedLaws
 pub mod Laws
--- Private: what the functions behind these promise one another.
+-- Private: what the private functions promise one another.
 pub mod ChunkedPlace
 pub mod Steps
 pub mod ChunkedStretch

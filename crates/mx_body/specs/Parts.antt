@@ -1,8 +1,8 @@
--- Where the data of a body stand.
+-- Where the data of a body are.
 use Rattle.std.specs.Prelude.{ℕ, ◌<◌, ◌≤◌, List, [], ◌∷◌, flat_map, slice_range}
 use Rattle.mx_body.specs.declared.part.Part.{Part}
 
--- parts that lie in a text of so many bytes at an offset, none empty, each before the next
+-- parts that are in a text of so many bytes at an offset, none empty, each before the next
 abbrev pub AreOrdered : ℕ → ℕ → List Part → Type 0
 AreOrdered from to [] = from ≤ to
 AreOrdered from to (p ∷ parts) = (from ≤ p.start) × (p.start < p.end) × AreOrdered p.end to parts

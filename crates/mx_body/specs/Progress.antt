@@ -26,7 +26,7 @@ status_read (phase.Chunks head at) = head.status
 abbrev pub place_at : Summary → ℕ → Option Part
 place_at head at = option_map (λ s. record { start = (at - head.len) + s.start; end = (at - head.len) + s.end }) head.location
 
--- where the location of the final head stands, as far as that was read
+-- where the location of the final head is, as far as that was read
 abbrev pub location_read : Phase → Option Part
 location_read (phase.Heads passed) = None
 location_read (phase.Body head at) = place_at head at

@@ -14,7 +14,7 @@ use Rattle.mx_body.specs.Chunked.{IsChunked}
 abbrev pub IsInterimStatus : ℕ → Type 0
 IsInterimStatus status = (100 ≤ status) × (status < 200)
 
--- A head that is passed over. One of status 101 would leave HTTP (RFC 9110, section 15.2.2) and isn't.
+-- A head that is passed. One of status 101 would leave HTTP (RFC 9110, section 15.2.2) and isn't passed.
 pub record IsInterim (h : ResponseHead) : Type 0 where
   pub head : IsHead h
   pub status : IsInterimStatus (status_code h)
@@ -30,7 +30,7 @@ pub record IsFinal (h : ResponseHead) : Type 0 where
   pub head : IsHead h
   pub status : ¬ (IsInterimStatus (status_code h))
 
--- the bytes of heads, one behind the other
+-- the bytes of heads, one after the other
 abbrev pub print_heads : List ResponseHead → List ℕ
 print_heads hs = flat_map print_response hs
 
@@ -46,8 +46,8 @@ StandsAtBody bytes hs h rest = IsFinal h × StandsAtHead bytes hs (print_respons
 abbrev pub one_part : ℕ → ℕ → List Part
 one_part at n = if n == 0 then [] else record { start = at; end = at + n } ∷ []
 
--- Body is a message body of that framing with this content (RFC 9112, section 6.3). The content stands
--- at these parts, once the body begins at the offset `at`.
+-- Body is a message body of that framing with this content (RFC 9112, section 6.3). The content is at these parts, once the body begins at
+-- the offset `at`.
 abbrev pub IsBody : Framing → Bool → ℕ → List ℕ → List Part → List ℕ → Type 0
 IsBody Empty ended at body parts content = (body ≡ []) × (parts ≡ []) × (content ≡ [])
 IsBody (Counted n) ended at body parts content =
@@ -69,7 +69,7 @@ pub record Response : Type 0 where
 abbrev pub heads_of : Response → List ℕ
 heads_of r = print_heads r.interim ++ print_response r.head
 
--- bytes are the whole response r to that method; `ended` tells that the input ends with them
+-- bytes are the whole response r to that method; `ended` says that the input ends with them
 pub record IsResponse (m : Method) (bytes : List ℕ) (ended : Bool) (r : Response) : Type 0 where
   pub stands : StandsAtBody bytes r.interim r.head r.body
   pub fits : length bytes ≤ most_bytes

@@ -1,4 +1,4 @@
--- What the private functions behind `decode_whole` promise one another.
+-- What the private functions of `decode_whole` promise one another.
 use Rattle.std.specs.Prelude.{◌≡◌, ℕ, ◌+◌, ◌≤◌, Bool, List, ◌++◌, length}
 use Rattle.httparse.specs.Grammar.{ResponseHead, print_response}
 use Rattle.mx_types.specs.declared.method.Method.{Method}
@@ -17,7 +17,7 @@ use Rattle.mx_body.specs.Response.{print_heads, StandsAtHead, StandsAtBody, one_
 use Rattle.mx_body.specs.Causes.{cause_code, cause_line, Meets}
 use Rattle.mx_body.specs.Decision.{HasFinalHead, IsUndecided}
 
--- behind as many interim heads as have passed, the next head begins at `start`
+-- after as many interim heads as have passed, the next head begins at `start`
 pub record IsBehind (text : List ℕ) (start passed : ℕ) : Type 0 where
   pub interim : List ResponseHead
   pub rest : List ℕ
@@ -51,13 +51,13 @@ abbrev pub IsNextOn : List ℕ → ℕ → Next → Type 0
 IsNextOn text passed (next.Passed end) = IsBehind text end (passed + 1)
 IsNextOn text passed (next.Decided step) = IsFinalStepOn text step
 
--- the verdict of a whole response whose body is the n bytes behind `at`
+-- the verdict of a whole response whose body is the n bytes from `at` on
 abbrev pub IsWholeAt : ℕ → ℕ → ℕ → Bool → Verdict → Type 0
 IsWholeAt status at n keep (verdict.Complete s len parts k) =
     (s ≡ status) × (len ≡ at + n) × (parts.items ≡ one_part at n) × (k ≡ keep)
 IsWholeAt status at n keep verdict.More = ⊥
 IsWholeAt status at n keep (verdict.Fault code) = ⊥
 
--- a body of which more is to come, behind the final head
+-- a body of which more is to come, after the final head
 abbrev pub IsShortBody : Method → List ℕ → Bool → Type 0
 IsShortBody m input ended = IsUndecided m input ended × HasFinalHead input

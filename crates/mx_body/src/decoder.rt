@@ -15,7 +15,7 @@ use mx_types::{Code, Method, OutOfMemory};
 use std::alloc::Global;
 use std::marker::Model;
 
-/// What the bytes that were fed come to.
+/// The state of the bytes that were fed.
 #[derive(Clone, Copy, PartialEq, Eq)]
 pub enum Stand {
     /// Nothing is decided yet.
@@ -60,7 +60,7 @@ impl Model for Decoder {
         × IsProgressing d.method d.wire.items d.progress d.verdict };
 }
 
-// What a verdict comes to.
+// The state of a verdict.
 fn stand_of(verdict: &Verdict) -> Stand
     ensures { result ≡ spec.stand_of verdict.now }
 {
@@ -87,7 +87,7 @@ impl Decoder {
         }
     }
 
-    /// What the bytes fed so far come to.
+    /// The state of the bytes fed so far.
     pub fn stand(&self) -> Stand
         ensures stand { result ≡ spec.stand_of self.now.verdict }
         ensures exact { IsExact self.now }
@@ -99,7 +99,7 @@ impl Decoder {
     /// Takes the next bytes of the response. Once the decoder has decided they are left alone.
     ///
     /// `OutOfMemory` leaves the decoder as it was, and never comes where the piece is empty.
-    /// It may come in place of a fault that stands later in the piece.
+    /// It may come in place of a fault later in the piece.
     #[tactic(auto, using(crate::proofs::DecoderLemmas::code_is, crate::proofs::DecoderLemmas::ended_is))]
     pub fn feed(&mut self, piece: &[u8]) -> Result<Stand, OutOfMemory>
         ensures over { self.old.verdict ≢ verdict.More → (self.new ≡ self.old) × (result ≡ Ok (spec.stand_of self.old.verdict)) }
@@ -142,7 +142,7 @@ impl Decoder {
         }
     }
 
-    /// Takes it that the bytes have ended. Once the decoder has decided it makes no difference.
+    /// Notes that the bytes have ended. Once the decoder has decided it makes no difference.
     ///
     /// `OutOfMemory` leaves the decoder as it was.
     #[tactic(auto, using(crate::proofs::DecoderLemmas::code_is, crate::proofs::DecoderLemmas::ended_is))]
@@ -194,7 +194,7 @@ impl Decoder {
     }
 
     // rule redirect-interim-location
-    /// Where in the bytes fed the value of the first Location line of the final head stands (RFC 9110, section 10.2.2); `None` where
+    /// Where in the bytes fed the value of the first Location line of the final head is (RFC 9110, section 10.2.2); `None` where
     /// that is empty, or there is no such line, or no final head. It takes no memory.
     pub fn location(&self) -> Option<Part>
         ensures place { HasLocation self.now.wire result }
@@ -218,7 +218,7 @@ impl Decoder {
         self.verdict.keep()
     }
 
-    /// Where the data of the body stand in the bytes fed; none where there is no whole response.
+    /// Where the data of the body are in the bytes fed; none where there is no whole response.
     pub fn parts(&self) -> &[Part]
         ensures { result.now ≡ spec.parts_of self.now.verdict }
     {
@@ -232,7 +232,7 @@ impl Decoder {
         self.wire
     }
 
-    /// The bytes fed and where the data of the body stand in them, by move. There are no parts where there is no
+    /// The bytes fed and where the data of the body are in them, by move. There are no parts where there is no
     /// whole response.
     #[tactic(auto, using(crate::proofs::DecoderLemmas::parts_within))]
     pub fn into_parts(self) -> (Vec<u8>, Vec<Part>)

@@ -1,4 +1,4 @@
-//! The final head of a response, behind its interim heads.
+//! The final head of a response, after its interim heads.
 
 ghost use Rattle.std.specs.Prelude.{◌≡◌, ◌+◌, ◌↔◌, IsTrue, [], length, slice_range};
 ghost use Rattle.mx_head.specs.Reading.{IsStepOn};
@@ -12,7 +12,7 @@ use mx_types::Code;
 /// The status that would leave HTTP: no head with it is passed over (RFC 9110, section 15.2.2).
 const SWITCHING_PROTOCOLS: u16 = 101;
 
-/// What the heads at the front of the bytes come to.
+/// The result of the heads at the front of the bytes.
 #[derive(Clone, Copy)]
 pub(crate) enum FinalStep {
     /// The final head, and where it ends in the bytes.
@@ -23,7 +23,7 @@ pub(crate) enum FinalStep {
     Fault(Code),
 }
 
-/// What one head of them comes to.
+/// The result of one head.
 #[derive(Clone, Copy)]
 enum Next {
     /// An interim head that is passed over, and where it ends.
@@ -38,7 +38,7 @@ fn is_interim(status: u16) -> bool
 }
 
 // rule body-interim-heads
-/// What the head at `start` comes to by that answer, behind as many interim heads as have passed.
+/// The result of the head at `start` by that answer, after as many interim heads as have passed.
 fn next_by(text: &[u8], start: usize, passed: usize, step: HeadStep) -> Next
     requires behind { IsBehind text.now start passed }
     requires step { IsStepOn (slice_range text.now start (length text.now)) step }
@@ -61,7 +61,7 @@ fn next_by(text: &[u8], start: usize, passed: usize, step: HeadStep) -> Next
     }
 }
 
-/// What the head at `start` comes to, behind as many interim heads as have passed.
+/// The result of the head at `start`, after as many interim heads as have passed.
 fn next_head(text: &[u8], start: usize, passed: usize) -> Next
     requires { IsBehind text.now start passed }
     ensures { IsNextOn text.now passed result }
@@ -103,7 +103,7 @@ impl Passed {
     }
 }
 
-/// What the next head comes to, of which some bytes were scanned before.
+/// The result of the next head, of which some bytes were scanned before.
 fn next_head_on(text: &[u8], passed: &mut Passed) -> Next
     requires { HavePassed text.now passed.old }
     ensures next { IsNextOn text.now passed.new.count result }
@@ -114,7 +114,7 @@ fn next_head_on(text: &[u8], passed: &mut Passed) -> Next
     next_by(text, passed.start, passed.count, step)
 }
 
-/// What the heads behind those that have passed come to. Whole interim heads pass.
+/// The result of the heads after those that have passed. Complete interim heads pass.
 pub(crate) fn final_head_from(text: &[u8], passed: &mut Passed) -> FinalStep
     requires { HavePassed text.now passed.old }
     ensures step { IsFinalStepOn text.now result }
@@ -128,7 +128,7 @@ pub(crate) fn final_head_from(text: &[u8], passed: &mut Passed) -> FinalStep
     }
 }
 
-/// What the heads at the front of the bytes come to.
+/// The result of the heads at the front of the bytes.
 pub(crate) fn final_head(text: &[u8]) -> FinalStep
     ensures { IsFinalStepOn text.now result }
 {

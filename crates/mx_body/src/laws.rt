@@ -6,7 +6,7 @@ ghost use Rattle.mx_head.specs.Laws.{HasOneCodePerLine, ShortestComesFirst, Firs
 ghost use Rattle.mx_body.specs.Causes.{cause_code, cause_line, Meets};
 ghost use Rattle.mx_body.specs.Laws.{HasOneVerdict, HasOneResponse, HasOneStatus, HasOneLocation, CompleteHasStatus, FaultStaysSame, FaultIsHopeless, CompleteStaysSame, ResponseStaysSame, ResponsesArePrefixFree, ResponseMeetsNothing, CompleteHasContent};
 
-/// An input has one verdict: it begins with one response at most, and no two verdicts hold of it.
+/// An input has one verdict: it begins with one response at most, and no two verdicts hold for it.
 pub fn one_verdict()
     ensures verdict { HasOneVerdict }
     ensures response { HasOneResponse }
@@ -18,7 +18,7 @@ pub fn one_status()
     ensures complete { CompleteHasStatus }
 {}
 
-/// An input tells of one location at most.
+/// An input has one location at most.
 pub fn one_location()
     ensures { HasOneLocation }
 {}
@@ -46,8 +46,7 @@ pub fn first_fault_is_shortest()
     ensures has_shortest { (m : Method) → FirstHasShortest cause_code cause_line (Meets m) }
 {}
 
-/// The parts of a complete response are not empty and stand in order within it. What stands at them, joined,
-/// is its content.
+/// The parts of a complete response are not empty and are in order within it. Their bytes, joined, are its content.
 pub fn parts_are_content()
     ensures { CompleteHasContent }
 {}

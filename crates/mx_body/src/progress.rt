@@ -25,7 +25,7 @@ use mx_types::{Code, Method, OutOfMemory};
 use std::alloc::Global;
 use std::mem;
 
-/// Where the bytes of an exchange have led, while they decide nothing.
+/// The place in an exchange, while nothing is decided.
 #[derive(Clone, Copy)]
 pub(crate) enum Phase {
     /// In a head.
@@ -56,7 +56,7 @@ impl Progress {
         }
     }
 
-    /// How many bytes there will be in all, where the final head tells it and they aren't too many; else 0.
+    /// How many bytes there will be in all, where the final head says so and they aren't too many; else 0.
     pub(crate) fn told_bytes(&self, method: Method) -> usize
         ensures { result ≤ most_bytes }
     {
@@ -87,7 +87,7 @@ impl Progress {
         }
     }
 
-    /// Where the location of the final head stands.
+    /// Where the location of the final head is.
     pub(crate) fn location(&self, wire: &[u8]) -> Option<Part>
         requires { KnowsHead wire.now self.now.phase }
         ensures { result ≡ location_read self.now.phase }
@@ -100,7 +100,7 @@ impl Progress {
     }
 }
 
-/// Where the location of a head stands that ends at `at`.
+/// Where the location of a head is that ends at `at`.
 fn place_of(head: &Head, at: usize, wire: &[u8]) -> Option<Part>
     requires { HasHeadAt wire.now head.now at }
     ensures { result ≡ place_at head.now at }
@@ -181,8 +181,8 @@ fn begin_body(
     }
 }
 
-/// Whether all bytes behind the first so many are data of the chunk that is being read, and not its last; then they are
-/// passed over, and nothing is decided. Else nothing changes.
+/// Whether all bytes after the first so many are data of the chunk that is being read, without its end; then they are passed, and nothing
+/// is decided. Else nothing changes.
 pub(crate) fn pass_data(method: Method, wire: &[u8], before: usize, progress: &mut Progress) -> bool
     requires within { before ≤ length wire.now }
     requires progress { IsProgress method (take before wire.now) progress.old }

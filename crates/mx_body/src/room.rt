@@ -6,15 +6,14 @@ ghost use Rattle.mx_head.specs.Limits.{most_bytes};
 use crate::limits::MOST_BYTES;
 use mx_types::OutOfMemory;
 
-/// From so much room on a body whose length wasn't told gets all that a response may need: room that isn't touched costs
-/// address space alone.
+/// From this much room on, a body of unknown length gets all that a response may need: room that isn't touched costs address space alone.
 const LARGE: usize = 1_048_576;
 
-/// How many bytes are copied at a time to memory of their own. Longer pieces the C library copies by a repeated move, which is no quicker
+/// How many bytes are copied at a time to memory of their own. The C library copies longer pieces by a repeated move, which isn't faster
 /// and counts as an instruction a byte.
 const PIECE: usize = 2_048;
 
-/// How much room is best, where there has to be more than there is.
+/// The best size of the room, where there has to be more than there is.
 fn best_room(room: usize, told: usize) -> usize
     ensures { result ≤ max told (most_bytes + 1) }
 {
@@ -27,7 +26,7 @@ fn best_room(room: usize, told: usize) -> usize
     }
 }
 
-/// Copies bytes behind those that are there, a piece at a time.
+/// Copies bytes to the end of those that are there, a piece at a time.
 fn copy(bytes: &[u8], to: &mut Vec<u8>) -> Result<(), OutOfMemory>
     ensures { OnOk result (to.new.items ≡ to.old.items ++ bytes.now) }
 {
@@ -40,8 +39,8 @@ fn copy(bytes: &[u8], to: &mut Vec<u8>) -> Result<(), OutOfMemory>
     Ok(())
 }
 
-/// Moves the bytes to memory of their own, with room for `more` behind them. Large pages, where the system gives them, are for
-/// memory that is asked for at once, and not for memory that grew to its size. A refusal leaves the bytes where they are.
+/// Moves the bytes to memory of their own, with room for `more` after them. The system gives large pages to memory that is allocated at
+/// once, not to memory that grew. A refusal leaves the bytes where they are.
 fn move_to_room(wire: &mut Vec<u8>, more: usize) -> Result<(), OutOfMemory>
     ensures items { wire.new.items ≡ wire.old.items }
     ensures room { OnOk result (vec_capacity wire.new ≡ vec_len wire.old + more) }
@@ -52,7 +51,7 @@ fn move_to_room(wire: &mut Vec<u8>, more: usize) -> Result<(), OutOfMemory>
     };
     let mut moved = Vec::with_capacity(*wire.allocator(), room)?;
     copy(wire, &mut moved)?;
-    // There was room, so that it is as it was asked for; no clause of the library says so.
+    // The copy fitted, so the capacity is as asked for; no clause of the library says so.
     if moved.capacity() != room {
         return Err(OutOfMemory);
     }
@@ -74,11 +73,11 @@ fn add_room(wire: &mut Vec<u8>, more: usize, elsewhere: bool) -> Result<(), OutO
     Ok(())
 }
 
-/// Makes room for `more` bytes behind those that are there. `told` is how many there will be in all, where a
-/// head tells it, and else 0. A refusal leaves the bytes as they were.
+/// Makes room for `more` bytes after those that are there. `told` is how many there will be in all, where a head says so, else 0. A refusal
+/// leaves the bytes as they were.
 ///
-/// What was told is reserved at once. Else the room doubles, up to a mebibyte, and then is one byte more than a response may
-/// have. Where that is refused, the bytes that are needed are asked for alone.
+/// A length that is known is reserved at once. Else the room doubles, up to a mebibyte, and then is one byte more than a response may have.
+/// Where that is refused, only the needed bytes are asked for.
 pub(crate) fn make_room(wire: &mut Vec<u8>, more: usize, told: usize) -> Result<(), OutOfMemory>
     ensures items { wire.new.items ≡ wire.old.items }
     ensures room { OnOk result (vec_len wire.new + more ≤ vec_capacity wire.new) }

@@ -14,7 +14,7 @@ pub enum Verdict {
         status: u16,
         /// Where the response ends in the input.
         len: u32,
-        /// Where the data of its body stand in the input, in order; none is empty.
+        /// Where the data of its body are in the input, in order; none is empty.
         parts: Vec<Part>,
         /// Whether the connection may serve another request (RFC 9112, section 9.3).
         keep: bool,
@@ -48,7 +48,7 @@ impl Verdict {
         }
     }
 
-    /// Where the data of the body stand; none where there is no whole response.
+    /// Where the data of the body are; none where there is no whole response.
     pub fn parts(&self) -> &[Part]
         ensures { result.now ≡ spec.parts_of self.now }
     {

@@ -70,8 +70,8 @@ pub(crate) fn decode_short(method: Method, input: &[u8], ended: bool) -> Verdict
     }
 }
 
-/// The verdict where a chunked body begins at `at`, behind the final head. It is scanned before memory is
-/// taken for its parts, so that a want of memory comes only in place of `Complete`.
+/// The verdict where a chunked body begins at `at`, after the final head. It is scanned before memory is
+/// taken for its parts, so memory is refused only in place of `Complete`.
 fn decode_chunked(
     alloc: Global,
     method: Method,
@@ -112,7 +112,7 @@ fn is_too_large(n: u64, at: usize) -> bool
     n > (MOST_BYTES - at) as u64
 }
 
-/// Whether so many bytes of a body are among those left behind its head.
+/// Whether so many bytes of a body are among those after its head.
 fn is_there(n: u64, left: usize) -> bool
     ensures there { result ≡ true → n ≤ left }
     ensures lacking { result ≡ false → left < n }
@@ -198,7 +198,7 @@ pub(crate) fn decode_no_head(method: Method, input: &[u8], ended: bool) -> Verdi
 /// - `BadContentEncoding`: a transfer coding other than one `chunked`;
 /// - `FilesizeExceeded`: a Content-Length with which the response is too large, or a chunk's size over
 ///   67,108,864;
-/// - `RecvError`: a byte in a chunked body that can't stand at its place.
+/// - `RecvError`: a byte in a chunked body that isn't allowed at its place.
 ///
 /// Where none of these comes, an input of more than 67,108,864 bytes is `FilesizeExceeded`, and one that
 /// hasn't ended is `More`. One that has ended is `GotNothing` without a byte, `WeirdServerReply` in or before

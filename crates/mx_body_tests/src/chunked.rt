@@ -32,7 +32,7 @@ pub(crate) fn is_bad_at_last(bytes: &[u8]) -> bool {
     is_scanned(before, LIMIT, ChunkedScan::Short) && is_scanned(bytes, LIMIT, ChunkedScan::Bad)
 }
 
-/// Whether a size is too large with the digit of that number and each behind it, and with none before.
+/// Whether a size is too large with the digit of that number and each after it, and with none before.
 pub(crate) fn is_too_large_from(digits: &[u8], digit: usize) -> bool {
     for len in 1..=digits.len() {
         let scan = if len < digit {
@@ -61,7 +61,7 @@ pub(crate) fn has_parts(alloc: Global, bytes: &[u8], at: u32, told: &[(u32, u32)
     }
 }
 
-/// Calls the laws, whose contracts say it all.
+/// Calls the laws: their contracts are the test.
 pub(crate) fn call_laws() {
     laws::chunked_is_one();
     laws::parts_are_data();
@@ -151,7 +151,7 @@ static BODIES: [Row; 20] = [
         Seen::Scan(LIMIT, ChunkedScan::Whole { len: 65_543 }),
     ),
     // rule body-parts
-    // where the data stand
+    // where the data are
     (
         "part_of_a_chunk",
         Of(b"5;x=y\r\nhello\r\n0\r\nA: b\r\n\r\n"),

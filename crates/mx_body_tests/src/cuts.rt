@@ -1,4 +1,5 @@
-//! Heads, and responses behind an interim head, in pieces: a decoder says at each what the plain programs say of the same bytes.
+//! Heads, and responses after an interim head, in pieces: after each piece a decoder says what the executable definitions say of the same
+//! bytes.
 
 use crate::heads::front;
 use crate::pieces::{agrees, decoder, feed};
@@ -62,7 +63,7 @@ fn is_known_in_time(alloc: Global, before: &[u8], head: &[u8]) -> bool {
         && says_of(&decoder, front(head, fed))
 }
 
-/// Whether it is known so at the front, and behind an interim head.
+/// Whether it is known so at the front, and after an interim head.
 pub(crate) fn is_known_anywhere(alloc: Global, head: &[u8]) -> bool {
     is_known_in_time(alloc, b"", head) && is_known_in_time(alloc, INTERIM, head)
 }

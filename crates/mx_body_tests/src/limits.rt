@@ -22,7 +22,7 @@ const ONE_BYTE_MORE: Response = Response {
     ..LARGE
 };
 
-/// What a response at a limit comes to.
+/// The result of a response at a limit.
 #[derive(Clone, Copy)]
 pub(crate) enum Told {
     /// A body of all its bytes, where they end there.
@@ -33,7 +33,7 @@ pub(crate) enum Told {
     OneByteMore,
 }
 
-/// Whether it comes to that, before its end and with it.
+/// Whether it has that result, before its end and with it.
 pub(crate) fn is_told_anyhow(alloc: Global, told: Told, bytes: &[u8]) -> bool {
     let row = match told {
         Told::Open => OPEN_BODY,
@@ -56,7 +56,7 @@ static LIMITS: [Row; 4] = [
         Filled(b"HTTP/1.0 200 OK\r\n\r\n", MOST_BYTES + 1),
         Seen::Told(Told::OneByteMore),
     ),
-    // the greatest size, which can't fit behind a head
+    // the greatest size, which can't fit after a head
     (
         "chunk_at_the_limit",
         Filled(

@@ -8,10 +8,10 @@ use mx_head::{HeadStep, read_head};
 use mx_types::Method;
 use std::alloc::Global;
 
-/// Where something stands: its first offset, and that behind it.
+/// A place: its first offset, and that after its end.
 type Place = (usize, usize);
 
-/// Where the location of the head at the front stands in it; `None` where there is no head, too.
+/// Where the location of the head at the front is in it; `None` where there is no head, too.
 fn place_in_head(input: &[u8]) -> Option<Place> {
     match read_head(input) {
         HeadStep::Head(head) => {

@@ -1,6 +1,6 @@
 //! Responses fed in pieces.
 //!
-//! Each call stands in a function of its own with no contract, which keeps the proof of the tests short.
+//! Each call is in a function of its own with no contract, which keeps the proof of the tests short.
 
 use crate::row::Bytes::{Of, Often};
 use crate::row::{Bytes, Row, Seen, bytes_of};
@@ -9,7 +9,7 @@ use mx_responses::bytes::CHUNKED;
 use mx_types::{Code, Method};
 use std::alloc::{AllocError, Global};
 
-/// What can be read of a decoder, and what its bytes come to.
+/// What can be read of a decoder, and the state of its bytes.
 #[derive(Clone, Copy, PartialEq, Eq)]
 pub(crate) struct Reading {
     stand: Stand,
@@ -30,12 +30,12 @@ pub(crate) fn read(decoder: &Decoder) -> Reading {
     }
 }
 
-/// `None` for want of memory.
+/// `None` where memory is refused.
 pub(crate) fn feed(decoder: &mut Decoder, piece: &[u8]) -> Option<Stand> {
     decoder.feed(piece).ok()
 }
 
-/// `None` for want of memory.
+/// `None` where memory is refused.
 pub(crate) fn end(decoder: &mut Decoder) -> Option<Stand> {
     decoder.end().ok()
 }
@@ -59,7 +59,7 @@ fn wire_of(decoder: Decoder) -> Vec<u8> {
     decoder.into_wire()
 }
 
-/// Feeds the bytes in pieces of that length; the last may be shorter. The last answer, `None` for want of memory.
+/// Feeds the bytes in pieces of that length; the last may be shorter. Returns the last answer; `None` where memory is refused.
 fn feed_pieces(decoder: &mut Decoder, bytes: &[u8], len: usize) -> Option<Stand> {
     let mut stand = Some(decoder.stand());
     for piece in bytes.chunks(len.max(1)) {
@@ -115,7 +115,7 @@ pub(crate) fn has_all_chunks(alloc: Global, bytes: &[u8], len: usize) -> bool {
     is_taken && wire.as_slice() == bytes && are_many_parts(&parts)
 }
 
-/// Whether the decoder says what the plain program says of the same bytes; not where that one is out of memory.
+/// Whether the decoder says what `decode_whole` says of the same bytes; false where that is out of memory.
 pub(crate) fn agrees(
     decoder: &Decoder,
     method: Method,
@@ -224,7 +224,7 @@ static PIECES: [Row; 6] = [
         MANY_CHUNKS,
         Seen::ManyChunks(600_052),
     ),
-    // a head of 65,536 bytes, of which 28 stand before the value and 4 behind it
+    // a head of 65,536 bytes, of which 28 are before the value and 4 after it
     (
         "longest_head_behind_an_interim_head",
         Often(LONG_FRONT, b"a", 65_504, b"\r\n\r\n"),
@@ -261,7 +261,7 @@ static SCRIPTS: [Script; 3] = [
         Some(72),
         None,
     ),
-    // a head of 43 bytes; room for a told length is taken at once
+    // a head of 43 bytes; room for a known length is taken at once
     (
         "room_for_a_length",
         &[
@@ -328,7 +328,7 @@ fn has_room(decoder: Decoder, len: Option<usize>, room: Option<usize>) -> bool {
     }
 }
 
-/// Whether a script goes as it is to.
+/// Whether a script goes as it should.
 fn goes(alloc: Global, script: &Script) -> Result<bool, AllocError> {
     let mut decoder = decoder(alloc, Method::Get);
     let is_right = feed_script(alloc, &mut decoder, script.1)?;

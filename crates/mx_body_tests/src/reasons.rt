@@ -1,4 +1,4 @@
-//! Why bytes are no whole response, and where that is decided.
+//! Why bytes aren't a whole response, and where that is decided.
 
 use crate::row::Bytes::{Chunks, Of, Often};
 use crate::row::{Row, Seen};
@@ -10,7 +10,7 @@ fn reason(alloc: Global, wire: &[u8]) -> Option<Reason> {
     reason_of(alloc, Method::Get, wire)
 }
 
-/// Whether that stands wrong in these bytes, as is decided with so many.
+/// Whether that is wrong in these bytes, as is decided with so many.
 pub(crate) fn is_fault(alloc: Global, wire: &[u8], at: usize, fault: Fault) -> bool {
     let what = What::Fault(fault);
     reason(alloc, wire) == Some(Reason { at, what })

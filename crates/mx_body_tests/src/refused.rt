@@ -1,5 +1,5 @@
-//! Calls that may be refused memory. One that was is made again, and has then to answer as if it had been the first; only then does its test
-//! fail, by a text of its own. What a test needs for itself is refused as any allocation is. Without a refusal all of them pass.
+//! Calls that may be refused memory. One that was is made again, and has then to answer as if it had been the first; only then does its
+//! test fail, by a text of its own. What a test needs for itself is refused as any allocation is. Without a refusal all of them pass.
 
 use crate::pieces::{decoder, has_many_chunks, read};
 use crate::told::{is_verdict, says};
@@ -22,7 +22,7 @@ fn end_with(is_refused: bool) -> Result<(), Fail> {
     Ok(())
 }
 
-// Decodes a response as a whole, again where memory was refused: whether it was, and whether the verdict is what is told.
+// Decodes a response as a whole, again where memory was refused: whether it was, and whether the verdict is as expected.
 fn decode(alloc: Global, row: &Response, bytes: &[u8]) -> (bool, bool) {
     let first = decode_whole(alloc, row.method, bytes, true);
     if first.is_ok() {
@@ -84,7 +84,7 @@ fn make_again(decoder: &mut Decoder, call: Call<'_>) -> (Result<Stand, OutOfMemo
     }
 }
 
-// Feeds the bytes in pieces of that length, and then the end: whether memory was refused, and whether the decoder says what is told.
+// Feeds the bytes in pieces of that length, and then the end: whether memory was refused, and whether the decoder says what its row says.
 fn feed_all(decoder: &mut Decoder, row: &Response, bytes: &[u8], len: usize) -> (bool, bool) {
     let mut is_refused = false;
     for piece in bytes.chunks(len.max(1)) {
@@ -113,7 +113,7 @@ fn feed_new(alloc: Global, row: &Response, bytes: &[u8]) -> (bool, bool) {
     (is_refused, true)
 }
 
-// Feeds these responses so: whether memory was refused, and the name of the first of which something else is said.
+// Feeds these responses so: whether memory was refused, and the name of the first with another answer.
 fn feed_rows(alloc: Global, rows: &[Response]) -> Result<(bool, Option<&'static str>), AllocError> {
     let mut is_refused = false;
     for row in rows {

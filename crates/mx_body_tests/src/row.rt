@@ -33,7 +33,7 @@ pub(crate) enum Bytes {
 pub(crate) enum Seen {
     /// A head of this length, status and minor version.
     Head(usize, u16, u8),
-    /// More is wanted where so many of them are read as a head.
+    /// More bytes are needed where so many of them are read as a head.
     Wants(usize),
     /// So many of them are refused as a head.
     Refuses(usize, Code),
@@ -57,7 +57,7 @@ pub(crate) enum Seen {
     Told(Told),
     /// What a scan for a chunked body with that limit finds.
     Scan(u32, ChunkedScan),
-    /// They are a chunked body, and no front of them is.
+    /// They are a chunked body, and no proper prefix of them is.
     Waits,
     /// The last of them is the first that no chunked body has.
     BadAtLast,

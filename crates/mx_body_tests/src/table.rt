@@ -4,7 +4,7 @@ use crate::row::{Row, first_wrong};
 use crate::{chunked, heads, limits, locations, pieces, reasons};
 use std::test::Fail;
 
-/// All rows, by what they are about. Whoever names a long table pays for its rows, so each part of it is named in one function.
+/// All rows, by what they are about. Naming a long table makes a proof longer by its rows, so each part of it is named in one function.
 fn table() -> [&'static [Row]; 13] {
     [
         heads::heads(),

@@ -1,4 +1,4 @@
-//! The responses of the table, whole and cut anywhere: each is decided with the byte that decides it, and comes to what it is to.
+//! The responses of the table, whole and cut anywhere: each is decided with the byte that decides it, and has its expected result.
 
 use crate::heads::front;
 use crate::pieces::{decoder, end, feed, read};
@@ -38,7 +38,7 @@ pub(crate) fn are_parts(parts: &[Part], told: &[(u32, u32)]) -> bool {
     true
 }
 
-/// Whether the plain program's verdict on so many bytes of a row, or on these and their end, is so.
+/// Whether the verdict of `decode_whole` on so many bytes of a row, or on these and their end, is so.
 pub(crate) fn is_verdict(
     verdict: &Result<Verdict, OutOfMemory>,
     row: &Response,
@@ -100,12 +100,12 @@ pub(crate) fn says(decoder: &Decoder, row: &Response, len: usize, ended: bool) -
     }
 }
 
-/// Feeds a piece that ends at that length of a row: whether the decoder then says what is told of so many bytes.
+/// Feeds a piece that ends at that length of a row: whether the decoder then says what the row says of so many bytes.
 fn takes(decoder: &mut Decoder, row: &Response, piece: &[u8], len: usize) -> bool {
     feed(decoder, piece).is_some() && says(decoder, row, len, false)
 }
 
-/// Feeds a row in three pieces, of which the first two end there, and the end: whether the decoder says at each what is told.
+/// Feeds a row in three pieces, of which the first two end there, and the end: whether the decoder says after each what the row says.
 fn takes_three(
     decoder: &mut Decoder,
     row: &Response,
@@ -131,7 +131,7 @@ fn is_taken(alloc: Global, row: &Response, bytes: &[u8], first: usize, second: u
 /// A response of more bytes is cut in two, and not in three.
 const CUT_IN_THREE: usize = 120;
 
-/// Whether decoders do so where the row is cut there, and anywhere behind it.
+/// Whether decoders do so where the row is cut there, and anywhere after it.
 fn is_taken_behind(alloc: Global, row: &Response, bytes: &[u8], first: usize) -> bool {
     let nearest = if bytes.len() > CUT_IN_THREE {
         bytes.len()
@@ -156,7 +156,7 @@ pub(crate) fn is_taken_anyhow(alloc: Global, row: &Response, bytes: &[u8]) -> bo
     true
 }
 
-/// Feeds a row one byte at a time, and the end: whether the decoder says at each what is told.
+/// Feeds a row one byte at a time, and the end: whether the decoder says after each what the row says.
 fn takes_ones(decoder: &mut Decoder, row: &Response, bytes: &[u8]) -> bool {
     for at in 0..bytes.len() {
         if !takes(decoder, row, &bytes[at..at + 1], at + 1) {
@@ -166,7 +166,7 @@ fn takes_ones(decoder: &mut Decoder, row: &Response, bytes: &[u8]) -> bool {
     end(decoder).is_some() && says(decoder, row, bytes.len(), true)
 }
 
-/// Feeds bytes behind what is decided, and the end: whether the decoder stays as it was.
+/// Feeds bytes after the decision, and the end: whether the decoder stays as it was.
 fn stays(decoder: &mut Decoder) -> bool {
     let before = read(decoder);
     feed(decoder, b"HTTP").is_some() && end(decoder).is_some() && read(decoder) == before
@@ -178,7 +178,7 @@ fn comes_to(decoder: Decoder, row: &Response, bytes: &[u8]) -> bool {
     wire.as_slice() == bytes && are_parts(&parts, row.parts)
 }
 
-/// Whether a new decoder takes a row so, stays as it was behind it, and has the bytes up to that which decides.
+/// Whether a new decoder takes a row so, stays as it was after it, and has the bytes up to that which decides.
 pub(crate) fn is_taken_in_ones(alloc: Global, row: &Response, bytes: &[u8]) -> bool {
     let mut decoder = decoder(alloc, row.method);
     let is_right = takes_ones(&mut decoder, row, bytes) && stays(&mut decoder);

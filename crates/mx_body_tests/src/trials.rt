@@ -36,7 +36,7 @@ fn passes(alloc: Global, trial: Trial, row: &Response, bytes: &[u8]) -> bool {
     }
 }
 
-/// Trials by what was told of a response, and what they are called.
+/// Trials by the row of a response, and their names.
 static TOLD: [(Trial, &str); 3] = [
     // rule body-to-the-end
     (Trial::Whole, "whole"),
@@ -45,7 +45,7 @@ static TOLD: [(Trial, &str); 3] = [
     (Trial::AByteAtATime, "a byte at a time"),
 ];
 
-/// Trials by a plain program, too.
+/// Trials by an executable definition, too.
 static COMPARED: [(Trial, &str); 4] = [
     // rule head-first-bad-byte
     // rule head-first-cause

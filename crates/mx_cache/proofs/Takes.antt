@@ -6,7 +6,7 @@ use Rattle.std.proofs.Math.Seq.{drop-cons}
 use Rattle.mx_request.specs.Endpoint.{HostAndPort}
 use Rattle.mx_cache.specs.Idle.{HasNone, TakesNewest}
 
--- the link at a place, which is of the endpoint and has none of it behind it
+-- the link at a place, which is of the endpoint and has none of it after it
 pub TakesNewest-at : {L : Type 0} (endpoint : HostAndPort) (links new : List (HostAndPort × L)) (place : ℕ) (pair : HostAndPort × L) → place < length links → ((d : HostAndPort × L) → (get_or links place d).0 ≡ endpoint) → HasNone endpoint (drop (place + 1) links) → pair ≡ get_or links place pair → new ≡ remove links place → TakesNewest endpoint links pair.1 new
 TakesNewest-at {L} endpoint links new place pair within is_of none is_pair is_new =
     let front = take place links in

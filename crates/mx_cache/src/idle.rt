@@ -28,7 +28,7 @@ impl<L> Model for IdleCache<L> {
 }
 
 impl<L: Drop> IdleCache<L> {
-    /// No link yet, and room for `limit` of them. `OutOfMemory` comes where there is no memory for these.
+    /// No link yet, and room for `limit` of them. Returns `OutOfMemory` where memory for these is refused.
     pub fn with_limit(alloc: Global, limit: usize) -> Result<IdleCache<L>, OutOfMemory>
         ensures { IfOk result (λ cache. cache ≡ record { links = []; limit = limit }) }
     {

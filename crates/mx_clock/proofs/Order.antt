@@ -41,7 +41,7 @@ IsInOrder-filter p (d ∷ ds) h =
       | false ↦ IsInOrder-filter p ds h.1
     ]
 
--- what holds of x and of each element holds of each once x stands among them
+-- what holds of x and of each element holds of each once x is among them
 AllByRecursion-insert : {X : Type 0} (P : X → Type 0) (xs : List X) (i : ℕ) (x : X) → P x → AllByRecursion P xs → AllByRecursion P (insert xs i x)
 AllByRecursion-insert P xs zero x h all = (h, all)
 AllByRecursion-insert P [] (suc i) x h all = (h, all)

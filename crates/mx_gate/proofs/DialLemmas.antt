@@ -85,7 +85,7 @@ none_failed (answers.WriteFailed ∷ h) is = absurd (cc)
 pub faults_both : (xs ys : List Answer) (a : Answer) → faults xs ≡ faults ys → faults (xs ++ a ∷ []) ≡ faults (ys ++ a ∷ [])
 faults_both = ready.faults_both
 
--- the link answered so, or a new one that has answered nothing stands in its place
+-- the link answered so, or a new one that has answered nothing is in its place
 pub faults_asked : (h old new : List Answer) (c : Connect) (b : Bool) → b ≡ is_connecting h → faults h ≡ faults old
     → (new ≡ old ++ connect_answer c ∷ []) ⊎ ((b ≡ true) × (c ≡ connect.WouldBlock) × (new ≡ []))
     → faults (h ++ connect_answer c ∷ []) ≡ faults new

@@ -36,7 +36,7 @@ by_front : (front xs : List SocketAddr) → filter is_v4 xs ≡ front
 by_front [] xs is = ap (λ l. slice_get l 0) (sym (all_others xs is))
 by_front (y ∷ ys) xs is = refl
 
--- the address that is chosen stands first
+-- the address that is chosen is first
 pub chosen_first : (xs : List SocketAddr) → chosen xs ≡ slice_get (in_order xs) 0
 chosen_first xs = ap (λ o. option_or o (slice_get xs 0)) (find_first xs) ∙ by_front (filter is_v4 xs) xs refl
 

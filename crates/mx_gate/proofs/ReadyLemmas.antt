@@ -1,4 +1,4 @@
--- One answer more of a link that isn't asked again before something new was told of it.
+-- One answer more of a link that makes no further call before something new was reported of it.
 use Rattle.std.proofs.Common.{◌≡◌, ℕ, ◌+◌, Bool, true, false, List, [], ◌∷◌, ◌++◌, length, refl, ap, sym, ◌∙◌, cond, append-nil, length-append, arith}
 use Rattle.std.specs.Prelude.{if◌then◌else◌}
 use Rattle.std.proofs.lemmas.List.Elements.{filter-append}
@@ -66,7 +66,7 @@ drained_past_write xs ns w b n same so = let is = writes w b in drained_last fal
 pub telling_both : (xs ys : List Answer) (a : Answer) → telling xs ≡ telling ys → telling (xs ++ a ∷ []) ≡ telling (ys ++ a ∷ [])
 telling_both xs ys a same = filter-append is_told xs (a ∷ []) ∙ ap (λ l. l ++ telling (a ∷ [])) same ∙ sym (filter-append is_told ys (a ∷ []))
 
--- an answer of one alone, which tells nothing
+-- an answer of one alone, which gives nothing
 pub telling_one : (xs ys : List Answer) (a : Answer) → is_blocked a ≡ true → telling xs ≡ telling ys → telling (xs ++ a ∷ []) ≡ telling ys
 telling_one xs ys a blocked same =
     let none : telling (a ∷ []) ≡ [] = rw blocked refl in

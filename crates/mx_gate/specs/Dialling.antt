@@ -7,7 +7,7 @@ use Rattle.mx_link.specs.declared.answers.Connect.TheVariants as connect
 use Rattle.mx_link.specs.declared.answers.Answer.{Answer}
 use Rattle.mx_link.specs.declared.answers.Answer.TheVariants as answers
 
--- What contracts see of it: the number under which its readiness is told, what it dialled so far and what is left, both in order, its
+-- What contracts see of it: the number under which its readiness is reported, what it dialled so far and what is left, both in order, its
 -- answers so far, and how many bytes it was asked for at each.
 pub record DialState : Type 0 where
   pub token : ℕ
@@ -25,12 +25,12 @@ abbrev pub is_unmade : Answer → Bool
 is_unmade answers.ConnectBlocked = true
 is_unmade _ = false
 
--- the connection doesn't stand
+-- the connection isn't made
 abbrev pub IsUndone : Connect → Type 0
 IsUndone connect.Done = ⊥
 IsUndone _ = Unit {0}
 
--- nothing was asked but whether the connection stands, and it was still being made each time
+-- nothing was asked but whether the connection is made, and it was still being made each time
 abbrev pub is_connecting : List Answer → Bool
 is_connecting history = list_all is_unmade history
 
@@ -44,6 +44,6 @@ pub record DialsNext (was left is rest : List SocketAddr) : Type 0 where
   pub taken : left ≡ next ++ rest
 
 -- rule gate-dialling
--- nothing was dialled; or nothing but whether the connection stands had been asked, and it doesn't stand yet
+-- nothing was dialled; or nothing but whether the connection is made had been asked, and it isn't made yet
 abbrev pub MayDial : DialState → DialState → Connect → Type 0
 MayDial old new answer = (new.dialled ≡ old.dialled) ⊎ ((is_connecting old.history ≡ true) × IsUndone answer)

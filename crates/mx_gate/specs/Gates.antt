@@ -7,7 +7,7 @@ use Rattle.mx_gate.specs.Said.{Said}
 use Rattle.mx_gate.specs.declared.gate.Turn.{Turn}
 use Rattle.mx_gate.specs.declared.gate.Turn.TheVariants as turn
 
--- The latest moment told, the token of the next link, whether the last turn saw the flag set, what each lookup found, each address that
+-- The latest moment given, the token of the next link, whether the last turn saw the flag set, what each lookup found, each address that
 -- was dialled, and all that was said.
 pub record SocketGateState : Type 0 where
   pub latest : ℕ
@@ -32,7 +32,7 @@ abbrev pub turn_of : Bool → Turn
 turn_of true = turn.Stop
 turn_of false = turn.Continue
 
--- the codes of a gate that can't be had
+-- the codes of a gate that can't be made
 abbrev pub is_start_code : Code → Bool
 is_start_code code.CouldntConnect = true
 is_start_code code.OutOfMemory = true

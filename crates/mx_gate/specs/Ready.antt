@@ -1,4 +1,4 @@
--- A link that isn't asked again before something new was told of it.
+-- A link that makes no further call before something new was reported of it.
 use Rattle.std.specs.Prelude.{◌≡◌, ℕ, ◌<◌, nat_lt, Bool, true, false, List, [], ◌∷◌, ◌++◌, ◌⊎◌, length, if◌then◌else◌}
 use Rattle.std.specs.List.{filter}
 use Rattle.mx_link.specs.Answers.{given, taken, faults, is_blocked, is_read}
@@ -6,7 +6,7 @@ use Rattle.mx_link.specs.declared.answers.Answer.{Answer}
 use Rattle.mx_link.specs.declared.answers.Answer.TheVariants as answers
 
 -- What contracts see of it: the link, its own answers so far, how many bytes it was asked for at each, whether the link would have waited
--- when it was last asked whether it stands, to read, and to write, and whether its last read left nothing to be read.
+-- when it was last asked to connect, to read, and to write, and whether its last read left nothing to be read.
 pub record ReadyState (L : Type 0) : Type 0 where
   pub link : L
   pub history : List Answer
@@ -20,7 +20,7 @@ pub record ReadyState (L : Type 0) : Type 0 where
 abbrev pub is_told : Answer → Bool
 is_told answer = if is_blocked answer then false else true
 
--- the answers that tell something: all but those of calls that would have waited
+-- the answers that say something: all but those of calls that would have waited
 abbrev pub telling : List Answer → List Answer
 telling history = filter is_told history
 
@@ -29,7 +29,7 @@ abbrev pub waits : (Answer → Bool) → Bool → List Answer → Bool
 waits kind so [] = so
 waits kind so (answer ∷ rest) = waits kind (if kind answer then is_blocked answer else so) rest
 
--- rule gate-waiting-link: A link that would have waited makes no system call before its gate was told something new of its connection.
+-- rule gate-waiting-link: A link that would have waited makes no system call before something new is reported of its connection.
 --
 -- The link answered so; or it wasn't asked, as the last it answered to this was that it would have waited, and so is this answer.
 abbrev pub IsAnswered : (Answer → Bool) → List Answer → List Answer → Answer → Type 0
@@ -49,8 +49,8 @@ drained so [] asked = so
 drained so (answer ∷ rest) [] = so
 drained so (answer ∷ rest) (n ∷ more) = drained (if is_read answer then is_short answer n else so) rest more
 
--- rule gate-short-read: After a read that gave fewer bytes than it was asked for, a link isn't asked to read before its gate was told
--- something new of its connection, but for one byte, or where the end was reported.
+-- rule gate-short-read: After a read that gave fewer bytes than it was asked for, a link makes no further read before something new is
+-- reported of its connection, but for one byte, or where the end was reported.
 --
 -- A read was answered so; or it wasn't asked, as the last read was short, and so is this answer. A read of one byte is asked.
 abbrev pub IsReadAnswered : List Answer → List ℕ → List Answer → Answer → ℕ → Type 0
@@ -58,7 +58,7 @@ IsReadAnswered before asked after answer len =
     IsAnswered is_read before after answer
     ⊎ ((after ≡ before) × (is_blocked answer ≡ true) × (drained false before asked ≡ true) × (1 < len))
 
--- where the same answers tell something, the same bytes were given and taken, and as many calls failed
+-- where the same answers say something, the same bytes were given and taken, and as many calls failed
 pub record TellAlike (some others : List Answer) : Type 0 where
   pub given : given some ≡ given others
   pub taken : taken some ≡ taken others

@@ -6,8 +6,8 @@ use Rattle.mx_link.specs.declared.answers.Answer.{Answer}
 use Rattle.mx_types.specs.declared.code.Code.{Code}
 use Rattle.mx_types.specs.declared.code.Code.TheVariants as code
 
--- What is planned for opens, for moments and for whether a link can be opened, how many turns are to answer that the worker goes on, the latest moment told, the last wait
--- asked for, and all that was said.
+-- What is planned for opens, for moments and for whether a link can be opened, how many turns are to answer that the worker goes on, the
+-- latest moment given, the last wait asked for, and all that was said.
 pub record ScriptGateState (L : Type 0) : Type 0 where
   pub openings : List (Result L Code)
   pub moments : List ℕ
@@ -17,12 +17,12 @@ pub record ScriptGateState (L : Type 0) : Type 0 where
   pub last_wait : Option ℕ
   pub said : List Said
 
--- a link that has answered nothing, or the code of one that can't be had
+-- a link that has answered nothing, or the code of one that can't be opened
 abbrev pub IsOpening : {L : Type 0} → (L → List Answer) → Result L Code → Type 0
 IsOpening history (Ok link) = history link ≡ []
 IsOpening history (Err code) = is_link_code code ≡ true
 
--- The answer to an open, and what is planned after it. After the script no connection is had.
+-- The answer to an open, and what is planned after it. After the script no connection can be opened.
 abbrev pub next_opening : {L : Type 0} → List (Result L Code) → Result L Code × List (Result L Code)
 next_opening [] = (Err code.CouldntConnect, [])
 next_opening (opening ∷ rest) = (opening, rest)
@@ -32,7 +32,7 @@ abbrev pub next_ask : List Bool → Bool × List Bool
 next_ask [] = (true, [])
 next_ask (can ∷ rest) = (can, rest)
 
--- The moment told after the latest, and what is planned after it. Moments never fall, and after the script they stay.
+-- The moment given after the latest, and what is planned after it. Moments never fall, and after the script they stay.
 abbrev pub next_moment : ℕ → List ℕ → ℕ × List ℕ
 next_moment latest [] = (latest, [])
 next_moment latest (moment ∷ rest) = (max latest moment, rest)

@@ -92,7 +92,7 @@ fn order_at(
     Ok(all)
 }
 
-// What the lookup of a name gives, in the order in which it is dialled, at this port.
+// What the lookup of a name gives, in the order of dialling, at this port.
 fn find<R: Net + AllocGlobal>(
     rt: &R,
     name: &str,
@@ -126,8 +126,8 @@ fn only(alloc: Global, address: SocketAddr) -> Result<Vec<SocketAddr>, Code>
 }
 
 // rule gate-spelled-address
-/// The addresses of an endpoint, at least one, in the order in which they are dialled. A host that spells an address has that one, and isn't
-/// looked up; of any other they are all that the lookup of its name gives, which are added to those found, the IPv4 ones first.
+/// The addresses of an endpoint, at least one, in the order in which they are dialled. A host that spells an address has that one, and
+/// isn't looked up; of any other they are all that the lookup of its name gives, which are added to those found, the IPv4 ones first.
 ///
 /// `CouldntResolveHost` comes where the lookup fails or gives nothing, `OutOfMemory` where memory is refused.
 ///
@@ -143,7 +143,7 @@ pub fn addresses_of<R: Net + AllocGlobal>(
     ensures code { IfErr result (λ code. is_lookup_code code ≡ true) }
 {
     let host = unbracketed(endpoint.host.as_str());
-    // Though std's lookup parses addresses as well: so the clause `spelled` rests on the parser alone.
+    // std's lookup parses addresses as well; here the clause `spelled` rests on the parser alone.
     match spelled(host) {
         Some(ip) => match only(rt.alloc(), SocketAddr::new(ip, endpoint.port)) {
             Ok(all) => Ok(all),

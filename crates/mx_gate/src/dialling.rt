@@ -19,7 +19,7 @@ pub trait Dial: Drop {
     // What it dialled so far, in order.
     ghost dialled: { Self → List Address };
 
-    /// Begins to connect to the address. The readiness of the link, which has answered nothing yet, is told under the token.
+    /// Begins to connect to the address. The readiness of the link, which has answered nothing yet, is reported under the token.
     ///
     /// The errors are `CouldntConnect` and `OutOfMemory`.
     fn dial(&mut self, address: SocketAddr, token: u64) -> Result<Self::Link, Code>
@@ -31,8 +31,8 @@ pub trait Dial: Drop {
 }
 
 /// A link over the addresses of a host. It dials them in their order, each once: the next where one is refused, until a connection is made.
-/// Once it was asked to read or to write, or its connection stood, it dials no more. What it gave is what its one connection gave; an
-/// address that is refused while others are left is told as a connection that is still being made. All have one token.
+/// Once it was asked to read or to write, or its connection was made, it dials no more. What it gave is what its one connection gave; an
+/// address that is refused while others are left is reported as a connection that is still being made. All have one token.
 ///
 /// No clause says that the next address is dialled only after a refusal.
 #[derive(Drop)]
@@ -91,7 +91,7 @@ fn dial_left<D: Dial>(
     Err(refusal)
 }
 
-// Puts a link to the next address that isn't refused at once in the place of one that was refused, which stays where there is none.
+// Replaces a link that was refused by one to the next address that isn't refused at once; where there is none, it stays.
 fn replace<D: Dial>(dial: &mut D, left: &mut VecDeque<SocketAddr>, link: &mut D::Link) -> Connect
     ensures next { DialsNext (D.dialled dial.old) left.old.items (D.dialled dial.new) left.new.items }
     ensures undone { IsUndone result }
@@ -111,7 +111,7 @@ fn replace<D: Dial>(dial: &mut D, left: &mut VecDeque<SocketAddr>, link: &mut D:
 }
 
 // rule gate-dialling
-// Asks whether the connection stands. Where it is refused and may give way to the next address, it does.
+// Checks whether the connection is made. Where it is refused, and the next address may be dialled, that is.
 #[tactic(auto, using(crate::proofs::DialLemmas::dials_none))]
 fn ask<D: Dial>(
     dial: &mut D,

@@ -15,7 +15,7 @@ fn is_file_limit(number: i32) -> bool
 }
 
 // rule gate-file-limit
-/// Whether a socket can't be had since too many files are open.
+/// Whether a socket is refused since too many files are open.
 pub fn meets_file_limit(error: &io::Error) -> bool
     ensures { IsTrue result ↔ MeetsFileLimit error.now }
 {
@@ -26,7 +26,7 @@ pub fn meets_file_limit(error: &io::Error) -> bool
 }
 
 // rule gate-codes
-/// The code of a socket, or of a poll of sockets, that can't be had: `OutOfMemory` where memory was wanting, else
+/// The code of a socket, or of a poll of sockets, that is refused: `OutOfMemory` where memory was refused, else
 /// `CouldntConnect`.
 pub fn connect_code(error: &io::Error) -> Code
     ensures { result ≡ fault_code Code.CouldntConnect error.now }

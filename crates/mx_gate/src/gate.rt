@@ -24,7 +24,7 @@ pub trait Gate {
     // All that it was asked so far and what it answered, in order.
     ghost said: { Self → List OneSaid };
 
-    // The latest moment that was told, 0 before the first.
+    // The latest moment that was given, 0 before the first.
     ghost latest: { Self → ℕ };
 
     /// The moment, in milliseconds since a start of the gate's own choice. Moments never fall.
@@ -48,8 +48,7 @@ pub trait Gate {
         ensures moment { latest self.new ≡ latest self.old }
         ensures noted { said self.new ≡ said self.old ++ opened endpoint.now (numbered Self.Link.token_of result) ∷ [] };
 
-    /// Waits until a link may have become ready, or something else calls for a look, and at most `wait_ms`
-    /// milliseconds.
+    /// Waits until a link may have become ready, or the worker is to look at something else, and at most `wait_ms` milliseconds.
     fn turn(&mut self, wait_ms: u32) -> Turn
         ensures moment { latest self.new ≡ latest self.old }
         ensures noted { said self.new ≡ said self.old ++ waited wait_ms (is_stop result) ∷ [] };

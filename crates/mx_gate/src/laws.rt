@@ -2,14 +2,13 @@
 ghost use Rattle.mx_gate.specs.Laws.{FirstIsChosen};
 ghost use Rattle.mx_gate.specs.Ready.{WaitsTellNothing};
 
-/// The address chosen stands in the list, with no IPv4 address before it; one that isn't IPv4 is the first of a list
-/// without any. None is chosen from the empty list alone.
+/// The chosen address is in the list, with no IPv4 address before it; one that isn't IPv4 is the first of a list without any. Only from the
+/// empty list none is chosen.
 pub fn first_is_chosen()
     ensures { FirstIsChosen }
 {}
 
-/// Answers that are the same but for those that a call would have waited give and take the same bytes, and have as many
-/// faults.
+/// Two lists of answers that differ only in those that a call would have waited give and take the same bytes, and have as many faults.
 pub fn waits_tell_nothing()
     ensures { WaitsTellNothing }
 {}

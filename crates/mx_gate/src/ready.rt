@@ -1,4 +1,4 @@
-//! A link that isn't asked again before something new was told of it.
+//! A link that makes no further call before something new was reported of it.
 ghost use Rattle.std.specs.Prelude.{◌≡◌, ◌<◌, ◌≤◌, ◌-◌, ◌^◌, true, false, not, ◌||◌, ◌&&◌, nat_lt, IsTrue, [], ◌∷◌, ◌++◌, length, min};
 ghost use Rattle.mx_gate.specs.Ready.{is_short};
 ghost use Rattle.mx_link.specs.Calls.{connect_answer, read_answer, write_answer, IsReadWithin, IsWriteWithin};
@@ -9,10 +9,9 @@ use mx_types::History;
 use std::marker::Model;
 use std::sync::Arc;
 
-/// A link whose readiness a gate is told. Where it answered that a call would have waited, the same call isn't made again
-/// before the gate was told something new: it answers so at once. Nor is a read of more than one byte made after one that
-/// gave fewer bytes than it was asked for, and so left none (epoll(7)), unless the gate was told that the other side sends
-/// no more.
+/// A link whose readiness is reported to a gate. Where it answered that a call would have waited, the same call isn't made again before
+/// something new is reported: it answers so at once. Nor is a read of more than one byte made after one that gave fewer bytes than it was
+/// asked for, and so left none (epoll(7)), unless it was reported that the other side sends no more.
 ///
 /// No clause says that the link is asked again once the gate has reported something new of it, or that a link whose end was reported is
 /// read until it gives that end.
@@ -20,15 +19,15 @@ use std::sync::Arc;
 pub struct ReadyLink<L: Link> {
     link: L,
     signals: Arc<Signals>,
-    // How much was told when it was last asked.
+    // How much was reported when it was last asked.
     reads_told: u64,
     writes_told: u64,
     waits_to_connect: bool,
     waits_to_read: bool,
     waits_to_write: bool,
-    // Whether its last read left nothing, and no end was told.
+    // Whether its last read left nothing, and no end was reported.
     is_drained: bool,
-    // How many ends had been told when it was made.
+    // How many ends had been reported when it was made.
     ends_before: u64,
     history: History<Answer>,
     asked: History<usize>,
@@ -62,10 +61,10 @@ impl<L: Link> Model for ReadyLink<L> {
     } };
 }
 
-// Urgent data of TCP, which no HTTP peer sends, end a read early, too: the bytes behind them wait until more is reported.
+// Urgent data of TCP, which no HTTP peer sends, end a read early, too: the bytes after them wait until more is reported.
 // rule gate-short-read
-// Whether this read has left nothing that was told already. The end may have been told with the last bytes, and isn't told again: a link
-// whose end was told is asked until it gives it.
+// Whether this read has left nothing that was reported already. The end may have been reported with the last bytes, and isn't reported
+// again: such a link is asked until it gives the end.
 fn has_drained(read: Read, buffer: &[u8], is_ended: bool) -> bool
     requires { IsReadWithin read (length buffer.now) }
     ensures { IsTrue result → is_short (read_answer read buffer.now) (length buffer.now) ≡ true }
@@ -77,7 +76,7 @@ fn has_drained(read: Read, buffer: &[u8], is_ended: bool) -> bool
 }
 
 impl<L: Link> ReadyLink<L> {
-    /// A link that was asked nothing yet, and whose readiness these signals tell. What they told before isn't of it.
+    /// A link that was asked nothing yet, and whose readiness these signals report. What they reported before isn't about it.
     pub fn over(link: L, signals: Arc<Signals>) -> ReadyLink<L>
         requires history { L.history link ≡ [] }
         requires asked { L.asked link ≡ [] }
@@ -107,7 +106,7 @@ impl<L: Link> ReadyLink<L> {
         }
     }
 
-    // Lets it be asked to read again, where something new was told.
+    // Allows the next read, where something new was reported.
     fn hear_reads(&mut self)
         ensures link { self.new.link ≡ self.old.link }
         ensures history { self.new.history ≡ self.old.history }
@@ -121,7 +120,7 @@ impl<L: Link> ReadyLink<L> {
         }
     }
 
-    // Lets it be asked to write again, and whether it stands, where something new was told.
+    // Allows the next write and the next check of the connection, where something new was reported.
     fn hear_writes(&mut self)
         ensures link { self.new.link ≡ self.old.link }
         ensures history { self.new.history ≡ self.old.history }
@@ -136,7 +135,7 @@ impl<L: Link> ReadyLink<L> {
     }
 
     // rule gate-waiting-link
-    // Whether a read of so many bytes is made. One byte is always asked for where the last read was short: that probes a link which lay idle.
+    // Whether a read of so many bytes is made. After a short read, a read of one byte is always made: it probes a link that was idle.
     fn is_to_read(&self, len: usize) -> bool
         ensures { result ≡ not (self.now.waits_to_read || (self.now.is_drained && nat_lt 1 len)) }
     {
@@ -195,7 +194,7 @@ impl<L: Link> Link for ReadyLink<L> {
         }
         let read = self.link.try_read(buffer);
         self.waits_to_read = read == Read::WouldBlock;
-        // Looked at behind the read, so that an end that is told meanwhile counts.
+        // Checked after the read, so that an end that is reported meanwhile counts.
         let is_ended = self.signals.ends_told(self.link.token()) != self.ends_before;
         self.is_drained = has_drained(read, buffer, is_ended);
         self.history.note(Answer::to_read(read, buffer));

@@ -33,7 +33,7 @@ impl Model for Said {
 }
 
 impl Said {
-    /// It told this moment.
+    /// It gave this moment.
     pub fn told(moment: u64) -> Said
         ensures { result ≡ told moment }
     {
@@ -71,7 +71,7 @@ impl Said {
         }
     }
 
-    /// It was to wait so many milliseconds, and then said this.
+    /// It was to wait so many milliseconds, and then answered this.
     pub fn waited(wait_ms: u32, turn: Turn) -> Said
         ensures { result ≡ waited wait_ms (is_stop turn) }
     {

@@ -14,8 +14,8 @@ use std::alloc::{AllocFailed, Global};
 use std::collections::VecDeque;
 use std::marker::Model;
 
-/// A gate that answers from four scripts, in memory. Contracts see what is left of them, the latest moment told, the
-/// last wait that was asked for, and all that was said.
+/// A gate that answers from four scripts, in memory. Contracts see what is left of them, the latest moment given, the last wait that was
+/// asked for, and all that was said.
 ///
 /// After its script a link can be opened, an `open` answers `CouldntConnect`, the moment stays, and turns answer `Stop`. It never waits.
 #[derive(Drop)]
@@ -64,9 +64,9 @@ impl<L: Link> ScriptGate<L> {
         }
     }
 
-    /// Adds what an `open` is to answer: a link that has answered nothing yet, or the code of one that can't be had.
+    /// Adds what an `open` is to answer: a link that has answered nothing yet, or the code of one that can't be opened.
     ///
-    /// The one error is that no memory was had; it hands back what was to be added.
+    /// The one error is that memory was refused; it hands back what was to be added.
     pub fn plan_opening(
         &mut self,
         opening: Result<L, Code>,
@@ -79,9 +79,9 @@ impl<L: Link> ScriptGate<L> {
         self.openings.push_back(opening)
     }
 
-    /// Adds a moment, which `now` is to tell unless it told a later one before.
+    /// Adds a moment, which `now` is to give unless it gave a later one before.
     ///
-    /// The one error is that no memory was had.
+    /// The one error is that memory was refused.
     pub fn plan_moment(&mut self, moment: u64) -> Result<(), AllocFailed<u64>>
         ensures planned { OnOk result (self.new ≡ record self.old { moments = self.old.moments ++ moment ∷ [] }) }
         ensures refused { OnErr result (self.new ≡ self.old) }
@@ -92,7 +92,7 @@ impl<L: Link> ScriptGate<L> {
 
     /// Adds whether a link can be opened when the gate is asked.
     ///
-    /// The one error is that no memory was had.
+    /// The one error is that memory was refused.
     pub fn plan_ask(&mut self, can: bool) -> Result<(), AllocFailed<bool>>
         ensures planned { OnOk result (self.new ≡ record self.old { asks = self.old.asks ++ can ∷ [] }) }
         ensures refused { OnErr result (self.new ≡ self.old) }

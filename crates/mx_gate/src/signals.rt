@@ -1,13 +1,13 @@
-//! What the system told of a gate's connections.
+//! What the system reported of a gate's connections.
 use std::alloc::{AllocError, Global};
 use std::sync::atomic::{AtomicU64, Ordering};
 
-/// How many counts there are of each kind. Tokens that differ by a multiple of it share theirs: a link of such a token
-/// may then ask without need, and none is left unasked.
+/// How many counts there are of each kind. Tokens that differ by a multiple of it share one: their links may then make a needless call, but
+/// miss none.
 const COUNTS: u64 = 256;
 
-/// How often the system told that a connection may be read, how often that it may be written to, and how often that its
-/// other side sends no more. A gate counts, and its links look.
+/// How often the system reported that a connection may be read, how often that it may be written to, and how often that its other side
+/// sends no more. A gate counts, and its links look.
 #[derive(Drop)]
 pub struct Signals {
     reads: Vec<AtomicU64>,
@@ -37,9 +37,9 @@ fn told(counts: &[AtomicU64], token: u64) -> u64 {
 }
 
 impl Signals {
-    /// Nothing was told yet.
+    /// Nothing was reported yet.
     ///
-    /// The one error is that no memory was had.
+    /// The one error is that memory was refused.
     pub fn new(alloc: Global) -> Result<Signals, AllocError> {
         Ok(Signals {
             reads: zeros(alloc)?,
@@ -53,28 +53,28 @@ impl Signals {
         tell(&self.reads, token);
     }
 
-    /// Counts that the other side of the connection sends no more, or that it failed. Who tells that it may be read, too,
-    /// tells this first: a link that has heard of the one then finds the other.
+    /// Counts that the other side of the connection sends no more, or that it failed. Who also reports that it may be read reports this
+    /// first: a link that has seen that report then finds this one, too.
     pub fn tell_end(&self, token: u64) {
         tell(&self.ends, token);
     }
 
-    /// Counts that the connection stands, failed, or may be written to.
+    /// Counts that the connection is made, failed, or may be written to.
     pub fn tell_write(&self, token: u64) {
         tell(&self.writes, token);
     }
 
-    /// How often it was told that the connection may be read.
+    /// How often it was reported that the connection may be read.
     pub fn reads_told(&self, token: u64) -> u64 {
         told(&self.reads, token)
     }
 
-    /// How often it was told that the other side of the connection sends no more, or that it failed.
+    /// How often it was reported that the other side of the connection sends no more, or that it failed.
     pub fn ends_told(&self, token: u64) -> u64 {
         told(&self.ends, token)
     }
 
-    /// How often it was told that the connection stands, failed, or may be written to.
+    /// How often it was reported that the connection is made, failed, or may be written to.
     pub fn writes_told(&self, token: u64) -> u64 {
         told(&self.writes, token)
     }

@@ -127,17 +127,16 @@ pub struct FileLimit {
 }
 
 impl FileLimit {
-    /// Whether a connection couldn't be begun since the process, or the system, had as many open files as it may have. Once it was so, it stays
-    /// true.
+    /// Whether a connection couldn't be begun since the process, or the system, had as many open files as it may have. Once it was so, it
+    /// stays true.
     pub fn was_met(&self) -> bool {
         self.shared.met_file_limit.load(Ordering::SeqCst)
     }
 }
 
-/// A gate that opens TCP connections, and waits until one of them is ready. A link of it that would have waited makes no
-/// system call before the gate was told something new of its connection. Contracts see the latest moment told, the
-/// token of its next link, whether its last turn saw the flag that stops it, and all that was said. What the network
-/// answers, and when, no contract can say.
+/// A gate that opens TCP connections, and waits until one of them is ready. A link of it that would have waited makes no system call before
+/// something new was reported of its connection. Contracts see the latest moment given, the token of its next link, whether its last turn
+/// saw the flag that stops it, and all that was said. What the network answers, and when, no contract can say.
 #[derive(Drop)]
 pub struct SocketGate<'r, R> {
     rt: &'r R,
@@ -168,7 +167,7 @@ impl<'r, R> Model for SocketGate<'r, R> {
 
 type Parts = (Poll, Arc<Shared>, Events<Global>, Arc<Waker>, Arc<Signals>);
 
-// The part of a gate of this poll that its links share.
+// The part of a gate with this poll that its links share.
 fn share(alloc: Global, poll: &Poll) -> io::Result<Arc<Shared>> {
     let shared = Shared {
         registry: poll.registry().try_clone()?,
@@ -190,14 +189,14 @@ fn tellers(alloc: Global, poll: &Poll) -> io::Result<(Events<Global>, Arc<Waker>
     Ok((events, bell, signals))
 }
 
-// What an event tells of its connection.
+// What an event reports of its connection.
 #[derive(Clone, Copy)]
 struct News {
     // It may be read: a read would not wait.
     may_read: bool,
     // The other side sends no more, or it failed.
     has_ended: bool,
-    // It stands, failed, or may be written to.
+    // It is made, failed, or may be written to.
     may_write: bool,
 }
 
@@ -223,7 +222,7 @@ fn moment_after(latest: u64, passed: Duration) -> u64
     latest.max(moment)
 }
 
-// A link over these addresses. The dial opens its connections, and the signals tell when they are ready.
+// A link over these addresses. The dial opens its connections, and the signals report when they are ready.
 fn link_over<'r, R: Net>(
     dialler: (SocketDial<'r, R>, Arc<Signals>),
     addresses: Vec<SocketAddr>,
@@ -331,7 +330,7 @@ impl<'r, R: Net + Clock + AllocGlobal> SocketGate<'r, R> {
         })
     }
 
-    /// What tells whether too many files were open for a connection of this gate.
+    /// Shows whether too many files were open for a connection of this gate.
     ///
     /// The one error is that there are too many of them.
     pub fn file_limit(&self) -> Result<FileLimit, AllocError> {
@@ -450,7 +449,7 @@ impl<'r, R: Net + Clock + AllocGlobal> SocketGate<'r, R> {
         answer
     }
 
-    /// The latest moment told, 0 before the first.
+    /// The latest moment given, 0 before the first.
     pub fn latest(&self) -> u64
         ensures { result ≡ self.now.latest }
     {
@@ -458,7 +457,7 @@ impl<'r, R: Net + Clock + AllocGlobal> SocketGate<'r, R> {
     }
 
     // rule gate-stop
-    // Waits, and counts what that told. A wait that fails ends at once, as one that a signal ends, and tells nothing.
+    // Waits, and counts what was reported. A wait that fails ends at once, like one that a signal ends, and reports nothing.
     fn look(&mut self, wait_ms: u32)
         ensures { self.new ≡ self.old }
     {
@@ -469,7 +468,7 @@ impl<'r, R: Net + Clock + AllocGlobal> SocketGate<'r, R> {
         }
     }
 
-    // Counts what the last wait told of each connection.
+    // Counts what the last wait reported of each connection.
     fn tell(&self) {
         for event in self.events.iter() {
             let token = event.token().0 as u64;
@@ -542,9 +541,9 @@ impl<'r, R: Net + Clock + AllocGlobal> Gate for SocketGate<'r, R> {
     }
 
     // rule gate-no-wait, unproved: A turn of no wait asks the system once a millisecond, and where a link was opened since.
-    /// Waits until a connection is ready or the bell is rung. What is told of connections lets their links be asked again. A turn of
-    /// no wait looks once a millisecond of the clock, so that it costs a worker that has work at hand no system call each time; and where a link
-    /// was opened since the last, so that a worker that begins many connections finds those that have become free meanwhile.
+    /// Waits until a connection is ready or the bell is rung. Links may call again once something of their connections is reported. A turn
+    /// of no wait looks once a millisecond of the clock, so that it costs a worker that has work at hand no system call each time; and
+    /// where a link was opened since the last, so that a worker that begins many connections finds those that have become free meanwhile.
     ///
     /// It blocks in the system's poll, though it has no bound `Wait`. No clause says that the system is given this wait, or that the
     /// answer is the flag's value.

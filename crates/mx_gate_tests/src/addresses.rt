@@ -43,7 +43,7 @@ static HOSTS: [(&'static str, &'static str); 11] = [
 ];
 
 // rule gate-codes
-/// An error, and the codes of a lookup and of a connection that fail so.
+/// An error, and the codes of a lookup and of a connection that fail with it.
 static CODES: [(&'static str, ErrorKind, Code, Code); 2] = [
     (
         "a refused connection",
@@ -68,7 +68,7 @@ static FILE_LIMITS: [(&'static str, i32, bool); 4] = [
     ("ECONNREFUSED", 111, false),
 ];
 
-/// The first row of which something else is said.
+/// The first row that fails.
 fn first_wrong(
     hosts: &[(&'static str, &'static str)],
     codes: &[(&'static str, ErrorKind, Code, Code)],

@@ -1,4 +1,4 @@
-//! Connections of gates over sockets: those that stand, and those that don't come about.
+//! Connections of gates over sockets: those that succeed, and those that fail.
 
 use crate::gates::{RIGHT, Seen, Task, Work, at_gate, joined, listening, one_server};
 use crate::outside::{Outside, endpoint, v4};
@@ -21,12 +21,12 @@ enum There {
     Nobody,
 }
 
-/// What a connection is to come to.
+/// The expected result of a connection.
 #[derive(Clone, Copy)]
 enum Comes {
-    /// A link at which all is as it is to be.
+    /// A link at which all is as it should be.
     Right,
-    /// A refusal: the system may refuse at once, or once it was asked whether the connection stands.
+    /// A refusal: the system may refuse at once, or once it was asked whether the connection is made.
     Refused,
     /// No link, and this code.
     Code(Code),
@@ -48,9 +48,9 @@ struct Row {
     name: &'static str,
     there: There,
     host: &'static str,
-    /// Its port, where it isn't the one of who listens.
+    /// Its port, where it isn't the listener's.
     port: Option<u16>,
-    /// Lookups are by the tests' own network. Of its three addresses only the last is that of who listens.
+    /// Lookups are by the tests' own network. Of its three addresses only the last is the listener's.
     by_outside: bool,
     doing: Doing,
     comes: Comes,
@@ -129,7 +129,7 @@ fn at<
     at_gate(rt, net, work)
 }
 
-/// What is seen where who listens is at this port.
+/// What is seen where the listener is at this port.
 fn at_port<
     R: Net<Listener = TcpListener, Stream = TcpStream>
         + Clock
@@ -155,7 +155,7 @@ fn at_port<
     seen
 }
 
-/// The same, and whether who listens has served what it is to serve.
+/// The same, and whether the listener has served what it is to serve.
 fn beside<
     R: Net<Listener = TcpListener, Stream = TcpStream>
         + Clock

@@ -48,7 +48,7 @@ impl Lookup for Fake {
     }
 }
 
-/// What a test sees of its lookups: how many began, how often the bell was rung, and whether those that hang are let go.
+/// What a test sees of its lookups: how many began, how often the bell was rung, and whether those that hang are released.
 #[derive(Drop)]
 pub(crate) struct Seen {
     pub begun: Arc<AtomicU64>,
@@ -75,7 +75,7 @@ impl Seen {
     }
 }
 
-/// A lookup in which hosts that begin with `hang` hang until they are let go, or for ten seconds, and `late` takes 50 milliseconds.
+/// A lookup in which hosts that begin with `hang` hang until they are released, or for ten seconds, and `late` takes 50 milliseconds.
 #[derive(Drop)]
 pub(crate) struct Hanging<R> {
     rt: R,
@@ -102,7 +102,7 @@ impl<R: Clock> Lookup for Hanging<R> {
     }
 }
 
-/// An answer as numbers: the last number of each address, and 100 more where it is an IPv6 address; the number of its code behind 0; none
+/// An answer as numbers: the last number of each address, and 100 more where it is an IPv6 address; the number of its code after 0; none
 /// where nothing is known.
 pub(crate) fn numbers(alloc: Global, answer: &Answer) -> Result<Vec<u64>, Fail> {
     let mut all = Vec::new(alloc);

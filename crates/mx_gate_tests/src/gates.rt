@@ -31,7 +31,7 @@ pub(crate) enum Task<'a> {
     Fail,
     /// It sees that the link has this token.
     Token(u64),
-    /// It meets a peer that waits until it is told to go on, and offers these bytes in each write.
+    /// It meets a peer that waits until the test has it go on, and offers these bytes in each write.
     Meet(&'a Told, Peer, &'a [u8]),
 }
 
@@ -50,11 +50,11 @@ pub(crate) enum Work<'a> {
     Beside(&'a Outside<'a>),
 }
 
-/// What is seen: nothing where something isn't as it is to be, else how many bytes its peer has to have read; or the code with which no link
-/// is opened.
+/// What is seen: nothing where something isn't as it should be, else how many bytes its peer has to have read; or the code with which no
+/// link is opened.
 pub(crate) type Seen = Result<Option<u64>, Code>;
 
-/// All is as it is to be.
+/// All is as it should be.
 pub(crate) const RIGHT: Seen = Ok(Some(0));
 
 /// The first answer that isn't that the connection is still being made.
@@ -121,7 +121,7 @@ pub(crate) fn at_link<R: Clock + Wait, G: Gate>(
     Ok(seen)
 }
 
-/// Each link is let go before the next.
+/// Each link is dropped before the next.
 fn has_three_tokens<R: Clock + Wait, G: Gate>(rt: &R, gate: &mut G, there: &Endpoint) -> bool {
     for token in 1..=3 {
         if at_link(rt, gate, there, Task::Token(token)) != RIGHT {
@@ -200,7 +200,7 @@ pub(crate) fn one_server<R: Net<Listener = TcpListener, Stream = TcpStream> + Th
     Ok((port, server))
 }
 
-/// What was done, and what the thread beside it says, which is waited for only where it was done.
+/// The result, and the answer of the thread beside it, which is joined only where there is a result.
 pub(crate) fn joined<R: Threads, T: Drop, U: Drop>(
     rt: &R,
     done: Result<T, Fail>,

@@ -12,7 +12,7 @@ use std::test::Fail;
 use std::thread::Threads;
 use std::time::Instant;
 
-/// The moment of a gate, once the clock stands there.
+/// The moment of a gate, once the clock is set to that.
 fn moment_at<G: Gate>(outside: &Outside<'_>, gate: &mut G, milliseconds: u64) -> u64 {
     outside.milliseconds.store(milliseconds, Ordering::SeqCst);
     gate.now()
@@ -29,7 +29,7 @@ pub(crate) fn tells_moments<G: Gate>(outside: &Outside<'_>, gate: &mut G) -> boo
     [begun, later, fallen, broken, gate.now()] == [0, 500, 500, 500, 1000]
 }
 
-/// A gate that began at 1000, and a new one with its start, tell the same moments.
+/// A gate that began at 1000, and a new one with its start, give the same moments.
 pub(crate) fn tells_beside<G: Gate>(
     outside: &Outside<'_>,
     start: Instant,

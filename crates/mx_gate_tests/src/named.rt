@@ -24,7 +24,7 @@ enum Work<'a> {
     Send(&'a Endpoint),
     /// It waits until the endpoint can be opened, and is refused with 6, twice.
     Refused(&'a Endpoint),
-    /// The first endpoint can't be opened, and the second one meanwhile can. Then lookups that hang are let go.
+    /// The first endpoint can't be opened, and the second one meanwhile can. Then lookups that hang are released.
     Beside(&'a Endpoint, &'a Endpoint, &'a AtomicBool),
 }
 
@@ -39,7 +39,7 @@ fn gate<R: Net + Clock + AllocGlobal + Wait, L: Lookup + Send + Sync + Drop + 's
     Ok((gate, resolver))
 }
 
-/// Whether a link to the endpoint can be opened, once it can; each wait is as long as it takes until the bell rings, and at most so long.
+/// Whether a link to the endpoint can be opened, once it can; each wait lasts until the bell rings, and at most so long.
 fn can_open<
     R: Clock + AllocGlobal + Threads + Wait + Copy + Send + Drop + 'static,
     L: Lookup + Send + Sync + Drop + 'static,
@@ -56,7 +56,7 @@ fn can_open<
     false
 }
 
-/// Whether all is as it is to be.
+/// Whether all is as it should be.
 fn does<
     R: Clock + AllocGlobal + Threads + Wait + Copy + Send + Drop + 'static,
     L: Lookup + Send + Sync + Drop + 'static,
@@ -160,8 +160,7 @@ fn are_refused<R: Net + Clock + AllocGlobal + Threads + Wait + Copy + Send + Syn
     Ok((refused && begun == 1, beside))
 }
 
-/// The bell ends the wait for each host, so that three waits of ten seconds are enough. Where the system has no IPv6 there is nothing to see
-/// of that.
+/// The bell ends the wait for each host, so three waits of ten seconds are enough. Where the system has no IPv6 that part is left out.
 #[test]
 fn gates_that_wait_for_no_name(rt: HostRuntime) -> Result<(), Fail> {
     let seen = Seen::new(rt.alloc())?;

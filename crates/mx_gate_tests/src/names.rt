@@ -15,7 +15,7 @@ enum Step {
     BeginMany(u64, u64),
     /// What the lookup of a host gives is learnt now: whether one was under way.
     Learn(&'static str, u64, bool),
-    /// The lookup of a host wasn't had.
+    /// No lookup of a host could be made.
     Forget(&'static str),
 }
 
@@ -65,7 +65,7 @@ fn is_as_said(alloc: Global, names: &mut Names<Fake>, step: &Step) -> Result<boo
     }
 }
 
-/// The first step that isn't as it says.
+/// The first step that fails.
 fn first_wrong(alloc: Global, steps: &[Step]) -> Result<Option<usize>, Fail> {
     let mut names = Names::new(alloc);
     for (place, step) in steps.iter().enumerate() {

@@ -24,7 +24,7 @@ pub(crate) fn v6(last: u16, port: u16) -> SocketAddr {
     SocketAddr::from((Ipv6Addr::new(0x2001, 0xdb8, 0, 0, 0, 0, 0, last), port))
 }
 
-/// A runtime whose lookups give these addresses, or fail, and whose clock stands where the test puts it.
+/// A runtime whose lookups give these addresses, or fail, and whose clock shows what the test sets.
 #[derive(Drop)]
 pub(crate) struct Outside<'a> {
     pub alloc: Global,

@@ -1,5 +1,5 @@
-//! Links whose peer waits until the test tells it to go on, so that the test knows when bytes, room, the end or an error come: when such a
-//! link is asked, and when not.
+//! Links whose peer waits until the test has it go on, so that the test knows when bytes, room, the end or an error come: when such a link
+//! makes a system call, and when not.
 
 use crate::gates::{TURNS, Task, Work, at_gate, connect, joined, listening, read};
 use crate::outside::endpoint;
@@ -19,11 +19,11 @@ use std::time::Duration;
 /// How many bytes a write offers. That is less than a connection has room for in all, and no divisor of it, so that a write is short.
 const OFFERED: usize = 1_000_003;
 
-/// How often a test and its peer look what they are told, a millisecond apart, and how often a peer reads at most. A peer that gave up while
-/// the test still fills the connection would make room for it, and unproved builds fill it slowly.
+/// How often a test and its peer look for the other's signal, a millisecond apart, and how often a peer reads at most. A peer that gave up
+/// while the test still fills the connection would make room for it, and unproved builds fill it slowly.
 const LOOKS: u32 = 200_000;
 
-/// What a test and its peer tell each other: that the peer is to go on, and that it has sent.
+/// The signals between a test and its peer: that the peer is to go on, and that it has sent.
 #[derive(Drop)]
 pub(crate) struct Told {
     go: AtomicBool,
@@ -33,19 +33,19 @@ pub(crate) struct Told {
 /// What a peer does.
 #[derive(Clone, Copy)]
 pub(crate) enum Peer {
-    /// It sends `ab` once it is told to, and closes later.
+    /// It sends `ab` once the test has it go on, and closes later.
     SendsLate,
-    /// It sends `ab` at once, `cd` once it is told to, and closes later.
+    /// It sends `ab` at once, `cd` once the test has it go on, and closes later.
     SendsTwice,
-    /// It sends `ab` once it is told to, and closes.
+    /// It sends `ab` once the test has it go on, and closes.
     SendsAndCloses,
-    /// It reads to the end, once it is told to.
+    /// It reads to the end, once the test has it go on.
     Reads,
-    /// It closes with bytes unread, once it is told to: the connection is then reset.
+    /// It closes with bytes unread, once the test has it go on: the connection is then reset.
     Resets,
 }
 
-/// Waits until the other has said so.
+/// Waits for the other's signal.
 fn wait_for<R: Clock + Wait>(rt: &R, told: &AtomicBool) {
     for _ in 0..LOOKS {
         if told.load(Ordering::SeqCst) {
@@ -92,7 +92,7 @@ fn read_all(stream: &mut TcpStream) -> u64 {
     all
 }
 
-/// Accepts one connection, and is its peer: how many bytes it read, or nothing where it couldn't do what it is to.
+/// Accepts one connection, and is its peer: how many bytes it read, or nothing where it failed.
 fn be_peer<R: Clock + Wait>(
     rt: &R,
     listener: &TcpListener,
@@ -115,8 +115,8 @@ fn be_peer<R: Clock + Wait>(
     }
 }
 
-/// Reads the first two bytes, where some come at once. Finds then nothing to read, nor more before a turn though bytes came, and then
-/// those and the end.
+/// Reads the first two bytes, where some come at once. Then it finds nothing to read, before a turn not even bytes that came; after the
+/// turn it reads those and the end.
 fn reads_after_a_turn<R: Clock + Wait, G: Gate>(
     rt: &R,
     gate: &mut G,
@@ -197,8 +197,8 @@ fn write_on<G: Gate>(gate: &mut G, link: &mut G::Link, bytes: &[u8]) -> Write {
     Write::WouldBlock
 }
 
-/// Writes until there is no room, tells the peer to go on, and writes on: how many bytes were taken where the link is told of room, and none
-/// where it is told of an error.
+/// Writes until there is no room, has the peer go on, and writes on: how many bytes were taken where the link gets room, and none where it
+/// gets an error.
 fn writes_all<G: Gate>(
     gate: &mut G,
     link: &mut G::Link,
@@ -291,7 +291,7 @@ fn is_met<
 
 static ROWS: [(&'static str, Peer); 5] = [
     // rule gate-waiting-link
-    // bytes that came are not read before a turn has told of them
+    // bytes that came are not read before a turn has reported them
     (
         "a_link_that_waits_is_not_asked_before_a_turn",
         Peer::SendsLate,
@@ -302,13 +302,13 @@ static ROWS: [(&'static str, Peer); 5] = [
         Peer::SendsTwice,
     ),
     // rule gate-short-read
-    // the end that was told with the last bytes is told no second time, so the link is asked for it
+    // the end that was reported with the last bytes isn't reported again, so the link asks for it
     (
         "the_end_in_one_edge_with_bytes_is_seen",
         Peer::SendsAndCloses,
     ),
     // rule gate-waiting-writer
-    // what its writes said that they took, the short ones too, is what its peer reads
+    // its peer reads what its writes took, by their answers, the short ones too
     ("a_writer_is_told_of_room", Peer::Reads),
     // rule gate-waiting-writer
     ("a_writer_is_told_of_an_error", Peer::Resets),

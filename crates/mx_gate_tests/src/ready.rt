@@ -1,4 +1,4 @@
-//! Links that a gate asks once: a row is what the link under one answers where it is asked, the calls of it, and what each answers.
+//! Links over a link that answers as planned: a row has those answers, the calls, and what each call answers.
 
 use crate::peers::write;
 use mx_gate::{ReadyLink, Signals};
@@ -7,18 +7,18 @@ use std::alloc::Global;
 use std::sync::Arc;
 use std::test::Fail;
 
-/// A call of a link with what it is to answer, or what is told of connections.
+/// A call of a link with its expected answer, or what is reported of connections.
 #[derive(Clone, Copy)]
 pub(crate) enum Step {
-    /// A read into a buffer of one or two dashes, and what then stands there.
+    /// A read into a buffer of one or two dashes, and the buffer after it.
     Read(Read, &'static [u8]),
     /// A write of these bytes, one at least.
     Write(&'static [u8], Write),
-    /// It is told that the connections from one token to before another may be read.
+    /// The connections from one token to before another may be read.
     TellReads(u64, u64),
-    /// It is told that the other side of the connection of a token sends no more.
+    /// The other side of the connection of a token sends no more.
     TellEnd(u64),
-    /// It is told that the connection of a token may be written to.
+    /// The connection of a token may be written to.
     TellWrite(u64),
     /// How many of its calls failed.
     Failures(u64),

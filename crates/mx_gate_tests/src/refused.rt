@@ -15,7 +15,7 @@ use std::test::Fail;
 /// What a test ends with in which a call was refused memory.
 const AGAIN: &str = "memory was refused, and the call answered when it was made again";
 
-// What was given; None where memory was refused. It is of any value, so that it is let go as one, whatever it is.
+// What was given; None where memory was refused. It is generic over the value, so that this is dropped as one.
 fn unless_refused<T>(given: Result<T, Code>) -> Result<Option<T>, Fail> {
     match given {
         Ok(value) => Ok(Some(value)),
@@ -61,7 +61,7 @@ fn open_to<R: Net + Clock + AllocGlobal>(rt: &R, port: u16) -> Result<(Connect, 
     Ok((connected, at_gate || at_link))
 }
 
-/// Nobody accepts the connection, which stands all the same.
+/// Nobody accepts the connection, which is made all the same.
 #[test]
 fn a_gate_and_its_link_are_made_again(rt: HostRuntime) -> Result<(), Fail> {
     let (listener, port) = listening(&rt, "127.0.0.1:0")?;

@@ -21,7 +21,7 @@ impl Ring for Count {
     }
 }
 
-/// Whether this is told of the host, in numbers, once something is, or nothing after ten seconds.
+/// Whether this is what is known of the host, in numbers, once something is; or nothing is known after ten seconds.
 fn is_told<R: Threads + Clock + Wait + AllocGlobal + Copy + Send + Sync + Drop + 'static>(
     rt: &R,
     resolver: &Resolver<Hanging<R>, Count>,
@@ -62,7 +62,7 @@ fn begun<R: Clock + Wait>(rt: &R, seen: &Seen, count: u64) -> u64 {
     seen.begun.load(Ordering::SeqCst)
 }
 
-/// The first of three hosts of which something else is told while 63 lookups hang.
+/// The first of three hosts with another answer while 63 lookups hang.
 fn first_wrong<R: Threads + Clock + Wait + AllocGlobal + Copy + Send + Sync + Drop + 'static>(
     rt: &R,
     seen: &Seen,
@@ -98,7 +98,7 @@ fn first_wrong_of_new<
         Ok(()) => first_wrong(rt, seen, &resolver),
         Err(error) => Err(error.into()),
     };
-    // those that hang are let go
+    // those that hang are released
     seen.free.store(true, Ordering::SeqCst);
     drop(resolver);
     wrong

@@ -16,7 +16,7 @@ enum Step {
     PlanLink,
     /// It is planned to refuse one, as its host is not known.
     PlanUnknownHost,
-    /// It is planned to refuse one for want of memory.
+    /// A plan is refused memory.
     PlanNoMemory,
     PlanMoment(u64),
     /// How many planned openings are left.
@@ -39,7 +39,7 @@ struct Row {
 }
 
 static ROWS: [Row; 3] = [
-    // behind the script's end it refuses
+    // after the script's end it refuses
     Row {
         name: "a_script_is_answered_in_order",
         turns: 2,
@@ -55,7 +55,7 @@ static ROWS: [Row; 3] = [
             Step::Left(0),
         ],
     },
-    // where the script falls, and behind its end, a moment is told again
+    // where the script's moments fall, and after its end, the last moment comes again
     Row {
         name: "moments_never_fall",
         turns: 0,
@@ -83,7 +83,7 @@ static ROWS: [Row; 3] = [
     },
 ];
 
-/// The token of a link that is opened, and let go.
+/// The token of a link that is opened, and dropped.
 fn opened(gate: &mut ScriptGate<ScriptLink>, there: &Endpoint) -> Result<u64, Code> {
     Ok(gate.open(there)?.token())
 }

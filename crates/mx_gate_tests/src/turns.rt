@@ -24,7 +24,7 @@ fn ringer<R: Clock + Wait + Threads + Copy + Send + Drop + 'static>(
     })?)
 }
 
-/// A long turn, in which a thread rings, ends in time, but not before it is rung.
+/// A long turn in which a thread rings the bell ends in time, but not before the ring.
 fn turns_until_rung<R: Clock + Wait + Threads + Copy + Send + Drop + 'static, G: Gate>(
     rt: &R,
     gate: &mut G,
@@ -103,7 +103,7 @@ pub(crate) enum Turns {
     Flag,
 }
 
-/// Whether all is as it is to be.
+/// Whether all is as it should be.
 pub(crate) fn takes<
     R: Clock + Wait + Threads + Copy + Send + Drop + 'static,
     N: Net + Clock + AllocGlobal,

@@ -18,7 +18,7 @@ use Rattle.mx_head.specs.Steps.{seen_after, seen_after_line, coding_seen}
 abbrev commas : List ℕ → List (List ℕ)
 commas value = slice_split (λ (b : ℕ). b == comma) value
 
--- up to the first comma, and on behind it
+-- up to the first comma, and on after it
 cut_at : (xs : List ℕ) (i : ℕ) → i < length xs → get_or xs i 0 ≡ 44 → ((k : ℕ) → k < i → get_or xs k 0 ≢ 44) → commas xs ≡ take i xs ∷ commas (drop (suc i) xs)
 cut_at [] i inside here before = absurd (omega arith)
 cut_at (b ∷ bs) zero inside here before =

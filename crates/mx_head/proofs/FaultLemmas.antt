@@ -102,7 +102,7 @@ head_meets_nothing input h rest reads q more long_head e meets =
     let r = front_of (print_response h) q rest more (sym reads.1 ∙ e) (omega (arith, meets.0, reads.0.bytes)) in
     meets.1 h r.0 (reads.0, r.1)
 
--- bytes that begin with one that is no line end, and another behind it
+-- bytes that begin with one that is no line end, and another after it
 pub record BeginsLine (text : List ℕ) : Type 0 where
   pub first : ℕ
   pub others : List ℕ

@@ -11,7 +11,7 @@ nothing : (c : List ℕ) → length c ≡ 0 → (s : List ℕ) → s ++ c ≡ s
 nothing [] none s = append-nil s
 nothing (z ∷ c) none s = absurd (omega arith)
 
--- fronts of one text that are as long are the same
+-- prefixes of one text that are as long are the same
 same_front : (a b x y : List ℕ) → a ++ x ≡ b ++ y → length a ≡ length b → a ≡ b
 same_front a b x y e long =
     let r = front_of a b x y e (omega (arith, long)) in

@@ -1,4 +1,4 @@
--- A proper front of a head is no head, and meets no cause of a fault.
+-- A proper prefix of a head is no head, and meets no cause of a fault.
 use Rattle.std.proofs.Common.{◌≡◌, ℕ, true, false, not, inl, inr, ◌+◌, ◌<◌, ◌≤◌, List, [], ◌∷◌, ◌++◌, length, take, drop, sym, ap, subst, ◌∙◌, arith, append_assoc, length-append, length-drop, All}
 use Rattle.std.specs.Prelude.{flat_map}
 use Rattle.std.proofs.lemmas.Bool.{not-true, cases_lt}
@@ -47,7 +47,7 @@ scanned_more text scan s still all small =
     let whole : after_all text ≡ scan.reached = ap after_all (sym (take_all scan.read text (omega (arith, all)))) ∙ s.there in
     front_step text (open_front text (ap (λ (r : Reached). is_settled r.spot) whole ∙ not-true _ still)) small
 
--- ---- the other way: bytes that may become a head are a front of one that is taken
+-- ---- the other way: bytes that may become a head are a prefix of one that is taken
 
 front_in : (text more : List ℕ) (h : ResponseHead) → HasNoResponse text → ReadsResponse (text ++ more) h [] → length h.fields ≤ 128 → IsFrontOfHead text
 front_in text [] h none reads few = absurd (none h [] (reads.0, sym (append-nil text) ∙ reads.1))
@@ -100,7 +100,7 @@ may_front text few none may =
       | inr small ↦ front_in text may.0 may.1 none may.2 small
     ]
 
--- a scan of a front of a head is open
+-- a scan of a prefix of a head is open
 pub scanned_open : (text : List ℕ) (scan : HeadScan) → HasScanned text scan → IsFrontOfHead text → is_open scan ≡ true
 scanned_open text scan s f =
     let whole = subst (λ (t : List ℕ). is_settled (after_all t).spot ≡ false) (sym (take-append-drop scan.read text)) (front_open text f) in

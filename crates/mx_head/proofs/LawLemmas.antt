@@ -35,7 +35,7 @@ heads_are_prefix_free h k rest x y e =
     let one = one_head (print_response k) h k rest [] (x, e) (y, sym (append-nil (print_response k))) in
     (one.0, one.1)
 
--- values that describe one head are the same, but for where the location stands
+-- values that describe one head are the same, but for where the location is
 same_head : (x y : Summary) (h : ResponseHead) → Describes x h → Describes y h → record x { location = None } ≡ record y { location = None }
 same_head x y h d e = λ i. record {
   len = (d.len ∙ sym e.len) i;
@@ -48,7 +48,7 @@ same_head x y h d e = λ i. record {
   location = None;
 }
 
--- where it stands, the bytes are the location
+-- where it is, the bytes are the location
 stands : (h : ResponseHead) (input rest : List ℕ) (at : Option Span) (value : Option (List ℕ)) → input ≡ print_response h ++ rest
     → StandsAt (print_response h) at value → option_map (span_bytes input) at ≡ value
 stands h input rest None None is at = refl

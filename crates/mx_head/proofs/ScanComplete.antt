@@ -1,4 +1,4 @@
--- A scan stays open along each head: what it settles is no proper front of one.
+-- A scan stays open along each head: what it settles is no proper prefix of one.
 use Rattle.std.proofs.Common.{◌≡◌, ℕ, zero, suc, ◌+◌, ◌<◌, ◌≤◌, inl, inr, Bool, true, false, cond, List, [], ◌∷◌, ◌++◌, length, fold, refl, sym, ap, subst, ◌∙◌, arith, append_assoc, length-append, Option, Some, None, All}
 use Rattle.std.specs.Prelude.{◌&&◌, flat_map, nat_lt}
 use Rattle.std.specs.Char.{is_ascii_digit}
@@ -125,7 +125,7 @@ return_stays n = by_room (nat_lt n 128)
     by_room true = refl
     by_room false = refl
 
--- where the bytes lead to no settled spot, no front of them does
+-- where the bytes lead to no settled spot, no prefix of them does
 pub front_is_open : (front rest : List ℕ) → is_settled (fold after start (front ++ rest)).spot ≡ false → is_settled (fold after start front).spot ≡ false
 front_is_open front rest still = by_front (is_settled (fold after start front).spot) refl
   where

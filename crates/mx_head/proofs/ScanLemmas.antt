@@ -1,4 +1,4 @@
--- What the spots of a scan say of the bytes behind them: while nothing is settled, they are a proper front of a head.
+-- What the spots of a scan say of the bytes read: while nothing is settled, they are a proper prefix of a head.
 use Rattle.std.proofs.Common.{◌≡◌, ℕ, zero, suc, ◌+◌, ◌-◌, ◌<◌, ◌≤◌, Bool, true, false, cond, ◌&&◌, ◌||◌, List, [], ◌∷◌, ◌++◌, length, fold, refl, sym, ap, subst, ◌∙◌, arith, append_assoc, length-append, Option, Some, None}
 use Rattle.std.specs.Prelude.{◌==◌, flat_map, nat_lt, codes, slice_index}
 use Rattle.std.specs.Char.{is_ascii_digit}
@@ -57,7 +57,7 @@ Stands Name n text = InName n text
 Stands LastReturn n text = (u : List ℕ) × (text ≡ u ++ 13 ∷ []) × AreLines n u
 Stands Settled n text = Unit {0}
 
--- it stands there, with no more field lines than are taken
+-- it is there, with no more field lines than are taken
 abbrev pub Good : Reached → List ℕ → Type 0
 Good r text = (r.fields ≤ 128) × Stands r.spot r.fields text
 
@@ -200,7 +200,7 @@ opening_is (a ∷ b ∷ c ∷ d ∷ e ∷ f ∷ g ∷ h ∷ i ∷ j ∷ k ∷ l 
     too_long at [] long o = omega (arith, long, o)
     too_long at (b ∷ bytes) long o = too_long (at + 1) bytes (omega (arith, long)) o.1
 
--- behind blank lines
+-- after blank lines
 blank_opening : (ends : List LineEnd) (t : List ℕ) → t ≡ print_blank ends → InOpening 0 0 t
 blank_opening ends t is bytes o reason end all =
     let p = opening_is bytes o in
@@ -292,7 +292,7 @@ bytes_good bytes = all_good start [] bytes start_good
 
 -- ---- bytes that make it a head
 
--- lines that go on behind the text
+-- lines that go on after the text
 lines_front : (n : ℕ) (t more : List ℕ) → n ≤ 128 → AreLines n (t ++ more) → IsFrontOfHead t
 lines_front n t more few lines =
     let head : ResponseHead = record lines.head { last = lf } in
@@ -370,7 +370,7 @@ opening_front at n t more small few still =
     let rest = some_opening (12 - at) at (omega (arith, small)) in
     code_front n t (more ++ rest.0) few (subst (BehindCode n) (append_assoc t more rest.0) (still rest.0 rest.1))
 
--- while nothing is settled, the text is a proper front of a head
+-- while nothing is settled, the text is a proper prefix of a head
 stands_front : (s : Spot) (n : ℕ) (t : List ℕ) → n ≤ 128 → is_settled s ≡ false → Stands s n t → IsFrontOfHead t
 stands_front Blank n t few still st =
     opening_front 0 0 t [] (omega arith) (omega arith) (subst (InOpening 0 0) (sym (append-nil t)) (blank_opening st.1.0 t st.1.1))
@@ -391,7 +391,7 @@ stands_front Settled n t few still st = absurd (cc)
 pub open_front : (text : List ℕ) → is_settled (after_all text).spot ≡ false → IsFrontOfHead text
 open_front text still = stands_front (after_all text).spot (after_all text).fields text (bytes_good text).0 still (bytes_good text).1
 
--- ---- more bytes behind the text
+-- ---- more bytes after the text
 
 pub scanned_stays : (text more : List ℕ) (scan : HeadScan) → HasScanned text scan → HasScanned (text ++ more) scan
 scanned_stays text more scan s = record {

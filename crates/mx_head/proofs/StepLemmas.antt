@@ -1,4 +1,4 @@
--- What each answer of the parser comes to.
+-- The result of each answer of the parser.
 use Rattle.std.proofs.Common.{◌≡◌, ◌≢◌, ℕ, ◌+◌, ◌<◌, ◌≤◌, ◌⊎◌, inl, inr, List, [], ◌∷◌, ◌++◌, length, take, drop, get_or, refl, sym, ap, subst, ◌∙◌, arith, append_assoc, length-append, length-take}
 use Rattle.std.proofs.lemmas.List.{append-nil, take-append-drop, drop_more, length-take-le, get_or_at, take_all}
 use Rattle.std.proofs.lemmas.Bool.{cases_lt}
@@ -16,7 +16,7 @@ use Rattle.mx_head.specs.Summary.{Summary, Describes}
 use Rattle.mx_head.proofs.LineLemmas.{front_of, full_once}
 use Rattle.mx_head.proofs.FaultLemmas.{full_has_all, all_is_full, head_meets_nothing, exceeds_past}
 
--- ---- where a field stands past the last
+-- ---- where a field is past the last
 
 abbrev many_is_past : (text q more : List ℕ) → text ≡ q ++ more → HasManyFields q → HasFieldPast text
 many_is_past text q more e many = record {
@@ -32,7 +32,7 @@ many_is_past text q more e many = record {
 pub past_split : (text : List ℕ) (e : ℕ) → e < length text → text ≡ take e text ++ get_or text e 0 ∷ drop (e + 1) text
 past_split text e lt = sym (take-append-drop e text) ∙ ap (λ (t : List ℕ). take e text ++ t) (drop_more text e 0 lt)
 
--- a past field stands where the lines are full
+-- a past field is where the lines are full
 past_here : (text front after : List ℕ) → text ≡ front ++ after → IsFull front → (p : HasFieldPast text) → p.front ≡ front
 past_here text front after e full p =
     elim (cases_lt (length front) (length p.front)) [

@@ -53,10 +53,10 @@ abbrev pub HasAllFields : List ℕ → Type 0
 HasAllFields s =
     (h : ResponseHead) × ReadsResponse (s ++ crlf_bytes) h [] × (length h.fields ≡ most_fields)
 
--- rule head-field-count: A head has at most 128 field lines. A byte other than CR and LF behind the 128th decides: 100, though the line
+-- rule head-field-count: A head has at most 128 field lines. A byte other than CR and LF after the 128th decides: 100, though the line
 -- isn't whole.
 --
--- behind 128 whole field lines stands a byte that doesn't end the section
+-- a byte that doesn't end the section follows 128 whole field lines
 abbrev pub HasManyFields : List ℕ → Type 0
 HasManyFields r =
     (s : List ℕ) × (b : ℕ) × (r ≡ s ++ b ∷ []) × (b ≢ carriage_return) × (b ≢ line_feed)

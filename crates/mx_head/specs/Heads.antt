@@ -14,7 +14,7 @@ pub record IsHead (h : ResponseHead) : Type 0 where
 abbrev pub ReadsHead : List ℕ → ResponseHead → List ℕ → Type 0
 ReadsHead input h rest = IsHead h × (input ≡ print_response h ++ rest)
 
--- rule head-first-bad-byte: Bytes that begin no head are 8 at the first byte that can't stand there, and not later.
+-- rule head-first-bad-byte: Bytes that begin no head are 8 at the first byte that isn't allowed there, and not later.
 --
 -- no prefix of the input is a head
 abbrev pub HasNoHead : List ℕ → Type 0

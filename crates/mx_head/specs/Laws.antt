@@ -59,7 +59,7 @@ HasOneFirst code_of line_of Meets =
     (input : List ℕ) (code other : Code) → ComesFirst code_of line_of Meets input code
     → ComesFirst code_of line_of Meets input other → code ≡ other
 
--- two answers that say the same; of the places of a location no more is said than that the same bytes stand there
+-- two answers that say the same; of the places of a location no more is said than that the same bytes are there
 abbrev pub IsSameStep : List ℕ → HeadStep → HeadStep → Type 0
 IsSameStep input (step.Head x) (step.Head y) =
     (record x { location = None } ≡ record y { location = None })

@@ -8,7 +8,7 @@ pub mod Faults
 pub mod Fronts
 pub mod Reading
 pub mod Laws
--- Private: what the functions behind these promise one another. Nothing outside the crate names them.
+-- Private: what the private functions promise one another. Nothing outside the crate names them.
 pub mod Steps
 pub mod Lines
 pub mod Tried

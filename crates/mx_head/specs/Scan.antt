@@ -9,7 +9,7 @@ use Rattle.mx_head.specs.declared.scan.Reached.{Reached}
 use Rattle.mx_head.specs.declared.scan.HeadScan.{HeadScan}
 use Rattle.mx_head.specs.Limits.{most_fields}
 
--- the byte may stand at that place of the version and the code, which are `HTTP/1.` and a digit, SP, and three digits
+-- the byte is allowed at that place of the version and the code, which are `HTTP/1.` and a digit, SP, and three digits
 abbrev pub fits_opening : ℕ → ℕ → Bool
 fits_opening at b =
     if nat_lt at 7 then b == slice_index (codes "HTTP/1.") at

@@ -9,7 +9,7 @@ use Rattle.mx_head.specs.declared.elements.CommaList.{CommaList}
 use Rattle.mx_head.specs.Fields.{Line, same_word, elements_of}
 use Rattle.mx_head.specs.Framing.{is_blank}
 
--- the elements of the value behind a comma; none where there was no comma
+-- the elements of the value after a comma; none where there was no comma
 abbrev pub elements_behind : Option (Bor (List ℕ)) → List (List ℕ)
 elements_behind (Some value) = elements_of value.now
 elements_behind None = []

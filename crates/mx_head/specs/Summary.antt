@@ -17,8 +17,8 @@ use Rattle.mx_head.specs.declared.types.Length.TheVariants as sized
 use Rattle.mx_head.specs.Fields.{lines_of, elements, location_of}
 use Rattle.mx_head.specs.Framing.{has_no_body, has_word, is_blank, is_chunked_alone, is_number, is_number_of, chunked_framing}
 
--- the bytes of the head, its status, its minor version, what Transfer-Encoding and Content-Length come to,
--- whether Connection has `close` and `keep-alive`, and where the location stands
+-- the bytes of the head, its status, its minor version, the results of Transfer-Encoding and Content-Length, whether Connection has `close`
+-- and `keep-alive`, and where the location is
 pub record Summary : Type 0 where
   pub len : ℕ
   pub status : ℕ
@@ -29,13 +29,13 @@ pub record Summary : Type 0 where
   pub keep_alive : Bool
   pub location : Option Span
 
--- what the elements of Transfer-Encoding come to
+-- the result of the elements of Transfer-Encoding
 abbrev pub coding_of : List (List ℕ) → Coding
 coding_of [] = coding.Absent
 coding_of (e ∷ es) =
     if is_chunked_alone (filter (λ x. not (is_blank x)) (e ∷ es)) then coding.Chunked else coding.Other
 
--- what the elements of Content-Length come to
+-- the result of the elements of Content-Length
 abbrev pub length_of : List (List ℕ) → Length
 length_of [] = sized.Absent
 length_of (e ∷ es) =

@@ -15,7 +15,7 @@ IsTriedOn text tried.Partial = HasNoResponse text × MayBecomeResponse text
 IsTriedOn text tried.Invalid = NeverHasResponse text
 IsTriedOn text tried.Overfull = ResponseExceeds most_fields text
 
--- at e stands a byte that ends no section, behind all the lines
+-- at e is a byte that ends no section, after all the lines
 pub record IsPastAt (text : List ℕ) (e : ℕ) : Type 0 where
   pub within : e < length text
   pub not_return : slice_index text e ≢ 13

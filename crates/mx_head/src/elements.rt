@@ -1,4 +1,4 @@
-//! What stands between the commas of a field value (RFC 9110, section 5.6.1).
+//! The elements between the commas of a field value (RFC 9110, section 5.6.1).
 
 ghost use Rattle.std.specs.Prelude.{◌≡◌, ◌∷◌, Some, slice_get};
 ghost use Rattle.std.specs.Iterator.{YieldsFirstRef, item_count};
@@ -7,7 +7,7 @@ ghost use Rattle.mx_head.specs.Steps.{elements_behind, elements_ahead};
 
 use crate::text::trim_ows;
 
-/// The first element of a value, and the value behind the comma that ends it. A value without a comma is one
+/// The first element of a value, and the value after the comma that ends it. A value without a comma is one
 /// element, which may be empty.
 fn take_element(value: &[u8]) -> (&[u8], Option<&[u8]>)
     ensures { elements_of value.now ≡ result.0.now ∷ elements_behind result.1 }
@@ -28,7 +28,7 @@ pub(crate) fn first_element(value: &[u8]) -> &[u8]
 /// Gives the elements of a value, from left to right.
 #[derive(Drop)]
 pub(crate) struct CommaList<'v> {
-    /// The value that hasn't been gone over. `None` once the last element was given.
+    /// The rest of the value. `None` once the last element was given.
     ahead: Option<&'v [u8]>,
 }
 

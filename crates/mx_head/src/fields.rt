@@ -1,4 +1,4 @@
-//! What the field lines of a head come to.
+//! The results of the field lines of a head.
 
 ghost use Rattle.std.specs.Prelude.{◌≡◌, ◌≤◌, ◌||◌, ◌&&◌, ◌<◌, ◌-◌, ◌^◌, ◌==◌, min, List, [], ◌∷◌, length, map, fold, All, codes, IsTrue, ℕ, Some, IfSome, IfNone, option_copied, option_map, slice_get};
 ghost use Rattle.std.specs.List.{list_all, list_any};
@@ -14,7 +14,7 @@ use crate::text::same_word;
 use crate::types::{Coding, Length};
 use httparse::spans::{HeaderSpan, Span};
 
-/// What the elements of Transfer-Encoding that were read come to.
+/// The result of the elements of Transfer-Encoding that were read.
 #[derive(Clone, Copy)]
 enum Seen {
     Nothing,
@@ -69,7 +69,7 @@ impl Seen {
     }
 }
 
-/// What the Transfer-Encoding lines come to.
+/// The result of the Transfer-Encoding lines.
 pub(crate) fn coding(buf: &[u8], headers: &[HeaderSpan]) -> Coding
     requires { All (IsHeaderWithin (length buf.now)) headers.now }
     ensures { result ≡ coding_of (elements (codes "transfer-encoding")
@@ -187,7 +187,7 @@ fn all_lengths_of(buf: &[u8], headers: &[HeaderSpan], first: &[u8]) -> bool
     same
 }
 
-/// What the Content-Length lines come to.
+/// The result of the Content-Length lines.
 pub(crate) fn length(buf: &[u8], headers: &[HeaderSpan]) -> Length
     requires { All (IsHeaderWithin (length buf.now)) headers.now }
     ensures { result ≡ length_of (elements (codes "content-length")
@@ -214,7 +214,7 @@ fn unless_empty(buf: &[u8], span: Span) -> Option<Span>
     Some(span)
 }
 
-/// Where the value of the first Location line stands; `None` where it is empty.
+/// Where the value of the first Location line is; `None` where it is empty.
 pub(crate) fn location(buf: &[u8], headers: &[HeaderSpan]) -> Option<Span>
     requires { All (IsHeaderWithin (length buf.now)) headers.now }
     ensures value { option_map (span_bytes buf.now) result

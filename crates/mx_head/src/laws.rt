@@ -14,12 +14,12 @@ pub fn step_stays_same()
     ensures { StepStaysSame }
 {}
 
-/// What a scan has seen of an input it has seen of it with whatever bytes follow.
+/// What a scan has seen of an input stays true with whatever bytes follow.
 pub fn scan_stays_true()
     ensures { ScanStaysTrue }
 {}
 
-/// What is kept of a head decides how its body ends and whether its connection is kept, as the head itself does.
+/// What is kept of a head decides as the head itself does how its body ends, and whether its connection is kept.
 pub fn summary_decides()
     ensures { SummaryDecides }
 {}

@@ -1,5 +1,5 @@
-//! A scan of the bytes of a head as they come, each byte once. It finds no field: it tells whether the bytes so far are a
-//! proper front of a head, so that a head is parsed only once there may be an answer.
+//! A scan of the bytes of a head as they come, each byte once. It finds no field: it says whether the bytes so far are a proper prefix of a
+//! head, so that a head is parsed only once there may be an answer.
 
 ghost use Rattle.std.specs.Prelude.{◌≡◌, ℕ, ◌≤◌, ◌==◌, List, length, take, fold, true};
 ghost use Rattle.httparse.specs.Grammar.{AllPass, is_token_byte, is_value_byte};
@@ -10,28 +10,28 @@ use crate::limits::MOST_FIELDS;
 use httparse::{is_header_name_token, is_header_value, is_header_value_token};
 use memchr::memchr2;
 
-/// Where in the grammar of a head the bytes so far lead.
+/// The place in the grammar of a head after the bytes so far.
 #[derive(Clone, Copy)]
 pub(crate) enum Spot {
     /// At the beginning of a line, before the status line.
     Blank,
-    /// Behind the CR of an empty line, before the status line.
+    /// After the CR of an empty line, before the status line.
     BlankReturn,
-    /// In the status line, behind so many bytes of its version and its code.
+    /// In the status line, after so many bytes of its version and its code.
     Opening(u8),
-    /// Right behind the status code.
+    /// Right after the status code.
     Code,
     /// In a reason phrase or in a field's value.
     Text,
-    /// Behind the CR of a line with some text.
+    /// After the CR of a line with some text.
     Return,
-    /// At the beginning of a line, behind the status line.
+    /// At the beginning of a line, after the status line.
     Line,
     /// In a field's name.
     Name,
-    /// Behind the CR of the empty line.
+    /// After the CR of the empty line.
     LastReturn,
-    /// No proper front of a head.
+    /// No proper prefix of a head.
     Settled,
 }
 
@@ -49,7 +49,7 @@ pub struct HeadScan {
     pub(crate) reached: Reached,
 }
 
-/// Whether the byte may stand there in the version and the code of a status line: `HTTP/1.1 200`.
+/// Whether the byte may be there in the version and the code of a status line: `HTTP/1.1 200`.
 fn fits_opening(at: u8, b: u8) -> bool
     ensures { result ≡ spec.fits_opening at b }
 {
@@ -65,7 +65,7 @@ fn fits_opening(at: u8, b: u8) -> bool
     b.is_ascii_digit()
 }
 
-/// Behind that many bytes of the version and the code, after one more.
+/// After that many bytes of the version and the code, and one more.
 fn in_opening(at: u8, b: u8) -> Spot
     ensures { result ≡ spec.in_opening at b }
 {
@@ -79,7 +79,7 @@ fn in_opening(at: u8, b: u8) -> Spot
     }
 }
 
-/// After a byte that goes on in no text: a line end, or nothing of a head.
+/// After a byte that is no text: a line end, or nothing of a head.
 fn line_end(b: u8) -> Spot
     ensures { result ≡ spec.line_end b }
 {
@@ -90,7 +90,7 @@ fn line_end(b: u8) -> Spot
     }
 }
 
-/// How many bytes at the front may stand in a field's name.
+/// How many bytes at the front may be in a field's name.
 fn name_run(text: &[u8]) -> usize
     ensures within { result ≤ length text.now }
     ensures name { AllPass is_token_byte (take result text.now) }
@@ -102,7 +102,7 @@ fn name_run(text: &[u8]) -> usize
     n
 }
 
-/// How many bytes at the front may stand in a value, a byte at a time.
+/// How many bytes at the front may be in a value, a byte at a time.
 fn value_run(text: &[u8]) -> usize
     ensures within { result ≤ length text.now }
     ensures value { AllPass is_value_byte (take result text.now) }
@@ -114,10 +114,10 @@ fn value_run(text: &[u8]) -> usize
     n
 }
 
-/// A text of fewer bytes is gone through a byte at a time: looking for the end of its line first costs more than it saves.
+/// A text of fewer bytes is read a byte at a time: looking for the end of its line first costs more than it saves.
 const SHORT: usize = 16;
 
-/// How many bytes at the front may stand in a value, sixteen at a time where all up to the end of the line do.
+/// How many bytes at the front may be in a value, sixteen at a time where all up to the end of the line may.
 fn value_line(text: &[u8]) -> usize
     ensures within { result ≤ length text.now }
     ensures value { AllPass is_value_byte (take result text.now) }
@@ -134,7 +134,7 @@ fn value_line(text: &[u8]) -> usize
 }
 
 impl Spot {
-    /// How many bytes at the front lead nowhere else.
+    /// How many bytes at the front leave the place as it is.
     fn run(self, text: &[u8]) -> usize
         ensures within { result ≤ length text.now }
         ensures stays { (n : ℕ) → fold spec.after (spec.reached self n) (take result text.now) ≡ spec.reached self n }
@@ -241,7 +241,7 @@ impl HeadScan {
         }
     }
 
-    /// Goes over the bytes that it has not seen, up to one that settles them.
+    /// Reads the bytes that it has not seen, up to one that settles them.
     pub(crate) fn read_on(&mut self, text: &[u8])
         requires { HasScanned text.now self.old }
         ensures scanned { HasScanned text.now self.new }
@@ -272,7 +272,7 @@ impl HeadScan {
         self.read == 0
     }
 
-    /// Whether the bytes that it has seen are a proper front of a head.
+    /// Whether the bytes that it has seen are a proper prefix of a head.
     pub(crate) fn is_open(&self) -> bool
         ensures { result ≡ is_open self.now }
     {

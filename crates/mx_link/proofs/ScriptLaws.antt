@@ -91,7 +91,7 @@ reads_keep_front plan (len ∷ lens) =
     let later = reads_of next.1 lens in
     front_after next.0 (later.0 ++ later.1) next.1 (reads_keep_front next.1 lens) ∙ read_keeps_front plan len
 
--- what is left of the front behind these answers
+-- what is left of the prefix after these answers
 abbrev front_left : List Answer → List Answer → List ℕ
 front_left [] left = given_front left
 front_left (answers.Gave bytes ∷ rest) left = front_left rest left

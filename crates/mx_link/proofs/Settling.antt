@@ -19,7 +19,7 @@ settled_once_more called most before between after first count told interrupted 
   settled = λ e. omega (arith, rest.settled e, some);
 }
 
--- of an interrupted read it counts alone how much there was room for
+-- of an interrupted read only how much there was room for counts
 pub read_once_more : (most : ℕ) (before between after : List Called) (left last : List ℕ) (first count : Result ℕ ErrorKind)
     → between ≡ before ++ read_call first left ∷ [] → first ≡ Err kind.Interrupted → length last ≡ length left → 0 < most
     → IsSettled (λ c. read_call c last) (most - 1) between after count → IsSettled (λ c. read_call c last) most before after count

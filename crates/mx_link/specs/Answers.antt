@@ -28,7 +28,7 @@ is_blocked answers.ReadBlocked = true
 is_blocked answers.WriteBlocked = true
 is_blocked _ = false
 
--- the answer to the question whether the connection stands
+-- the answer to the question whether the connection is made
 abbrev pub is_connect : Answer → Bool
 is_connect answers.Connected = true
 is_connect answers.ConnectBlocked = true

@@ -1,4 +1,4 @@
--- The answer that a call's result stands for, and what a link tells of its calls.
+-- The answer of a call's result, and what is known of a link's calls.
 use Rattle.std.specs.Prelude.{ℕ, ◌≤◌, List, [], ◌∷◌, ◌++◌, take}
 use Rattle.mx_link.specs.declared.answers.Answer.{Answer}
 use Rattle.mx_link.specs.declared.answers.Answer.TheVariants as answers
@@ -39,7 +39,7 @@ abbrev pub IsWriteWithin : Write → ℕ → Type 0
 IsWriteWithin (write.Bytes n) len = (1 ≤ n) × (n ≤ len)
 IsWriteWithin _ len = Unit {0}
 
--- what a link tells of its calls so far: its answers, and how many bytes it was asked for at each
+-- what is known of a link's calls so far: its answers, and how many bytes it was asked for at each
 pub record Told : Type 0 where
   pub history : List Answer
   pub asked : List ℕ

@@ -35,7 +35,7 @@ abbrev pub IsBytes : Answer → Type 0
 IsBytes (answers.Gave bytes) = Unit {0}
 IsBytes _ = ⊥
 
--- What the reads gave is the front of the script, and the whole of it once an answer isn't bytes.
+-- What the reads gave is a prefix of the script, and the whole of it once an answer isn't bytes.
 pub record GivesFront (script : List ScriptRead) (reads : List Answer) : Type 0 where
   pub later : List ℕ
   pub joined : given_front reads ++ later ≡ script_front script

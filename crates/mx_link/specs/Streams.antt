@@ -19,7 +19,7 @@ abbrev pub by_kind : Result ℕ Error → Result ℕ ErrorKind
 by_kind (Ok n) = Ok n
 by_kind (Err e) = Err (error_kind e)
 
--- what contracts see of a link over a stream: the stream, the number under which its readiness is told, its answers so far, and
+-- what contracts see of a link over a stream: the stream, the number under which its readiness is reported, its answers so far, and
 -- how many bytes it was asked for at each
 pub record StreamState (S : Type 0) : Type 0 where
   pub stream : S
@@ -66,7 +66,7 @@ abbrev pub IsCountWithin : Result ℕ ErrorKind → ℕ → Type 0
 IsCountWithin (Ok n) len = n ≤ len
 IsCountWithin (Err e) len = Unit {0}
 
--- the front of the bytes, as many as the count has; none of an error
+-- the first bytes, as many as the count says; none with an error
 abbrev pub front_of : Result ℕ ErrorKind → List ℕ → List ℕ
 front_of (Ok n) bytes = take n bytes
 front_of (Err e) bytes = []
@@ -85,8 +85,7 @@ pub record IsSettled (called : Result ℕ ErrorKind → Called) (most : ℕ) (be
   pub within : again ≤ most
   pub settled : is_interrupted count ≡ true → again ≡ most
 
--- rule link-bytes: What a link over a stream is offered is offered to the stream, and the bytes that a read of the stream gave are those
--- that the link gives.
+-- rule link-bytes: A link over a stream offers the stream what it is offered, and gives the bytes that a read of the stream gave.
 --
 -- A read of the stream that has left the buffer like this, and the answer is what its result means. What was interrupted gave nothing.
 abbrev pub IsReadBy : List Called → List Called → List ℕ → Read → Type 0

@@ -4,7 +4,7 @@ ghost use Rattle.std.specs.Prelude.{◌≡◌, ◌≤◌, ◌-◌, ◌^◌, ℕ,
 use mx_types::History;
 use std::marker::Model;
 
-/// Whether a connection stands.
+/// Whether a connection is made.
 #[derive(Clone, Copy, PartialEq, Eq)]
 pub enum Connect {
     /// It does.
@@ -94,8 +94,7 @@ impl Answer {
     }
 }
 
-/// What a link tells of its calls so far: its answers, how much it was asked for at each, and how many of the answers
-/// were faults.
+/// What is known of a link's calls so far: its answers, how much it was asked for at each, and how many of the answers were faults.
 #[derive(Drop)]
 pub(crate) struct Answers {
     history: History<Answer>,

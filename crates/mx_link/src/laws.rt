@@ -10,7 +10,7 @@ pub fn reads_lose_nothing()
 {}
 
 /// Whatever the lengths of the buffers are, the reads of a script, joined, give back its bytes up to the first entry
-/// that isn't bytes: a front of these so far, and all of them once a read answers something else.
+/// that isn't bytes: a prefix of these so far, and all of them once a read answers something else.
 pub fn reads_give_the_script()
     ensures { ReadsGiveTheScript }
 {}

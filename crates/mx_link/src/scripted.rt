@@ -137,7 +137,7 @@ impl WritePlan {
 /// A link that answers from two lists, one for reads and one for writes. Contracts see what is left of them, and its
 /// history.
 ///
-/// After its list a read answers `End`, and a write takes everything. It stands from the start, and its token is 0.
+/// After its list a read answers `End`, and a write takes everything. It is connected from the start, and its token is 0.
 #[derive(Drop)]
 pub struct ScriptLink {
     reads: ReadPlan,
@@ -206,7 +206,7 @@ impl ScriptLink {
 
     /// Copies both lists. `Bytes` of no bytes and `Bytes(0)` are skipped, as if they weren't there.
     ///
-    /// `OutOfMemory` comes where a copy finds none.
+    /// Returns `OutOfMemory` where memory for a copy is refused.
     pub fn new(
         alloc: Global,
         reads: &[ScriptRead<'_>],

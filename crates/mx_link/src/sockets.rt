@@ -10,7 +10,7 @@ use std::io;
 use std::io::{ErrorKind, Read as _, Write as _};
 use std::marker::Model;
 
-// The stream is handed to nobody: a read past the link would be in no list of results. A poll gets it by `register`.
+// The stream is handed to nobody: a read that bypasses the link would be in no list of results. A poll gets it by `register`.
 /// A TCP stream, with its system calls and their results for contracts alone. Contracts see these; what a socket gives and
 /// takes, and when, no contract can say.
 #[derive(Drop)]
@@ -32,7 +32,7 @@ impl Model for TcpSocket {
 pub type TcpLink = StreamLink<TcpSocket>;
 
 impl StreamLink<TcpSocket> {
-    /// A link over `stream`, whose readiness is told under `token`. The stream may still be connecting.
+    /// A link over `stream`, whose readiness is reported under `token`. The stream may still be connecting.
     pub fn new(stream: TcpStream, token: u64) -> StreamLink<TcpSocket>
         ensures { result ≡ record { stream = []; token = token; history = []; asked = [] } }
     {

@@ -10,8 +10,8 @@ use mx_types::History;
 use std::io::ErrorKind;
 use std::marker::Model;
 
-/// A stream's call and its result, as the list of its calls has it: with the bytes that were given or offered, which contracts alone read. An
-/// error is told by its kind.
+/// A stream's call and its result, as the list of its calls has it: with the bytes that were given or offered, which contracts alone read.
+/// An error is given by its kind.
 #[derive(Drop)]
 pub enum Called {
     /// The error that the socket held, if it held one.
@@ -45,7 +45,7 @@ impl Called {
     }
 }
 
-/// What a link needs of a socket, whose calls don't wait. An error is told by its kind.
+/// What a link needs of a socket, whose calls don't wait. An error is given by its kind.
 pub trait Stream: Drop {
     ghost use Rattle.mx_link.specs.declared.streams.Called.{Called};
     ghost use Rattle.mx_link.specs.declared.streams.Called.TheVariants as called;
@@ -62,7 +62,7 @@ pub trait Stream: Drop {
     fn find_peer(&mut self) -> Result<(), ErrorKind>
         ensures { results self.new ≡ results self.old ++ called.Peer result ∷ [] };
 
-    /// Reads into the front of `buffer` (read(2)). Behind what was read the buffer may have changed.
+    /// Reads into the front of `buffer` (read(2)). After the bytes read the buffer may have changed.
     fn read(&mut self, buffer: &mut [u8]) -> Result<usize, ErrorKind>
         ensures told { results self.new ≡ results self.old ++ read_call result buffer.new ∷ [] }
         ensures within { IsCountWithin result (length buffer.new) }
@@ -164,7 +164,7 @@ impl<S: Stream> Model for StreamLink<S> {
 }
 
 impl<S: Stream> StreamLink<S> {
-    /// A link over `stream`, whose readiness is told under `token`. The stream may still be connecting.
+    /// A link over `stream`, whose readiness is reported under `token`. The stream may still be connecting.
     pub fn over(stream: S, token: u64) -> StreamLink<S>
         ensures { result ≡ record { stream = stream; token = token; history = []; asked = [] } }
     {

@@ -1,4 +1,4 @@
--- What a gate dials of what it was told.
+-- What a gate dials, by the resolver's answer.
 use Rattle.std.proofs.Common.{◌≡◌, ℕ, true, List, subst}
 use Rattle.std.specs.Prelude.{bytes_eq}
 use Rattle.std.proofs.lemmas.Slice.Eq.{bytes_eq-Decides}

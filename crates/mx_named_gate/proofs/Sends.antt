@@ -1,5 +1,5 @@
--- A gate that waits for no name may go to another thread, where threads may share its runtime and its resolver's lookup. `search` finds
--- it for what the gate is made of, so each step stands here.
+-- A gate that waits for no name may go to another thread, where threads may share its runtime and its resolver's lookup. `search` finds it
+-- for what the gate is made of, so each step is here.
 use denote.RattleType.{RattleType}
 use denote.Ref.{NamedLft}
 use denote.Param.Send.{IsSend, IsSync, struct_send, struct_sync, shr_send, sendable}

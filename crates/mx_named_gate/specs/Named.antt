@@ -17,20 +17,20 @@ pub record NamedGateState : Type 0 where
   pub gate : SocketGateState
   pub said : List Said
 
--- a host, and what was told of it
+-- a host, and the answer on it
 pub record ToldState : Type 0 where
   pub host : List ℕ
   pub answer : Answer
 
--- What a resolver tells of a host: the address that it spells, or what a lookup of that very name came to.
+-- A resolver's answer on a host: the address that it spells, or the result of a lookup of that very name.
 pub record IsToldOf (gives : Gives) (host : List ℕ) (answer : Answer) : Type 0 where
   pub spelled : (ip : IpAddr) → IsIpText (unbracketed host) ip → IsSpelled (unbracketed host) answer
   pub looked_up : SpellsNone (unbracketed host) → IsTrueOf gives (unbracketed host) answer
 
 -- The addresses of a link to an endpoint, where `was` is what the gate's own lookups before found, and `is` what all have since.
 pub data AreOf (gives : Gives) (endpoint : HostAndPort) (addresses : List SocketAddr) (was is : List (List SocketAddr)) : Type 0 where
-  -- those that the resolver tells of the host, at the port; nothing is looked up
+  -- those of the resolver's answer on the host, at the port; nothing is looked up
   told : (some : List SocketAddr) → IsToldOf gives endpoint.host (answers.Known some) → AreAt endpoint.port some addresses → is ≡ was
       → AreOf gives endpoint addresses was is
-  -- where it tells nothing yet, those of a gate that looks the name up itself
+  -- where it has no answer yet, those of a gate that looks the name up itself
   own : AreAddressesOf endpoint addresses was is → AreOf gives endpoint addresses was is

@@ -1,8 +1,8 @@
-//! What a resolver rings where a lookup has ended.
+//! What a resolver rings when a lookup has ended.
 use mx_gate::Bell;
 use mx_names::Ring;
 
-/// The bell of a gate, as a resolver rings it.
+/// The bell of a gate, for a resolver to ring.
 #[derive(Drop)]
 pub struct NameBell {
     bell: Bell,
@@ -18,7 +18,7 @@ impl NameBell {
 impl Ring for NameBell {
     /// Ends the wait that is under way, else the next one.
     fn ring(&self) {
-        // A bell that can't be rung leaves its gate to the end of its wait.
+        // Where the bell can't be rung, its gate waits to the end of its timeout.
         let _ = self.bell.ring();
     }
 }

@@ -19,7 +19,7 @@ use std::net::Net;
 use std::rt::Clock;
 use std::sync::Wait;
 
-// What a resolver told of a host.
+// A resolver's answer on a host.
 #[derive(Drop)]
 struct Told<L: Lookup> {
     host: String,
@@ -38,7 +38,7 @@ impl<L: Lookup> Model for Told<L> {
     ghost invariant = { λ t. IsToldOf L.gives (string_bytes t.host) t.answer };
 }
 
-// What was told of this host, if something was.
+// The answer on this host, if there was one.
 fn answer_to<L: Lookup>(told: Option<Told<L>>, host: &str) -> Option<Answer>
     ensures { IfSome result (IsToldOf L.gives host.now) }
 {
@@ -49,7 +49,7 @@ fn answer_to<L: Lookup>(told: Option<Told<L>>, host: &str) -> Option<Answer>
 }
 
 impl<L: Lookup> Told<L> {
-    // The answer, where it was told of this host.
+    // The answer, where it is on this host.
     #[tactic(auto, using(crate::proofs::NamedLemmas::told_alike))]
     fn answer_to(self, host: &str) -> Option<Answer>
         ensures { IfSome result (IsToldOf L.gives host.now) }
@@ -61,7 +61,7 @@ impl<L: Lookup> Told<L> {
         }
     }
 
-    // What was told of the host, unless memory is wanting.
+    // What is known of the host, unless memory is refused.
     fn of(alloc: Global, host: &str, answer: Answer) -> Option<Told<L>>
         requires { IsToldOf L.gives host.now answer }
     {
@@ -110,7 +110,7 @@ fn failure(code: Code) -> Code
     }
 }
 
-// A share of the resolver, which rings the gate's bell from now on. It owns no gate, so that its exits let none go.
+// A share of the resolver, which rings the gate's bell from now on. It owns no gate, so its exits drop none.
 fn listening<R: Net + Clock + AllocGlobal + Wait, L: Lookup>(
     rt: &R,
     gate: &SocketGate<'_, R>,
@@ -122,8 +122,8 @@ fn listening<R: Net + Clock + AllocGlobal + Wait, L: Lookup>(
 
 impl<'r, R: Net + Clock + AllocGlobal + Wait, L: Lookup> NamedGate<'r, R, L> {
     /// A gate that opens links as this one, whose names this resolver looks up; it rings the gate's bell where a lookup has ended. Both are
-    /// to have one start: `SocketGate::start` of the gate, and the start that the resolver was made with. The gate starts no thread: somebody
-    /// is to begin the lookups that it wants, by `Resolver::serve`.
+    /// to have one start: `SocketGate::start` of the gate, and the start that the resolver was made with. The gate starts no thread:
+    /// somebody is to begin the lookups that it wants, by `Resolver::serve`.
     ///
     /// The one error is that memory was refused. It drops the gate, and the resolver may keep the gate's bell, which then wakes nobody.
     pub fn new(
@@ -146,7 +146,7 @@ impl<'r, R: Net + Clock + AllocGlobal + Wait, L: Lookup> NamedGate<'r, R, L> {
         }
     }
 
-    // What the resolver tells of the host now.
+    // The resolver's answer on the host now.
     #[tactic(auto, using(crate::proofs::NamedLemmas::is_told))]
     fn ask(&self, host: &str) -> Answer
         ensures { IsToldOf L.gives host.now result }
@@ -156,7 +156,7 @@ impl<'r, R: Net + Clock + AllocGlobal + Wait, L: Lookup> NamedGate<'r, R, L> {
         self.resolver.look(self.rt, host, since, now)
     }
 
-    // What the resolver tells of the host: what it told when it was asked last, if that was of this host.
+    // The resolver's answer on the host: the last one that it gave, if that was on this host.
     fn answer_of(&mut self, host: &str) -> Answer
         ensures told { IsToldOf L.gives host.now result }
         ensures same { self.new ≡ self.old }
@@ -167,14 +167,14 @@ impl<'r, R: Net + Clock + AllocGlobal + Wait, L: Lookup> NamedGate<'r, R, L> {
         }
     }
 
-    // Asks the resolver of the host, and keeps what it tells. The answer is whether it tells something.
+    // Asks the resolver about the host, and keeps its answer. True where there is one.
     fn hear(&mut self, host: &str) -> bool
         ensures { self.new ≡ self.old }
     {
         let answer = self.ask(host);
         if matches!(answer, Answer::NotYet) {
             let now = self.gate.latest();
-            // Without memory it is asked for since later.
+            // Where memory is refused, the host counts as asked for since a later moment.
             let _ = self.waiting.begin(self.rt.alloc(), host, now);
             return false;
         }
@@ -183,7 +183,7 @@ impl<'r, R: Net + Clock + AllocGlobal + Wait, L: Lookup> NamedGate<'r, R, L> {
         true
     }
 
-    // Opens a link to what was told of the endpoint's host.
+    // Opens a link by the answer on the endpoint's host.
     #[tactic(auto, using(crate::proofs::NamedLemmas::are_told, crate::proofs::NamedLemmas::are_own))]
     fn begin(&mut self, endpoint: &Endpoint) -> Result<SocketLink<'r, R>, Code>
         ensures code { IfErr result (λ code. is_link_code code ≡ true) }
@@ -223,8 +223,8 @@ impl<'r, R: Net + Clock + AllocGlobal + Wait, L: Lookup> Gate for NamedGate<'r, 
         now
     }
 
-    /// It can where the resolver tells something of the host: its addresses, or why it has none. Else a lookup of it is wanted or under way,
-    /// and the resolver rings the bell of the gate where that has ended. No clause tells which it answers, nor that the bell is rung.
+    /// It can where the resolver has an answer on the host: its addresses, or why it has none. Else a lookup of it is wanted or under way,
+    /// and the resolver rings the bell of the gate where that has ended. No clause says which it answers, nor that the bell is rung.
     fn can_open(&mut self, endpoint: &Endpoint) -> bool
         ensures moment { self.new.gate.latest ≡ self.old.gate.latest }
         ensures others { self.new ≡ record self.old { said = self.new.said } }
@@ -235,10 +235,10 @@ impl<'r, R: Net + Clock + AllocGlobal + Wait, L: Lookup> Gate for NamedGate<'r, 
         can
     }
 
-    /// Begins to connect to the addresses that the resolver told of the host, or answers why it has none. It uses what `can_open` was told just
-    /// before, and else asks now; where nothing is known yet it looks the name up itself, and waits for that.
+    /// Begins to connect to the addresses that the resolver gives for the host, or answers why it has none. It uses the answer that
+    /// `can_open` got just before, and else asks now; where nothing is known yet it looks the name up itself, and waits for that.
     ///
-    /// No clause says that an error is the one that the resolver told, or that the gate within keeps its next token on an error.
+    /// No clause says that an error is the resolver's, or that the gate within keeps its next token on an error.
     fn open(&mut self, endpoint: &Endpoint) -> Result<SocketLink<'r, R>, Code>
         ensures fresh { IfOk result (λ link. link.history ≡ []) }
         ensures code { IfErr result (λ code. is_link_code code ≡ true) }
@@ -254,8 +254,8 @@ impl<'r, R: Net + Clock + AllocGlobal + Wait, L: Lookup> Gate for NamedGate<'r, 
         answer
     }
 
-    /// As the turn of the gate within. Before it the hosts are forgotten of which the resolver told something: who asks of one that has no
-    /// address from then on has it looked up again.
+    /// As the turn of the gate within. Before it the hosts are forgotten on which the resolver has answered: a host without addresses that
+    /// is asked for from then on is looked up again.
     fn turn(&mut self, wait_ms: u32) -> Turn
         ensures moment { self.new.gate.latest ≡ self.old.gate.latest }
         ensures noted { self.new.said ≡ self.old.said ++ waited wait_ms (is_stop result) ∷ [] }

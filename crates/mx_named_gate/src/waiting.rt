@@ -2,7 +2,7 @@
 use mx_types::OutOfMemory;
 use std::alloc::Global;
 
-// A host that was asked for, since when, and whether it was told.
+// A host that was asked for, since when, and whether its answer was given.
 #[derive(Drop)]
 struct Wait {
     host: String,
@@ -10,8 +10,8 @@ struct Wait {
     is_told: bool,
 }
 
-/// The hosts that were asked for and not told at once. A host that was told stays until `forget_told`, so that all who wait for it are told
-/// the same.
+/// The hosts that were asked for and not answered at once. A host that was answered stays until `forget_told`, so that all who wait for it
+/// get the same.
 #[derive(Drop)]
 pub(crate) struct Waiting {
     waits: Vec<Wait>,
@@ -45,7 +45,7 @@ impl Waiting {
         Ok(())
     }
 
-    /// Notes that the host was told.
+    /// Notes that the host was answered.
     pub fn end(&mut self, host: &str) {
         for wait in &mut self.waits {
             if wait.host.as_str() == host {
@@ -54,7 +54,7 @@ impl Waiting {
         }
     }
 
-    /// Forgets the hosts that were told.
+    /// Forgets the hosts that were answered.
     pub fn forget_told(&mut self) {
         self.waits.retain(|w| !w.is_told);
     }

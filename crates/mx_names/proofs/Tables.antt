@@ -208,7 +208,7 @@ fewer_table gives p states table = record {
   true_to = all_filter (λ (state : HostState). IsLearnt gives state.host state.learnt) p states table.true_to;
 }
 
--- nothing is told but what a lookup of the host came to
+-- nothing is answered but what a lookup of the host gave
 pub told_true : (gives : Gives) (host : List ℕ) (since now : ℕ) (states : List HostState) → AllByRecursion (λ state. IsLearnt gives state.host state.learnt) states → IsTrueOf gives host (told since now (find (is_of host) states))
 told_true gives host since now [] h = tt
 told_true gives host since now (s ∷ ss) h = told_true_by gives host since now s ss (is_of host s) refl h.0 (told_true gives host since now ss h.1)

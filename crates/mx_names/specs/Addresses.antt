@@ -15,7 +15,7 @@ is_v4 address = is_ipv4 (socket_ip address)
 abbrev pub in_order : List SocketAddr → List SocketAddr
 in_order addresses = filter is_v4 addresses ++ filter (λ address. not (is_v4 address)) addresses
 
--- the codes of a host whose addresses can't be had
+-- the codes of a host whose addresses can't be found
 abbrev pub is_lookup_code : Code → Bool
 is_lookup_code code.CouldntResolveHost = true
 is_lookup_code code.OutOfMemory = true

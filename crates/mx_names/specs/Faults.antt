@@ -7,7 +7,7 @@ use Rattle.std.specs.declared.io.ErrorKind.TheVariants as kind
 use Rattle.mx_types.specs.declared.code.Code.{Code}
 use Rattle.mx_types.specs.declared.code.Code.TheVariants as code
 
--- memory was wanting (ENOMEM)
+-- memory was refused (ENOMEM)
 abbrev pub is_memory : ErrorKind → Bool
 is_memory kind.OutOfMemory = true
 is_memory _ = false

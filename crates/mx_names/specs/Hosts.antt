@@ -8,15 +8,15 @@ use Rattle.mx_types.specs.declared.code.Code.TheVariants as codes
 use Rattle.mx_names.specs.declared.answer.Answer.{Answer}
 use Rattle.mx_names.specs.declared.answer.Answer.TheVariants as answer
 
--- the text stands in brackets (91 and 93)
+-- the text is in brackets (91 and 93)
 abbrev pub is_bracketed : List ℕ → Bool
 is_bracketed host = (slice_index host 0 == 91) && (slice_index host (length host - 1) == 93)
 
--- what stands between the brackets, where the host stands in some
+-- what is between the brackets, where the host is in brackets
 abbrev pub unbracketed : List ℕ → List ℕ
 unbracketed host = if is_bracketed host then take (length host - 2) (drop 1 host) else host
 
--- that one address is told, or that memory was wanting
+-- that one address is the answer, or that memory was refused
 abbrev pub IsAddress : IpAddr → Answer → Type 0
 IsAddress ip (answer.Known addresses) = (a : SocketAddr) × (addresses ≡ a ∷ []) × (socket_ip a ≡ ip)
 IsAddress ip (answer.Failed failed) = failed ≡ codes.OutOfMemory
@@ -24,6 +24,6 @@ IsAddress ip answer.NotYet = ⊥
 
 -- rule name-spelled-address: A host that spells an address isn't looked up.
 --
--- the one address that the text spells is told, or that memory was wanting
+-- the one address that the text spells is the answer, or that memory was refused
 abbrev pub IsSpelled : List ℕ → Answer → Type 0
 IsSpelled text told = (ip : IpAddr) × IsIpText text ip × IsAddress ip told

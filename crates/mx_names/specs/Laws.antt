@@ -2,7 +2,7 @@
 use Rattle.std.specs.Prelude.{◌≡◌, ℕ, List, [], ◌∷◌, ◌++◌}
 use Rattle.mx_names.specs.Hosts.{unbracketed}
 
--- the host stands in brackets (91 and 93), with this between them
+-- the host is in brackets (91 and 93), with this between them
 abbrev pub IsBracketed : List ℕ → List ℕ → Type 0
 IsBracketed host inner = host ≡ 91 ∷ inner ++ 93 ∷ []
 

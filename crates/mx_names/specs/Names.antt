@@ -13,7 +13,7 @@ use Rattle.mx_names.specs.declared.entry.Learnt.{Learnt}
 use Rattle.mx_names.specs.declared.answer.Answer.{Answer}
 use Rattle.mx_names.specs.declared.answer.Answer.TheVariants as answer
 
--- what a lookup comes to: the host's addresses, or the code of why there are none
+-- the result of a lookup: the host's addresses, or the code of why there are none
 abbrev pub Outcome : Type 0
 Outcome = Result (List SocketAddr) Code
 
@@ -29,12 +29,12 @@ kept_ms = 60_000
 abbrev pub most_lookups : ℕ
 most_lookups = 64
 
--- a host, and what its lookup came to; while that is under way nothing is learnt
+-- a host, and the result of its lookup; while that is under way nothing is learnt
 pub record HostState : Type 0 where
   pub host : List ℕ
   pub learnt : Option Learnt
 
--- a host, and what its lookup came to
+-- a host, and the result of its lookup
 pub record FindingState : Type 0 where
   pub host : List ℕ
   pub outcome : Outcome
@@ -45,7 +45,7 @@ pub record IsFound (gives : Gives) (host : List ℕ) (addresses : List SocketAdd
   pub gave : gives host (Ok given)
   pub all : addresses ≡ in_order given
 
--- the code that the lookup of the host gave, or that memory was wanting
+-- the code that the lookup of the host gave, or that memory was refused
 pub record IsFailure (gives : Gives) (host : List ℕ) (failed : Code) : Type 0 where
   pub code : is_lookup_code failed ≡ true
   pub why : (failed ≡ codes.OutOfMemory) ⊎ gives host (Err failed)
@@ -70,11 +70,11 @@ is_young now learnt = nat_lt (now - learnt.moment) kept_ms
 
 -- rule name-failures: A failure is reported to those who asked before it was learnt, and isn't kept for others.
 --
--- Who asks since a moment is told it: addresses while they are kept, and a failure only where it came after that moment.
+-- The answer to one who asks since a moment: addresses while they are kept, and a failure only where it came after that moment.
 abbrev pub tells : ℕ → ℕ → Learnt → Bool
 tells since now learnt = is_young now learnt && (is_ok learnt.outcome || nat_le since learnt.moment)
 
--- an outcome, as it is told
+-- an outcome, as an answer
 abbrev pub answer_of : Outcome → Answer
 answer_of (Ok addresses) = answer.Known addresses
 answer_of (Err failed) = answer.Failed failed
@@ -83,12 +83,12 @@ abbrev pub told_by : ℕ → ℕ → Option Learnt → Answer
 told_by since now None = answer.NotYet
 told_by since now (Some learnt) = if tells since now learnt then answer_of learnt.outcome else answer.NotYet
 
--- What is told of a host to one who asks since a moment, now.
+-- The answer on a host to one who asks since a moment, now.
 abbrev pub told : ℕ → ℕ → Option HostState → Answer
 told since now None = answer.NotYet
 told since now (Some state) = told_by since now state.learnt
 
--- The lookup of the host isn't under way, and it has nothing to tell.
+-- The lookup of the host isn't under way, and there is no answer.
 abbrev pub is_over : ℕ → ℕ → Option Learnt → Bool
 is_over since now None = false
 is_over since now (Some learnt) = not (tells since now learnt)
@@ -99,7 +99,7 @@ is_open since now (Some state) = is_over since now state.learnt
 
 -- rule name-hanging-lookups: Lookups that hang delay no other while fewer than 64 do.
 --
--- A lookup of the host begins: none of it is under way, there is nothing to tell, and fewer than 64 others are.
+-- A lookup of the host begins: none of it is under way, there is no answer, and fewer than 64 others are under way.
 abbrev pub may_begin : List ℕ → ℕ → ℕ → List HostState → Bool
 may_begin host since now states = is_open since now (find (is_of host) states) && nat_lt (count_by is_under_way states) most_lookups
 
@@ -115,7 +115,7 @@ stays host now state = not (is_of host state) && is_kept now state.learnt
 abbrev pub begun : List ℕ → ℕ → List HostState → List HostState
 begun host now states = filter (stays host now) states ++ record { host = host; learnt = None } ∷ []
 
--- What a lookup of the host that was under way came to is learnt, and nothing else changes.
+-- The result of a lookup of the host that was under way is learnt, and nothing else changes.
 pub record Learns (host : List ℕ) (outcome : Outcome) (moment : ℕ) (old new : List HostState) : Type 0 where
   pub earlier : List HostState
   pub later : List HostState
@@ -130,7 +130,7 @@ HasNone host states = AllByRecursion (λ state. (is_of host state && is_under_wa
 abbrev pub SpellsNone : List ℕ → Type 0
 SpellsNone text = (ip : IpAddr) → IsIpText text ip → ⊥
 
--- what was learnt, if anything, is what the lookup of the host came to
+-- what was learnt, if anything, is the result of the lookup of the host
 abbrev pub IsLearnt : Gives → List ℕ → Option Learnt → Type 0
 IsLearnt gives host None = Unit {0}
 IsLearnt gives host (Some learnt) = IsOutcome gives host learnt.outcome
@@ -142,15 +142,15 @@ abbrev pub IsDistinct : List HostState → Type 0
 IsDistinct [] = Unit {0}
 IsDistinct (state ∷ states) = AllByRecursion (λ later. is_of later.host state ≡ false) states × IsDistinct states
 
--- What holds of every table: a host has one record, at most 64 lookups are under way, no host is an address, and each outcome is one that
--- a lookup of that very host came to.
+-- What holds of every table: a host has one record, at most 64 lookups are under way, no host is an address, and each outcome is the result
+-- of a lookup of that very host.
 pub record IsTable (gives : Gives) (states : List HostState) : Type 0 where
   pub one : IsDistinct states
   pub few : count_by is_under_way states ≤ most_lookups
   pub names : AllByRecursion (λ state. SpellsNone state.host) states
   pub true_to : AllByRecursion (λ state. IsLearnt gives state.host state.learnt) states
 
--- rule name-own-answer: What is reported of a host is what a lookup of that host came to.
+-- rule name-own-answer: What is reported of a host is the result of a lookup of that host.
 abbrev pub IsTrueOf : Gives → List ℕ → Answer → Type 0
 IsTrueOf gives host (answer.Known addresses) = IsFound gives host addresses
 IsTrueOf gives host (answer.Failed failed) = IsFailure gives host failed

@@ -25,7 +25,7 @@ impl Model for Addresses {
 }
 
 // rule name-ipv4-first
-/// The IPv4 addresses first, and then the others; among each other both stay as they are.
+/// The IPv4 addresses first, then the others; within each kind the order stays.
 pub fn in_order(alloc: Global, all: &[SocketAddr]) -> Result<Vec<SocketAddr>, OutOfMemory>
     ensures { IfOk result (λ ordered. ordered.items ≡ in_order all.now) }
 {

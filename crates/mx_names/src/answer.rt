@@ -1,13 +1,13 @@
-//! What one who asks is told.
+//! The answer to one who asks for a host.
 use crate::addresses::Addresses;
 use mx_types::Code;
 
-/// What one who asks for a host's addresses is told.
+/// The answer to one who asks for a host's addresses.
 #[derive(Drop)]
 pub enum Answer {
     /// The addresses.
     Known(Addresses),
-    /// The lookup failed: `CouldntResolveHost`, or `OutOfMemory` where memory was wanting.
+    /// The lookup failed: `CouldntResolveHost`, or `OutOfMemory` where memory was refused.
     Failed(Code),
     /// Nothing is known yet: ask again.
     NotYet,

@@ -9,7 +9,7 @@ use mx_types::{Code, OutOfMemory};
 use std::alloc::Global;
 use std::marker::Model;
 
-/// What a lookup came to, and the moment at which it was learnt, in milliseconds.
+/// The result of a lookup, and the moment at which it was learnt, in milliseconds.
 #[derive(Drop)]
 pub struct Learnt {
     pub outcome: Result<Addresses, Code>,
@@ -36,14 +36,14 @@ impl Learnt {
     ghost use Rattle.mx_names.specs.Names.{is_young, tells, told_by};
 
     // rule name-kept-60-seconds
-    // Whether it is kept at this moment.
+    // Whether it is still kept at this moment.
     pub(crate) fn is_young(&self, now: u64) -> bool
         ensures { result ≡ is_young now self.now }
     {
         now.saturating_sub(self.moment) < KEPT_MS
     }
 
-    // What it tells one who asks since a moment.
+    // Its answer to one who asks since a moment.
     pub(crate) fn told(&self, alloc: Global, since: u64, now: u64) -> Result<Answer, OutOfMemory>
         ensures { IfOk result (λ answer. answer ≡ told_by since now (Some self.now)) }
     {
@@ -57,7 +57,7 @@ impl Learnt {
     }
 
     // rule name-failures
-    // Whether one who asks since this moment is told it.
+    // Whether it is the answer to one who asks since this moment.
     pub(crate) fn tells(&self, since: u64, now: u64) -> bool
         ensures { result ≡ tells since now self.now }
     {
@@ -80,7 +80,7 @@ impl Entry {
         self.learnt.is_none()
     }
 
-    // Learns what its lookup came to.
+    // Learns the result of its lookup.
     pub fn learn(&mut self, outcome: Result<Addresses, Code>, moment: u64)
         ensures { self.new ≡ record { host = self.old.host; learnt = Some (record { outcome = outcome; moment = moment }) } }
     {
@@ -88,7 +88,7 @@ impl Entry {
     }
 
     // rule name-one-lookup
-    // Whether its lookup isn't under way, and it has nothing to tell one who asks since that moment.
+    // Whether its lookup isn't under way, and it has no answer for one who asks since that moment.
     pub fn is_over(&self, since: u64, now: u64) -> bool
         ensures { result ≡ is_over since now self.now.learnt }
     {
@@ -98,7 +98,7 @@ impl Entry {
         }
     }
 
-    // What it tells one who asks since a moment.
+    // Its answer to one who asks since a moment.
     pub fn told(&self, alloc: Global, since: u64, now: u64) -> Result<Answer, OutOfMemory>
         ensures { IfOk result (λ answer. answer ≡ told_by since now self.now.learnt) }
     {

@@ -11,7 +11,7 @@ fn is_memory(kind: io::ErrorKind) -> bool
     matches!(kind, io::ErrorKind::OutOfMemory)
 }
 
-/// The code of what the system refuses: `OutOfMemory` where memory was wanting, else this other one.
+/// The code of what the system refuses: `OutOfMemory` where memory was refused, else this other one.
 pub fn fault_code(other: Code, error: &io::Error) -> Code
     ensures { result ≡ fault_code other error.now }
 {
@@ -23,7 +23,7 @@ pub fn fault_code(other: Code, error: &io::Error) -> Code
 }
 
 // rule gate-codes
-/// The code of a lookup that failed: `OutOfMemory` where memory was wanting, else `CouldntResolveHost`.
+/// The code of a lookup that failed: `OutOfMemory` where memory was refused, else `CouldntResolveHost`.
 pub fn lookup_code(error: &io::Error) -> Code
     ensures { result ≡ fault_code Code.CouldntResolveHost error.now }
 {

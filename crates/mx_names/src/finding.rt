@@ -1,4 +1,4 @@
-//! What the lookup of a host came to.
+//! The result of the lookup of a host.
 ghost use Rattle.std.specs.Prelude.{◌≡◌, Err, string_bytes};
 ghost use Rattle.mx_types.specs.declared.code.Code.TheVariants as codes;
 ghost use Rattle.mx_names.specs.Names.{IsOutcome};
@@ -9,8 +9,8 @@ use mx_types::Code;
 use std::alloc::Global;
 use std::marker::{Model, PhantomData};
 
-/// What the lookup of a host came to: all addresses that it gave, the IPv4 ones first, or the code of why there are none.
-/// Contracts see the host and that.
+/// The result of the lookup of a host: all addresses that it gave, the IPv4 ones first, or the code of why there are none. Contracts see
+/// the host and the result.
 #[derive(Drop)]
 pub struct Finding<L: Lookup> {
     host: String,
@@ -29,7 +29,7 @@ impl<L: Lookup> Model for Finding<L> {
     ghost invariant = { λ f. IsOutcome L.gives (string_bytes f.host) f.outcome };
 }
 
-// What a lookup came to: all addresses that it gave, the IPv4 ones first.
+// The result of a lookup: all addresses that it gave, the IPv4 ones first.
 fn outcome<L: Lookup>(lookup: &L, alloc: Global, host: &str) -> Result<Addresses, Code>
     ensures { IsOutcome L.gives host.now result }
 {
@@ -53,7 +53,7 @@ impl<L: Lookup> Finding<L> {
         }
     }
 
-    /// No lookup of the host could be made, for want of memory.
+    /// No lookup of the host could be made, as memory was refused.
     pub fn without_memory(host: String) -> Finding<L>
         ensures host { result.host ≡ string_bytes host }
         ensures outcome { result.outcome ≡ Err codes.OutOfMemory }
@@ -65,14 +65,14 @@ impl<L: Lookup> Finding<L> {
         }
     }
 
-    // Which host it is of.
+    // The host.
     pub(crate) fn host(&self) -> &str
         ensures { result.now ≡ self.now.host }
     {
         self.host.as_str()
     }
 
-    // What the lookup came to.
+    // The result of the lookup.
     pub(crate) fn into_outcome(self) -> Result<Addresses, Code>
         ensures is { result ≡ self.outcome }
         ensures of { IsOutcome L.gives self.host result }

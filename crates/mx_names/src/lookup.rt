@@ -10,12 +10,12 @@ use mx_types::Code;
 /// A way to look a host up.
 pub trait Lookup {
     // What the lookup of a host may give.
-    // A relation of the type, and not of a value, so that it holds of what lies behind a lock, too.
+    // A relation of the type, not of a value, so that it holds for what is behind a lock, too.
     ghost gives: { List ℕ → Result (List Address) OneCode → Type 0 };
 
     /// The addresses of the host. It may take as long as it likes.
     ///
-    /// The errors are `CouldntResolveHost`, and `OutOfMemory` where memory was wanting.
+    /// The errors are `CouldntResolveHost`, and `OutOfMemory` where memory was refused.
     fn look_up(&self, host: &str) -> Result<Addresses, Code>
         ensures gives { gives host.now result }
         ensures code { IfErr result (λ code. is_lookup_code code ≡ true) };

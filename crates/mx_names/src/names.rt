@@ -20,11 +20,11 @@ pub const KEPT_MS: u64 = 60_000;
 /// How many lookups may be under way.
 pub const MOST_LOOKUPS: usize = 64;
 
-/// What is known of hosts: which lookups are under way, and what the others came to. Contracts see a list, with one record
-/// for a host. Moments are milliseconds on whatever clock the caller reads.
+/// What is known of hosts: which lookups are under way, and the results of the others. Contracts see a list, with one record for a host.
+/// Moments are milliseconds on the caller's clock.
 #[derive(Drop)]
 pub struct Names<L: Lookup> {
-    // Each call goes through all records: a run has hundreds of hosts, and not millions.
+    // Each call goes through all records: a run has hundreds of hosts, not millions.
     entries: Vec<Entry>,
     by: PhantomData<L>,
 }
@@ -54,7 +54,7 @@ fn drop_from(entries: &mut Vec<Entry>, host: &str)
     entries.retain(|e| !(e.is_of(host) && e.is_under_way()));
 }
 
-// Lets go what doesn't stay where the lookup of the host begins.
+// Drops what is no longer kept when the lookup of the host begins.
 fn let_go(entries: &mut Vec<Entry>, host: &str, now: u64)
     ensures stay { entries.new.items ≡ filter (stays host.now now) entries.old.items }
     ensures room { vec_len entries.new ≤ vec_len entries.old }
@@ -129,7 +129,7 @@ impl<L: Lookup> Names<L> {
     }
 
     // rule name-one-lookup
-    // Whether no lookup of the host is under way, and there is nothing to tell of it.
+    // Whether no lookup of the host is under way, and nothing is known of it.
     fn is_open(&self, host: &str, since: u64, now: u64) -> bool
         ensures { result ≡ is_open since now (find (is_of host.now) self.now) }
     {
@@ -158,11 +158,11 @@ impl<L: Lookup> Names<L> {
         Ok(())
     }
 
-    /// Begins a lookup of the host, and says whether it does: where none of it is under way, there is nothing to tell one who
-    /// asks since that moment, and fewer than [`MOST_LOOKUPS`] others are under way. Who is told `true` is to look the host up,
-    /// and to hand in what that came to by [`Names::learn`]. Hosts that are no longer kept are let go.
+    /// Begins a lookup of the host, and says whether it does: where none of it is under way, nothing is known to one who asks since that
+    /// moment, and fewer than [`MOST_LOOKUPS`] others are under way. On `true` the caller has to look the host up, and to hand in the
+    /// result by [`Names::learn`]. Hosts that are no longer kept are dropped.
     ///
-    /// A host that spells an address isn't to be looked up. The one error is that memory was wanting; nothing has changed then.
+    /// A host that spells an address isn't to be looked up. The one error is that memory was refused; nothing has changed then.
     pub fn begin(
         &mut self,
         alloc: Global,
@@ -183,7 +183,7 @@ impl<L: Lookup> Names<L> {
         Ok(true)
     }
 
-    // Where the host stands whose lookup is under way.
+    // The index of the host, whose lookup is under way.
     fn place_of(&self, host: &str) -> Option<usize>
         ensures { result ≡ position (λ state. is_of host.now state && is_under_way state) self.now }
     {
@@ -192,7 +192,7 @@ impl<L: Lookup> Names<L> {
             .position(|e| e.is_of(host) && e.is_under_way())
     }
 
-    /// Learns at this moment what a lookup that was under way came to, and says whether one of that host was.
+    /// Learns at this moment the result of a lookup, and says whether one of that host was under way.
     pub fn learn(&mut self, finding: Finding<L>, now: u64) -> bool
         ensures { MatchBool result (Learns finding.host finding.outcome now self.old self.new) ((self.new ≡ self.old) × HasNone finding.host self.old) }
     {
@@ -205,7 +205,7 @@ impl<L: Lookup> Names<L> {
         }
     }
 
-    // Learns what the lookup came to that is under way at this place.
+    // Learns the result of the lookup that is under way at this index.
     fn learn_at(&mut self, place: usize, finding: Finding<L>, now: u64)
         requires { position (λ state. is_of finding.host state && is_under_way state) self.old ≡ Some place }
         ensures { Learns finding.host finding.outcome now self.old self.new }

@@ -20,9 +20,9 @@ use std::thread::Threads;
 use std::time::Instant;
 use std::{mem, thread};
 
-/// What is rung where a lookup has ended.
+/// What is rung when a lookup has ended.
 pub trait Ring {
-    /// Tells whoever listens that there may be news. It doesn't wait.
+    /// Notifies whoever listens that there may be news. It doesn't wait.
     fn ring(&self);
 }
 
@@ -44,9 +44,8 @@ struct Shared<L: Lookup, B> {
     start: Instant,
 }
 
-/// A resolver of hosts, for any number of threads. Lookups run on threads of their own, one for a lookup, so that none of its
-/// calls but `serve` waits for a lookup; they wait for each other's look at the table alone. Nobody waits for these threads: a program
-/// ends without them.
+/// A resolver of hosts, for any number of threads. Each lookup runs on a thread of its own, so only `serve` waits for lookups; the other
+/// calls wait for each other's access to the table alone. Nobody joins these threads: a program ends without them.
 #[derive(Drop)]
 pub struct Resolver<L: Lookup, B> {
     shared: Arc<Shared<L, B>>,
@@ -74,13 +73,13 @@ fn ask_address<R: AllocGlobal>(rt: &R, ip: IpAddr) -> Answer
 
 impl<L: Lookup, B: Ring> Shared<L, B> {
     fn ring<R: Wait>(&self, rt: &R) {
-        // All bells, and not only those of who asked for this host: a place among the 64 lookups is free for others, too.
+        // All bells, not only those of who asked for this host: one of the 64 lookups has become free for others, too.
         for bell in self.bells.lock(rt).iter() {
             bell.ring();
         }
     }
 
-    // Looks the host up, learns what that came to, and rings.
+    // Looks the host up, learns the result, and rings.
     fn resolve<R: Wait + Clock + AllocGlobal>(&self, rt: &R, host: String, begun: u64) {
         let finding = Finding::by(&self.lookup, rt.alloc(), host);
         let now = moment(rt, self.start, begun);
@@ -88,7 +87,7 @@ impl<L: Lookup, B: Ring> Shared<L, B> {
         self.ring(rt);
     }
 
-    // Learns that no thread was had for the lookup of the host, and rings.
+    // Learns that no thread could be started for the lookup of the host, and rings.
     fn fail<R: Wait>(&self, rt: &R, host: String, now: u64) {
         self.names
             .lock(rt)
@@ -98,7 +97,7 @@ impl<L: Lookup, B: Ring> Shared<L, B> {
 }
 
 impl<L: Lookup, B> Shared<L, B> {
-    // What is told of the name, and whether a lookup of it begins.
+    // What is known of the name, and whether a lookup of it begins.
     fn look<R: Wait + AllocGlobal>(
         &self,
         rt: &R,
@@ -115,7 +114,7 @@ impl<L: Lookup, B> Shared<L, B> {
         Ok((answer, begins))
     }
 
-    // Has the lookup of the name begun by whoever starts threads.
+    // Asks whoever starts threads to begin the lookup of the name.
     fn want<R: Wait + AllocGlobal>(&self, rt: &R, name: &str, now: u64) -> Result<(), OutOfMemory> {
         let host = String::from_str(rt.alloc(), name)?;
         self.wanted.lock(rt).push(Wanted { host, now })?;
@@ -123,7 +122,7 @@ impl<L: Lookup, B> Shared<L, B> {
         Ok(())
     }
 
-    // What is told of the name, whose lookup is wanted where one has to begin.
+    // What is known of the name, whose lookup is wanted where one has to begin.
     fn try_name<R: Wait + AllocGlobal>(
         &self,
         rt: &R,
@@ -155,12 +154,12 @@ impl<L: Lookup, B> Shared<L, B> {
 
 impl<L: Lookup, B> Resolver<L, B> {
     // rule name-spelled-address
-    /// What is known of the host now, to one who asks since a moment; of a name of which nothing is known a lookup is wanted from then on,
-    /// unless one of it is under way or 64 others are. `start_wanted` begins it, and so does `serve`, which waits for that. Who is told
-    /// `NotYet` asks again, with the same `since`, when the bell is rung. A host that spells an address, in brackets or not, is that address
-    /// and isn't looked up.
+    /// What is known of the host now, to one who asks since a moment. Where nothing is known of a name, a lookup of it is wanted from then
+    /// on, unless one of it is under way or 64 others are. `start_wanted` begins it, and so does `serve`, which waits for that. On `NotYet`
+    /// the caller asks again, with the same `since`, when the bell is rung. A host that spells an address, in brackets or not, is that
+    /// address and isn't looked up.
     ///
-    /// `Failed(OutOfMemory)` is also told where memory isn't had. It starts no thread and waits for no lookup.
+    /// Returns `Failed(OutOfMemory)` where memory is refused, too. It starts no thread and waits for no lookup.
     pub fn look<R: Wait + AllocGlobal>(&self, rt: &R, host: &str, since: u64, now: u64) -> Answer
         ensures spelled { (ip : Ip) → IsIpText (unbracketed host.now) ip → IsSpelled (unbracketed host.now) result }
         ensures looked_up { SpellsNone (unbracketed host.now) → IsTrueOf L.gives (unbracketed host.now) result }
@@ -179,7 +178,7 @@ impl<L: Lookup, B> Resolver<L, B> {
         })
     }
 
-    /// Rings this bell, too, where a lookup has ended.
+    /// Rings this bell, too, when a lookup has ended.
     pub fn add_bell<R: Wait>(&self, rt: &R, bell: B) -> Result<(), OutOfMemory>
     where
         B: Drop,
@@ -193,7 +192,7 @@ impl<L: Lookup + Send + Sync + Drop + 'static, B: Ring + Send + Sync + Drop + 's
     L,
     B,
 > {
-    /// A resolver that knows nothing yet, whose clock started at `start`: the moments that its callers tell are milliseconds since then.
+    /// A resolver that knows nothing yet, whose clock started at `start`: the moments that its callers give are milliseconds since then.
     pub fn new(alloc: Global, lookup: L, start: Instant) -> Result<Resolver<L, B>, OutOfMemory> {
         let shared = Shared {
             names: Mutex::new(Names::new(alloc)),
@@ -232,8 +231,8 @@ impl<L: Lookup + Send + Sync + Drop + 'static, B: Ring + Send + Sync + Drop + 's
     }
 
     // rule name-hanging-lookups
-    /// Begins the lookups that are wanted, each on a thread of its own. Where a thread isn't had the lookup has failed (`OutOfMemory`). It
-    /// waits for no lookup.
+    /// Begins the lookups that are wanted, each on a thread of its own. Where no thread can be started, the lookup has failed
+    /// (`OutOfMemory`). It waits for no lookup.
     pub fn start_wanted<R: Threads + Wait + Clock + AllocGlobal + Copy + Send + Drop + 'static>(
         &self,
         rt: &R,
@@ -245,7 +244,7 @@ impl<L: Lookup + Send + Sync + Drop + 'static, B: Ring + Send + Sync + Drop + 's
         }
     }
 
-    /// Begins each lookup that is wanted, from now on: it waits for the next without end.
+    /// Begins each lookup that is wanted, from now on. It never returns.
     pub fn serve<R: Threads + Wait + Clock + AllocGlobal + Copy + Send + Drop + 'static>(
         &self,
         rt: &R,
@@ -261,7 +260,7 @@ impl<L: Lookup + Send + Sync + Drop + 'static, B: Ring + Send + Sync + Drop + 's
         }
     }
 
-    /// As `look`, and a lookup that is wanted begins at once. `Failed(OutOfMemory)` is told later where no thread is had.
+    /// As `look`, and a lookup that is wanted begins at once. Where no thread can be started, a later call returns `Failed(OutOfMemory)`.
     pub fn ask<R: Threads + Wait + Clock + AllocGlobal + Copy + Send + Drop + 'static>(
         &self,
         rt: &R,

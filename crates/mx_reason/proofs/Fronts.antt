@@ -1,4 +1,4 @@
--- Fronts of a wire that is refused.
+-- Prefixes of a wire that is refused.
 use Rattle.std.proofs.Common.{◌≡◌, ◌≢◌, ◌∙◌, refl, ap, sym, subst, ℕ, ◌+◌, ◌-◌, ◌<◌, ◌≤◌, false, List, [], ◌∷◌, ◌++◌, length, take, drop, arith}
 use Rattle.std.proofs.lemmas.List.{take-append-drop, take-append-le, take_all, length-take-le}
 use Rattle.mx_types.specs.declared.code.Code.{Code}
@@ -25,7 +25,7 @@ pub refused_some : (m : Method) (bytes : List ℕ) (code : Code) → IsVerdict m
 refused_some m [] code v = absurd (one_verdict m [] false verdict.More (verdict.Fault code) (more_first m) v)
 refused_some m (b ∷ bytes) code v = omega arith
 
--- a front that isn't open is refused with the same code
+-- a prefix that isn't open is refused with the same code
 pub refused_front : (m : Method) (wire : List ℕ) (code : Code) (n : ℕ) (s : Standing) → IsVerdict m wire false (verdict.Fault code)
     → IsStanding m (take n wire) s → s ≢ Open → IsVerdict m (take n wire) false (verdict.Fault code)
 refused_front m wire code n Open v is isnt = absurd (isnt refl)
@@ -46,7 +46,7 @@ bracket_new m wire code v = record {
   refused = subst (λ (t : List ℕ). IsVerdict m t false (verdict.Fault code)) (sym (take_all (length wire) wire (omega arith))) v;
 }
 
--- the number stands between, and that many bytes aren't open
+-- the number is between, and that many bytes aren't open
 pub bracket_less : (m : Method) (wire : List ℕ) (code : Code) (b : Bracket) (n : ℕ) (s : Standing) → IsBracket m wire code b → b.undecided < n → n < b.decided
     → IsStanding m (take n wire) s → s ≢ Open → IsBracket m wire code (record { undecided = b.undecided; decided = n })
 bracket_less m wire code b n s is above below stands isnt =
@@ -59,7 +59,7 @@ bracket_less m wire code b n s is above below stands isnt =
           (refused_front m (take b.decided wire) code n s is.refused (subst (λ (t : List ℕ). IsStanding m t s) (sym same) stands) isnt);
     }
 
--- where nothing stands between, it is decided
+-- where nothing is between, it is decided
 pub bracket_decides : (m : Method) (wire : List ℕ) (code : Code) (b : Bracket) → IsBracket m wire code b → b.decided ≤ b.undecided + 1 → DecidesAt m wire b.decided code
 bracket_decides m wire code b is close =
     let long = length-take-le b.decided wire is.within in

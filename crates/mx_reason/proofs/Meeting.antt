@@ -22,14 +22,14 @@ first_all bytes few = sym (first_is bytes (length bytes) (omega (arith, few))) �
 pub before_length : (p : List ℕ) → length (before_last p) ≡ length p - 1
 before_length p = length-take-le (length p - 1) p (omega arith)
 
--- no shorter front meets a cause
+-- no shorter prefix meets a cause
 pub front_none : (m : Method) (p : List ℕ) → IsVerdict m (before_last p) false verdict.More → (q more : List ℕ) (cause : Cause) → p ≡ q ++ more → length q < length p
     → Meets m q cause → ⊥
 front_none m p v q more cause e short meets =
     let f = front_of q (before_last p) more (drop (length p - 1) p) (sym e ∙ sym (take-append-drop (length p - 1) p)) (omega (arith, short, before_length p)) in
     v.0.faultless q f.0 cause (first_all (before_last p) v.1 ∙ f.1) meets
 
--- so a front that meets one is all of them
+-- so a prefix that meets one is all of them
 pub front_all : (m : Method) (p : List ℕ) → IsVerdict m (before_last p) false verdict.More → (q more : List ℕ) (cause : Cause) → p ≡ q ++ more → Meets m q cause
     → (p ≡ q) × (more ≡ [])
 front_all m p v q more cause e meets = elim (cases_lt (length q) (length p)) as (λ _. (p ≡ q) × (more ≡ [])) [

@@ -1,4 +1,4 @@
--- What stands wrong at the end of bytes of which the last one decides.
+-- What is wrong at the end of bytes of which the last one decides.
 use Rattle.std.proofs.Common.{◌≡◌, ◌∙◌, inl, inr, refl, ap, sym, subst, ℕ, ◌-◌, ◌≤◌, List, [], ◌∷◌, ◌++◌, length, drop, arith, append_assoc, append-nil, length-drop, Result, Ok, Err}
 use Rattle.std.proofs.lemmas.List.{take_all}
 use Rattle.httparse.specs.Grammar.{print_response}
@@ -24,7 +24,7 @@ use Rattle.mx_reason.specs.Reasons.{Decides}
 use Rattle.mx_reason.specs.Steps.{IsOpenAt, IsRefusedAt, IsRefusedHead, IsRefusedBody}
 use Rattle.mx_reason.proofs.Meeting.{front_all, met}
 
--- what the code reads behind a front
+-- what the code reads after a prefix
 pub tail_is : (text front rest : List ℕ) (n : ℕ) → text ≡ front ++ rest → n ≡ length front → tail_from n text ≡ rest
 tail_is text front rest n e at =
     take_all (length text - n) (drop n text) (omega (arith, length-drop n text))
@@ -67,7 +67,7 @@ refused_whole m text end code r d few =
       at_status (subst (λ (t : List ℕ). Meets m t refused_status) (sym all.0) meets) refl,
     )
 
--- ---- behind the final head
+-- ---- after the final head
 
 pub body_tail : (text : List ℕ) (x : Summary) (end : ℕ) → (d : HasHeadAt text x end) → tail_from end text ≡ d.rest
 body_tail text x end d =

@@ -1,4 +1,4 @@
--- What stands behind the interim heads of a text.
+-- What follows the interim heads of a text.
 use Rattle.std.proofs.Common.{◌≡◌, ◌∙◌, ◌⊎◌, inl, inr, refl, ap, sym, subst, ℕ, ◌+◌, List, ◌++◌, length, arith, length-append}
 use Rattle.httparse.specs.Grammar.{ResponseHead, print_response, status_code}
 use Rattle.mx_head.specs.Heads.{IsHead, HasNoHead}

@@ -12,7 +12,7 @@ use Rattle.mx_reason.specs.declared.reason.Cut.TheVariants.{Head, Counted, Chunk
 -- rule reason-truncated: Where nothing is decided, the reason says in which part of a response the bytes end, and of a counted body how
 -- many bytes of how many came.
 --
--- in or before a head; or behind the final head, in a body of this framing
+-- in or before a head; or after the final head, in a body of this framing
 abbrev pub IsCutIn : Method → List ℕ → Cut → Type 0
 IsCutIn m wire Head = (hs : List ResponseHead) × (r : List ℕ) × StandsAtHead wire hs r × HasNoHead r
 IsCutIn m wire (Counted came of) =

@@ -1,4 +1,4 @@
--- What stands wrong where the bytes of an exchange are refused (RFC 9112, sections 2 to 7).
+-- What is wrong where the bytes of an exchange are refused (RFC 9112, sections 2 to 7).
 use Rattle.std.specs.Prelude.{◌≡◌, ℕ, ◌+◌, ◌-◌, ◌<◌, true, false, List, [], ◌++◌, length, take, Result, Ok, Err}
 use Rattle.httparse.specs.Grammar.{ResponseHead, NeverHasResponse, print_response}
 use Rattle.mx_types.specs.declared.code.Code.{Code}
@@ -39,8 +39,8 @@ fault_code ManyBytes = FilesizeExceeded
 abbrev pub before_last : List ℕ → List ℕ
 before_last bytes = take (length bytes - 1) bytes
 
--- What the last of the bytes r at the place of a head has made wrong: no bytes that begin so are a head, and it stands in the status line or
--- behind it; it begins a field line too many; or there are as many bytes as a head may have, and no head.
+-- What the last of the bytes r at the place of a head has made wrong: no head begins so, and it is in the status line or after it; it
+-- begins a field line too many; or there are as many bytes as a head may have, and no head.
 abbrev pub TellsOfHead : List ℕ → Fault → Type 0
 TellsOfHead r StatusLine = NeverHasResponse r × (is_behind (line_behind (before_last r)) ≡ false)
 TellsOfHead r FieldLine = NeverHasResponse r × (is_behind (line_behind (before_last r)) ≡ true)
@@ -83,8 +83,8 @@ abbrev pub framing_fault : Code → Fault
 framing_fault BadContentEncoding = OtherCoding
 framing_fault _ = BadFraming
 
--- What is wrong at the end of a final head that asks for this framing and ends at the offset `at`, where no byte r stands behind it; or what
--- the last of the bytes r behind it has made wrong.
+-- What is wrong at the end of a final head that asks for this framing and ends at the offset `at`, where no byte r follows it; or what the
+-- last of the bytes r after it has made wrong.
 abbrev pub TellsOfBody : Result Framing Code → ℕ → List ℕ → Fault → Type 0
 TellsOfBody asked at r BadFraming = (r ≡ []) × (asked ≡ Err WeirdServerReply)
 TellsOfBody asked at r OtherCoding = (r ≡ []) × (asked ≡ Err BadContentEncoding)
@@ -96,8 +96,8 @@ TellsOfBody asked at r Trailer = (asked ≡ Ok framing.Chunked) × TellsOfChunks
 TellsOfBody asked at r _ = ⊥
 
 -- rule reason-refused
--- What stands wrong at the end of the bytes p, and in which part of a response that is: in a head behind interim heads; at the end of a
--- head that is refused by its status; at the end of the final head or in its body; or behind all bytes that a response may have.
+-- What is wrong at the end of the bytes p, and in which part of a response that is: in a head after interim heads; at the end of a head
+-- that is refused by its status; at the end of the final head or in its body; or after all bytes that a response may have.
 pub data Tells (m : Method) (p : List ℕ) (fault : Fault) : Type 0 where
   in_head : (hs : List ResponseHead) (r : List ℕ) → StandsAtHead p hs r → TellsOfHead r fault → Tells m p fault
   at_status : Meets m p refused_status → fault ≡ InterimHead → Tells m p fault

@@ -1,4 +1,4 @@
--- Why the bytes of an exchange are no response, and after how many of them that is decided.
+-- Why the bytes of an exchange aren't a response, and after how many of them that is decided.
 use Rattle.std.specs.Prelude.{◌≡◌, ℕ, ◌<◌, ◌≤◌, false, List, length, take}
 use Rattle.mx_types.specs.declared.code.Code.{Code}
 use Rattle.mx_types.specs.declared.method.Method.{Method}
@@ -29,7 +29,7 @@ pub record DecidesAt (m : Method) (wire : List ℕ) (at : ℕ) (code : Code) : T
   pub within : at ≤ length wire
   pub decides : Decides m (take at wire) code
 
--- The first bytes of the wire decide, and this stands wrong at their end; or nothing is decided, and the wire ends here.
+-- The first bytes of the wire decide, and this is wrong at their end; or nothing is decided, and the wire ends here.
 abbrev pub IsWhatAt : Method → List ℕ → ℕ → What → Type 0
 IsWhatAt m wire at (what.Fault fault) = DecidesAt m wire at (fault_code fault) × Tells m (take at wire) fault
 IsWhatAt m wire at (what.Cut cut) = (at ≡ length wire) × IsVerdict m wire false verdict.More × IsCutIn m wire cut

@@ -36,7 +36,7 @@ pub record IsBracket (m : Method) (wire : List ℕ) (code : Code) (b : Bracket) 
   pub before : IsVerdict m (take b.undecided wire) false verdict.More
   pub refused : IsVerdict m (take b.decided wire) false (verdict.Fault code)
 
--- behind interim heads stand bytes that begin with no head, from this offset on
+-- bytes that begin with no head follow interim heads, from this offset on
 pub record IsOpenAt (text : List ℕ) (start : ℕ) : Type 0 where
   pub interim : List ResponseHead
   pub rest : List ℕ
@@ -44,7 +44,7 @@ pub record IsOpenAt (text : List ℕ) (start : ℕ) : Type 0 where
   pub none : HasNoHead rest
   pub start_is : start ≡ length (print_heads interim)
 
--- behind interim heads stands a head that is refused by its status, which ends at this offset
+-- a head that is refused by its status follows interim heads, and ends at this offset
 pub record IsRefusedAt (text : List ℕ) (end : ℕ) : Type 0 where
   pub interim : List ResponseHead
   pub head : ResponseHead
@@ -54,7 +54,7 @@ pub record IsRefusedAt (text : List ℕ) (end : ℕ) : Type 0 where
   pub end_is : end ≡ length (print_heads interim ++ print_response head)
   pub within : end ≤ length text
 
--- what stands behind the interim heads of a text
+-- what follows the interim heads of a text
 abbrev pub IsWalked : List ℕ → Walked → Type 0
 IsWalked text (walked.Final x end) = HasHeadAt text x end
 IsWalked text (walked.Refused end) = IsRefusedAt text end
@@ -64,7 +64,7 @@ abbrev pub IsStepped : List ℕ → ℕ → Step → Type 0
 IsStepped text passed (step.Passed end) = IsBehind text end (passed + 1)
 IsStepped text passed (step.Stopped w) = IsWalked text w
 
--- the bytes behind the interim heads are no head, and meet a cause of this code
+-- the bytes after the interim heads are no head, and meet a cause of this code
 pub record IsRefusedHead (r : List ℕ) (code : Code) : Type 0 where
   pub none : HasNoHead r
   pub cause : HeadCause
@@ -75,7 +75,7 @@ pub record IsRefusedHead (r : List ℕ) (code : Code) : Type 0 where
 abbrev pub IsRefusedChunks : List ℕ → Code → Type 0
 IsRefusedChunks r code = (¬ (MayBecomeChunked r) × (RecvError ≡ code)) ⊎ (EndsInLargeSize most_bytes r × (FilesizeExceeded ≡ code))
 
--- the bytes behind a final head that asks for this framing and ends at the offset `at` meet a cause of this code
+-- the bytes after a final head that asks for this framing and ends at the offset `at` meet a cause of this code
 pub record IsRefusedBody (asked : Result Framing Code) (at : ℕ) (r : List ℕ) (code : Code) : Type 0 where
   pub cause : BodyCause
   pub meets : MeetsAtBody asked at r cause

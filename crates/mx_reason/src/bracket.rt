@@ -1,4 +1,4 @@
-//! The shortest front of a wire that is refused.
+//! The shortest prefix of a wire that is refused.
 ghost use Rattle.std.specs.Prelude.{◌≡◌, ◌-◌, ◌<◌, ◌≤◌, false, length};
 ghost use Rattle.mx_body.specs.Decision.{IsVerdict};
 ghost use Rattle.mx_body.specs.declared.verdict.Verdict.TheVariants as verdict;
@@ -19,7 +19,7 @@ pub(crate) enum Standing {
     Whole,
 }
 
-/// What the bytes decide. The parts of a whole response may lack memory: it is one all the same.
+/// What the bytes decide. Memory for the parts of a whole response may be refused: it is whole all the same.
 pub(crate) fn judge(alloc: Global, method: Method, bytes: &[u8]) -> Standing
     ensures { IsStanding method bytes.now result }
 {
@@ -30,7 +30,7 @@ pub(crate) fn judge(alloc: Global, method: Method, bytes: &[u8]) -> Standing
     }
 }
 
-/// How many bytes of a wire decide nothing yet, and how many more are refused.
+/// How many bytes of a wire decide nothing yet, and a greater number that is refused.
 #[derive(Clone, Copy)]
 struct Bracket {
     undecided: usize,
@@ -49,7 +49,7 @@ impl Bracket {
         }
     }
 
-    /// The same with this number for one of them, if it stands between.
+    /// The same with this number for one of them, if it is between.
     fn narrow(self, alloc: Global, method: Method, wire: &[u8], code: Code, probe: usize) -> Bracket
         requires { IsBracket method wire.now code self }
         ensures bracket { IsBracket method wire.now code result }

@@ -1,4 +1,4 @@
-//! What stands wrong where bytes are refused.
+//! What is wrong where bytes are refused.
 ghost use Rattle.std.specs.Prelude.{◌≡◌, ◌-◌, length};
 ghost use Rattle.mx_head.specs.Limits.{most_bytes};
 ghost use Rattle.mx_head.specs.Summary.{framing_by};
@@ -23,7 +23,7 @@ fn before_last(bytes: &[u8]) -> &[u8]
     &bytes[..bytes.len().saturating_sub(1)]
 }
 
-/// What stands wrong at the end of bytes that are refused at the place of a head.
+/// What is wrong at the end of bytes that are refused at the place of a head.
 fn fault_in_head(rest: &[u8], code: Code) -> Fault
     requires { IsRefusedHead rest.now code }
     ensures code { fault_code result ≡ code }
@@ -37,7 +37,7 @@ fn fault_in_head(rest: &[u8], code: Code) -> Fault
     }
 }
 
-/// The place behind some bytes of a chunked body.
+/// The place after some bytes of a chunked body.
 fn place_behind(body: &[u8]) -> Place
     ensures { result ≡ place_after most_bytes Start body.now }
 {
@@ -62,7 +62,7 @@ fn chunk_fault(place: Place) -> Fault
     }
 }
 
-/// What stands wrong at the end of bytes of a chunked body that are refused.
+/// What is wrong at the end of bytes of a chunked body that are refused.
 fn fault_in_chunks(body: &[u8], code: Code) -> Fault
     requires { IsRefusedChunks body.now code }
     ensures code { fault_code result ≡ code }
@@ -84,7 +84,7 @@ fn framing_fault(code: Code) -> Fault
     }
 }
 
-/// What stands wrong at the end of bytes that are refused behind a final head that ends at `at`.
+/// What is wrong at the end of bytes that are refused after a final head that ends at `at`.
 fn fault_in_body(method: Method, head: &Head, at: usize, rest: &[u8], code: Code) -> Fault
     requires { IsRefusedBody (framing_by method head.now) at rest.now code }
     ensures code { fault_code result ≡ code }
@@ -99,7 +99,7 @@ fn fault_in_body(method: Method, head: &Head, at: usize, rest: &[u8], code: Code
     }
 }
 
-/// What stands wrong at the end of bytes of which the last one decides.
+/// What is wrong at the end of bytes of which the last one decides.
 pub(crate) fn fault_of(method: Method, bytes: &[u8], code: Code) -> Fault
     requires { Decides method bytes.now code }
     ensures code { fault_code result ≡ code }

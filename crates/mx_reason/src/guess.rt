@@ -1,4 +1,4 @@
-//! Where a wire is likely to be refused. Nothing rests on it but how long the search takes.
+//! Where a wire is likely to be refused. Only the time of the search depends on it.
 ghost use Rattle.std.specs.Prelude.{◌≤◌, length};
 
 use crate::walk::{Walked, walk};

@@ -1,15 +1,15 @@
-//! Where in a head a byte stands.
+//! The place of a byte in a head.
 ghost use Rattle.std.specs.Prelude.{◌≡◌};
 ghost use Rattle.mx_reason.specs.Lines.{line_after, line_behind, is_behind};
 
-/// Where in a head the next byte stands.
+/// The place of the next byte in a head.
 #[derive(Clone, Copy)]
 enum Line {
     /// Before its status line.
     Before,
     /// In its status line.
     Within,
-    /// Behind that.
+    /// After that.
     Behind,
 }
 
@@ -26,7 +26,7 @@ impl Line {
     }
 }
 
-/// Whether a byte behind these stands behind the status line.
+/// Whether a byte after these is after the status line.
 pub(crate) fn is_behind_status(text: &[u8]) -> bool
     ensures { result ≡ is_behind (line_behind text.now) }
 {

@@ -21,12 +21,12 @@ pub enum What {
     Cut(Cut),
 }
 
-/// What stands wrong where bytes are refused.
+/// What is wrong where bytes are refused.
 #[derive(Clone, Copy, PartialEq, Eq)]
 pub enum Fault {
     /// A byte in or before a status line with which the bytes begin no head (RFC 9112, section 4).
     StatusLine,
-    /// A byte behind a status line with which the bytes begin no head (RFC 9112, sections 2.1 and 5).
+    /// A byte after a status line with which the bytes begin no head (RFC 9112, sections 2.1 and 5).
     FieldLine,
     /// A head's 129th field line begins.
     ManyFields,
@@ -42,11 +42,11 @@ pub enum Fault {
     LongBody(u64),
     /// A chunk's size is over 67,108,864.
     LargeChunk,
-    /// A byte in the line of a chunk's size, or its extension, that can't stand there (RFC 9112, section 7.1).
+    /// A byte in the line of a chunk's size, or its extension, that isn't allowed there (RFC 9112, section 7.1).
     SizeLine,
-    /// No CRLF stands behind a chunk's data.
+    /// No CRLF follows a chunk's data.
     ChunkEnd,
-    /// A byte in the trailer section that can't stand there (RFC 9112, section 7.1.2).
+    /// A byte in the trailer section that isn't allowed there (RFC 9112, section 7.1.2).
     Trailer,
     /// There are more than 67,108,864 bytes.
     ManyBytes,

@@ -25,10 +25,10 @@ fn refusal(alloc: Global, method: Method, wire: &[u8], code: Code) -> Reason
 }
 
 // rule reason-refused
-/// Why the bytes that the exchange for a request of that method gave are no whole response. `None` where they begin with one.
+/// Why the bytes that the exchange for a request of that method gave aren't a whole response. `None` where they begin with one.
 ///
-/// Where they are refused, whatever follows, it is told after how many bytes that is decided, which is the fault of `mx_body`'s
-/// `decode_whole`, and what stands wrong at the end of these. Where nothing is decided it is told where they end.
+/// Where they are refused, whatever follows, it says after how many bytes that is decided, by the fault of `mx_body`'s `decode_whole`, and
+/// what is wrong at the end of these. Where nothing is decided, it says where they end.
 ///
 /// No clause bounds the time. It tries a likely place first, then bisects, and each step decides anew over all bytes up to its place.
 pub fn reason_of(alloc: Global, method: Method, wire: &[u8]) -> Option<Reason>

@@ -1,4 +1,4 @@
-//! Which heads stand at the front of a text.
+//! The heads at the front of a text.
 ghost use Rattle.std.specs.Prelude.{◌≡◌, ◌+◌, ◌↔◌, IsTrue, length, slice_range};
 ghost use Rattle.mx_head.specs.Reading.{IsStepOn};
 ghost use Rattle.mx_body.specs.Response.{IsInterimStatus};
@@ -11,18 +11,18 @@ use mx_head::{Head, HeadStep, read_head};
 /// The status that would leave HTTP (RFC 9110, section 15.2.2).
 const SWITCHING_PROTOCOLS: u16 = 101;
 
-/// What stands behind the interim heads of a text.
+/// What follows the interim heads of a text.
 #[derive(Clone, Copy)]
 pub(crate) enum Walked {
     /// The final head, which ends there.
     Final { head: Head, end: usize },
     /// A head that is refused by its status, which ends there.
     Refused { end: usize },
-    /// No whole head. What stands there begins at this offset.
+    /// No whole head. What is there begins at this offset.
     Open { start: usize },
 }
 
-/// What one head of them comes to.
+/// The result of one head.
 #[derive(Clone, Copy)]
 enum Step {
     /// It is an interim head, which ends there.
@@ -36,7 +36,7 @@ fn is_interim(status: u16) -> bool
     100 <= status && status < 200
 }
 
-/// What the answer on the head at `start` comes to, behind as many interim heads as have passed.
+/// The result of the head at `start` by the answer on it, after as many interim heads as have passed.
 fn step_by(text: &[u8], start: usize, passed: usize, read: HeadStep) -> Step
     requires behind { IsBehind text.now start passed }
     requires read { IsStepOn (slice_range text.now start (length text.now)) read }
@@ -56,7 +56,7 @@ fn step_by(text: &[u8], start: usize, passed: usize, read: HeadStep) -> Step
     Step::Passed(end)
 }
 
-/// What the head at `start` comes to.
+/// The result of the head at `start`.
 fn step_at(text: &[u8], start: usize, passed: usize) -> Step
     requires { IsBehind text.now start passed }
     ensures { IsStepped text.now passed result }
@@ -64,7 +64,7 @@ fn step_at(text: &[u8], start: usize, passed: usize) -> Step
     step_by(text, start, passed, read_head(&text[start..]))
 }
 
-/// What stands behind the interim heads at the front of the text.
+/// What follows the interim heads at the front of the text.
 pub(crate) fn walk(text: &[u8]) -> Walked
     ensures { IsWalked text.now result }
 {

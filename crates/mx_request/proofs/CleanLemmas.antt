@@ -44,7 +44,7 @@ token_prints b token =
     (cases_eq b 127))
     (cases_lt b 32)
 
--- a byte that prints may stand in a value
+-- a byte that prints may be in a value
 pub prints_value : (b : ℕ) → is_printable b ≡ true → is_value_byte b ≡ true
 prints_value b prints = elim (b == 9) as (λ t. (t || is_printable b) ≡ true) [ true ↦ refl | false ↦ prints ]
 

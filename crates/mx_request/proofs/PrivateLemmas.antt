@@ -117,7 +117,7 @@ module _ (sent after : List ℕ) (private : is_private_name sent ≡ true) where
           (cases_eq b 13))
           (cases_eq b 58)
 
-  -- nor behind a CR LF
+  -- nor after a CR LF
   inside : (line : List ℕ) (fields : List Field) (before : List ℕ) → is_line line ≡ true → list_all is_line (map field_line fields) ≡ true
       → list_all is_sent fields ≡ true → list_all is_public fields ≡ true
       → flat_map ended (line ∷ map field_line fields) ++ crlf ≡ before ++ (crlf ++ text) → ⊥

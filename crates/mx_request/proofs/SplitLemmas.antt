@@ -56,7 +56,7 @@ lines_and_body (l ∷ ls) (m ∷ ms) b d hl hm e =
     let more = lines_and_body ls ms b d first.1 other.1 rest in
     (cc (parted.0, more.0), more.1)
 
--- where CR LF stands in a line, its CR LF and what follows: at the line's end, or in what follows
+-- where CR LF is in a line, its CR LF and what follows: at the line's end, or in what follows
 pub after_line : (l before R S : List ℕ) → list_all is_value_byte l ≡ true → l ++ 13 ∷ 10 ∷ R ≡ before ++ 13 ∷ 10 ∷ S → (R ≡ S) ⊎ ((rest : List ℕ) × (R ≡ rest ++ 13 ∷ 10 ∷ S))
 after_line [] [] R S hl e = inl cc
 after_line [] (y ∷ []) R S hl e = cc
@@ -72,7 +72,7 @@ first_is_not_empty [] after hl e = cc
 first_is_not_empty (l ∷ ls) after hl e =
     absurd (no_empty_line_first l _ _ (and_parts (is_line l) _ hl).0 (sym e ∙ ended-append l ls crlf))
 
--- CR LF CR LF stands only at the end
+-- CR LF CR LF is only at the end
 pub ends_once : (ls : List (List ℕ)) (before after : List ℕ) → list_all is_line ls ≡ true → flat_map ended ls ++ crlf ≡ before ++ (crlf ++ (crlf ++ after)) → after ≡ []
 ends_once [] [] after hl e = cc
 ends_once [] (x ∷ []) after hl e = cc

@@ -1,4 +1,4 @@
--- What an endpoint is told of the caller's fields.
+-- Which of the caller's fields an endpoint is sent.
 use Rattle.std.proofs.Common.{◌≡◌, ℕ, ◌+◌, ◌<◌, ◌≤◌, get_or, take, map, append_assoc, Bool, true, false, not, ◌&&◌, ◌||◌, cond, List, [], ◌∷◌, ◌++◌, length, filter, nat_le, None, refl, sym, ap, ◌∙◌, arith}
 use Rattle.std.specs.Prelude.{codes, bytes_eq, if◌then◌else◌, String}
 use Rattle.std.proofs.lemmas.List.{map_more}
@@ -56,7 +56,7 @@ passes_filter q (x ∷ xs) =
       | false ↦ λ e. passes_filter q xs
     ] refl
 
--- ---- fields that are told
+-- ---- fields that are sent
 
 pub told_append : (b : Bool) (xs ys : List Field) → told_fields b (xs ++ ys) ≡ told_fields b xs ++ told_fields b ys
 unfolding told_fields
@@ -90,7 +90,7 @@ unfolding told_fields
 any_accept b fields =
     any_filter is_accept (λ field. b || not (is_private field)) (λ field a. or_right b _ (not_from_false _ (accept_public field.name a))) fields
 
--- whether anything is accepted doesn't stand on private fields
+-- whether anything is accepted doesn't depend on private fields
 pub accept_told : (b : Bool) (fields : List Field) → accept_fields (told_fields b fields) ≡ accept_fields fields
 accept_told b fields =
     ap (λ (t : Bool). if t then [] else record { name = codes "Accept"; value = codes "*/*" } ∷ []) (any_accept b fields)
@@ -108,7 +108,7 @@ are_fields_told b s h =
     less : (m n : ℕ) → m ≤ n → nat_le n 64 ≡ true → nat_le m 64 ≡ true
     less m n le h = grind (arith, nat_tests)
 
--- what is told of settings that aren't refused isn't refused
+-- what is sent of settings that aren't refused isn't refused
 pub told_allowed : (b : Bool) (s : SettingsValue) → refusal_of s ≡ None → refusal_of (record s { fields = told_fields b s.fields }) ≡ None
 told_allowed b s h =
     let parts = allowed_parts (are_fields s) (is_body_too_large s.body) h in
@@ -128,7 +128,7 @@ next_allowed status m s h =
 same_endpoint : (e : HostAndPort) → is_same_endpoint e e ≡ true
 same_endpoint e = rw (eq-eqb e.port e.port refl, (bytes_eq-Decides e.host e.host).1 refl) refl
 
--- the first endpoint of a chain is told all
+-- the first endpoint of a chain is sent all
 pub told_first : (url : Parts) (s : SettingsValue) → told (endpoint_of url) url s ≡ s
 told_first url s =
     ap (λ (b : Bool). record s { fields = told_fields b s.fields }) (same_endpoint (endpoint_of url))

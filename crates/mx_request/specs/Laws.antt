@@ -24,7 +24,7 @@ HeadIsClean =
     (method : Method) (text : List ℕ) (settings : SettingsValue) (request : RequestValue)
     (built : IsBuiltFrom method text settings request) → IsClean method built.url settings
 
--- CR LF CR LF ends the head, and stands nowhere before its end
+-- CR LF CR LF ends the head, and is nowhere before its end
 pub record EndsOnce (head : List ℕ) : Type 0 where
   pub ends : (before : List ℕ) × (head ≡ before ++ (crlf ++ crlf))
   pub once : (before after : List ℕ) → head ≡ before ++ (crlf ++ (crlf ++ after)) → after ≡ []

@@ -84,7 +84,7 @@ PrivateStaysHome =
     (r : RequestValue) → IsRequest r → r.endpoint ≢ r.first → (name : List ℕ)
     → is_private_name name ≡ true → ¬ (HasFieldLine name (head_of r))
 
--- the head of every request has clean bytes alone, and CR LF CR LF stands only at its end
+-- the head of every request has only clean bytes, and CR LF CR LF only at its end
 abbrev pub EveryHeadIsClean : Type 0
 EveryHeadIsClean =
     (r : RequestValue) → IsRequest r → IsClean r.method r.url (told r.first r.url r.settings) × EndsOnce (head_of r)

@@ -86,11 +86,11 @@ is_private field = is_private_name field.name
 
 -- rule redirect-private-fields: Authorization and Cookie go to the endpoint of the chain's first request alone.
 --
--- the caller's fields that an endpoint is told: all, where it is the first of its chain, and else those that aren't private
+-- the caller's fields that an endpoint is sent: all, where it is the first of its chain, and else those that aren't private
 unfoldable pub told_fields : Bool → List Field → List Field
 told_fields is_first fields = filter (λ field. is_first || not (is_private field)) fields
 
--- what the endpoint of the URL is told of the settings, in a chain whose first request went to `first`
+-- what the endpoint of the URL is sent of the settings, in a chain whose first request went to `first`
 abbrev pub told : HostAndPort → Parts → SettingsValue → SettingsValue
 told first url settings = record settings {
   fields = told_fields (is_same_endpoint (endpoint_of url) first) settings.fields;

@@ -25,7 +25,7 @@ impl Model for Endpoint {
 }
 
 impl Endpoint {
-    /// An equal endpoint, in memory of its own. The one error is that no memory was to be had.
+    /// An equal endpoint, in memory of its own. The one error is that memory was refused.
     pub fn copy(&self, alloc: Global) -> Result<Endpoint, OutOfMemory>
         ensures { IfOk result (λ copy. copy ≡ self.now) }
     {

@@ -9,7 +9,7 @@ pub fn head_is_clean()
     ensures { law.HeadIsClean }
 {}
 
-/// CR LF CR LF ends the head and stands nowhere before its end, so every reader finds the same end.
+/// CR LF CR LF ends the head and is nowhere before its end, so every reader finds the same end.
 pub fn empty_line_ends_head()
     ensures { law.EmptyLineEndsHead }
 {}
@@ -31,7 +31,7 @@ pub fn target_begins_with_slash()
     ensures { law.TargetBeginsWithSlash }
 {}
 
-/// Requests of one origin are the same, all that contracts see of them: so are those that follow them.
+/// Requests of one origin are the same in all that contracts see of them, and so are those that follow them.
 pub fn origin_is_whole_request()
     ensures { law.OriginIsWholeRequest }
 {}
@@ -41,7 +41,7 @@ pub fn private_stays_home()
     ensures { PrivateStaysHome }
 {}
 
-/// What `head_is_clean` and `empty_line_ends_head` say holds of every request, of one that follows another too.
+/// What `head_is_clean` and `empty_line_ends_head` say holds for every request, also for one that follows another.
 pub fn every_head_is_clean()
     ensures { EveryHeadIsClean }
 {}

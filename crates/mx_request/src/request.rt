@@ -246,7 +246,7 @@ impl Request {
     /// - `BadField`: there are more than 64 fields, or a name or a value, the user agent's too, can't be sent;
     /// - `BodyTooLarge`: the body is over 1,048,576 bytes.
     ///
-    /// `OutOfMemory` stands in place of any of these, or of the request, where a growth was refused; a text
+    /// `OutOfMemory` comes in place of any of these, or of the request, where a growth was refused; a text
     /// over 65,536 bytes is refused before anything grows. A refusal drops the settings.
     pub fn build(
         alloc: Global,
@@ -254,7 +254,7 @@ impl Request {
         text: &str,
         settings: Settings,
     ) -> Result<Request, RequestError>
-        // the request, or just the refusal that the definition gives, the want of memory aside
+        // the request, or just the refusal that the definition gives, `OutOfMemory` aside
         ensures answer { MatchResult result (λ r. request_of method text.now settings ≡ Ok r)
             (λ e. (request_of method text.now settings ≡ Err e) ⊎ (e ≡ refusal.OutOfMemory)) }
         ensures built { IfOk result (IsBuiltFrom method text.now settings) }
@@ -280,7 +280,7 @@ impl Request {
     /// - `Scheme`: the URL's scheme isn't `http`;
     /// - `UserInfo`: the URL has a user name or a password.
     ///
-    /// `OutOfMemory` stands in place of any of these, or of the request, where a growth was refused.
+    /// `OutOfMemory` comes in place of any of these, or of the request, where a growth was refused.
     pub fn follow(
         &self,
         alloc: Global,

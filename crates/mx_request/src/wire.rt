@@ -58,7 +58,7 @@ fn put_field(out: &mut Vec<u8>, name: &str, value: &str) -> Result<(), AllocErro
     out.extend_from_slice(b"\r\n")
 }
 
-/// Whether the port isn't the one that every `http` URL has unsaid.
+/// Whether the port isn't the default of `http` URLs.
 fn has_port(endpoint: &Endpoint) -> bool
     ensures { result ≡ not (endpoint.now.port == 80) }
 {
@@ -113,14 +113,14 @@ fn put_accept(out: &mut Vec<u8>, fields: &[(String, String)]) -> Result<(), Allo
 }
 
 // rule redirect-private-fields
-/// Whether an endpoint is told the field: unless it is private and the endpoint isn't the first of its chain.
+/// Whether an endpoint is sent the field: unless it is private and the endpoint isn't the first of its chain.
 fn is_told(name: &str, is_first: bool) -> bool
     ensures { result ≡ (is_first || not (spec.is_private_name name.now)) }
 {
     is_first || !is_private(name)
 }
 
-/// Adds the line of a field, if the endpoint is told it.
+/// Adds the line of a field, if the endpoint is sent it.
 fn put_told(out: &mut Vec<u8>, name: &str, value: &str, is_first: bool) -> Result<(), AllocError>
     ensures { OnOk result (out.new.items ≡ out.old.items
         ++ spec.field_lines (spec.told_fields is_first (record { name = name.now; value = value.now } ∷ []))) }
@@ -131,7 +131,7 @@ fn put_told(out: &mut Vec<u8>, name: &str, value: &str, is_first: bool) -> Resul
     Ok(())
 }
 
-/// Adds the lines of the caller's fields that the endpoint is told, in order.
+/// Adds the lines of the caller's fields that the endpoint is sent, in order.
 fn put_fields(
     out: &mut Vec<u8>,
     fields: &[(String, String)],

@@ -74,7 +74,7 @@ fn make_call(deadlines: &mut Deadlines, call: Call) -> bool {
     }
 }
 
-/// Whether a script goes as it is to.
+/// Whether a script goes as it should.
 fn goes(calls: &[Call]) -> bool {
     let mut deadlines = Deadlines::new();
     let mut is_right = true;

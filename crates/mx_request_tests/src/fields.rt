@@ -149,7 +149,7 @@ fn placed(alloc: Global, c: char, place: usize) -> Result<String, AllocError> {
     Ok(text)
 }
 
-/// How often the byte stands among the bytes.
+/// How often the byte is among the bytes.
 fn count_of(bytes: &[u8], byte: u8) -> usize {
     bytes.iter().filter(|b| **b == byte).count()
 }
@@ -187,7 +187,7 @@ fn is_field_right(
     Ok(line_ends(alloc, name, value)? == expected)
 }
 
-/// Whether a name is allowed where the character stands in it, and a value.
+/// Whether a name and a value with the character are allowed.
 ///
 /// RFC 9110, section 5.6.2, lists the marks of a name.
 fn are_allowed(c: char, place: usize) -> (bool, bool) {

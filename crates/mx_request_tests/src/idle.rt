@@ -122,7 +122,7 @@ fn call_each(
     Ok(is_right)
 }
 
-/// Whether a script goes as it is to.
+/// Whether a script goes as it should.
 fn goes(alloc: Global, script: &Script) -> Result<bool, AllocError> {
     match IdleCache::with_limit(alloc, script.1) {
         Ok(cache) => {

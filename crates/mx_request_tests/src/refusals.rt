@@ -111,7 +111,7 @@ static URLS: [Text; 3] = [
     },
 ];
 
-/// Locations. Before a path of the first endpoint stand 21 bytes, and a space is written as three.
+/// Locations. 21 bytes are before a path of the first endpoint, and a space is written as three.
 static LOCATIONS: [Text; 9] = [
     Text {
         name: "location_that_joins_65536",
@@ -167,7 +167,7 @@ static LOCATIONS: [Text; 9] = [
         len: 65_516,
         refused: MALFORMED,
     },
-    // its own length is no matter
+    // its own length doesn't count
     Text {
         name: "location_of_70002",
         front: "",

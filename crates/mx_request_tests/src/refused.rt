@@ -1,5 +1,5 @@
-//! Calls that may be refused memory. One that was is made again, and has then to answer as if it had been the first; only then does the test
-//! fail, by a text of its own. What a test needs for itself is refused as any allocation is. Without a refusal it passes.
+//! Calls that may be refused memory. One that was is made again, and has then to answer as if it had been the first; only then does the
+//! test fail, by a text of its own. What a test needs for itself is refused as any allocation is. Without a refusal it passes.
 
 use crate::idle::endpoint;
 use crate::row::{GET, Row, Seen, is_right};
@@ -76,7 +76,7 @@ static ROWS: [Row; 8] = [
 /// How a call went.
 #[derive(Clone, Copy, PartialEq, Eq)]
 enum Went {
-    /// It answered as it is to.
+    /// It answered as it should.
     Right,
     /// It was refused memory.
     Refused,
@@ -138,7 +138,7 @@ fn follow(alloc: Global, request: &Request) -> Went {
     compare(alloc, answer, Given::All, &FOLLOWS)
 }
 
-// How it went, and how again where it didn't go right.
+// How it went, and where it failed how a second try went.
 fn follow_twice(alloc: Global, request: &Request) -> (Went, Went) {
     let went = follow(alloc, request);
     if went == Went::Right {

@@ -106,7 +106,7 @@ fn is_kept(request: &Request, given: Given) -> bool {
     (request.timeout_ms(), request.max_redirects()) == kept_of(given)
 }
 
-/// Whether that is seen of what came of a request with these settings.
+/// Whether a request with these settings gives what the row says.
 pub(crate) fn is_right(
     alloc: Global,
     answer: &Result<Request, RequestError>,
@@ -131,7 +131,7 @@ fn follow(alloc: Global, request: &Request, hop: &Hop) -> Option<Result<Request,
     }
 }
 
-/// Follows a request: whether that is seen which is to be, and the request that follows, if there is one.
+/// Follows a request: whether the expected is seen, and the request that follows, if there is one.
 fn take_hop(alloc: Global, request: &Request, given: Given, hop: &Hop) -> (bool, Option<Request>) {
     match follow(alloc, request, hop) {
         Some(answer) => (is_right(alloc, &answer, given, &hop.2), answer.ok()),
@@ -139,7 +139,7 @@ fn take_hop(alloc: Global, request: &Request, given: Given, hop: &Hop) -> (bool,
     }
 }
 
-/// Whether what follows a request is as it is to be, at each of these hops.
+/// Whether what follows a request is as it should be, at each of these hops.
 fn goes_on(alloc: Global, request: Request, row: &Row) -> bool {
     let mut request = request;
     let mut is_all_right = true;
@@ -153,7 +153,7 @@ fn goes_on(alloc: Global, request: Request, row: &Row) -> bool {
     is_all_right
 }
 
-/// Whether a row goes as it is to.
+/// Whether a row goes as it should.
 fn goes(alloc: Global, row: &Row) -> Result<bool, AllocError> {
     let settings = settings_of(alloc, row.given)?;
     let answer = Request::build(alloc, row.method, row.url, settings);

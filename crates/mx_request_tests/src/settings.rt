@@ -35,7 +35,7 @@ pub(crate) enum Given {
 /// The most bytes of a body, and one more.
 const LARGE: usize = 1_048_577;
 
-/// The fields of a chain. Two names of them are private, in any letter case, and each of these stands twice.
+/// The fields of a chain. Two names of them are private, in any letter case, and each of these is there twice.
 const CHAIN: [(&str, &str); 7] = [
     ("Cookie", "a=1"),
     ("X-A", "1"),

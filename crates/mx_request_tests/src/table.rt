@@ -4,7 +4,7 @@ use crate::row::{Row, first_wrong};
 use crate::{deadlines, fields, idle, redirects, refusals, urls};
 use std::test::Fail;
 
-/// All rows, by what they are about. Whoever names a long table pays for its rows, so each part of it is named in one function.
+/// All rows, by what they are about. Naming a long table makes a proof longer by its rows, so each part of it is named in one function.
 fn table() -> [&'static [Row]; 11] {
     [
         urls::sent(),

@@ -210,7 +210,7 @@ static COUNTED_BODIES: [Response; 22] = [
         decided: Some(57),
         ..LARGE
     },
-    // the most that fits behind a head of 45 bytes, and more
+    // the most that fits after a head of 45 bytes, and more
     Response {
         name: "length_that_fits",
         front: b"HTTP/1.1 200 OK\r\nContent-Length: 67108819\r\n\r\n",

@@ -22,7 +22,7 @@ static REFUSED: [Response; 23] = [
         front: b"HTTP/1.1 200 OK\r\nA: b",
         ..NO_HEAD
     },
-    // bytes that begin no head, of which the last one told is wrong
+    // bytes that begin no head: the last that counts is wrong
     Response {
         name: "letter_before_a_head",
         front: b"X",
@@ -145,7 +145,7 @@ static REFUSED: [Response; 23] = [
     },
 ];
 
-/// Bytes that begin no head, of which the last one told is wrong; before them no bytes, and heads that don't end.
+/// Bytes that begin no head: the last that counts is wrong; before them no bytes, and heads that don't end.
 pub(crate) fn refused() -> &'static [Response] {
     &REFUSED
 }

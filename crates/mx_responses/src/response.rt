@@ -1,9 +1,9 @@
-//! A response, and what it comes to.
+//! A response, and its result.
 
 use mx_types::{Code, Method};
 use std::alloc::{AllocError, Global};
 
-/// A response, and what it comes to.
+/// A response, and its result.
 #[derive(Clone, Copy)]
 pub struct Response {
     /// What it is about.
@@ -20,7 +20,7 @@ pub struct Response {
     pub end: &'static [u8],
     /// How many of them decide; nothing where the end of the input does.
     pub decided: Option<usize>,
-    /// What it comes to: a whole response, or why it is none.
+    /// Its result: a whole response, or why it is none.
     pub code: Code,
     /// That of the final head; 0 where there is none.
     pub status: u16,

@@ -3,13 +3,13 @@ use Rattle.std.specs.Prelude.{◌≡◌, ℕ, ◌<◌, ◌≤◌, List, [], ◌�
 use Rattle.std.specs.List.{AllByRecursion}
 use Rattle.mx_retry.specs.declared.waiting.Wait.{Wait}
 
--- none waits until an earlier moment than one that stands before it
+-- none waits until an earlier moment than one before it
 abbrev pub IsInOrder : List Wait → Type 0
 IsInOrder [] = Unit {0}
 IsInOrder (w ∷ ws) = AllByRecursion (λ v. w.moment ≤ v.moment) ws × IsInOrder ws
 
 -- rule save-waiting
--- one more, behind all that wait until its moment or an earlier one, and before the others
+-- one more, after all that wait until its moment or an earlier one, and before the others
 pub record Adds (old new : List Wait) (w : Wait) : Type 0 where
   pub earlier : List Wait
   pub later : List Wait

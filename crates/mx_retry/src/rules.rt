@@ -4,7 +4,7 @@ ghost use Rattle.mx_retry.specs.Rules.{is_repeatable, is_transient_code, is_tran
 
 use mx_types::{Code, Method};
 
-/// Whether a request of that method may be sent once more unasked: GET and HEAD, which are safe (RFC 9110, section 9.2.1).
+/// Whether a request of that method may be sent once more without being asked to: GET and HEAD, which are safe (RFC 9110, section 9.2.1).
 fn is_repeatable(method: Method) -> bool
     ensures { result ≡ is_repeatable method }
 {
@@ -35,7 +35,7 @@ fn is_transient_status(status: u16) -> bool
 }
 
 // rule save-retries
-/// Whether a URL may be tried again that was asked for by that method and ended with that code and that status: the method is GET or HEAD,
+/// Whether a URL that was fetched by that method and ended with that code and that status may be tried again: the method is GET or HEAD,
 /// and the code or the status is one that may pass. The method is the one that was given, not that of a request that a redirect led to.
 pub fn is_retried(method: Method, code: Code, status: u16) -> bool
     ensures { result ≡ is_retried method code status }

@@ -70,9 +70,9 @@ impl Waiting {
     }
 
     // rule save-waiting
-    /// Adds a job that waits until that moment, behind those that wait until then already. Fewer than [`MOST_WAITING`] may wait.
+    /// Adds a job that waits until that moment, after those that wait until then already. Fewer than [`MOST_WAITING`] may wait.
     ///
-    /// An error is the want of memory: nothing changes.
+    /// An error says that memory was refused: nothing changes.
     pub fn add(&mut self, wait: Wait) -> Result<(), AllocError>
         requires { length self.old < MOST_WAITING }
         ensures added { OnOk result (Adds self.old self.new wait) }

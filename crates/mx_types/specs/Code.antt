@@ -22,7 +22,7 @@ code_number codes.BadContentEncoding = 61
 code_number codes.FilesizeExceeded = 63
 code_number codes.TooLarge = 100
 
--- the codes of a link that can't be had: the host wasn't found, or not reached, or memory wasn't found
+-- the codes of a link that can't be opened: the host wasn't found or wasn't reached, or memory was refused
 abbrev pub is_link_code : Code → Bool
 is_link_code codes.CouldntResolveHost = true
 is_link_code codes.CouldntConnect = true

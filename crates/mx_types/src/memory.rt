@@ -1,9 +1,9 @@
-//! The want of memory.
+//! Out of memory.
 use std::alloc::{AllocError, AllocFailed};
 use std::error::Error;
 use std::fmt;
 
-/// Memory was refused. It is the whole engine's one word for that; what is left then, each call says for itself.
+/// Memory was refused. The whole engine uses this one type for it; each call says what it leaves then.
 #[derive(Clone, Copy, Debug, PartialEq, Eq)]
 pub struct OutOfMemory;
 
@@ -21,7 +21,7 @@ impl From<AllocError> for OutOfMemory {
     }
 }
 
-/// The value that found no room is dropped.
+/// The value that couldn't be stored is dropped.
 impl<T: Drop> From<AllocFailed<T>> for OutOfMemory {
     fn from(_refused: AllocFailed<T>) -> OutOfMemory {
         OutOfMemory

@@ -18,7 +18,7 @@ pub enum Method {
 }
 
 impl Method {
-    /// The name that stands in the request line: capitals.
+    /// The name in the request line: capitals.
     pub fn as_str(self) -> &'static str
         ensures { result.now ≡ method_name self }
     {

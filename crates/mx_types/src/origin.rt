@@ -5,7 +5,7 @@ use std::collections::LinkedList;
 
 /// The whole of a request, as contracts compare it: its method, its URL as it is written out, its settings (how many redirects are
 /// followed is one of them), and the endpoint at which its chain began. Requests of one origin are the same request, and so are those
-/// that follow them. No value of it is made.
+/// that follow them. It exists in contracts alone.
 pub struct Origin {
     pub method: Method,
     pub url: LinkedList<u8>,

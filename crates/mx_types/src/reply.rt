@@ -9,7 +9,7 @@ use crate::names::{HandleId, Ticket};
 use arrayvec::ArrayVec;
 use std::marker::Model;
 
-/// Where a handle stands.
+/// The state of a handle.
 #[derive(Clone, Copy, PartialEq, Eq)]
 pub enum State {
     NotAdded,
@@ -21,7 +21,7 @@ pub enum State {
     Read(Ticket, Code),
 }
 
-/// What a worker is told of a transfer that it holds.
+/// What a worker sees of a transfer that it holds.
 #[derive(Clone, Copy, PartialEq, Eq)]
 pub enum Look {
     /// It runs.

@@ -1,4 +1,4 @@
-//! Chunks of a chunked body, and trailer lines, that a reader goes over one after the other, where they stand there whole.
+//! Chunks of a chunked body, and trailer lines, that a reader passes one after the other, where they are complete.
 
 ghost use Rattle.std.specs.Prelude.{◌≡◌, ◌+◌, ◌<◌, ◌≤◌, ◌^◌, ℕ, List, length, take, true, false, IsTrue, None, Some, IfSome, IfOk};
 ghost use Rattle.mx_head.specs.Limits.{most_bytes};
@@ -14,8 +14,7 @@ use crate::chunked::stretch::{add_part, digits, go_over, is_crlf_at, line_bytes,
 use crate::limits::MOST_BYTES;
 use mx_types::OutOfMemory;
 
-/// The line of a chunk with data at the front, where no extension stands in it: how many bytes it has with its CRLF, and
-/// the size.
+/// The line of a chunk with data at the front, if it has no extension: how many bytes it has with its CRLF, and the size.
 fn data_line(limit: u32, input: &[u8]) -> Option<(usize, u32)>
     ensures within { IfSome result (λ r. r.0 ≤ length input.now) }
     ensures some { IfSome result (λ r. 0 < r.1) }
@@ -29,7 +28,7 @@ fn data_line(limit: u32, input: &[u8]) -> Option<(usize, u32)>
     Some((n + 2, size))
 }
 
-/// Whether data of that size stand at the front with their CRLF.
+/// Whether data of that size are at the front with their CRLF.
 fn has_data(size: u32, input: &[u8]) -> bool
     requires { 0 < size }
     ensures within { IsTrue result → size + 2 ≤ length input.now }
@@ -39,7 +38,7 @@ fn has_data(size: u32, input: &[u8]) -> bool
     n <= input.len() && is_crlf_at(input, n)
 }
 
-/// Reads on before a chunk, over those that stand there whole, and the line of the next where data follow it.
+/// Reads on before a chunk: passes the complete ones, and the line of the next where data follow it.
 fn pass_chunks(
     parts: &mut Vec<Part>,
     at: u32,
@@ -73,7 +72,7 @@ fn pass_chunks(
     Ok((Place::Start, read))
 }
 
-/// Where the trailer lines end that stand whole from an offset on, which is where the first of them begins.
+/// The end of the complete trailer lines from an offset on, at which the first of them begins.
 fn lines_end(body: &[u8], from: usize) -> usize
     requires { from ≤ length body.now }
     ensures onward { from ≤ result }
@@ -91,8 +90,8 @@ fn lines_end(body: &[u8], from: usize) -> usize
     end
 }
 
-/// Reads on over a stretch, from a place before a chunk over those that stand there whole, and from one before a trailer
-/// line likewise. A refusal of memory leaves the parts that were there.
+/// Reads on over a stretch; before a chunk it passes the complete chunks, and before a trailer line the complete lines. A refusal of memory
+/// leaves the parts that were there.
 pub(crate) fn pass(
     parts: &mut Vec<Part>,
     at: u32,

@@ -2,7 +2,7 @@
 
 ghost use Rattle.mx_body.specs.ChunkedLaws.{OneBodyPerText, OneReadingPerText, PartsAreData, BodyIsSound, LargeMayBecome, OneScanPerInput, RfcIsChunked, ChunkedIsRfc, NoBareLfInSizeLine, CrlfBehindData, BareLfExamples, DoneIsWhole, WholeIsDone, OpenIsUndecided, BadIsNoBody, TooLargeIsLarge};
 
-/// Two chunked bodies of which one begins the other are one, with the same parts and the same data.
+/// Two chunked bodies of which one is a prefix of the other are equal, with the same parts and the same data.
 pub fn chunked_is_one()
     ensures tree { OneBodyPerText }
     ensures reading { OneReadingPerText }
@@ -38,8 +38,8 @@ pub fn framing_is_strict()
     ensures examples { BareLfExamples }
 {}
 
-/// What the places of a reader (`place::Place`) say of the bytes read, whatever the pieces they came in: a
-/// body with its parts, the beginning of one, no beginning of one, or one with a size over the limit.
+/// What the places of a reader (`place::Place`) say of the bytes read, whatever the pieces they came in: a body with its parts, a prefix of
+/// one, no prefix of one, or one with a size over the limit.
 pub fn places_tell()
     ensures done { DoneIsWhole }
     ensures whole { WholeIsDone }

@@ -1,4 +1,4 @@
-//! Where the data of a chunked body stand.
+//! Where the data of a chunked body are.
 
 ghost use Rattle.std.specs.Prelude.{◌≡◌, ◌+◌, ◌<◌, ◌^◌, ◌≢◌, [], length, IfOk, OnErr, option_to_list};
 ghost use Rattle.mx_body.specs.Chunked.{ChunkedBody, IsChunkedBody, chunked_bytes, chunk_parts};
@@ -25,8 +25,8 @@ pub(crate) fn begun(place: Place, next: Place, at: u32) -> Option<Part>
 // rule body-parts
 /// The parts of a chunked body that `scan_chunked` found whole, one for each chunk with data, in order.
 ///
-/// `input` is the body, which begins at the offset `at`; the parts are offsets counted as `at` is. The error
-/// comes where there is no room for another part.
+/// `input` is the body, which begins at the offset `at`; the parts are offsets counted as `at` is. The error comes where memory for another
+/// part is refused.
 pub fn chunked_parts(alloc: Global, input: &[u8], at: u32) -> Result<Vec<Part>, OutOfMemory>
     requires whole { (body : ChunkedBody) × IsChunkedBody body × (input.now ≡ chunked_bytes body) }
     requires room { at + length input.now < 2 ^ 32 }

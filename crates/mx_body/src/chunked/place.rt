@@ -5,22 +5,22 @@ ghost use Rattle.mx_body.specs.ChunkedPlace.{sized, after_digits, in_line, expec
 
 use httparse::parse_hex_digit;
 
-/// Where the bytes of a chunked body have led a reader.
+/// A reader's place after some bytes of a chunked body.
 #[derive(Clone, Copy)]
 pub enum Place {
     /// Before the first digit of a size.
     Start,
     /// After some digits of a size, with the value so far.
     Size(u32),
-    /// In what stands between a size and its CRLF.
+    /// Between a size and its CRLF.
     Extension(u32),
     /// After the CR of a size line.
     SizeLf(u32),
     /// In a chunk's data, of which so many bytes are still to come: one at least.
     Data(u32),
-    /// Before the CR behind a chunk's data.
+    /// Before the CR after a chunk's data.
     DataCr,
-    /// Before the LF behind a chunk's data.
+    /// Before the LF after a chunk's data.
     DataLf,
     /// At the beginning of a trailer line, or of the CRLF that ends the body.
     TrailerStart,
@@ -30,7 +30,7 @@ pub enum Place {
     TrailerLf,
     /// After the last CR of the body.
     EndLf,
-    /// Right behind the body.
+    /// Right after the body.
     Done,
     /// The bytes begin no chunked body.
     Bad,
@@ -125,8 +125,7 @@ impl Place {
         }
     }
 
-    /// The place after the next byte, or after the data that is there where the place is within data, and how
-    /// many bytes that is.
+    /// The place after the next byte, or, within data, after the data that is there; and how many bytes that is.
     pub fn advance(self, limit: u32, input: &[u8]) -> (Place, usize)
         requires { 0 < length input.now }
         ensures moved { 0 < result.1 }

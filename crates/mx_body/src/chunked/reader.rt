@@ -15,7 +15,7 @@ use crate::chunked::scan::ChunkedScan;
 use mx_types::OutOfMemory;
 use std::alloc::Global;
 
-/// How far a chunked body has been read, and where the data of its chunks stand.
+/// How far a chunked body has been read, and where the data of its chunks are.
 #[derive(Drop)]
 pub(crate) struct ChunkedReader {
     /// The offset at which the body begins.
@@ -23,7 +23,7 @@ pub(crate) struct ChunkedReader {
     pub(crate) place: Place,
     /// How many bytes of the body were read.
     pub(crate) read: usize,
-    /// One for each chunk whose size line was read, also where its data are still to come.
+    /// One for each chunk whose size line was read, even where its data are still to come.
     pub(crate) parts: Vec<Part>,
 }
 

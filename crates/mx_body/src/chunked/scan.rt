@@ -10,11 +10,11 @@ use crate::chunked::place::Place;
 pub enum ChunkedScan {
     /// The first `len` bytes are a chunked body.
     Whole { len: usize },
-    /// The bytes are the beginning of one.
+    /// The bytes are a proper prefix of one.
     Short,
     /// A size is over the limit, and nothing before its last digit is wrong.
     TooLarge,
-    /// A byte can't stand at its place, and nothing before it is wrong.
+    /// A byte isn't allowed at its place, and nothing before it is wrong.
     Bad,
 }
 

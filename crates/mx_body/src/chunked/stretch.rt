@@ -1,4 +1,4 @@
-//! Bytes of a chunked body that a reader goes over at once: a line up to its end, or data and the CRLF behind them.
+//! Bytes of a chunked body that a reader passes at once: a line up to its end, or data and the CRLF after them.
 
 ghost use Rattle.std.specs.Prelude.{◌≡◌, ◌+◌, ◌<◌, ◌≤◌, ◌∷◌, ◌++◌, ℕ, [], length, take, slice_index, true, IsTrue, None, Some, ◌⊎◌, ◌==◌, ◌^◌, option_to_list, OnOk, OnErr, if◌then◌else◌};
 ghost use Rattle.std.specs.Char.{is_ascii_hexdigit};
@@ -14,10 +14,10 @@ use httparse::parse_hex_digit;
 use memchr::memchr2;
 use mx_types::OutOfMemory;
 
-/// Some bytes that are gone over at once.
+/// Some bytes that are passed at once.
 #[derive(Clone, Copy)]
 pub(crate) struct Stretch {
-    /// The place behind them.
+    /// The place after them.
     pub(crate) next: Place,
     /// How many there are.
     pub(crate) len: usize,
@@ -25,7 +25,7 @@ pub(crate) struct Stretch {
     pub(crate) ahead: Option<u32>,
 }
 
-/// Whether CR LF stands at that offset.
+/// Whether CR LF is at that offset.
 pub(crate) fn is_crlf_at(input: &[u8], at: usize) -> bool
     requires { at ≤ length input.now }
     ensures within { IsTrue result → at + 2 ≤ length input.now }
@@ -34,8 +34,8 @@ pub(crate) fn is_crlf_at(input: &[u8], at: usize) -> bool
     input.len() - at >= 2 && input[at] == b'\r' && input[at + 1] == b'\n'
 }
 
-/// The digits at the front, behind others that have the value `size`: the value of all, and how many are gone over. It
-/// stops before a digit with which the value is over the limit.
+/// The digits at the front, after others that have the value `size`: the value of all, and how many are passed. It stops before a digit
+/// with which the value is over the limit.
 pub(crate) fn digits(limit: u32, size: u32, input: &[u8]) -> (u32, usize)
     ensures first { 0 < result.1 → is_ascii_hexdigit (slice_index input.now 0) ≡ true }
     ensures goes_on { GoesOn limit (Size size) (Size result.0) result.1 input.now }
@@ -56,7 +56,7 @@ pub(crate) fn digits(limit: u32, size: u32, input: &[u8]) -> (u32, usize)
     (value, n)
 }
 
-/// How many bytes other than CR and LF stand at the front.
+/// How many bytes other than CR and LF are at the front.
 pub(crate) fn line_bytes(input: &[u8]) -> usize
     ensures within { result ≤ length input.now }
     ensures line { (k : ℕ) → k < result → is_line_byte (slice_index input.now k) ≡ true }
@@ -118,7 +118,7 @@ fn data_of(size: u32) -> Option<u32>
     if size == 0 { None } else { Some(size) }
 }
 
-/// What `n` bytes come to that lead to `next`, with the CRLF behind them where that ends a chunk's line of that size.
+/// The stretch of `n` bytes that lead to `next`, with the CRLF after them where that ends a chunk's line of that size.
 fn line_of_size(size: u32, next: Place, n: usize, input: &[u8]) -> Stretch
     requires some { 0 < n }
     requires within { n ≤ length input.now }
@@ -139,7 +139,7 @@ fn line_of_size(size: u32, next: Place, n: usize, input: &[u8]) -> Stretch
     }
 }
 
-/// What the bytes behind digits with the value `size` come to; `place` is theirs, or, where there are none, the start.
+/// The stretch of the bytes after digits with the value `size`; `place` is theirs, or, where there are none, the start.
 fn from_size(place: Place, limit: u32, size: u32, input: &[u8]) -> Stretch
     requires some { 0 < length input.now }
     requires place { (place ≡ Size size) ⊎ ((place ≡ Start) × (size ≡ 0)) }
@@ -163,7 +163,7 @@ fn from_extension(limit: u32, size: u32, input: &[u8]) -> Stretch
     line_of_size(size, Place::Extension(size), n, input)
 }
 
-/// What the bytes of a trailer line come to, from its beginning or from within.
+/// The stretch of the bytes of a trailer line, from its beginning or from within.
 fn from_trailer(place: Place, limit: u32, input: &[u8]) -> Stretch
     requires some { 0 < length input.now }
     requires place { (place ≡ TrailerStart) ⊎ (place ≡ Trailer) }
@@ -187,7 +187,7 @@ fn from_trailer(place: Place, limit: u32, input: &[u8]) -> Stretch
     }
 }
 
-/// What data come to of which `left` bytes are to come, with the CRLF behind them where it is there.
+/// The stretch of data of which `left` bytes are to come, with the CRLF after them where it is there.
 fn from_data(limit: u32, left: u32, input: &[u8]) -> Stretch
     requires { 0 < length input.now }
     ensures { IsStretch limit (Data left) input.now result }
@@ -203,7 +203,7 @@ fn from_data(limit: u32, left: u32, input: &[u8]) -> Stretch
     step(Place::Data(left), limit, input)
 }
 
-/// The bytes at the front that are gone over at once from a place.
+/// The bytes at the front that are passed at once from a place.
 pub(crate) fn go_over(place: Place, limit: u32, input: &[u8]) -> Stretch
     requires { 0 < length input.now }
     ensures { IsStretch limit place input.now result }
