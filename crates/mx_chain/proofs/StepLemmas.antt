@@ -102,7 +102,7 @@ finish {L} t s new o c was why e home =
     (e ∙ ap (λ (x : ChainState L). record x { hops = []; code = Some c; link = new.link; home = new.home }) was)
     (subst (λ (x : ChainState L). SettlesHome x x.link o.request new) was home)
 
--- the same, told of what it was before its end
+-- the same, said of what it was before its end
 pub finish_from : {L : Type 0} (t s new : ChainState L) (o : HopValue) (c : Code) → s ≡ record t { now = released t.now; link = left_of t.link t.now }
     → EndsWith s.request.settings.max_redirects (length s.hops) o c → new ≡ record s { hops = []; code = Some c; link = new.link; home = new.home }
     → SettlesHome s s.link o.request new
@@ -132,7 +132,7 @@ module _ {L : Type 0} (n : ExchangeState L) where
   left_released : (x : Option L) → left_of x (released n) ≡ x
   left_released x = elim (n.is_kept) as (λ b. n.is_kept ≡ b → left_of x (cond b (record n { link = None; attached = None; answers = []; is_reused = false; needs_probe = false; is_kept = false }) n) ≡ x) [ true ↦ λ e. refl | false ↦ λ e. left_same x e ] refl
 
--- what comes of a transfer whose link was released is what comes of it
+-- a transfer whose link was released goes on as the transfer itself
 pub goes_released : {L : Type 0} (t s new : ChainState L) (o : HopValue) (how : How) → s ≡ record t { now = released t.now; link = left_of t.link t.now }
     → GoesOn s s.now o new how → GoesOn t t.now o new how
 goes_released {L} t s new o how was g = on how (subst (λ (x : ChainState L). GoesOn x x.now o new how) was g)

@@ -10,7 +10,7 @@ use Rattle.mx_exchange.specs.Exchanges.{HopValue, ExchangeState, renewed}
 use Rattle.mx_chain.specs.Hops.{LeadTo}
 
 -- A transfer. `request` is the first hop's. `hops` were followed, and `earlier` counts the bytes of their responses; once the transfer has
--- ended they are in its outcome, and here are none. `now` is the exchange of the hop that is under way, or was the last, and `linked` tells
+-- ended they are in its outcome, and here are none. `now` is the exchange of the hop that is under way, or was the last, and `linked` says
 -- whether a link was attached in it. `link` is what `take_link` hands out: a link that served a hop which has ended, and may serve again.
 -- `home` is where it goes, once the transfer has ended.
 pub record ChainState (L : Type 0) : Type 0 where

@@ -12,7 +12,7 @@ use Rattle.mx_chain.specs.Chains.{ChainState, home_by, left_of, halted, onward, 
 use Rattle.mx_chain.specs.declared.chains.Stepped.{Stepped}
 use Rattle.mx_chain.specs.declared.chains.Stepped.TheVariants as stepped
 
--- what a turn comes to: it waits, it asks for another turn, or it ends
+-- the result of a turn: it waits, it asks for another turn, or it ends
 pub data How : Type 0 where
   waits : How
   asks : How
@@ -23,7 +23,7 @@ how_of stepped.Waits = waits
 how_of stepped.Asks = asks
 how_of (stepped.Ended o) = ends o
 
--- of the outcome, where the turn ended it
+-- this holds for the outcome, where the turn ended it
 abbrev pub IfEnded : Stepped → (OutcomeValue → Type 0) → Type 0
 IfEnded (stepped.Ended o) P = P o
 IfEnded _ P = Unit {0}
@@ -33,8 +33,8 @@ abbrev pub IfGoing : Stepped → Type 0 → Type 0
 IfGoing (stepped.Ended o) P = Unit {0}
 IfGoing _ P = P
 
--- At the end of a hop of the request, the link that is left stays, and there is a place where it goes; it is dropped where that could not
--- be copied.
+-- At the end of a hop of the request, the link that is left stays, with a copy of its endpoint; it is dropped where that couldn't be
+-- copied.
 abbrev pub SettlesHome : {L : Type 0} → ChainState L → Option L → RequestValue → ChainState L → Type 0
 SettlesHome t left request new =
     ((new.link ≡ left) × (new.link ≢ None → IsSome new.home × (new.home ≡ home_by None t.linked request t.hops None)))
@@ -49,7 +49,7 @@ pub data GoesOn {L : Type 0} (t : ChainState L) (mid : ExchangeState L) (o : Hop
   finishes : (c : Code) → EndsWith t.request.settings.max_redirects (length t.hops) o c
       → new ≡ over t mid c new.link new.home → SettlesHome t (left_of t.link mid) o.request new → GoesOn t mid o new (ends (outcome_of t.hops o c))
 
--- A turn is one turn of the hop that is under way, and what comes of its end.
+-- A turn is one turn of the hop that is under way, and how the chain goes on from its end.
 pub data Steps {L : Type 0} (history : L → List Answer) (t new : ChainState L) : How → Type 0 where
   waited : Turns history (clocked t.now) new.now hop.waits → new ≡ record t { now = new.now } → Steps history t new waits
   asked : Turns history (clocked t.now) new.now hop.asks → new ≡ record t { now = new.now } → Steps history t new asks

@@ -18,7 +18,7 @@ use std::marker::Model;
 use std::mem;
 use std::snapshot::Snapshot;
 
-/// What a turn comes to.
+/// The result of a turn.
 #[derive(Drop)]
 pub enum Stepped {
     /// It waits: for a link, for the one that it has, or for its deadline.
@@ -29,7 +29,7 @@ pub enum Stepped {
     Ended(Outcome),
 }
 
-/// A request, and the hops that it comes to: one exchange after another, as redirects lead on.
+/// A request, and its hops: one exchange after another, as redirects lead on.
 #[derive(Drop)]
 pub struct Chain<L: Link> {
     alloc: Global,
@@ -48,7 +48,7 @@ pub struct Chain<L: Link> {
     home: Option<Endpoint>,
 }
 
-// A copy of an endpoint, where there is one and memory is found.
+// A copy of an endpoint, where there is one and memory isn't refused.
 fn copy_of(alloc: Global, endpoint: Option<&Endpoint>) -> Option<Endpoint>
     ensures { IfSome result (λ copy. option_copied endpoint.entry ≡ Some copy) }
 {
@@ -149,7 +149,7 @@ impl<L: Link> Chain<L> {
         hops.swap_remove(0).into_request()
     }
 
-    /// The link that it wants, where it wants one: where the hop that is under way goes, and of any kind when that begins.
+    /// The link that it wants, if any: one to the endpoint of the hop that is under way; of any kind when the hop begins.
     pub fn wants(&self) -> Option<Want<'_>>
         ensures wants { IsSome result ↔ WantsLink self.now.now }
         ensures which { IfSome result (λ want. (want.fresh ≡ self.now.now.needs_fresh) × (want.endpoint.now ≡ self.now.now.request.endpoint)) }
@@ -169,7 +169,7 @@ impl<L: Link> Chain<L> {
         self.exchange.attach(link, is_reused);
     }
 
-    /// Gives the code that it ends with at its next turn, as no link can be had.
+    /// Gives the code that it ends with at its next turn, as no link can be opened.
     pub fn fail_link(&mut self, code: Code)
         requires wanted { WantsLink self.old.now }
         requires code { is_link_code code ≡ true }
@@ -199,14 +199,14 @@ impl<L: Link> Chain<L> {
         self.exchange.deadline()
     }
 
-    /// How many bytes its links have given, in all hops; at most 4,294,967,295 are told.
+    /// How many bytes its links have given, in all hops; the answer is at most 4,294,967,295.
     pub fn received(&self) -> u32
         ensures { result ≡ received_of self.now }
     {
         self.earlier.saturating_add(self.exchange.received())
     }
 
-    /// The number under which the readiness of the link is told that serves it.
+    /// The number under which the readiness of its link is reported.
     pub fn token(&self) -> Option<u64>
         ensures { result ≡ option_map L.token_of self.now.now.link }
     {
@@ -245,7 +245,7 @@ impl<L: Link> Chain<L> {
     }
 
     // rule redirect-idle-link
-    /// Where the link goes that was attached last. After the end it is told where that link may serve again.
+    /// Where the link goes that was attached last. After the end it is given where that link may serve again.
     pub fn link_endpoint(&self) -> Option<&Endpoint>
         ensures { option_copied result ≡ home_of self.now }
     {
@@ -287,7 +287,7 @@ impl<L: Link> Chain<L> {
         }
     }
 
-    // Copies the endpoint of the link that is left. Where no memory is found for it, the link is dropped.
+    // Copies the endpoint of the link that is left. Where memory for it is refused, the link is dropped.
     fn settle_home(&mut self, hop: &Hop)
         requires { IsSome self.old.code }
         ensures same { self.new ≡ record self.old { link = self.new.link; home = self.new.home } }
@@ -408,7 +408,7 @@ impl<L: Link> Chain<L> {
         // 28 comes where the deadline is due, and only there
         ensures late { IfEnded result (λ o. (o.code ≡ code.OperationTimedout) ↔ IsDue (clocked self.old.now).deadline self.old.now.moment) }
         ensures ended { IfEnded result (λ o. self.new.code ≡ Some o.code) }
-        // a link that is left has a place where it goes
+        // a link that is left has an endpoint
         ensures home { IfEnded result (λ o. self.new.link ≢ None → IsSome self.new.home) }
         ensures received { IfEnded result (λ o. received_of self.new ≡ bytes_in (hops_of o)) }
         // the count of bytes never falls

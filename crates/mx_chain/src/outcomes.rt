@@ -18,8 +18,7 @@ use std::alloc::Global;
 use std::marker::Model;
 
 // rule redirect-outcome
-/// What a transfer ended with: its hops, of which each but the last was followed, and its code. What is told of the response is told of
-/// the last hop's.
+/// What a transfer ended with: its hops, of which each but the last was followed, and its code. The response is the last hop's.
 #[derive(Drop)]
 pub struct Outcome {
     earlier: Vec<Hop>,
@@ -122,7 +121,7 @@ impl Outcome {
         }
     }
 
-    /// The bytes of the last hop's response, or of what came of one: the front of what its link gave, and all of it unless that hop
+    /// The bytes of the last hop's response, as far as it came: a prefix of what its link gave, and all of it unless that hop
     /// ended with `OutOfMemory`.
     pub fn wire(&self) -> &[u8]
         ensures wire { result.now ≡ self.now.wire }
@@ -133,7 +132,7 @@ impl Outcome {
     }
 
     /// The code: the last hop's, or why no other followed it. Where it is `Ok`, the wire begins with a whole response, or is one, and its
-    /// data stand at the parts.
+    /// data are at the parts.
     pub fn code(&self) -> Code
         ensures code { result ≡ self.now.code }
         ensures whole { result ≡ code.Ok → hop.IsWhole self.now.last }
@@ -188,7 +187,7 @@ impl Outcome {
 
     /// The body: its parts, joined.
     ///
-    /// `OutOfMemory` comes where no room is had for it.
+    /// Returns `OutOfMemory` where memory for it is refused.
     pub fn copy_body(&self, alloc: Global) -> Result<Vec<u8>, OutOfMemory>
         ensures { IfOk result (λ body. body.items ≡ joined self.now.wire self.now.parts) }
     {

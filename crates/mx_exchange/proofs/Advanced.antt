@@ -207,7 +207,7 @@ module _ {L : Type 0} (history : L → List Answer) where
   Turns-asks t new (paused m still e) = rw e (refl, refl)
   Turns-asks t new (turned m mid p x) = both_stay t mid new (probed_stays t mid p) (asks_stays mid new x)
 
-  -- no response, no fault of a link and no want of memory comes to 28
+  -- no response, no fault of a link and no refusal of memory gives 28
   untimely : (kind : Method) (past : List Answer) (wire : List ℕ) (v : Verdict) (c : Code) → EndsBy kind past wire v c → c ≡ code.OperationTimedout → ⊥
   untimely kind past wire v c (by_bytes earlier piece e w h is) t = no_verdict kind wire false v h (is ∙ ap (λ (x : Code). Some x) t)
   untimely kind past wire v c (by_end earlier e w h is) t = no_verdict kind wire true v h (is ∙ ap (λ (x : Code). Some x) t)

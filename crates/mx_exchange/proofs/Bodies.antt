@@ -1,4 +1,4 @@
--- Where the parts of a body stand.
+-- Where the parts of a body are.
 use Rattle.std.proofs.Common.{◌≡◌, ℕ, zero, suc, append-nil, append_assoc, ◌+◌, ◌-◌, ◌≤◌, ◌<◌, List, [], ◌∷◌, ◌++◌, length, take, drop, ◌∙◌, ap, sym, subst, arith, length-drop, length-append}
 use Rattle.std.specs.Prelude.{slice_range, Some}
 use Rattle.std.specs.List.{slice_get}
@@ -22,7 +22,7 @@ ordered_at from to (p ∷ ps) (suc i) d h less =
 pub slice_len : (x : List ℕ) (a b : ℕ) → a ≤ b → b ≤ length x → length (slice_range x a b) ≡ b - a
 slice_len x a b ab bx = length-take-le (b - a) (drop a x) (omega (arith, length-drop a x, ab, bx))
 
--- what stands before a part is no longer than where it starts
+-- what is before a part is no longer than where it starts
 pub joined_before : (x : List ℕ) (from to : ℕ) (ps : List Part) (i : ℕ) (d : Part) → AreOrdered from to ps → to ≤ length x → i < length ps
     → from + length (joined x (take i ps)) ≤ (get_or ps i d).start
 joined_before x from to [] i d h fits less = absurd (omega (arith, less))

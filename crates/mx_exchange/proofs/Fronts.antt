@@ -1,4 +1,4 @@
--- What a link has taken is the front of the request.
+-- What a link has taken is a prefix of the request.
 use Rattle.std.proofs.Common.{arith, ◌≡◌, ℕ, Bool, false, List, [], ◌∷◌, ◌++◌, length, refl, sym, ◌∙◌, ap, subst, append_assoc, append-nil, length-append}
 use Rattle.mx_link.specs.Answers.{taken, taken_by, is_read}
 use Rattle.mx_link.specs.declared.answers.Answer.{Answer}

@@ -104,7 +104,7 @@ parts_none o h bad = h.parts ∙ none h.ends where
   none (inl e) = no_parts o.request.method o.answers o.wire h.verdict o.code e.0 bad
   none (inr s) = ap parts_of s.more
 
--- the wire and what was left behind it
+-- the wire and what was left after it
 abbrev Front : List ℕ → List Answer → Type 0
 Front wire answers = (left : List ℕ) × (given answers ≡ wire ++ left)
 

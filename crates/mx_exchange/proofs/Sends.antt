@@ -1,5 +1,5 @@
--- An exchange may go to another thread where its link may, and a hop always. `search` finds it for what these are made of, so each step
--- stands here.
+-- An exchange may go to another thread where its link may, and a hop always. `search` finds it for what these are made of, so each step is
+-- here.
 use denote.RattleType.{RattleType}
 use denote.Param.Send.{IsSend, struct_send, enum_send, sendable}
 use denote.Struct.Declared.{shape}

@@ -51,7 +51,7 @@ more-is (verdict.Complete status len parts keep) e = cc
 more-is verdict.More e = refl
 more-is (verdict.Fault c) e = cc
 
--- what one answer comes to, of a link that is asked on
+-- the result of one answer of a link that is asked on
 module _ (kind : Method) (past : List Answer) (d : Decoded) (g : IsGoing kind past d) where
   -- an answer that gave nothing, and isn't the last
   silent : (a : Answer) → given_by a ≡ [] → is_last a ≡ false → IsGoing kind (past ++ a ∷ []) d
@@ -83,7 +83,7 @@ module _ (kind : Method) (past : List Answer) (d : Decoded) (g : IsGoing kind pa
       final = never;
     }
 
-    -- no memory was found for bytes that came, or for their end
+    -- memory was refused for bytes that came, or for their end
     unheld : (a : Answer) (to : Decoded) → is_heard a ≡ true → to ≡ d → ¬ (MustRetry kind reused (past ++ a ∷ [])) → IsOver kind reused (past ++ a ∷ []) to code.OutOfMemory
     unheld a to hears same never = record {
       cause = by_memory past a (refl, g.undecided) hears (ap (λ (x : Decoded). x.wire) same ∙ g.wire) (ap (λ (x : Decoded). x.verdict) same ∙ g.more);

@@ -20,7 +20,7 @@ abbrev pub IsUndecided : Method → List Answer → Type 0
 IsUndecided kind answers =
     (list_any is_last answers ≡ false) × IsVerdict kind (given answers) false verdict.More
 
--- the codes of a link that can't be had, and that of a deadline
+-- the codes of a link that can't be opened, and that of a deadline
 abbrev pub is_stop_code : Code → Bool
 is_stop_code code.OperationTimedout = true
 is_stop_code c = is_link_code c
@@ -29,13 +29,13 @@ is_stop_code c = is_link_code c
 abbrev pub EndsAt : Method → List Answer → Answer → List Answer → Type 0
 EndsAt kind earlier last answers = (answers ≡ earlier ++ last ∷ []) × IsUndecided kind earlier
 
--- the code that a verdict comes to
+-- the code of a verdict
 abbrev pub code_of : Verdict → Option Code
 code_of (verdict.Complete status len parts keep) = Some code.Ok
 code_of verdict.More = None
 code_of (verdict.Fault c) = Some c
 
--- the code that a fault of a link comes to
+-- the code of a fault of a link
 abbrev pub fault_code : Answer → Option Code
 fault_code said.ConnectFailed = Some code.CouldntConnect
 fault_code said.ReadFailed = Some code.RecvError
@@ -49,7 +49,7 @@ is_heard said.ReadEnded = true
 is_heard _ = false
 
 -- Why an exchange ended with a code over its link: by the link's last answer. Bytes or their end decided; or the
--- link failed; or no memory was found for bytes or their end. The verdict is that on the wire, and `More` where
+-- link failed; or memory was refused for bytes or their end. The verdict is that on the wire, and `More` where
 -- the wire decides nothing.
 pub data EndsBy (kind : Method) (answers : List Answer) (wire : List ℕ) (v : Verdict) : Code → Type 0 where
   by_bytes : {c : Code} (earlier : List Answer) (piece : List ℕ) → EndsAt kind earlier (said.Gave piece) answers
@@ -88,8 +88,8 @@ pub record MustRetry (kind : Method) (reused : Bool) (answers : List Answer) : T
   pub ends : answers ≡ earlier ++ last ∷ []
   pub lost : is_loss last ≡ true
 
--- Why an exchange ended with a code and no look at what its link could still give: its deadline had come, or the code was given in
--- place of a link. What the link gave until then decided nothing.
+-- Why an exchange ended with a code without a further call on its link: its deadline had come, or the code was given in place of a link.
+-- What the link gave until then decided nothing.
 pub record IsStopped (kind : Method) (answers : List Answer) (wire : List ℕ) (v : Verdict) (c : Code) : Type 0 where
   pub listed : is_stop_code c ≡ true
   pub undecided : IsUndecided kind answers

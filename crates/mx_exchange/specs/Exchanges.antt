@@ -10,7 +10,7 @@ use Rattle.mx_exchange.specs.Order.{InOrder, most_read, asks_of}
 use Rattle.mx_types.specs.Code.{is_link_code}
 use Rattle.mx_exchange.specs.Endings.{IsUndecided}
 
--- A hop. The parts are where the data of the body stand in the wire; `location` is the value of the first Location line of its final
+-- A hop. The parts are where the data of the body are in the wire; `location` is the value of the first Location line of its final
 -- head, unless it is empty; `answers` are what the link answered since it was attached or probed, in order, and `is_reused` says whether
 -- it was in use before.
 pub record HopValue : Type 0 where
@@ -128,7 +128,7 @@ renewed t request = record t {
   received = 0;
 }
 
--- what a link tells of itself grew by this
+-- what is known of a link grew by this
 abbrev pub LinkTold : {L A : Type 0} → (L → List A) → Option L → Option L → List A → Type 0
 LinkTold tells None None more = more ≡ []
 LinkTold tells (Some link) (Some next) more = tells next ≡ tells link ++ more
@@ -145,7 +145,7 @@ pub record IsServed {L : Type 0} (history : L → List Answer) (t : ExchangeStat
   pub order : InOrder t.is_reused t.request.bytes t.answers
   pub received : t.code ≡ None → t.received ≡ length (given t.answers)
 
--- the most bytes that a link gives: as many as may decide nothing yet, and one read more
+-- the most bytes that a link gives: as many as may decide nothing yet, and one more read
 abbrev pub most_received : ℕ
 most_received = most_bytes + most_read
 

@@ -15,8 +15,8 @@ use Rattle.mx_exchange.specs.Order.{InOrder}
 use Rattle.mx_exchange.specs.Endings.{Ends}
 use Rattle.mx_exchange.specs.Exchanges.{HopValue}
 
--- The request is one that can be sent, the status and the location are those of the wire, the link was asked in order, and the code and
--- the parts are what its answers come to.
+-- The request is one that can be sent, the status and the location are those of the wire, the link was asked in order, and the code and the
+-- parts are the result of its answers.
 pub record IsHop (o : HopValue) : Type 0 where
   pub request : IsRequest o.request
   pub status : HasStatus o.wire o.status
@@ -34,7 +34,7 @@ pub record IsWhole (o : HopValue) : Type 0 where
   pub complete : IsComplete verdict
   pub parts : o.parts ≡ parts_of verdict
 
--- the first bytes of the wire are a response, and what stands at the parts, joined, is its content
+-- the first bytes of the wire are a response, and the bytes at the parts, joined, are its content
 pub record HasContent (o : HopValue) : Type 0 where
   pub len : ℕ
   pub fits : len ≤ length o.wire
@@ -43,7 +43,7 @@ pub record HasContent (o : HopValue) : Type 0 where
   pub is : IsResponse o.request.method (take len o.wire) ended response
   pub content : joined o.wire o.parts ≡ response.content
 
--- the wire is the front of what the link gave
+-- the wire is a prefix of what the link gave
 abbrev pub IsFront : HopValue → Type 0
 IsFront o = given o.answers ≡ o.wire ++ drop (length o.wire) (given o.answers)
 
@@ -58,7 +58,7 @@ is_exchange_code code.SendError = true
 is_exchange_code code.RecvError = true
 is_exchange_code _ = false
 
--- the codes that an exchange ends with: these, and those that the bytes of a response come to
+-- the codes that an exchange ends with: these, and those of the bytes of a response
 abbrev pub is_hop_code : Code → Bool
 is_hop_code c = is_verdict_code c || is_exchange_code c
 

@@ -9,7 +9,7 @@ use Rattle.mx_exchange.specs.Exchanges.{HopValue, ExchangeState, clocked}
 use Rattle.mx_exchange.specs.Turns.{How, Turns}
 use Rattle.mx_exchange.specs.Hops.{IsHop, HasContent, is_hop_code}
 
--- what was taken is the front of the bytes, and all of them once the link was read
+-- what was taken is a prefix of the bytes, and all of them once the link was read
 pub record TakesFront (bytes : List ℕ) (answers : List Answer) : Type 0 where
   pub unsent : List ℕ
   pub front : bytes ≡ taken answers ++ unsent
@@ -41,6 +41,6 @@ pub data Life {L : Type 0} (history : L → List Answer) : ExchangeState L → �
   goes_on : {t new : ExchangeState L} {n : ℕ} → Life history t n → new.needs_fresh ≡ t.needs_fresh
       → ((new.is_reused ≡ t.is_reused) × (new.needs_probe ≡ t.needs_probe)) ⊎ ((new.is_reused ≡ false) × (new.needs_probe ≡ false)) → Life history new n
 
--- so an exchange drops one link at most, and tries its request again once at most
+-- so an exchange drops at most one link, and tries its request again at most once
 abbrev pub DropsOnce : {L : Type 0} → (L → List Answer) → Type 0
 DropsOnce {L} history = (t : ExchangeState L) (n : ℕ) → Life history t n → n ≤ 1

@@ -4,6 +4,6 @@ pub mod Exchanges
 pub mod Turns
 pub mod Hops
 pub mod Laws
--- Private: what the functions behind a turn promise one another.
+-- Private: what the private functions of a turn promise one another.
 pub mod Lines
 pub mod Stages

@@ -21,7 +21,7 @@ use Rattle.mx_exchange.specs.declared.calls.Halt.{Halt}
 use Rattle.mx_exchange.specs.declared.calls.Halt.TheVariants as halt
 
 -- A link while it serves a request, as it was attached or probed; its answers since then; whether it was in use before, and is
--- still to be probed; whether its probe found something; whether its connection stands, and how many bytes it has taken.
+-- still to be probed; whether its probe found something; whether its connection is made, and how many bytes it has taken.
 pub record LineState (L : Type 0) : Type 0 where
   pub request : RequestValue
   pub link : L
@@ -60,7 +60,7 @@ pub record ProbedBy {L : Type 0} (history : L → List Answer) (asked : L → Li
   pub asked_for : asked new.link ≡ asked old.link ++ 1 ∷ []
   pub read : is_read answer ≡ true
 
--- one that had nothing serves from there on; any other is stale
+-- one that had nothing serves from then on; any other is stale
 abbrev pub IsProbed : {L : Type 0} → (L → List Answer) → (L → List ℕ) → LineState L → LineState L → Bool → Type 0
 IsProbed history asked old new true =
     ProbedBy history asked old new said.ReadBlocked
@@ -91,7 +91,7 @@ abbrev pub Grows : {L : Type 0} → LineState L → LineState L → List Answer 
 Grows old new more =
     new ≡ record old { link = new.link; answers = old.answers ++ more; stands = new.stands; written = new.written }
 
--- what one answer comes to
+-- the result of one answer
 abbrev pub StepSo : Step → Method → Bool → Bool → List Answer → Decoded → Answer → Type 0
 StepSo step.Connected kind reused stood answers d answer =
     IsGoing kind answers d × (is_connect answer ≡ true) × (stood ≡ true)

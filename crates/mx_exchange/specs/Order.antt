@@ -1,11 +1,11 @@
--- In which order a link is asked, which serves a request, and for how much.
+-- The order of the calls on a link that serves a request, and how much each asks for.
 use Rattle.std.specs.Prelude.{◌≡◌, ◌≢◌, ℕ, ◌<◌, ◌≤◌, ◌-◌, Bool, true, false, ◌||◌, List, [], ◌∷◌, ◌++◌, length, if◌then◌else◌}
 use Rattle.std.specs.List.{list_any}
 use Rattle.mx_link.specs.Answers.{taken, is_read, is_write}
 use Rattle.mx_link.specs.declared.answers.Answer.{Answer}
 use Rattle.mx_link.specs.declared.answers.Answer.TheVariants as said
 
--- the link says that its connection stands
+-- the link says that its connection is made
 abbrev pub is_connected : Answer → Bool
 is_connected said.Connected = true
 is_connected _ = false
@@ -18,17 +18,17 @@ is_last said.ReadFailed = true
 is_last said.WriteFailed = true
 is_last _ = false
 
--- the connection stands: the link was in use before, or has said so
+-- the connection is made: the link was in use before, or has said so
 abbrev pub stands : Bool → List Answer → Bool
 stands reused before = reused || list_any is_connected before
 
--- it stands, and hasn't taken all of the bytes: what it takes now are the first that it hasn't taken
+-- it is made, and the link hasn't taken all of the bytes: what it takes now are the first that it hasn't taken
 abbrev pub MayWrite : Bool → List ℕ → List Answer → List ℕ → Type 0
 MayWrite reused bytes before piece =
     (stands reused before ≡ true)
     × ((unsent : List ℕ) × (bytes ≡ taken before ++ (piece ++ unsent)) × (piece ++ unsent ≢ []))
 
--- it stands, and has taken all of the bytes
+-- it is made, and the link has taken all of the bytes
 abbrev pub MayRead : Bool → List ℕ → List Answer → Type 0
 MayRead reused bytes before = (stands reused before ≡ true) × (taken before ≡ bytes)
 
@@ -36,12 +36,12 @@ MayRead reused bytes before = (stands reused before ≡ true) × (taken before �
 abbrev pub most_read : ℕ
 most_read = 16384
 
--- it stands, and has taken all of the bytes; what a read gives is some bytes, and no more than a read asks for
+-- it is made, and the link has taken all of the bytes; what a read gives is some bytes, and no more than a read asks for
 abbrev pub MayGive : Bool → List ℕ → List Answer → List ℕ → Type 0
 MayGive reused bytes before piece = MayRead reused bytes before × (0 < length piece) × (length piece ≤ most_read)
 
--- The answer may come after those before it. A link is asked whether it stands until it does, then takes the
--- bytes from the front, and is read once it has taken all of them.
+-- The answer may come after those before it. A link is asked whether it is connected until it is, then takes the bytes from the front, and
+-- is read once it has taken all of them.
 abbrev pub MayFollow : Bool → List ℕ → List Answer → Answer → Type 0
 MayFollow reused bytes before said.Connected = stands reused before ≡ false
 MayFollow reused bytes before said.ConnectBlocked = stands reused before ≡ false

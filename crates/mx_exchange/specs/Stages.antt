@@ -10,7 +10,7 @@ use Rattle.mx_exchange.specs.declared.exchanges.stages.Ended.{Ended}
 use Rattle.mx_exchange.specs.declared.exchanges.stages.Stage.{Stage}
 use Rattle.mx_exchange.specs.declared.exchanges.stages.Stage.TheVariants as stage
 
--- what is told of the link that there is, if there is one
+-- what is known of the link, if there is one
 abbrev pub link_of : {L : Type 0} → Option (LineState L) → Option L
 link_of line = option_map (λ l. l.link) line
 

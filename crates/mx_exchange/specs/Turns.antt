@@ -23,7 +23,7 @@ IsOnTime t = ¬ (IsDue t.deadline t.moment) × (t.failure ≡ None)
 abbrev pub MayTouch : {L : Type 0} → ExchangeState L → Type 0
 MayTouch t = IsOnTime t × (t.is_paused ≡ false)
 
--- a reused link was asked for a byte first, and had none: from there on it serves this exchange
+-- a reused link was asked for a byte first, and had none: from then on it serves this exchange
 pub record ProbeBlocks {L : Type 0} (history : L → List Answer) (t new : ExchangeState L) : Type 0 where
   pub link : L
   pub next : L
@@ -97,7 +97,7 @@ pub record EndsOver {L : Type 0} (t new : ExchangeState L) (o : HopValue) : Type
   pub parts : o.parts ≡ parts_of verdict
   pub kept : new.is_kept ≡ may_keep verdict o.wire
 
--- what a turn comes to: it waits, it asks for another turn, or it ends
+-- the result of a turn: it waits, it asks for another turn, or it ends
 pub data How : Type 0 where
   waits : How
   asks : How
@@ -126,13 +126,13 @@ pub data Turns {L : Type 0} (history : L → List Answer) (t new : ExchangeState
   turned : {how : How} → MayTouch t → (mid : ExchangeState L) → Probed history t mid → Exchanged history mid new how
       → Turns history t new how
 
--- what a turn comes to
+-- the result of a turn
 abbrev pub how_of : Turned → How
 how_of went.Waits = waits
 how_of went.Asks = asks
 how_of (went.Ended o) = ends o
 
--- of the hop, where the turn ended it
+-- this holds for the hop, where the turn ended it
 abbrev pub IfEnded : Turned → (HopValue → Type 0) → Type 0
 IfEnded (went.Ended o) P = P o
 IfEnded _ P = Unit {0}

@@ -8,8 +8,8 @@ use std::alloc::Global;
 /// The most bytes of one read.
 pub(crate) const READ_BYTES: usize = 16_384;
 
-/// The buffer of an exchange's reads. It is made at the first turn that asks a link, and kept, so that a turn that finds nothing
-/// doesn't pay for it.
+/// The buffer of an exchange's reads. It is made at the first turn that calls a link, and kept, so that a turn that finds nothing doesn't
+/// pay for it.
 #[derive(Drop)]
 pub(crate) struct ReadBuffer {
     pub bytes: Vec<u8>,
@@ -23,7 +23,7 @@ impl ReadBuffer {
         }
     }
 
-    /// Makes it, unless it is there. Without memory for it the answer is false.
+    /// Makes it, unless it is there. False where memory for it is refused.
     pub fn make(&mut self) -> bool
         ensures { IsTrue result → length (vec_items self.new.bytes) ≡ most_read }
     {

@@ -22,25 +22,25 @@ const MOST_WRITES: usize = 64;
 /// The most calls in one turn: 63 reads and 63 writes, one to connect, and the one that ends it.
 const MOST_CALLS: usize = 128;
 
-/// What one call on a link comes to.
+/// The result of one call on a link.
 #[derive(Clone, Copy)]
 pub(crate) enum Step {
     Connected,
     Wrote,
     Heard,
     Blocked,
-    // It is to be tried again over a fresh link.
+    // The request is to be tried again over a fresh link.
     Lost,
     Over(Code),
 }
 
-/// What the calls of one turn come to.
+/// The result of the calls of one turn.
 #[derive(Clone, Copy)]
 pub(crate) enum Halt {
     Blocked,
     // As many calls were made as one turn may make.
     Unfinished,
-    // It is to be tried again over a fresh link.
+    // The request is to be tried again over a fresh link.
     Lost,
     Over(Code),
 }
@@ -66,7 +66,7 @@ fn may_retry(method: Method, is_reused: bool, decoder: &Decoder) -> bool
 
 impl<L: Link> Line<L> {
     // rule exchange-connect
-    /// Asks whether the connection stands.
+    /// Checks whether the connection is made.
     fn connect_step(&mut self, decoder: &Decoder) -> Step
         requires open { IsOpen self.old }
         requires going { IsGoing self.old.request.method self.old.answers decoder.now }
@@ -124,7 +124,7 @@ impl<L: Link> Line<L> {
             },
             Read::WouldBlock => Step::Blocked,
             Read::End => {
-                // Before the decoder learns of the end, so that out of memory can't take the place of a retry.
+                // Before the decoder learns of the end, so that being out of memory can't take the place of a retry.
                 if may_retry(request.method(), self.is_reused(), decoder) {
                     return Step::Lost;
                 }
@@ -198,8 +198,8 @@ impl<L: Link> Line<L> {
         unreachable!()
     }
 
-    /// One turn: it connects, writes the request and reads the response, as far as the link goes. The buffer that is kept is used, and
-    /// made where it isn't yet; without memory for it one of this turn is.
+    /// One turn: it connects, writes the request and reads the response, as far as the link goes. It uses the kept buffer, which it makes
+    /// at first; where memory for that is refused, it uses one of this turn.
     pub(crate) fn serve(
         &mut self,
         request: &Request,

@@ -140,7 +140,7 @@ impl<L: Link> Exchange<L> {
         self.failure = None;
     }
 
-    /// The link that it wants, where it wants one: it has none, has not ended, and no code was given in place of one.
+    /// The link that it wants: `None` where it has one, has ended, or was given a code in place of one.
     pub fn wants(&self) -> Option<Want<'_>>
         ensures wants { IsSome result ↔ WantsLink self.now }
         ensures which { IfSome result (λ want. (want.fresh ≡ self.now.needs_fresh) × (want.endpoint.now ≡ self.now.request.endpoint)) }
@@ -167,7 +167,7 @@ impl<L: Link> Exchange<L> {
         }
     }
 
-    /// Gives the code that it ends with at its next turn, as no link can be had.
+    /// Gives the code that it ends with at its next turn, as no link can be opened.
     pub fn fail_link(&mut self, code: Code)
         requires wanted { WantsLink self.old }
         requires code { is_link_code code ≡ true }
@@ -199,8 +199,8 @@ impl<L: Link> Exchange<L> {
         self.deadline
     }
 
-    /// How many bytes of a response its link has given: those of the wire. They are at most 67,108,864, which may decide nothing
-    /// yet, and those of one read more, which are at most 16,384.
+    /// How many bytes of a response its link has given: those of the wire. They are at most 67,108,864, which may decide nothing yet, and
+    /// those of one more read, at most 16,384.
     pub fn received(&self) -> u32
         ensures { result ≡ self.now.received }
     {
@@ -211,7 +211,7 @@ impl<L: Link> Exchange<L> {
         count as u32
     }
 
-    /// The number under which the readiness of its link is told; `None` where it has no link.
+    /// The number under which the readiness of its link is reported; `None` where it has no link.
     pub fn token(&self) -> Option<u64>
         ensures { result ≡ option_map L.token_of self.now.link }
     {

@@ -19,9 +19,9 @@ use std::alloc::Global;
 use std::marker::Model;
 use std::snapshot::Snapshot;
 
-/// What an exchange ended with: its request, the bytes of the response, the code, the status, and where the data of the body and the
-/// value of the first Location line stand in the bytes. For contracts alone it has what its link answered since it was attached or
-/// probed, too, and whether that link was in use before.
+/// What an exchange ended with: its request, the bytes of the response, the code, the status, and where the data of the body and the value
+/// of the first Location line are in the bytes. For contracts alone it also has what its link answered since it was attached or probed, and
+/// whether that link was in use before.
 #[derive(Drop)]
 pub struct Hop {
     request: Request,
@@ -131,7 +131,7 @@ impl Hop {
         &self.request
     }
 
-    /// The bytes of the response, or of what came of one: the front of what the link gave, and all of it unless the code is
+    /// The bytes of the response, as far as it came: a prefix of what the link gave, and all of it unless the code is
     /// `OutOfMemory`.
     pub fn wire(&self) -> &[u8]
         ensures wire { result.now ≡ self.now.wire }
@@ -141,7 +141,7 @@ impl Hop {
         self.wire.as_slice()
     }
 
-    /// The code. Where it is `Ok`, the wire begins with a whole response, or is one, and its data stand at the parts.
+    /// The code. Where it is `Ok`, the wire begins with a whole response, or is one, and its data are at the parts.
     pub fn code(&self) -> Code
         ensures code { result ≡ self.now.code }
         ensures whole { result ≡ code.Ok → IsWhole self.now }
@@ -220,7 +220,7 @@ impl Hop {
 
     /// The body: its parts, joined.
     ///
-    /// `OutOfMemory` comes where no room is had for it.
+    /// Returns `OutOfMemory` where memory for it is refused.
     pub fn copy_body(&self, alloc: Global) -> Result<Vec<u8>, OutOfMemory>
         ensures { IfOk result (λ body. body.items ≡ joined self.now.wire self.now.parts) }
     {

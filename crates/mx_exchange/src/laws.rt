@@ -5,24 +5,24 @@ ghost use Rattle.mx_exchange.specs.Laws.{TakenIsTheFront, OkHasContent, CodesAre
 use mx_body::laws;
 use mx_link::Link;
 
-/// What a link has taken is the front of the request, and the whole of it once the link was read.
+/// What a link has taken is a prefix of the request, and the whole of it once the link was read.
 pub fn request_is_taken_from_the_front()
     ensures { TakenIsTheFront }
 {}
 
-/// With code 0 the first bytes of the wire are a response, and what stands at the parts, joined, is its content.
+/// With code 0 the first bytes of the wire are a response, and the bytes at the parts, joined, are its content.
 pub fn ok_has_content()
     ensures { OkHasContent }
 {
     laws::parts_are_content();
 }
 
-/// A hop's code is `Ok`, one that the bytes of a response come to, one of a link or of memory, or that of a deadline.
+/// A hop's code is `Ok`, a fault of the bytes of a response, one of a link or of memory, or that of a deadline.
 pub fn codes_are_listed()
     ensures { CodesAreListed }
 {}
 
-/// In its life an exchange drops one link at most for a fresh one, and so it tries its request again once at most.
+/// An exchange drops at most one link for a fresh one, and so tries its request again at most once.
 pub fn link_is_dropped_once<L: Link>()
     ensures { DropsOnce L.history }
 {}

@@ -12,8 +12,8 @@ use std::snapshot::Snapshot;
 
 /// A link that serves a request, as it was attached or probed, and its answers since then.
 ///
-/// The link can be reached by the calls here alone, and what they leave is an invariant of the type. So whichever line is let go,
-/// wherever that is, its link was asked in order, and nothing but what its answers tell.
+/// The link can be reached by the calls here alone, and what they leave is an invariant of the type. So wherever a line is dropped, its
+/// link was asked in order, and for nothing but what its answers show.
 #[derive(Drop)]
 pub(crate) struct Line<L: Link> {
     about: Snapshot<Request>,
@@ -58,7 +58,7 @@ impl<L: Link> Model for Line<L> {
     }) };
 }
 
-// The connection stands.
+// The connection is made.
 fn is_done(connect: Connect) -> bool
     ensures { result ≡ is_connected (connect_answer connect) }
 {
@@ -77,7 +77,7 @@ fn taken_count(write: Write) -> usize
 }
 
 impl<L: Link> Line<L> {
-    /// A link that was in use before stands, and is probed first.
+    /// A link that was in use before counts as connected, and is probed first.
     pub fn new(link: L, request: &Request, is_reused: bool) -> Line<L>
         ensures value { result ≡ record {
           request = request.now;
@@ -134,7 +134,7 @@ impl<L: Link> Line<L> {
         self.written >= request.bytes().len()
     }
 
-    /// The number under which its readiness is told.
+    /// The number under which its readiness is reported.
     pub fn token(&self) -> u64
         ensures { result ≡ L.token_of self.now.link }
     {
@@ -142,7 +142,7 @@ impl<L: Link> Line<L> {
     }
 
     // rule exchange-probe
-    /// Asks a link that nothing was asked of for a byte. True where it has none now: from there on it serves.
+    /// Asks a link that nothing was asked of for a byte. True where it has none now: from then on it serves.
     pub fn probe(&mut self) -> bool
         requires needed { self.old.needs_probe ≡ true }
         requires serving { self.old.is_stale ≡ false }
@@ -162,7 +162,7 @@ impl<L: Link> Line<L> {
         false
     }
 
-    /// Asks whether the connection stands.
+    /// Checks whether the connection is made.
     pub fn connect(&mut self) -> Connect
         requires open { IsOpen self.old }
         requires unmade { self.old.stands ≡ false }

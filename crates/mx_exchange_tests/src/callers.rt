@@ -1,5 +1,5 @@
-//! Callers of a transfer, as those above it are: each has a contract of its own, which follows from the clauses of what it calls with
-//! no proof file. So the clauses say enough for the layers above.
+//! Callers of a transfer, like the layers above it: each has a contract, which follows from the clauses of what it calls with no proof
+//! file. So the clauses say enough for the layers above.
 ghost use Rattle.std.specs.Prelude.{◌≡◌, ◌≢◌, ◌≤◌, true, None, Some, length};
 ghost use Rattle.futures.specs.Poll.{IfReady, OnPending};
 ghost use Rattle.mx_types.specs.declared.code.Code.TheVariants as code;
@@ -48,7 +48,7 @@ pub fn parts_of(outcome: &Outcome) -> usize
     outcome.part_count()
 }
 
-/// How many bytes the link of its last hop gave that count. They are the front of what that link gave, and it was asked in order.
+/// How many bytes of the last hop's link count. They are a prefix of what that link gave, and it was asked in order.
 pub fn bytes_of(outcome: &Outcome) -> usize
     ensures count { result ≡ length outcome.now.wire }
     ensures front { IsFront outcome.now.last }

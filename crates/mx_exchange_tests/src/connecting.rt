@@ -1,4 +1,4 @@
-//! A transfer whose connection takes some polls, over a stream that is made up.
+//! A transfer whose connection takes some polls, over a stream of the test's own.
 
 use crate::responses::COUNTED;
 use futures::task::Poll;
@@ -12,7 +12,7 @@ use std::io::ErrorKind;
 use std::random::RandomSource;
 use std::test::Fail;
 
-/// A stream that has no peer for some questions, and then one, or an error. It takes what is written, and answers with `COUNTED`.
+/// A stream that has no peer for some checks, and then one, or an error. It takes what is written, and answers with `COUNTED`.
 #[derive(Drop)]
 struct SlowStream {
     waits: u32,
@@ -80,7 +80,7 @@ struct Polls {
     codes: [Option<Code>; 3],
     /// The first poll leaves its task asleep.
     asleep: bool,
-    /// Who hears of the link then wakes it.
+    /// Whether the task that waits for the link then wakes it.
     woken: bool,
     received: u32,
     code: Option<Code>,
@@ -127,7 +127,7 @@ fn connect<R: RandomSource + AllocGlobal>(
     Ok(polls)
 }
 
-/// What is seen of a connection that stands at the third poll.
+/// What is seen of a connection that is made at the third poll.
 const STANDS: Polls = Polls {
     token: Some(9),
     codes: [None, None, Some(Code::Ok)],

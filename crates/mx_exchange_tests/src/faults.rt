@@ -81,7 +81,7 @@ pub(crate) fn one_by_one(
     Ok(reads)
 }
 
-/// Over these calls of it this is seen.
+/// Fails unless these calls show this.
 fn sees<'a, R: RandomSource + AllocGlobal>(
     rt: &R,
     name: &'a str,

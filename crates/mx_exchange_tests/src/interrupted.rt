@@ -4,7 +4,7 @@ use mx_link::{Called, Stream, StreamLink};
 use mx_types::History;
 use std::io::ErrorKind;
 
-/// A stream whose next so many reads and writes are interrupted. Behind them it gives and takes one byte at a time.
+/// A stream whose next so many reads and writes are interrupted. After them it gives and takes one byte at a time.
 #[derive(Drop)]
 pub(crate) struct Interrupts {
     left: u32,

@@ -8,11 +8,11 @@ use std::test::Fail;
 /// A call of a link, and what it is to answer.
 #[derive(Clone, Copy)]
 pub(crate) enum Step<'a> {
-    /// A read into a buffer of three dashes, and what stands at its front then.
+    /// A read into a buffer of three dashes, and what is then at its front.
     Read(Read, &'a [u8]),
     /// A write of these bytes, one at least.
     Write(&'a [u8], Write),
-    /// Whether the connection stands.
+    /// Whether the connection is made.
     Connect(Connect),
     Token(u64),
     /// How many reads and writes have failed.

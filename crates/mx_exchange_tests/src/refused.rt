@@ -1,6 +1,6 @@
-//! Links and transfers that are refused memory, as any of their growths may be. A transfer that was ends with 27 and without a body, and then
-//! a new one has to end as if it had been the first; a copy of a body that was refused is made again, and so is a link. Only then does a test
-//! fail, by a text of its own. What it needs for itself is refused as any allocation is. Without a refusal all of them pass.
+//! Links and transfers that are refused memory, as any of their growths may be. A transfer that was ends with 27 and without a body, and
+//! then a new one has to end as if it had been the first; a copy of a body that was refused is made again, and so is a link. Only then does
+//! a test fail, by a text of its own. What it needs for itself is refused as any allocation is. Without a refusal all of them pass.
 
 use crate::faults::one_by_one;
 use crate::hops::TWICE;
@@ -22,7 +22,7 @@ const AGAIN: &str = "memory was refused, and the call answered when it was made 
 /// How a call went.
 #[derive(Clone, Copy, PartialEq)]
 enum Went {
-    /// It answered as it is to.
+    /// It answered as it should.
     Right,
     /// It was refused memory.
     Refused,
@@ -151,7 +151,7 @@ fn a_transfer_is_made_again(rt: HostRuntime) -> Result<(), Fail> {
     run_again(&rt, row)
 }
 
-/// A response behind a redirect.
+/// A response after a redirect.
 #[test]
 fn a_chain_is_made_again(rt: HostRuntime) -> Result<(), Fail> {
     let row = Row {

@@ -1,7 +1,7 @@
 //! A transfer over scripted links that is called by hand, and compared with its row.
 //!
-//! The functions have no contracts, and at most one value that is dear to drop, which they drop by a call: so their proofs are short, and
-//! so are those of the tests, which have only plain values. Where a call of the transfer has a condition, it is tried first.
+//! The functions have no contracts, and at most one value that is costly to drop, which they drop by a call: so their proofs are short, and
+//! so are those of the tests, which have only plain values. Where a call of the transfer has a condition, that is checked first.
 
 use crate::rows::{Call, Ended, Hop, Links, Row, Waiting, Wanted, end_of};
 use futures::task::Poll;
@@ -72,7 +72,7 @@ fn are_hops(outcome: &Outcome, chain: &[Hop<'_>]) -> bool {
     is_no_hop(outcome, chain.len())
 }
 
-/// What of the end is otherwise than the row says.
+/// What of the end differs from the row.
 fn wrong_at_end(ending: &Ending, expected: Ended<'_>, chain: &[Hop<'_>]) -> Option<&'static str> {
     if ending.ended() != expected {
         return Some("its end");
@@ -83,7 +83,7 @@ fn wrong_at_end(ending: &Ending, expected: Ended<'_>, chain: &[Hop<'_>]) -> Opti
     None
 }
 
-/// What is otherwise than the row says.
+/// What differs from the row.
 fn wrong_part(played: &Played, row: &Row<'_>) -> Option<&'static str> {
     if played.waits.as_slice() != row.waits {
         return Some("a poll that answered `Pending`");
@@ -254,7 +254,7 @@ fn poll(task: &MockTask, transfer: &mut Transfer<ScriptLink>) -> Option<Outcome>
     }
 }
 
-/// Keeps what a transfer has ended with, and its links. An end for want of memory is told as that.
+/// Keeps what a transfer has ended with, and its links. An end with `OutOfMemory` is reported as that.
 fn end_with(
     alloc: Global,
     outcome: Outcome,

@@ -13,7 +13,7 @@ pub(crate) enum Call<'a> {
     Fresh(&'a [ScriptRead<'a>], &'a [Write]),
     /// Hands over a link that was in use before, and that answers so.
     Reused(&'a [ScriptRead<'a>], &'a [Write]),
-    /// Says that no link can be had, as the lookup of the host failed.
+    /// Says that no link can be opened, as the lookup of the host failed.
     NoLink,
     /// Sets the moment in milliseconds, and whether the transfer is paused.
     Prepare(u64, bool),
@@ -101,7 +101,7 @@ pub(crate) struct Row<'a> {
     /// It has no limit of time where this is 0.
     pub timeout_ms: u32,
     pub max_redirects: u8,
-    /// No call is made behind its end.
+    /// No call is made after its end.
     pub calls: &'a [Call<'a>],
     /// Of each poll that answers `Pending`.
     pub waits: &'a [Waiting],
@@ -167,7 +167,7 @@ pub(crate) fn end_of(ends: Ends<'_>, hops: usize) -> Option<Ended<'_>> {
     }
 }
 
-/// Whoever names a long table pays for its rows, so each part of it is short, and one function names a few of them.
+/// Naming a long table makes a proof longer by its rows, so each part of it is short, and one function names a few of them.
 #[test]
 fn transfers_over_scripted_links(rt: HostRuntime) -> Result<(), Fail> {
     for rows in table::rows() {

@@ -12,7 +12,7 @@ use std::{io, net};
 // How often a test asks again, ten milliseconds apart, before it gives up.
 const TURNS: u32 = 1000;
 
-/// A poll of the system's, and room for what it tells.
+/// A poll of the system's, and room for its events.
 #[derive(Drop)]
 struct Waiter {
     poll: Poll,
@@ -98,7 +98,7 @@ fn talk<L: Link>(waiter: &mut Waiter, near: &mut L, far: &mut TcpLink) -> io::Re
     Ok(is_empty && is_sent && is_there && is_answered && is_back)
 }
 
-// Talks over this link with one that the listener accepts, which is closed then.
+// Exchanges bytes over this link with one that the listener accepts, which is then closed.
 fn talk_with<L: Link>(
     waiter: &mut Waiter,
     listener: &TcpListener,
@@ -110,7 +110,8 @@ fn talk_with<L: Link>(
     talked
 }
 
-// Whether the link's token is told and the link stands, whether it talks, and whether it tells then the end, no failure and its token.
+// Whether the link's token is reported and the link is connected, whether bytes go both ways, and whether it then shows the end, no failure
+// and its token.
 fn talks_and_ends<L: Link>(
     waiter: &mut Waiter,
     listener: &TcpListener,
@@ -135,7 +136,7 @@ fn a_socket_reads_and_writes_and_sees_the_end(
     seen
 }
 
-// Whether a link is told of a refused connection, and waits when it asks again: its error was told, and it has no peer.
+// Whether a link sees a refused connection, and waits when it asks again: its error was reported, and it has no peer.
 fn is_refused<L: Link>(waiter: &mut Waiter, link: &mut L) -> io::Result<bool> {
     let first = waiter.connect(link)?;
     let failed = link.failures();

@@ -14,7 +14,7 @@ const INTERIM: &[u8] =
 /// 24 bytes, of which the last five are the body.
 const UNFRAMED: &[u8] = b"HTTP/1.1 200 OK\r\n\r\nhello";
 
-/// 47 bytes, four of them behind the response.
+/// 47 bytes, four of them after the response.
 const LEFT_OVER: &[u8] = b"HTTP/1.1 200 OK\r\nContent-Length: 5\r\n\r\nhelloHTTP";
 
 const CLOSES: &[u8] = b"HTTP/1.1 200 OK\r\nConnection: close\r\nContent-Length: 5\r\n\r\nhello";
@@ -168,7 +168,7 @@ static RESPONSES: [Row<'static>; 9] = [
     },
 ];
 
-/// Only GET and HEAD are sent again, and no other method, though it be idempotent (RFC 9110, section 9.2.2).
+/// Only GET and HEAD are sent again, no other method even if it is idempotent (RFC 9110, section 9.2.2).
 static REUSED_LINKS: [Row<'static>; 8] = [
     Row {
         name: "a_get_is_sent_again_over_a_fresh_link",

@@ -1,4 +1,4 @@
-//! A worker's idle links, and how a transfer comes by one.
+//! A worker's idle links, and how a transfer gets one.
 ghost use Rattle.std.specs.Prelude.{◌≡◌, [], true, false, IfOk, IfErr, MatchOption, MatchResult};
 ghost use Rattle.mx_types.specs.Code.{is_link_code};
 ghost use Rattle.mx_exchange.specs.Exchanges.{WantsLink};
@@ -14,7 +14,7 @@ use mx_types::{Code, OutOfMemory};
 use std::alloc::Global;
 use std::marker::Model;
 
-/// A worker's idle links, each with the endpoint that it goes to, and how many they are at most. Contracts see them as a cache's, the
+/// A worker's idle links, each with the endpoint that it goes to, and the limit of their number. Contracts see them as a cache's, the
 /// oldest first.
 #[derive(Drop)]
 pub struct Links<L: Link> {
@@ -44,7 +44,7 @@ fn give<L: Link>(transfer: &mut Transfer<L>, opened: Result<L, Code>)
 }
 
 impl<L: Link> Links<L> {
-    /// No idle link yet, and room for as many as the limit. `OutOfMemory` comes where there is no memory for these.
+    /// No idle link yet, and room for as many as the limit. Returns `OutOfMemory` where memory for these is refused.
     pub fn new(alloc: Global, limit: u8) -> Result<Links<L>, OutOfMemory>
         ensures { IfOk result (λ links. links ≡ record { links = []; limit = limit }) }
     {
@@ -70,8 +70,8 @@ impl<L: Link> Links<L> {
 
     // rule turn-links
     /// Hands a link to the transfer where it wants one: the newest idle one of its endpoint, unless only a fresh one will do, else one that
-    /// the gate opens. Where that comes to nothing, the transfer is told why. The answer is whether the gate says that none can be opened yet:
-    /// then it is given none.
+    /// the gate opens. Where that fails, the transfer gets the code of why. The answer is whether the gate says that none can be opened
+    /// yet: then it is given none.
     pub fn supply<G: Gate<Link = L>>(&mut self, gate: &mut G, transfer: &mut Transfer<L>) -> bool
         ensures supplied { Supplies L.history L.token_of transfer.old.chain transfer.new.chain self.old self.new (G.said gate.old) (G.said gate.new) result }
         ensures same { transfer.new ≡ record transfer.old { chain = transfer.new.chain } }
@@ -95,8 +95,8 @@ impl<L: Link> Links<L> {
     }
 
     // rule redirect-idle-link
-    /// Keeps the link that a hop of the transfer has left, where it may serve again. It is dropped where its endpoint can't be copied for
-    /// want of memory; that it is dropped there alone no clause says.
+    /// Keeps the link that a hop of the transfer has left, where it may serve again. It is dropped where memory for a copy of its endpoint
+    /// is refused; no clause says that it is dropped there alone.
     pub fn keep(&mut self, transfer: &mut Transfer<L>)
         ensures kept { Keeps transfer.old.chain self.old self.new }
         ensures rest { transfer.new ≡ record transfer.old { chain = unlinked transfer.old.chain } }

@@ -8,8 +8,8 @@ use mx_types::Work;
 use std::alloc::{AllocFailed, Global};
 use std::marker::Model;
 
-/// A transfer that has not ended, as it waits for a worker. It lies in a box, since it goes through the multi handle and from list to list
-/// of a worker. Contracts see the transfer.
+/// A transfer that has not ended, as it waits for a worker. It is boxed, since it goes through the multi handle and from list to list of a
+/// worker. Contracts see the transfer.
 #[derive(Drop)]
 pub struct Queued<L: Link> {
     transfer: Box<Transfer<L>>,

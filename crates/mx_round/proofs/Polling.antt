@@ -1,4 +1,4 @@
--- What a poll of a transfer came to, told by what the transfer says afterwards.
+-- The result of a poll of a transfer, by what the transfer says afterwards.
 use Rattle.std.proofs.Common.{◌≡◌, ◌∙◌, true, false, List, sym, ap, inl, inr}
 use Rattle.futures.specs.declared.task.context.Context.{Context}
 use Rattle.futures.specs.declared.task.Poll.TheVariants as poll

@@ -62,7 +62,7 @@ fn least_left<L: Link, C: Right, E: Tied>(held: &Queue<Held<L, C>, E>, now: u64)
 }
 
 // One poll, in the context of the worker's one task. The task goes on whatever the poll answers.
-// A task that has ended can't tell whether a poll asked for another.
+// A task that has ended can't say whether a poll asked for another.
 fn poll_once<L: Link>(solo: &Solo, transfer: &mut Transfer<L>) -> Stepped
     requires running { transfer.old.chain.code ≡ None }
     ensures steps { Steps L.history transfer.old.chain transfer.new.chain (how_of result) }
@@ -103,7 +103,7 @@ fn could_go_on(goes: bool, delayed: bool, wants: bool) -> bool
     goes && !delayed && wants
 }
 
-// Hands in an end. One that finds no memory comes back.
+// Hands in an end. One that is refused memory comes back.
 fn hand_in<L: Link, C: Right, E: Engine<L, C>, R: Wait>(
     rt: &R,
     engine: &mut E,
@@ -145,7 +145,7 @@ impl<L: Link, C: Right, E: Engine<L, C>> Desk<L, C, E> {
     }
 
     // rule turn-over
-    /// Whether it was told to stop, and has nothing in hand.
+    /// Whether it was told to stop, and has nothing in flight.
     pub fn is_over(&self) -> bool
         ensures { IsTrue result ↔ IsOver self.now.worker }
     {
@@ -153,7 +153,7 @@ impl<L: Link, C: Right, E: Engine<L, C>> Desk<L, C, E> {
     }
 
     // rule turn-claims
-    // Holds a transfer, behind the others.
+    // Holds a transfer, after the others.
     fn hold(&mut self, held: Held<L, C>)
         requires room { in_hand self.old.worker < most_transfers }
         requires own { held.of ≡ self.old.of }
@@ -162,7 +162,7 @@ impl<L: Link, C: Right, E: Engine<L, C>> Desk<L, C, E> {
         self.rack.hold(held);
     }
 
-    // It is not to wait after this turn where something could go on at once.
+    // Notes whether something could go on at once: then this turn isn't to wait.
     fn go_on_if(&mut self, could: bool)
         ensures goes_on { self.new ≡ record self.old { worker = record self.old.worker { can_go_on = (self.old.worker.can_go_on || could) } } }
     {
@@ -200,7 +200,7 @@ impl<L: Link, C: Right, E: Engine<L, C>> Desk<L, C, E> {
         self.go_on_if(has_room);
     }
 
-    // Hands in an end. One that finds no memory is set aside.
+    // Hands in an end. One that is refused memory is set aside.
     fn record<R: Wait>(&mut self, rt: &R, finished: Finished<C>)
         requires room { in_hand self.old.worker < most_transfers }
         requires own { finished.of ≡ self.old.of }
@@ -213,8 +213,8 @@ impl<L: Link, C: Right, E: Engine<L, C>> Desk<L, C, E> {
     }
 
     // rule turn-paused
-    // Tells a transfer the moment and whether it is paused, and gives it a link where it goes on and wants one. The answer is whether none can
-    // be opened for it yet.
+    // Gives a transfer the moment and whether it is paused, and a link where it goes on and wants one. The answer is whether none can be
+    // opened for it yet.
     fn make_ready<G: Gate<Link = L>>(
         &mut self,
         gate: &mut G,
@@ -279,7 +279,7 @@ impl<L: Link, C: Right, E: Engine<L, C>> Desk<L, C, E> {
     }
 
     // rule worker-requeued-deadline
-    // Gives a transfer back as it stands, with its link. It is held no more, whatever comes of that.
+    // Requeues a transfer as it is, with its link. It is held no more, whatever the answer is.
     fn give_back<R: Wait>(&mut self, rt: &R, held: Held<L, C>)
         requires own { held.of ≡ self.old.of }
         ensures gives { (r : Return) × (self.new.worker ≡ does self.old.worker (gives_back held.held r)) }
@@ -362,9 +362,8 @@ impl<L: Link, C: Right, E: Engine<L, C>> Desk<L, C, E> {
         }
     }
 
-    // Goes through these and looks at each once: while one is due one that is, else the first. It asks for the moment before each that isn't
-    // due, and the answer is the last.
-    // Once a turn would be too seldom: 64 transfers may make 64 reads each meanwhile.
+    // Looks at each of these once: one that is due, while there is one, else the first. It reads the clock before each that isn't due, and
+    // the answer is the last moment. One reading a turn would be too few: 64 transfers may make 64 reads each meanwhile.
     fn go_through<R: Wait, G: Gate<Link = L>>(
         &mut self,
         rt: &R,
@@ -447,7 +446,7 @@ impl<L: Link, C: Right, E: Engine<L, C>> Desk<L, C, E> {
     }
 
     // rule turn-stop
-    // It is told to stop, or goes on.
+    // Begins to stop where it is told to, else goes on.
     fn hear<R: Wait>(&mut self, rt: &R, turn: Turn, todo: &mut Queue<Held<L, C>, E>)
         requires spare { todo.old.items ≡ [] }
         requires own { todo.old.of ≡ self.old.of }

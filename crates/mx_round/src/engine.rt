@@ -1,4 +1,4 @@
-//! What a worker calls on, and what it has of it.
+//! The engine that a worker calls, and what it gets from it.
 ghost use Rattle.std.specs.Prelude.{◌≡◌, ◌↔◌, ℕ, List, [], None, ◌∷◌, ◌++◌, option_map, IsTrue, IfSome, min};
 ghost use Rattle.logbook.specs.Pages.{Book};
 ghost use Rattle.mx_types.specs.declared.names.Ticket.{Ticket as OneTicket};
@@ -15,13 +15,13 @@ use std::sync::Wait;
 /// The longest wait of a turn, in milliseconds.
 pub(crate) const LONGEST_WAIT: u64 = 20;
 
-/// What is of one engine: of the one whose list of ties it is.
+/// What belongs to one engine: the one with this list of ties.
 pub trait Tied {
     /// Which list of ties it is, for contracts alone.
     ghost of: { Self → Book };
 }
 
-/// The right to a claimed transfer. It is of the engine that gave it.
+/// The right to a claimed transfer. It belongs to the engine that gave it.
 pub trait Right: Tied + Drop {
     /// The ticket, the slot and the request of its addition, for contracts alone.
     ghost ticket_of: { Self → OneTicket };
@@ -37,8 +37,8 @@ pub trait Right: Tied + Drop {
 
 // rule worker-own-claim: A worker records an end only with the claim of its own transfer: both are of one request, by the invariants of
 // `Held` and `Finished`.
-/// A claimed transfer, which has not ended, and the right to it, which is of its request. Contracts see the ticket, the slot, how the
-/// transfer stands, and of which list of ties the right is. The transfer lies in a box, since it goes from list to list in each turn.
+/// A claimed transfer, which has not ended, and the right to it, which is of its request. Contracts see the ticket, the slot, the state of
+/// the transfer, and of which list of ties the right is. The transfer is boxed, since it goes from list to list in each turn.
 #[derive(Drop)]
 pub struct Held<L: Link, C: Right> {
     pub(crate) right: C,
@@ -126,7 +126,7 @@ impl<L: Link, C: Right> Held<L, C> {
         }
     }
 
-    /// It has not ended. It does nothing: a call gives its caller's proof the fact.
+    /// It does nothing: a call gives its caller's proof the fact that the transfer has not ended.
     pub(crate) fn know(&self)
         ensures { self.now.held.transfer.code ≡ None }
     {
@@ -177,8 +177,8 @@ impl<C: Right> Finished<C> {
     }
 }
 
-/// The engine, through a seat of the worker's own. It gives rights of its own list of ties, and takes these alone. What is handed in is
-/// taken out of its place, so that it can stay there: the prover covers no impl of a trait whose methods take such a value by move.
+/// The engine, through a seat of the worker's own. It gives rights of its own list of ties, and takes these alone. `finish` takes the end
+/// out of an `Option`, where it stays if refused: the prover covers no impl of a trait whose methods take such a value by move.
 pub trait Engine<L: Link, C: Right>: Tied + Drop {
     /// What contracts know of the engine as it began.
     type Start;
@@ -208,7 +208,7 @@ pub trait Engine<L: Link, C: Right>: Tied + Drop {
         ensures did { did self.new ≡ did self.old ++ notes (C.ticket_of right.now) (C.slot_of right.now) count ∷ [] }
         ensures same { (Self.of self.new ≡ Self.of self.old) × (start self.new ≡ start self.old) };
 
-    /// Hands in an end. One that finds no memory stays in its place.
+    /// Hands in an end. One that is refused memory stays in its place.
     fn finish<R: Wait>(&mut self, rt: &R, finished: &mut Option<Finished<C>>)
         requires own { IfSome finished.old (λ f. f.of ≡ Self.of self.old) }
         ensures did { IfSome finished.old (λ f. HandsIn (did self.old) (did self.new) f finished.new) }

@@ -10,8 +10,8 @@ use std::alloc::AllocGlobal;
 use std::random::RandomSource;
 use std::sync::Wait;
 
-/// Runs a worker that has room for so many idle links, from a start with nothing in hand, until it was told to stop and has nothing in
-/// hand. Where no memory is found for its start the engine comes back as it was, and the gate was asked nothing.
+/// Runs a worker that has room for so many idle links, from a start with nothing in flight, until it was told to stop and has nothing in
+/// flight. Where memory for its start is refused, the engine comes back as it was, and the gate was asked nothing.
 pub fn run_at<
     L: Link,
     C: Right,

@@ -17,10 +17,10 @@ use std::marker::Model;
 use std::random::RandomSource;
 use std::sync::Wait;
 
-/// A worker, at an engine. Contracts see what it has in hand, its idle links and what it did at the engine, of which list of ties its claims
-/// are, and how the engine began. What its gate said stands beside it.
+/// A worker, at an engine. Contracts see what it has in flight, its idle links and what it did at the engine, of which list of ties its
+/// claims are, and how the engine began. What its gate said is kept beside it.
 ///
-/// The spare queues are empty between its turns. In a turn what it holds is swapped into one of them, and gone through there.
+/// The spare queues are empty between its turns. A turn swaps what it holds into one of them, and goes through that.
 #[derive(Drop)]
 pub struct Worker<L: Link, C: Right, E: Engine<L, C>> {
     desk: Desk<L, C, E>,
@@ -84,7 +84,7 @@ fn make_tools<L: Link, C: Right, E: Engine<L, C>, R: RandomSource + AllocGlobal>
 }
 
 impl<L: Link, C: Right, E: Engine<L, C>> Worker<L, C, E> {
-    /// A worker with nothing in hand, and with room for so many idle links. Where no memory is found the engine comes back.
+    /// A worker with nothing in flight, and with room for so many idle links. Where memory is refused, the engine comes back.
     pub fn new<R: RandomSource + AllocGlobal>(
         rt: &R,
         engine: E,
@@ -102,21 +102,21 @@ impl<L: Link, C: Right, E: Engine<L, C>> Worker<L, C, E> {
         })
     }
 
-    /// The engine. What the worker has in hand is dropped.
+    /// The engine. What the worker has in flight is dropped.
     pub fn into_engine(self) -> E
         ensures { (E.did result ≡ self.worker.did) × (E.start result ≡ self.start) }
     {
         self.desk.into_engine()
     }
 
-    /// Whether it was told to stop, and has nothing in hand.
+    /// Whether it was told to stop, and has nothing in flight.
     pub fn is_over(&self) -> bool
         ensures { IsTrue result ↔ IsOver self.now.worker }
     {
         self.desk.is_over()
     }
 
-    /// One turn: it claims, tries again the ends that found no memory, goes through its transfers, waits at the gate, and gives back
+    /// One turn: it claims, tries the ends again that were refused memory, goes through its transfers, waits at the gate, and gives back
     /// what has not started once it is told to stop.
     pub fn turn<R: Wait, G: Gate<Link = L>>(&mut self, rt: &R, gate: &mut G)
         ensures turn { WorkerTurn L.history L.token_of (beside self.old.worker (G.said gate.old)) (beside self.new.worker (G.said gate.new)) }
@@ -126,7 +126,7 @@ impl<L: Link, C: Right, E: Engine<L, C>> Worker<L, C, E> {
             .turn(rt, gate, &mut self.spare_held, &mut self.spare_ends);
     }
 
-    /// Turn after turn, until it was told to stop and has nothing in hand.
+    /// Turn after turn, until it was told to stop and has nothing in flight.
     pub fn run<R: Wait, G: Gate<Link = L>>(&mut self, rt: &R, gate: &mut G)
         ensures runs { Runs L.history L.token_of (beside self.old.worker (G.said gate.old)) (beside self.new.worker (G.said gate.new)) }
         ensures over { IsOver self.new.worker }

@@ -10,7 +10,7 @@ use Rattle.mx_chain.specs.Chains.{ChainState}
 use Rattle.mx_chain.specs.Outcomes.{OutcomeValue}
 use Rattle.mx_chain.specs.Steps.{Steps, waits, asks, ends}
 
--- `waker` is where a poll that waits leaves its task's waker, for all that it waits for; `has_asked` tells whether the last poll asked for
+-- `waker` is where a poll that waits leaves its task's waker, for all that it waits for; `has_asked` says whether the last poll asked for
 -- another
 pub record TransferState (L : Type 0) : Type 0 where
   pub chain : ChainState L

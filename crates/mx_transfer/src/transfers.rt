@@ -92,7 +92,7 @@ impl<L: Link> Transfer<L> {
         self.chain.attach(link, is_reused);
     }
 
-    /// Gives the code that it ends with at its next poll, as no link can be had.
+    /// Gives the code that it ends with at its next poll, as no link can be opened.
     pub fn fail_link(&mut self, code: Code)
         requires wanted { WantsLink self.old.chain.now }
         requires code { is_link_code code ≡ true }
@@ -122,14 +122,14 @@ impl<L: Link> Transfer<L> {
         self.chain.deadline()
     }
 
-    /// How many bytes its links have given, in all hops; at most 4,294,967,295 are told.
+    /// How many bytes its links have given, in all hops; the answer is at most 4,294,967,295.
     pub fn received(&self) -> u32
         ensures { result ≡ received_of self.now.chain }
     {
         self.chain.received()
     }
 
-    /// The number under which the readiness of the link is told that serves it.
+    /// The number under which the readiness of its link is reported.
     pub fn token(&self) -> Option<u64>
         ensures { result ≡ option_map L.token_of self.now.chain.now.link }
     {
@@ -183,7 +183,7 @@ impl<L: Link> Transfer<L> {
         self.chain.take_link()
     }
 
-    /// Where the link goes that was attached last. After the end it is told where that link may serve again.
+    /// Where the link goes that was attached last. After the end it is given where that link may serve again.
     pub fn link_endpoint(&self) -> Option<&Endpoint>
         ensures { option_copied result ≡ home_of self.now.chain }
     {
@@ -245,7 +245,7 @@ impl<L: Link> Future for Transfer<L> {
         // 28 comes where the deadline is due, and only there
         ensures late { IfReady result (λ outcome. (outcome.code ≡ Code.OperationTimedout) ↔ IsDue (clocked self.old.chain.now).deadline self.old.chain.now.moment) }
         ensures ended { IfReady result (λ outcome. self.new.chain.code ≡ Some outcome.code) }
-        // a link that is left has a place where it goes
+        // a link that is left has an endpoint
         ensures home { IfReady result (λ outcome. self.new.chain.link ≢ None → IsSome self.new.chain.home) }
         ensures received { IfReady result (λ outcome. received_of self.new.chain ≡ bytes_in (hops_of outcome)) }
         // the count of bytes never falls

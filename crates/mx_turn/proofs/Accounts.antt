@@ -38,7 +38,7 @@ module _ (p : Ticket → Bool) where
         let c = many-append by ds es in
         a ∙ omega (arith, c) ∙ ap (λ n. n + many by p es) (sym b)
 
-    -- how many claims are no longer in hand
+    -- how many claims are no longer in flight
     abbrev settled : List (Deed L) → ℕ
     settled did = many recorded_by p did + many stale_by p did + many given_back_by p did + many gone_by p did + many unseated_by p did
 
@@ -54,14 +54,14 @@ module _ (p : Ticket → Bool) where
     abbrev of_held : List (Held L) → ℕ
     of_held hs = count_by (λ h. p h.ticket) hs
 
-    -- of the claims, those that are neither settled nor in hand
+    -- of the claims, those that are neither settled nor in flight
     abbrev Owes : Worker L → ℕ → Type 0
     Owes w n = many claimed_by p w.did ≡ settled w.did + of_held w.held + of_aside w.set_aside + n
 
     owes_is : (w : Worker L) (n k : ℕ) → Owes w n → n ≡ k → Owes w k
     owes_is w n k o e = omega (arith, o, e)
 
-    -- further deeds, which settle what is in hand no more
+    -- further deeds, which settle what is no longer in flight
     owes_more : (w v : Worker L) (n k : ℕ) (ds : List (Deed L)) → Owes w n → v.did ≡ w.did ++ ds
         → many claimed_by p ds + of_held w.held + of_aside w.set_aside + n ≡ settled ds + of_held v.held + of_aside v.set_aside + k → Owes v k
     owes_more w v n k ds o e h =
@@ -116,7 +116,7 @@ module _ (p : Ticket → Bool) where
     retries_step : (s : SetAside) (w v : Worker L) (n : ℕ) → Retries s w v → Owes w (one s.ticket + n) → Owes v n
     retries_step s w v n (f, e) o = subst (λ x. Owes x n) (sym e) (hands_in s.ticket s.outcome f w n o)
 
-    -- one that is given back is settled, whatever comes of it
+    -- one that is given back is settled, whatever the answer is
     gives_back_step : (h : Held L) (r : Return) (w : Worker L) (n : ℕ) → Owes w (one h.ticket + n) → Owes (does w (gives_back h r)) n
     gives_back_step h returned w n o = owes_more w (does w (gives_back h returned)) (one h.ticket + n) n _ o refl (omega arith)
     gives_back_step h ended_before w n o = owes_more w (does w (gives_back h ended_before)) (one h.ticket + n) n _ o refl (omega arith)

@@ -40,7 +40,7 @@ module _ (p : Ticket → Bool) where
     looked_as : (w u v : Worker L) (n : ℕ) → v ≡ u → Looked w u n → Looked w v n
     looked_as w u v n e h = subst (λ x. Looked w x n) (sym e) h
 
-    -- with these deeds behind what it did
+    -- with these deeds after what it did
     did_more : (w v : Worker L) (ds : List (Deed L)) (n : ℕ) → v.did ≡ w.did ++ ds → many looked_at_by p ds ≡ n → many claimed_by p ds ≡ 0 → Looked w v n
     did_more w v ds n e l c =
         let a = ap (many looked_at_by p) e ∙ many-append p looked_at_by w.did ds in
@@ -182,7 +182,7 @@ module _ {L : Type 0} where
   settles_stopping h goes delayed w v asks e = ap (λ x. x.is_stopping) e
   settles_stopping h goes delayed w v (ends o) (f, e) = ap (λ x. x.is_stopping) e ∙ hands_stopping h.ticket o f w
 
-  -- nothing comes of being told to stop where it is stopping, or isn't told
+  -- a stop changes nothing where it is stopping, or isn't told to stop
   stops_again : (stop already : Bool) (w v : Worker L) → already ≡ true → Stops stop already w v → v ≡ w
   stops_again false already w v is e = e
   stops_again true true w v is e = e

@@ -1,4 +1,4 @@
--- A worker has at most 64 in hand.
+-- A worker has at most 64 in flight.
 use Rattle.std.proofs.Common.{ℕ, ◌+◌, ◌≤◌, Bool, true, false, List, [], ◌∷◌, ◌++◌, length, sym, subst, arith, length-append}
 use Rattle.mx_types.specs.Limits.{most_transfers}
 use Rattle.mx_types.specs.declared.names.Ticket.{Ticket}

@@ -33,7 +33,7 @@ abbrev pub gone_by : {L : Type 0} → Deed L → Option Ticket
 gone_by (gives_back h ended_before) = Some h.ticket
 gone_by _ = None
 
--- which was let go, as the seat was another handle's
+-- which was dropped, as the seat was another handle's
 abbrev pub unseated_by : {L : Type 0} → Deed L → Option Ticket
 unseated_by (finishes t o unseated) = Some t
 unseated_by (gives_back h unreturned) = Some h.ticket
@@ -55,7 +55,7 @@ abbrev pub EachClaimIsAccounted : {L : Type 0} → (L → List Answer) → (L �
 EachClaimIsAccounted {L} history token_of =
     (limit : ℕ) (said : List Said) (v : Worker L) → Runs history token_of (record (starts limit) { said = said }) v → IsOver v → AreAccounted v.did
 
--- in every run there are at most 64 in hand, transfers and ends that found no memory
+-- in every run at most 64 transfers and unrecorded ends are in flight
 abbrev pub AtMost64 : {L : Type 0} → (L → List Answer) → (L → ℕ) → Type 0
 AtMost64 {L} history token_of =
     (limit : ℕ) (said : List Said) (v : Worker L) → Runs history token_of (record (starts limit) { said = said }) v → in_hand v ≤ most_transfers
@@ -65,8 +65,8 @@ abbrev pub looked_at_by : {L : Type 0} → Deed L → Option Ticket
 looked_at_by (looks t seen) = Some t
 looked_at_by _ = None
 
--- In each turn it looks once at each transfer that it held, and at the one that it has claimed, and at no other: by every test of tickets it
--- has looked as often as it held and claimed some.
+-- In each turn it looks once at each transfer that it held, and at the one that it has claimed, and at no other: by every test of tickets
+-- it has looked as often as it held and claimed some.
 abbrev pub EachIsLookedAt : {L : Type 0} → (L → List Answer) → (L → ℕ) → Type 0
 EachIsLookedAt {L} history token_of =
     (w v : Worker L) → WorkerTurn history token_of w v → (p : Ticket → Bool)

@@ -1,4 +1,4 @@
--- What a worker does in one turn, as one list of cases. Whatever is promised of a run of turns follows from this.
+-- What a worker does in one turn, as one list of cases. All that is promised of a run of turns follows from this.
 use Rattle.std.specs.Prelude.{◌≡◌, ◌≢◌, ◌⊎◌, ℕ, ◌+◌, ◌-◌, ◌<◌, ◌≤◌, ◌↔◌, IsTrue, min, fold, Bool, true, false, not, ◌&&◌, ◌||◌, List, [], ◌∷◌, ◌++◌, All, Option, Some, None, Ok, Err, if◌then◌else◌}
 use Rattle.mx_types.specs.Code.{is_link_code}
 use Rattle.mx_types.specs.Limits.{most_transfers}
@@ -24,17 +24,17 @@ Each {X} {W} Step (x ∷ xs) w v = (mid : W) × Step x w mid × Each Step xs mid
 -- rule turn-claims: At each turn a worker claims one transfer at most, and holds what it claimed.
 -- rule turn-in-flight
 pub data Claims {L : Type 0} (w v : Worker L) : Type 0 where
-  -- a worker that is stopping, or has as many in hand as it may have, claims none
+  -- a worker that is stopping, or has as many in flight as it may have, claims none
   keeps : (w.is_stopping ≡ true) ⊎ (most_transfers ≤ in_hand w) → v ≡ w → Claims w v
   -- any other asks for one, and there may be none
   finds_none : w.is_stopping ≡ false → in_hand w < most_transfers → v ≡ does w (claims None) → Claims w v
-  -- or it is given one that has not ended, and holds it as it was given; and unless it then has as many in hand as it may have, it can go
+  -- or it is given one that has not ended, and holds it as it was given; and unless it then has as many in flight as it may have, it can go
   -- on at once, as there may be more
   claims_one : (h : Held L) (has_room : Bool) → w.is_stopping ≡ false → in_hand w < most_transfers → h.transfer.code ≡ None
       → IsTrue has_room ↔ (in_hand w + 1 < most_transfers)
       → v ≡ holds (does (record w { can_go_on = w.can_go_on || has_room }) (claims (Some h))) h → Claims w v
 
--- An end is handed in. It is set aside behind the others where memory was lacking, and is else in hand no more.
+-- An end is handed in. Where memory was refused, it is set aside after the others; else it is no longer in flight.
 abbrev pub handed_in : {L : Type 0} → Ticket → OutcomeValue → Finish → Worker L → Worker L
 handed_in ticket o lacking w =
     record (does w (finishes ticket o lacking)) { set_aside = w.set_aside ++ record { ticket = ticket; outcome = o } ∷ [] }
@@ -50,7 +50,7 @@ Retries s w v = (f : Finish) × (v ≡ handed_in s.ticket s.outcome f w)
 abbrev pub served_by : {L : Type 0} → ChainState L → L → Bool → ChainState L
 served_by t link reused = record t { now = attached t.now link reused; linked = true; link = None }
 
--- the transfer, once its hop was told why there is no link
+-- the transfer, once its hop has the code of why there is no link
 abbrev pub unserved : {L : Type 0} → ChainState L → Code → ChainState L
 unserved t c = record t { now = record t.now { failure = Some c } }
 
@@ -61,7 +61,7 @@ MustOpen t idle = (t.now.needs_fresh ≡ true) ⊎ HasNone t.now.request.endpoin
 -- rule turn-links: A transfer gets an idle link of its endpoint, unless only a fresh one will do; else the gate opens one, once it says
 -- that it can.
 --
--- A transfer comes by the link that it wants, for the endpoint of the hop that is under way; and this is what the gate said meanwhile.
+-- A transfer gets the link that it wants, for the endpoint of the hop that is under way; and this is what the gate said meanwhile.
 pub data Supplied {L : Type 0} (history : L → List Answer) (token_of : L → ℕ) (t new : ChainState L) (idle left : Idle L) : List Said → Type 0 where
   -- one that wants no link is given none
   unwanted : ¬ (WantsLink t.now) → new ≡ t → left ≡ idle → Supplied history token_of t new idle left []
@@ -74,11 +74,11 @@ pub data Supplied {L : Type 0} (history : L → List Answer) (token_of : L → �
   -- where one can, it is given one that the gate opens to its endpoint, which has answered nothing yet
   opens : (link : L) → WantsLink t.now → MustOpen t idle → left ≡ idle → history link ≡ [] → new ≡ served_by t link false
       → Supplied history token_of t new idle left (asked t.now.request.endpoint true ∷ opened t.now.request.endpoint (Ok (token_of link)) ∷ [])
-  -- where that comes to nothing, it is told why
+  -- where that fails, it gets the code of why
   fails : (c : Code) → WantsLink t.now → MustOpen t idle → left ≡ idle → is_link_code c ≡ true → new ≡ unserved t c
       → Supplied history token_of t new idle left (asked t.now.request.endpoint true ∷ opened t.now.request.endpoint (Err c) ∷ [])
 
--- what the gate said tells that no link could be opened yet
+-- what the gate said shows that no link could be opened yet
 abbrev pub is_delayed : List Said → Bool
 is_delayed (asked endpoint false ∷ _) = true
 is_delayed _ = false
@@ -95,14 +95,14 @@ pub data Keeps {L : Type 0} (t : ChainState L) (idle left : Idle L) : Type 0 whe
   -- it is kept under the endpoint that it goes to, and where there are then more than may be the oldest leaves
   puts : (link : L) (home : HostAndPort) → t.link ≡ Some link → home_of t ≡ Some home
       → left ≡ record idle { links = kept idle.limit (idle.links ++ (home, link) ∷ []) } → Keeps t idle left
-  -- or it is dropped: where no memory is found for its endpoint, which nothing here can tell
+  -- or it is dropped: where memory for its endpoint is refused, which nothing here can see
   drops : (link : L) → t.link ≡ Some link → left ≡ idle → Keeps t idle left
 
 -- rule turn-wait-for-link: A worker doesn't wait where a transfer that goes on needs a link, unless its gate has said in this turn that
 -- none can be opened yet.
 --
 -- After its poll a transfer is held on, unless it has ended; and the worker is not to wait where the transfer could go on at once. `goes`
--- tells whether it may go on, and `delayed` whether no link could be opened for it yet.
+-- says whether it may go on, and `delayed` whether no link could be opened for it yet.
 abbrev pub Settles : {L : Type 0} → Held L → Bool → Bool → Worker L → Worker L → How → Type 0
 -- one that waits is held on, and could go on where it wants a link, unless none could be opened yet
 Settles h goes delayed w v waits =
@@ -117,13 +117,13 @@ abbrev pub is_go : Option Look → Bool
 is_go (Some look.Go) = true
 is_go _ = false
 
--- the transfer, once it was told the moment, and whether it is paused
+-- the transfer, once it was given the moment, and whether it is paused
 abbrev pub prepared : {L : Type 0} → ℕ → Bool → ChainState L → ChainState L
 prepared now goes t = record t { now = record t.now { moment = now; is_paused = not goes } }
 
 -- rule turn-paused: A transfer that is paused, or of which no version can be read, gets no link.
 --
--- it comes by a link only where it goes on
+-- it gets a link only where it goes on
 abbrev pub Readies : {L : Type 0} → (L → List Answer) → (L → ℕ) → Bool → ChainState L → ChainState L → Idle L → Idle L → List Said → Type 0
 Readies history token_of true t new idle left said = Supplied history token_of t new idle left said
 Readies history token_of false t new idle left said = (new ≡ t) × (left ≡ idle) × (said ≡ [])
@@ -133,10 +133,10 @@ Readies history token_of false t new idle left said = (new ≡ t) × (left ≡ i
 --
 -- It looks at a transfer.
 pub data LooksAt {L : Type 0} (history : L → List Answer) (token_of : L → ℕ) (now : ℕ) (h : Held L) (w v : Worker L) : Type 0 where
-  -- one that is gone is given back as it stands, with its link, and is held no more
+  -- one that is gone is given back as it is, with its link, and is held no more
   lets_go : (r : Return) → v ≡ does (does w (looks h.ticket (Some look.Gone))) (gives_back h r) → LooksAt history token_of now h w v
-  -- Any other is prepared, comes by a link where it goes on, and is polled once. The count of its bytes is noted, the link that a hop left
-  -- is kept, and it is held on or its end is handed in.
+  -- Any other is prepared, gets a link where it goes on, and is polled once. The count of its bytes is noted, the link that a hop left is
+  -- kept, and it is held on or its end is handed in.
   serves : (seen : Option Look) (ready new : ChainState L) (idle left : Idle L) (said : List Said) (how : How) → seen ≢ Some look.Gone
       → Readies history token_of (is_go seen) (prepared now (is_go seen) h.transfer) ready w.idle idle said
       → Steps history ready new how
@@ -150,10 +150,10 @@ abbrev pub IsLate : {L : Type 0} → ℕ → Held L → Type 0
 IsLate now h = IsDue h.transfer.now.deadline now
 
 -- rule turn-order: The transfers whose deadline has come are looked at first, then the others in order of claim, each once.
--- rule turn-clock: Before each transfer that isn't due the clock is asked, and what has become due comes first.
+-- rule turn-clock: Before each transfer that isn't due the clock is read, and what has become due comes first.
 --
 -- It goes through these transfers from here to its end, where the moment is `last`, and looks at each once. `now` is the moment here, and
--- `is_new` tells that it has polled none since it was told so.
+-- `is_new` says that it has polled none since it read that.
 pub data GoesThrough {L : Type 0} (history : L → List Answer) (token_of : L → ℕ) (last : ℕ) (v : Worker L) : ℕ → Bool → List (Held L) → Worker L → Type 0 where
   -- none is left
   through : (is_new : Bool) → GoesThrough history token_of last v last is_new [] v
@@ -161,7 +161,7 @@ pub data GoesThrough {L : Type 0} (history : L → List Answer) (token_of : L �
   due : {w mid : Worker L} (now : ℕ) (is_new : Bool) (earlier later : List (Held L)) (h : Held L) → IsLate now h
       → LooksAt history token_of now h w mid → GoesThrough history token_of last v now false (earlier ++ later) mid
       → GoesThrough history token_of last v now is_new (earlier ++ h ∷ later) w
-  -- where none is, it asks for the moment, unless it has polled none since it was told one: then some may be due
+  -- where none is, it reads the clock, unless it has polled none since the last reading: then some may be due
   asks_time : {w : Worker L} (now since : ℕ) (todo : List (Held L)) → All (λ k. ¬ (IsLate now k)) todo
       → GoesThrough history token_of last v since true todo (hears w (told since)) → GoesThrough history token_of last v now false todo w
   -- where none is now, it looks at the one that was claimed first
@@ -187,12 +187,12 @@ wait_of now w = if w.can_go_on then 0 else fold (λ ms h. min ms (time_left now 
 pub data GivesBack {L : Type 0} (h : Held L) (w v : Worker L) : Type 0 where
   -- one that has started is held on
   holds_on : h.transfer.now.is_started ≡ true → v ≡ holds w h → GivesBack h w v
-  -- one that has not is given back as it stands, and is held no more
+  -- one that has not is given back as it is, and is held no more
   returns : (r : Return) → h.transfer.now.is_started ≡ false → v ≡ does w (gives_back h r) → GivesBack h w v
 
 -- rule turn-stop: Once a worker is told to stop it requeues what has not started, and keeps the others.
 --
--- What comes of whether it is told to stop, and whether it was before.
+-- What follows from whether it is told to stop, and whether it was before.
 abbrev pub Stops : {L : Type 0} → Bool → Bool → Worker L → Worker L → Type 0
 -- nothing where it isn't told, or was before
 Stops false already w v = v ≡ w
@@ -202,7 +202,7 @@ Stops true false w v = Each GivesBack w.held (record w { is_stopping = true; hel
 
 -- One turn: the worker before and after.
 pub record WorkerTurn {L : Type 0} (history : L → List Answer) (token_of : L → ℕ) (w v : Worker L) : Type 0 where
-  -- the moment at its beginning, and the last that it was told
+  -- the moment at its beginning, and the last that it was given
   pub now : ℕ
   pub last : ℕ
   -- the worker once it has claimed, once it has tried the ends again, and once it has gone through its transfers
@@ -213,7 +213,7 @@ pub record WorkerTurn {L : Type 0} (history : L → List Answer) (token_of : L �
   pub stop : Bool
   -- it asks its gate for the moment, and claims at most one transfer
   pub claim : Claims (hears (record w { can_go_on = false }) (told now)) claimed
-  -- it tries the ends again that found no memory, in order
+  -- it tries the ends again that were refused memory, in order
   pub retries : Each Retries claimed.set_aside (record claimed { set_aside = [] }) tried
   -- it goes through its transfers, the due ones first, then in order of claim, and asks for the moment between
   pub each : GoesThrough history token_of last gone_through now true tried.held (record tried { held = [] })

@@ -9,7 +9,7 @@ pub fn each_claim_is_accounted<L: Link>()
     ensures { EachClaimIsAccounted L.history L.token_of }
 {}
 
-/// A worker has at most 64 transfers and ends that found no memory in hand.
+/// A worker has at most 64 transfers and unrecorded ends in flight.
 pub fn at_most_64<L: Link>()
     ensures { AtMost64 L.history L.token_of }
 {}

@@ -98,7 +98,7 @@ impl<L: Link> Ended<L> {
 impl<L: Link> Stage<L> {
     ghost use Rattle.mx_exchange.specs.declared.exchanges.stages.Stage.TheVariants as stage;
 
-    /// What stands in the place of a stage while a turn has it.
+    /// The placeholder of a stage while a turn has it.
     pub fn gone() -> Stage<L>
         ensures { result ≡ stage.Ended (record { code = code.Ok; received = 0; line = None; is_kept = false }) }
     {
@@ -126,7 +126,7 @@ pub(super) fn may_keep(decoder: &Decoder) -> bool
     decoder.keep() && decoder.len() == decoder.wire().len()
 }
 
-/// The hop of an exchange whose link answered so.
+/// The hop of an exchange whose link gave these answers.
 pub(super) fn end(
     request: Request,
     decoder: Decoder,

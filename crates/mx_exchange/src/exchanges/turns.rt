@@ -14,7 +14,7 @@ use mx_types::Code;
 use std::mem;
 use std::snapshot::Snapshot;
 
-/// What a turn comes to.
+/// The result of a turn.
 #[derive(Drop)]
 pub enum Turned {
     /// It waits: for a link, for the one that it has, or for its deadline.
@@ -58,7 +58,7 @@ impl<L: Link> Exchange<L> {
         }
     }
 
-    // Goes on with this.
+    // Goes on with this stage.
     fn go_on(&mut self, live: Live<L>)
         requires { IsAlive L.history L.asked L.token_of self.old.request self.old.needs_fresh self.old.failure live }
         ensures { self.new ≡ alive self.old live }
@@ -76,7 +76,7 @@ impl<L: Link> Exchange<L> {
         drop(mem::replace(&mut self.stage, Stage::Live(live)));
     }
 
-    // Has ended, with this left of it.
+    // Has ended, and leaves this.
     fn settle(&mut self, ended: Ended<L>)
         requires { IsEnded L.history L.asked L.token_of self.old.request self.old.needs_fresh self.old.failure ended }
         ensures { self.new ≡ over self.old ended }
@@ -84,7 +84,7 @@ impl<L: Link> Exchange<L> {
         drop(mem::replace(&mut self.stage, Stage::Ended(ended)));
     }
 
-    // Ends without a look at the link.
+    // Ends without a further call on the link.
     fn stop(&mut self, live: Live<L>, code: Code) -> Hop
         requires live { IsAlive L.history L.asked L.token_of self.old.request self.old.needs_fresh self.old.failure live }
         requires listed { is_stop_code code ≡ true }
@@ -110,8 +110,7 @@ impl<L: Link> Exchange<L> {
     }
 
     // rule exchange-probe
-    // Asks a reused link for a byte first, and drops it where it doesn't answer that it would wait. False where
-    // it was dropped.
+    // Asks a reused link for a byte first, and drops the link unless it answers that it would wait. False where it was dropped.
     fn probe(&mut self, live: &mut Live<L>) -> bool
         requires away { self.old.link ≡ None }
         requires live { IsAlive L.history L.asked L.token_of self.old.request self.old.needs_fresh self.old.failure live.old }
