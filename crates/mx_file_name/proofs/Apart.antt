@@ -26,7 +26,7 @@ base_plain : (url : List ℕ) → list_all is_plain (base_name url) ≡ true
 unfolding base_name
 base_plain url = unhidden_plain (map kept (take 234 (last_segment (path_of url)))) (all_kept_plain (take 234 (last_segment (path_of url))))
 
--- no number sign stands in a plain text
+-- no number sign is in a plain text
 no_sign : (xs ys : List ℕ) → list_all is_plain xs ≡ true → xs ≡ ys → list_all is_plain ys ≡ true
 no_sign xs ys all e = ap (list_all is_plain) (sym e) ∙ all
 
@@ -35,7 +35,7 @@ not_plain ys u all =
     let both = and_parts (list_all is_plain ys) (list_all is_plain (35 ∷ u)) (sym (list_all-append is_plain ys (35 ∷ u)) ∙ all) in
     both_ways (is_plain 35 && list_all is_plain u) refl both.1
 
--- what stands before the first number sign, and behind it
+-- what is before the first number sign, and after it
 split : (xs ys u v : List ℕ) → list_all is_plain xs ≡ true → list_all is_plain ys ≡ true
     → xs ++ 35 ∷ u ≡ ys ++ 35 ∷ v → (xs ≡ ys) × (u ≡ v)
 split [] [] u v p q e = (refl, ap (λ l. drop 1 l) e)
@@ -52,7 +52,7 @@ split (x ∷ xs) (y ∷ ys) u v p q e =
     let rest = split xs ys u v (and_parts (is_plain x) (list_all is_plain xs) p).1 (and_parts (is_plain y) (list_all is_plain ys) q).1 (ap (λ l. drop 1 l) e) in
     (ap (λ z. z ∷ xs) first ∙ ap (λ zs. y ∷ zs) rest.0, rest.1)
 
--- a numbered name tells its base and its number
+-- a numbered name determines its base and its number
 pub numbered_tells : (a b : List ℕ) (m n : ℕ) → m < 2 ^ 64 → n < 2 ^ 64 → list_all is_plain a ≡ true → list_all is_plain b ≡ true
     → numbered a m ≡ numbered b n → (a ≡ b) × (m ≡ n)
 numbered_tells a b m n small low p q =

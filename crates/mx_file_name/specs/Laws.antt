@@ -7,7 +7,7 @@ use Rattle.mx_file_name.specs.Safe.{IsSafeName, IsPartName}
 abbrev pub NamesAreSafe : Type 0
 NamesAreSafe = (url : List ℕ) (n : ℕ) → n < 2 ^ 64 → IsSafeName (numbered (base_name url) n)
 
--- none is one of those behind it
+-- none is one of those after it
 abbrev pub AreDistinct : List (List ℕ) → Type 0
 AreDistinct [] = Unit {0}
 AreDistinct (name ∷ names) = AllByRecursion (λ other. name ≢ other) names × AreDistinct names

@@ -23,16 +23,16 @@ unhidden (b ∷ bs) = shown b ∷ bs
 -- rule file-base-name: A file's name is the last segment of the URL's path; each byte that isn't visible ASCII is `_`, and so is a dot in
 -- front; an empty one is `index.html`.
 --
--- the name that a URL gives: the last segment of its path as it stands, of at most 234 bytes
+-- the name that a URL gives: the last segment of its path as written, of at most 234 bytes
 unfoldable pub base_name : List ℕ → List ℕ
 base_name url = unhidden (map kept (take 234 (last_segment (path_of url))))
 
 abbrev pub IsGiven : List ℕ → Type 0
 IsGiven base = (url : List ℕ) × (base ≡ base_name url)
 
--- rule file-numbered-name: A name that was given before has a number behind a `#`.
+-- rule file-numbered-name: A name that was given before has a number after a `#`.
 --
--- a name with a number behind it: none for 0
+-- a name with a number after it: none for 0
 abbrev pub numbered : List ℕ → ℕ → List ℕ
 numbered base n = if n == 0 then base else base ++ 35 ∷ decimal n
 

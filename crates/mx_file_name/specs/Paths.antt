@@ -1,25 +1,25 @@
--- The path in the text of a URL (RFC 3986, 3 and 3.3), as it stands there.
+-- The path in the text of a URL (RFC 3986, 3 and 3.3), as written.
 use Rattle.std.specs.Prelude.{ℕ, ◌==◌, nat_eq, Bool, not, List, drop, take_while, codes, reverse}
 use Rattle.std.specs.List.{list_any, prefix_len}
 
 abbrev pub is_among : List ℕ → ℕ → Bool
 is_among bytes b = list_any (λ other. nat_eq other b) bytes
 
--- what stands in front of the first of these bytes
+-- what is before the first of these bytes
 abbrev pub before : List ℕ → List ℕ → List ℕ
 before stops text = take_while (λ b. not (is_among stops b)) text
 
--- the first of these bytes, and what stands behind it
+-- the first of these bytes, and what follows it
 abbrev pub from : List ℕ → List ℕ → List ℕ
 from stops text = drop (prefix_len (λ b. not (is_among stops b)) text) text
 
--- what stands behind as many of these bytes as there are in front
+-- what follows as many of these bytes as there are in front
 abbrev pub behind : List ℕ → List ℕ → List ℕ
 behind skipped text = drop (prefix_len (is_among skipped) text) text
 
--- rule file-url-path: The path of a URL is found in its text, as it stands there (RFC 3986, section 3).
+-- rule file-url-path: The path of a URL is found in its text, as written (RFC 3986, section 3).
 --
--- Behind the colon of the scheme and the slashes stands the authority, up to a slash, a question mark or a number sign; then the path, up
+-- The authority follows the colon of the scheme and the slashes, up to a slash, a question mark or a number sign; then comes the path, up
 -- to the query or the fragment.
 unfoldable pub path_of : List ℕ → List ℕ
 path_of url = before (codes "?#") (from (codes "/?#") (behind (codes ":/") (from (codes ":") url)))

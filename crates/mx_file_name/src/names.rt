@@ -89,7 +89,7 @@ impl PartName {
     }
 }
 
-// A byte as it stands in a name.
+// A byte as it is in a name.
 fn kept(b: u8) -> u8
     ensures value { result ≡ kept b }
     ensures ascii { result < 128 }
@@ -148,7 +148,7 @@ pub(crate) fn base_name(alloc: Global, url: &[u8]) -> Result<String, OutOfMemory
     segment_name(alloc, front(last_segment(path_of(url)), MOST_LEN))
 }
 
-// A name with a number behind it.
+// A name with a number after it.
 fn numbered(alloc: Global, base: &str, number: u64) -> Result<String, OutOfMemory>
     ensures { IfOk result (λ name. string_bytes name ≡ numbered base.now number) }
 {
@@ -158,7 +158,7 @@ fn numbered(alloc: Global, base: &str, number: u64) -> Result<String, OutOfMemor
     Ok(format!(in alloc; "{base}#{number}")?)
 }
 
-// The name of a file, of what a URL gives and a number.
+// The name of a file, from what a URL gives and a number.
 pub(crate) fn named(alloc: Global, base: &str, number: u64) -> Result<FileName, OutOfMemory>
     requires { IsGiven base.now }
     ensures { IfOk result (λ name. name ≡ numbered base.now number) }
@@ -168,11 +168,11 @@ pub(crate) fn named(alloc: Global, base: &str, number: u64) -> Result<FileName, 
     })
 }
 
-/// The name that the text of a URL gives, with a number where it isn't 0: the last segment of the path as it stands there, percent signs
-/// and all, of at most 234 bytes; `index.html` where that is empty. A dot in front, and each byte that isn't visible ASCII, becomes `_`.
-/// The number stands behind a `#`, which no path of a URL has.
+/// The name that the text of a URL gives, with a number where it isn't 0: the last segment of the path as written, percent signs and all,
+/// of at most 234 bytes; `index.html` where that is empty. A dot in front, and each byte that isn't visible ASCII, becomes `_`. The number
+/// follows a `#`, which no path of a URL has.
 ///
-/// `OutOfMemory` comes where no room is had for it.
+/// Returns `OutOfMemory` where memory for it is refused.
 pub fn file_name(alloc: Global, url: &[u8], number: u64) -> Result<FileName, OutOfMemory>
     ensures { IfOk result (λ name. name ≡ numbered (base_name url.now) number) }
 {
@@ -182,7 +182,7 @@ pub fn file_name(alloc: Global, url: &[u8], number: u64) -> Result<FileName, Out
 
 /// The name of a part: of this process, and of this number.
 ///
-/// `OutOfMemory` comes where no room is had for it.
+/// Returns `OutOfMemory` where memory for it is refused.
 pub fn part_name(alloc: Global, process: u32, number: u64) -> Result<PartName, OutOfMemory>
     ensures { IfOk result (λ name. name ≡ part_of process number) }
 {

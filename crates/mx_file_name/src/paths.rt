@@ -1,9 +1,9 @@
-//! Where the path stands in the text of a URL.
+//! The path in the text of a URL.
 ghost use Rattle.std.specs.Prelude.{◌≡◌, ◌≤◌, not, length};
 ghost use Rattle.std.specs.List.{prefix_len};
 ghost use Rattle.mx_file_name.specs.Paths.{is_among, before, from, behind, path_of, last_segment};
 
-// How many bytes stand in front of the first of these.
+// How many bytes are before the first of these.
 fn len_before(text: &[u8], stops: &[u8]) -> usize
     ensures value { result ≡ prefix_len (λ b. not (is_among stops.now b)) text.now }
     ensures within { result ≤ length text.now }
@@ -15,7 +15,7 @@ fn len_before(text: &[u8], stops: &[u8]) -> usize
     len
 }
 
-// How many of these stand in front of all other bytes.
+// How many of these are before all other bytes.
 fn len_of(text: &[u8], skipped: &[u8]) -> usize
     ensures value { result ≡ prefix_len (is_among skipped.now) text.now }
     ensures within { result ≤ length text.now }
@@ -27,30 +27,30 @@ fn len_of(text: &[u8], skipped: &[u8]) -> usize
     len
 }
 
-// What stands in front of the first of these bytes.
+// What is before the first of these bytes.
 fn before<'a>(text: &'a [u8], stops: &[u8]) -> &'a [u8]
     ensures { result.now ≡ before stops.now text.now }
 {
     text.split_at(len_before(text, stops)).0
 }
 
-// The first of these bytes, and what stands behind it.
+// The first of these bytes, and what follows it.
 fn from<'a>(text: &'a [u8], stops: &[u8]) -> &'a [u8]
     ensures { result.now ≡ from stops.now text.now }
 {
     text.split_at(len_before(text, stops)).1
 }
 
-// What stands behind these bytes.
+// What follows these bytes.
 fn behind<'a>(text: &'a [u8], skipped: &[u8]) -> &'a [u8]
     ensures { result.now ≡ behind skipped.now text.now }
 {
     text.split_at(len_of(text, skipped)).1
 }
 
-// Read off the text, since a parser takes a last segment of two dots away. Any number of slashes is passed over, as in the URL Standard.
+// Taken from the text, since a parser removes a last segment of two dots. Any number of slashes is passed, as in the URL Standard.
 // rule file-url-path
-/// The path in the text of a URL, as it stands there (RFC 3986, 3): behind the colon of the scheme, the slashes and the authority, up to
+/// The path in the text of a URL, as written (RFC 3986, 3): after the colon of the scheme, the slashes and the authority, up to
 /// the query or the fragment. It is empty where the text has no colon, and where the authority is all that follows. Whether the text is
 /// a URL isn't asked.
 pub fn path_of(url: &[u8]) -> &[u8]
@@ -60,7 +60,7 @@ pub fn path_of(url: &[u8]) -> &[u8]
     before(from(authority, b"/?#"), b"?#")
 }
 
-/// What stands behind the last slash of a path.
+/// What follows the last slash of a path.
 pub(crate) fn last_segment(path: &[u8]) -> &[u8]
     ensures { result.now ≡ last_segment path.now }
 {

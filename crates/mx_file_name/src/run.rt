@@ -66,7 +66,7 @@ impl Names {
     // rule file-numbered-name
     /// The name of the next URL, by its text: with the number of the URLs before it that gave the same.
     ///
-    /// `OutOfMemory` comes where no room is had for it; then no name was given.
+    /// Returns `OutOfMemory` where memory for it is refused; then no name was given.
     pub fn next(&mut self, alloc: Global, url: &[u8]) -> Result<FileName, OutOfMemory>
         ensures name { IfOk result (λ name. name ≡ numbered (base_name url.now) (count_of self.old (base_name url.now))) }
         ensures noted { OnOk result (self.new ≡ self.old ++ base_name url.now ∷ []) }

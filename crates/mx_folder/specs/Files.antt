@@ -17,7 +17,7 @@ on_disk file = record { bytes = file.bytes; flushed = true }
 
 -- rule file-steps: What a name of a folder holds follows from what was done to it.
 --
--- the file under a name, after these steps, the newest first, in a folder that had what `found` tells
+-- the file under a name, after these steps, the newest first, in a folder that had what `found` says
 abbrev pub file : (List ℕ → Option File) → List Step → List ℕ → Option File
 file found [] name = found name
 file found (Created part ∷ before) name =

@@ -25,10 +25,10 @@ enum Done {
 }
 
 /// A folder in memory that was empty at first. Contracts see what was done to it, the newest first. It keeps the bytes of each call, and
-/// plays the calls again when it is asked what a name holds: it is for tests.
+/// replays the calls when it is asked what a name holds: it is for tests.
 ///
 /// A write takes at most so many bytes as it was made with, and the call of the number that it was made with fails, where the first has
-/// number 0. A call that finds no memory fails with `OutOfMemory`.
+/// number 0. A call that is refused memory fails with `OutOfMemory`.
 #[derive(Drop)]
 pub struct MemoryFolder {
     alloc: Global,
@@ -109,7 +109,7 @@ fn with_more(held: Option<Vec<u8>>, more: &[u8]) -> Result<Option<Vec<u8>>, Allo
     }
 }
 
-// What is kept of a call is what it did.
+// What a call did, from what is kept of it.
 fn step_of(done: &Done) -> Step
     ensures { result ≡ step_of done.now }
 {
@@ -127,8 +127,8 @@ fn step_of(done: &Done) -> Step
 }
 
 impl MemoryFolder {
-    /// An empty folder, the calls of which succeed but for that of the number `fails_at`, which gives `error`, if memory is had. A write
-    /// takes at most `most` bytes.
+    /// An empty folder, the calls of which succeed but for that of the number `fails_at`, which gives `error`, if memory is available. A
+    /// write takes at most `most` bytes.
     pub fn new(alloc: Global, most: usize, fails_at: u64, error: FolderError) -> MemoryFolder
         requires { 0 < most }
         ensures { result ≡ [] }
@@ -151,7 +151,7 @@ impl MemoryFolder {
 
     /// The bytes of the file of this name; `None` where there is none.
     ///
-    /// `OutOfMemory` comes where no room is had for them.
+    /// Returns `OutOfMemory` where memory for them is refused.
     pub fn held(&self, alloc: Global, name: &str) -> Result<Option<Vec<u8>>, OutOfMemory>
         ensures { IfOk result (λ held. option_map (λ v. v.items) held ≡ option_map (λ f. f.bytes) (file none self.now name.now)) }
     {
@@ -169,7 +169,7 @@ impl MemoryFolder {
         }
     }
 
-    // Whether the call that comes now is the one that fails.
+    // Whether the next call is the one that fails.
     fn is_refused(&mut self) -> bool
         ensures { self.new ≡ self.old }
     {

@@ -1,4 +1,4 @@
-//! Lists that contracts alone read, the newest first.
+//! Lists for contracts alone, the newest first.
 ghost use Rattle.std.specs.Prelude.{◌≡◌, [], ◌∷◌};
 
 use mx_types::History;

@@ -10,7 +10,7 @@ use crate::past::Past;
 pub enum Step {
     /// A new empty file under this name.
     Created(Past<u8>),
-    /// These bytes behind what the file of this name had.
+    /// These bytes after what the file of this name had.
     Appended(Past<u8>, Past<u8>),
     /// All that the file of this name has is on the disk.
     Flushed(Past<u8>),
@@ -26,7 +26,7 @@ pub enum Step {
     Refused(FolderError),
 }
 
-/// What is under a name. A link is followed to nothing: it is `Other`.
+/// What is under a name. A link isn't followed: it is `Other`.
 #[derive(Clone, Copy, PartialEq, Eq)]
 pub enum Kind {
     /// Nothing.

@@ -23,8 +23,8 @@ struct OpenPart<F> {
     file: F,
 }
 
-/// A folder of the system, one part of which is open at a time. Contracts see what it was told that the system did, the newest first; that
-/// the system did so, no contract can say. Nor does a clause say that a call of this folder makes the system call that its step names.
+/// A folder of the system, one part of which is open at a time. Contracts see what the system reported to have done, the newest first; no
+/// contract can say that the system did so. Nor does a clause say that a call of this folder makes the system call that its step names.
 #[derive(Drop)]
 pub struct SystemFolder<'a, R: Files> {
     alloc: Global,
@@ -190,7 +190,7 @@ impl<'a, R: Files> SystemFolder<'a, R> {
             None => false,
         };
         if is_open {
-            // What closing answers is lost: std's `File` reports nothing there.
+            // The result of the close is lost: std's `File` reports none.
             self.open = None;
         }
     }

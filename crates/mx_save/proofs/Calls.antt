@@ -54,7 +54,7 @@ part_removed result part old new e =
 pub part_refused : (error : FolderError) (part : List ℕ) (old between new : List Step) → PartMoments part old between → new ≡ Refused error ∷ between → PartMoments part old new
 part_refused error part old between new before e = part_step part old between new (Refused error) before e (λ h. h)
 
--- bytes behind a front of the bytes
+-- bytes after a prefix of the bytes
 pub front_on : (part bytes rest : List ℕ) (w n : ℕ) (old between new : List Step) → Appends part (take w bytes) old between → new ≡ Appended part (take n rest) ∷ between → rest ≡ drop w bytes
     → Appends part (take (w + n) bytes) old new
 front_on part bytes rest w n old between new before e at =
@@ -62,7 +62,7 @@ front_on part bytes rest w n old between new before e at =
     let all : take w bytes ++ take n rest ≡ take (w + n) bytes = ap (λ r. take w bytes ++ take n r) at ∙ sym (take-add w n bytes) in
     subst (λ (x : List ℕ). Appends part x old new) all (appends_more part (take w bytes) (take n rest) old between new before more)
 
--- a part of the body behind the parts before it
+-- a part of the body after the parts before it
 pub part_on : (part : List ℕ) (parts : List (List ℕ)) (i : ℕ) (bytes : List ℕ) (old between new : List Step) → i < length parts → slice_get parts i ≡ Some bytes
     → Appends part (content_of (take i parts)) old between → Appends part bytes between new → Appends part (content_of (take (i + 1) parts)) old new
 part_on part parts i bytes old between new small at before after =

@@ -12,7 +12,7 @@ content_of parts = flat_map (λ part. part) parts
 abbrev pub Holds : List ℕ → List ℕ → Bool → List Step → Type 0
 Holds name bytes flushed moment = (found : List ℕ → Option File) → file found moment name ≡ Some (record { bytes = bytes; flushed = flushed })
 
--- from old to new these bytes came behind what the file of this name had
+-- from old to new these bytes were added to what the file of this name had
 abbrev pub Appends : List ℕ → List ℕ → List Step → List Step → Type 0
 Appends name more old new = (bytes : List ℕ) → Holds name bytes false old → Holds name (bytes ++ more) false new
 

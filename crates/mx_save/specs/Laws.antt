@@ -8,7 +8,7 @@ use Rattle.mx_folder.specs.Moments.{AtEachMoment, MayBeLeft}
 use Rattle.mx_save.specs.Bodies.{content_of}
 use Rattle.mx_save.specs.Ledgers.{HasOnly}
 
--- Whatever a loss of power leaves under the name of a file, it is a body that was saved under it, whole, or might have been left there
+-- Whatever a loss of power leaves under the name of a file, it is a body that was saved under it, whole, or could have been left there
 -- before: where bodies are flushed.
 abbrev pub WholeAfterLossOfPower : Type 0 → Type 0
 WholeAfterLossOfPower B =

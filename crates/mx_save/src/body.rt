@@ -2,7 +2,7 @@
 ghost use Rattle.std.specs.Prelude.{◌≡◌, ◌<◌, ◌↔◌, ℕ, List, length, Some, IsSome, IfSome};
 ghost use Rattle.std.specs.List.{slice_get};
 
-/// A body, in parts, which are written from where they stand.
+/// A body, in parts, which are written as they are.
 pub trait Body: Drop {
     /// The bytes of each part, in order.
     ghost parts: { Self → List (List ℕ) };

@@ -4,7 +4,7 @@ use mx_folder::FolderError;
 use std::error::Error;
 use std::fmt;
 
-/// Why a body wasn't saved: at which call, and what the folder had against it.
+/// Why a body wasn't saved: at which call, and why the folder refused.
 #[derive(Clone, Copy, Debug, PartialEq, Eq)]
 pub enum SaveError {
     /// The part couldn't be made.
@@ -20,7 +20,7 @@ pub enum SaveError {
 }
 
 impl SaveError {
-    /// What the folder had against it, in words, with no capital and no full stop.
+    /// Why the folder refused, in words, with no capital and no full stop.
     pub fn words(self) -> &'static str {
         match self {
             SaveError::Create(error)

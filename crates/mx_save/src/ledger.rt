@@ -147,15 +147,15 @@ impl<F: Folder, B: Body> Ledger<F, B> {
         self.save_once(name, body)
     }
 
-    /// Looks what is under a name. A link isn't followed.
+    /// Looks up what is under a name. A link isn't followed.
     pub fn look(&mut self, name: &FileName) -> Result<Kind, FolderError>
         ensures { self.new ≡ record self.old { steps = done result (steps.Looked name.now) ∷ self.old.steps } }
     {
         self.folder.look(name)
     }
 
-    /// Ends the run: has the names of the folder on the disk, where bodies are flushed, and hands the folder back, in which all that was
-    /// saved still is.
+    /// Ends the run: flushes the names of the folder to the disk, where bodies are flushed, and hands the folder back, in which all that
+    /// was saved still is.
     pub fn finish(self) -> (F, Result<(), FolderError>)
         ensures run { IsLedger B.parts (record self { steps = F.steps result.0 }) }
         ensures asked { self.flush ≡ true → F.steps result.0 ≡ done result.1 steps.FolderFlushed ∷ self.steps }

@@ -9,7 +9,7 @@ use crate::error::SaveError;
 use mx_file_name::{FileName, PartName};
 use mx_folder::Folder;
 
-// Writes all of these bytes behind what the part has.
+// Writes all of these bytes at the end of the part.
 fn append_all<F: Folder>(folder: &mut F, part: &PartName, bytes: &[u8]) -> Result<(), SaveError>
     ensures written { OnOk result (Appends part.now bytes.now (F.steps folder.old) (F.steps folder.new)) }
     ensures any_moment { AtEachMoment (IsOnlyPart part.now (F.steps folder.old)) (F.steps folder.old) (F.steps folder.new) }
@@ -46,7 +46,7 @@ fn append_parts<F: Folder, B: Body>(
     Ok(())
 }
 
-// Has all that the part has on the disk, where that is asked for.
+// Flushes the part to the disk, where that is asked for.
 fn flush_part<F: Folder>(folder: &mut F, part: &PartName, flush: bool) -> Result<(), SaveError>
     ensures flushed { OnOk result (Flushes part.now flush (F.steps folder.old) (F.steps folder.new)) }
     ensures any_moment { AtEachMoment (IsOnlyPart part.now (F.steps folder.old)) (F.steps folder.old) (F.steps folder.new) }
@@ -62,7 +62,7 @@ fn flush_part<F: Folder>(folder: &mut F, part: &PartName, flush: bool) -> Result
     }
 }
 
-// Has the whole body in an empty part.
+// Writes the whole body into an empty part.
 fn fill_part<F: Folder, B: Body>(
     folder: &mut F,
     part: &PartName,
@@ -80,7 +80,7 @@ fn fill_part<F: Folder, B: Body>(
 }
 
 // rule file-refused-save
-// Takes the part away, if that can be done.
+// Removes the part, if that can be done.
 fn discard<F: Folder>(folder: &mut F, part: &PartName)
     ensures any_moment { AtEachMoment (IsOnlyPart part.now (F.steps folder.old)) (F.steps folder.old) (F.steps folder.new) }
     ensures grows { refusals (F.steps folder.old) ≤ refusals (F.steps folder.new) }
@@ -90,8 +90,8 @@ fn discard<F: Folder>(folder: &mut F, part: &PartName)
 
 // rule file-whole-body
 // rule file-refused-save
-/// Saves a body under a name: writes it under the name of the part, has it on the disk where `flush` says so, and gives it its name. What
-/// was under the name before is gone then; a moment earlier it is still there.
+/// Saves a body under a name: writes it under the name of the part, flushes it to the disk where `flush` says so, and gives it its name.
+/// What was under that name before stays until that moment.
 ///
 /// An error comes only where the folder refused a call. It leaves each file as it was, at each moment; the part stays behind only where
 /// the folder refused to remove it.

@@ -2,7 +2,7 @@ use Rattle.std.proofs.Common.{◌≡◌, ◌≤◌, take, drop}
 use Rattle.mx_file_name.specs.Paths.{last_segment}
 use Rattle.mx_file_name.proofs.paths.last_segment.Given as goal
 
--- what stands behind the last slash so far
+-- what follows the last slash so far
 abbrev pub invariant-loop-i : goal.invariant-loop-i
 invariant-loop-i l = record {
   within : l.start ≤ l.i;

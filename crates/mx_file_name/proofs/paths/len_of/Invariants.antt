@@ -3,7 +3,7 @@ use Rattle.std.specs.List.{prefix_len}
 use Rattle.mx_file_name.specs.Paths.{is_among}
 use Rattle.mx_file_name.proofs.paths.len_of.Given as goal
 
--- so many stand in front, and as many more as in front of the rest
+-- so many are in front, and as many more as in front of the rest
 abbrev pub invariant-loop-len : goal.invariant-loop-len
 invariant-loop-len l = record {
   within : l.len ≤ length l.text;

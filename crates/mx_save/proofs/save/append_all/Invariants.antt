@@ -4,7 +4,7 @@ use Rattle.mx_folder.specs.Moments.{AtEachMoment}
 use Rattle.mx_save.specs.Bodies.{Appends, IsOnlyPart}
 use Rattle.mx_save.proofs.save.append_all.Given as goal
 
--- a front of the bytes has come behind what the part had
+-- a prefix of the bytes was added to what the part had
 abbrev pub invariant-loop-written : goal.invariant-loop-written
 invariant-loop-written g l =
     let steps = g.F.Folder.steps in

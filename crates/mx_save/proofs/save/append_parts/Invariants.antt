@@ -4,7 +4,7 @@ use Rattle.mx_folder.specs.Moments.{AtEachMoment}
 use Rattle.mx_save.specs.Bodies.{content_of, Appends, IsOnlyPart}
 use Rattle.mx_save.proofs.save.append_parts.Given as goal
 
--- so many parts of the body have come behind what the part had
+-- so many parts of the body were added to what the part had
 abbrev pub invariant-loop-i : goal.invariant-loop-i
 invariant-loop-i g l =
     let steps = g.F.Folder.steps in
