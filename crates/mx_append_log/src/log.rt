@@ -1,4 +1,4 @@
-//! Where a list grows.
+//! The growing end of a list.
 ghost use Rattle.std.specs.Prelude.{◌≡◌, ◌++◌, ◌∷◌, [], None, length, MatchBool};
 
 use crate::mark::{CountedMark, LogMark};
@@ -7,8 +7,8 @@ use logbook::{Offer, Plain, Seen, Start, Word};
 use std::marker::Model;
 use std::sync::Wait;
 
-/// The list where it grows: its length, which one atomic step raises, and the mark of all of it. Contracts see its entries, and
-/// which list it is.
+/// The growing end of the list: its length, which one atomic step raises, and the mark of all of it. Contracts see its entries, and which
+/// list it is.
 #[derive(Drop)]
 pub struct AppendLog<T> {
     word: Word<T, u64, LogRule>,
@@ -70,7 +70,7 @@ impl<T> AppendLog<T> {
         self.count
     }
 
-    /// Puts an entry behind the others. False, and nothing changes, where the list has more entries than were seen here, or as many as
+    /// Appends an entry. False, and nothing changes, where the list has more entries than were seen here, or as many as
     /// it can have: 2^61. No clause says that it isn't false otherwise.
     pub fn try_add<X, M: Plain<X, T, u64>>(&mut self, about: &X) -> bool
         requires { M.state about.now ≡ None }
@@ -100,7 +100,7 @@ impl<T> AppendLog<T> {
         true
     }
 
-    /// Puts an entry behind the others. It would wait for ever where the list had more entries than were seen here, or as many as it can
+    /// Appends an entry. It would wait for ever where the list had more entries than were seen here, or as many as it can
     /// have; none are put in elsewhere.
     pub fn add<X, M: Plain<X, T, u64>, R: Wait>(&mut self, rt: &R, about: &X)
         requires { M.state about.now ≡ None }

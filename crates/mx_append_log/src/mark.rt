@@ -1,4 +1,4 @@
-//! Tokens of a list: how far it was seen, and which list it is.
+//! Tokens of a list: how much of it was seen, and which list it is.
 ghost use Rattle.std.specs.Prelude.{◌≡◌, length, MatchBool, nat_le};
 ghost use mathlib.Core.List.{IsPrefix};
 ghost use Rattle.mx_append_log.specs.Log.{AreOfOneList};
@@ -7,7 +7,7 @@ use crate::rule::LogRule;
 use logbook::Seen;
 use std::marker::Model;
 
-/// A beginning of the list that was reached. It has no size.
+/// A prefix of the list that was reached. It has no size.
 #[derive(Drop)]
 pub struct LogMark<T> {
     pub(crate) seen: Seen<T, u64, LogRule>,
@@ -21,7 +21,7 @@ impl<T> Model for LogMark<T> {
     ghost view = { λ m. record { entries = m.seen.log; book = m.seen.book } };
 }
 
-/// A beginning of the list that was reached, with the number of its entries.
+/// A prefix of the list that was reached, with the number of its entries.
 #[derive(Drop)]
 pub struct CountedMark<T> {
     pub(crate) count: u64,
@@ -59,7 +59,7 @@ impl<T> LogMark<T> {
         self.seen.learn(&other.seen);
     }
 
-    /// Of two marks of one list, one begins the other.
+    /// Of two marks of one list, one is a prefix of the other.
     pub fn are_of_one_list(&self, other: &LogMark<T>)
         requires { other.now.book ≡ self.now.book }
         ensures { AreOfOneList self.now.entries other.now.entries }
@@ -88,8 +88,7 @@ impl<T> CountedMark<T> {
     }
 
     // rule board-marks
-    /// Whether the other, a mark of the same list, has no more entries. Of two beginnings of one list the shorter begins the
-    /// longer.
+    /// Whether the other, a mark of the same list, has no more entries. Of two prefixes of one list the shorter is a prefix of the longer.
     pub fn reaches(&self, other: &CountedMark<T>) -> bool
         requires { other.now.book ≡ self.now.book }
         ensures begins { MatchBool result (IsPrefix other.now.entries self.now.entries) (IsPrefix self.now.entries other.now.entries) }

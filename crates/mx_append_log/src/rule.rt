@@ -2,7 +2,7 @@
 
 use logbook::{Gain, Plain, Play, Rule};
 
-/// What always holds of the list: its word is its length. Those who step keep nothing beside it.
+/// The invariant of the list: its word is its length. Those who step keep nothing beside it.
 pub struct LogRule;
 
 impl<T> Rule<T, u64> for LogRule {
@@ -23,7 +23,7 @@ impl<T> Rule<T, u64> for LogRule {
     ghost first = { [] };
 }
 
-/// The one kind of step: an entry is put behind all that were seen.
+/// The one kind of step: an entry is put after all that were seen.
 pub struct Append;
 
 impl<T> Play<T, u64> for Append {

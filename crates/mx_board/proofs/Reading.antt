@@ -1,4 +1,4 @@
--- What a read tells a reader.
+-- What a read shows a reader.
 use Rattle.std.proofs.Common.{◌≡◌, ◌≢◌, inl, inr, ◌∙◌, sym, refl, ap, subst, List, [], ◌∷◌, ◌++◌, append-nil, length, length-append, Bool, true, false, Option, Some, None, MatchBool, arith}
 use Rattle.std.specs.Prelude.{take}
 use Rattle.std.specs.Option.{option_to_list}
@@ -14,7 +14,7 @@ use Rattle.mx_board.specs.Board.{mark_of, ReaderState, ConfirmsAllButLast, Reads
 use Rattle.mx_board.specs.Published.{Shown, HasSeen, CaughtUp}
 use Rattle.mx_append_log.proofs.Prefixes.{prefix_self, prefix_trans}
 
--- a reader with a mark, and perhaps an event behind it
+-- a reader with a mark, and perhaps an event after it
 abbrev pub reader_at : Who → List Event → Option Event → Book → ReaderState
 reader_at w xs o b = record { who = w; seen = xs ++ option_to_list o; book = b; confirmed = length xs }
 
@@ -22,7 +22,7 @@ pub but_last : (w : Who) (xs : List Event) (o : Option Event) (b : Book) → Con
 but_last w xs None b = let all = ap length (append-nil xs) in (omega (arith, all), omega (arith, all))
 but_last w xs (Some e) b = let all = length-append xs (e ∷ []) in (omega (arith, all), omega (arith, all))
 
--- what an enter tells of a version whose journal is j: it begins with what was seen, is legal, and the place has then seen it
+-- what an enter shows of a version whose journal is j: it begins with what was seen, is legal, and the place has then seen it
 pub record Shows (m : Mark Event) (j : List Event) (b : Book) (w : ReaderView) : Type 0 where
   pub later : IsPrefix m.entries j
   pub legal : is_legal j ≡ true
@@ -52,7 +52,7 @@ reads_more w xs ys o p a b later more legal book own =
     let all = ap length later.1 in
     record { who = refl; book = book; later = later; legal = legal; own = own; confirmed = omega (arith, was.0, is.1, longer, all, more); but_last = is }
 
--- a list with an event behind it that may be another's
+-- a list with an event after it that may be another's
 with_tail : (xs j : List Event) (o : Option Event) → IsPrefix xs j → BeginsButLast (xs ++ option_to_list o) j
 with_tail xs j None p = inl (subst (λ l. IsPrefix l j) (sym (append-nil xs)) p)
 with_tail xs j (Some e) p = inr (xs, e, refl, p)

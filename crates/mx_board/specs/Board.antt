@@ -51,11 +51,11 @@ pub record Reads (r t : ReaderState) : Type 0 where
   pub confirmed : r.confirmed ≤ t.confirmed
   pub but_last : ConfirmsAllButLast t
 
--- the list, or all of it but its last event, begins the other
+-- the list, or all of it but its last event, is a prefix of the other
 abbrev pub BeginsButLast : List Event → List Event → Type 0
 BeginsButLast xs j = IsPrefix xs j ⊎ ((ys : List Event) × (e : Event) × (xs ≡ ys ++ e ∷ []) × IsPrefix ys j)
 
--- two lists, all but the last event of each, are beginnings of one list
+-- two lists, all but the last event of each, are prefixes of one list
 abbrev pub AreOfOneJournal : List Event → List Event → Type 0
 AreOfOneJournal xs ys = (j : List Event) × BeginsButLast xs j × BeginsButLast ys j
 

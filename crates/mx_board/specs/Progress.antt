@@ -22,7 +22,7 @@ abbrev pub greatest : ℕ → List Note → ℕ
 greatest k [] = 0
 greatest k (n ∷ ns) = max (if n.slot == k then n.word else 0) (greatest k ns)
 
--- a seat: of which table, of how many of the table's seats it was joined, and what it has noted and read
+-- a seat: its table, how many of the table's seats are joined in it, and what it has noted and read
 pub record NoteState : Type 0 where
   pub of : TableId
   pub seats : ℕ
@@ -47,7 +47,7 @@ pub record ReadsWord (s : NoteState) (k x : ℕ) : Type 0 where
   pub read : greatest k s.read ≤ x
   pub whole : s.joined ≡ s.seats → x ≡ greatest k s.noted
 
--- The rule of the table, and what its steps tell. Private functions alone cite what follows.
+-- The rule of the table, and what its steps show. Private functions alone cite what follows.
 
 abbrev pub all_noted : List NoteView → List Note
 all_noted views = flat_map (λ v. v.noted) views

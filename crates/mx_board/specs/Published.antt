@@ -11,7 +11,7 @@ use Rattle.mx_board.specs.Board.{mark_of}
 use Rattle.mx_board.specs.declared.view.ReaderView.{ReaderView}
 use Rattle.mx_board.specs.declared.operation.Operation.{Operation}
 
--- a version: the table, and the journal that it stands for
+-- a version: the table, and its journal
 abbrev pub Shown : Type 0
 Shown = TableView × Mark Event
 
@@ -46,7 +46,7 @@ pub record Agrees (x : Shown) (v : ReaderView) : Type 0 where
 abbrev pub Keeps : Shown → List ReaderView → Type 0
 Keeps x views = IsSound x × ((place : ℕ) (v : ReaderView) → get_elem? views place ≡ some v → Agrees x v)
 
--- what an enter and a publish tell: the version agreed with what was seen, is sound, and was then seen
+-- what an enter and a publish show: the version agreed with what was seen, is sound, and was then seen
 abbrev pub CaughtUp : ReaderView → Shown → ReaderView → Type 0
 CaughtUp v x w = Agrees x v × IsSound x × (w ≡ view_of x.1)
 

@@ -1,10 +1,10 @@
-//! How far a transfer is, by the progress word of its addition's slot.
+//! The progress of a transfer, by the progress word of its addition's slot.
 ghost use Rattle.std.specs.Prelude.{◌≡◌, if◌then◌else◌, nat_lt};
 ghost use Rattle.mx_board.specs.Answer.{progress_of};
 
 use mx_types::Ticket;
 
-/// How far a handle's transfer is.
+/// The progress of a handle's transfer.
 #[derive(Clone, Copy, PartialEq, Eq)]
 pub enum Progress {
     /// The ticket of its addition, and how many bytes of its response were received; 0 where none were noted for it.
@@ -16,7 +16,7 @@ pub enum Progress {
 }
 
 // rule multi-progress
-/// What a word of the ticket `noted` and of so many bytes says of a ticket.
+/// The progress of a ticket by a word that has the ticket `noted` and so many bytes.
 pub fn progress_by(ticket: Ticket, noted: Ticket, count: u32) -> Progress
     ensures { result ≡ progress_of ticket noted count }
 {
@@ -26,7 +26,7 @@ pub fn progress_by(ticket: Ticket, noted: Ticket, count: u32) -> Progress
     Progress::Bytes(ticket, count)
 }
 
-// What the word of another ticket says of a ticket: nothing was noted for it yet, or its slot is the other's by now.
+// The progress of a ticket by the word of another: nothing was noted for it yet, or its slot is the other's by now.
 fn progress_by_another(ticket: Ticket, noted: Ticket) -> Progress
     ensures { result ≡ (if nat_lt noted.0 ticket.0 then Progress.Bytes ticket 0 else Progress.Replaced) }
 {

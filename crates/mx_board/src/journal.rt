@@ -1,5 +1,5 @@
 use mx_append_log::CountedMark;
 use mx_types::Event;
 
-/// A beginning of a journal that was reached, with the number of its events. It takes no lock and holds no event.
+/// A prefix of a journal that was reached, with the number of its events. It takes no lock and holds no event.
 pub type JournalMark = CountedMark<Event>;

@@ -76,7 +76,7 @@ impl Model for ProgressTable {
     ghost invariant = { λ t. (t.table.shared.table_id.words ≡ most_handles) × (t.table.shared.table_id.slots ≡ 0) };
 }
 
-/// The right to note and to read progress words. Contracts see of which table it is, and what it has noted and read.
+/// The right to note and to read progress words. Contracts see its table, and what it has noted and read.
 #[derive(Drop)]
 pub struct NoteSeat {
     seat: Seat<(), NoteView>,

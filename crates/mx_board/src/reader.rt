@@ -30,7 +30,7 @@ use std::marker::Model;
 pub struct BoardReader {
     place: Option<VersionReader>,
     mark: JournalMark,
-    /// The event behind the mark, which a read alone has shown.
+    /// The event after the mark, which only a read has shown.
     unconfirmed: Option<Event>,
     who: Who,
     made: u32,
@@ -90,7 +90,7 @@ fn look<Q: Query>(
     }
 }
 
-// Whether the event stands behind the mark in the journal.
+// Whether the event follows the mark in the journal.
 fn stands_next(event: Event, next: Option<Event>, mark: &JournalMark, all: &JournalMark) -> bool
     requires next { next ≡ slice_get all.now.entries (length mark.now.entries) }
     requires begins { IsPrefix mark.now.entries all.now.entries }
@@ -145,7 +145,7 @@ impl BoardReader {
         self.mark.len()
     }
 
-    /// Whether the journal of `all` begins with what the reader has seen. `next` is its event behind those that are
+    /// Whether the journal of `all` begins with what the reader has seen. `next` is its event after those that are
     /// confirmed.
     pub fn is_behind(&self, all: &JournalMark, next: Option<Event>) -> bool
         requires book { self.now.book ≡ all.now.book }
@@ -208,14 +208,14 @@ impl BoardReader {
         self.ask(&Running)
     }
 
-    /// Where a handle stands.
+    /// The state of a handle.
     pub fn state(&mut self, handle: HandleId) -> Option<State>
         ensures { MatchOption result (self.new ≡ self.old) (λ a. Reads self.old self.new × (a ≡ state_of handle self.new.seen)) }
     {
         self.ask(&StateOf(handle))
     }
 
-    /// What a worker is told of a ticket.
+    /// What a worker sees of a ticket.
     pub fn look(&mut self, ticket: Ticket) -> Option<Look>
         ensures { MatchOption result (self.new ≡ self.old) (λ a. Reads self.old self.new × (a ≡ look_of ticket self.new.seen)) }
     {
@@ -281,8 +281,8 @@ impl BoardWriter {
     }
 }
 
-/// Of what two readers of one journal have seen, but for the last event of each, one begins the other; and of what is
-/// confirmed outright.
+/// Of what two readers of one journal have seen, but for the last event of each, one is a prefix of the other. For what is confirmed this
+/// holds for the last events, too.
 pub fn are_of_one_journal(one: &BoardReader, two: &BoardReader)
     requires { one.now.book ≡ two.now.book }
     ensures seen { AreOfOneJournal one.now.seen two.now.seen }

@@ -1,4 +1,4 @@
-//! What readers take: a table, and the journal that it stands for.
+//! What readers take: a table, and its journal.
 ghost use Rattle.std.specs.Prelude.{◌≡◌, ◌++◌, IfOk};
 ghost use Rattle.std.specs.Option.{option_to_list};
 ghost use Rattle.mx_history.specs.Table.{empty_table};
@@ -17,7 +17,7 @@ use mx_types::{Event, OutOfMemory};
 use std::alloc::{AllocError, Global};
 use std::marker::Model;
 
-/// The table of a journal, which is that of the mark and, where there is one, the event behind it. (The mark of all the
+/// The table of a journal, which is that of the mark and, where there is one, the event after it. (The mark of all the
 /// events is made only once their operation waits, so a version can't have it.)
 #[derive(Drop)]
 pub struct Version {
@@ -49,7 +49,7 @@ impl Version {
         })
     }
 
-    /// A mark, and the event behind it: together the version's journal.
+    /// A mark, and the event after it: together the version's journal.
     pub fn journal(&self) -> (JournalMark, Option<Event>)
         ensures { mark_of (result.0.entries ++ option_to_list result.1) result.0.book ≡ self.now.1 }
     {
@@ -100,7 +100,7 @@ impl Protocol<Version, ReaderView> for BoardRule {
     ghost first = { first_view };
 }
 
-/// What an enter and a publish tell.
+/// What an enter and a publish show.
 pub struct CatchesUp;
 
 impl Outcome<Version, ReaderView> for CatchesUp {
@@ -109,7 +109,7 @@ impl Outcome<Version, ReaderView> for CatchesUp {
     ghost then = { λ v x y w. CaughtUp v y w };
 }
 
-/// What the writer knows is told to a new reader.
+/// A new reader learns what the writer knows.
 pub struct Tells;
 
 impl Split<ReaderView> for Tells {

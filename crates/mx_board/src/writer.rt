@@ -25,12 +25,12 @@ use std::sync::Wait;
 /// The log of a multi handle, which publishes the table of its events to readers. Contracts see the events that were
 /// appended, those that are published, and which journal it is.
 ///
-/// One that is let go keeps its memory: `close` gives it back.
+/// One that is dropped keeps its memory: `close` frees it.
 #[derive(Drop)]
 pub struct BoardWriter {
     writer: ManuallyDrop<VersionWriter>,
     journal: AppendLog<Event>,
-    /// An event was refused once its operation waited, which doesn't happen: none is taken any more.
+    /// An event was refused after its operation was queued, which doesn't happen: no further one is taken.
     broken: bool,
 }
 
@@ -47,14 +47,14 @@ impl Model for BoardWriter {
     ghost invariant = { λ w. IsBoard (manually_drop_value w.writer).desk.shown.value (manually_drop_value w.writer).desk.place.me.0.client (drop (manually_drop_value w.writer).behind (manually_drop_value w.writer).log.items) w.journal w.broken };
 }
 
-// A writer of two copies isn't `Drop`: it ends by `take`, which waits.
+// The writer of the two copies isn't `Drop`: it ends by `take`, which waits.
 fn hold(writer: VersionWriter) -> ManuallyDrop<VersionWriter>
     ensures { manually_drop_value result ≡ writer }
 {
     unsafe { ManuallyDrop::new_unchecked(writer) }
 }
 
-// Publishes what waits, so that the version stands for these events.
+// Publishes what waits, so that the version is that of these events.
 fn publish_all<R: Wait>(
     rt: &R,
     writer: VersionWriter,
@@ -85,7 +85,7 @@ pub fn board<R: Wait>(rt: &R, alloc: Global, readers: usize) -> Result<BoardWrit
     let Ok(writer) = VersionWriter::new(alloc, first, second, readers) else {
         return Err(OutOfMemory);
     };
-    // The writer's own place is told of the empty journal.
+    // The writer's own place sees the empty journal.
     let events = Snapshot::of(&journal);
     let writer = publish_all(rt, writer, &events);
     Ok(BoardWriter {

@@ -21,7 +21,7 @@ use Rattle.mx_history.specs.Answers.{Answer, only, ticket_of, next_ticket, are_s
 use Rattle.mx_history.specs.Receipts.{comes_with_event, lacks_memory, is_poll, mark, Fits}
 use Rattle.mx_history.specs.Laws.{AnswersFit}
 
--- an answer's reply tells whether it has an event, and is never that of missing memory
+-- an answer's reply says whether it has an event, and is never `OutOfMemory`
 abbrev pub Tells : Answer → Type 0
 Tells a = (comes_with_event a.0 ≡ is_some a.1) × (lacks_memory a.0 ≡ false)
 
@@ -138,7 +138,7 @@ fits_answer opening w earlier c r j k is left ready = go (answer opening j c).1 
       (fits_made opening w earlier c r j e (pair_is (answer opening j c) r e is made) (ap comes_with_event is ∙ t.0 ∙ ap is_some made) (ap lacks_memory is ∙ t.1)
       (λ h. ap (is_ready (mark opening.from earlier)) same ∙ ready h))
 
--- with no memory for the event
+-- memory for the event was refused
 fits_no_memory : (opening : Opening) (w : Who) (earlier : List Receipt) (c : Call) (j k : List Event) → IsSome (answer opening j c).1 → k ≡ j
     → (is_poll c ≡ true → is_ready (mark opening.from earlier) k ≡ true) → Fits opening w earlier (At k c reply.OutOfMemory) k
 fits_no_memory opening w earlier c j k some same ready = record {

@@ -1,4 +1,4 @@
--- Lists of events read off by plain programs.
+-- Executable definitions over lists of events.
 use Rattle.std.proofs.Common.{◌≡◌, ℕ, ◌+◌, ◌<◌, ◌≤◌, ◌∙◌, sym, refl, ap, arith, List, [], ◌∷◌, ◌++◌, length, length-append, Bool, true, false, cond, map, take, drop, get_or}
 use Rattle.std.specs.Prelude.{max, not, ◌&&◌, ◌||◌, nat_lt, nat_le, Option, Some, None}
 use Rattle.std.specs.List.{filter, find, list_any, sum_by}

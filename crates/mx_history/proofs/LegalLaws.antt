@@ -266,7 +266,7 @@ each_at_most_once j l t = (
 abbrev IsGone : Ticket → List Event → Type 0
 IsGone t f = (has_ticket t (tickets f) ≡ false) × (t.0 < beyond f)
 
--- a ticket that stands in the list is another one
+-- a ticket that is in the list is another one
 other : (t u : Ticket) (f : List Event) → IsGone t f → has_ticket u (tickets f) ≡ true → same_ticket t u ≡ false
 other t u f g h = false_from_ne_true _ (λ s. false≢true (sym g.0 ∙ ap (λ v. has_ticket v (tickets f)) (same-is t u s) ∙ h))
 

@@ -94,7 +94,7 @@ occurs-only p t test about is (e ∷ j) = go (is_of_such p e.what) refl (occurs-
     go true k r = ap (λ b. test e.what || b) r
     go false k r = r ∙ sym (ap (λ b. b || occurs test j) (off_of p t test about is e.what k))
 
--- 2. What stands, of such tickets.
+-- 2. What stays, of such tickets.
 
 one_kept : {X : Type 0} (q : X → Bool) (x : X) (b : Bool) → q x ≡ true → cond b (x ∷ []) [] ≡ filter q (cond b (x ∷ []) [])
 one_kept q x true is = sym (ap (λ c. cond c (x ∷ []) []) is)
@@ -291,7 +291,7 @@ legal-only p f (e ∷ j) h =
         subst (λ g. is_legal_after g (only_of p j) ≡ true) (append-nil (only_of p f))
         (subst (λ c. is_legal_after (only_of p f ++ cond c (e ∷ []) []) (only_of p j) ≡ true) is r)
 
--- 4. How far an addition is.
+-- 4. The phase of an addition.
 
 end_by-only : (p : Ticket → Bool) (t : Ticket) → p t ≡ true → (e : What) (j : List Event) → end_by t e (only_of p j) ≡ end_by t e j
 end_by-only p t is (what.Done u c n) j =

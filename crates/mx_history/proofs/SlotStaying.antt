@@ -21,7 +21,7 @@ use Rattle.mx_history.proofs.Tickets.{same-sym}
 abbrev at_slots : Ticket → List (Ticket × ℕ) → Option ℕ
 at_slots t s = option_map (λ x. x.1) (find (λ x. same_ticket t x.0) s)
 
--- another ticket's slot behind the others
+-- another ticket's slot after the others
 at_more : (t : Ticket) (s : List (Ticket × ℕ)) (x : Ticket × ℕ) → same_ticket t x.0 ≡ false → at_slots t (s ++ x ∷ []) ≡ at_slots t s
 at_more t [] x h = ap (λ b. option_map (λ (y : Ticket × ℕ). y.1) (cond {A = Option (Ticket × ℕ)} b (Some x) None)) h
 at_more t (y ∷ s) x h = go (same_ticket t y.0) (at_more t s x h) where

@@ -1,4 +1,4 @@
--- The state of an added handle, in words of what waits and what runs.
+-- The state of an added handle, by what waits and what runs.
 use Rattle.std.proofs.Common.{◌≡◌, ◌∙◌, sym, refl, ap, subst, List, [], ◌∷◌, ◌++◌, Bool, true, false, cond}
 use Rattle.std.specs.Prelude.{not, ◌||◌, Option, Some, None}
 use Rattle.std.specs.List.{filter, find}
@@ -101,7 +101,7 @@ says_waiting j l t has = go (find (λ m. same_ticket t m.ticket) (waiting j)) re
 abbrev state_by : List Event → Option Ticket → State
 state_by j o = elim o [ None ↦ state.NotAdded | Some u ↦ state_at u (phase_of u j) ]
 
--- what a phase's state says, where the phase tells what runs and what is paused
+-- what a phase's state says, where the phase says what runs and what is paused
 said : (j : List Event) (t : Ticket) (p : Phase) → has_ticket t (running j) ≡ is_open p → has_ticket t (paused j) ≡ is_paused p → says_done (state_at t p) ≡ waiting_code t j
     → IsStateOf j t (state_at t p)
 said j t phase.Running r h w = record { named = refl; runs = rw (r, h) refl; held = sym h; waits = w; told = rw (r, h) refl }

@@ -35,7 +35,7 @@ ticket_of h j = option_map (λ a. a.ticket) (find (λ a. same_handle h a.handle)
 abbrev pub handle_of : Ticket → List Event → Option HandleId
 handle_of t j = option_map (λ a. a.handle) (find (λ a. same_ticket t a.ticket) (added j))
 
--- where the addition stands
+-- the state of the addition
 abbrev pub state_at : Ticket → Phase → State
 state_at t phase.Running = state.Running t
 state_at t phase.Paused = state.Paused t
@@ -45,7 +45,7 @@ state_at t (phase.Read code) = state.Read t code
 abbrev pub state_of : HandleId → List Event → State
 state_of h j = elim (ticket_of h j) [ None ↦ state.NotAdded | Some t ↦ state_at t (phase_of t j) ]
 
--- what a worker is told of a ticket
+-- what a worker sees of a ticket
 abbrev pub look_of : Ticket → List Event → Look
 look_of t j =
     (if not (has_ticket t (running j)) then look.Gone
@@ -127,14 +127,14 @@ answer opening j (call.Finish t code n) =
     (if has_ticket t (running j) then (reply.Recorded, Some (what.Done t code n)) else only reply.Stale)
 answer opening j (call.Look t) = only (reply.Look (look_of t j))
 
--- rule core-poll: A poll may return where a wakeup or a completion is in the journal behind its mark. Its caller then moves the mark to the
+-- rule core-poll: A poll may return where a wakeup or a completion is in the journal after its mark. Its caller then moves the mark to the
 -- journal's end, so that several wakeups count as one.
 abbrev pub is_ready : ℕ → List Event → Bool
 is_ready mark j = occurs wakes (drop mark j)
 
 -- rule multi-out-of-memory: A call that is refused memory makes no event. Made again with memory, it answers what it would have answered.
 --
--- The call was answered after j, and left k: with its event, made by the caller; or with no event; or an event had no memory.
+-- The call was answered after j, and left k: with its event, made by the caller; or with no event; or its event was refused memory.
 abbrev pub Answers : Opening → Who → Call → List Event → Reply → List Event → Type 0
 Answers opening who call j reply.OutOfMemory k = IsSome (answer opening j call).1 × (k ≡ j)
 Answers opening who call j r k =

@@ -1,4 +1,4 @@
--- How the plain programs hand out what the definitions speak of.
+-- How the executable definitions return the values of the definitions.
 use Rattle.std.specs.Prelude.{ℕ}
 use Rattle.mx_types.specs.declared.code.Code.{Code}
 use Rattle.mx_types.specs.declared.names.HandleId.{HandleId}

@@ -1,5 +1,5 @@
 -- What a multi handle is after a list of events (libcurl-multi(3), curl_multi_add_handle(3), curl_multi_remove_handle(3),
--- curl_multi_info_read(3), curl_multi_get_handles(3), curl_multi_wakeup(3)). Everything is read off the whole list.
+-- curl_multi_info_read(3), curl_multi_get_handles(3), curl_multi_wakeup(3)). Everything is computed from the whole list.
 -- In `e ∷ later` the list `later` has the events after e.
 use Rattle.std.specs.Prelude.{ℕ, max, ◌+◌, ◌<◌, ◌≤◌, ◌≡◌, ◌==◌, nat_lt, nat_le, Bool, true, false, not, ◌&&◌, ◌||◌, if◌then◌else◌, List, [], ◌∷◌, ◌++◌, length, map, Option, Some, None}
 use Rattle.std.specs.List.{AllByRecursion, filter, list_any, count_by, sum_by}
@@ -195,7 +195,7 @@ pub record HasRoomForDue (history : ℕ) (j : List Event) : Type 0 where
   pub room : length j + due j ≤ history
   pub limit : history ≤ most_history
 
--- 5. How far one addition is, and where a poll may return.
+-- 5. The phase of one addition, and where a poll may return.
 
 -- the code that the ticket's transfer ended with, and whether its message was read after that
 abbrev pub end_by : Ticket → What → List Event → Option (Code × Bool)

@@ -28,7 +28,7 @@ use Rattle.mx_types.specs.declared.reply.State.TheVariants as state
 abbrev pub then : List Event → Who → What → List Event
 then j w e = j ++ record { who = w; what = e } ∷ []
 
--- what comes first in a legal history is one
+-- a prefix of a legal history is legal
 abbrev pub PrefixIsLegal : Type 0
 PrefixIsLegal = (j k : List Event) → is_legal (j ++ k) ≡ true → is_legal j ≡ true
 
@@ -76,12 +76,12 @@ abbrev pub NeverRunsAgain : Type 0
 NeverRunsAgain = (f later : List Event) (t : Ticket) → is_legal (f ++ later) ≡ true → t.0 < beyond f → has_ticket t (running f) ≡ false
     → has_ticket t (running (f ++ later)) ≡ false
 
--- no handle stands twice
+-- no handle is there twice
 abbrev pub IsOnceEach : List HandleId → Type 0
 IsOnceEach [] = Unit {0}
 IsOnceEach (h ∷ hs) = (list_any (same_handle h) hs ≡ false) × IsOnceEach hs
 
--- no ticket stands twice
+-- no ticket is there twice
 abbrev pub IsOncePerTicket : List Ticket → Type 0
 IsOncePerTicket [] = Unit {0}
 IsOncePerTicket (t ∷ ts) = (has_ticket t ts ≡ false) × IsOncePerTicket ts
@@ -142,7 +142,7 @@ state_ticket (state.Paused t) = Some t
 state_ticket (state.Done t _) = Some t
 state_ticket (state.Read t _) = Some t
 
--- what a worker is told of a transfer in this state
+-- what a worker sees of a transfer in this state
 abbrev pub look_in : State → Look
 look_in (state.Running _) = look.Go
 look_in (state.Paused _) = look.Paused
@@ -153,7 +153,7 @@ abbrev pub waiting_code : Ticket → List Event → Option Code
 waiting_code t j = option_map (λ m. m.code) (find (λ m. same_ticket t m.ticket) (waiting j))
 
 -- the state is Running exactly where the ticket runs unpaused, Paused exactly where it is paused, and Done, with its
--- code, exactly where its message waits; and a worker is told what agrees with that
+-- code, exactly where its message waits; and what a worker sees agrees with that
 pub record IsStateOf (j : List Event) (t : Ticket) (s : State) : Type 0 where
   pub named : state_ticket s ≡ Some t
   pub runs : says_running s ≡ (has_ticket t (running j) && not (has_ticket t (paused j)))
@@ -161,7 +161,7 @@ pub record IsStateOf (j : List Event) (t : Ticket) (s : State) : Type 0 where
   pub waits : says_done s ≡ waiting_code t j
   pub told : look_of t j ≡ look_in s
 
--- the state of a handle that is added, and what a worker is told of its ticket
+-- the state of a handle that is added, and what a worker sees of its ticket
 abbrev pub StateAndLookAgree : Type 0
 StateAndLookAgree = (j : List Event) → is_legal j ≡ true → (h : HandleId) (t : Ticket) → Some t ≡ ticket_of h j → IsStateOf j t (state_of h j)
 
@@ -169,7 +169,7 @@ StateAndLookAgree = (j : List Event) → is_legal j ≡ true → (h : HandleId) 
 abbrev pub ReadyStays : Type 0
 ReadyStays = (mark : ℕ) (j k : List Event) → is_ready mark j ≡ true → is_ready mark (j ++ k) ≡ true
 
--- no slot stands twice
+-- no slot is there twice
 abbrev pub IsOncePerSlot : List (Ticket × ℕ) → Type 0
 IsOncePerSlot [] = Unit {0}
 IsOncePerSlot (s ∷ slots) = (has_slot s.1 slots ≡ false) × IsOncePerSlot slots
@@ -198,13 +198,13 @@ abbrev pub AdditionTakesLeastSlot : Type 0
 AdditionTakesLeastSlot = (j : List Event) (w : Who) (h : HandleId) (t : Ticket) → is_legal (then j w (what.Added h t)) ≡ true
     → IsSomeAnd (slot_of t (then j w (what.Added h t))) (IsLeastFree (slots j))
 
--- whether a receipt fits is told by the events before its cut
+-- whether a receipt fits depends on the events before its cut alone
 abbrev pub FitsByItsCut : Type 0
 FitsByItsCut = (opening : Opening) (w : Who) (earlier : List Receipt) (r : Receipt) (j k : List Event) → take r.cut j ≡ take r.cut k
     → Fits opening w earlier r j → Fits opening w earlier r k
 
--- where cuts rise along the receipts with an event, from a place in the journal on, an event of the maker stands before each,
--- and they are as many as the maker's events behind that place, then these are those events, each once, in order
+-- where cuts rise along the receipts with an event, from a place in the journal on, an event of the maker is before each, and they are as
+-- many as the maker's events after that place, then these are those events, each once, in order
 abbrev pub EachOnceByCount : Type 0
 EachOnceByCount = (from : ℕ) (w : Who) (mine : List Receipt) (j : List Event) → CutsRise from (with_events mine) → AllByRecursion (IsOfMaker w j) (with_events mine)
     → length (with_events mine) ≡ made_by w (drop from j) → events_by w (drop from j) ≡ events_of (with_events mine) j
@@ -214,7 +214,7 @@ abbrev pub AnswersFit : Type 0
 AnswersFit = (opening : Opening) (w : Who) (earlier : List Receipt) (call : Call) (reply : Reply) (j k : List Event) → Answers opening w call j reply k
     → (is_poll call ≡ true → is_ready (mark opening.from earlier) k ≡ true) → Fits opening w earlier (record { cut = length k; call = call; reply = reply }) k
 
--- the table takes in what may follow, and is then the table with that event behind the others
+-- the table takes in what may follow, and is then the table with that event after the others
 abbrev pub TableFollows : Type 0
 TableFollows = (j : List Event) (t : TableView) (e : Event) → IsTableOf j t → HasCounters t.makers → may_follow j e.what ≡ true → length j < 4294967295
     → IsTableOf (j ++ e ∷ []) (table_after t e) × HasCounters (table_after t e).makers
@@ -231,7 +231,7 @@ CallAddsAtMostOne = (opening : Opening) (w : Who) (call : Call) (reply : Reply) 
 abbrev pub PlacedStays : Type 0
 PlacedStays = (opening : Opening) (w : Who) (mine : List Receipt) (j k : List Event) → IsPlaced opening w mine j → IsPrefix j k → made_by w k ≡ made_by w j → IsPlaced opening w mine k
 
--- and a call that is answered after such a journal is placed behind them, with its cut at the end of what it left
+-- and a call that is answered after such a journal is placed after them, with its cut at the end of what it left
 abbrev pub CallIsPlaced : Type 0
 CallIsPlaced = (opening : Opening) (w : Who) (mine : List Receipt) (seen j k : List Event) (call : Call) (reply : Reply) → IsPlaced opening w mine seen → IsPrefix seen j → made_by w j ≡ made_by w seen
     → Answers opening w call j reply k → (is_poll call ≡ true → is_ready (mark opening.from mine) k ≡ true)

@@ -23,7 +23,7 @@ comes_with_event reply.Ok = true
 comes_with_event reply.Recorded = true
 comes_with_event _ = false
 
--- the reply of a call whose event found no memory
+-- the reply of a call whose event was refused memory
 abbrev pub lacks_memory : Reply → Bool
 lacks_memory reply.OutOfMemory = true
 lacks_memory _ = false
@@ -36,7 +36,7 @@ is_poll _ = false
 abbrev pub mark : ℕ → List Receipt → ℕ
 mark from earlier = fold (λ m (r : Receipt). (if is_poll r.call then r.cut else m)) from earlier
 
--- the event of a call stands right before its cut, made by the caller; with the reply it is the answer before it
+-- the event of a call is right before its cut, made by the caller; with the reply it is the answer before it
 pub record IsAnsweredWithEvent (opening : Opening) (who : Who) (r : Receipt) (j : List Event) : Type 0 where
   pub event : What
   pub above : 0 < r.cut
@@ -44,7 +44,7 @@ pub record IsAnsweredWithEvent (opening : Opening) (who : Who) (r : Receipt) (j 
   pub answered : answer opening (take (r.cut - 1) j) r.call ≡ (r.reply, Some event)
 
 -- the receipt is what its call was answered at its cut, after the receipts `earlier` of the same caller: with an event;
--- or an event had no memory; or without one. A poll was answered where it might return
+-- or an event was refused memory; or without one. A poll was answered where it might return
 pub record Fits (opening : Opening) (who : Who) (earlier : List Receipt) (r : Receipt) (j : List Event) : Type 0 where
   pub with_event : comes_with_event r.reply ≡ true → IsAnsweredWithEvent opening who r j
   pub no_memory : lacks_memory r.reply ≡ true → IsSome (answer opening (take r.cut j) r.call).1
@@ -72,8 +72,8 @@ events_of mine j = filter_map (λ r. slice_get j (r.cut - 1)) mine
 abbrev pub events_by : Who → List Event → List Event
 events_by who j = filter (λ e. same_maker e.who who) j
 
--- the receipts of a caller stand in the journal behind the events that were kept from older history: each fits, at a cut
--- within it, in their order; and the caller's events behind those are the ones of its receipts, each once, in order
+-- the receipts of a caller are in the journal after the events that were kept from older history: each fits, at a cut within it, in their
+-- order; and the caller's events after those are the ones of its receipts, each once, in order
 pub record IsPlaced (opening : Opening) (who : Who) (mine : List Receipt) (j : List Event) : Type 0 where
   pub fit : FitInTurn opening who [] mine j
   pub within : AllByRecursion (λ r. r.cut ≤ length j) mine

@@ -1,4 +1,4 @@
--- What a table has, and of which events it is the table.
+-- What a table has, and which events it is the table of.
 use Rattle.std.specs.Prelude.{ℕ, max, ◌+◌, ◌≡◌, ◌&&◌, nat_lt, if◌then◌else◌, Bool, List, [], length, map, replicate, true, slice_index, slice_set}
 use Rattle.mx_types.specs.Limits.{most_handles, most_seats}
 use Rattle.mx_types.specs.declared.event.What.{What}
@@ -43,7 +43,7 @@ pub record IsTableOf (j : List Event) (t : TableView) : Type 0 where
   pub woke : (mark : ℕ) → nat_lt mark t.woken ≡ is_ready mark j
   pub made : (w : Who) → is_maker w ≡ true → count_of w t.makers ≡ made_by w j
 
--- the row says how far its addition is
+-- the row has the phase of its addition
 pub record IsRow (j : List Event) (r : Row) : Type 0 where
   pub phase : r.phase ≡ phase_of r.ticket j
   pub runs : has_ticket r.ticket (running j) ≡ is_open r.phase

@@ -1,5 +1,5 @@
-//! What a list of events comes to, read off the whole list by plain, slow programs. The contract of each is the
-//! definition itself, in whose words the other contracts of this crate speak; the table keeps the same event by event.
+//! What a list of events means, computed from the whole list by plain, slow programs. The contract of each is the definition itself, which
+//! the other contracts of this crate use; the table keeps the same event by event.
 ghost use Rattle.std.specs.Prelude.{◌≡◌, ◌==◌, ◌<◌, ◌≤◌, ◌&&◌, ◌||◌, if◌then◌else◌, length, map, max, nat_lt, nat_le, not, IfOk, OnOk};
 ghost use Rattle.std.specs.List.{filter, find, list_any};
 ghost use Rattle.std.specs.Option.{option_to_list};
@@ -292,7 +292,7 @@ pub fn is_legal(alloc: Global, events: &[Event]) -> Result<bool, OutOfMemory>
     Ok(true)
 }
 
-/// Whether a Wake or a Done stands at or after the mark.
+/// Whether a Wake or a Done is at or after the mark.
 pub fn is_ready(mark: usize, events: &[Event]) -> bool
     ensures { result ≡ is_ready mark events.now }
 {
@@ -463,7 +463,7 @@ pub fn end_of(events: &[Event], ticket: Ticket) -> Option<(Code, bool)>
     None
 }
 
-/// How far the ticket's addition is.
+/// The phase of the ticket's addition.
 pub fn phase_of(events: &[Event], ticket: Ticket) -> Phase
     ensures { result ≡ phase_of ticket events.now }
 {
@@ -475,7 +475,7 @@ pub fn phase_of(events: &[Event], ticket: Ticket) -> Phase
     }
 }
 
-/// Where the handle stands.
+/// The state of the handle.
 pub fn state_of(alloc: Global, events: &[Event], handle: HandleId) -> Result<State, OutOfMemory>
     ensures { IfOk result (λ s. s ≡ state_of handle events.now) }
 {
@@ -485,7 +485,7 @@ pub fn state_of(alloc: Global, events: &[Event], handle: HandleId) -> Result<Sta
     })
 }
 
-/// What a worker is told of the ticket.
+/// What a worker sees of the ticket.
 pub fn look_of(alloc: Global, events: &[Event], ticket: Ticket) -> Result<Look, OutOfMemory>
     ensures { IfOk result (λ l. l ≡ look_of ticket events.now) }
 {

@@ -2,7 +2,7 @@
 //! may use it in its own proof.
 ghost use Rattle.mx_history.specs.Laws.{AdditionTakesLeastSlot, AnswerIsLegal, AnswersFit, CallAddsAtMostOne, CallIsPlaced, ClosingFindsRoom, EachAtMostOnce, EachOnceByCount, FirstInFirstOut, FirstIsPlaced, FitsByItsCut, LegalIsTidy, NeverRunsAgain, NothingAfterRemoval, PlacedStays, PrefixIsLegal, ReadyStays, RetiringKeeps, SlotStays, SlotsDiffer, StateAndLookAgree, TableFollows};
 
-/// What comes first in a legal history is one.
+/// A prefix of a legal history is legal.
 pub fn prefix_is_legal()
     ensures { PrefixIsLegal }
 {}
@@ -44,7 +44,7 @@ pub fn first_in_first_out()
     ensures { FirstInFirstOut }
 {}
 
-/// The state of an added handle and what a worker is told of its ticket agree.
+/// The state of an added handle and what a worker sees of its ticket agree.
 pub fn state_and_look_agree()
     ensures { StateAndLookAgree }
 {}
@@ -69,13 +69,13 @@ pub fn addition_takes_least_slot()
     ensures { AdditionTakesLeastSlot }
 {}
 
-/// Whether a receipt fits is told by the events before its cut: later ones change nothing.
+/// Whether a receipt fits depends on the events before its cut alone: later ones change nothing.
 pub fn fits_by_its_cut()
     ensures { FitsByItsCut }
 {}
 
-/// Each once, by count: where the cuts of a maker's receipts with an event rise, an event of that maker stands before
-/// each, and they are as many as the maker's events, they are these events, each once, in order.
+/// Each once, by count: where the cuts of a maker's receipts with an event rise, an event of that maker is before each, and they are as
+/// many as the maker's events, they are these events, each once, in order.
 pub fn each_once_by_count()
     ensures { EachOnceByCount }
 {}
@@ -100,7 +100,7 @@ pub fn placed_stays()
     ensures { PlacedStays }
 {}
 
-/// A call that is answered is placed behind the receipts that were.
+/// A call that is answered is placed after the earlier receipts.
 pub fn call_is_placed()
     ensures { CallIsPlaced }
 {}

@@ -1,4 +1,4 @@
-//! Where events are appended.
+//! Logs, to which events are appended.
 ghost use Rattle.std.specs.Prelude.{◌≡◌, ◌++◌, ◌∷◌, [], List, ℕ, OnOk, OnErr, IfOk};
 ghost use Rattle.mx_types.specs.declared.event.Event.{Event};
 
@@ -55,7 +55,7 @@ impl VecLog {
         self.list.as_slice()
     }
 
-    /// Lets go of all events, and of no space.
+    /// Drops all events, and keeps the capacity.
     pub fn clear(&mut self)
         ensures { self.new ≡ [] }
     {

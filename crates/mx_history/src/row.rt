@@ -5,7 +5,7 @@ ghost use Rattle.mx_history.specs.Rows.{is_paused, ended_phase, is_open, places_
 
 use mx_types::{Code, HandleId, State, Ticket, What};
 
-/// How far an addition is.
+/// The phase of an addition.
 #[derive(Clone, Copy)]
 pub enum Phase {
     Running,
@@ -16,7 +16,7 @@ pub enum Phase {
     Read(Code),
 }
 
-/// An added handle in the table: its ticket, its slot from 0 to 255, and how far it is.
+/// An added handle in the table: its ticket, its slot from 0 to 255, and its phase.
 #[derive(Clone, Copy)]
 pub struct Row {
     pub handle: HandleId,
@@ -91,7 +91,7 @@ impl Phase {
 }
 
 impl Row {
-    /// Where the row's handle stands.
+    /// The state of the row's handle.
     pub fn state(self) -> State
         ensures { result ≡ state_at self.ticket self.phase }
     {

@@ -1,4 +1,4 @@
--- What a call leaves by one of its exits: without an event, with one that found no memory, and with one.
+-- What a call leaves by one of its exits: without an event, with one that was refused memory, and with one.
 use Rattle.std.proofs.Common.{◌≡◌, ◌∙◌, ℕ, List, [], ◌∷◌, ◌++◌, ap, append-nil, false, length, map, refl, sym, true}
 use Rattle.std.specs.Prelude.{Bool, drop, if◌then◌else◌, not, None, Some}
 use Rattle.std.specs.Option.{IsSome, option_to_list}

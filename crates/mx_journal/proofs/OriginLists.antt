@@ -45,12 +45,12 @@ pub own_filter : {X : Type 0} (origin : X → Origin) (origins : List Origin) (p
 own_filter {X} origin origins p xs own =
     Each-filter p (λ (x : Ticket × X). slice_get origins x.0.0 ≡ Some (origin x.1)) (λ (x : Ticket × X). slice_get origins x.0.0 ≡ Some (origin x.1)) (λ x _ e. e) xs own
 
--- with one more behind
+-- with one more at the end
 pub own_pushed : {X : Type 0} (origin : X → Origin) (origins : List Origin) (xs : List (Ticket × X)) (t : Ticket) (x : X) → AreOwn origin origins xs → origin_of t origins ≡ Some (origin x)
     → AreOwn origin origins (xs ++ (t, x) ∷ [])
 own_pushed {X} origin origins xs t x own e = Each-append (λ (y : Ticket × X). slice_get origins y.0.0 ≡ Some (origin y.1)) xs ((t, x) ∷ []) own (e, tt)
 
--- a list that begins with the tickets of no work, with another origin behind those
+-- a list that begins with the tickets of no work, with another origin after those
 pub set_behind : {X : Type 0} (f : X → Origin) (n : ℕ) (xs : List X) (i : ℕ) (x : X) (o : Origin) → n ≤ i → f x ≡ o
     → replicate n no_request ++ map f (slice_set xs (i - n) x) ≡ slice_set (replicate n no_request ++ map f xs) i o
 set_behind f n xs i x o le is =

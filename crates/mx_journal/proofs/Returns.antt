@@ -53,7 +53,7 @@ none_below {X} t (x ∷ xs) n le a =
     let rest = none_below t xs n le a.1 in
     omega (arith, one, rest, sum_by-cons (λ (y : Ticket × X). cond {A = ℕ} (nat_lt y.0.0 t.0) 1 0) x xs)
 
--- behind as many as are under lower tickets is its place
+-- after as many as are under lower tickets is its place
 pub insert_in_place : {X : Type 0} (t : Ticket) (w : X) (queue : List (Ticket × X)) → IsInOrder (queued queue) → insert queue (count_by (λ x. nat_lt x.0.0 t.0) queue) (t, w) ≡ in_place t w queue
 insert_in_place t w [] o = refl
 insert_in_place {X} t w (x ∷ xs) o = go (nat_lt x.0.0 t.0) refl (insert_in_place t w xs o.1)

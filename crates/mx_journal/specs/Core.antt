@@ -12,9 +12,9 @@ use Rattle.mx_history.specs.Answers.{next_ticket}
 use Rattle.mx_history.specs.Table.{Counts, TableView, IsTableOf, HasCounters, count_of}
 use Rattle.mx_history.specs.History.{HasRoomForDue, IsInOrder, Message, Opening, added, beyond, is_maker, made_by, retire, same_ticket, waiting, running, has_ticket}
 
--- what it was opened with, and what retiring changed of that; the journal; for each ticket below the next one, in their order, the request of
--- the work that was queued under it last, in older history too, and no request under those below the ticket that it began with; the
--- work that waits for a worker; the endings that wait to be read; and how many claims were made that have not come back
+-- what it was opened with, and what retiring changed of that; the journal; for each ticket below the next one, in their order, the request
+-- of the work that was queued under it last, in older history too, and no request under those below the ticket that it began with; the work
+-- that waits for a worker; the endings that wait to be read; and how many claims are out
 pub record Core (Q O : Type 0) : Type 0 where
   pub opening : Opening
   pub journal : List Event
@@ -31,8 +31,8 @@ with_out n core = record core { out = n }
 abbrev pub one_out : ℕ → ℕ
 one_out n = min (n + 1) 18446744073709551615
 
--- what retiring leaves: the events of the tickets that are added, and all else as it was. The next ticket stays the one that it was, and the
--- events that are left count as those of older history
+-- what retiring leaves: the events of the tickets that are added, and all else as it was. The next ticket stays the one that it was, and
+-- the events that are left count as those of older history
 abbrev pub retired : {Q O : Type 0} → Core Q O → Core Q O
 retired core = record core {
   opening = record { history = core.opening.history; first = (next_ticket core.opening core.journal).0; from = length (retire core.journal) };

@@ -1,4 +1,4 @@
--- The reply that a call's answer stands for.
+-- The reply of a call's answer.
 use Rattle.std.specs.Prelude.{ℕ, ◌<◌, ◌≡◌, length, nat_lt, slice_set, if◌then◌else◌, Bool, true, false, List, [], ◌∷◌, ◌++◌, Option, Some, None}
 use Rattle.mx_types.specs.declared.code.Code.{Code}
 use Rattle.mx_types.specs.declared.names.HandleId.{HandleId}
@@ -105,7 +105,7 @@ abbrev pub IsGivenBack : {Q : Type 0} → Q → GiveBackReply Q → Type 0
 IsGivenBack work giving.Back = Unit {0}
 IsGivenBack work (giving.Stale q) = q ≡ work
 
--- a queue with work at the place of its ticket: behind the lower ones
+-- a queue with work at the place of its ticket: after the lower ones
 abbrev pub in_place : {Q : Type 0} → Ticket → Q → List (Ticket × Q) → List (Ticket × Q)
 in_place t work [] = (t, work) ∷ []
 in_place t work (x ∷ queue) = (if nat_lt x.0.0 t.0 then x ∷ in_place t work queue else (t, work) ∷ x ∷ queue)

@@ -5,8 +5,8 @@ use mx_types::{HandleId, Ticket, Work};
 use std::marker::Model;
 use std::snapshot::Snapshot;
 
-/// The right to finish or to give back one addition's work. One that is let go is out for good, and its control state can't
-/// retire old history any more.
+/// The right to finish one addition's work, or to put it back into the queue. One that is dropped stays out for good: its control state
+/// can't retire old history any more.
 #[derive(Drop)]
 pub struct Claim<Q: Work> {
     handle: HandleId,

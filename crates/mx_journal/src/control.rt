@@ -29,8 +29,8 @@ use mx_types::{
 use std::alloc::Global;
 use std::marker::Model;
 
-/// A multi handle on one thread: which handles are added and how far each is, the work that waits for a worker, and the
-/// endings that wait to be read. Old history is retired by `retire`.
+/// A multi handle on one thread: which handles are added and the state of each, the work that waits for a worker, and the endings that wait
+/// to be read. Old history is retired by `retire`.
 #[derive(Drop)]
 pub struct Control<Q: Work, O: Ending> {
     history: u32,
@@ -45,7 +45,7 @@ pub struct Control<Q: Work, O: Ending> {
     origins: Origins<Q>,
     queue: Vec<(Ticket, Q)>,
     endings: Vec<(Ticket, O)>,
-    /// How many claims were made that haven't come back.
+    /// How many claims are out.
     out: u64,
 }
 
@@ -102,7 +102,7 @@ impl<Q: Work + Drop, O: Ending + Drop> Control<Q, O> {
         })
     }
 
-    /// What is true of every core: its journal is legal and has room for what is due; its queue has running tickets,
+    /// The invariant of every core: its journal is legal and has room for what is due; its queue has running tickets,
     /// each once, by ticket; its endings are those of the messages that wait, in their order; there is an origin for
     /// each ticket below the next one, and no ticket above the greatest was given; and its journal begins with what was
     /// kept of older history. That the table is the one of the journal is seen through `state`, `look`, `made` and the
@@ -385,7 +385,7 @@ impl<Q: Work + Drop, O: Ending + Drop> Control<Q, O> {
     }
 
     // rule core-stale-completion
-    /// Records the end of a claimed transfer: its message waits behind those that wait (curl_multi_info_read(3)). The claim
+    /// Records the end of a claimed transfer: its message waits after those that wait (curl_multi_info_read(3)). The claim
     /// is spent, and one claim less is out. It always finds room.
     ///
     /// # Refusals
@@ -460,8 +460,8 @@ impl<Q: Work + Drop, O: Ending + Drop> Control<Q, O> {
     }
 
     // rule core-requeued-work
-    /// Puts claimed work back into the queue, to the place of its ticket; one claim less is out. It makes no event, and
-    /// can't be refused for want of memory, since its place was kept.
+    /// Puts claimed work back into the queue, to the place of its ticket; one claim less is out. It makes no event, and needs no memory,
+    /// since its place was kept.
     ///
     /// # Refusals
     ///
@@ -510,7 +510,7 @@ impl<Q: Work + Drop, O: Ending + Drop> Control<Q, O> {
         row.phase.is_open()
     }
 
-    /// A law: work that is given back right after its claim stands where it stood, first in the queue.
+    /// A law: work that is given back right after its claim is where it was, first in the queue.
     pub fn give_back_undoes_claim()
         ensures { GiveBackUndoesClaim Q }
     {}
@@ -565,14 +565,14 @@ impl<Q: Work + Drop, O: Ending + Drop> Control<Q, O> {
         self.table.running()
     }
 
-    /// Where a handle stands.
+    /// The state of a handle.
     pub fn state(&self, handle: HandleId) -> State
         ensures { result ≡ state_of handle self.now.journal }
     {
         self.table.state(handle)
     }
 
-    /// What a worker is told of a ticket.
+    /// What a worker sees of a ticket.
     pub fn look(&self, ticket: Ticket) -> Look
         ensures { result ≡ look_of ticket self.now.journal }
     {
@@ -608,8 +608,8 @@ impl<Q: Work + Drop, O: Ending + Drop> Control<Q, O> {
 
     // rule core-retire-claims
     /// Retires old history: of the journal it keeps the events of the tickets that are added, in order, and says how many they
-    /// are. Handles, work and endings stay as they were, and so does the next ticket; makers' events are counted from there. It
-    /// makes no event, and has no want of memory to answer.
+    /// are. Handles, work and endings stay as they were, and so does the next ticket; makers' events are counted from there. It makes no
+    /// event, and needs no memory.
     ///
     /// # Refusals
     ///

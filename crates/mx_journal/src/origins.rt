@@ -1,4 +1,4 @@
-//! Of which requests the additions are, for contracts alone.
+//! The requests of additions, for contracts alone.
 ghost use Rattle.std.specs.Prelude.{◌≡◌, ◌≤◌, ◌<◌, ◌++◌, ◌∷◌, [], length, replicate, slice_set, IfOk};
 ghost use Rattle.mx_types.specs.Limits.{greatest_ticket};
 ghost use Rattle.mx_types.specs.Origin.{no_request};

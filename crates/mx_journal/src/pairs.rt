@@ -28,7 +28,7 @@ fn place_of<T>(pairs: &[(Ticket, T)], ticket: Ticket) -> usize
     pairs.iter().filter(|x| x.0.0 < ticket.0).count()
 }
 
-/// Puts a value under a ticket, behind as many as are under lower tickets. There is space for it.
+/// Puts a value under a ticket, after those under lower tickets. There is space for it.
 pub fn insert_ticket<T: Drop>(pairs: &mut Vec<(Ticket, T)>, ticket: Ticket, value: T)
     requires { vec_len pairs.old < vec_capacity pairs.old }
     ensures items { pairs.new.items ≡ insert pairs.old.items (count_by (λ x. nat_lt x.0.0 ticket.0) pairs.old.items) (ticket, value) }

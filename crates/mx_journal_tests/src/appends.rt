@@ -1,4 +1,4 @@
-//! Want of memory: a log that refuses one append, over calls that each make an event; beside it, what the plain programs of
+//! Out of memory: a log that refuses one append, over calls that each make an event; beside it, what the executable definitions of
 //! `mx_journal::definitions` read off that log.
 
 use crate::caller::{Caller, Said, Step};
@@ -48,7 +48,7 @@ fn answered(caller: &Caller) -> Answers {
     )
 }
 
-// What the plain programs read off a log.
+// What the executable definitions read off a log.
 fn read_off(alloc: Global, events: &[Event]) -> Result<Answers, OutOfMemory> {
     let running = definitions::running(alloc, events)?.len();
     Ok((
@@ -69,7 +69,7 @@ fn read_off(alloc: Global, events: &[Event]) -> Result<Answers, OutOfMemory> {
     ))
 }
 
-// Whether the core lists the handles that the plain programs find added, and the tickets of the messages that they find waiting.
+// Whether the core lists the handles that the executable definitions find added, and the tickets of the messages that they find waiting.
 fn lists_agree(alloc: Global, caller: &Caller, events: &[Event]) -> Result<bool, OutOfMemory> {
     let added = definitions::added(alloc, events)?;
     let waiting = definitions::waiting(alloc, events)?;
@@ -87,7 +87,7 @@ fn lists_agree(alloc: Global, caller: &Caller, events: &[Event]) -> Result<bool,
     )
 }
 
-// Whether the core answers what the plain programs read off its log.
+// Whether the core answers what the executable definitions read off its log.
 fn agrees(alloc: Global, caller: &Caller) -> Result<bool, OutOfMemory> {
     let events = caller.log.list.events();
     Ok(
@@ -97,8 +97,8 @@ fn agrees(alloc: Global, caller: &Caller) -> Result<bool, OutOfMemory> {
     )
 }
 
-// Makes a call behind so many events, once more where it found no memory, and nothing changed then: what it answers, and whether it
-// found none.
+// Makes a call after so many events, once more where it was refused memory, and nothing changed then: what it answers, and whether it was
+// refused.
 fn make(
     alloc: Global,
     caller: &mut Caller,

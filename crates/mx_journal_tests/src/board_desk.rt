@@ -1,4 +1,4 @@
-//! A board beside the list of its events, which is looked up in.
+//! A board beside the list of its events.
 ghost use Rattle.std.specs.Prelude.{◌≡◌, [], true, IfOk, IfSome};
 ghost use Rattle.mx_history.specs.History.{is_maker};
 ghost use Rattle.mx_board.specs.Board.{caught_up};
@@ -47,7 +47,7 @@ impl Desk {
         Ok((Desk { list, board }, is_refused))
     }
 
-    /// Appends an event and publishes it. It is refused for want of memory, and where the event may not follow.
+    /// Appends an event and publishes it. It is refused where memory is, and where the event may not follow.
     pub fn tell<R: Wait>(
         self,
         rt: &R,

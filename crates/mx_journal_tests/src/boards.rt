@@ -1,4 +1,4 @@
-//! What readers of a board are told, by worked examples, on one thread and on three.
+//! What readers of a board see, by worked examples, on one thread and on three.
 ghost use Rattle.std.specs.Prelude.{◌≡◌, ◌<◌, true, IfOk, IfSome, length};
 ghost use Rattle.mx_history.specs.History.{is_legal};
 
@@ -41,7 +41,7 @@ fn add_two<R: Wait>(
     Ok((desk, [is_a_informed, is_b_informed]))
 }
 
-// What the first seat's reader tells of both handles, and of one that isn't added, and how much it has then seen.
+// What the first seat's reader answers of both handles, and of one that isn't added, and how much it has then seen.
 fn are_told(a: &mut BoardReader) -> bool {
     let Some(handles) = a.handles() else {
         return false;
@@ -86,7 +86,7 @@ fn add_and_ask<R: Wait>(
     )
 }
 
-/// Two seats add a handle each, and are told of both: whether all is as it is to be, and whether memory was refused.
+/// Two seats add a handle each, and see both: whether all is as it should be, and whether memory was refused.
 pub fn two_seats<R: Wait>(rt: &R, alloc: Global) -> Result<(bool, bool), OutOfMemory> {
     let (mut desk, is_refused) = Desk::new(rt, alloc)?;
     let Some((mut a, mut b)) = two_readers(&mut desk) else {
@@ -96,7 +96,7 @@ pub fn two_seats<R: Wait>(rt: &R, alloc: Global) -> Result<(bool, bool), OutOfMe
     Ok((is_so, is_refused))
 }
 
-// A seat adds a handle. It answers what the reader tells before it is informed of that and after, and whether it was.
+// A seat adds a handle. It answers what the reader answers before it is informed of that and after, and whether it was.
 fn add_one<R: Wait>(
     rt: &R,
     alloc: Global,
@@ -114,7 +114,7 @@ fn add_one<R: Wait>(
     Ok(([before, after], is_informed))
 }
 
-/// A reader waits for the event of its own seat: whether all is as it is to be, and whether memory was refused.
+/// A reader waits for the event of its own seat: whether all is as it should be, and whether memory was refused.
 pub fn own_event<R: Wait>(rt: &R, alloc: Global) -> Result<(bool, bool), OutOfMemory> {
     let (mut desk, is_refused) = Desk::new(rt, alloc)?;
     let Some(mut a) = desk.reader(Who::Seat(0)) else {
@@ -138,7 +138,7 @@ fn add_each<R: Wait>(rt: &R, alloc: Global, desk: Desk, handles: u32) -> Result<
     Ok(desk)
 }
 
-// The same, and tells the readers that it has ended.
+// The same, and signals the readers that it has ended.
 fn add_all<R: Wait>(
     rt: &R,
     alloc: Global,
@@ -151,8 +151,8 @@ fn add_all<R: Wait>(
     desk
 }
 
-// Reads until so many handles are added. Whether each read told of as many as the reader had then seen events, and of no fewer
-// than the one before.
+// Reads until so many handles are added. Whether each read showed as many handles as the reader had then seen events, and no fewer than the
+// one before.
 fn read_all(mut reader: BoardReader, handles: u32, ended: &AtomicBool) -> bool {
     let mut before = 0;
     for _ in 0..200000000 {
@@ -192,7 +192,7 @@ fn read_beside<R: Threads + Wait + Sync>(
     Ok((agree, desk?.close(rt).len()))
 }
 
-/// Two threads read what a third adds: whether all is as it is to be.
+/// Two threads read what a third adds: whether all is as it should be.
 pub fn three_threads<R: Threads + Wait + Sync>(rt: &R, alloc: Global) -> Result<bool, OutOfMemory> {
     let (mut desk, _) = Desk::new(rt, alloc)?;
     let Some(readers) = two_readers(&mut desk) else {
@@ -245,7 +245,7 @@ fn make<R: Wait>(
     }
 }
 
-/// A history that was kept is read as it stands: whether all is as it is to be, and whether memory was refused.
+/// A history that was kept is read as it is: whether all is as it should be, and whether memory was refused.
 pub fn kept<R: Wait>(rt: &R, alloc: Global) -> Result<(bool, bool), OutOfMemory> {
     if !definitions::is_legal(alloc, &KEPT)? {
         return Ok((false, false));

@@ -20,7 +20,7 @@ pub enum Step {
     Remove(u32),
     /// Claims the next work, and holds the claim.
     Claim,
-    /// The same, and lets the claim go.
+    /// The same, and drops the claim.
     Next,
     /// Ends the transfer of the last claim that is held, with this code.
     Finish(Code),
@@ -33,9 +33,9 @@ pub enum Step {
     /// A poll with this mark.
     Poll(u32),
     Retire,
-    /// The same, where this and nothing else is what the log says that is kept, and what is found in the journal then.
+    /// The same, where just this is what the log says is kept, and what is in the journal then.
     RetireTo(&'static [What]),
-    /// Retires, and sees where the handle stands.
+    /// Retires, and sees the state of the handle.
     RetireAndSee(u32),
     State(u32),
     Look(u32),
@@ -86,7 +86,7 @@ pub enum Said {
     First(usize, Option<Ticket>),
     Events(u32, usize),
     OutOfMemory,
-    /// It isn't kept so.
+    /// Something else is kept.
     Else,
 }
 
@@ -223,7 +223,7 @@ impl Caller {
         }
     }
 
-    // What is kept is what the plain program finds in the log, and is the journal then.
+    // What is kept is what the executable definition finds in the log, and is the journal then.
     fn retire_to(&mut self, alloc: Global, whats: &[What]) -> Result<Said, OutOfMemory> {
         let kept = self.control.kept(alloc)?;
         let told = definitions::retire(alloc, self.log.list.events())?;

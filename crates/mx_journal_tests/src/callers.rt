@@ -21,8 +21,8 @@ pub fn claim_and_give_back<Q: Work + Drop, O: Ending + Drop>(control: &mut Contr
     }
 }
 
-/// Retires, or is refused: where the handle stands then. Either way it stands where it stood, the same handles are added, in the
-/// same order, the same transfers run, the same messages wait, and the next ticket is the one that it was.
+/// Retires, or is refused: the state of the handle then. Either way the state is as before, the same handles are added, in the same order,
+/// the same transfers run, the same messages wait, and the next ticket is the one that it was.
 pub fn retire_and_see<Q: Work + Drop, O: Ending + Drop>(
     control: &mut Control<Q, O>,
     handle: HandleId,

@@ -1,4 +1,4 @@
-//! What the plain programs of `mx_journal::definitions` tell of lists of events.
+//! What the executable definitions of `mx_journal::definitions` say of lists of events.
 
 use crate::sample::{SEAT, Wrong, verdict};
 use mx_journal::definitions;
@@ -61,7 +61,7 @@ const WHOLE: &[Event] = &[ADDED, PAUSED, RESUMED, DONE, READ, REMOVED, AGAIN];
 /// Additions 0 and 1, the end, the reading and the removal of the first, and addition 2.
 const THREE: &[Event] = &[ADDED, EIGHT, DONE, READ, REMOVED, NINE];
 
-/// What is told of a list.
+/// What is said of a list.
 #[derive(Clone, Copy, PartialEq, Eq)]
 enum Fact {
     /// Whether it is a history of a multi handle.
@@ -73,13 +73,13 @@ enum Fact {
     Due(u64),
     /// Whether 12 events have room for so many more than are due.
     Room(u32, bool),
-    /// Where handle 7 stands.
+    /// The state of handle 7.
     Seven(State),
     /// The slot of ticket 0, how many have slots, and the first two of these.
     Slots(Option<u8>, usize, Option<(Ticket, u8)>, Option<(Ticket, u8)>),
 }
 
-/// A name, a list, how many events of it are looked at, and what is told of these.
+/// A name, a list, how many events of it are looked at, and what is said of these.
 type Row = (&'static str, &'static [Event], usize, Fact);
 
 const MESSAGE: Option<(Ticket, Code, u32)> = Some((Ticket(0), Code::Ok, 3));
@@ -149,7 +149,7 @@ static ROWS: [Row; 21] = [
     ),
 ];
 
-// What is told, of the kind of this fact.
+// What is said, of the kind of this fact.
 fn told(alloc: Global, events: &[Event], fact: Fact) -> Result<Fact, OutOfMemory> {
     Ok(match fact {
         Fact::Legal(_) => Fact::Legal(definitions::is_legal(alloc, events)?),
@@ -184,7 +184,7 @@ fn first_wrong(alloc: Global) -> Result<Option<Wrong>, OutOfMemory> {
 }
 
 // rule core-slots
-/// The definitions as programs tell of each list what its row says.
+/// The executable definitions say of each list what its row says.
 #[test]
 fn the_definitions_tell_histories(rt: HostRuntime) -> Result<(), Fail> {
     let wrong = first_wrong(rt.alloc())?;

@@ -1,4 +1,4 @@
-//! What the notes of two threads come to.
+//! The result of the notes of two threads.
 ghost use Rattle.std.specs.Prelude.{◌≡◌, ◌++◌, ◌∷◌, [], max};
 ghost use Rattle.mx_board.specs.Progress.{new_seat, note, word_of};
 

@@ -110,7 +110,7 @@ const MIXED: Part = &[
     (Step::GiveBack, Said::Back),
 ];
 
-/// What is seen of that, before it is retired and behind it.
+/// What is seen of that, before it is retired and after.
 const SEEN: Part = &[
     (Step::Running, Said::Count(1)),
     (Step::Waiting, Said::First(1, Some(Ticket(0)))),
@@ -129,7 +129,7 @@ const KEPT: &[What] = &[
     What::Paused(Ticket(2)),
 ];
 
-/// Of six calls of the seat none is left in the journal.
+/// None of six calls of the seat is left in the journal.
 const RETIRED: Part = &[
     (Step::Made, Said::Count(6)),
     (Step::RetireTo(KEPT), Said::Retired(4)),
@@ -149,8 +149,8 @@ const BEHIND: Part = &[
     ),
 ];
 
-/// A history of 8 events that is full of what is gone. Behind retiring the next ticket is given, and a claim that is out holds the
-/// second retiring up.
+/// A history of 8 events that is full of removed handles' events. After retiring the next ticket is given, and a claim that is out blocks
+/// the second retiring.
 const SMALL: Part = &[
     (Step::Add(1, 1), Said::Added(0)),
     (Step::Claim, Said::Claimed(0, 1)),
@@ -174,7 +174,7 @@ const SMALL: Part = &[
     ),
 ];
 
-/// The greatest ticket is given, and none behind it, retired or not.
+/// The greatest ticket is given, and none after it, retired or not.
 const LAST: Part = &[
     (Step::Add(1, 1), Said::Added(GREATEST_TICKET)),
     (Step::Claim, Said::Claimed(GREATEST_TICKET, 1)),
@@ -349,7 +349,7 @@ static ROWS: [Row; 18] = [
     },
 ];
 
-// The first call that answers otherwise, behind so many.
+// The first call that answers otherwise, after so many.
 fn plays_part(
     alloc: Global,
     caller: &mut Caller,

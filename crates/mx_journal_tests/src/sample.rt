@@ -98,7 +98,7 @@ impl Log for RefusesOnce {
     }
 }
 
-/// The row that is not as it is to be, and its step.
+/// The row that fails, and its step.
 #[derive(Clone, Copy)]
 pub struct Wrong {
     pub row: &'static str,

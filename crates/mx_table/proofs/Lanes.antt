@@ -1,4 +1,4 @@
--- The lanes in which a number stands.
+-- The lanes that have a number.
 use Rattle.std.proofs.Common.{◌≡◌, ◌≢◌, ℕ, ◌+◌, ◌*◌, ◌<◌, ◌≤◌, ◌∙◌, sym, refl, ap, arith, length, get_or, List, [], ◌∷◌, Bool, true, false, cond, map, inl, inr}
 use Rattle.std.specs.Prelude.{suc, not, ◌==◌}
 use Rattle.std.specs.List.{prefix_len}

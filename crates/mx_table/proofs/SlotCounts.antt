@@ -117,7 +117,7 @@ counted counts rows i row a lt at small =
     let here : f row ≡ f (get_or rows i row) = ap f at in
     omega (arith, a.count row.slot small, one, here, get_or-le-sum_by f rows i row lt)
 
--- no slot is had by more rows than there are
+-- no slot has more rows than there are
 pub count_few : (counts : List ℕ) (rows : List Row) (n : ℕ) → AreCounts counts rows → n < most_handles → slice_index counts n ≤ length rows
 count_few counts rows n a small = omega (arith, a.count n small, count_by-le-length (λ (r : Row). r.slot == n) rows)
 

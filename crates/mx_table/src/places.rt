@@ -1,4 +1,4 @@
-//! Where a number stands among others.
+//! The index of a number among others.
 ghost use Rattle.std.specs.Prelude.{◌≡◌, ◌≢◌, ◌+◌, ◌<◌, ◌≤◌, ℕ, length, slice_index, IfSome, IfNone};
 
 use std::simd::prelude::*;
@@ -6,7 +6,7 @@ use std::simd::prelude::*;
 /// How many numbers are looked at at once.
 const LANES: usize = 16;
 
-/// The first place at which the number stands among the sixteen from `at` on.
+/// The first index of the number among the sixteen from `at` on.
 fn place_in(numbers: &[u32], at: usize, wanted: u32) -> Option<usize>
     requires { at + LANES ≤ length numbers.now }
     ensures within { IfSome result (λ i. (at ≤ i) × (i < at + LANES)) }
@@ -24,7 +24,7 @@ fn place_in(numbers: &[u32], at: usize, wanted: u32) -> Option<usize>
     }
 }
 
-/// The first place at which the number stands.
+/// The first index of the number.
 pub fn place_of(numbers: &[u32], wanted: u32) -> Option<usize>
     ensures within { IfSome result (λ i. i < length numbers.now) }
     ensures there { IfSome result (λ i. slice_index numbers.now i ≡ wanted) }

@@ -21,9 +21,9 @@ use std::marker::Model;
 
 /// The rows of the added handles, in order: at most [`MOST_HANDLES`].
 ///
-/// The numbers of their handles and tickets stand in vectors of their own, in which sixteen are looked at at once. How many
-/// events the rows have to come is kept, and for each slot how many rows have it: after lawful events one at most, but rows
-/// take in any event.
+/// The numbers of their handles and tickets are in vectors of their own, in which sixteen are compared at once. How many
+/// events the rows have to come is kept, and for each slot how many rows have it: after legal events one at most, but rows take in any
+/// event.
 #[derive(Drop)]
 pub struct Rows {
     rows: Vec<Row>,
@@ -116,7 +116,7 @@ impl Rows {
         self.due
     }
 
-    /// Lets go of all rows, and of no space.
+    /// Drops all rows, and keeps the capacity.
     pub fn clear(&mut self)
         ensures { self.new ≡ [] }
     {
@@ -173,7 +173,7 @@ impl Rows {
         }
     }
 
-    // Takes each row of the ticket past an event that adds and removes nothing, and changes no other row.
+    // Updates each row of the ticket by an event that adds and removes nothing, and changes no other row.
     fn turn(&mut self, ticket: Ticket, what: &What)
         requires { IsOf ticket what.now }
         ensures { self.new ≡ map (turned what.now) self.old }
@@ -185,7 +185,7 @@ impl Rows {
         }
     }
 
-    // Where the ticket's first row stands, from a place on.
+    // The index of the ticket's first row, from an index on.
     fn next_of(&self, ticket: Ticket, from: usize) -> Option<usize>
         requires { from ≤ length self.now }
         ensures few { length self.now ≤ MOST_HANDLES }
@@ -210,7 +210,7 @@ impl Rows {
         self.slot_counts[usize::from(row.slot)] -= 1;
     }
 
-    // Takes the row at a place past an event that adds and removes nothing.
+    // Updates the row at a place by an event that adds and removes nothing.
     fn turn_at(&mut self, at: usize, what: &What)
         requires { at < length self.old }
         ensures { (d : RowValue) → self.new ≡ slice_set self.old at (turned what.now (slice_index_or self.old at d)) }

@@ -8,7 +8,7 @@ ghost use Rattle.mx_table.specs.Kept.{AreCounts};
 use crate::places::place_of;
 use mx_types::MOST_HANDLES;
 
-// Counts, and no bits: a removal may clear a bit only where no other row has the slot, and a count needs no proof of that.
+// Counts, not bits: a removal may clear a bit only where no other row has the slot, and a count needs no proof of that.
 // rule core-slots
 /// The lowest slot that no row has, by how many rows have each; 255 where each is taken.
 pub fn lowest_free(counts: &[u32]) -> u8

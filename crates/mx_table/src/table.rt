@@ -1,4 +1,4 @@
-//! The table of a multi handle: what its events come to.
+//! The table of a multi handle: the result of its events.
 ghost use Rattle.std.specs.Prelude.{◌≡◌, ◌++◌, ◌∷◌, [], List, length, true, false, map, IfOk, IfSome, IfNone, nat_le};
 ghost use Rattle.std.specs.List.{list_any};
 ghost use Rattle.std.specs.Option.{option_map};
@@ -21,7 +21,7 @@ use std::marker::Model;
 
 /// The fold of events: the added handles in order with their tickets, slots and phases, the tickets whose message
 /// waits to be read, in order, how many events there were, and who made how many; and one more than the greatest ticket
-/// that was given. Each answer speaks of any events of which this is the table.
+/// that was given. Each answer is true of any events that have this table.
 #[derive(Drop)]
 pub struct Table {
     rows: Rows,
@@ -89,7 +89,7 @@ impl Table {
         self.rows.has_ticket(ticket)
     }
 
-    /// Where a handle stands.
+    /// The state of a handle.
     pub fn state(&self, handle: HandleId) -> State
         ensures { (j : List Event) → IsTableOf j self.now → result ≡ state_of handle j }
     {
@@ -99,7 +99,7 @@ impl Table {
         }
     }
 
-    /// What a worker is told of a ticket.
+    /// What a worker sees of a ticket.
     pub fn look(&self, ticket: Ticket) -> Look
         ensures { (j : List Event) → IsTableOf j self.now → result ≡ look_of ticket j }
     {
@@ -159,7 +159,7 @@ impl Table {
         self.events
     }
 
-    /// Whether a Wake or a Done stands at or after the mark, so that a poll with it may return.
+    /// Whether a Wake or a Done is at or after the mark, so that a poll with it may return.
     pub fn is_ready(&self, mark: u32) -> bool
         ensures { (j : List Event) → IsTableOf j self.now → result ≡ is_ready mark j }
     {
@@ -213,8 +213,8 @@ impl Table {
         self.events < u32::MAX
     }
 
-    /// Takes in any event that there is space for. What may follow has space, so that the table is then the one with the
-    /// event behind the others (`mx_history::laws::table_follows`).
+    /// Takes in any event that there is space for. An event that may follow has space, so the table is then that of the events with this
+    /// one at the end (`mx_history::laws::table_follows`).
     pub fn apply(&mut self, event: Event)
         ensures { self.new ≡ table_after self.old event }
     {
