@@ -20,7 +20,7 @@ use mx_types::{HandleId, Ticket, Work};
 use std::alloc::Global;
 use std::sync::Wait;
 
-// Reads the next message, and takes what comes of it where it is of this ticket.
+// The outcome of the next message, where that is of this ticket.
 fn read_of<Q: Work + Drop, R: Wait>(
     rt: &R,
     seat: &mut Seated<'_, Application, Q, Outcome>,
@@ -39,9 +39,9 @@ fn read_of<Q: Work + Drop, R: Wait>(
     Some(message.outcome)
 }
 
-/// Adds a transfer, and reads the next message. What comes of it, if it is of this addition, is the outcome of the very request that was
-/// added, with its truth: its hops are a chain that begins with that request, and with `Code::Ok` its content is that of the response to
-/// the last request of the chain.
+/// Adds a transfer, and reads the next message. If that is of this addition, its outcome is that of the very request that was added: its
+/// hops are a chain that begins with that request, and with `Code::Ok` its content is that of the response to the last request of the
+/// chain.
 pub fn add_and_read<Q: Work + Drop, R: Wait>(
     rt: &R,
     seat: &mut Seated<'_, Application, Q, Outcome>,
@@ -61,7 +61,7 @@ pub fn add_and_read<Q: Work + Drop, R: Wait>(
     Some(outcome)
 }
 
-// Ends a claimed transfer, and lets go what isn't recorded.
+// Ends a claimed transfer, and drops what isn't recorded.
 fn finish_one<Q: Work + Drop, R: Wait>(
     rt: &R,
     worker: &mut Seated<'_, AtWork, Q, Outcome>,
@@ -75,8 +75,8 @@ fn finish_one<Q: Work + Drop, R: Wait>(
     worker.finish(rt, claim, outcome).is_ok()
 }
 
-/// Ends a claimed transfer through a seat of the multi handle that gave the claim. The other seat, which may be of another multi handle, would
-/// refuse that claim.
+/// Ends a claimed transfer through a seat of the multi handle that gave the claim. The other seat, which may be of another multi handle,
+/// would refuse that claim.
 pub fn finish_claimed<Q: Work + Drop, R: Wait>(
     rt: &R,
     worker: &mut Seated<'_, AtWork, Q, Outcome>,

@@ -51,8 +51,7 @@ fn join_all<R: Threads, G: Drop>(
     worked
 }
 
-// Runs a worker at each post, on a thread of its own, while the application runs on this one; there is room for their handles and for what
-// they did.
+// Runs a worker at each post, on a thread of its own, while the application runs on this one. There is room for their handles and results.
 fn run_all<
     'm,
     L: Link + Send,
@@ -102,7 +101,7 @@ fn run_all<
     )
 }
 
-// Room for the threads' handles, and for what they did.
+// Room for the threads' handles and results.
 fn rooms<G: Drop>(
     alloc: Global,
     count: usize,
@@ -116,13 +115,13 @@ fn rooms<G: Drop>(
 }
 
 // rule worker-threads, unproved: Workers on threads run at the same time.
-/// Runs a worker at each post, on a thread of its own, while the application runs on this one. The application is told that the crew
-/// stands, or why it doesn't: then it runs without workers. Once it has returned the crew is dismissed. It answers what the application
+/// Runs a worker at each post, on a thread of its own, while the application runs on this one. The application is told that there is a
+/// crew, or why there is none: then it runs without workers. Once it has returned the crew is dismissed. It answers what the application
 /// returned, and for each post what its worker did, with its gate; all workers have ended then. Seats don't come back. It may wait.
 ///
 /// # Errors
 ///
-/// `OutOfMemory` where there was no memory for the threads' handles, and `NoThread` where a thread couldn't be started: the
+/// `OutOfMemory` where memory for the threads' handles was refused, and `NoThread` where a thread couldn't be started: the
 /// workers that had started are dismissed then, and have ended. Posts and gates don't come back.
 ///
 /// Of all this the clauses say that what it answers first is what the application may return as it was told, and that it counts as many

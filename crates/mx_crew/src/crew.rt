@@ -51,7 +51,7 @@ impl Crew {
     /// Wakes all workers whose gates it made.
     pub fn ring(&self) {
         for bell in &self.bells {
-            // A bell that can't be rung leaves its worker to the end of its wait.
+            // Where the bell can't be rung, its worker waits to the end of its timeout.
             let _ = bell.ring();
         }
     }
@@ -62,7 +62,7 @@ impl Crew {
         self.ring();
     }
 
-    /// Has its gates stop nobody any more, once the workers that were dismissed have ended: they may be used by others then.
+    /// Clears the flag that stops its workers, once those that were dismissed have ended: others may then use their gates.
     pub fn summon(&self) {
         self.stop.store(false, Ordering::SeqCst);
     }
@@ -110,7 +110,7 @@ impl Crew {
         }
     }
 
-    // Keeps what wakes the worker at this gate, and what tells whether too many files were open for it.
+    // Keeps the waker of the worker at this gate, and the flag that says whether too many files were open for it.
     fn know<R: Net + Clock + AllocGlobal>(
         &mut self,
         gate: &SocketGate<'_, R>,
@@ -121,9 +121,9 @@ impl Crew {
     }
 
     /// So many gates, which this crew wakes and stops. They share a resolver, and their clocks and its own have one start. A thread begins
-    /// the lookups that they want, and nobody joins it, nor the threads of lookups: a program ends without them.
+    /// the lookups that they want. Nobody joins it, nor the threads of lookups: a program ends without them.
     ///
-    /// `NoThread` is there for that thread, which couldn't be started, `NoPoll` and `OutOfMemory` as they say; no clause tells which comes.
+    /// `NoThread` comes where that thread couldn't be started, `NoPoll` and `OutOfMemory` as they say; no clause says which comes.
     pub fn gates<
         'r,
         R: Net<Listener = TcpListener, Stream = TcpStream>
@@ -152,7 +152,7 @@ impl Crew {
         }
     }
 
-    // Makes so many gates. It owns none of them, so that its exits let none go.
+    // Makes so many gates. It owns none of them, so its exits drop none.
     fn fill<
         'r,
         R: Net<Listener = TcpListener, Stream = TcpStream> + Clock + AllocGlobal + Wait + Drop,

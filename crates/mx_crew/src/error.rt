@@ -28,7 +28,7 @@ impl From<AllocError> for CrewError {
     }
 }
 
-/// The value that found no room is dropped.
+/// The value that couldn't be stored is dropped.
 impl<T: Drop> From<AllocFailed<T>> for CrewError {
     ghost from_gives = { λ _ e. e ≡ crew_error.OutOfMemory };
 

@@ -18,8 +18,8 @@ pub struct Opened<L: Link> {
     pub workers: Vec<WorkerSeat<Queued<L>, Outcome>>,
 }
 
-/// Opens a multi handle with these limits, which have one seat for an application and are within theirs: so it is refused for want of memory
-/// alone.
+/// Opens a multi handle with these limits, which have one seat for an application and are within theirs: so `OutOfMemory` is the only
+/// refusal.
 pub fn open_one<L: Link, R: Wait + AllocGlobal>(
     rt: &R,
     limits: Limits,

@@ -11,7 +11,7 @@ use std::alloc::{AllocGlobal, Global};
 use std::random::RandomSource;
 use std::sync::Wait;
 
-/// How long a worker waits that found no memory for its start, in milliseconds.
+/// How long a worker waits whose start was refused memory, in milliseconds.
 const START_AGAIN: u32 = 20;
 
 /// A worker's seat and its gate.
@@ -21,7 +21,7 @@ pub struct Post<'m, L: Link, G> {
     pub gate: G,
 }
 
-/// There was no memory for posts: seats and gates come back.
+/// Memory for posts was refused: seats and gates come back.
 #[derive(Drop)]
 pub struct NoPosts<L: Link, G> {
     pub seats: Vec<WorkerSeat<Queued<L>, Outcome>>,
@@ -43,8 +43,8 @@ pub struct Worked<G> {
     pub gate: G,
 }
 
-/// A post for each seat, as far as there are gates. What is over, seats or gates, is let go. Where there is no memory for them, seats and
-/// gates come back.
+/// A post for each seat, as far as there are gates. Seats or gates left over are dropped. Where memory is refused, seats and gates are
+/// handed back.
 pub fn posts<'m, L: Link, G: Gate<Link = L> + Drop>(
     alloc: Global,
     multi: &'m Multi<Queued<L>, Outcome>,
@@ -63,7 +63,7 @@ pub fn posts<'m, L: Link, G: Gate<Link = L> + Drop>(
     Ok(posts)
 }
 
-// Makes a post of each seat, as far as there are gates: there is room for them. It owns none of these, so that its exits let none go.
+// Makes a post of each seat, as far as there are gates: there is room for them. It owns none of these, so its exits drop none.
 fn fill<'m, L: Link, G: Gate<Link = L> + Drop>(
     multi: &'m Multi<Queued<L>, Outcome>,
     seats: &mut Vec<WorkerSeat<Queued<L>, Outcome>>,
@@ -86,7 +86,7 @@ fn fill<'m, L: Link, G: Gate<Link = L> + Drop>(
     }
 }
 
-// What a worker did. Its seat is let go.
+// What a worker did. Its seat is dropped.
 fn counts_of<L: Link>(end: WorkerEnd<'_, L>) -> Counts {
     Counts {
         recorded: end.recorded,
@@ -95,7 +95,7 @@ fn counts_of<L: Link>(end: WorkerEnd<'_, L>) -> Counts {
     }
 }
 
-// Works until the gate stops it, and says what it did. The seat comes back as it was where there was no memory for the start, and the gate
+// Works until the gate stops it, and says what it did. The seat comes back as it was where memory for the start was refused, and the gate
 // doesn't stop it.
 fn work_once<'m, L: Link, R: Wait + RandomSource + AllocGlobal, G: Gate<Link = L>>(
     rt: &R,
@@ -111,9 +111,9 @@ fn work_once<'m, L: Link, R: Wait + RandomSource + AllocGlobal, G: Gate<Link = L
     Ok(counts_of(end))
 }
 
-// Works with a seat and a gate until the gate stops it, and says what it did: the gate comes back. Where there is no memory for its start it
-// tries again after a while.
-// It has no clause, since nobody has the seat afterwards: `run_worker` has them. That it ends only where its gate stops it, tests show.
+// Works with a seat and a gate until the gate stops it, and says what it did: the gate comes back. Where memory for its start is refused,
+// it tries again after a while. It has no clause, since nobody has the seat afterwards: `run_worker` has them. Tests show that it ends only
+// where its gate stops it.
 pub(crate) fn work<'m, L: Link, R: Wait + RandomSource + AllocGlobal, G: Gate<Link = L> + Drop>(
     rt: &R,
     seat: Seated<'m, AtWork, Queued<L>, Outcome>,

@@ -1,4 +1,4 @@
-//! What a run takes of its runtime.
+//! What a run needs of its runtime.
 
 use std::alloc::AllocGlobal;
 use std::random::RandomSource;
@@ -6,8 +6,8 @@ use std::rt::Clock;
 use std::sync::Wait;
 use std::thread::Threads;
 
-/// A runtime that workers run on, each in a thread of its own. Every type that has these bounds is one. What a run takes of the network
-/// stands beside it: where a runtime of the host is handed over, the prover wants the network's types named in the signature.
+/// A runtime that workers run on, each in a thread of its own. Every type that has these bounds is one. What a run needs of the network
+/// isn't in it: for a runtime of the host the prover needs the network's types named in the signature.
 pub trait Runtime: Threads
     + Wait
     + Clock

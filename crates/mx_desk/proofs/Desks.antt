@@ -39,14 +39,14 @@ weighs_none : weight None ≡ 0
 unfolding weight
 weighs_none = refl
 
--- how many are added once what stands under a number has changed
+-- how many are added once what is under a number has changed
 counted : (os : List (Option RequestValue)) (i : ℕ) (old v : Option RequestValue) → slice_get os i ≡ Some old
     → count_by is_some (slice_set os i v) + weight old ≡ count_by is_some os + weight v
 counted [] i old v is = absurd (cc)
 counted (o ∷ os) zero old v is = let same : o ≡ old = cc in omega (arith, front o os, front v os, ap weight same)
 counted (o ∷ os) (suc i) old v is = let h = counted os i old v is in omega (arith, front o os, front o (slice_set os i v), h)
 
--- what was asked for there, of additions one of which has changed
+-- the requests of additions one of which has changed
 pub asked_set : (xs : List (Option AdditionView)) (i : ℕ) (v : Option AdditionView) → map asked_at (slice_set xs i v) ≡ slice_set (map asked_at xs) i (asked_at v)
 asked_set [] i v = refl
 asked_set (a ∷ xs) zero v = refl
@@ -57,13 +57,13 @@ asked_there [] i o is = absurd (cc)
 asked_there (a ∷ xs) zero o is = let same : a ≡ o = cc in ap (λ p. Some (asked_at p)) same
 asked_there (a ∷ xs) (suc i) o is = asked_there xs i o is
 
--- a number under which something or nothing stands is there
+-- a number under which there is an addition or none is one of the numbers
 pub inside : (xs : List (Option AdditionView)) (i : ℕ) (o : Option AdditionView) → slice_get xs i ≡ Some o → i < length xs
 inside [] i o is = absurd (cc)
 inside (a ∷ xs) zero o is = omega arith
 inside (a ∷ xs) (suc i) o is = let h = inside xs i o is in omega (arith, h)
 
--- what stands under a number whose end is awaited
+-- what is under a number whose end is awaited
 pub awaited : (xs : List (Option AdditionView)) (i : ℕ) (t : Ticket) → awaits_at xs i t ≡ true
     → (a : AdditionView) × (slice_get xs i ≡ Some (Some a)) × (a.ticket.0 ≡ t.0)
 awaited [] i t is = let bad : false ≡ true = is in absurd (cc)

@@ -6,7 +6,7 @@ use Rattle.mx_types.specs.declared.origin.Origin.{Origin}
 use Rattle.mx_request.specs.Request.{RequestValue, IsRequest, request_origin}
 use Rattle.mx_lock.specs.Ties.{Has, tie}
 
--- what contracts see of one: its number, and the request that it is of
+-- what contracts see of one: its number, and its request
 pub record AdditionView : Type 0 where
   pub ticket : Ticket
   pub request : RequestValue
@@ -16,12 +16,12 @@ pub record IsTold (ties : List Origin) (addition : AdditionView) : Type 0 where
   pub request : IsRequest addition.request
   pub told : Has ties (tie addition.ticket (request_origin addition.request))
 
--- which is so of one that stands under a number
+-- which holds for one that is under a number
 abbrev pub IsToldAt : List Origin → Option AdditionView → Type 0
 IsToldAt ties None = Unit {0}
 IsToldAt ties (Some addition) = IsTold ties addition
 
--- the addition of this ticket stands under a number
+-- the addition of this ticket is under a number
 abbrev pub awaits : Ticket → Option AdditionView → Bool
 awaits t None = false
 awaits t (Some addition) = addition.ticket.0 == t.0

@@ -4,13 +4,13 @@ use Rattle.mx_types.specs.declared.origin.Origin.{Origin}
 use Rattle.mx_request.specs.Request.{RequestValue}
 use Rattle.mx_desk.specs.Additions.{AdditionView, IsToldAt}
 
--- of which requests additions are, as its seat was told; the request that is added under each number; and how many may be added at a time
+-- the requests of additions, as its seat was told; the request that is added under each number; and how many may be added at a time
 pub record DeskValue : Type 0 where
   pub ties : List Origin
   pub asked : List (Option RequestValue)
   pub width : ℕ
 
--- the request of what stands under a number
+-- the request of what is under a number
 abbrev pub asked_at : Option AdditionView → Option RequestValue
 asked_at o = option_map (λ a. a.request) o
 

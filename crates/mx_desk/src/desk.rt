@@ -31,8 +31,8 @@ pub struct Ended {
     pub outcome: Outcome,
 }
 
-// The ticket of an addition that was made; None where the history has no room for one more. It is of any work, so that what is handed back is
-// let go as one value, whatever that is.
+// The ticket of an addition that was made; None where the history has no room for one more. It is generic over the work, so that what is
+// handed back is dropped as one value.
 fn added<Q: Drop>(answer: Result<AddReply<Q>, WrongSeat<Q>>) -> Result<Option<Ticket>, DeskError>
     ensures { IfOk result (λ o. IfSome o (λ t. answer ≡ Ok (AddReply.Added t))) }
 {
@@ -105,7 +105,7 @@ fn remove<L: Link, R: Wait>(
     }
 }
 
-// How many bytes have come of the transfer of a handle, as far as that is known.
+// How many bytes the transfer of a handle has received, as far as that is known.
 fn came<L: Link>(seat: &mut Seated<'_, Application, Queued<L>, Outcome>, at: usize) -> u64
     ensures ties { seat.new.ties ≡ seat.old.ties }
 {
@@ -118,7 +118,7 @@ fn came<L: Link>(seat: &mut Seated<'_, Application, Queued<L>, Outcome>, at: usi
     }
 }
 
-// How many bytes have come of all that is added, as far as that is known.
+// How many bytes all added transfers have received, as far as that is known.
 fn all_that_came<L: Link>(
     seat: &mut Seated<'_, Application, Queued<L>, Outcome>,
     additions: &[Option<Addition>],
@@ -135,8 +135,8 @@ fn all_that_came<L: Link>(
 }
 
 /// An application's seat, and the requests that it has added, each under a number of the caller's own, which is the number of its handle.
-/// Contracts see the request that is added under each number, how many may be added at a time, and of which requests additions are, as the
-/// seat was told.
+/// Contracts see the request that is added under each number, how many may be added at a time, and the requests of additions that the seat
+/// was told.
 #[derive(Drop)]
 pub struct Desk<'m, L: Link> {
     seat: Seated<'m, Application, Queued<L>, Outcome>,
@@ -204,7 +204,7 @@ impl<'m, L: Link> Desk<'m, L> {
         self.waiting
     }
 
-    /// How many bytes have come of the transfers that are added, as far as that is known.
+    /// How many bytes the added transfers have received, as far as that is known.
     pub fn arrived(&mut self) -> u64
         ensures { Stays self.old self.new }
     {
@@ -220,8 +220,8 @@ impl<'m, L: Link> Desk<'m, L> {
     /// Adds a request under a number, under which nothing is added. Its ticket comes back; None where the history has no room for one more,
     /// and then nothing is added.
     ///
-    /// `NotAdded` comes where there is no such number, or something is added under it, or where the multi handle refuses it. An error leaves what
-    /// is added as it was.
+    /// `NotAdded` comes where there is no such number, or something is added under it, or where the multi handle refuses it. An error
+    /// leaves what is added as it was.
     pub fn add<R: Wait + AllocGlobal>(
         &mut self,
         rt: &R,
@@ -247,7 +247,7 @@ impl<'m, L: Link> Desk<'m, L> {
     }
 
     // rule save-requests
-    // Takes an addition out, whose end came: nothing is added under its number then.
+    // Takes out an addition whose end came: nothing is added under its number then.
     fn take(&mut self, at: usize, ticket: Ticket, outcome: &Outcome) -> Result<(), DeskError>
         requires told { Has self.old.ties (tie ticket (request_origin outcome.now.request)) }
         ensures ended { OnOk result (Ends self.old self.new at outcome.now.request) }

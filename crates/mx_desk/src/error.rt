@@ -10,10 +10,10 @@ pub enum DeskError {
     /// A growth was refused.
     #[error("out of memory")]
     OutOfMemory,
-    /// The multi handle refused an addition or a removal, and not for want of memory or room.
+    /// The multi handle refused an addition or a removal, for another reason than memory or room.
     #[error("a transfer can't be added or removed")]
     NotAdded,
-    /// No message was read, for want of memory, or one came that is of no addition of the desk.
+    /// No message was read, as memory was refused; or one came that is of no addition of the desk.
     #[error("no message came of a transfer that was added")]
     NoMessage,
 }
@@ -24,7 +24,7 @@ impl From<AllocError> for DeskError {
     }
 }
 
-/// The value that found no room is dropped.
+/// The value that couldn't be stored is dropped.
 impl<T: Drop> From<AllocFailed<T>> for DeskError {
     fn from(_refused: AllocFailed<T>) -> DeskError {
         DeskError::OutOfMemory

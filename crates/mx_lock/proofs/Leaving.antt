@@ -45,7 +45,7 @@ module _ {Q O : Type 0} (ending : O → Origin) where
   makes_running who call x y before after ties reply called other queue tied =
       record { called = called; claims = claims_running x.opening who call x.journal reply y.journal x.queue y.queue called.answers other queue; list = refl; tied = tied }
 
-  -- what a deed made of an engine's parts, once it is published
+  -- what a call made of an engine's parts, once it is published
   pub leaves_by : (who : Who) (call : Call) (reply : Reply) (x y : EngineState Q O) (a b : Core Q O) (before after : BoardState) (s t : TieState) → record { core = a; published = before.published; book = before.book; ties = s } ≡ x → y ≡ record { core = b; published = b.journal; book = after.book; ties = t }
       → Makes ending who call a b before after s t reply → is_legal y.core.journal ≡ true → Leaves who call x reply y
   leaves_by who call reply x y a b before after s t was is m legal =

@@ -1,5 +1,5 @@
--- A lock may be shared by threads, and what lies in it may go to another thread, where work and endings may go to one.
--- `search` finds it for what these are made of, but not for the control state, so each step stands here.
+-- A lock may be shared by threads, and its content may go to another thread, where work and endings may.
+-- `search` finds it for what these are made of, but not for the control state, so each step is here.
 use denote.RattleType.{RattleType}
 use denote.Param.Send.{IsSend, IsSync, struct_send, struct_sync, sendable}
 use denote.Struct.Declared.{shape}

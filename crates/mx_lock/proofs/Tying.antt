@@ -119,7 +119,7 @@ module _ {Q O : Type 0} (ending : O → Origin) where
       tied_same x y ties h (same is) endings
   tied_given (giving.Stale _) x y ties marked t origin h legal each one known_ back endings given same = tied_same x y ties h given endings
 
-  -- what lies in the lock is of its tickets' additions
+  -- the content of the lock is of its tickets' additions
   pub of_additions : (work : Q → Origin) (x : Core Q O) (ties : List Origin) → IsTied ending x ties → length x.origins ≡ (next_ticket x.opening x.journal).0 → AreOwn work x.origins x.queue → AreOfAdditions work ending x ties
   of_additions work x ties h each own = record {
     each = ap length (sym h.same) ∙ each;

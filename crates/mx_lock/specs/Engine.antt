@@ -17,7 +17,7 @@ use Rattle.mx_types.specs.declared.code.Code.{Code}
 use Rattle.mx_types.specs.declared.origin.Origin.{Origin}
 use Rattle.mx_lock.specs.Ties.{IsTied, TieState}
 
--- the control state, the journal of the version that is published, which journal it is, and of which requests additions are
+-- the control state, the journal of the version that is published, which journal it is, and the requests of additions
 pub record EngineState (Q O : Type 0) : Type 0 where
   pub core : Core Q O
   pub published : List Event
@@ -39,7 +39,7 @@ pub record Content : Type 0 where
 abbrev pub content : {Q O : Type 0} → EngineState Q O → Content
 content x = record { journal = x.core.journal; engine = record { book = x.book; opening = x.core.opening; ties = x.ties.book }; claimed = claimed x.core.journal x.core.queue }
 
--- rule multi-lock: What lies in the lock is a sound control state, and the version that is published is that of its journal.
+-- rule multi-lock: The lock holds a sound control state, and the version that is published is that of its journal.
 pub record IsLocked {Q O : Type 0} (code : O → Code) (size : O → ℕ) (x : EngineState Q O) : Type 0 where
   pub sound : IsSound code size x.core.opening.history x.core.journal x.core.queue x.core.endings
   pub published : x.published ≡ x.core.journal
@@ -62,8 +62,8 @@ HasNoOther before after = (t : Ticket) → has_ticket t after ≡ true → has_t
 abbrev pub CalledOn : {Q O : Type 0} → Who → Call → Core Q O → Core Q O → BoardState → BoardState → Reply → Type 0
 CalledOn who call old new before after reply = Called (λ (w : BoardState). w.events) (λ (w : BoardState). name_of w.book) (λ (w : BoardState). Unit {0}) who call old new before after reply
 
--- A deed makes the core's call, with the board as its log; and no work leaves the queue but that which runs no more. The list of ties is the
--- same list, and has the request of each addition afterwards, too.
+-- An operation makes the core's call, with the board as its log. No work leaves the queue but that which runs no more. The list of ties is
+-- the same list, and has the request of each addition afterwards, too.
 pub record Makes {Q O : Type 0} (ending : O → Origin) (who : Who) (call : Call) (old new : Core Q O) (before after : BoardState) (ties grown : TieState) (reply : Reply) : Type 0 where
   pub called : CalledOn who call old new before after reply
   pub claims : HasNoOther (claimed old.journal old.queue) (claimed new.journal new.queue)

@@ -1,4 +1,4 @@
--- The rule of the lock, over what lies in it and what each key knows.
+-- The rule of the lock, over its content and what each key knows.
 use Rattle.std.specs.Prelude.{◌≡◌, ◌≢◌, ℕ, zero, suc, ◌+◌, ◌-◌, ◌≤◌, nat_lt, if◌then◌else◌, true, false, not, List, [], ◌∷◌, ◌++◌, length}
 use Rattle.std.specs.List.{filter}
 use mathlib.Core.Option.{some}
@@ -29,7 +29,7 @@ pub record LockView (X : Type 0) : Type 0 where
 abbrev pub IsKeyOf : {X : Type 0} → LockView X → Pass X KeyView → Type 0
 IsKeyOf l k = (k.table_id ≡ l.table) × (k.me.0.of ≡ l.keys) × (k.me.1 ≡ [])
 
--- the maker whose key has the number: of the founder's key no seat's, then the seats, then the workers
+-- the maker whose key has the number: the opening key's is no seat's, then come the seats, then the workers
 abbrev pub maker : ℕ → Who
 maker zero = who.Seat most_seats
 maker (suc k) = if nat_lt k most_seats then who.Seat k else who.Worker (k - most_seats)
@@ -80,12 +80,13 @@ abbrev pub HasSeenAll : List KeyView → Content → Type 0
 HasSeenAll views c = (k : ℕ) → length views ≤ k → (j : ℕ) (v : KeyView) → get_elem? views j ≡ some v → made_by (maker k) c.journal ≡ made_by (maker k) v.seen
 
 module _ {X : Type 0} (content : X → Content) where
-  -- one key holds the engine, with the journal that it found; or the engine lies in the lock
+  -- one key holds the engine, with the journal that it found; or the engine is in the lock
   abbrev pub Lies : Content → List X → List KeyView → Type 0
   Lies c [] views = (k : ℕ) × (v : KeyView) × (get_elem? views k ≡ some v) × (v.holding ≡ true) × (v.held ≡ c.journal) × (v.found ≡ c.claimed) × ((j : ℕ) (u : KeyView) → get_elem? views j ≡ some u → u.holding ≡ true → j ≡ k)
   Lies c (x ∷ rest) views = (rest ≡ []) × (content x ≡ c) × ((j : ℕ) (u : KeyView) → get_elem? views j ≡ some u → u.holding ≡ false)
 
-  -- there is one engine with one journal; what a maker that has no key made, each key has seen; and what runs and isn't queued a key has claimed
+  -- there is one engine with one journal; what a maker that has no key made, each key has seen; and what runs and isn't queued a key has
+  -- claimed
   abbrev pub Keeps : List X → List KeyView → Type 0
   Keeps items views = (c : Content) × Lies c items views × ((j : ℕ) (v : KeyView) → get_elem? views j ≡ some v → Agrees c (length views) j v) × HasSeenAll views c × IsOwned c.claimed views
 
@@ -102,7 +103,8 @@ pub record IsFoundBy {Q O : Type 0} (code : O → Code) (size : O → ℕ) (v : 
   pub locked : IsLocked code size x
   pub own : made_by (maker v.number) x.core.journal ≡ made_by (maker v.number) v.seen
 
--- the key after it gave the engine back: it has seen the journal, and what is claimed now and wasn't when it took the engine, it has claimed
+-- the key after it gave the engine back: it has seen the journal, and what is claimed now and wasn't when it took the engine, it has
+-- claimed
 abbrev pub given : KeyView → Content → KeyView
 given v c = record v { holding = false; held = []; found = []; seen = c.journal; claims = v.claims ++ newly v.found c.claimed }
 
@@ -110,8 +112,8 @@ given v c = record v { holding = false; held = []; found = []; seen = c.journal;
 abbrev pub released : KeyView → KeyView
 released v = record v { holding = false; held = []; found = [] }
 
--- the founder's key, which makes the others, once it has put the engine in: it has seen the journal that it put in, and what is
--- claimed there is its; the next key gets the number n
+-- the opening key, which makes the others, once it has put the engine in: it has seen the journal that it put in, and the claims there are
+-- its; the next key gets the number n
 abbrev pub founder_at : Content → ℕ → KeyView
 founder_at c n = record { number = 0; next = n; told = true; engine = name_of c.engine; holding = false; held = []; found = []; seen = c.journal; claims = c.claimed }
 

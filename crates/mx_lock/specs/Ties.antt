@@ -1,5 +1,5 @@
--- Of which request each addition is: a list that only grows, beside the journal and over all retirings. Tickets number the additions, so the
--- request of a ticket stands at its number.
+-- The request of each addition: a list that only grows, beside the journal and over all retirings. Tickets number the additions, so the
+-- request of a ticket is at its number.
 use Rattle.std.specs.Prelude.{ℕ, ◌≡◌, List, length, Option, Some, None}
 use Rattle.logbook.specs.Pages.{Book}
 use Rattle.mx_append_log.specs.Log.{Mark}
@@ -30,7 +30,7 @@ tie t origin = record { ticket = t; origin = origin }
 abbrev pub Has : List Origin → Tie → Type 0
 Has ties x = origin_of x.ticket ties ≡ Some x.origin
 
--- what an answer tells: an addition is of its work's request, and so is a message's ticket's of the ending's
+-- what an answer shows: an addition is of its work's request, and the addition of a message's ticket is of its ending's
 abbrev pub tie_added : {Q : Type 0} → AddReply Q → Origin → Option Tie
 tie_added (add.Added t) origin = Some (tie t origin)
 tie_added _ origin = None
@@ -39,7 +39,7 @@ abbrev pub tie_read : {O : Type 0} → (O → Origin) → InfoReply O → Option
 tie_read origin (info.Message h t o left) = Some (tie t (origin o))
 tie_read origin _ = None
 
--- what was told is in the list
+-- what was shown is in the list
 abbrev pub Tells : Option Tie → List Origin → Type 0
 Tells None ties = Unit {0}
 Tells (Some x) ties = Has ties x
@@ -63,7 +63,8 @@ pub record IsTied {Q O : Type 0} (ending : O → Origin) (core : Core Q O) (ties
   pub same : core.origins ≡ ties
   pub endings : AreOwn ending ties core.endings
 
--- There is a tie for each ticket below the next; and work that is queued, and endings that wait, are of the request of their ticket's addition.
+-- There is a tie for each ticket below the next; and work that is queued, and endings that wait, are of the request of their ticket's
+-- addition.
 pub record AreOfAdditions {Q O : Type 0} (work : Q → Origin) (ending : O → Origin) (core : Core Q O) (ties : List Origin) : Type 0 where
   pub each : length ties ≡ (next_ticket core.opening core.journal).0
   pub queue : AreOwn work ties core.queue

@@ -16,8 +16,8 @@ use mx_types::{Call, Ending, HandleId, Reply, Who, Work};
 use std::snapshot::Snapshot;
 use std::sync::Wait;
 
-/// A call that is made under the lock: which call of the history it is, what its answer stands for, what comes back, of which
-/// request the answer tells that a ticket's addition is, and of which list of ties its claim is, where it has one.
+/// A call that is made under the lock: which call of the history it is, the reply of its answer, what comes back, the tie that the answer
+/// shows (a ticket and the request of its addition), and the list of ties of its claim, where it has one.
 pub trait Deed<Q: Work + Drop, O: Ending + Drop> {
     type Reply;
 
@@ -45,7 +45,7 @@ pub trait Deed<Q: Work + Drop, O: Ending + Drop> {
     fn as_call(&self) -> Call
         ensures { result ≡ call self.now };
 
-    /// The reply that its answer stands for, for its receipt.
+    /// The reply of its answer, for its receipt.
     fn as_reply(answer: &Self::Reply) -> Reply
         ensures { result ≡ reply answer.now };
 }

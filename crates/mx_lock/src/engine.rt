@@ -29,8 +29,8 @@ pub struct Parts<Q: Work + Drop, O: Ending + Drop> {
     pub ties: TieLog,
 }
 
-/// The control state, and the board. The published version is always that of the control state's journal. Beside the journal
-/// stands of which request each addition is, for contracts alone. All of it lies in a box, so that an engine is cheap to move.
+/// The control state, and the board. The published version is always that of the control state's journal. Beside the journal it has the
+/// request of each addition, for contracts alone. All of it is boxed, so that an engine is cheap to move.
 #[derive(Drop)]
 pub struct Engine<Q: Work + Drop, O: Ending + Drop> {
     pub(crate) parts: Box<Parts<Q, O>>,
@@ -84,7 +84,7 @@ impl<Q: Work + Drop, O: Ending + Drop> Engine<Q, O> {
         self.parts.core.kept(alloc)
     }
 
-    /// Whether a claim was made that hasn't come back.
+    /// Whether a claim is out.
     pub fn claim_out(&self) -> bool
         ensures { result ≡ nat_lt 0 self.now.core.out }
     {
@@ -118,7 +118,7 @@ impl<Q: Work + Drop, O: Ending + Drop> Engine<Q, O> {
     }
 
     // rule multi-lock
-    /// What holds of everything that lies in a lock, for contracts alone: the control state is sound, and the version that is
+    /// What holds of every engine in a lock, for contracts alone: the control state is sound, and the version that is
     /// published is that of its journal; there is a tie for each addition, and queued work and endings are of their tickets'
     /// additions.
     pub fn know(&self) -> Snapshot<Engine<Q, O>>
@@ -157,7 +157,7 @@ impl<Q: Work + Drop, O: Ending + Drop> Engine<Q, O> {
         self.parts.ties.mark()
     }
 
-    /// Tells a mark all ties.
+    /// Brings a mark up to all ties.
     pub fn tell(&self, mark: &mut TieMark)
         requires { self.now.ties.book ≡ mark.old.book }
         ensures book { mark.new.book ≡ mark.old.book }

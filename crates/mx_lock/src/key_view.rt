@@ -1,15 +1,15 @@
 use mx_types::{Event, Ticket};
 use std::collections::LinkedList;
 
-/// Which list that only grows. No value of it is made.
+/// The name of a list that only grows. It exists in contracts alone.
 pub struct BookName {
     pub number: u64,
     pub log_name: u64,
     pub cells_name: u64,
 }
 
-/// Which engine: its journal, its list of ties, and what it was opened with; the last two are the base of its tickets, and how
-/// many events were kept at the last retiring. No value of it is made.
+/// Which engine: its journal, its list of ties, and what it was opened with; the last two are the base of its tickets, and how many events
+/// were kept at the last retiring. It exists in contracts alone.
 pub struct EngineName {
     pub journal: BookName,
     pub ties: BookName,
@@ -18,11 +18,11 @@ pub struct EngineName {
     pub from: u64,
 }
 
-/// What a key of the lock knows. No value of it is made.
+/// What a key of the lock knows. It exists in contracts alone.
 pub struct KeyView {
     /// The number of the key.
     pub number: u64,
-    /// The number of the next key, where this one may make keys, and else 0.
+    /// The number of the next key where this one may make keys, else 0.
     pub next: u64,
     /// Whether it knows which engine it is.
     pub told: bool,

@@ -1,4 +1,4 @@
-//! The lock: a channel with one place, in which the engine lies, under a rule over the keys.
+//! The lock: a channel with one place, which holds the engine, under a rule over the keys.
 ghost use Rattle.std.specs.Prelude.{◌≡◌, ◌≢◌, [], true, false, IfErr, IfOk, MatchResult};
 ghost use mathlib.Core.List.{IsPrefix};
 ghost use Rattle.crossbeam_channel.specs.Claims.{view};
@@ -44,7 +44,7 @@ impl<Q: Work + Drop, O: Ending + Drop> Model for Lock<Q, O> {
     ghost invariant = { λ l. (receives_on l.from ≡ sends_on l.into) × IsKeyed (sends_on l.into) };
 }
 
-/// A lock in which no engine lies yet, with its only key: all that a lock asks of memory. Contracts see which lock it is.
+/// A lock without an engine yet, with its only key: all memory that a lock takes. Contracts see which lock it is.
 #[derive(Drop)]
 pub struct EmptyLock<Q: Work + Drop, O: Ending + Drop> {
     lock: Lock<Q, O>,
@@ -202,7 +202,7 @@ impl<Q: Work + Drop, O: Ending + Drop> Lock<Q, O> {
         Err(known)
     }
 
-    /// Gives the engine back, brings the reader up to its journal, and tells the mark all ties.
+    /// Gives the engine back, and brings the reader up to its journal and the mark up to all ties.
     pub fn leave<R: Wait>(
         &self,
         rt: &R,

@@ -1,4 +1,4 @@
-//! The rule of the lock, and what its steps tell.
+//! The rule of the lock, and what its steps show.
 
 use crate::engine::Engine;
 use crate::key_view::KeyView;
@@ -17,7 +17,7 @@ impl<Q: Work + Drop, O: Ending + Drop> Protocol<Engine<Q, O>, KeyView> for LockR
     ghost first = { first_key };
 }
 
-/// What a taking tells.
+/// What a taking shows.
 pub struct Takes;
 
 impl<Q: Work + Drop, O: Ending + Drop> Outcome<Engine<Q, O>, KeyView> for Takes {
@@ -31,7 +31,7 @@ impl<Q: Work + Drop, O: Ending + Drop> Lesson<Engine<Q, O>, KeyView> for Takes {
     ghost fact = { λ v items. Unit {0} };
 }
 
-/// What a giving back tells: the key has seen the journal.
+/// What a giving back shows: the key has seen the journal.
 pub struct Gives;
 
 impl<Q: Work + Drop, O: Ending + Drop> Outcome<Engine<Q, O>, KeyView> for Gives {
@@ -46,7 +46,7 @@ impl<Q: Work + Drop, O: Ending + Drop> Lesson<Engine<Q, O>, KeyView> for Gives {
     ghost fact = { λ v items. Unit {0} };
 }
 
-/// What a putting back tells: the journal is as it was found, and the key has seen no more than before.
+/// What a putting back shows: the journal is as it was found, and the key has seen no more than before.
 pub struct PutsBack;
 
 impl<Q: Work + Drop, O: Ending + Drop> Outcome<Engine<Q, O>, KeyView> for PutsBack {
@@ -60,7 +60,7 @@ impl<Q: Work + Drop, O: Ending + Drop> Lesson<Engine<Q, O>, KeyView> for PutsBac
     ghost fact = { λ v items. Unit {0} };
 }
 
-/// What the first giving tells.
+/// What the first giving shows.
 pub struct Founds;
 
 impl<Q: Work + Drop, O: Ending + Drop> Outcome<Engine<Q, O>, KeyView> for Founds {

@@ -21,7 +21,7 @@ use mx_types::{Ending, Who, Work};
 use std::marker::Model;
 use std::sync::Wait;
 
-/// The engine, taken out of the lock. It has no `Drop`, and ends by being given back or put back alone, or with the lock.
+/// The engine, taken out of the lock. It has no `Drop`: it ends only by being given back or put back, or with the lock.
 /// Contracts see what `Engine` has.
 pub struct Taken<Q: Work + Drop, O: Ending + Drop> {
     engine: Engine<Q, O>,
@@ -49,8 +49,8 @@ impl<Q: Work + Drop, O: Ending + Drop> Taken<Q, O> {
         engine
     }
 
-    // Never lent mutably: who could change it could put another engine in its place, and drop this one.
-    /// What lies in the lock, to look at.
+    // Never lent mutably: a caller could then put another engine in its place, and drop this one.
+    /// The engine of the lock, to look at.
     pub fn engine(&self) -> &Engine<Q, O>
         ensures { result.now ≡ self.now }
     {

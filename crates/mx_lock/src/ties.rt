@@ -1,4 +1,4 @@
-//! Of which request each addition is: a list that only grows, and exists in contracts alone.
+//! The request of each addition: a list that only grows, and exists in contracts alone.
 ghost use Rattle.std.specs.Prelude.{◌≡◌};
 ghost use Rattle.mx_journal.specs.Replies.{origins_added};
 
@@ -9,10 +9,10 @@ use mx_types::{Origin, Work};
 use std::snapshot::Snapshot;
 use std::sync::Wait;
 
-/// The list where it grows: the ties so far, and which list it is.
+/// The growing end of the list: the ties so far, and which list it is.
 pub type TieLog = AppendLog<Origin>;
 
-/// A beginning of the list that was reached. It has no size.
+/// A prefix of the list that was reached. It has no size.
 pub type TieMark = LogMark<Origin>;
 
 /// The tie of an addition: its work's request.

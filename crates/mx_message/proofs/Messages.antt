@@ -82,7 +82,7 @@ module _ {Q : Type 0} where
       waited_more s s t call.InfoRead reply.Empty (λ cut. inl (refl, refl)) (waited_none s)
       (subst (λ x. Stands s t call.InfoRead (reply_of_info (λ x. x.code) (λ x. length (joined x.wire x.parts)) x)) is h)
 
-  -- and a poll behind it
+  -- and a poll after it
   pub polled : (s t u : SeatView Q OutcomeValue) → Waited s t → Stands t u call.Poll reply.Woken → Waited s u
   polled s t u h k = waited_more s t u call.Poll reply.Woken (λ cut. inr (refl, refl)) h k
 
@@ -91,7 +91,7 @@ module _ {Q : Type 0} where
   polled_or_not s t true P h = polled s s t (waited_none s) h.0
   polled_or_not s t false P h = subst (Waited s) (sym h) (waited_none s)
 
-  -- where nothing was answered, where a reading found no memory, and where a reading found none and no poll was answered
+  -- where nothing was answered, where a reading was refused memory, and where a reading found none and no poll was answered
   pub unread_same : (s t : SeatView Q OutcomeValue) → t ≡ s → Unread s t
   unread_same s t e = record { at = s; waited = waited_none s; last = inl e }
 
@@ -149,7 +149,7 @@ next s at t h ticket o left w r = record {
   as_told = λ origin told. sym (told_alike s.ties t.ties (inl (prefix_trans s.ties at.ties t.ties w.later.ties r.stands.ties)) ticket origin (request_origin o.request) told r.of_addition);
 }
 
--- what is read behind calls that waited
+-- what is read after calls that waited
 pub next_of : {Q : Type 0} (s at t : SeatView Q OutcomeValue) (r : Result (Option Message) NoMessage) → Waited s at
     → IfOk r (λ o. MatchOption o (Waited at t) (λ m. (m.code ≡ m.outcome.code) × IsRead at t m.handle m.ticket m.outcome m.left))
     → IfOk r (λ o. MatchOption o (Waited s t) (λ m. IsNextMessage s t m.handle m.ticket m.outcome m.left))

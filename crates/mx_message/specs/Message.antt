@@ -53,7 +53,7 @@ pub record Waited {Q : Type 0} (s t : SeatView Q OutcomeValue) : Type 0 where
   pub later : Later s t more
   pub waits : All IsWait more
 
--- no message was read: calls that wait for one were answered, and then perhaps a reading that found no memory
+-- no message was read: calls that wait for one were answered, and then perhaps a reading that was refused memory
 pub record Unread {Q : Type 0} (s t : SeatView Q OutcomeValue) : Type 0 where
   pub at : SeatView Q OutcomeValue
   pub waited : Waited s at
@@ -69,7 +69,7 @@ pub record IsRead {Q : Type 0} (s t : SeatView Q OutcomeValue) (h : HandleId) (t
 -- rule multi-next-message: The next message is a reading of the one legal history, of the request that was added under its ticket, and with
 -- code 0 it has its body.
 pub record IsNextMessage {Q : Type 0} (s t : SeatView Q OutcomeValue) (h : HandleId) (ticket : Ticket) (o : OutcomeValue) (left : ℕ) : Type 0 where
-  -- the calls that waited for it, readings that found none and polls, have receipts behind those of the seat, and then the reading stands
+  -- the calls that waited for it, readings that found none and polls, have receipts after those of the seat, and then comes the reading
   pub at : SeatView Q OutcomeValue
   pub waited : Waited s at
   pub stands : Stands at t call.InfoRead (answer_of h ticket o left)
@@ -79,6 +79,6 @@ pub record IsNextMessage {Q : Type 0} (s t : SeatView Q OutcomeValue) (h : Handl
   -- to the last request of the chain
   pub outcome : IsOutcome o
   pub body : o.code ≡ code.Ok → CarriesBody o
-  -- the first request is the one that was added under its ticket, which is that of which the seat was told, where it was
+  -- the first request is the one that was added under its ticket: the one that the seat was told, if it was
   pub of_addition : Has t.ties (tie ticket (request_origin o.request))
   pub as_told : (origin : Origin) → Has s.ties (tie ticket origin) → request_origin o.request ≡ origin

@@ -19,11 +19,11 @@ pub struct Message {
     pub ticket: Ticket,
     pub code: Code,
     pub outcome: Outcome,
-    /// How many messages wait behind it.
+    /// How many messages wait after it.
     pub left: u32,
 }
 
-/// No message was read: a call was answered `WrongSeat`, or there was no memory.
+/// No message was read: a call was answered `WrongSeat`, or memory was refused.
 #[derive(Clone, Copy)]
 pub struct NoMessage;
 
@@ -108,8 +108,8 @@ fn poll_within<Q: Work + Drop, R: Wait + Clock>(
 }
 
 /// Reads the next message; where none waits, it waits for one as long as that, at most (curl_multi_poll(3) with its timeout). Of a message
-/// it says what `next_message` says. Where none came it answers None, and of the calls that waited for one the receipts stand behind those
-/// that the seat had, as they do where it answers `NoMessage`. No clause says that it waits that long, or no longer.
+/// it says what `next_message` says. Where none came it answers None, and the receipts of the calls that waited for one follow those that
+/// the seat had, as they do where it answers `NoMessage`. No clause says that it waits that long, or no longer.
 pub fn next_message_within<Q: Work + Drop, R: Wait + Clock>(
     rt: &R,
     seat: &mut Seated<'_, Application, Q, Outcome>,
@@ -132,15 +132,15 @@ pub fn next_message_within<Q: Work + Drop, R: Wait + Clock>(
 // rule multi-next-message
 /// Waits for the next message, and reads it (curl_multi_info_read(3), curl_multi_poll(3)).
 ///
-/// The reading stands in the one legal history that the seat has then seen, behind all that it had seen, with the answer of a one-thread
-/// multi handle, and its receipt behind those of the calls that waited for it. In that history the ticket has one end and one reading at
-/// most, and nothing after its removal, and messages are first in, first out. The outcome's request is the one that was added under the
-/// ticket, and its hops are a chain from there on: each later request is the one to which the response before led, and each hop ended as
-/// the answers of its link come to. With `Code::Ok` it carries the body of the response to the last request of the chain, by RFC 9112,
-/// within the bytes that the last hop's connection gave.
+/// The reading is in the one legal history that the seat has then seen, after all that it had seen, with the answer of a one-thread multi
+/// handle, and its receipt follows those of the calls that waited for it. In that history the ticket has one end and one reading at most,
+/// and nothing after its removal, and messages are first in, first out. The outcome's request is the one that was added under the ticket,
+/// and its hops are a chain from there on: each later request is the one to which the response before led, and each hop ended by the
+/// answers of its link. With `Code::Ok` it carries the body of the response to the last request of the chain, by RFC 9112, within the bytes
+/// that the last hop's connection gave.
 ///
-/// The calls that waited for it, which are readings that found none and polls, have receipts behind those that the seat had. So have they
-/// where it answers `NoMessage`, and behind them perhaps a reading that found no memory.
+/// The calls that waited for it, which are readings that found none and polls, have receipts after those that the seat had. So have they
+/// where it answers `NoMessage`, and after them perhaps a reading that was refused memory.
 #[tactic(auto, using(crate::proofs::Messages::waited_none, crate::proofs::Messages::waited_on))]
 pub fn next_message<Q: Work + Drop, R: Wait>(
     rt: &R,

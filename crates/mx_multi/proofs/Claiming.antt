@@ -30,7 +30,7 @@ single t (u ∷ v ∷ ts) all order has =
     let less = order.0.0 in
     absurd (omega (arith, first, next, less))
 
--- a ticket is new where it stood first in the queue
+-- a ticket is new where it was first in the queue
 pub claims_new : {Q : Type 0} (j k : List Event) (t : Ticket) (work : Q) (before after : List (Ticket × Q)) → is_legal k ≡ true → k ≡ j → before ≡ (t, work) ∷ after
     → has_ticket t (claimed k after) ≡ true → newly (claimed j before) (claimed k after) ≡ t ∷ []
 claims_new {Q} j k t work before after legal same queue has =

@@ -58,7 +58,7 @@ module _ {Q O : Type 0} where
       ⊎_elim (λ (p : OneFindsOther j seats). inl p) (λ (p : OneFindsOther j workers). inr (other_rest j one workers p)) o) h
 
   module _ (code : O → Code) (size : O → ℕ) (m : MultiView Q O) (seats workers : List (SeatView Q O)) (last : SeatView Q O) where
-    -- what lies in the lock isn't what the seat has seen
+    -- the journal in the lock isn't what the seat has seen
     pub wrong_seat : last.of ≡ m → FindsOther code size last → IsRefused code size m (seats ++ last ∷ []) workers refusal.WrongSeat
     wrong_seat own o = (
       o.found,
@@ -76,7 +76,7 @@ module _ {Q O : Type 0} where
     right : (x : EngineState Q O) → FoundIn code size m x → Finds last x.core.journal → AllFind x.core.journal seats → AllFind x.core.journal workers → HasRightSeats code size m (seats ++ last ∷ []) workers x
     right x at f all all_workers = (at, All-push (λ (s : SeatView Q O). Finds s x.core.journal) seats last all f, all_workers)
 
-    -- what hinders it beside that seat hinders it
+    -- what blocks it beside that seat blocks it
     pub refused_by : (why : Refusal) (x : EngineState Q O) (l : Limits) → l ≡ m.limits → FoundIn code size m x → Finds last x.core.journal → Hinders x l seats workers why → IsRefused code size m (seats ++ last ∷ []) workers why
     refused_by refusal.WrongSeat x l is at f h = (
       x,
@@ -94,7 +94,7 @@ module _ {Q O : Type 0} where
     refused_by refusal.OutOfMemory x l is at f h = (x, right x at f h.0 h.1, h.4, none_lack l is h.2 h.3)
 
   module _ (code : O → Code) (size : O → ℕ) (m : MultiView Q O) where
-    -- one of those that are to meet is wrong: of the seats, where the first of them stands apart
+    -- one of those that are to meet is wrong: of the seats, where the first of them is apart
     pub wrong_of_seats : (one : SeatView Q O) (seats workers : List (SeatView Q O)) → OneIsWrong code size m one seats workers → HasWrongSeat code size m (one ∷ seats) workers
     wrong_of_seats one seats workers h = (h.0, h.1, other_of h.0.core.journal one seats workers h.2)
 

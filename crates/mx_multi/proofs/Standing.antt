@@ -288,7 +288,7 @@ seat_read v r t s h = record {
   but_last = h.but_last;
 }
 
--- a read stands at what it has then seen
+-- a read is placed at what it has then seen
 pub stands_read : {Q O : Type 0} (of : MultiView Q O) (v : KeyView) (r t : ReaderState) (p : ℕ) (n : NoteState) (k : List Origin) (ms : List Receipt) (back : List Ticket) (mt : List Receipt) (call : Call) (reply : Reply) → Reads r t → is_poll call ≡ false → Answers of.engine.opening r.who call t.seen reply t.seen
     → mt ≡ ms ++ record { cut = length t.seen; call = call; reply = reply } ∷ [] → Stands (seat_of of v r p n k ms back) (seat_of of v t p n k mt back) call reply
 stands_read of v r t p n k ms back mt call reply h quiet a mine =
@@ -339,7 +339,7 @@ pub not_ahead : {Q O : Type 0} (code : O → Code) (size : O → ℕ) (v : KeyVi
     → FindsOther code size (seat_of of v r p n k m back)
 not_ahead code size v r x of p n k m back engine locked lacks = record { found = x; engine = sym engine; locked = locked; other = λ f. lacks (f.later, f.own) }
 
--- and what a reader was told of an engine holds of the same one
+-- and what a reader knows of an engine holds for the same one
 pub ahead_as : {Q O : Type 0} (b : Bool) (r : ReaderState) (x y : EngineState Q O) → x ≡ y → b ≡ true → MatchBool b (IsAhead r x.core.journal) (IsAhead r x.core.journal → ⊥) → IsAhead r y.core.journal
 ahead_as {Q} {O} b r x y e is h =
     subst (λ (z : EngineState Q O). IsAhead r z.core.journal) e (subst (λ c. MatchBool c (IsAhead r x.core.journal) (IsAhead r x.core.journal → ⊥)) is h)
@@ -385,7 +385,7 @@ received_released v u r of of' p n k m back same h =
 pub left_from : {Q O : Type 0} (code : O → Code) (size : O → ℕ) (old s t : SeatView Q O) (reply : Reply) → old ≡ s → LeavesState code size old t reply → LeavesState code size s t reply
 left_from {Q} {O} code size old s t reply e h = subst (λ (z : SeatView Q O). LeavesState code size z t reply) e h
 
--- what was told of a list is told of each that goes on
+-- what was told of a list is told of each continuation
 pub tells_on : (xs ys : List Origin) (o : Option Tie) → IsPrefix xs ys → Tells o xs → Tells o ys
 tells_on xs ys None p h = tt
 tells_on xs ys (Some x) p h = has_more xs ys x.ticket x.origin p h

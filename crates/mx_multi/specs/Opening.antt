@@ -1,4 +1,4 @@
--- Opening a multi handle, and founding it anew.
+-- Opening a multi handle, and opening it anew over what was retired.
 use Rattle.std.specs.Prelude.{◌≡◌, ℕ, ◌+◌, ◌≤◌, nat_le, vec_capacity, vec_len, ◌&&◌, Bool, true, false, if◌then◌else◌, List, [], ◌∷◌, length, All}
 use Rattle.std.specs.VecDeque.{deque_len}
 use Rattle.logbook.specs.Pages.{Book}
@@ -16,7 +16,7 @@ use Rattle.mx_multi.specs.declared.open.OpenError.{OpenError}
 use Rattle.mx_multi.specs.declared.open.OpenError.TheVariants as refusal
 use Rattle.mx_multi.specs.Seats.{MultiView, SeatView, IsNew}
 
--- the most idle connections that a worker may be let keep
+-- the most idle connections that a worker may be allowed to keep
 abbrev pub most_connects : ℕ
 most_connects = 64
 

@@ -1,4 +1,4 @@
--- How far a transfer is, by the progress word of its addition's slot.
+-- The progress of a transfer, by the word of its addition's slot.
 use Rattle.std.specs.Prelude.{◌≡◌, ◌⊎◌, ℕ, ◌<◌, ◌≤◌, true, [], ◌∷◌, ◌++◌, List, None, Some}
 use Rattle.mx_types.specs.declared.names.HandleId.{HandleId}
 use Rattle.mx_types.specs.declared.names.Ticket.{Ticket}
@@ -30,7 +30,7 @@ pub record SaysAdded (h : HandleId) (j : List Event) (before after : NoteState) 
   pub at : slot_of ticket j ≡ Some slot
   pub word : SaysWord ticket slot before after p
 
--- how far a handle's transfer is by these events: it isn't added, or the word of its slot was read
+-- the progress of a handle's transfer by these events: it isn't added, or the word of its slot was read
 abbrev pub IsProgress : HandleId → List Event → NoteState → NoteState → Progress → Type 0
 IsProgress h j before after p = ((ticket_of h j ≡ None) × (p ≡ progress.NotAdded) × (after ≡ before)) ⊎ SaysAdded h j before after p
 

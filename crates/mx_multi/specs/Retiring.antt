@@ -19,15 +19,15 @@ use Rattle.mx_multi.specs.declared.retire.Refusal.TheVariants as refusal
 abbrev pub AllFind : {Q O : Type 0} → List Event → List (SeatView Q O) → Type 0
 AllFind j seats = All (λ s. Finds s j) seats
 
--- of one of the seats that doesn't hold
+-- that doesn't hold for one of the seats
 abbrev pub OneFindsOther : {Q O : Type 0} → List Event → List (SeatView Q O) → Type 0
 OneFindsOther {Q} {O} j seats = (k : ℕ) × (d : SeatView Q O) × (k < length seats) × (Finds (slice_index_or seats k d) j → ⊥)
 
--- what each of the seats was told of requests, and this list, are beginnings of one
+-- the ties that each of the seats was told, and this list, are prefixes of one list
 abbrev pub AllToldOf : {Q O : Type 0} → List Origin → List (SeatView Q O) → Type 0
 AllToldOf ties seats = All (λ s. AreOfOneList s.ties ties) seats
 
--- what lay in the lock of the multi handle: its control state was sound
+-- the engine in the lock of the multi handle: its control state was sound
 pub record FoundIn {Q O : Type 0} (code : O → Code) (size : O → ℕ) (m : MultiView Q O) (x : EngineState Q O) : Type 0 where
   pub engine : (content x).engine ≡ m.engine
   pub locked : IsLocked code size x
@@ -38,7 +38,7 @@ LacksSeats m seats workers = (length seats < m.limits.seats) ⊎ (length workers
 
 -- rule multi-retire
 -- The multi handle n, with new seats, is m retired: no seat was missing; its engine is what was found in the lock of m, at which no claim
--- was out, with its old history retired; and what was found goes on from what each old seat had seen and was told.
+-- was out, with its old history retired; and what was found continues what each old seat had seen and was told.
 pub record IsRetiredTo {Q O : Type 0} (code : O → Code) (size : O → ℕ) (m : MultiView Q O) (seats workers : List (SeatView Q O)) (n : MultiView Q O) (new_seats new_workers : List (SeatView Q O)) : Type 0 where
   pub all : LacksSeats m seats workers → ⊥
   pub found : EngineState Q O
@@ -51,12 +51,12 @@ pub record IsRetiredTo {Q O : Type 0} (code : O → Code) (size : O → ℕ) (m 
   pub ties : after.ties ≡ found.ties
   pub founded : IsFounded m.limits after n new_seats new_workers
 
--- one of the seats isn't the multi handle's: what lies in its lock doesn't begin with what that seat has seen
+-- one of the seats isn't the multi handle's: the journal in its lock doesn't begin with what that seat has seen
 abbrev pub HasWrongSeat : {Q O : Type 0} → (O → Code) → (O → ℕ) → MultiView Q O → List (SeatView Q O) → List (SeatView Q O) → Type 0
 HasWrongSeat {Q} {O} code size m seats workers =
     (x : EngineState Q O) × FoundIn code size m x × (OneFindsOther x.core.journal seats ⊎ OneFindsOther x.core.journal workers)
 
--- none is, by this that lies in the lock
+-- each is the multi handle's, by this engine in the lock
 abbrev pub HasRightSeats : {Q O : Type 0} → (O → Code) → (O → ℕ) → MultiView Q O → List (SeatView Q O) → List (SeatView Q O) → EngineState Q O → Type 0
 HasRightSeats code size m seats workers x = FoundIn code size m x × AllFind x.core.journal seats × AllFind x.core.journal workers
 
@@ -72,14 +72,14 @@ IsRefused {Q} {O} code size m seats workers refusal.ClaimOut =
 IsRefused {Q} {O} code size m seats workers refusal.OutOfMemory =
     (x : EngineState Q O) × HasRightSeats code size m seats workers x × (x.core.out ≡ 0) × (LacksSeats m seats workers → ⊥)
 
--- what hinders retiring, where one seat more is there than these, and this lies in the lock
+-- what blocks retiring, where there is one seat more than these, and this is in the lock
 abbrev pub Hinders : {Q O : Type 0} → EngineState Q O → Limits → List (SeatView Q O) → List (SeatView Q O) → Refusal → Type 0
 Hinders x l seats workers refusal.WrongSeat = OneFindsOther x.core.journal seats ⊎ OneFindsOther x.core.journal workers
 Hinders x l seats workers refusal.SeatsMissing = AllFind x.core.journal seats × AllFind x.core.journal workers × ((length seats + 1 < l.seats) ⊎ (length workers < l.workers))
 Hinders x l seats workers refusal.ClaimOut = AllFind x.core.journal seats × AllFind x.core.journal workers × (l.seats ≤ length seats + 1) × (l.workers ≤ length workers) × (0 < x.core.out)
 Hinders x l seats workers refusal.OutOfMemory = AllFind x.core.journal seats × AllFind x.core.journal workers × (l.seats ≤ length seats + 1) × (l.workers ≤ length workers) × (x.core.out ≡ 0)
 
--- nothing hinders it but want of memory
+-- nothing blocks it but a refusal of memory
 pub record MayRetire {Q O : Type 0} (x : EngineState Q O) (l : Limits) (seats workers : List (SeatView Q O)) : Type 0 where
   pub of_seats : AllFind x.core.journal seats × AllToldOf x.ties.entries seats
   pub of_workers : AllFind x.core.journal workers × AllToldOf x.ties.entries workers

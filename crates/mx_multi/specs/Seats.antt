@@ -64,7 +64,7 @@ pub record IsSeat (v : KeyView) (r : ReaderState) : Type 0 where
 abbrev pub IsAhead : ReaderState → List Event → Type 0
 IsAhead r j = IsPrefix r.seen j × (made_by r.who j ≡ made_by r.who r.seen)
 
--- the seat's receipts are those of its calls: they stand in what it has seen, and the last poll among them is its last poll
+-- the seat's receipts are those of its calls: they are in what it has seen, and the last poll among them is its last poll
 pub record HasReceipts {Q O : Type 0} (s : SeatView Q O) : Type 0 where
   pub placed : IsPlaced s.of.engine.opening s.who s.mine s.seen
   pub polled : mark s.of.engine.opening.from s.mine ≡ s.polled
@@ -84,7 +84,7 @@ pub record Confirms {Q O : Type 0} (s t : SeatView Q O) : Type 0 where
 -- rule multi-reads: A read takes no lock: it has no bound by which it might block, and is answered while another call holds the lock.
 --
 -- The call was answered: after a journal that begins with what the seat has seen, it left the events that the seat has
--- then seen, and its receipt stands behind the others.
+-- then seen, and its receipt comes after the others.
 pub record Stands {Q O : Type 0} (s t : SeatView Q O) (call : Call) (reply : Reply) : Type 0 where
   pub of : t.of ≡ s.of
   pub who : t.who ≡ s.who
@@ -130,7 +130,7 @@ pub record SeesVersion {Q O : Type 0} (s t : SeatView Q O) : Type 0 where
   pub mine : t.mine ≡ s.mine
   pub placed : HasReceipts s → HasReceipts t
 
--- a state of what lies in the lock of the seat's engine, with the journal that the seat has seen
+-- a state of the engine in the lock, with the journal that the seat has seen
 pub record FoundState {Q O : Type 0} (code : O → Code) (size : O → ℕ) (s : SeatView Q O) (x : EngineState Q O) : Type 0 where
   pub journal : x.core.journal ≡ s.seen
   pub engine : (content x).engine ≡ s.of.engine
@@ -139,15 +139,15 @@ pub record FoundState {Q O : Type 0} (code : O → Code) (size : O → ℕ) (s :
 -- rule multi-wrong-seat: A call under the lock is answered `WrongSeat` only where the journal there doesn't begin with what its seat has
 -- seen, or has another number of the seat's own events.
 --
--- What lay in the lock of the seat's engine when a call was refused: its journal doesn't begin with what the seat has seen, or has another
--- number of events that are the seat's own.
+-- The engine in the lock of the seat's multi handle when a call was refused: its journal doesn't begin with what the seat has seen, or has
+-- another number of events that are the seat's own.
 pub record FindsOther {Q O : Type 0} (code : O → Code) (size : O → ℕ) (s : SeatView Q O) : Type 0 where
   pub found : EngineState Q O
   pub engine : (content found).engine ≡ s.of.engine
   pub locked : IsLocked code size found
   pub other : Finds s found.core.journal → ⊥
 
--- What lay there when a poll was not to return: no event at or after the seat's mark lets it
+-- What was there when a poll was not to return: no event at or after the seat's mark lets it return
 pub record FindsNoneReady {Q O : Type 0} (code : O → Code) (size : O → ℕ) (s : SeatView Q O) : Type 0 where
   pub found : EngineState Q O
   pub engine : (content found).engine ≡ s.of.engine
@@ -155,9 +155,9 @@ pub record FindsNoneReady {Q O : Type 0} (code : O → Code) (size : O → ℕ) 
   pub begins : Finds s found.core.journal
   pub none : is_ready s.polled found.core.journal ≡ false
 
--- A call of a seat left the engine so, with this reply: it found a state whose journal begins with what the seat had seen, and left one with the
--- journal that the seat has then seen. Where the call came with no event, queue and endings are as they were. An end that isn't refused for want
--- of memory spends its claim.
+-- A call of a seat left the engine so, with this reply: it found a state whose journal begins with what the seat had seen, and left one
+-- with the journal that the seat has then seen. Where the call came with no event, queue and endings are as they were. An end that isn't
+-- refused memory spends its claim.
 pub record LeavesState {Q O : Type 0} (code : O → Code) (size : O → ℕ) (s t : SeatView Q O) (reply : Reply) : Type 0 where
   pub found : EngineState Q O
   pub engine : (content found).engine ≡ s.of.engine
@@ -183,7 +183,7 @@ pub record ClaimsLeast {Q O : Type 0} (code : O → Code) (size : O → ℕ) (s 
   pub endings : after.core.endings ≡ found.core.endings
   pub out : after.core.out ≡ one_out found.core.out
 
--- Work was given back: where its ticket ran and wasn't queued, it stands at its place by ticket in the queue that was left.
+-- Work was given back: where its ticket ran and wasn't queued, it is at its place by ticket in the queue that was left.
 -- Else the queue was left as it was found. The claim is spent.
 pub record GivesBack {Q O : Type 0} (code : O → Code) (size : O → ℕ) (s : SeatView Q O) (ticket : Ticket) (work : Q) (reply : GiveBackReply Q) : Type 0 where
   pub found : EngineState Q O
@@ -219,7 +219,7 @@ pub record IsNew {Q O : Type 0} (m : MultiView Q O) (j : List Event) (known : Li
   pub noted : s.words.noted ≡ []
   pub read : s.words.read ≡ []
 
--- the same seat, later: further calls of it were answered, and these are their receipts, which stand behind those that it had
+-- the same seat, later: further calls of it were answered, and these are their receipts, which come after those that it had
 pub record Later {Q O : Type 0} (s t : SeatView Q O) (more : List Receipt) : Type 0 where
   pub of : t.of ≡ s.of
   pub who : t.who ≡ s.who

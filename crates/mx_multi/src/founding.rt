@@ -1,4 +1,4 @@
-//! Founding a multi handle over an engine: what that asks of memory comes first, and after that nothing is refused.
+//! Opening a multi handle over an engine: all allocations come first, and after them nothing is refused.
 ghost use Rattle.std.specs.Prelude.{◌≡◌, ◌≤◌, ◌+◌, [], length, false, true, vec_capacity, vec_len, IfOk};
 ghost use Rattle.std.specs.List.{All};
 ghost use Rattle.std.specs.VecDeque.{deque_len};
@@ -19,8 +19,7 @@ use std::collections::VecDeque;
 use std::marker::PhantomData;
 use std::sync::{Condvar, Mutex, Wait};
 
-/// All that a multi handle asks of memory beside its engine: a lock, progress words, a reader for each seat, and places for
-/// the seats.
+/// All memory that a multi handle takes beside its engine: a lock, progress words, a reader for each seat, and places for the seats.
 #[derive(Drop)]
 pub(crate) struct Rooms<Q: Work + Drop, O: Ending + Drop> {
     lock: EmptyLock<Q, O>,
@@ -148,7 +147,7 @@ fn seated<K, Q: Work + Drop, O: Ending + Drop>(
     seats
 }
 
-// Lets keys go, so that those of the workers come next.
+// Drops keys, so that those of the workers come next.
 fn skip<Q: Work + Drop, O: Ending + Drop>(lock: &Lock<Q, O>, founder: &mut Key<Q, O>, seats: u8)
     requires few { seats ≤ most_seats }
     requires own { IsKeyOf lock.now founder.old }

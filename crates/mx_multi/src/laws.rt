@@ -22,22 +22,22 @@ impl<Q: Work + Drop, O: Ending + Drop> Multi<Q, O> {
     pub fn first_call_is_placed(&self)
         ensures { (j : List Event) (ties : List Origin) (who : Who) (s t : SeatView Q O) (call : Call) (reply : Reply) → self.now.engine.opening.from ≡ length j → IsNew self.now j ties who s → Stands s t call reply → IsPlaced self.now.engine.opening who (record { cut = length t.seen; call = call; reply = reply } ∷ []) t.seen }
     {
-        // For the prover alone: a law needs something to be a law of.
+        // For the prover alone: a law needs a value.
         let _ = &self.lock;
     }
 
-    /// Runs go on: behind a run stands one more answered call, whatever it is, with its receipt last; a journal that is seen
+    /// Runs go on: one more answered call may follow a run, whatever it is, with its receipt last; a journal that is seen
     /// with no receipt leaves the run; and no call is a run.
     pub fn runs_go_on(&self)
         ensures more { (s t u : SeatView Q O) (more : List Receipt) (call : Call) (reply : Reply) → Later s t more → Stands t u call reply → Later s u (more ++ record { cut = length u.seen; call = call; reply = reply } ∷ []) }
         ensures sees { (s t u : SeatView Q O) (more : List Receipt) → Later s t more → Sees t u → Later s u more }
         ensures none { (s : SeatView Q O) → Later s s [] }
     {
-        // For the prover alone: a law needs something to be a law of.
+        // For the prover alone: a law needs a value.
         let _ = &self.lock;
     }
 
-    /// What two seats were told under the lock are beginnings of one list, whatever each has seen: for both, the addition under a
+    /// The ties that two seats were told under the lock are prefixes of one list, whatever each has seen: for both, the addition under a
     /// ticket is of one request.
     pub fn are_told_alike<J, K>(&self, one: &SeatOf<J, Q, O>, two: &SeatOf<K, Q, O>)
         requires own { (one.now.of ≡ self.now) × (two.now.of ≡ self.now) }
@@ -63,7 +63,7 @@ fn run_one<Q: Work + Drop, O: Ending + Drop, R: Wait>(
     (seat.into_seat(), made)
 }
 
-// Seats and handle are apart: with `Seated` in their place the borrow checker's part of the proof comes to no end.
+// It takes seats and handle apart: with `Seated` in their place the borrow checker's part of the proof doesn't end.
 /// Two threads, each with a seat and a script of its own; then the seats meet. Where they met, both have seen one legal
 /// journal, in which the receipts of both runs are placed. None where they didn't meet: no clause says then which calls were made.
 pub fn run_two<Q: Work + Drop + Send, O: Ending + Drop + Send, R: Threads + Wait + Sync>(

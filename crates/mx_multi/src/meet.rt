@@ -15,7 +15,7 @@ use mx_lock::Taken;
 use mx_types::{Ending, Work};
 use std::sync::Wait;
 
-// The seat sees the journal, and is told the ties.
+// The seat sees the journal and the ties.
 fn see<K, Q: Work + Drop, O: Ending + Drop>(taken: &mut Taken<Q, O>, seat: &mut SeatOf<K, Q, O>)
     requires engine { seat.old.of.engine ≡ (content taken.old).engine }
     requires finds { Finds seat.old taken.old.core.journal }

@@ -34,9 +34,9 @@ pub struct HandleList {
 #[derive(Drop)]
 pub struct Multi<Q: Work + Drop, O: Ending + Drop> {
     pub(crate) lock: Lock<Q, O>,
-    /// The journal with which it began, which tells journals apart.
+    /// The journal with which it began, which distinguishes journals.
     pub(crate) start: JournalMark,
-    /// The ties with which it began, which tell such lists apart, for contracts alone: they have no size.
+    /// The ties with which it began, which distinguish such lists, for contracts alone: they have no size.
     pub(crate) ties: TieMark,
     /// How many bytes each transfer has received.
     pub(crate) words: ProgressTable,
@@ -79,7 +79,7 @@ pub(crate) fn fits<Q: Work + Drop, O: Ending + Drop>(
 impl<Q: Work + Drop, O: Ending + Drop> Multi<Q, O> {
     // rule multi-sleeping-poll, unproved: A poll that sleeps is woken.
     //
-    // Tells those that wait that they are to look again.
+    // Wakes those that wait, which then look again.
     pub(crate) fn tell<R: Wait>(&self, rt: &R) {
         let mut changes = self.changes.lock(rt);
         *changes = changes.wrapping_add(1);
@@ -127,7 +127,7 @@ impl<Q: Work + Drop, O: Ending + Drop> Multi<Q, O> {
         Ok(reply)
     }
 
-    /// What lies in the lock, for contracts alone: the control state is sound, its journal is what the seat has then seen,
+    /// The engine in the lock, for contracts alone: the control state is sound, its journal is what the seat has then seen,
     /// and the version that is published is that of this journal. `WrongSeat`, and nothing changes, where the seat isn't one
     /// of this multi handle's.
     ///
@@ -190,8 +190,8 @@ impl<Q: Work + Drop, O: Ending + Drop> Multi<Q, O> {
         false
     }
 
-    /// What two seats have seen are beginnings of one journal, but for the last event of each, which a read alone may have
-    /// shown; and of what is confirmed of them one begins the other.
+    /// What two seats have seen are prefixes of one journal, but for the last event of each, which only a read may have shown; and of their
+    /// confirmed events one list is a prefix of the other.
     pub fn are_of_one_journal<J, K>(&self, one: &SeatOf<J, Q, O>, two: &SeatOf<K, Q, O>)
         requires own { (one.now.of ≡ self.now) × (two.now.of ≡ self.now) }
         ensures seen { AreOfOneJournal one.now.seen two.now.seen }
@@ -205,7 +205,7 @@ impl<Q: Work + Drop, O: Ending + Drop> Multi<Q, O> {
     }
 
     // rule multi-sleeping-poll
-    // Waits until something was told since `heard`.
+    // Waits until there was a wake-up or an end since the count `heard`.
     pub(crate) fn wait_after<R: Wait>(&self, rt: &R, heard: u64) {
         let mut changes = self.changes.lock(rt);
         for _ in rt.forever() {
@@ -216,7 +216,7 @@ impl<Q: Work + Drop, O: Ending + Drop> Multi<Q, O> {
         }
     }
 
-    // Waits until something was told since `heard`, or so many milliseconds.
+    // Waits until there was a wake-up or an end since the count `heard`, or so many milliseconds.
     pub(crate) fn wait_after_for<R: Wait + Clock>(&self, rt: &R, heard: u64, milliseconds: u32) {
         let changes = self.changes.lock(rt);
         let most = Duration::from_millis(u64::from(milliseconds));

@@ -13,7 +13,7 @@ use std::alloc::Global;
 use std::sync::Wait;
 use thiserror::Error;
 
-/// The most idle connections that a worker may be let keep.
+/// The most idle connections that a worker may be allowed to keep.
 pub const MOST_CONNECTS: u8 = 64;
 
 /// What a multi handle is opened with.
@@ -130,7 +130,7 @@ impl<Q: Work + Drop, O: Ending + Drop> Multi<Q, O> {
         }
     }
 
-    /// The ties with which it began, for contracts alone: they tell which claims are of this multi handle.
+    /// The ties with which it began, for contracts alone: they show which claims are of this multi handle.
     pub fn first_ties(&self) -> TieMark
         ensures { result.book ≡ self.now.engine.ties }
     {
@@ -153,7 +153,7 @@ impl<Q: Work + Drop, O: Ending + Drop> Multi<Q, O> {
     {
         let mut seat = seat;
         self.lock.end(rt, &mut seat.key);
-        // By a call, which is less to prove than to let go at the end of the block.
+        // By a call, which is less to prove than a drop at the end of the block.
         drop(self);
     }
 }

@@ -1,4 +1,4 @@
-//! Retiring old history: the multi handle goes on as it was, over a history that has room again.
+//! Retiring old history: the multi handle goes on as it was, with room in its history.
 ghost use Rattle.std.specs.Prelude.{◌≡◌, ◌≤◌, ◌+◌, ◌++◌, ◌∷◌, [], false, length, true, vec_capacity, vec_len, IfErr, IfOk, MatchBool, MatchOption, MatchResult};
 ghost use Rattle.std.specs.List.{All};
 ghost use Rattle.std.specs.VecDeque.{deque_len};
@@ -62,8 +62,8 @@ pub enum Retiring<T> {
 /// A multi handle with its seats and its workers' seats.
 pub type Handle<Q, O> = (Multi<Q, O>, Vec<Seat<Q, O>>, Vec<WorkerSeat<Q, O>>);
 
-// Whether the journal begins with what the seat has seen, and has no event more of its own. What the seat was told of requests
-// and the engine's list are beginnings of one.
+// Whether the journal begins with what the seat has seen, and has no event more of its own. The seat's list of ties and the engine's are
+// prefixes of one.
 pub(crate) fn finds<K, Q: Work + Drop, O: Ending + Drop>(
     found: &Engine<Q, O>,
     seat: &SeatOf<K, Q, O>,
@@ -96,8 +96,8 @@ impl<Q: Work + Drop, O: Ending + Drop> Multi<Q, O> {
     // rule multi-retire
     /// Retires old history: of the journal only the events of the handles that are added are kept, and the multi handle goes on with
     /// new seats, which have seen those. Handles, their work, their messages and pauses stay as they are. No ticket that
-    /// was given is given again, and the list of requests goes on. Progress words, and the numbers of events that makers made, begin anew; a wake-up
-    /// that no poll has seen is gone, also that of an unread message: read messages before the next poll.
+    /// was given is given again, and the list of requests goes on. Progress words, and the numbers of events that makers made, begin anew;
+    /// a wake-up that no poll has seen is gone, also that of an unread message: read messages before the next poll.
     ///
     /// It takes all seats and workers' seats, so no call is under way: each `run_worker` has returned.
     ///
@@ -108,8 +108,8 @@ impl<Q: Work + Drop, O: Ending + Drop> Multi<Q, O> {
     /// - `WrongSeat`: a seat has seen a journal that isn't the beginning of this one. Where there is no application's seat,
     ///   this isn't looked at;
     /// - `SeatsMissing`: there are fewer seats, or fewer workers' seats, than `open` gave;
-    /// - `ClaimOut`: a claim was made that hasn't come back by `finish`, recorded or stale, or by `give_back`. One that
-    ///   was dropped hinders retiring for good;
+    /// - `ClaimOut`: a claim was made that hasn't come back by `finish`, recorded or stale, or by `give_back`. One that was dropped blocks
+    ///   retiring for good;
     /// - `OutOfMemory`: a growth was refused. All of them come before the first change.
     pub fn retire<R: Wait>(
         self,
@@ -127,7 +127,7 @@ impl<Q: Work + Drop, O: Ending + Drop> Multi<Q, O> {
         };
         match self.retire_by(rt, alloc, last, &seats, &workers) {
             Ok(retired) => {
-                // By calls, which are less to prove than to let go at the end of the block.
+                // By calls, which are less to prove than drops at the end of the block.
                 drop(seats);
                 drop(workers);
                 drop(self);
@@ -140,7 +140,7 @@ impl<Q: Work + Drop, O: Ending + Drop> Multi<Q, O> {
         }
     }
 
-    // Retires through one seat beside the others. A refusal hands it back.
+    // Retires through one seat beside the others. A refusal hands that back.
     fn retire_by<R: Wait>(
         &self,
         rt: &R,
@@ -174,7 +174,7 @@ impl<Q: Work + Drop, O: Ending + Drop> Multi<Q, O> {
         }
     }
 
-    // What hinders retiring, with one seat beside these; else all growths for it.
+    // What blocks retiring, with one seat beside these; else all growths for it.
     fn prepare<R: Wait>(
         &self,
         rt: &R,
@@ -199,7 +199,7 @@ impl<Q: Work + Drop, O: Ending + Drop> Multi<Q, O> {
     }
 
     // rule multi-retire
-    // What hinders retiring, with one seat beside these, but for want of memory.
+    // What blocks retiring, with one seat beside these, refused memory aside.
     fn hinders(
         &self,
         engine: &Engine<Q, O>,

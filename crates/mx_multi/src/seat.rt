@@ -81,7 +81,7 @@ impl<K, Q: Work + Drop, O: Ending + Drop> SeatOf<K, Q, O> {
         }
     }
 
-    /// Each seat is placed: the receipts of all its calls stand in what it has seen.
+    /// Each seat is placed: the receipts of all its calls are in what it has seen.
     pub fn is_placed(&self)
         ensures { HasReceipts self.now }
     {
@@ -90,14 +90,14 @@ impl<K, Q: Work + Drop, O: Ending + Drop> SeatOf<K, Q, O> {
     }
 }
 
-// Puts the receipt of an answered call behind the others. It is for contracts alone: nothing of it is kept.
+// Adds the receipt of an answered call after the others. It is for contracts alone: nothing of it is kept.
 pub(crate) fn note_receipt(mine: &mut History<Receipt>, cut: u32, call: Call, reply: Reply)
     ensures { mine.new ≡ mine.old ++ record { cut = cut; call = call; reply = reply } ∷ [] }
 {
     mine.note(Receipt { cut, call, reply })
 }
 
-// Puts a ticket behind those that were given back, where its work went back. It is for contracts alone: nothing of it is kept.
+// Adds a ticket to those that were given back, where its work went back. It is for contracts alone: nothing of it is kept.
 pub(crate) fn note_given<Q: Drop>(
     given: &mut History<Ticket>,
     ticket: Ticket,

@@ -1,4 +1,4 @@
-//! A seat that has its multi handle with it: what programs call.
+//! A seat with its multi handle: what programs call.
 ghost use Rattle.std.specs.Prelude.{◌⊎◌, ◌≡◌, ◌++◌, ◌∷◌, [], true, length, take, Some, IfNone, IfSome, IfOk, OnErr, OnOk, MatchBool, MatchResult, MatchOption};
 ghost use Rattle.std.specs.Bool.{OnFalse};
 ghost use Rattle.mx_types.specs.declared.call.Call.{Call};
@@ -24,8 +24,7 @@ use std::marker::Model;
 use std::sync::Wait;
 use std::time::Clock;
 
-/// A seat with its multi handle, which gave it: so each call is one that the seat may make. Contracts see the same of it as of the
-/// seat.
+/// A seat with the multi handle that gave it: so each call is one that the seat may make. Contracts see what they see of the seat.
 #[derive(Drop)]
 pub struct Seated<'m, K, Q: Work + Drop, O: Ending + Drop> {
     multi: &'m Multi<Q, O>,
@@ -75,7 +74,7 @@ impl<'m, K, Q: Work + Drop, O: Ending + Drop> Seated<'m, K, Q, O> {
         self.seat.cut()
     }
 
-    /// Each seat is placed: the receipts of all its calls stand in what it has seen.
+    /// Each seat is placed: the receipts of all its calls are in what it has seen.
     pub fn is_placed(&self)
         ensures { HasReceipts self.now }
     {
@@ -196,8 +195,8 @@ impl<'m, Q: Work + Drop, O: Ending + Drop> Seated<'m, Application, Q, O> {
         self.multi.wakeup(rt, &mut self.seat)
     }
 
-    /// Waits until there is a wake-up or an end at or after what the seat had seen at its last poll (curl_multi_poll(3)). It
-    /// sleeps until one is told.
+    /// Waits until there is a wake-up or an end at or after what the seat had seen at its last poll (curl_multi_poll(3)). It sleeps until
+    /// there is one.
     ///
     /// No clause says that it leaves queue and endings as they were.
     pub fn poll<R: Wait>(&mut self, rt: &R) -> Result<(), WrongSeat<()>>
@@ -223,8 +222,8 @@ impl<'m, Q: Work + Drop, O: Ending + Drop> Seated<'m, Application, Q, O> {
     }
 
     /// The handles that are added, in order, by the version that was published last (curl_multi_get_handles(3)), with the
-    /// number of events that the seat has then seen. It takes no lock and no memory. None, and nothing changes, where there
-    /// is no version to be had.
+    /// number of events that the seat has then seen. It takes no lock and no memory. None, and nothing changes, where no version can be
+    /// read.
     pub fn handles(&mut self) -> Option<HandleList>
         ensures { MatchOption result (self.new ≡ self.old) (λ r. Stands self.old self.new Call.Handles (Reply.Handles r.list) × (r.cut ≡ length self.new.seen)) }
     {
@@ -232,15 +231,15 @@ impl<'m, Q: Work + Drop, O: Ending + Drop> Seated<'m, Application, Q, O> {
     }
 
     /// How many transfers run, paused ones too, by the version that was published last. It takes no lock and no memory.
-    /// None, and nothing changes, where there is no version to be had.
+    /// None, and nothing changes, where no version can be read.
     pub fn running(&mut self) -> Option<u32>
         ensures { MatchOption result (self.new ≡ self.old) (λ r. Stands self.old self.new Call.Running (Reply.Running r)) }
     {
         self.multi.running(&mut self.seat)
     }
 
-    /// Where a handle stands, by the version that was published last. It takes no lock and no memory. None, and nothing
-    /// changes, where there is no version to be had.
+    /// The state of a handle, by the version that was published last. It takes no lock and no memory. None, and nothing
+    /// changes, where no version can be read.
     pub fn state(&mut self, handle: HandleId) -> Option<State>
         ensures { MatchOption result (self.new ≡ self.old) (λ r. Stands self.old self.new (Call.State handle) (Reply.State r)) }
     {
@@ -282,8 +281,8 @@ impl<'m, Q: Work + Drop, O: Ending + Drop> Seated<'m, Application, Q, O> {
         self.multi.make(rt, &mut self.seat, call)
     }
 
-    /// Makes a call that reads a published version, and waits for nothing. None, and nothing changes, where there is none to be had,
-    /// and where it is another call.
+    /// Makes a call that reads a published version, and waits for nothing. None, and nothing changes, where no version can be read, and
+    /// where it is another call.
     pub fn read(&mut self, call: Call) -> Option<Reply>
         ensures { MatchOption result (self.new ≡ self.old) (λ r. Stands self.old self.new call r) }
     {
@@ -291,8 +290,8 @@ impl<'m, Q: Work + Drop, O: Ending + Drop> Seated<'m, Application, Q, O> {
     }
 
     // rule multi-scripts, unproved: A script is run to its end where each of its calls is answered.
-    /// Makes the calls of a script, until one is answered None. It answers how many were made: their receipts, whose calls are those
-    /// of the script, stand behind all that the seat had. No clause says that it makes any.
+    /// Makes the calls of a script, until one is answered None. It answers how many were made: their receipts, whose calls are those of the
+    /// script, come after all that the seat had. No clause says that it makes any.
     pub fn run_script<R: Wait>(&mut self, rt: &R, script: &[Call]) -> usize
         ensures { RanScript self.old self.new (take result script.now) }
     {
@@ -328,8 +327,8 @@ impl<'m, Q: Work + Drop, O: Ending + Drop> Seated<'m, AtWork, Q, O> {
         self.multi.claim(rt, &mut self.seat)
     }
 
-    /// What a worker is told of a ticket, by the version that was published last. It takes no lock and no memory. None, and
-    /// nothing changes, where there is no version to be had.
+    /// What a worker sees of a ticket, by the version that was published last. It takes no lock and no memory. None, and
+    /// nothing changes, where no version can be read.
     pub fn look(&mut self, ticket: Ticket) -> Option<Look>
         ensures { MatchOption result (self.new ≡ self.old) (λ r. Stands self.old self.new (Call.Look ticket) (Reply.Look r)) }
     {

@@ -178,8 +178,8 @@ impl<Q: Work + Drop, O: Ending + Drop> Multi<Q, O> {
         ensures right { OnErr result (FindsOther O.code_of O.size_of seat.old) }
     {
         for _ in rt.forever() {
-            // The count is read before the journal: an event that comes after the look is told after the count was read,
-            // and ends the wait.
+            // The count is read before the journal: an event that comes after the look is counted after the count was read, and ends the
+            // wait.
             let heard = self.heard(rt);
             match self.try_poll(rt, seat) {
                 Ok(true) => return Ok(()),

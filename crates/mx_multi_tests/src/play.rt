@@ -1,5 +1,5 @@
 //! Scripts of calls at a multi handle of its own, each with what it is to answer. A call that is refused memory is made once more, and is
-//! then to answer the same as if it had been the first.
+//! then to answer as if it had been the first.
 
 use crate::whole::Whole;
 use mx_multi::{HistoryUse, Limits, OpenError, Progress, Refusal};
@@ -50,9 +50,9 @@ pub enum Step {
     Note(u32),
     /// The worker looks at a ticket: the answer, and how many events its seat has then seen.
     Look(Ticket, Said, u32),
-    /// The last seat reads how far a handle's transfer is.
+    /// The last seat reads the progress of a handle's transfer.
     Progress(HandleId, Progress),
-    /// How full the history was when the first seat last saw it.
+    /// How full the history was when the first seat last saw it, and how full it may be.
     History(HistoryUse),
     /// All is retired, and each new seat has seen so many events, or any number.
     Retire(Option<u32>),
@@ -122,7 +122,7 @@ fn finish<R: Wait>(rt: &R, whole: &mut Whole, code: Code, size: u32) -> (Option<
     (whole.finish(rt, End::new(code, size)), true)
 }
 
-// A call that may be refused memory: whether it is as it is to be, and whether it was refused.
+// A call that may be refused memory: whether it is as it should be, and whether it was refused.
 fn ask<R: Wait>(
     rt: &R,
     alloc: Global,
@@ -154,7 +154,7 @@ fn ask<R: Wait>(
     Ok((is_so, is_refused))
 }
 
-// A call that is refused no memory but this crate's own: whether it is as it is to be.
+// A call that is refused no memory, except for this crate's own: whether it is as it should be.
 fn call<R: Threads + Wait + Sync + Clock>(
     rt: &R,
     whole: &mut Whole,
@@ -237,7 +237,7 @@ impl Play {
         Ok(place?.is_some())
     }
 
-    // Threads do their tasks: how many calls were answered. None where one was answered otherwise than it is to be, or than by one thread.
+    // Threads do their tasks: how many calls were answered. None where one was answered otherwise than it should be, or than by one thread.
     fn beside<R: Threads + Wait + Sync>(
         &mut self,
         rt: &R,
@@ -263,7 +263,7 @@ impl Play {
         Ok(Some(entries.len()))
     }
 
-    // The same, so many times: whether all calls were answered as they are to be.
+    // The same, so many times: whether all calls were answered as they should be.
     fn beside_often<R: Threads + Wait + Sync>(
         &mut self,
         rt: &R,
@@ -279,7 +279,7 @@ impl Play {
         Ok(true)
     }
 
-    // Makes a call at the multi handle: whether it is as it is to be.
+    // Makes a call at the multi handle: whether it is as it should be.
     fn call<R: Threads + Wait + Sync + Clock>(
         &mut self,
         rt: &R,
@@ -299,7 +299,7 @@ impl Play {
         Ok(is_so)
     }
 
-    // Whether a step is as it is to be.
+    // Whether a step is as it should be.
     fn take_step<R: Threads + Wait + Sync + Clock>(
         &mut self,
         rt: &R,
@@ -325,7 +325,7 @@ impl Play {
         }
     }
 
-    // The first step that isn't as it is to be.
+    // The first step that fails.
     fn first_wrong<R: Threads + Wait + Sync + Clock>(
         &mut self,
         rt: &R,
@@ -365,14 +365,14 @@ pub struct Row {
     pub steps: &'static [Step],
 }
 
-/// The script that isn't as it is to be, and its step.
+/// The script that fails, and its step.
 #[derive(Clone, Copy)]
 pub struct Wrong {
     pub row: &'static str,
     pub step: usize,
 }
 
-/// The first step of a script that isn't as it is to be. It notes where a call was refused memory.
+/// The first step of a script that fails. It notes where a call was refused memory.
 pub fn play_steps<R: Threads + Wait + Sync + Clock>(
     rt: &R,
     alloc: Global,

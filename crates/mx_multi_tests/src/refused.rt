@@ -1,5 +1,5 @@
-//! Scripts whose calls may be refused memory. One that was is made again, and has then to answer as if it had been the first; only then does
-//! the test fail, by a text of its own. Without a refusal it passes.
+//! Scripts whose calls may be refused memory. One that was is made again, and has then to answer as if it had been the first; only then
+//! does the test fail, by a text of its own. Without a refusal it passes.
 
 use crate::play::{Wrong, end, play_all, play_steps};
 use crate::rows::{

@@ -89,7 +89,7 @@ const PAUSED: &[Step] = &[
     Step::Make(3, Call::Remove(THREE), Said::Text("removed"), 5),
 ];
 
-/// Every call that may find no memory: an addition, a pause, a resume, a wake-up, an end, a message and a removal.
+/// Every call that may be refused memory: an addition, a pause, a resume, a wake-up, an end, a message and a removal.
 const EVERY_CALL: &[Step] = &[
     Step::Make(3, Call::Add(SEVEN), Said::Text("added 0"), 1),
     Step::Make(3, Call::Add(SEVEN), Said::Text("added-already"), 1),
@@ -120,7 +120,7 @@ const TWO_ADDED: &[Step] = &[
     Step::MeetTwo(3),
 ];
 
-/// A read looks at what is published, and not at what its seat has seen: what the second seat added, the first one reads.
+/// A read looks at what is published, not at what its seat has seen: the first seat reads what the second one added.
 const READ_ANEW: &[Step] = &[
     Step::Make(3, Call::Add(ONE), Said::Text("added 0"), 1),
     Step::Make(2, Call::Add(TWO), Said::Text("added 1"), 2),
@@ -217,8 +217,8 @@ pub static SCRIPTS: [Row; 9] = [
     },
 ];
 
-/// All seats meet. Then a missing seat hinders retiring, and next a claim that hasn't come back: nothing has changed. Once it is given back, the
-/// events of the handles that are added stay, and tickets go on.
+/// All seats meet. Then a missing seat blocks retiring, and next a claim that hasn't come back: nothing has changed. Once it is given back,
+/// the events of the handles that are added stay, and tickets go on.
 const CLAIM_OUT: &[Step] = &[
     Step::Make(0, Call::Add(ONE), Said::Text("added 0"), 1),
     Step::Make(1, Call::Add(TWO), Said::Text("added 1"), 2),
@@ -294,7 +294,7 @@ pub static RETIRINGS: [Row; 2] = [
     },
 ];
 
-// A handle is added, its transfer is ended, and the message is read, behind so many events.
+// A handle is added, its transfer is ended, and the message is read, after so many events.
 fn push_transfer(
     steps: &mut Vec<Step>,
     handle: HandleId,
@@ -364,7 +364,7 @@ static BAD_LIMITS: [(u8, u8, u32, u8); 7] = [
     (4, 1, 2048, 65),
 ];
 
-// Whether this is the answer to bad limits. It is of any value, so that it is let go as one, whatever it is.
+// Whether this is the answer to bad limits. It is generic over the value, so that this is dropped as one.
 fn is_bad<T: Drop>(answer: Result<T, OpenError>) -> bool {
     matches!(answer, Err(OpenError::BadLimits))
 }

@@ -30,7 +30,7 @@ const EIGHT_THREADS: Limits = Limits {
     max_connects: 0,
 };
 
-/// Two threads make the calls of a script each, at a seat of its own, and both seats have then seen what both did.
+/// Two threads make the calls of a script each, at a seat of their own, and both seats have then seen what both did.
 const TWO_SCRIPTS: &[Step] = &[Step::Two(
     &[Call::Wakeup, Call::Poll, Call::Running],
     &[
@@ -61,8 +61,7 @@ const HELD_LOCK: &[Step] = &[Step::Beside(
     1,
 )];
 
-/// What one seat adds or removes, each other one sees in its first call; and one that lists all beside the addition sees all of it or
-/// nothing.
+/// What one seat adds or removes, each other seat sees in its first call; one that lists all during the addition sees all of it or nothing.
 const SEEN: &[Step] = &[
     Step::Beside(
         &[
@@ -101,7 +100,7 @@ const TURNS: &[Step] = &[
     Step::Make(0, Call::State(ONE), Said::Text("running 0"), 4001),
 ];
 
-/// Two polls at a time, and one wake-up for both: where it wakes but one, the other stays asleep.
+/// Two polls at a time, and one wake-up for both: if it woke only one, the other would stay asleep.
 const POLLS: &[Step] = &[
     Step::Beside(
         &[
@@ -157,7 +156,7 @@ static ROWS: [Row; 6] = [
     },
 ];
 
-// 40 turns of each of eight threads, and so again behind each of a hundred retirings.
+// 40 turns of each of eight threads, and the same again after each of a hundred retirings.
 fn retired_storms(alloc: Global) -> Result<Vec<Step>, OutOfMemory> {
     let mut steps = Vec::new(alloc);
     let seed = 20261127;

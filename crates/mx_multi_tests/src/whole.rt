@@ -90,8 +90,8 @@ impl Whole {
         make_at(rt, &self.multi, seat, call)
     }
 
-    /// Polls at the seat with this number, for so many milliseconds at most: whether the poll returned. None where there is no such seat, or
-    /// where it was answered `WrongSeat`.
+    /// Polls at the seat with this number, for so many milliseconds at most: whether the poll returned. None where there is no such seat,
+    /// or where it was answered `WrongSeat`.
     pub fn poll_for<R: Wait + Clock>(
         &mut self,
         rt: &R,
@@ -119,7 +119,7 @@ impl Whole {
         Ok(Some(ticket))
     }
 
-    /// What the first worker is told of a ticket. None where there is no such seat, or no answer.
+    /// What the first worker sees of a ticket. None where there is no such seat, or no answer.
     pub fn look(&mut self, ticket: Ticket) -> Option<Look>
         ensures { self.new.multi ≡ self.old.multi }
     {
@@ -142,7 +142,7 @@ impl Whole {
         true
     }
 
-    /// The last seat reads how far a handle's transfer is. None where there is no such seat, or no answer.
+    /// The last seat reads the progress of a handle's transfer. None where there is no such seat, or no answer.
     pub fn progress(&mut self, handle: HandleId) -> Option<Progress>
         ensures { self.new.multi ≡ self.old.multi }
     {
@@ -194,8 +194,8 @@ impl Whole {
         Ok(None)
     }
 
-    /// Two threads make the calls of a script each, at the last two seats: how many each made, where they met, and how many events each seat
-    /// has then seen.
+    /// Two threads make the calls of a script each, at the last two seats: how many each made, where they met, and how many events each
+    /// seat has then seen.
     pub fn run_two<R: Threads + Wait + Sync>(
         &mut self,
         rt: &R,
@@ -230,8 +230,8 @@ impl Whole {
         }
     }
 
-    /// Ends the transfer of the last claim; None where it was answered `WrongSeat`, or where there is no claim. A claim that comes back
-    /// for want of memory is kept again, where there is memory for that.
+    /// Ends the transfer of the last claim; None where it was answered `WrongSeat`, or where there is no claim. A claim that comes back as
+    /// memory was refused is kept again, where there is memory for that.
     pub fn finish<R: Wait>(&mut self, rt: &R, end: End) -> Option<Reply>
         ensures { self.new.multi ≡ self.old.multi }
     {
@@ -336,7 +336,7 @@ impl Whole {
         Some(seat)
     }
 
-    // Puts a seat behind the others.
+    // Adds a seat after the others.
     fn put_last(&mut self, seat: Seat<Job, End>) -> Result<(), OutOfMemory>
         requires { seat.of ≡ self.old.multi }
         ensures { self.new.multi ≡ self.old.multi }
@@ -375,8 +375,8 @@ impl Whole {
         (whole, told)
     }
 
-    /// The same with the last seat held back. Where it isn't retired, that stands in its place again; were there no room for it, it would
-    /// be let go, and the answer were `OutOfMemory`.
+    /// The same without the last seat. Where nothing was retired, that seat is put back; where memory for it is refused, it is dropped, and
+    /// the answer is `OutOfMemory`.
     pub fn retire_without_last<R: Wait>(self, rt: &R, alloc: Global) -> (Whole, Option<Refusal>) {
         let mut whole = self;
         let held = whole.take_last();

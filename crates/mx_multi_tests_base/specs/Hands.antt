@@ -4,6 +4,6 @@ use Rattle.logbook.specs.Pages.{Book}
 use Rattle.mx_types.specs.Origin.{no_request}
 use Rattle.mx_lock.specs.Ties.{TiedClaimed}
 
--- a claim of this list of ties, of work that is about nothing
+-- a claim of this list of ties, of work without a request
 abbrev pub IsOf : Book → TiedClaimed → Type 0
 IsOf book claim = (claim.of ≡ book) × (claim.origin ≡ no_request)

@@ -65,7 +65,7 @@ impl<'a> Worker<'a> {
         Ok(Some(ticket))
     }
 
-    /// What it is told of a ticket.
+    /// What it sees of a ticket.
     pub fn look(&mut self, ticket: Ticket) -> Option<Look>
         ensures { self.new.seat.of ≡ self.old.seat.of }
     {
@@ -75,8 +75,8 @@ impl<'a> Worker<'a> {
         Some(look)
     }
 
-    /// Ends the transfer of the last claim; None where it was answered `WrongSeat`, or where there is no claim. A claim that comes back
-    /// for want of memory is kept again, where there is memory for that.
+    /// Ends the transfer of the last claim; None where it was answered `WrongSeat`, or where there is no claim. A claim that comes back as
+    /// memory was refused is kept again, where there is memory for that.
     pub fn finish<R: Wait>(&mut self, rt: &R, end: End) -> Option<Reply>
         ensures { self.new.seat.of ≡ self.old.seat.of }
     {
@@ -92,7 +92,7 @@ impl<'a> Worker<'a> {
         }
     }
 
-    /// Gives the work of all claims back. A claim that was answered `WrongSeat` is let go.
+    /// Gives the work of all claims back. A claim that was answered `WrongSeat` is dropped.
     pub fn give_all_back<R: Wait>(&mut self, rt: &R)
         ensures { self.new.seat.of ≡ self.old.seat.of }
     {

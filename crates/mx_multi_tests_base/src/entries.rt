@@ -22,7 +22,7 @@ pub fn text_of(alloc: Global, reply: &Reply) -> Result<String, OutOfMemory> {
     Ok(format!(in alloc; "{said}")?)
 }
 
-/// Why a maker stops: memory was refused, a call was answered `WrongSeat` or None, or it was answered otherwise than it is to be.
+/// Why a maker stops: memory was refused, a call was answered `WrongSeat` or None, or another answer came than should.
 #[derive(Clone, Copy)]
 pub enum Stop {
     Memory,
@@ -66,7 +66,7 @@ impl Notes {
         Ok(())
     }
 
-    /// Whether this is what the last call was answered, and so many events were then seen, or any number.
+    /// Whether this is the answer of the last call, and so many events were then seen, or any number.
     pub fn last_is(&self, said: &str, cut: Option<u32>) -> bool {
         let Some(entry) = self.entries.last() else {
             return false;

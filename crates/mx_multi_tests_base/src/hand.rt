@@ -8,7 +8,7 @@ use mx_types::OutOfMemory;
 use std::alloc::Global;
 use std::marker::Model;
 
-/// Claims on additions of this crate's work, of one multi handle, in the order of their coming. Contracts see of which list of ties
+/// Claims on additions of this crate's work, of one multi handle, in the order in which they came. Contracts see of which list of ties
 /// they are.
 #[derive(Drop)]
 pub struct Hand {
@@ -40,7 +40,7 @@ impl Hand {
         }
     }
 
-    /// Keeps a claim, behind the others.
+    /// Keeps a claim, after the others.
     #[tactic(auto, using(crate::proofs::Hands::kept_more))]
     pub fn keep(&mut self, claim: TiedClaim<Job>) -> Result<(), OutOfMemory>
         requires of { claim.of ≡ self.old }
@@ -61,7 +61,7 @@ impl Hand {
         Some(claim)
     }
 
-    /// The claims, in the order of their coming.
+    /// The claims, in the order in which they came.
     pub fn claims(&self) -> &[TiedClaim<Job>] {
         self.claims.as_slice()
     }

@@ -1,8 +1,8 @@
-//! An ending that keeps the lock until another thread lets it go.
+//! An ending that keeps the lock until another thread releases it.
 
 use std::sync::atomic::{AtomicBool, Ordering};
 
-/// Signs between a call that keeps the lock and a thread that does something meanwhile.
+/// Signals between a call that keeps the lock and a thread that does something meanwhile.
 #[derive(Drop)]
 pub struct Hold {
     begun: AtomicBool,
@@ -10,7 +10,7 @@ pub struct Hold {
     late: AtomicBool,
 }
 
-// Returns true once the sign is given; false after some ten seconds.
+// Returns true once the signal is given; false after some ten seconds.
 fn is_given(sign: &AtomicBool) -> bool {
     for _ in 0..4_000_000_000u64 {
         if sign.load(Ordering::SeqCst) {
@@ -29,7 +29,7 @@ impl Hold {
         }
     }
 
-    /// Says that it has begun, and returns once it is over; or after some ten seconds, and then it was late.
+    /// Signals that it has begun, and returns once it may end; or after some ten seconds, and then it was late.
     pub fn stay(&self) {
         self.begun.store(true, Ordering::SeqCst);
         if !is_given(&self.over) {
@@ -42,12 +42,12 @@ impl Hold {
         is_given(&self.begun)
     }
 
-    /// Lets the call go.
+    /// Releases the call.
     pub fn end(&self) {
         self.over.store(true, Ordering::SeqCst);
     }
 
-    /// Whether the call was let go in time.
+    /// Whether the call was released in time.
     pub fn was_in_time(&self) -> bool {
         !self.late.load(Ordering::SeqCst)
     }

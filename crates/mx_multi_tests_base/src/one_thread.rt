@@ -9,7 +9,7 @@ use mx_journal::{Claim, Control, RetireReply, VecLog};
 use mx_types::{Call, HandleId, LEAST_HISTORY, MOST_HISTORY, OutOfMemory, Reply, Ticket, Who};
 use std::alloc::Global;
 
-// The place of a maker among the 32: first the seats, then the workers.
+// The index of a maker among the 32: first the seats, then the workers.
 fn place_of(who: Who) -> usize
     ensures { result < 32 }
 {
@@ -46,7 +46,7 @@ pub struct OneThread {
 }
 
 impl OneThread {
-    /// With room for so many events. Where no multi handle has such a history it is refused as for want of memory.
+    /// With room for so many events. Returns `OutOfMemory` also where no multi handle may have such a history.
     pub fn new(alloc: Global, history: u32) -> Result<OneThread, OutOfMemory> {
         if history < LEAST_HISTORY || history > MOST_HISTORY {
             return Err(OutOfMemory);
@@ -124,8 +124,8 @@ impl OneThread {
         Ok(is_next && said == entry.said && self.control.len() == entry.cut)
     }
 
-    /// Makes all calls, which stand in the order of their cuts. The place of the first that isn't the next of its maker, that is
-    /// answered otherwise, or whose cut isn't how many events there then are.
+    /// Makes all calls, which are in the order of their cuts. The index of the first that isn't the next of its maker, that is answered
+    /// otherwise, or whose cut isn't the number of events then.
     pub fn first_that_differs(
         &mut self,
         alloc: Global,

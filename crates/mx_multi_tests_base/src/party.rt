@@ -34,11 +34,11 @@ pub enum Act {
     Any(Call),
     /// The worker claims the next work, and looks at its first claim.
     Claim,
-    /// The worker ends the transfer of its last claim, and keeps the lock meanwhile until another thread lets it go.
+    /// The worker ends the transfer of its last claim, and keeps the lock until another thread releases it.
     FinishHeld(Code, u32),
     /// Waits until another thread keeps the lock so.
     AwaitHold,
-    /// Lets it go.
+    /// Releases it.
     Release,
     /// The first seat takes so many turns: it resumes handle 1, or pauses it, wakes the others, and polls until it is its turn again.
     Turns(bool, u32),
@@ -106,7 +106,7 @@ impl<'a> Place<'a> {
         Ok(woke)
     }
 
-    // Makes a call. A poll comes behind a wake-up of its own seat, so that it needs no other thread.
+    // Makes a call. A poll comes after a wake-up of its own seat, so that it needs no other thread.
     fn turn<R: Wait>(&mut self, rt: &R, call: Call) -> Result<(), Stop>
         ensures { self.new.client.of ≡ self.old.client.of }
     {
@@ -116,7 +116,7 @@ impl<'a> Place<'a> {
         Ok(())
     }
 
-    // Makes a call that is to answer this, behind so many events, or any number.
+    // Makes a call that is to answer this, after so many events, or any number.
     fn say<R: Wait>(&mut self, rt: &R, call: Call, said: &str, cut: Option<u32>) -> Result<(), Stop>
         ensures { self.new.client.of ≡ self.old.client.of }
     {

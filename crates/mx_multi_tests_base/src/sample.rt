@@ -15,12 +15,12 @@ impl Work for Job {
     ghost origin = { λ _. no_request };
 }
 
-/// An ending that says its code and its size.
+/// An ending with a code and a size.
 #[derive(Drop)]
 pub struct End {
     pub code: Code,
     pub size: u32,
-    /// What it stays for before it says its code: the call that asks it keeps the lock meanwhile.
+    /// What it waits for before it gives its code: the call that asks for it keeps the lock meanwhile.
     pub hold: Option<Arc<Hold>>,
 }
 

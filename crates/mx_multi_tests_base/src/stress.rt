@@ -53,7 +53,7 @@ impl<'a> Pool<'a> {
         Some(Worker::new(alloc, self.multi.at(seat)))
     }
 
-    // The last seat, whose number is how many stand before it, and no call yet.
+    // The last seat, numbered by how many are before it, and no call yet.
     fn take_place(&mut self, alloc: Global) -> Option<Place<'a>>
         ensures same { self.new.multi ≡ self.old.multi }
         ensures own { IfSome result (λ p. p.client.of ≡ self.old.multi.now) }
@@ -95,7 +95,7 @@ impl<'a> Pool<'a> {
         })
     }
 
-    // Puts a seat behind the others.
+    // Adds a seat after the others.
     fn put(&mut self, client: Client) -> Result<(), OutOfMemory>
         requires { client.of ≡ self.old.multi.now }
         ensures { self.new.multi ≡ self.old.multi }
@@ -104,7 +104,7 @@ impl<'a> Pool<'a> {
         Ok(())
     }
 
-    // Puts a worker's seat behind the others.
+    // Adds a worker's seat after the others.
     fn put_worker(&mut self, worker: Worker) -> Result<(), OutOfMemory>
         requires { worker.seat.of ≡ self.old.multi.now }
         ensures { self.new.multi ≡ self.old.multi }
@@ -113,7 +113,7 @@ impl<'a> Pool<'a> {
         Ok(())
     }
 
-    // Puts the seats of a thread behind the others.
+    // Adds the seats of a thread after the others.
     fn put_party(&mut self, party: Party) -> Result<(), OutOfMemory>
         requires { party.one.client.of ≡ self.old.multi.now }
         ensures { self.new.multi ≡ self.old.multi }
@@ -138,7 +138,7 @@ struct Parties<'a> {
     ghost own: { All (λ p. p.one.client.of ≡ multi.now) list.items },
 }
 
-// Puts a party behind the others, which have seats of this multi handle.
+// Adds a party after the others, which have seats of this multi handle.
 fn keep_party<'a>(
     multi: &'a Handle,
     party: Party<'a>,
@@ -195,7 +195,7 @@ impl<'a> Parties<'a> {
         Ok(parties)
     }
 
-    // Puts a party behind the others.
+    // Adds a party after the others.
     fn keep(&mut self, party: Party<'a>) -> Result<(), OutOfMemory>
         requires { party.one.client.of ≡ self.old.multi.now }
         ensures { self.new.multi ≡ self.old.multi }
@@ -219,7 +219,7 @@ impl<'a> Parties<'a> {
     }
 }
 
-// Moves what the makers of a party were answered behind the others'.
+// Moves the answers to the makers of a party after the others'.
 fn take_entries(party: &mut Party, all: &mut Vec<Entry>) -> Result<(), OutOfMemory>
     ensures { party.new.one.client.of ≡ party.old.one.client.of }
 {
@@ -276,13 +276,13 @@ pub fn run<R: Threads + Wait + Sync>(
     take_all_apart(alloc, pool, parties)
 }
 
-// What calls are put in order by.
+// The key by which calls are ordered.
 fn order_of(entry: &Entry) -> (u32, bool) {
     (entry.cut, !entry.makes_event)
 }
 
-/// Puts the calls into the order of their cuts, at one cut the call that made the event first, and makes them on one thread, behind those
-/// that it has made. The place of the first that differs there.
+/// Puts the calls into the order of their cuts, at equal cuts the call first that made the event, and makes them on one thread, after those
+/// that it has made. The index of the first that differs there.
 pub fn differs_from(
     alloc: Global,
     one: &mut OneThread,

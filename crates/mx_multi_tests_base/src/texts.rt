@@ -3,7 +3,7 @@
 use mx_types::{HandleId, Look, Reply, State};
 use std::fmt;
 
-// Writes where a handle stands.
+// Writes the state of a handle.
 fn say_state<W: fmt::Write>(f: &mut fmt::Formatter<W>, state: State) -> fmt::Result {
     match state {
         State::NotAdded => f.write_str("not-added"),
@@ -14,7 +14,7 @@ fn say_state<W: fmt::Write>(f: &mut fmt::Formatter<W>, state: State) -> fmt::Res
     }
 }
 
-// Writes the handles behind their word.
+// Writes the handles after their word.
 fn say_handles<W: fmt::Write>(f: &mut fmt::Formatter<W>, handles: &[HandleId]) -> fmt::Result {
     f.write_str("handles")?;
     for handle in handles {
@@ -23,7 +23,7 @@ fn say_handles<W: fmt::Write>(f: &mut fmt::Formatter<W>, handles: &[HandleId]) -
     Ok(())
 }
 
-// The word of an answer that says nothing more; of any other, no text.
+// The word of an answer that has nothing more; an empty text for any other.
 fn word_of(reply: &Reply) -> &'static str {
     match reply {
         Reply::AddedAlready => "added-already",

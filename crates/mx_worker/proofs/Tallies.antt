@@ -151,7 +151,7 @@ module _ {L Q : Type 0} where
   pub done_lacking : (s t u : Seat Q) (did : List (Deed L)) (ticket : Ticket) (o : OutcomeValue) → Done s t did → Stands t u (finish_call ticket o) reply.OutOfMemory → Done s u (did ++ finishes ticket o lacking ∷ [])
   done_lacking s t u did ticket o w h = answered s t u did _ _ _ w h refl refl refl refl refl
 
-  -- what lay in the lock was another's
+  -- the engine in the lock was another's
   found_other : (s t : Seat Q) (did : List (Deed L)) → Done s t did → FindsOther code_of size_of t → FoundOther s.of
   found_other s t did w f = record { seat = t; of = w.later.of; other = f }
 
@@ -217,7 +217,7 @@ module _ {L : Type 0} where
     given_back_is = count_more given_back_by did _ h.ticket g n refl c.given_back_is e;
   }
 
--- a deed more, as a call told it
+-- a deed more, as a call reported it
 pub with_last : {L : Type 0} (P : List (Deed L) → Type 0) (did is : List (Deed L)) (told d : Deed L) → is ≡ did ++ told ∷ [] → told ≡ d → P (did ++ d ∷ []) → P is
 with_last P did is told d e f p = subst P (sym (e ∙ ap (λ x. did ++ x ∷ []) f)) p
 
@@ -227,7 +227,7 @@ pub as_end : {Q : Type 0} (t u : Seat Q) (e f : EndView) (claim : TiedClaimed) (
 as_end t u e f claim was r e_is is r_is h = subst (Stands t u (finish_call e.end.ticket e.end.outcome)) r_is
     (subst (λ (x : EndView). Stands t u (finish_call x.end.ticket x.end.outcome) was) (sym e_is) (subst (λ x. Stands t u (finish_call x f.end.outcome) was) is h))
 
--- an end for which memory was lacking comes back
+-- an end for which memory was refused comes back
 pub lacks : {L : Type 0} (was is : List (Deed L)) (e back : EndView) → is ≡ was ++ finishes e.end.ticket e.end.outcome lacking ∷ [] → back ≡ e → HandsIn was is e (Some back)
 lacks was is e back did b = record { f = lacking; did = did; comes_back = λ _. ap Some b; is_taken = none } where
   none : ((lacking ≡ recorded) ⊎ (lacking ≡ stale)) ⊎ (lacking ≡ unseated) → Some back ≡ None

@@ -18,7 +18,7 @@ use Rattle.mx_turn.specs.Workers.{Deed, looks, notes, finishes, recorded, stale,
 use Rattle.mx_turn.specs.Turn.{Runs}
 use Rattle.mx_turn.specs.Laws.{claimed_by, recorded_by, stale_by, given_back_by, unseated_by, AreAccounted}
 
--- the code of an outcome, and how many bytes its body has, as its message tells them
+-- the code of an outcome, and how many bytes its body has, as in its message
 abbrev pub code_of : OutcomeValue → Code
 code_of o = o.code
 
@@ -29,7 +29,7 @@ size_of o = length (joined o.wire o.parts)
 abbrev pub finish_call : Ticket → OutcomeValue → Call
 finish_call t o = call.Finish t (code_of o) (size_of o)
 
--- the call that a deed is, with its reply, where it has a receipt
+-- the call of a deed, with its reply, where it has a receipt
 abbrev pub answered_by : {L : Type 0} → Deed L → Option (Call × Reply)
 answered_by (looks t (Some l)) = Some (call.Look t, reply.Look l)
 answered_by (finishes t o recorded) = Some (finish_call t o, reply.Recorded)
@@ -42,7 +42,7 @@ abbrev pub noted_by_deed : {L : Type 0} → Deed L → Option Note
 noted_by_deed (notes t slot count) = Some (note slot (word_of t count))
 noted_by_deed _ = None
 
--- at some moment what lay in the lock didn't begin with what a seat of this multi handle had seen, or had other events of the seat's own
+-- at some moment the journal in the lock didn't begin with what a seat of this multi handle had seen, or had other events of the seat's own
 pub record FoundOther {Q : Type 0} (m : MultiView Q OutcomeValue) : Type 0 where
   pub seat : SeatView Q OutcomeValue
   pub of : seat.of ≡ m
@@ -51,8 +51,8 @@ pub record FoundOther {Q : Type 0} (m : MultiView Q OutcomeValue) : Type 0 where
 -- rule worker-seat: What a worker does in its turns is what its seat does.
 --
 -- What the seat did, from s to t, is these deeds: its further receipts are those of the calls that were answered, in order; its further
--- claims are what they claimed; likewise what it gave back and the words that it wrote. And nothing was lost as the seat was another
--- handle's, unless what lay in the lock was another's indeed.
+-- claims are what they claimed; likewise what it gave back and the words that it wrote. And nothing was lost for a seat of another handle,
+-- unless what was in the lock was another handle's indeed.
 pub record IsDone {L Q : Type 0} (s t : SeatView Q OutcomeValue) (did : List (Deed L)) : Type 0 where
   pub more : List Receipt
   pub later : Later s t more
@@ -74,8 +74,8 @@ pub record AreCounted {L : Type 0} (did : List (Deed L)) (recorded_count stale_c
   pub stale_is : stale_count ≡ held_count (filter_map stale_by did)
   pub given_back_is : given_back_count ≡ held_count (filter_map given_back_by did)
 
--- A worker ran, with this seat and this gate, before and after: turn after turn, until it was told to stop and had nothing in hand. What the
--- seat did is what the worker did in those turns, and what the gate said is what it was told there. Each claim came to one end.
+-- A worker ran, with this seat and this gate, before and after: turn after turn, until it was told to stop and had nothing in flight. What
+-- the seat did is what the worker did in those turns, and what the gate said is what it said there. Each claim came to one end.
 pub record WorkerRan {L Q : Type 0} (history : L → List Answer) (token_of : L → ℕ) (s t : SeatView Q OutcomeValue) (was is : List Said) (recorded_count stale_count given_back_count : ℕ) : Type 0 where
   pub last : Worker L
   pub run : Runs history token_of (record (starts s.of.limits.max_connects) { said = was }) last

@@ -1,4 +1,4 @@
-//! A worker's claim, as the right that its turns go by.
+//! A worker's claim, as the right of its turns.
 ghost use Rattle.std.specs.Prelude.{◌≡◌};
 
 use mx_link::Link;

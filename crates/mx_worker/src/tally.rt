@@ -69,7 +69,7 @@ impl<'m, L: Link> Tally<'m, L> {
     }
 
     // rule worker-counts
-    // Hands in an end. One that finds no memory comes back.
+    // Hands in an end. One that is refused memory comes back.
     fn hand_in<R: Wait>(
         &mut self,
         rt: &R,
@@ -185,7 +185,7 @@ impl<'m, L: Link> Engine<L, WorkerClaim<L>> for Tally<'m, L> {
             return;
         };
         let handed = self.hand_in(rt, end);
-        // An assignment would write out in this function how an end is let go: a call takes less to prove.
+        // An assignment would write out in this function how an end is dropped: a call takes less to prove.
         drop(mem::replace(finished, handed));
     }
 

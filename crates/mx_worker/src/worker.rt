@@ -23,7 +23,7 @@ pub struct WorkerEnd<'m, L: Link> {
     pub stale: u32,
     /// How many transfers went back to the queue.
     pub given_back: u32,
-    /// There was no memory for its start, and it did nothing.
+    /// Memory for its start was refused, and it did nothing.
     pub refused: bool,
 }
 
@@ -47,7 +47,7 @@ fn end<'m, L: Link>(tally: Tally<'m, L>, refused: bool) -> WorkerEnd<'m, L>
 /// records their ends. What is gone it gives back. Once its gate answers `Stop` it claims nothing more, gives back what has not started,
 /// and goes on with the rest.
 ///
-/// What it does is turn after turn of the worker that mx_turn defines, from a start with nothing in hand to its end; the seat's further
+/// What it does is turn after turn of the worker that mx_turn defines, from a start with nothing in flight to its end; the seat's further
 /// receipts, claims and written words are those of these turns. Each claim has come back, once: with an end, which was recorded or stale,
 /// or with its transfer, which went back to the queue, or had ended before or was removed; or, where the seat isn't the multi handle's any
 /// more, it is lost. Where memory for the start is refused, nothing was claimed, and the seat is as it was.

@@ -18,7 +18,7 @@ pub fn new_task<R: RandomSource + AllocGlobal>(rt: &R) -> Result<Solo, Trouble> 
     }
 }
 
-// Whether an end is recorded. It is of any claim and end, so that what comes back is let go as one value, whatever it is.
+// Whether an end is recorded. It is generic over claim and end, so that what comes back is dropped as one value.
 fn is_recorded<C: Drop, O: Drop, W: Drop>(answer: Result<FinishReply<C, O>, W>) -> bool {
     matches!(answer, Ok(FinishReply::Recorded))
 }

@@ -76,7 +76,7 @@ pub static EITHER: Plan = Plan {
     most: 2,
 };
 
-// How a message compares with what it is to be.
+// How a message compares with what it should be.
 fn compare_one(reply: &Option<InfoReply<Outcome>>, wanted: Wanted) -> Result<(), Trouble> {
     match reply {
         Some(reply) => compare(reply, wanted),
@@ -84,7 +84,7 @@ fn compare_one(reply: &Option<InfoReply<Outcome>>, wanted: Wanted) -> Result<(),
     }
 }
 
-// Both, of which a refused one tells more than a wrong one.
+// Both results: a refused one counts before a wrong one.
 fn both(first: Result<(), Trouble>, second: Result<(), Trouble>) -> Result<(), Trouble> {
     match (first, second) {
         (Ok(()), Ok(())) => Ok(()),
@@ -134,7 +134,7 @@ fn await_message<L: Link, R: Wait + Clock>(
     None
 }
 
-// How what comes compares with the two answers. The workers are told of the first message.
+// How what comes compares with the two answers. The workers are informed of the first message.
 fn read_both<L: Link, R: Wait + Clock>(
     rt: &R,
     seat: Seated<'_, Application, Queued<L>, Outcome>,

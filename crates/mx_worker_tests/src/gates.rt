@@ -10,7 +10,7 @@ use std::alloc::{AllocError, Global};
 /// How often a poll reads at most.
 const MOST_READS: usize = 128;
 
-// Has the gate open a link that gives these pieces.
+// Plans that the gate opens a link that gives these pieces.
 fn plan_link(
     gate: &mut ScriptGate<ScriptLink>,
     alloc: Global,
@@ -23,7 +23,7 @@ fn plan_link(
     }
 }
 
-// Has the gate refuse to open a link, with this code of the three that it may have.
+// Plans that the gate refuses to open a link, with this code of the three that it may have.
 fn plan_refusal(gate: &mut ScriptGate<ScriptLink>, code: Code) -> Result<(), OutOfMemory> {
     let code = match code {
         Code::CouldntResolveHost => Code::CouldntResolveHost,
@@ -45,7 +45,7 @@ fn one_by_one(alloc: Global, bytes: &[u8]) -> Result<Vec<ScriptRead<'_>>, AllocE
     Ok(reads)
 }
 
-// As many answers that nothing is there yet as there are turns from the first to the last, and then a response.
+// An answer that nothing is there yet for each turn from the first to the last, and then a response.
 fn late(alloc: Global, first: u32, last: u32) -> Result<Vec<ScriptRead<'static>>, AllocError> {
     let mut reads = Vec::new(alloc);
     for _ in first..last {
@@ -55,7 +55,7 @@ fn late(alloc: Global, first: u32, last: u32) -> Result<Vec<ScriptRead<'static>>
     Ok(reads)
 }
 
-// Has the gate open a link that gives these bytes one by one.
+// Plans that the gate opens a link that gives these bytes one by one.
 fn plan_bytes(
     gate: &mut ScriptGate<ScriptLink>,
     alloc: Global,
@@ -69,7 +69,7 @@ fn plan_bytes(
     Ok(())
 }
 
-// Has the gate open a link in each turn from 1 on, which gives its response in the turn `last`, and nothing before.
+// Plans that the gate opens a link in each turn from 1 on, which gives its response in the turn `last`, and nothing before.
 fn plan_late(
     gate: &mut ScriptGate<ScriptLink>,
     alloc: Global,
@@ -83,7 +83,7 @@ fn plan_late(
     Ok(())
 }
 
-// Has the gate answer so where it is to open a link.
+// Plans this answer of the gate where it is to open a link.
 fn plan_opening(
     gate: &mut ScriptGate<ScriptLink>,
     alloc: Global,
@@ -109,7 +109,7 @@ fn plan_openings(
     Ok(())
 }
 
-// Has the gate tell these moments, and behind them so many from 0 on.
+// Plans that the gate gives these moments, and then so many from 0 on.
 fn plan_moments(
     gate: &mut ScriptGate<ScriptLink>,
     moments: &[u64],
@@ -124,7 +124,7 @@ fn plan_moments(
     Ok(())
 }
 
-// Has the gate answer so often that no link can be opened yet.
+// Plans that the gate answers so often that no link can be opened yet.
 fn plan_delays(gate: &mut ScriptGate<ScriptLink>, delays: u32) -> Result<(), OutOfMemory> {
     for _ in 0..delays {
         gate.plan_ask(false)?;

@@ -20,7 +20,7 @@ const RESPONSE: &[u8] = b"HTTP/1.1 200 OK\r\nContent-Length: 5\r\n\r\nhello";
 /// The most looks at a flag or at the messages, one a millisecond.
 pub const LOOKS: u32 = 60_000;
 
-/// What the threads tell each other: that a message was read, and that both were.
+/// The signals between the threads: that a message was read, and that both were.
 #[derive(Drop)]
 pub struct Flags {
     pub is_read: AtomicBool,

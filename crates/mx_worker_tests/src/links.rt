@@ -240,7 +240,8 @@ pub static WAITING: [Row; 6] = [
         ],
     },
     // rule turn-wait-for-link
-    // While no link can be opened yet, the worker waits as long as where there is nothing to do: it doesn't spin. Once one can it is opened.
+    // While no link can be opened yet, the worker waits as long as where there is nothing to do: it doesn't spin. Once one can be, it is
+    // opened.
     Row {
         name: "a worker waits for a name",
         keeps: 4,
@@ -279,8 +280,8 @@ pub static WAITING: [Row; 6] = [
         ],
     },
     // rule turn-wait-for-link
-    // The second transfer is given the link that the first has left, and which the server closes once it has been written to: it wants a
-    // fresh one, and the worker doesn't wait before it has that opened.
+    // The second transfer is given the link that the first has left, which the server closes once it is written to. The transfer wants a
+    // fresh link, and the worker has that opened without a wait.
     Row {
         name: "a lost link is replaced at once",
         keeps: 4,

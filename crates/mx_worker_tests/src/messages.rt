@@ -1,11 +1,11 @@
-//! Done messages, and what they are to say.
+//! Done messages, and what they should say.
 
 use crate::trouble::{Trouble, holds};
 use mx_journal::InfoReply;
 use mx_transfer::Outcome;
 use mx_types::{Code, HandleId, Ticket};
 
-/// What a message is to be.
+/// What a message should be.
 #[derive(Clone, Copy)]
 pub enum Wanted {
     /// Of this handle, with this code and body.
@@ -14,7 +14,7 @@ pub enum Wanted {
     Answer(u32, &'static [u8], &'static [u8]),
     /// Of whichever handle, with code 0 and this body.
     Whole(&'static [u8]),
-    /// There is to be none.
+    /// There should be none.
     Nothing,
 }
 
@@ -29,7 +29,7 @@ fn ends_with(outcome: &Outcome, code: Code, body: &[u8]) -> bool {
     outcome.part_count() == 1 && outcome.part(0) == Some(body)
 }
 
-// Whether a message is what it is to be.
+// Whether a message is what it should be.
 fn is_wanted(handle: HandleId, ticket: Ticket, outcome: &Outcome, wanted: Wanted) -> bool {
     match wanted {
         Wanted::Of(own, code, body) => handle.0 == own && ends_with(outcome, code, body),
@@ -43,7 +43,7 @@ fn is_wanted(handle: HandleId, ticket: Ticket, outcome: &Outcome, wanted: Wanted
     }
 }
 
-/// Fails unless the reply is what it is to be: as refused where memory was, for the call or for the transfer.
+/// Fails unless the reply is what it should be: as refused where memory was, for the call or for the transfer.
 pub fn compare(reply: &InfoReply<Outcome>, wanted: Wanted) -> Result<(), Trouble> {
     match reply {
         InfoReply::Message {

@@ -185,7 +185,7 @@ fn play<R: Wait + RandomSource + AllocGlobal>(
     play_parts(rt, parts, row, number, taken)
 }
 
-// What a row's playing fails with in which something else came than was to come.
+// The error of a row in which something else came than should.
 fn otherwise<R: AllocGlobal>(rt: &R, row: &Row, number: u32, taken: u32) -> Result<(), Fail> {
     let name = row.name;
     let said = format!(in rt.alloc();
@@ -194,7 +194,7 @@ fn otherwise<R: AllocGlobal>(rt: &R, row: &Row, number: u32, taken: u32) -> Resu
     Err(said.into())
 }
 
-// Plays a row once more that was refused memory. It fails in any case, and says how that went.
+// Plays a row once more that was refused memory. It fails in any case, and reports the result.
 fn play_again<R: Wait + RandomSource + AllocGlobal>(
     rt: &R,
     row: &Row,

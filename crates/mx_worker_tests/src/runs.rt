@@ -44,7 +44,7 @@ fn queue<L: Link>(
     }
 }
 
-/// Fails unless an addition was made. It is of any work, so that what is handed back is let go as one value, whatever that is.
+/// Fails unless an addition was made. It is generic over the work, so that what is handed back is dropped as one value.
 pub fn added<Q: Drop, W: Drop>(answer: Result<AddReply<Q>, W>) -> Result<(), Trouble> {
     match answer {
         Ok(AddReply::Added(_)) => Ok(()),
@@ -53,7 +53,7 @@ pub fn added<Q: Drop, W: Drop>(answer: Result<AddReply<Q>, W>) -> Result<(), Tro
     }
 }
 
-// Whether a reply is what it is to be.
+// Whether a reply is what it should be.
 fn is_answer(reply: &Reply, answer: Answer) -> bool {
     match (answer, reply) {
         (Answer::Removed, Reply::Removed) => true,
@@ -74,7 +74,7 @@ fn is_answer(reply: &Reply, answer: Answer) -> bool {
     }
 }
 
-/// Fails unless a reply is what it is to be: as refused where memory was.
+/// Fails unless a reply is what it should be: as refused where memory was.
 pub fn compare_reply(reply: &Reply, answer: Answer) -> Result<(), Trouble> {
     if matches!(reply, Reply::OutOfMemory) {
         return Err(Trouble::Refused);

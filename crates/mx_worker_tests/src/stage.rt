@@ -143,7 +143,7 @@ impl<'r, 'm, R: Wait + RandomSource + AllocGlobal> Stage<'r, 'm, R> {
         Ok(())
     }
 
-    // The next worker's seat, whose start was refused where it is to be.
+    // The next worker's seat, whose start was refused first where the run says so.
     fn next_worker(&mut self, is_refused_once: bool) -> Result<Worker<'m>, Trouble> {
         let Some(worker) = self.workers.pop() else {
             return Err(Trouble::Wrong);
@@ -163,7 +163,7 @@ impl<'r, 'm, R: Wait + RandomSource + AllocGlobal> Stage<'r, 'm, R> {
         Ok(ran)
     }
 
-    /// Claims a transfer at a worker's seat, polls it at the moments 0 and 1, and records its end; the look at it is to say so.
+    /// Claims a transfer at a worker's seat, polls it at the moments 0 and 1, and records its end; the look at it has to give this.
     pub fn end_by_hand(&mut self, is_paused: bool) -> Result<(), Trouble> {
         let solo = new_task(self.rt)?;
         let was_paused = end_at(self.rt, self.workers.pop(), &solo);
@@ -171,7 +171,7 @@ impl<'r, 'm, R: Wait + RandomSource + AllocGlobal> Stage<'r, 'm, R> {
         holds(was_paused == Some(is_paused))
     }
 
-    /// Looks how far the handle's transfer is.
+    /// Reads the progress of the handle's transfer.
     pub fn look(&mut self, handle: u32, ticket: u32, bytes: u32) -> Result<(), Trouble> {
         match self.seat.progress(HandleId(handle)) {
             Some(Progress::Bytes(own, count)) => holds(own.0 == ticket && count == bytes),
@@ -208,7 +208,7 @@ impl<'r, 'm, R: Wait + RandomSource + AllocGlobal> Stage<'r, 'm, R> {
         self.read_once()
     }
 
-    /// Reads a message, which is to be this one.
+    /// Reads a message, which has to be this one.
     pub fn read(&mut self, wanted: Wanted) -> Result<(), Trouble> {
         let reply = self.read_reply()?;
         let compared = compare(&reply, wanted);

@@ -43,9 +43,9 @@ pub struct Run {
     pub links: &'static [Opening],
     /// How often the gate answers first that no link can be opened yet.
     pub delays: u32,
-    /// The moments that the gate tells, in milliseconds; 0 where there is none.
+    /// The moments that the gate gives, in milliseconds; 0 where there is none.
     pub moments: &'static [u64],
-    /// How many moments it tells behind these: 0, 1 and so on.
+    /// How many moments it gives after these: 0, 1 and so on.
     pub ticks: u64,
     /// What the application calls meanwhile.
     pub meanwhile: Meanwhile,
@@ -88,7 +88,7 @@ pub enum Answer {
     Handle(u32),
 }
 
-/// A step of a row, with what is to come of it.
+/// A step of a row, with its expected result.
 #[derive(Clone, Copy)]
 pub enum Step {
     /// Adds a GET of the URL under a handle. It has so many milliseconds, and no deadline where these are 0.
@@ -109,7 +109,7 @@ pub enum Step {
     /// Claims a transfer at a worker's seat, polls it at the moments 0 and 1, and records its end. The look at it is to say that it is
     /// paused, or that it isn't.
     ByHand(bool),
-    /// Looks how far the handle's transfer is: its ticket, and how many bytes came.
+    /// Reads the progress of the handle's transfer: its ticket, and how many bytes came.
     Look(u32, u32, u32),
     /// How many of the links that the last gate had to open are left.
     LinksLeft(usize),

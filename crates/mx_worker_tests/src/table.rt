@@ -283,8 +283,8 @@ pub static ENDING: [Row; 10] = [
             Step::Read(Wanted::Of(1, Code::OutOfMemory, b"")),
         ],
     },
-    // A transfer whose link gives nothing ends with 28 at its deadline, and the wait before is no longer than that. In the turn at 100 it is
-    // claimed, in that at 107 three milliseconds are left, and in that at 110 nothing is held any more.
+    // A transfer whose link gives nothing ends with 28 at its deadline, and the wait before is no longer than that. In the turn at 100 it
+    // is claimed, in that at 107 three milliseconds are left, and in that at 110 nothing is held any more.
     Row {
         name: "a deadline ends a transfer",
         keeps: 4,
@@ -376,7 +376,7 @@ pub static ENDING: [Row; 10] = [
         ],
     },
     // rule turn-gone
-    // A transfer that a worker holds is let go as soon as its look says that its handle is gone, without a message.
+    // A transfer that a worker holds is dropped as soon as its look says that its handle is gone, without a message.
     Row {
         name: "a held transfer whose handle is removed is let go",
         keeps: 4,
@@ -401,7 +401,7 @@ pub static ENDING: [Row; 10] = [
             Step::Read(Wanted::Answer(1, FROM_AGAIN, b"bye")),
         ],
     },
-    // Its link is let go with it, though the worker keeps idle links: the next transfer to the same endpoint has the gate open another.
+    // Its link is dropped with it, though the worker keeps idle links: for the next transfer to the same endpoint the gate opens another.
     Row {
         name: "the link of a removed handle serves no other",
         keeps: 4,
@@ -430,9 +430,9 @@ pub static ENDING: [Row; 10] = [
     },
     // rule turn-order
     // rule turn-clock
-    // The clock is asked once at the beginning of a turn and once before each transfer but the first. As many transfers as a worker holds
+    // The clock is read once at the beginning of a turn and once before each transfer but the first. As many transfers as a worker holds
     // are claimed, one a turn. So the last transfer is polled for the first time at 2079, and the last turn begins at 2144: 75 milliseconds
-    // after 2079 its first ten transfers have been polled. The one that is due then is served next, and not behind the 53 others.
+    // after 2079 its first ten transfers have been polled. The one that is due then is served next, not after the 53 others.
     Row {
         name: "the due are served between two polls",
         keeps: 0,

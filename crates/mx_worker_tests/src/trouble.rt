@@ -8,9 +8,9 @@ use std::alloc::{AllocError, AllocFailed};
 pub enum Trouble {
     /// A call was refused memory.
     Refused,
-    /// There was no memory for what the test needs itself.
+    /// The test's own memory was refused.
     NoMemory,
-    /// Something else came than was to come.
+    /// Something else came than should.
     Wrong,
 }
 
@@ -32,7 +32,7 @@ impl From<OutOfMemory> for Trouble {
     }
 }
 
-/// That something is as it is to be.
+/// Fails unless something is as it should be.
 pub fn holds(is_so: bool) -> Result<(), Trouble> {
     if is_so {
         return Ok(());

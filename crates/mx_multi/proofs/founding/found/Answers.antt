@@ -12,7 +12,7 @@ use Rattle.mx_multi.specs.Opening.{AreNew, AreReaders, IsFounded}
 use Rattle.mx_multi.proofs.Opening.{all_own}
 use Rattle.mx_multi.proofs.founding.found.Goals as goal
 
--- a founder's key, by what it knows
+-- the opening key, by what it knows
 founder_is : (v : KeyView) (x : Content) (n : ℕ) → v ≡ founder_at x n → v ≡ founder_at (known_of v) n
 founder_is v x n e = e ∙ ap (λ (w : KeyView). founder_at (known_of w) n) (sym e)
 

@@ -10,7 +10,7 @@ use Rattle.mx_multi.proofs.Kept.{wrong_of_seats, wrong_of_workers}
 use Rattle.mx_multi.proofs.multi.Multi.meet_all.Goals as goal
 
 module _ {Q O : Type 0} where
-  -- a seat sees the journal, and so do those behind it
+  -- a seat sees the journal, and so do those after it
   all_first : (j : List Event) (s t : SeatView Q O) (ss ts : List (SeatView Q O)) → SeesAll j s t → AllSee j ss ts → AllSee j (s ∷ ss) (t ∷ ts)
   all_first j s t ss ts h all = (ap suc all.0, each) where
     each : (k : ℕ) (d : SeatView Q O) → k < length (s ∷ ss) → SeesAll j (slice_index_or (s ∷ ss) k d) (slice_index_or (t ∷ ts) k d)
