@@ -11,7 +11,7 @@ pub struct Get<'a> {
     pub options: Options,
     /// The URLs, as they were written. There may be too many.
     pub urls: Vec<&'a str>,
-    /// What failed is told on standard error.
+    /// What failed is reported on standard error.
     pub explain: bool,
 }
 
@@ -20,7 +20,7 @@ pub struct Get<'a> {
 pub enum Asked<'a> {
     /// A task over standard input.
     Task(Task),
-    /// To decode the response that is read, as the answer to that method, and to tell on standard error why it isn't whole.
+    /// To decode the response that is read, as the answer to that method, and to report on standard error why it isn't whole.
     Explain(Method),
     /// To fetch.
     Get(Get<'a>),

@@ -138,8 +138,7 @@ fn mxfetch_command<'a>(alloc: Global) -> Result<Command<'a>, AllocError> {
 }
 
 // rule play-history
-/// The task that the matches name, if they name one. The history's range is tested here too, since clap's contract
-/// doesn't tell that it was.
+/// The task that the matches name, if they name one. The history's range is tested here too, since clap's contract doesn't say that it was.
 fn task_of(matches: &ArgMatches<'_>) -> Option<Task>
     ensures { IfSome result IsTask }
 {
@@ -216,7 +215,7 @@ fn asked_of<'a>(alloc: Global, matches: &ArgMatches<'a>) -> Result<Option<Asked<
     })
 }
 
-// Reads the words at a command, which stays there.
+// Reads the words at a command, which stays.
 fn read_at<'a>(
     alloc: Global,
     command: &mut Command<'a>,
@@ -255,7 +254,7 @@ fn is_save(words: &[String]) -> bool {
 }
 
 /// Reads a command line, of which the first word is the program's name. An error is help that was asked for,
-/// a refusal in clap's words, or the want of memory.
+/// a refusal in clap's words, or `OutOfMemory`.
 pub fn read_command<'a>(alloc: Global, words: &'a [String]) -> Result<Asked<'a>, Error>
     ensures { IfOk result IsAsked }
 {

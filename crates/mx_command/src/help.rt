@@ -5,7 +5,7 @@ pub const MXFETCH: &str =
     "Fetches and saves URLs over HTTP/1.1, decodes responses, and plays scripts of
 calls on the control core of a multi handle";
 
-/// Where to go on from the help of `mxfetch`.
+/// Where the help of `mxfetch` refers to.
 pub const MORE: &str = "Examples:
     mxfetch get http://example.com/ http://example.org/
     mxfetch save --into pages http://example.com/a http://example.com/b

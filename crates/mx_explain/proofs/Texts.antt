@@ -1,4 +1,4 @@
--- What is told of one end more.
+-- What is reported of one end more.
 use Rattle.std.proofs.Common.{◌≡◌, Bool, true, false, ℕ, ◌<◌, ◌+◌, List, [], ◌∷◌, ◌++◌, length, take, map, get_or, refl, ap, sym, ◌∙◌, subst, arith, suc, zero, add-one, append_assoc, append-nil}
 use Rattle.std.specs.Prelude.{Option, Some, Result, Ok, Err, OnOk}
 use Rattle.std.specs.List.{slice_get}
@@ -59,7 +59,7 @@ ends_suc (u ∷ urls) (e ∷ ends) (suc i) url end text more at of before is = (
   ap (λ t. t ++ more) before.4 ∙ append_assoc before.0 before.1 more,
 )
 
--- one end more is told of
+-- one end more is reported
 pub end_told : (old mid new : Option (List ℕ)) (urls : List (List ℕ)) (ends : List Fetched) (i : ℕ) (url : List ℕ) (end : Fetched)
     → slice_get urls i ≡ Some url → slice_get ends i ≡ Some end
     → Writes (AreEndTexts (take i urls) (take i ends)) (Appends old mid) → Writes (IsEndText url end) (Appends mid new)
@@ -72,13 +72,13 @@ end_told old mid new urls ends i url end at of before more =
       Appends-trans old mid new before.0 more.0 before.2 more.2,
     )
 
--- what a loop over a slice has in hand stands there
+-- the current element of a loop over a slice is at its index
 pub place : {T : Type 0} (xs : List T) (i : ℕ) (y : T) → i < length xs → y ≡ get_or xs i y → slice_get xs i ≡ Some y
 place [] i y within is = absurd (omega (arith, within))
 place (x ∷ xs) zero y within is = ap Some (sym is)
 place (x ∷ xs) (suc i) y within is = place xs i y (omega (arith, within)) is
 
--- all are told of
+-- all are reported
 pub all_told : (old new : Option (List ℕ)) (urls : List (List ℕ)) (ends : List Fetched) (n : ℕ) → n ≡ length ends → length urls ≡ length ends
     → Writes (AreEndTexts (take n urls) (take n ends)) (Appends old new) → Writes (AreEndTexts urls ends) (Appends old new)
 all_told old new urls ends n all many before =
@@ -90,7 +90,7 @@ all_told old new urls ends n all many before =
 pub as_many : {A B C : Type 0} (ends : List A) (urls : List B) (f : A → C) (g : B → C) → map f ends ≡ map g urls → length urls ≡ length ends
 as_many ends urls f g same = sym (length-map urls g) ∙ sym (ap length same) ∙ length-map ends f
 
--- and the hint behind them
+-- and the hint after them
 pub run_told : {A E : Type 0} (r : Result A E) (old mid new : Option (List ℕ)) (urls : List (List ℕ)) (ends : List Fetched) (met : Bool)
     → Writes (AreEndTexts urls ends) (Appends old mid) → OnOk r (Appends mid new (hint_line (file_limit_hint met)))
     → OnOk r (Writes (IsRunText urls ends met) (Appends old new))

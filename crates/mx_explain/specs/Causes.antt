@@ -1,4 +1,4 @@
--- Why a run has no ends to tell of.
+-- Why a run has no ends to report.
 use Rattle.std.specs.Prelude.{ℕ, List, codes}
 use Rattle.mx_get.specs.declared.error.FetchError.{FetchError}
 use Rattle.mx_get.specs.declared.error.FetchError.TheVariants as cause

@@ -1,4 +1,4 @@
--- What `get --explain` tells of what URLs ended with.
+-- What `get --explain` reports of the ends of URLs.
 use Rattle.std.specs.Prelude.{◌≡◌, ℕ, Bool, true, false, List, [], ◌∷◌, ◌++◌, Option, None}
 use Rattle.mx_reason.specs.declared.reason.Reason.{Reason}
 use Rattle.mx_chain.specs.Hops.{is_ok}
@@ -10,7 +10,7 @@ use Rattle.mx_words.specs.Words.{told_text}
 use Rattle.mx_words.specs.Hints.{file_limit_hint}
 use Rattle.mx_words.specs.Lines.{IsFailureText, hint_line}
 
--- why a URL ended so, as far as the bytes that came tell: of a transfer that failed what its failure has
+-- why a URL ended so, as far as the received bytes show: of a transfer that failed what its failure has
 abbrev pub IsWhyOf : Fetched → Option Reason → Type 0
 IsWhyOf (Refused c) reason = reason ≡ None
 IsWhyOf (Ended outcome) reason = reason ≡ None
@@ -30,7 +30,7 @@ AreEndTexts (url ∷ urls) (end ∷ ends) text =
     (first : List ℕ) × (rest : List ℕ) × IsEndText url end first × AreEndTexts urls ends rest × (text ≡ first ++ rest)
 
 -- rule program-file-limit-hint
--- and behind them a hint, where the run met the limit of open files
+-- and after them a hint, where the run met the limit of open files
 pub record IsRunText (urls : List (List ℕ)) (ends : List Fetched) (met_limit : Bool) (text : List ℕ) : Type 0 where
   pub of_ends : List ℕ
   pub are : AreEndTexts urls ends of_ends

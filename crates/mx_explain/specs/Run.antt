@@ -1,4 +1,4 @@
--- What a run tells beside what it prints.
+-- What a run reports beside what it prints.
 use Rattle.std.specs.Prelude.{◌≡◌, ℕ, Bool, ◌⊎◌, List}
 use Rattle.mx_types.specs.Code.{code_number}
 use Rattle.mx_types.specs.declared.code.Code.TheVariants as codes
@@ -11,7 +11,7 @@ use Rattle.mx_words.specs.Lines.{Writes, body_line}
 use Rattle.mx_explain.specs.Explained.{IsRunText}
 use Rattle.mx_explain.specs.Causes.{cause_words}
 
--- What is printed are ends of these URLs, the program ends with their exit status, and what is told is of these ends.
+-- What is printed are ends of these URLs, the program ends with their exit status, and the report is of these ends.
 pub record ExplainsEnds (timeout_ms max_redirects : ℕ) (urls : List (List ℕ)) (Printed Told : List ℕ → Type 0) (ends_with : ℕ) : Type 0 where
   pub ends : List Fetched
   pub of_urls : AreEndsOf timeout_ms max_redirects urls ends
@@ -20,7 +20,7 @@ pub record ExplainsEnds (timeout_ms max_redirects : ℕ) (urls : List (List ℕ)
   pub met_limit : Bool
   pub told : Writes (IsRunText urls ends met_limit) Told
 
--- Or the fault of a run that has no ends is printed, and its cause is told.
+-- Or the fault of a run that has no ends is printed, and its cause is reported.
 pub record ExplainsFault (Printed Told : List ℕ → Type 0) (ends_with : ℕ) : Type 0 where
   pub cause : FetchError
   pub printed : PrintsFault (code_number codes.OutOfMemory) Printed ends_with

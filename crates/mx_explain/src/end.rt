@@ -1,4 +1,4 @@
-//! What is told of what a URL ended with.
+//! What is reported of a URL's end.
 ghost use Rattle.std.specs.Prelude.{◌≡◌, ◌<◌, true, IsErr, OnOk, Some, length, map, option_map, slice_get};
 ghost use Rattle.mx_run_io.specs.Ends.{has_failed_write, Wrote};
 ghost use Rattle.mx_chain.specs.Hops.{is_ok};
@@ -12,7 +12,7 @@ use mx_types::Code;
 use mx_words::{Told, print_failure, print_file_limit};
 use std::io::Write;
 
-/// What is told of what a URL ended with: its code, and why it failed, as far as the bytes that came tell.
+/// What is reported of a URL's end: its code, and why it failed, as far as the received bytes show.
 pub fn told_of(fetched: &Fetched) -> Told
     ensures code { result.code ≡ code_of fetched.now }
     ensures reason { IsWhyOf fetched.now result.reason }
@@ -33,7 +33,7 @@ fn is_ok(code: Code) -> bool
     matches!(code, Code::Ok)
 }
 
-/// Prints what is told of a URL that ended so: nothing with code 0, else a line, and behind it the line of a hint where there is one.
+/// Prints what is reported of a URL that ended so: nothing with code 0, else a line, and then the line of a hint where there is one.
 pub fn print_end<W: Write>(
     output: &mut Output<W>,
     url: &[u8],
@@ -57,7 +57,7 @@ fn url_at<'a>(urls: &[&'a str], i: usize) -> &'a [u8]
     urls[i].as_bytes()
 }
 
-// Prints what is told of URLs that ended so, in their order.
+// Prints what is reported of URLs that ended so, in their order.
 fn print_ends<W: Write>(
     output: &mut Output<W>,
     urls: &[&str],
@@ -74,7 +74,7 @@ fn print_ends<W: Write>(
 }
 
 // rule program-file-limit-hint
-/// Prints what is told of URLs that ended so, in their order, and behind it a hint, where the run met the limit of open files.
+/// Prints what is reported of URLs that ended so, in their order, and then a hint, where the run met the limit of open files.
 pub(crate) fn print_all<W: Write>(
     output: &mut Output<W>,
     urls: &[&str],

@@ -37,7 +37,7 @@ fn cause_words(cause: FetchError) -> &'static str
     }
 }
 
-// Prints the ends, and tells of them.
+// Prints the ends, and reports on them.
 fn print_explained<W: Write, E: Write>(
     urls: &[&str],
     ends: &[Fetched],
@@ -57,7 +57,7 @@ fn print_explained<W: Write, E: Write>(
     status
 }
 
-// Prints the want of memory, which stands for whatever a run lacked, and tells what that was.
+// Prints `FAULT 27`, whatever the run lacked, and reports what that was.
 fn print_unfetched<W: Write, E: Write>(
     cause: FetchError,
     output: &mut Output<W>,
@@ -75,10 +75,11 @@ fn print_unfetched<W: Write, E: Write>(
 }
 
 // rule program-explain
-/// Does what `run_get` does, and tells of each URL that failed, in their order, why: a line with the words of its code; of a response that
-/// is refused the byte of it, counted from 1, and what stands wrong there; of one that was cut how much of it came; and behind it a hint
-/// where there is one; and last, where a connection couldn't be begun since too many files were open, a hint that says so. Where `FAULT 27` is printed, it is told what the run lacked. What is told is put into an output of its own, once the
-/// other is flushed; whether it could be is no matter of the exit status. It may wait.
+/// Does what `run_get` does, and reports why each URL failed, in their order: a line with the words of its code; for a response that is
+/// refused its byte, counted from 1, and what is wrong there; for a truncated one how much of it came; then a hint where there is one; and
+/// last, where a connection couldn't be begun since too many files were open, a hint that says so. Where `FAULT 27` is printed, it reports
+/// what the run lacked. The report is written into an output of its own, once the other is flushed; whether that succeeds doesn't change
+/// the exit status. It may wait.
 ///
 /// No clause says that the cause that is named beside `FAULT 27`, or the hint of too many open files, is the right one.
 pub fn run_get_explained<

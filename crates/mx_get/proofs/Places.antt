@@ -1,4 +1,4 @@
--- What is asked for at places, what a seat was told of them, and at how many an end is awaited.
+-- The requests at places, what a seat was told of them, and at how many an end is awaited.
 use Rattle.std.proofs.Common.{◌≡◌, ◌∙◌, refl, ap, sym, subst, ℕ, ◌+◌, ◌-◌, ◌<◌, ◌≤◌, suc, zero, List, [], ◌∷◌, ◌++◌, map, length, reverse, Bool, true, false, inl, inr, cond, unwrap_or, arith}
 use Rattle.std.specs.Prelude.{All, MatchResult, OnOk, Option, Some, Result, Ok, Err, slice_get, count_by, ◌⊎◌}
 use Rattle.std.proofs.lemmas.Bool.{eqb-true}
@@ -39,7 +39,7 @@ ends_reversed ends all = All-permutation IsEnd ends (reverse ends) (IsPermutatio
 weight : Place → ℕ
 weight p = cond (is_awaiting p) 1 0
 
--- one place more, in front and behind
+-- one place more, at the front and at the end
 front : (p : Place) (ps : List Place) → count_by is_awaiting (p ∷ ps) ≡ weight p + count_by is_awaiting ps
 unfolding weight
 front p ps = sum_by-cons (λ q. cond (is_awaiting q) 1 0) p ps

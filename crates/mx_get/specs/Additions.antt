@@ -2,7 +2,7 @@
 use Rattle.mx_types.specs.declared.names.Ticket.{Ticket}
 use Rattle.mx_request.specs.Request.{RequestValue}
 
--- its number, and the request that it is of
+-- its number, and its request
 pub record AdditionView : Type 0 where
   pub ticket : Ticket
   pub request : RequestValue

@@ -15,9 +15,9 @@ asked_of (Refused code) = Err code
 asked_of (Ended outcome) = Ok outcome.request
 asked_of (Failed outcome) = Ok outcome.request
 
--- What a transfer ended with is an outcome, with its truth: its hops are a chain that begins with its request, each ended as the answers of
--- its link come to, and its code, status and parts are those of the last one. Where it is kept whole, its code is 0, and the first bytes
--- that came in that one are a response to the last request of the chain, whose content stands at the parts; else its code isn't 0.
+-- What a transfer ended with is an outcome, with its truth: its hops are a chain that begins with its request, each ended by the answers of
+-- its link, and its code, status and parts are those of the last one. Where it is kept whole, its code is 0, and the first bytes that came
+-- in that one are a response to the last request of the chain, whose content is at the parts; else its code isn't 0.
 abbrev pub IsEnd : Fetched → Type 0
 IsEnd (Refused _) = Unit {0}
 IsEnd (Ended outcome) = IsOutcome outcome × (outcome.code ≡ code.Ok) × HasContent outcome.last

@@ -54,7 +54,7 @@ pub record Adds {Q : Type 0} (old new : DeskView Q) (request : RequestValue) : T
   pub added : Stands old.seat new.seat (call.Add (record { 0 = length old.places })) (reply.Added ticket)
   pub awaited : new.places ≡ old.places ++ Awaited (record { ticket = ticket; request = request }) ∷ []
 
--- The seat read the next message. At the place of its handle the end of its ticket's addition was awaited, and is known there since.
+-- The seat read the next message. At the place of its handle the end of its ticket's addition was awaited, and is known there from then on.
 pub record Notes {Q : Type 0} (old new : DeskView Q) : Type 0 where
   pub handle : HandleId
   pub ticket : Ticket

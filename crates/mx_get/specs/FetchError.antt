@@ -16,7 +16,7 @@ fetch_number cause.NotAdded = 6
 fetch_number cause.NoMessage = 7
 fetch_number cause.Unwritten = 8
 
--- What a run that has begun can lack: it is not of the URLs that there are too many, nor of the output.
+-- What a run that has begun can lack: the cause is neither too many URLs nor the output.
 abbrev pub is_of_run : FetchError → Bool
 is_of_run cause.TooManyUrls = false
 is_of_run cause.Unwritten = false

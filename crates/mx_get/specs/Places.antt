@@ -1,4 +1,4 @@
--- What stands at the places of URLs.
+-- What is at the places of URLs.
 use Rattle.std.specs.Prelude.{ℕ, ◌==◌, Bool, true, false, List, slice_get, slice_set, Result, Ok, if◌then◌else◌}
 use Rattle.std.specs.Option.{option_map_or}
 use Rattle.mx_types.specs.declared.code.Code.{Code}

@@ -14,7 +14,7 @@ pub record PrintsEnds (timeout_ms max_redirects : ℕ) (urls : List (List ℕ)) 
   pub written : Written (texts_from 0 ends)
   pub status : ends_with ≡ exit_status ends
 
--- an end for each URL, or the want of memory
+-- an end for each URL, or out of memory
 abbrev pub AnswersUrls : ℕ → ℕ → List (List ℕ) → (List ℕ → Type 0) → ℕ → Type 0
 AnswersUrls timeout_ms max_redirects urls Written ends_with =
     PrintsEnds timeout_ms max_redirects urls Written ends_with ⊎ PrintsFault (code_number codes.OutOfMemory) Written ends_with

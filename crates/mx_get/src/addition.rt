@@ -6,7 +6,7 @@ use mx_types::Ticket;
 use std::marker::Model;
 use std::snapshot::Snapshot;
 
-/// An addition to a multi handle: its ticket, and for contracts alone the request that it is of.
+/// An addition to a multi handle: its ticket, and for contracts alone its request.
 #[derive(Drop)]
 pub struct Addition {
     ticket: Ticket,

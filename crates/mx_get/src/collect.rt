@@ -1,4 +1,4 @@
-//! The one who adds what is to be fetched, and collects what came.
+//! A seat that adds what is to be fetched, and collects the ends.
 ghost use Rattle.std.specs.Prelude.{◌≡◌, ◌≢◌, ◌⊎◌, ◌+◌, ◌<◌, ◌++◌, [], ◌∷◌, true, false, count_by, length, map, Some, Ok, Err};
 ghost use Rattle.std.specs.Prelude.{MatchResult, IfOk, IfErr, OnOk, OnErr};
 ghost use mathlib.Core.List.{IsPrefix};
@@ -36,8 +36,8 @@ use std::marker::Model;
 use std::snapshot::Snapshot;
 use std::sync::Wait;
 
-// The ticket of an addition that was made, or why none was. It is of any work, so that what is handed back is let go as one value, whatever
-// that is.
+// The ticket of an addition that was made, or why none was. It is generic over the work, so that what is handed back is dropped as one
+// value.
 fn added<Q: Drop>(answer: Result<AddReply<Q>, WrongSeat<Q>>) -> Result<Ticket, FetchError>
     ensures ticket { IfOk result (λ t. answer ≡ Ok (AddReply.Added t)) }
     ensures cause { IfErr result (λ e. is_of_run e ≡ true) }
@@ -78,7 +78,7 @@ pub struct Desk<'m, L: Link> {
     places: Vec<Place>,
     // At how many places an end is awaited.
     waiting: usize,
-    // At how many at most.
+    // The most places at which an end is awaited.
     width: usize,
 }
 
@@ -94,7 +94,7 @@ impl<'m, L: Link> Model for Desk<'m, L> {
 }
 
 impl<'m, L: Link> Desk<'m, L> {
-    /// No URL yet, and room for so many, of which as many ends are awaited at a time as the options have it.
+    /// No URL yet, and room for so many; the options say how many ends are awaited at a time.
     pub fn new(
         alloc: Global,
         seat: Seated<'m, Application, Queued<L>, Outcome>,

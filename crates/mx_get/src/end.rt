@@ -37,7 +37,7 @@ impl End {
         }
     }
 
-    /// A transfer of the URL's request ended. Of one that failed the bytes that came are let go.
+    /// A transfer of the URL's request ended. The bytes of a failed one are dropped.
     pub fn ended(alloc: Global, outcome: Outcome) -> End
         ensures { result ≡ fetched_of outcome }
     {

@@ -26,11 +26,11 @@ pub enum FetchError {
     /// A worker's thread couldn't be started.
     #[error("a thread can't be started")]
     NoThread,
-    /// The multi handle refused a transfer, and not for want of memory. It is opened with room for as many as a run may have, so that
-    /// none is known to meet this; but no contract says so.
+    /// The multi handle refused a transfer, for another reason than memory. It is opened with room for as many as a run may have, so this
+    /// shouldn't come; but no contract says so.
     #[error("a transfer can't be added")]
     NotAdded,
-    /// Of a transfer that was added no message was read, for want of memory, or one that is of another addition.
+    /// No message of a transfer that was added was read, as memory was refused; or one came that is of another addition.
     #[error("no message came of a transfer that was added")]
     NoMessage,
     /// The output couldn't be written or flushed.
@@ -66,7 +66,7 @@ impl From<AllocError> for FetchError {
     }
 }
 
-/// The value that found no room is dropped.
+/// The value that couldn't be stored is dropped.
 impl<T: Drop> From<AllocFailed<T>> for FetchError {
     ghost from_gives = { λ _ e. e ≡ fetch_error.OutOfMemory };
 

@@ -31,7 +31,7 @@ pub const MOST_URLS: usize = 256;
 /// The events that the history has room for.
 const HISTORY: u32 = 2048;
 
-// What the options ask for, and one seat: a multi handle can be opened with it.
+// The limits of a multi handle: what the options ask for, and one seat.
 fn limits(options: Options) -> Limits
     requires { are_within options ≡ true }
     ensures value { result ≡ record { seats = 1; workers = options.workers; history = 2048; max_connects = options.max_connects } }
@@ -45,7 +45,7 @@ fn limits(options: Options) -> Limits
     }
 }
 
-// Has the desk collect the ends of the URLs, beside a worker at each post, which are as many as the options ask for.
+// The desk collects the ends of the URLs, beside a worker at each post, of which there are as many as the options ask for.
 fn collect_beside<
     'm,
     L: Link + Send,
@@ -112,8 +112,8 @@ fn fetch_beside<
     }
 }
 
-// Fetches at a multi handle that is open, with a worker at each gate. What is let go where memory is wanting is here, and not where the
-// handle is owned.
+// Fetches at a multi handle that is open, with a worker at each gate. What is dropped where memory is refused is owned here, and not where
+// the handle is.
 fn fetch_with<
     L: Link + Send,
     R: Threads + Wait + RandomSource + AllocGlobal + Sync,
@@ -148,7 +148,7 @@ fn fetch_with<
     }
 }
 
-// Fetches at a multi handle that was opened as the options ask for, and lets it go.
+// Fetches at a multi handle that was opened as the options ask for, and drops it.
 fn fetch_opened<
     L: Link + Send,
     R: Threads + Wait + RandomSource + AllocGlobal + Sync,
@@ -178,8 +178,8 @@ fn fetch_opened<
     fetched
 }
 
-// Fetches with a worker at each gate, which are as many as the options ask for. It knows nothing of sockets: what it lets go, in each of
-// its ends, is of any link.
+// Fetches with a worker at each gate, which are as many as the options ask for. It knows nothing of sockets: what its exits drop is of any
+// link.
 fn fetch_at<
     L: Link + Send,
     R: Threads + Wait + RandomSource + AllocGlobal + Sync,
@@ -205,7 +205,7 @@ fn fetch_at<
     }
 }
 
-// Fetches with workers over sockets that this crew wakes and stops. It owns no crew, so that its exits let none go.
+// Fetches with workers over sockets that this crew wakes and stops. It owns no crew, so its exits drop none.
 fn fetch_by<R: Runtime + Net<Listener = TcpListener, Stream = TcpStream>>(
     rt: &R,
     crew: &mut Crew,
@@ -252,9 +252,9 @@ fn fetch_from<R: Runtime + Net<Listener = TcpListener, Stream = TcpStream>>(
 /// - `TooManyUrls` where there are more than `MOST_URLS`, and only there;
 /// - `NoClock`, `NoPoll`, `NoThread` where the system has none for the workers;
 /// - `OutOfMemory` where a growth was refused;
-/// - `NotAdded`, `NoMessage` where a transfer wasn't added, or no message came of it.
+/// - `NotAdded`, `NoMessage` where a transfer wasn't added, or no message of it came.
 ///
-/// `Unwritten` is none of its answers; which of the others comes no clause tells, but for the first. `met_file_limit` is to tell whether a
+/// `Unwritten` is none of its answers; which of the others comes no clause says, but for the first. `met_file_limit` says whether a
 /// connection couldn't be begun since too many files were open; no clause says that it does.
 pub fn fetch_all<R: Runtime + Net<Listener = TcpListener, Stream = TcpStream>>(
     rt: &R,

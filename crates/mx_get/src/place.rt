@@ -13,7 +13,7 @@ use mx_transfer::Outcome;
 use mx_types::Ticket;
 use std::alloc::Global;
 
-/// What stands at the place of a URL.
+/// What is at the place of a URL.
 #[derive(Drop)]
 pub enum Place {
     /// The addition whose end is awaited.
@@ -32,7 +32,7 @@ pub fn awaits(places: &[Place], at: usize, ticket: Ticket) -> bool
     }
 }
 
-// Keeps an end at a place: it is known there since.
+// Keeps an end at a place: it is known there from then on.
 fn keep_at(places: &mut Vec<Place>, at: usize, end: End)
     requires { at < vec_len places.old }
     ensures { places.new.items ≡ slice_set places.old.items at (place.Known end) }

@@ -34,7 +34,7 @@ fn print_ends<W: Write>(output: &mut Output<W>, ends: &[Fetched]) -> Result<u8, 
     Ok(status)
 }
 
-// Prints the want of memory, which stands for whatever a run lacked.
+// Prints `FAULT 27`, whatever the run lacked.
 fn print_unfetched<W: Write>(output: &mut Output<W>) -> u8
     ensures ends { EndsRun output.new result }
     ensures printed { has_failed_write output.new ≢ true → PrintsFault (code_number codes.OutOfMemory)
@@ -78,8 +78,8 @@ pub fn try_get<R: Runtime + Net<Listener = TcpListener, Stream = TcpStream>, W: 
 /// where the output couldn't be written. All that is printed is flushed, unless the answer is 121. It may wait.
 ///
 /// With one worker each URL is added after the message of the one before; with more `at_once` are added at first, and one more after each
-/// message. Where memory, a thread, a poll of the system's or its clock can't be had, a transfer wasn't added, no message came of one that
-/// was, or there are more URLs than `MOST_URLS`, `FAULT 27` is printed instead, once the workers have ended: `try_get` tells which.
+/// message. Where memory, a thread, a poll of the system's or its clock is refused, a transfer wasn't added, no message came of one that
+/// was, or there are more URLs than `MOST_URLS`, `FAULT 27` is printed instead, once the workers have ended: `try_get` says which.
 pub fn run_get<R: Runtime + Net<Listener = TcpListener, Stream = TcpStream>, W: Write>(
     rt: &R,
     urls: &[&str],

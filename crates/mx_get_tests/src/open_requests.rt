@@ -12,7 +12,7 @@ use std::thread;
 use std::thread::{JoinHandle, Threads};
 use std::time::Duration;
 
-/// The most connections that are served at the same time.
+/// The most connections that are served at a time.
 const THREADS: u32 = 20;
 
 /// The most connections that a thread takes, and the most requests on one.
@@ -24,7 +24,7 @@ const HELD_MS: u64 = 10;
 /// How long it is held for others at most, in milliseconds.
 const LONGEST_MS: u64 = 5000;
 
-// What its threads share: the requests that have come and aren't answered, the most of them that there were, and how many are waited for.
+// What its threads share: how many requests are open, the most that were, and how many are waited for.
 #[derive(Drop)]
 struct Shared {
     listener: TcpListener,
@@ -50,7 +50,7 @@ fn hold<R: Clock>(rt: &R, shared: &Shared) {
     shared.open.fetch_sub(1, Ordering::SeqCst);
 }
 
-// Answers the requests on a connection until its peer ends it: the body is the byte behind `GET /`.
+// Answers the requests on a connection until its peer ends it: the body is the byte after `GET /`.
 fn answer_all<R: Clock>(rt: &R, shared: &Shared, stream: &mut TcpStream) {
     for _ in 0..MOST {
         let Some(path) = next_request(stream) else {
@@ -64,7 +64,7 @@ fn answer_all<R: Clock>(rt: &R, shared: &Shared, stream: &mut TcpStream) {
     }
 }
 
-// Serves one connection after another until it is over.
+// Serves one connection after another until it is stopped.
 fn serve<R: Clock>(rt: &R, shared: &Shared) {
     for _ in 0..MOST {
         let Ok((mut stream, _)) = shared.listener.accept() else {
@@ -77,7 +77,7 @@ fn serve<R: Clock>(rt: &R, shared: &Shared) {
     }
 }
 
-/// A server that runs.
+/// A running server.
 #[derive(Drop)]
 pub struct Counting {
     pub address: SocketAddr,

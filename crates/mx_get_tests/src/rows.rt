@@ -7,7 +7,7 @@ use std::alloc::Global;
 use std::net::{Net, TcpListener, TcpStream};
 use std::test::Fail;
 
-/// URLs, and what comes of them. `PORT` stands for the server's port.
+/// URLs, and their results. `PORT` stands for the server's port.
 #[derive(Clone, Copy)]
 struct Row {
     /// What it is about.
@@ -16,7 +16,7 @@ struct Row {
     max_redirects: u8,
     urls: &'static [&'static str],
     printed: &'static str,
-    /// What is told on standard error, where that is asked for.
+    /// What is reported on standard error, where that is asked for.
     told: Option<&'static str>,
     /// The exit status.
     status: u8,
@@ -125,7 +125,7 @@ fn with_port(alloc: Global, text: &str, port: u16) -> Result<String, Fail> {
     Ok(whole)
 }
 
-/// What `get` printed and told, and its exit status; 255 where it isn't run.
+/// What `get` printed and reported, and its exit status; 255 where it isn't run.
 #[derive(Drop)]
 struct Ran {
     printed: Vec<u8>,
@@ -177,7 +177,7 @@ fn run_row<R: Runtime + Net<Listener = TcpListener, Stream = TcpStream>>(
     Ok(run(rt, words.as_slice(), row.options(), row.told.is_some()))
 }
 
-/// Whether that came of the URLs of a server at this port.
+/// Whether the URLs of a server at this port have these results.
 fn is_as_planned(alloc: Global, row: &Row, port: u16, ran: &Ran) -> Result<bool, Fail> {
     let printed = with_port(alloc, row.printed, port)?;
     let told = with_port(alloc, row.told.unwrap_or(""), port)?;
@@ -188,7 +188,7 @@ fn is_as_planned(alloc: Global, row: &Row, port: u16, ran: &Ran) -> Result<bool,
     )
 }
 
-/// Whether what comes of the URLs is what is to come.
+/// Whether the URLs have the results of their row.
 fn holds<R: Runtime + Net<Listener = TcpListener, Stream = TcpStream>>(
     rt: &R,
     row: &Row,

@@ -12,7 +12,7 @@ use std::thread::{JoinHandle, Threads};
 /// The most connections that the server takes, and the most bytes of a request that it reads.
 const MOST: u32 = 1000;
 
-/// The byte behind `GET /` of the next request on a connection; None where there is none.
+/// The byte after `GET /` of the next request on a connection; None where there is none.
 pub fn next_request(stream: &mut TcpStream) -> Option<u8> {
     let mut path = b' ';
     let mut last = [0; 4];
@@ -57,7 +57,7 @@ fn answer_all(stream: &mut TcpStream) -> bool {
     true
 }
 
-// Serves one connection after another until it is over, and says on how many of them a request came.
+// Serves one connection after another until it is stopped, and says on how many of them a request came.
 fn serve(listener: &TcpListener, is_over: &AtomicBool) -> u32 {
     let mut served: u32 = 0;
     for _ in 0..MOST {
@@ -74,7 +74,7 @@ fn serve(listener: &TcpListener, is_over: &AtomicBool) -> u32 {
     served
 }
 
-/// A server that runs.
+/// A running server.
 #[derive(Drop)]
 pub struct Server {
     pub address: SocketAddr,

@@ -6,7 +6,7 @@ use std::alloc::Global;
 use std::net::{Net, TcpListener, TcpStream};
 use std::test::Fail;
 
-/// What is asked for, one URL a byte.
+/// The URLs to fetch, a byte each.
 const PATHS: &[u8] = b"abcdefghijklmnopqrst";
 
 /// Workers, how many transfers are added at a time, and how many requests are open at a time, at most.

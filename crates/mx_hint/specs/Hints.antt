@@ -1,4 +1,4 @@
--- What may be said behind clap's words.
+-- The hints after clap's words.
 use Rattle.std.specs.Prelude.{ℕ, Bool, ◌||◌, List, length, nat_eq}
 use Rattle.std.specs.List.{list_any}
 use Rattle.std.specs.Str.{chars}

@@ -1,4 +1,4 @@
--- What is said, and to what.
+-- Which hint is given, and for what.
 use Rattle.std.specs.Prelude.{◌≡◌, ℕ, ◌≤◌, ◌⊎◌, true, List, nat_eq, Some, slice_get}
 use Rattle.std.specs.List.{starts_with}
 use Rattle.clap.specs.declared.error.kind.ErrorKind.{ErrorKind}
@@ -7,13 +7,13 @@ use Rattle.mx_hint.specs.declared.hint.Hint.{Hint}
 use Rattle.mx_hint.specs.declared.hint.Hint.TheVariants.{Nearest, Url, Wanted}
 use Rattle.mx_hint.specs.Hints.{distance, is_url}
 
--- to a word that is no command: that it is a URL, if it may be one, else the name of a command at most two edits away
+-- for a word that is no command: that it is a URL, if it may be one, else the name of a command at most two edits away
 abbrev pub IsSaidToWord : List ℕ → Hint → Type 0
 IsSaidToWord word (Nearest name) = distance word name.now ≤ 2
 IsSaidToWord word Url = is_url word ≡ true
 IsSaidToWord word (Wanted row) = ⊥
 
--- the word in the place of a command: behind the program's name, or behind `help`
+-- the word in the place of a command: after the program's name, or after `help`
 abbrev pub IsCommandWord : List (List ℕ) → List ℕ → Type 0
 IsCommandWord words word = (slice_get words 1 ≡ Some word) ⊎ (slice_get words 2 ≡ Some word)
 
@@ -21,12 +21,12 @@ IsCommandWord words word = (slice_get words 1 ≡ Some word) ⊎ (slice_get word
 abbrev pub IsNamedAt : List (List ℕ) → ℕ → List ℕ → Type 0
 IsNamedAt words at name = (word : List ℕ) × (slice_get words at ≡ Some word) × (starts_with nat_eq word name ≡ true)
 
--- to the value of an option: what that option takes, whose name one of the words begins with
+-- for the value of an option: what that option takes, whose name one of the words begins with
 abbrev pub IsSaidToValue : List (List ℕ) → Hint → Type 0
 IsSaidToValue words (Wanted row) = (at : ℕ) × IsNamedAt words at row.now.name.now
 IsSaidToValue words _ = ⊥
 
--- to the words of a command line that is refused as that kind of error
+-- for the words of a command line that is refused as that kind of error
 abbrev pub IsSaid : ErrorKind → List (List ℕ) → Hint → Type 0
 IsSaid kind.InvalidSubcommand words hint = (word : List ℕ) × IsCommandWord words word × IsSaidToWord word hint
 IsSaid kind.ValueValidation words hint = IsSaidToValue words hint

@@ -10,7 +10,7 @@ static COMMANDS: [&str; 5] = ["get", "save", "body", "play", "help"];
 /// How long a word may be that is compared with the commands.
 const LONGEST: usize = 16;
 
-// The first command that is so many edits away from the word at most.
+// The first command that is at most so many edits away from the word.
 fn within(alloc: Global, word: &str, most: usize) -> Result<Option<&'static str>, AllocError>
     ensures { IfOk result (λ o. IfSome o (λ name. distance word.now name.now ≤ most)) }
 {
@@ -22,7 +22,7 @@ fn within(alloc: Global, word: &str, most: usize) -> Result<Option<&'static str>
     Ok(None)
 }
 
-// Whether clap has named a command itself: it does so from this likeness on.
+// Whether clap has named a command itself: it does so from this similarity on.
 fn is_named(alloc: Global, word: &str) -> Result<bool, AllocError> {
     for name in &COMMANDS {
         if jaro(alloc, word, *name)? > 0.7 {

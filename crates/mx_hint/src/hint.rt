@@ -1,4 +1,4 @@
-//! What is said behind clap's words.
+//! A hint after clap's words.
 ghost use Rattle.std.specs.Prelude.{IfOk, IfSome, map, string_bytes};
 ghost use Rattle.mx_hint.specs.Said.{IsSaid, IsSaidToWord, IsSaidToValue, IsCommandWord};
 
@@ -8,14 +8,14 @@ use clap::error::ErrorKind;
 use std::alloc::{AllocError, Global};
 use std::fmt;
 
-/// What is said behind clap's words.
+/// A hint after clap's words.
 #[derive(Clone, Copy)]
 pub enum Hint {
-    /// The command that is nearest to a word that is none.
+    /// The command that is nearest to a word that is no command.
     Nearest(&'static str),
-    /// A URL stands in the place of a command.
+    /// A URL is in the place of a command.
     Url,
-    /// What an option takes whose value isn't that.
+    /// What an option takes, where its value is another.
     Wanted(&'static NumberRow),
 }
 
@@ -33,7 +33,7 @@ impl fmt::Display for Hint {
     }
 }
 
-// The word in the place of a command: the first one behind the program's name, or behind `help`.
+// The word in the place of a command: the first one after the program's name, or after `help`.
 fn command_word(words: &[String]) -> Option<&str>
     ensures { IfSome result (λ word. IsCommandWord (map string_bytes words.now) word.now) }
 {
@@ -44,7 +44,7 @@ fn command_word(words: &[String]) -> Option<&str>
     Some(word)
 }
 
-// What is said to a word that is no command.
+// The hint for a word that is no command.
 fn of_word(alloc: Global, word: &str) -> Result<Option<Hint>, AllocError>
     ensures { IfOk result (λ o. IfSome o (IsSaidToWord word.now)) }
 {
@@ -57,7 +57,7 @@ fn of_word(alloc: Global, word: &str) -> Result<Option<Hint>, AllocError>
     })
 }
 
-// What is said to the first option whose value it doesn't take.
+// The hint for the first option whose value it doesn't take.
 fn of_value(words: &[String]) -> Option<Hint>
     ensures { IfSome result (IsSaidToValue (map string_bytes words.now)) }
 {

@@ -5,7 +5,7 @@ ghost use Rattle.mx_hint.specs.Said.{IsNamedAt};
 
 use mx_types::{LEAST_HISTORY, MOST_HISTORY};
 
-/// An option that takes a number from the least to the greatest, and how that is said.
+/// An option that takes a number from the least to the greatest, and the text that says so.
 pub struct NumberRow {
     pub name: &'static str,
     pub least: u32,
@@ -84,7 +84,7 @@ fn is_taken(row: &NumberRow, text: &str) -> bool {
     }
 }
 
-// The value of the option that the word at that place begins with: behind `=`, or the next word.
+// The value of the option that the word at that place begins with: after `=`, or the next word.
 fn value_at<'a>(words: &'a [String], at: usize) -> Option<&'a str> {
     match words.get(at)?.as_str().split_once('=') {
         Some((_, value)) => Some(value),

@@ -3,7 +3,7 @@
 /// The names of the methods.
 pub static METHODS: [&str; 6] = ["GET", "HEAD", "POST", "PUT", "DELETE", "OPTIONS"];
 
-/// What an option takes, with what the help calls a text.
+/// What an option takes, with the help's name of a text.
 #[derive(Clone, Copy)]
 pub enum Takes {
     /// Nothing: it is given, or it isn't.
@@ -22,7 +22,7 @@ pub enum Takes {
 
 /// An option.
 pub struct OptionRow {
-    /// Its name, behind two hyphens.
+    /// Its name, after two hyphens.
     pub name: &'static str,
     pub takes: Takes,
     /// The value that is meant where it isn't given.

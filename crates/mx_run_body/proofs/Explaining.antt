@@ -1,4 +1,4 @@
--- Why what was received is no whole response, and that it is told.
+-- Why what was received isn't a whole response, and that it is reported.
 use Rattle.std.proofs.Common.{◌≡◌, ◌≢◌, ℕ, ◌≤◌, ◌+◌, Bool, List, [], ◌++◌, length, take, true, false, inl, inr, refl, sym, subst, ap, ◌∙◌, arith, append-nil, length-append}
 use Rattle.std.specs.Prelude.{Option, Some, None, Result, Ok, Err, IfOk, IfSome, IfNone, OnOk}
 use Rattle.std.specs.Io.KnownBytes.{Appends}
@@ -22,7 +22,7 @@ use Rattle.mx_words.specs.declared.told.Told.{Told}
 use Rattle.mx_run_body.specs.Reading.{IsReceived, IsRead}
 use Rattle.mx_run_body.specs.Explained.{IsWhyNone, IsTold, TellsVerdict, TellsRead, code_alone, told_lines}
 
--- where nothing is decided before the end, no byte stands behind those that the decoder has
+-- where nothing is decided before the end, no byte follows those that the decoder has
 cut_is_all : (m : Method) (bytes : List ℕ) (r : Received) (read : IsReceived m bytes r) → HasOneVerdict
     → IsVerdict m r.decoder.wire false verdict.More → r.decoder.wire ≡ bytes
 cut_is_all m bytes r read one more = go r.decoder.ended refl
@@ -62,7 +62,7 @@ pub why_none : (m : Method) (bytes : List ℕ) (r : Received) (result : Option R
 why_none m bytes r (Some reason) read one some none = what_of_all m bytes r read one reason.at reason.what some
 why_none m bytes r None read one some none = (r.decoder.wire, read.behind, read.whole, none)
 
--- what is told is of the verdict
+-- what is reported is of the verdict
 tells_verdict : (m : Method) (bytes : List ℕ) (v : Verdict) (told : Option Told) (Written : List ℕ → Type 0) → IsVerdict m bytes true v
     → IsTold m bytes v told → Written (told_lines told) → TellsVerdict m bytes v Written
 tells_verdict m bytes (verdict.Complete status len parts keep) told Written decided is written =
@@ -91,7 +91,7 @@ tells_read m known left old new (Err Failed) told (Ok u) read whole short is wri
 tells_read m known left old new (Err OutOfMemory) told (Ok u) read whole short is written =
     inl (subst (λ t. Appends old new (told_lines t)) (short refl) written)
 
--- a fault is told with its code
+-- a fault is reported with its code
 pub told_fault : (m : Method) (bytes : List ℕ) (v : Verdict) (c : Code) (reason : Option Reason) → v ≡ verdict.Fault c → IsWhyNone m bytes reason
     → IsTold m bytes v (Some (record { code = c; reason = reason }))
 told_fault m bytes v c reason is why =

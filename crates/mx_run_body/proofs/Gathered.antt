@@ -13,7 +13,7 @@ use Rattle.mx_run_body.specs.Texts.{Holds}
 pub holds_itself : (old : Option (List ℕ)) (text : List ℕ) → Holds (Appends old old) text text
 holds_itself old text = record { front = []; written = Appends-nil old; is = refl }
 
--- behind what is held comes a piece
+-- after what is held comes a piece
 pub holds_on : (old mid new : Option (List ℕ)) (text held piece next : List ℕ) → Holds (Appends old mid) text held → Holds (Appends mid new) (held ++ piece) next
     → Holds (Appends old new) (text ++ piece) next
 holds_on old mid new text held piece next a b = record {

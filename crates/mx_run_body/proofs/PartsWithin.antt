@@ -16,7 +16,7 @@ in_order from to (p ∷ ps) h =
     let some = h.1 in
     let later : p.end ≤ to = in_order p.end to ps h.2 in omega arith
 
--- each stands within as many bytes as hold the last offset
+-- each is within as many bytes as hold the last offset
 pub stand_within : (from to n : ℕ) (parts : List Part) → AreOrdered from to parts → to ≤ n
     → All (StandsWithin n) parts
 stand_within from to n [] h small = All-nil (StandsWithin n)
@@ -26,7 +26,7 @@ stand_within from to n (p ∷ ps) h small =
     let here : StandsWithin n p = (omega arith, omega arith) in
     All-cons (StandsWithin n) p ps here (stand_within p.end to n ps h.2 small)
 
--- together they have no more bytes than lie between the offsets
+-- together they have no more bytes than are between the offsets
 pub sum_within : (from to : ℕ) (parts : List Part) → AreOrdered from to parts
     → sum_by part_len parts + from ≤ to
 sum_within from to [] h = let ordered : from ≤ to = h in omega arith
@@ -36,7 +36,7 @@ sum_within from to (p ∷ ps) h =
     let later : sum_by part_len ps + p.end ≤ to = sum_within p.end to ps h.2 in
     let more : sum_by part_len (p ∷ ps) ≡ part_len p + sum_by part_len ps = sum_by-cons part_len p ps in omega arith
 
--- so many bytes stand at one
+-- so many bytes are at one
 length-piece : (input : List ℕ) (p : Part) → StandsWithin (length input) p
     → length (slice_range input p.start p.end) ≡ part_len p
 length-piece input p within =
@@ -44,7 +44,7 @@ length-piece input p within =
     let inside = within.1 in
     omega (arith, length-take {A = ℕ}, length-drop {A = ℕ})
 
--- so many bytes stand at them
+-- so many bytes are at them
 pub length-joined : (input : List ℕ) (parts : List Part) → All (StandsWithin (length input)) parts
     → length (joined input parts) ≡ sum_by part_len parts
 length-joined input [] h = refl
@@ -54,7 +54,7 @@ length-joined input (p ∷ ps) h =
     ∙ ap (λ n. part_len p + n) (length-joined input ps (All-tail (StandsWithin (length input)) p ps h))
     ∙ sym (sum_by-cons part_len p ps)
 
--- what stands at them is the same where more follows
+-- what is at them is the same where more follows
 pub joined_front : (wire behind : List ℕ) (parts : List Part) → All (StandsWithin (length wire)) parts
     → joined (wire ++ behind) parts ≡ joined wire parts
 joined_front wire behind [] h = refl

@@ -62,7 +62,7 @@ answers_read m known left old new r status read has printed =
       },
     )
 
--- the want of memory is printed in place of an answer to an input with bytes
+-- out of memory is printed in place of an answer to an input with bytes
 answers_short : {E : Type 0} (m : Method) (known left old new : Option (List ℕ)) (r : Result ℕ E)
     → IfOk r (PrintsFault 27 (Appends old new)) → known ≢ Some [] → IfOk r (AnswersRead m known left (Appends old new))
 answers_short m known left old new (Ok status) printed some = inl (printed, some)

@@ -1,4 +1,4 @@
--- What came of an input, as it was decoded.
+-- The result of an input, as it was decoded.
 use Rattle.std.proofs.Common.{◌≡◌, ◌≢◌, ℕ, ◌+◌, Bool, true, false, List, [], ◌∷◌, ◌++◌, length, refl, sym, ap, subst, ◌∙◌, arith, append_assoc, append-nil, length-append}
 use Rattle.std.specs.Prelude.{Option, Some, None, Result, Ok, Err, IfOk, OnErr}
 use Rattle.std.specs.Io.KnownBytes.{Consumes}
@@ -47,7 +47,7 @@ was_fed_more old new bytes piece fed exact over more = go old.verdict refl
     go More is = goes_on is
     go (Fault code) is = stays (λ e. let both = sym is ∙ e in cc)
 
--- what a decoder has decided stands, whatever follows
+-- what a decoder has decided stays, whatever follows
 later_verdict : (m : Method) (wire behind : List ℕ) (v : Verdict) → FaultStaysSame → CompleteStaysSame → v ≢ More
     → IsVerdict m wire false v → IsVerdict m (wire ++ behind) true v
 later_verdict m wire behind (Complete status len parts keep) faults completes decided is =
@@ -143,7 +143,7 @@ read_is m known left d count bytes (Ok r) read fed method all decided = record {
 }
 read_is m known left d count bytes (Err e) read fed method all decided = tt
 
--- the front of nothing is nothing
+-- a prefix of nothing is nothing
 pub front_none : (xs ys : List ℕ) → [] ≡ xs ++ ys → xs ≡ []
 front_none [] ys e = refl
 front_none (x ∷ xs) ys e = cc

@@ -7,7 +7,7 @@ use Rattle.std.proofs.KnownBytes.{Consumes-trans}
 use Rattle.std.proofs.Math.Seq.{take-append_seam}
 use Rattle.mx_run_body.specs.Reading.{bytes_read}
 
--- a read with room gave nothing, so nothing is left behind the bytes, and they are few enough
+-- a read with room gave nothing, so nothing is left after the bytes, and they are few enough
 pub ended : (old mid new : Option (List ℕ)) (bytes buffer : List ℕ) (most count : ℕ)
     → Consumes old mid bytes → count ≡ 0 → 0 < length buffer
     → Consumes mid new (take count buffer) × (count ≡ 0 → 0 < length buffer → IsAtEnd new)

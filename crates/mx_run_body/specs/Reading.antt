@@ -1,4 +1,4 @@
--- What is read of an input, and what comes of it.
+-- What is read of an input, and its result.
 use Rattle.std.specs.Prelude.{◌≡◌, ℕ, ◌+◌, ◌≤◌, Bool, true, false, List, [], ◌++◌, length, take, Option, IfSome}
 use Rattle.std.specs.Io.KnownBytes.{Consumes}
 use Rattle.mx_types.specs.declared.method.Method.{Method}
@@ -15,15 +15,14 @@ bytes_read most input = take (most + 1) input
 -- rule program-body-reads: `body` reads one byte more than a response may have, and no further; what is left is counted within what was
 -- read.
 --
--- Reading went no further than the byte behind the most; and where a read failed, at most the most was there before it.
+-- Reading went no further than one byte more than the most; and where a read failed, at most the most was there before it.
 pub record ReadsUpTo (most : ℕ) (failed : Bool) (known left : Option (List ℕ)) : Type 0 where
   pub front : List ℕ
   pub given : Consumes known left front
   pub few : length front ≤ most + 1
   pub before : failed ≡ true → length front ≤ most
 
--- These bytes were read: they stood at the front of what the reader had, and are all of it, or one byte more than a
--- response has.
+-- These bytes were read: they are a prefix of what the reader had, and are all of it, or one byte more than a response has.
 pub record WasRead (known left : Option (List ℕ)) (bytes : List ℕ) : Type 0 where
   pub given : Consumes known left bytes
   pub enough : IfSome known (λ input. bytes ≡ bytes_read most_bytes input)
@@ -37,7 +36,7 @@ pub record WasFed (d : Decoded) (bytes : List ℕ) : Type 0 where
   pub running : d.ended ≡ false
   pub exact : IsExact d
 
--- Of these bytes, the last of the input, the decoder has the front, and its verdict is that on all of them; it has all where their end
+-- The decoder has a prefix of these bytes, the last of the input, and its verdict is that on all of them; it has all where their end
 -- decided. So many there are.
 pub record IsReceived (m : Method) (bytes : List ℕ) (r : Received) : Type 0 where
   pub behind : List ℕ

@@ -35,18 +35,18 @@ pub record PrintsVerdict (m : Method) (input : List ℕ) (Written : List ℕ →
   pub written : Written (text_of input verdict)
   pub status : ends_with ≡ exit_status verdict
 
--- the pieces of a verdict stand in the input, and it is decided
+-- the pieces of a verdict are in the input, and it is decided
 abbrev pub FitsIn : List ℕ → Verdict → Type 0
 FitsIn input (verdict.Complete status len parts keep) = AreOrdered 0 len parts.items × (len ≤ length input)
 FitsIn input verdict.More = ⊥
 FitsIn input (verdict.Fault code) = Unit {0}
 
--- Private: what is written is the text of the verdict on the bytes that were received and any others behind them, as many as were read.
+-- Private: what is written is the text of the verdict on the bytes that were received and any others after them, as many as were read.
 pub record PrintsReceived (r : Received) (Written : List ℕ → Type 0) (ends_with : ℕ) : Type 0 where
   pub written : (behind : List ℕ) → r.len ≡ length (r.decoder.wire ++ behind) → Written (text_of (r.decoder.wire ++ behind) r.decoder.verdict)
   pub status : ends_with ≡ exit_status r.decoder.verdict
 
--- The verdict on what was read is printed; or the want of memory, which an input without bytes never meets.
+-- The verdict on what was read is printed; or out of memory, which an input without bytes never meets.
 abbrev pub AnswersRead : Method → Option (List ℕ) → Option (List ℕ) → (List ℕ → Type 0) → ℕ → Type 0
 AnswersRead m known left Written ends_with =
     (PrintsFault (code_number codes.OutOfMemory) Written ends_with × (known ≢ Some []))

@@ -1,4 +1,4 @@
-//! Why what was received is no whole response.
+//! Why what was received isn't a whole response.
 ghost use Rattle.std.specs.Prelude.{◌≡◌, ◌≢◌, ℕ, List, true, None, Option, Err, IfOk, OnOk, IsErr};
 ghost use Rattle.mx_run_io.specs.Ends.{has_failed_write, Wrote};
 ghost use Rattle.mx_words.specs.Lines.{body_lines};
@@ -16,7 +16,7 @@ use mx_words::{Told, print_body_failure};
 use std::alloc::Global;
 use std::io::Write;
 
-// Why what was received is no whole response.
+// Why what was received isn't a whole response.
 fn why(alloc: Global, method: Method, received: &Received) -> Option<Reason>
     ensures { (bytes : List ℕ) → IsReceived method bytes received.now → IsWhyNone method bytes result }
 {
@@ -24,7 +24,7 @@ fn why(alloc: Global, method: Method, received: &Received) -> Option<Reason>
     reason_of(alloc, method, received.decoder.wire())
 }
 
-// What is told of what was received, if it isn't a whole response.
+// What is reported of what was received, if it isn't a whole response.
 fn told_of_verdict(alloc: Global, method: Method, received: &Received) -> Option<Told>
     ensures { (bytes : List ℕ) → IsReceived method bytes received.now → IsTold method bytes received.now.decoder.verdict result }
 {
@@ -37,7 +37,7 @@ fn told_of_verdict(alloc: Global, method: Method, received: &Received) -> Option
     }
 }
 
-// What is told of an input, if it isn't a whole response.
+// What is reported of an input, if it isn't a whole response.
 fn told_of(alloc: Global, method: Method, received: &Result<Received, InputError>) -> Option<Told>
     ensures unread { received.now ≡ Err Failed → result ≡ code_alone Code.RecvError }
     ensures short { received.now ≡ Err OutOfMemory → result ≡ code_alone Code.OutOfMemory }
@@ -50,7 +50,7 @@ fn told_of(alloc: Global, method: Method, received: &Result<Received, InputError
     }
 }
 
-// Prints what is told, if anything is.
+// Prints what is reported, if anything is.
 fn print_told<E: Write>(output: &mut Output<E>, told: Option<Told>) -> Result<(), WriteFailed>
     ensures told { OnOk result (Wrote E.contents output.old output.new (told_lines told)) }
     ensures failed { IsErr result → has_failed_write output.new ≡ true }
@@ -62,7 +62,7 @@ fn print_told<E: Write>(output: &mut Output<E>, told: Option<Told>) -> Result<()
 }
 
 // rule program-explain
-/// Tells why what was received is no whole response, where it isn't one.
+/// Reports why what was received isn't a whole response, where it isn't one.
 pub(crate) fn explain<E: Write>(
     alloc: Global,
     method: Method,

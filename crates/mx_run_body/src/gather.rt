@@ -6,7 +6,7 @@ ghost use Rattle.mx_run_body.specs.Texts.{Holds};
 use mx_run_io::{Output, WriteFailed};
 use std::io::Write;
 
-/// Puts a piece behind the bytes that are held at the front of the buffer. The answer is how many are held then.
+/// Puts a piece after the bytes that are held at the front of the buffer. The answer is how many are held then.
 fn put(buffer: &mut [u8], held: usize, piece: &[u8]) -> usize
     requires room { held + length piece.now ≤ length buffer.old }
     ensures held { result ≡ held + length piece.now }
@@ -15,7 +15,7 @@ fn put(buffer: &mut [u8], held: usize, piece: &[u8]) -> usize
 {
     let end = held + piece.len();
     if piece.len() == 1 {
-        // without the call that a copy is
+        // without the call of a copy
         buffer[held] = piece[0];
     } else {
         buffer[held..end].copy_from_slice(piece);
@@ -23,7 +23,7 @@ fn put(buffer: &mut [u8], held: usize, piece: &[u8]) -> usize
     end
 }
 
-/// Prints a piece behind the bytes that are held at the front of the buffer, or holds it too. The answer is how many are
+/// Prints a piece after the bytes that are held at the front of the buffer, or holds it too. The answer is how many are
 /// held then.
 pub(crate) fn gather<W: Write>(
     output: &mut Output<W>,

@@ -17,7 +17,7 @@ use std::io::Read;
 pub enum InputError {
     /// A read failed.
     Failed,
-    /// There was no memory for what was read, or for the pieces of its body.
+    /// Memory for what was read, or for the pieces of its body, was refused.
     OutOfMemory,
 }
 
@@ -33,7 +33,7 @@ pub struct Received {
 /// How many bytes one read asks for.
 const READ_SIZE: usize = 65536;
 
-/// Decides over what was read, where no more is.
+/// Decides on what was read, where there is no more.
 fn decide(mut decoder: Decoder, len: usize) -> Result<Received, InputError>
     ensures decided { IfOk result (λ r. (bytes : List ℕ) → WasFed decoder bytes → length bytes ≡ len → IsReceived decoder.method bytes r) }
     ensures memory { OnErr result ((bytes : List ℕ) → WasFed decoder bytes → bytes ≢ []) }
@@ -49,7 +49,7 @@ fn decide(mut decoder: Decoder, len: usize) -> Result<Received, InputError>
 
 // rule program-body-reads
 /// Reads to the end of the input, or until there are more bytes than a response may have, and then no further than
-/// that. What comes is decoded as it comes, up to the bytes that decide; those behind them are counted alone.
+/// that. What comes is decoded as it comes, up to the bytes that decide; those after them are only counted.
 pub fn receive<R: Read>(
     alloc: Global,
     method: Method,

@@ -58,8 +58,8 @@ fn print_whole<W: Write>(
     print_parts(output, wire, parts)
 }
 
-/// Prints the text of a verdict, and answers its exit status. Of the `len` bytes that it is the verdict on, the front is
-/// there, with all that it speaks of.
+/// Prints the text of a verdict, and answers its exit status. It is the verdict on `len` bytes, of which a prefix is there, with all that
+/// it names.
 fn print_verdict<W: Write>(
     output: &mut Output<W>,
     wire: &[u8],
@@ -151,7 +151,7 @@ fn print_body<R: Read, W: Write>(
 ///
 /// The input is read to its end, or until there are more than 67,108,864 bytes and then no further, by at most two
 /// reads more than that: so many the input has to have left. A read that fails prints `FAULT 56`, whatever came
-/// before it; where there is no memory for what was read or for the pieces of its body, `FAULT 27` is printed.
+/// before it; where memory for what was read or for the pieces of its body is refused, `FAULT 27` is printed.
 ///
 /// All that is printed is flushed, unless the answer is 121.
 pub fn run_body<R: Read, W: Write>(
@@ -178,9 +178,9 @@ pub fn run_body<R: Read, W: Write>(
     output.end(printed)
 }
 
-/// Does what `run_body` does, and tells of a response that isn't whole why: the line of its code, with the byte of the response at which it
-/// is refused and what stands wrong there, or how much of it came, and behind it a hint where there is one. Of a whole response nothing is
-/// told. What is told is put into an output of its own, once the other is flushed; whether it could be is no matter of the exit status.
+/// Does what `run_body` does, and reports why a response isn't whole: the line of its code, with the byte of the response at which it is
+/// refused and what is wrong there, or how much of it came, and then a hint where there is one. A whole response has no report. The report
+/// is written into an output of its own, once the other is flushed; whether that succeeds doesn't change the exit status.
 pub fn run_body_explained<R: Read, W: Write, E: Write>(
     alloc: Global,
     method: Method,

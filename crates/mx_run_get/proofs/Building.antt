@@ -1,4 +1,4 @@
--- What is asked for of URLs.
+-- The requests of URLs.
 use Rattle.std.proofs.Common.{◌≡◌, ℕ, List, ap, sym, ◌∙◌, inl, inr}
 use Rattle.std.specs.Prelude.{◌⊎◌, Result, Ok, Err, MatchResult}
 use Rattle.mx_types.specs.Settings.{SettingsValue, no_settings}

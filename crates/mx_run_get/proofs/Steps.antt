@@ -25,7 +25,7 @@ joined_next : (x : List ℕ) (ps : List Part) (i : ℕ) (p : Part) → slice_get
     → joined x (take (i + 1) ps) ≡ joined x (take i ps) ++ slice_range x p.start p.end
 joined_next x ps i p is = ap (λ k. joined x (take k ps)) (add-one i) ∙ joined_suc x ps i p is
 
--- a line is printed, and a body behind it
+-- a line is printed, and a body after it
 pub body_printed : {A E : Type 0} (r : Result A E) (old mid new : Option (List ℕ)) (line body : List ℕ)
     → Appends old mid line → OnOk r (Appends mid new body) → OnOk r (Appends old new (line ++ body))
 body_printed (Ok a) old mid new line body first more = Appends-trans old mid new line body first more
@@ -95,7 +95,7 @@ pub text_printed : (old mid new : Option (List ℕ)) (xs : List Fetched) (i : �
 text_printed old mid new xs i y at first more =
     let next = texts_next xs i y at in rw next (Appends-trans old mid new (texts_from 0 (take i xs)) (transfer_text i y) first more)
 
--- what a loop over a slice has in hand stands there
+-- the current element of a loop over a slice is at its index
 pub place : (xs : List Fetched) (i : ℕ) (y : Fetched) → i < length xs → y ≡ get_or xs i y → slice_get xs i ≡ Some y
 place [] i y within is = absurd (omega (arith, within))
 place (x ∷ xs) zero y within is = ap Some (sym is)

@@ -13,7 +13,7 @@ use Rattle.mx_run_get.specs.Fetched.{code_of, status_of, body_of}
 use Rattle.mx_run_get.specs.Texts.{transfer_line, transfer_text, texts_from}
 use Rattle.mx_run_get.specs.Laws.{told, FitsIn64, TextsTell}
 
--- what stands before the first c, and after it
+-- what is before the first c, and after it
 split : (c : ℕ) (xs ys u v : List ℕ) → ((i : ℕ) → i < length xs → get_or xs i 0 ≢ c) → ((i : ℕ) → i < length ys → get_or ys i 0 ≢ c)
     → xs ++ c ∷ u ≡ ys ++ c ∷ v → (xs ≡ ys) × (u ≡ v)
 split c [] [] u v p q e = (refl, ap (λ l. drop 1 l) e)
@@ -61,7 +61,7 @@ same_front (x ∷ xs) (y ∷ ys) u v same e =
     let rest = same_front xs ys u v (omega (arith, same)) (ap (λ l. drop 1 l) e) in
     (ap (λ z. z ∷ xs) first ∙ ap (λ zs. y ∷ zs) rest.0, rest.1)
 
--- the line, with what stands behind it
+-- the line, with what follows it
 laid : ℕ → ℕ → ℕ → ℕ → List ℕ → List ℕ
 laid handle code status len u =
     codes "transfer " ++ (decimal handle ++ (codes " code " ++ (decimal code ++ (codes " status " ++ (decimal status
@@ -87,7 +87,7 @@ told_alike : (x y : Fetched) → code_number (code_of x) ≡ code_number (code_o
     → told x ≡ told y
 told_alike x y c s b = cc
 
--- the text of a handle, with what stands behind it
+-- the text of a handle, with what follows it
 text_laid : (handle : ℕ) (x : Fetched) (rest : List ℕ)
     → transfer_text handle x ++ rest ≡ laid handle (code_number (code_of x)) (status_of x) (length (body_of x)) (body_of x ++ 10 ∷ rest)
 text_laid handle x rest =

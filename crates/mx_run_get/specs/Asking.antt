@@ -1,4 +1,4 @@
--- What is asked for of a URL.
+-- The request of a URL.
 use Rattle.std.specs.Prelude.{ℕ, List, Result, Ok, Err}
 use Rattle.mx_types.specs.Settings.{no_settings}
 use Rattle.mx_types.specs.declared.code.Code.{Code}

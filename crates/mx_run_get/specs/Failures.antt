@@ -1,4 +1,4 @@
--- Why a transfer failed, as far as the bytes of its last hop tell.
+-- Why a transfer failed, as far as the bytes of its last hop show.
 use Rattle.std.specs.Prelude.{◌≡◌, ◌⊎◌, true, Option, Some, None}
 use Rattle.mx_reason.specs.declared.reason.Reason.{Reason}
 use Rattle.mx_reason.specs.Reasons.{IsReason, BeginsWithAny}

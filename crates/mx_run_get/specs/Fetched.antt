@@ -8,8 +8,8 @@ use Rattle.mx_chain.specs.Outcomes.{OutcomeValue}
 use Rattle.mx_run_get.specs.declared.fetched.Fetched.{Fetched}
 use Rattle.mx_run_get.specs.declared.fetched.Fetched.TheVariants.{Refused, Ended, Failed}
 
--- rule get-failures: Of a transfer that failed `get` keeps the code, the status, how many bytes of a response came and what the decoder has
--- against them, and not the bytes.
+-- rule get-failures: Of a transfer that failed `get` keeps the code, the status, how many bytes of a response came and why the decoder
+-- refused them, but not the bytes.
 --
 -- How an outcome is kept: whole where its code is 0, else as a failure.
 abbrev pub fetched_of : OutcomeValue → Fetched

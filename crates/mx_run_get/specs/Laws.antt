@@ -1,4 +1,4 @@
--- What `get` prints tells what each handle ended with.
+-- What `get` prints shows what each handle ended with.
 use Rattle.std.specs.Prelude.{◌≡◌, ℕ, ◌<◌, ◌^◌, List, length, map}
 use Rattle.std.specs.List.{AllByRecursion}
 use Rattle.mx_types.specs.Code.{code_number}

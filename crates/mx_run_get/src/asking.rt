@@ -1,4 +1,4 @@
-//! What is asked for of a URL.
+//! The request of a URL.
 ghost use Rattle.std.specs.Prelude.{◌≡◌, ◌⊎◌, Ok, Err, MatchResult};
 ghost use Rattle.mx_request.specs.RequestError.{refusal_code};
 ghost use Rattle.mx_request.specs.declared.error.RequestError.TheVariants as refusal;

@@ -11,8 +11,8 @@ use std::alloc::Global;
 use std::marker::Model;
 use std::snapshot::Snapshot;
 
-/// A transfer that failed: its code, its status, how many bytes of a response came, and what the decoder had against them. The bytes
-/// themselves are let go, with those of the hops before; for contracts it is the whole outcome still.
+/// A transfer that failed: its code, its status, how many bytes of a response came, and why the decoder refused them. The bytes
+/// themselves are dropped, with those of the hops before; contracts still see the whole outcome.
 #[derive(Drop)]
 pub struct Failure {
     code: Code,
@@ -42,7 +42,7 @@ impl Model for Failure {
     } };
 }
 
-/// Whether the code may say why a hop wasn't followed. Then its bytes are a whole response, as a rule, and aren't looked through.
+/// Whether the code may say why a hop wasn't followed. Then its bytes are a whole response, as a rule, and aren't decoded again.
 fn is_unfollowed(code: Code) -> bool
     ensures { result ≡ is_unfollowed_code code }
 {
@@ -62,7 +62,7 @@ pub fn last_method(outcome: &Outcome) -> Method
     }
 }
 
-/// What the decoder has against the bytes of the last hop, as far as it is looked for: the byte at which it refused them, or where they end, if
+/// Why the decoder refused the bytes of the last hop, as far as it is looked for: the byte at which it refused them, or where they end, if
 /// they were cut. `None` where they are a whole response, and where the code may say why a whole one wasn't followed.
 pub fn why_of(alloc: Global, outcome: &Outcome) -> Option<Reason>
     ensures { IsWhy outcome.now result }
@@ -112,7 +112,7 @@ impl Failure {
         self.len
     }
 
-    /// After how many bytes of it the decoder refused it, and what stood wrong there; or where it ended, if it was cut. `None` where it is a
+    /// After how many bytes of it the decoder refused it, and what was wrong there; or where it ended, if it was cut. `None` where it is a
     /// whole response, and where the code may say why a whole one wasn't followed.
     pub fn reason(&self) -> Option<Reason>
         ensures { IsWhy self.now result }

@@ -14,13 +14,13 @@ pub enum Fetched {
     Refused(Code),
     /// Its transfer ended, and all that came is kept.
     Ended(Outcome),
-    /// Its transfer failed, and what came is let go.
+    /// Its transfer failed, and what it received is dropped.
     Failed(Failure),
 }
 
 impl Fetched {
     // rule get-failures
-    /// What a transfer ended with. Of one that failed the bytes that came are let go.
+    /// What a transfer ended with. The bytes of a failed one are dropped.
     pub fn of(alloc: Global, outcome: Outcome) -> Fetched
         ensures { result ≡ fetched_of outcome }
     {

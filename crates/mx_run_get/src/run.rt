@@ -39,8 +39,7 @@ fn print_all<W: Write>(output: &mut Output<W>, fetched: &[Fetched]) -> Result<u8
 // rule get-output
 /// Prints what each handle ended with, in the order of the handles: a line, the body, and the end of a line. The
 /// answer is the exit status: the number of the first code that isn't `Ok`, 0 where there is none, or 121 where
-/// the output couldn't be written. All that is printed is flushed, unless the answer is 121. Bodies are written from
-/// where they stand.
+/// the output couldn't be written. All that is printed is flushed, unless the answer is 121. Bodies are written from the received bytes.
 pub fn print_get<W: Write>(output: &mut Output<W>, fetched: &[Fetched]) -> u8
     ensures ends { EndsRun output.new result }
     ensures printed { has_failed_write output.new ≢ true → Wrote W.contents output.old output.new (texts_from 0 fetched.now) }

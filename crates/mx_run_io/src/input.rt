@@ -36,7 +36,7 @@ impl<R: Read> Input<R> {
     }
 
     // An interrupted read is such an error: the program installs no signal handlers.
-    // That nothing else fails the input no clause says: std's `Read` has none on when a read fails.
+    // No clause says that nothing else fails the input: std's `Read` has no clause on when a read fails.
     /// Reads once. An error, and a read past the count allowed, fail the input for good.
     pub fn read(&mut self, buffer: &mut [u8]) -> Result<usize, ReadFailed>
         ensures bound { ReadsAtMost result buffer.new }

@@ -67,7 +67,7 @@ impl<W: Write> Output<W> {
         self.note(written)
     }
 
-    /// Hands on what the writer still keeps.
+    /// Flushes what the writer still keeps.
     pub fn flush(&mut self) -> Result<(), WriteFailed>
         ensures bytes { OnOk result (Keeps (W.contents (writer_of self.old)) (W.contents (writer_of self.new))) }
         ensures flushed { OnOk result (is_pending self.new ≡ false) }

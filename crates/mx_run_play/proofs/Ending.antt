@@ -37,7 +37,7 @@ prints_run p s status known old new b w =
       status = sym (ap (λ (o : Outcome). o.status) is);
     }
 
--- the fault behind the lines that were told
+-- the fault after the lines that were printed
 told_fault : (p : PlayerView) (s : Session) (told : List (List ℕ)) (printed fault : List ℕ) (old mid new : Option (List ℕ)) → Begins p s
     → rest_of s told ≡ ran printed 0 → Appends old mid printed → Appends mid new fault
     → ((run_of_lines p told).status ≡ 0) × Appends old new ((run_of_lines p told).text ++ fault)
@@ -80,7 +80,7 @@ prints_unread p s known left old mid new (Ok n) b w fault =
     }
 prints_unread p s known left old mid new (Err e) b w fault = tt
 
--- there was no memory for the player
+-- memory for the player was refused
 pub prints_nothing : {E : Type 0} (p : PlayerView) (before after : ℕ) (known old new : Option (List ℕ)) (r : Result ℕ E) → after ≡ before
     → IfOk r (PrintsFault 27 (Appends old new)) → IfOk r (AnswersScript p before after known (Appends old new))
 prints_nothing p before after known old new (Ok n) unread fault = inr (inr (record { unread = unread; printed = fault }))

@@ -31,7 +31,7 @@ above n (Some claim ∷ xs) t h le =
     ap (λ b. b || has_ticket t (tickets_at xs)) (differ_above t.0 claim.ticket.0 (omega (arith, le, h.0)))
     ∙ above (n + 1) xs t h.2 (omega (arith, le))
 
--- what stands at the place of a ticket, and what is left without it
+-- what is at the place of a ticket, and what is left without it
 pub record IsEmpty (n : ℕ) (xs : List (Option Claimed)) (t : Ticket) (i : ℕ) : Type 0 where
   pub has : has_ticket t (tickets_at xs) ≡ false
   pub same : tickets_at (set xs i None) ≡ tickets_at xs
@@ -101,7 +101,7 @@ taken n (Some c ∷ xs) t (suc i) d claim h at lt is =
       places = (h.0, h.1, r.places);
     }
 
--- the claim of the next addition stands behind the others
+-- the claim of the next addition comes after the others
 pub kept : (xs : List (Option Claimed)) (claim : Claimed) → tickets_at (xs ++ Some claim ∷ []) ≡ tickets_at xs ++ claim.ticket ∷ []
 kept [] claim = refl
 kept (None ∷ xs) claim = kept xs claim
@@ -113,7 +113,7 @@ kept_places n [] claim h next origin = (omega (arith, next), origin, tt)
 kept_places n (None ∷ xs) claim h next origin = kept_places (n + 1) xs claim h (omega (arith, next)) origin
 kept_places n (Some c ∷ xs) claim h next origin = (h.0, h.1, kept_places (n + 1) xs claim h.2 (omega (arith, next)) origin)
 
--- a claim stands in its empty place again
+-- a claim is in its empty place again
 pub record IsAgain (n : ℕ) (xs : List (Option Claimed)) (i : ℕ) (claim : Claimed) : Type 0 where
   pub count : length (tickets_at (set xs i (Some claim))) ≡ length (tickets_at xs) + 1
   pub places : AreAtTheirPlaces n (set xs i (Some claim))

@@ -170,7 +170,7 @@ plays_end s t turn.NoMemory a b h ends = record {
   };
 }
 
--- another byte stands in the line
+-- another byte is in the line
 pub plays_byte : (s t : Session) (byte : ℕ) (a : Option (List ℕ)) → IsUnended s.line.items → byte ≢ 10
     → t.player ≡ s.player → t.lines ≡ s.lines → t.line.items ≡ s.line.items ++ byte ∷ [] → Plays s (byte ∷ []) turn.On t (Appends a a)
 plays_byte s t byte a h not_10 player counted items = record {
@@ -271,7 +271,7 @@ plays_then s t u xs ys turn.NoMemory a b c p q =
       };
     }
 
--- what stands behind the end of a run is not read
+-- what follows the end of a run is not read
 pub plays_further : (s t : Session) (xs ys : List ℕ) (next : Turn) (a b : Option (List ℕ)) → next ≢ turn.On → Plays s xs next t (Appends a b)
     → Plays s (xs ++ ys) next t (Appends a b)
 plays_further s t xs ys turn.On a b over p = absurd (over refl)

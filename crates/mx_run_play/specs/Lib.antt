@@ -3,6 +3,6 @@ pub mod Script
 pub mod Texts
 pub mod Turns
 pub mod Run
--- Private: what the functions behind it promise one another.
+-- Private: what its private functions promise one another.
 pub mod Players
 pub mod Session

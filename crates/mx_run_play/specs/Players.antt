@@ -24,7 +24,7 @@ pub record Kept : Type 0 where
   pub tickets : List Ticket
   pub space : ℕ
 
--- the tickets of the claims that stand at some places
+-- the tickets of the claims at some places
 abbrev pub tickets_at : List (Option Claimed) → List Ticket
 tickets_at [] = []
 tickets_at (None ∷ more) = tickets_at more
@@ -69,12 +69,12 @@ said_of p told.WouldWait = waits
 said_of p (told.Retired kept) = retired kept
 said_of p told.ClaimOut = claim_out
 
--- the short reply is this one of the core, or its want of memory is passed on
+-- the short reply is this one of the core, or its `OutOfMemory` is passed on
 abbrev pub Passes : Reply → Result ShortReply OutOfMemory → Type 0
 Passes r (Ok s) = (reply_of s ≡ r) × (lacks_memory r ≡ false)
 Passes r (Err _) = r ≡ reply.OutOfMemory
 
--- A call was answered: with what is said, and what the player then has; or there was no memory for its event.
+-- A call was answered: with what is said, and what the player then has; or memory for its event was refused.
 abbrev pub IsAnswered : PlayerView → Call → Result LineReply OutOfMemory → PlayerView → Type 0
 IsAnswered p c (Ok s) q = (said_of q s ≡ says p c) × (q ≡ player_past p c)
 IsAnswered p c (Err _) q = MakesEvent p c

@@ -16,11 +16,11 @@ pub record Outcome : Type 0 where
 abbrev pub after : List ℕ → Outcome → Outcome
 after text o = record { text = text ++ o.text; status = o.status }
 
--- the line that tells a bad line's number
+-- the line with a bad line's number
 abbrev pub bad_line_text : ℕ → List ℕ
 bad_line_text number = codes "bad-line " ++ (decimal number ++ 10 ∷ [])
 
--- a line, and then the rest: a bad line is told with its number and ends the run
+-- a line, and then the rest: a bad line is printed with its number and ends the run
 abbrev pub outcome_with : PlayerView → ℕ → Line → (PlayerView → Outcome) → Outcome
 outcome_with p number line.Silent rest = rest p
 outcome_with p number (line.Call c) rest = after (said_text (says p c)) (rest (player_past p c))
@@ -84,9 +84,9 @@ WantsEvent p (line.Call c) = MakesEvent p c
 WantsEvent p line.Retire = ⊥
 WantsEvent p line.Bad = ⊥
 
--- rule program-out-of-memory: Out of memory is `FAULT 27`, in `play` behind the replies to the lines before.
+-- rule program-out-of-memory: Out of memory is `FAULT 27`, in `play` after the replies to the lines before.
 --
--- There was no memory for the event of some line's call: what is written is the run of the lines before it, none of which was bad, and then
+-- Memory for the event of some line's call was refused: what is written is the run of the lines before it, none of which was bad, and then
 -- the fault, and the program ends with its number.
 pub record PrintsNoMemory (p : PlayerView) (known : Option (List ℕ)) (Written : List ℕ → Type 0) (ends_with : ℕ) : Type 0 where
   pub script : List ℕ
@@ -100,12 +100,12 @@ pub record PrintsNoMemory (p : PlayerView) (known : Option (List ℕ)) (Written 
   pub written : Written ((run_of_lines p told).text ++ fault_line 27)
   pub status : ends_with ≡ 27
 
--- There was no memory for a player at all: nothing was read, and the fault is all that is printed.
+-- Memory for a player was refused: nothing was read, and the fault is all that is printed.
 pub record PrintsNoPlayer (reads_before reads_after : ℕ) (Written : List ℕ → Type 0) (ends_with : ℕ) : Type 0 where
   pub unread : reads_after ≡ reads_before
   pub printed : PrintsFault 27 Written ends_with
 
--- The run of the whole script is printed, or the want of memory: at a line whose call makes an event, or before any read.
+-- The run of the whole script is printed, or out of memory: at a line whose call makes an event, or before any read.
 abbrev pub AnswersScript : PlayerView → ℕ → ℕ → Option (List ℕ) → (List ℕ → Type 0) → ℕ → Type 0
 AnswersScript p reads_before reads_after known Written ends_with =
     PrintsRun p known Written ends_with

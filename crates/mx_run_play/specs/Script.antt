@@ -24,7 +24,7 @@ abbrev pub pieces : ℕ → List ℕ → List (List ℕ)
 pieces c [] = [] ∷ []
 pieces c (b ∷ bs) = (if b == c then [] ∷ pieces c bs else onto_first b (pieces c bs))
 
--- the lines of a script, and the words of a line; a script that ends with LF has an empty line behind it
+-- the lines of a script, and the words of a line; a script that ends with LF has an empty line after it
 abbrev pub lines_of : List ℕ → List (List ℕ)
 lines_of script = pieces 10 script
 
@@ -103,7 +103,7 @@ abbrev pub end_call : Name → Ticket → Code → ℕ → Option Call
 end_call name.Done t c n = Some (call.Finish t c n)
 end_call _ t c n = None
 
--- the call of a name, and of the words behind it
+-- the call of a name, and of the words after it
 abbrev pub call_with : List (List ℕ) → Name → Option Call
 call_with [] n = plain_call n
 call_with (h ∷ []) n = option_and_then (λ handle. handle_call n (record { 0 = handle })) (number_of h)

@@ -19,7 +19,7 @@ rest_of s texts = outcome texts s.player (s.lines + 1)
 abbrev pub ran : List ℕ → ℕ → Outcome
 ran printed status = record { text = printed; status = status }
 
--- what it printed for some lines, and what their run is with any more behind them
+-- what it printed for some lines, and what their run is with any more after them
 pub record Tells (s : Session) (told : List (List ℕ)) (t : Session) (printed : List ℕ) : Type 0 where
   pub player : t.player ≡ past_lines told s.player
   pub run : (more : List (List ℕ)) → rest_of s (told ++ more) ≡ after printed (rest_of t more)
@@ -34,7 +34,7 @@ abbrev pub IsLast : Session → List ℕ → List ℕ → Type 0
 IsLast s bytes printed =
     (rest : List ℕ) → rest_of s (lines_of (s.line.items ++ (bytes ++ rest))) ≡ ran printed 122
 
--- there was no memory for the event of the line after those
+-- memory for the event of the line after those was refused
 pub record Stops (s : Session) (bytes : List ℕ) (printed : List ℕ) : Type 0 where
   pub told : List (List ℕ)
   pub text : List ℕ
@@ -53,7 +53,7 @@ Follows s bytes turn.On t printed = GoesOn s bytes t printed
 Follows s bytes turn.Bad t printed = IsLast s bytes printed
 Follows s bytes turn.NoMemory t printed = Stops s bytes printed
 
--- The line that stands in the session ended: what that printed is what is written.
+-- The line in the session ended: what that printed is what is written.
 pub record TellsLine (s t : Session) (Written : List ℕ → Type 0) : Type 0 where
   pub printed : List ℕ
   pub written : Written printed
@@ -85,7 +85,7 @@ pub record RanWhole (s : Session) (status : ℕ) (known : Option (List ℕ)) (Wr
   pub run : rest_of s (lines_of (s.line.items ++ script)) ≡ ran printed status
   pub written : Written printed
 
--- There was no memory for a line of the script.
+-- Memory for a line of the script was refused.
 pub record RanShort (s : Session) (known : Option (List ℕ)) (Written : List ℕ → Type 0) : Type 0 where
   pub script : List ℕ
   pub is_it : IsScript known script

@@ -1,5 +1,5 @@
 -- What a player of `mxfetch play` says to a call and to a retiring, and what it then has. It calls as seat 0, claims each addition at
--- once, and keeps the claim until its end is told.
+-- once, and keeps the claim until its end comes.
 use Rattle.std.specs.Prelude.{ℕ, ◌==◌, if◌then◌else◌, List, [], ◌∷◌, ◌++◌, length, map, IsSome}
 use Rattle.std.specs.Option.{option_to_list}
 use Rattle.mx_types.specs.declared.names.Ticket.{Ticket}
@@ -55,7 +55,7 @@ player_past p (call.Add h) = record (past p (call.Add h)) { claims = with_claim 
 player_past p c = past p c
 
 -- the player with old history retired: what is kept counts as older history, the next ticket stays the one that it was, and the next poll
--- looks at what comes behind
+-- looks at what comes after
 abbrev pub player_retired : PlayerView → PlayerView
 player_retired p = record p {
   opening = record { history = p.opening.history; first = (next_ticket p.opening p.journal).0; from = length (retire p.journal) };

@@ -10,8 +10,8 @@ use mx_types::{OutOfMemory, Ticket};
 use std::alloc::Global;
 use std::marker::Model;
 
-/// The claims of additions, each at the place of its ticket, where it is found at once however many there were. The
-/// place of one that was taken stays empty.
+/// The claims of additions, each at the index of its ticket, where it is found at once however many there were. The place of one that was
+/// taken stays empty.
 #[derive(Drop)]
 pub struct Claims {
     /// The ticket of the first place.
@@ -90,7 +90,7 @@ impl Claims {
         self.places[at] = Some(claim);
     }
 
-    /// Lets go of all claims: the first place is then that of the next addition.
+    /// Drops all claims: the first place is then that of the next addition.
     pub fn clear(&mut self)
         ensures { self.new ≡ record { first = self.old.first + self.old.made; made = 0; tickets = []; space = self.old.space } }
     {

@@ -1,4 +1,4 @@
-//! The one who plays a script: seat 0 of a control core of its own.
+//! The player of a script: seat 0 of a control core of its own.
 ghost use Rattle.std.specs.Prelude.{◌≡◌, [], IfOk, map};
 ghost use Rattle.mx_types.specs.Limits.{IsHistory};
 ghost use Rattle.mx_types.specs.declared.call.Call.{Call};
@@ -24,7 +24,7 @@ impl Work for NoWork {
     ghost origin = { λ _. no_request };
 }
 
-/// The end of a transfer without a request, as the script tells it.
+/// The end of a transfer without a request, as the script gives it.
 #[derive(Drop)]
 pub struct ToldEnd {
     code: Code,
@@ -49,14 +49,14 @@ impl Ending for ToldEnd {
     }
 }
 
-/// What a line of a script is answered. The list of handles isn't in it, since each answer would then be as long as the
-/// longest list: it is printed from the player.
+/// The answer to a line of a script. The list of handles isn't in it, since each answer would then be as large as the longest list: it is
+/// printed from the player.
 #[derive(Clone, Copy)]
 pub enum LineReply {
     Core(ShortReply),
     /// The handles that are added.
     Handles,
-    /// A `done` of a ticket that no claim is kept of.
+    /// A `done` of a ticket without a kept claim.
     NoClaim,
     /// A `poll` that would have to wait.
     WouldWait,
@@ -107,7 +107,7 @@ impl Player {
         })
     }
 
-    /// Makes a call. There is want of memory only at a call whose answer has an event, and it is for good: the run ends.
+    /// Makes a call. `OutOfMemory` comes only at a call whose answer has an event; the run then ends.
     pub fn call(&mut self, call: Call) -> Result<LineReply, OutOfMemory>
         ensures { IsAnswered self.old call result self.new }
     {
@@ -135,7 +135,7 @@ impl Player {
     {
         match self.control.retire() {
             RetireReply::Retired(kept) => {
-                // Nothing reads the log, so that it needn't have what was retired.
+                // Nothing reads the log, so it needn't have what was retired.
                 self.log.clear();
                 self.claims.clear();
                 self.mark = kept;
@@ -214,7 +214,7 @@ impl Player {
         LineReply::Core(ShortReply::Woken)
     }
 
-    /// Tells the core the end of a transfer whose claim is kept, which is spent, unless there is want of memory.
+    /// Records the end of a transfer whose claim is kept. The claim is spent, unless memory is refused.
     fn finish(&mut self, ticket: Ticket, ending: ToldEnd) -> Result<LineReply, OutOfMemory>
         ensures { IsAnswered self.old (Call.Finish ticket ending.code ending.size) result self.new }
     {

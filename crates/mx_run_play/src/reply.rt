@@ -1,11 +1,11 @@
-//! The replies of the core, but for the list of handles: so none is longer than a message.
+//! The replies of the core without the list of handles: so none is larger than a message.
 ghost use Rattle.mx_journal.specs.Replies.{reply_of_add, reply_of_info, reply_of_pause, reply_of_remove, reply_of_wakeup};
 ghost use Rattle.mx_run_play.specs.Players.{Passes};
 
 use mx_journal::{AddReply, InfoReply, PauseReply, RemoveReply, WakeupReply};
 use mx_types::{Code, Ending, HandleId, Look, OutOfMemory, State, Ticket};
 
-/// A reply of the core that is neither the list of handles nor the want of memory.
+/// A reply of the core that is neither the list of handles nor `OutOfMemory`.
 #[derive(Clone, Copy)]
 pub enum ShortReply {
     Added(Ticket),
@@ -37,7 +37,7 @@ pub enum ShortReply {
     Look(Look),
 }
 
-/// The reply to an addition, but for want of memory.
+/// The reply to an addition, `OutOfMemory` aside.
 pub fn short_add<Q>(reply: &AddReply<Q>) -> Result<ShortReply, OutOfMemory>
     ensures { Passes (reply_of_add reply.now) result }
 {
@@ -51,7 +51,7 @@ pub fn short_add<Q>(reply: &AddReply<Q>) -> Result<ShortReply, OutOfMemory>
     }
 }
 
-/// The reply to a removal, but for want of memory.
+/// The reply to a removal, `OutOfMemory` aside.
 pub fn short_remove(reply: RemoveReply) -> Result<ShortReply, OutOfMemory>
     ensures { Passes (reply_of_remove reply) result }
 {
@@ -62,7 +62,7 @@ pub fn short_remove(reply: RemoveReply) -> Result<ShortReply, OutOfMemory>
     }
 }
 
-/// The reply to a pause or a resumption, but for want of memory.
+/// The reply to a pause or a resumption, `OutOfMemory` aside.
 pub fn short_pause(reply: PauseReply) -> Result<ShortReply, OutOfMemory>
     ensures { Passes (reply_of_pause reply) result }
 {
@@ -76,7 +76,7 @@ pub fn short_pause(reply: PauseReply) -> Result<ShortReply, OutOfMemory>
     }
 }
 
-/// The reply to a read of a message, but for want of memory: of a message, what its ending says of itself.
+/// The reply to a read of a message, `OutOfMemory` aside: of a message, what its ending says of itself.
 pub fn short_info<O: Ending>(reply: &InfoReply<O>) -> Result<ShortReply, OutOfMemory>
     ensures { Passes (reply_of_info O.code_of O.size_of reply.now) result }
 {
@@ -98,7 +98,7 @@ pub fn short_info<O: Ending>(reply: &InfoReply<O>) -> Result<ShortReply, OutOfMe
     }
 }
 
-/// The reply to a wakeup, but for want of memory.
+/// The reply to a wakeup, `OutOfMemory` aside.
 pub fn short_wakeup(reply: WakeupReply) -> Result<ShortReply, OutOfMemory>
     ensures { Passes (reply_of_wakeup reply) result }
 {

@@ -51,13 +51,13 @@ fn play_script<R: Read, W: Write>(
 
 /// Plays a script of calls, as seat 0, on a control core with a history of so many events and `first` as its first ticket,
 /// and prints what each line is answered. At a `first` of 4294967295 no ticket is left. The answer is the exit status: 0; 122
-/// after a bad line, whose number is printed; 56 where a read failed, and 27 where there was no memory; 121 where the output
+/// after a bad line, whose number is printed; 56 where a read failed, and 27 where memory was refused; 121 where the output
 /// couldn't be written.
 ///
 /// The script is read to its end or to a bad line, by at most 4,294,967,295 reads, and no more may be allowed to the
 /// input: one more counts as failed. A read that fails prints `FAULT 56` after the replies to the lines that ended
-/// before it. Want of memory prints `FAULT 27`: before anything is read, where there is none for the core; or after
-/// the replies to the lines before one whose call makes an event.
+/// before it. Where memory is refused it prints `FAULT 27`: before anything is read, where it was for the core; or after the replies to the
+/// lines before one whose call makes an event.
 ///
 /// All that is printed is flushed, unless the answer is 121.
 pub fn run_play<R: Read, W: Write>(

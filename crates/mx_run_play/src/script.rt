@@ -170,14 +170,14 @@ fn number_of(word: &[u8]) -> Option<u32>
     value_of(word)
 }
 
-/// Where the first space stands.
+/// The index of the first space.
 fn space_at(text: &[u8]) -> Option<usize>
     ensures { result ≡ position (λ byte. byte == 32) text.now }
 {
     text.iter().position(|byte| *byte == b' ')
 }
 
-/// The text up to the first space, and what stands after it.
+/// The text up to the first space, and what follows it.
 fn first_word(text: &[u8]) -> (&[u8], Option<&[u8]>)
     ensures { words_of text.now ≡ result.0.now ∷ words_behind (option_copied result.1) }
 {
@@ -203,7 +203,7 @@ fn call_of_handle(name: Name, handle: &[u8]) -> Option<Call>
     handle_call(name, HandleId(number_of(handle)?))
 }
 
-/// The call of a name and the words behind it.
+/// The call of a name and the words after it.
 fn call_with(name: Name, words: Option<&[u8]>) -> Option<Call>
     ensures { result ≡ call_with (words_behind (option_copied words.entry)) name }
 {

@@ -34,7 +34,7 @@ pub enum Turn {
     On,
     /// A bad line ended it.
     Bad,
-    /// There was no memory for the event of a call.
+    /// Memory for the event of a call was refused.
     NoMemory,
 }
 
@@ -127,7 +127,7 @@ impl Session {
         Ok(Turn::On)
     }
 
-    /// Plays a script to its end, or to a bad line or a want of memory. None where a read failed.
+    /// Plays a script to its end, to a bad line, or until memory is refused. None where a read failed.
     pub fn play_all<R: Read, W: Write>(
         &mut self,
         input: &mut Input<R>,

@@ -57,7 +57,7 @@ fn write_handles<W: Write>(
     output.print(format_args!("\n"))
 }
 
-/// The list is made here, and printed from where it was made, so that no other line moves its kilobyte.
+/// The list is made and printed here, so that no other line moves its kilobyte.
 fn write_handles_of<W: Write>(output: &mut Output<W>, player: &Player) -> Result<(), WriteFailed>
     ensures bytes { OnOk result (Wrote W.contents output.old output.new
         (handles_text (map (λ a. a.handle) (added player.now.journal)) ++ 10 ∷ [])) }
@@ -108,7 +108,7 @@ fn write_reply<W: Write>(output: &mut Output<W>, reply: &ShortReply) -> Result<(
     }
 }
 
-/// Prints what a line is answered, as one line: the list of handles is that of the player.
+/// Prints the answer to a line, as one line: the list of handles is that of the player.
 #[inline(always)]
 pub fn write_said<W: Write>(
     output: &mut Output<W>,

@@ -1,4 +1,4 @@
--- Fields that stand before a byte that they don't have.
+-- Fields before a byte that they don't have.
 use Rattle.std.proofs.Common.{◌≡◌, ℕ, zero, suc, ◌<◌, ◌≤◌, ◌^◌, Bool, true, false, ◌&&◌, List, [], ◌∷◌, ◌++◌, length, drop, get_or, refl, sym, ap, ◌∙◌, subst, arith, append_assoc, inl, inr, ◌⊎◌}
 use Rattle.std.specs.Prelude.{decimal, Some}
 use Rattle.std.specs.List.{AllByRecursion}
@@ -29,7 +29,7 @@ pub above_append : (c : ℕ) (xs ys : List ℕ) → IsAbove c xs → IsAbove c y
 above_append c [] ys all more = more
 above_append c (x ∷ xs) ys all more = (all.0, above_append c xs ys all.1 more)
 
--- what stands before the first c, and after it
+-- what is before the first c, and after it
 pub split : (c : ℕ) (xs ys u v : List ℕ) → IsAbove c xs → IsAbove c ys → xs ++ c ∷ u ≡ ys ++ c ∷ v → (xs ≡ ys) × (u ≡ v)
 split c [] [] u v p q e = (refl, ap (λ l. drop 1 l) e)
 split c [] (y ∷ ys) u v p q e = let same : c ≡ y = ap (λ l. get_or l 0 0) e in absurd (omega (arith, same, q.0))

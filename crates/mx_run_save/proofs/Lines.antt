@@ -49,7 +49,7 @@ file_same None (Some name) there e = absurd (cc)
 file_same (Some name) None there e = absurd (cc)
 file_same (Some name) (Some other) there e = ap Some e
 
--- the fields, with what stands behind the line
+-- the fields, with what follows the line
 laid : List ℕ → ℕ → ℕ → ℕ → List ℕ → List ℕ → List ℕ → List ℕ
 laid word number status len file url u =
     word ++ (32 ∷ (decimal number ++ (32 ∷ (decimal status ++ (32 ∷ (decimal len ++ (32 ∷ (file ++ (32 ∷ (url ++ 10 ∷ u))))))))))
@@ -59,7 +59,7 @@ line_laid : (word : List ℕ) (number status len : ℕ) (file url u : List ℕ)
 unfolding fields_text laid
 line_laid word number status len file url u = simp append_assoc
 
--- what two lines tell that are alike
+-- what two equal lines show
 record Alike (x y : EndValue) (u v : List ℕ) : Type 0 where
   told : told_line x ≡ told_line y
   rest : u ≡ v

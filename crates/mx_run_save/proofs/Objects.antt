@@ -41,7 +41,7 @@ framing_ends (Some framing.Chunked) (Some framing.Close) u v e = let bad : 104 �
 framing_ends (Some framing.Close) (Some framing.Length) u v e = let bad : 99 ≡ 108 = ap (λ l. get_or l 1 0) e in absurd (omega (arith, bad))
 framing_ends (Some framing.Close) (Some framing.Chunked) u v e = let bad : 108 ≡ 104 = ap (λ l. get_or l 2 0) e in absurd (omega (arith, bad))
 
--- the object, with what stands behind its line
+-- the object, with what follows its line
 laid : List ℕ → List ℕ → ℕ → ℕ → ℕ → List ℕ → ℕ → ℕ → List ℕ → List ℕ → List ℕ → List ℕ
 laid url word number status len file hops tries frame error u =
     codes "{\"url\":" ++ (url ++ (codes ",\"verdict\":\"" ++ (word ++ (codes "\",\"code\":" ++ (decimal number ++ (codes ",\"status\":" ++ (decimal status
@@ -153,7 +153,7 @@ framing_clear (Some framing.Close) = clear_above (codes "\"close\"") refl
 decimal_clear : (n : ℕ) → n < 2 ^ 64 → IsAbove 10 (decimal n)
 decimal_clear n fits = above_less 10 47 (decimal n) (omega arith) (digits_above n fits)
 
--- a text that is clear, and more behind it
+-- a text that is clear, and more after it
 and_then : (xs ys : List ℕ) → is_clear xs ≡ true → IsAbove 10 ys → IsAbove 10 (xs ++ ys)
 and_then xs ys all more = above_append 10 xs ys (clear_above xs all) more
 

@@ -5,7 +5,7 @@ use Rattle.std.specs.Io.KnownBytes.{Appends}
 use Rattle.std.proofs.KnownBytes.{Appends-trans}
 use Rattle.mx_run_save.specs.Texts.{front_text, fields_text, object_front, object_back}
 
--- a front is printed, and what stands behind it
+-- a front is printed, and what follows it
 pub then_printed : {A E : Type 0} (r : Result A E) (old mid new : Option (List ℕ)) (front back all : List ℕ) → front ++ back ≡ all
     → Appends old mid front → OnOk r (Appends mid new back) → OnOk r (Appends old new all)
 then_printed (Ok a) old mid new front back all is first more = subst (Appends old new) is (Appends-trans old mid new front back first more)

@@ -9,7 +9,7 @@ use Rattle.mx_run_save.specs.declared.end.FramingWord.{FramingWord}
 use Rattle.mx_run_save.specs.declared.end.Transferred.{Transferred}
 use Rattle.mx_run_save.specs.Codes.{save_number}
 
--- what is told of a URL, its bytes and those of its file's name as they were given
+-- what is reported of a URL, its bytes and those of its file's name as they were given
 pub record EndValue : Type 0 where
   pub url : List ℕ
   pub verdict : Verdict

@@ -1,4 +1,4 @@
--- What is printed tells what each URL ended with, and nothing can forge a line.
+-- What is printed shows what each URL ended with, and nothing can forge a line.
 use Rattle.std.specs.Prelude.{◌≡◌, ℕ, ◌<◌, List, [], ◌∷◌, ◌++◌, map, Option, option_map}
 use Rattle.std.specs.List.{AllByRecursion}
 use Rattle.mx_run_save.specs.declared.end.Verdict.{Verdict}
@@ -7,11 +7,11 @@ use Rattle.mx_run_save.specs.Codes.{save_number}
 use Rattle.mx_run_save.specs.Ends.{EndValue, IsEnd}
 use Rattle.mx_run_save.specs.Texts.{shown, end_line, json_line, lines_text, objects_text}
 
--- what a line tells: the URL and the name as they are shown
+-- what a line shows: the URL and the name as they are escaped
 abbrev pub told_line : EndValue → Verdict × (ℕ × (ℕ × (ℕ × (Option (List ℕ) × List ℕ))))
 told_line e = (e.verdict, (save_number e.code, (e.status, (e.length, (option_map shown e.file, shown e.url)))))
 
--- what an object tells beside that
+-- what an object shows beside that
 abbrev pub told_object : EndValue → (Verdict × (ℕ × (ℕ × (ℕ × (Option (List ℕ) × List ℕ))))) × (ℕ × (ℕ × (Option FramingWord × Option (List ℕ))))
 told_object e = (told_line e, (e.hops, (e.tries, (e.framing, e.error))))
 

@@ -29,7 +29,7 @@ abbrev pub status_of : Option PlacedCode → ℕ
 status_of None = 0
 status_of (Some first) = first.number
 
--- The notes are of these numbers, in any order: each tells the number at its place, and none that isn't 0 is left out.
+-- The notes are of these numbers, in any order: each has the number at its place, and none that isn't 0 is left out.
 pub record AreNotesOf (numbers : List ℕ) (notes : List PlacedCode) : Type 0 where
   pub truly : AllByRecursion (λ note. slice_get numbers note.place ≡ Some note.number) notes
   pub all : (place number : ℕ) → slice_get numbers place ≡ Some number → number ≢ 0

@@ -23,7 +23,7 @@ abbrev pub file_field : Option (List ℕ) → List ℕ
 file_field None = 45 ∷ []
 file_field (Some name) = shown name
 
--- the fields before the file, each with a space behind it
+-- the fields before the file, each with a space after it
 unfoldable pub front_text : List ℕ → ℕ → ℕ → ℕ → List ℕ
 front_text word number status length = word ++ (32 ∷ (decimal number ++ (32 ∷ (decimal status ++ (32 ∷ (decimal length ++ 32 ∷ []))))))
 

@@ -35,19 +35,19 @@ impl Verdict {
     }
 }
 
-/// How the end of a body was found (RFC 9112, section 6.3), as far as it is told.
+/// How the end of a body was found (RFC 9112, section 6.3), as far as it is reported.
 #[derive(Clone, Copy)]
 pub enum FramingWord {
     /// By its length.
     Length,
     /// By its last chunk.
     Chunked,
-    /// By the end of the connection, so that it can't be told from a body that was cut.
+    /// By the end of the connection, so it can't be distinguished from a truncated body.
     Close,
 }
 
-/// What is told of the transfers of a URL: of the last response its status (0 where none was read), the length of its body in bytes and its
-/// framing; how many hops the last transfer had; and how many tries were made.
+/// What is reported of the transfers of a URL: of the last response its status (0 where none was read), the length of its body in bytes and
+/// its framing; how many hops the last transfer had; and how many tries were made.
 #[derive(Clone, Copy)]
 pub struct Transferred {
     pub status: u16,
@@ -57,8 +57,8 @@ pub struct Transferred {
     pub tries: u32,
 }
 
-/// What a URL ended with. Contracts see it as a record of what is told of it: a failed one has a code that isn't 0, and no other has; a file
-/// is named where one was saved or skipped, and nowhere else; a failed or skipped one has the length 0.
+/// What a URL ended with. Contracts see it as a record of what is reported of it: a failed one has a code that isn't 0, and no other has; a
+/// file is named where one was saved or skipped, and nowhere else; a failed or skipped one has the length 0.
 #[derive(Drop)]
 pub struct End {
     pub(crate) url: Vec<u8>,
@@ -142,7 +142,7 @@ impl End {
         }
     }
 
-    /// A URL that failed with a code that isn't 0, and what is said of it in words, if anything. Its length is told as 0.
+    /// A URL that failed with a code that isn't 0, and its words, if any. Its length is reported as 0.
     pub fn failed(
         url: Vec<u8>,
         code: SaveCode,
@@ -183,7 +183,7 @@ impl End {
         self.transferred.length
     }
 
-    /// What is said of a failure in words, if anything.
+    /// The words of a failure, if any.
     pub fn error(&self) -> Option<&str>
         ensures { option_map (λ text. text.now) result ≡ self.now.error }
     {

@@ -2,13 +2,13 @@
 ghost use Rattle.mx_run_save.specs.Laws.{LinesTell, ObjectsTell, EachIsOneLine};
 ghost use Rattle.mx_run_save.specs.Status.{OrderDoesNotMatter};
 
-/// Lines tell of each URL its verdict, its code, its status, its length, its file and itself, as they are shown: equal texts come only
+/// Lines show each URL's verdict, code, status, length, file and text: equal texts come only
 /// from as many URLs that ended alike. So neither a list nor a server can forge a line.
 pub fn lines_tell()
     ensures { LinesTell }
 {}
 
-/// Objects tell that, and the hops, the tries, the framing and the error.
+/// Objects show that, and the hops, the tries, the framing and the error.
 pub fn objects_tell()
     ensures { ObjectsTell }
 {}

@@ -22,7 +22,7 @@ pub(crate) fn shown(bytes: &[u8]) -> PercentEncode<'_>
     percent_encode(bytes, HIDDEN)
 }
 
-// Prints what stands before the name of the file.
+// Prints what comes before the name of the file.
 fn print_front<W: Write>(output: &mut Output<W>, end: &End) -> Result<(), WriteFailed>
     ensures bytes { OnOk result (Wrote W.contents output.old output.new
         (front_text (verdict_word end.now.verdict) (save_number end.now.code) end.now.status end.now.length)) }
@@ -46,7 +46,7 @@ fn print_file<W: Write>(output: &mut Output<W>, end: &End) -> Result<(), WriteFa
     }
 }
 
-// Prints the URL, and what stands before and behind it.
+// Prints the URL, and what comes before and after it.
 fn print_url<W: Write>(output: &mut Output<W>, end: &End) -> Result<(), WriteFailed>
     ensures bytes { OnOk result (Wrote W.contents output.old output.new (32 ∷ (shown end.now.url ++ 10 ∷ []))) }
     ensures failed { IsErr result ↔ (has_failed_write output.new ≡ true) }
@@ -57,7 +57,7 @@ fn print_url<W: Write>(output: &mut Output<W>, end: &End) -> Result<(), WriteFai
 
 // rule save-lines
 /// Prints the line of a URL: verdict, code, status, length, file and URL, with one space between. Of the file and the URL each byte that
-/// isn't visible ASCII is escaped as `%XX`, with capital digits; where no file is named, `-` stands for it.
+/// isn't visible ASCII is escaped as `%XX`, with capital digits; where no file is named, it is `-`.
 ///
 /// It needs no memory. It isn't flushed.
 pub fn print_line<W: Write>(output: &mut Output<W>, end: &End) -> Result<(), WriteFailed>

@@ -16,13 +16,13 @@ use std::io::Write;
 /// Why the object of a URL isn't printed.
 #[derive(Clone, Copy)]
 pub enum JsonError {
-    /// There was no memory for its texts, and nothing was written.
+    /// Memory for its texts was refused, and nothing was written.
     OutOfMemory,
     /// A write failed.
     Unwritten,
 }
 
-/// The texts in JSON of what is a string or nothing.
+/// The texts in JSON of strings, or `null`.
 #[derive(Drop)]
 struct JsonTexts {
     url: String,
@@ -85,7 +85,7 @@ fn texts_of(alloc: Global, end: &End) -> Result<JsonTexts, AllocError>
     })
 }
 
-// Prints what stands before the name of the file.
+// Prints what comes before the name of the file.
 fn print_front<W: Write>(
     output: &mut Output<W>,
     texts: &JsonTexts,
@@ -105,7 +105,7 @@ fn print_front<W: Write>(
     ))
 }
 
-// Prints the name of the file, and what stands behind it.
+// Prints the name of the file, and what comes after it.
 fn print_back<W: Write>(
     output: &mut Output<W>,
     texts: &JsonTexts,
@@ -144,10 +144,10 @@ fn print_object<W: Write>(
 }
 
 /// Prints what a URL ended with as a JSON object (RFC 8259) on a line of its own: url, verdict, code, status, length, file, hops, tries,
-/// framing and error, in this order. The URL and the name of the file are escaped as in a line; file, framing and error are `null` where there is
-/// none.
+/// framing and error, in this order. The URL and the name of the file are escaped as in a line; file, framing and error are `null` where
+/// there is none.
 ///
-/// An error is a write that failed; or the want of memory for its texts, and then nothing was written. It isn't flushed.
+/// An error is a write that failed; or memory for its texts was refused, and then nothing was written. It isn't flushed.
 pub fn print_json<W: Write>(
     alloc: Global,
     output: &mut Output<W>,

@@ -22,9 +22,9 @@ pub fn most_reads(task: Task) -> u64
     }
 }
 
-/// Runs a task over an input that wasn't read yet, and that may be read as often as the task may need. The answer is
-/// the exit status, and what is printed goes with it: that of `run_body` for the task's method, or that of `run_play`
-/// for its history and first ticket; 121 exactly where the output couldn't be written, and else nothing is left pending in it.
+/// Runs a task over an input that wasn't read yet, and that may be read as often as the task may need. The answer is the exit status, and
+/// the output belongs to it: that of `run_body` for the task's method, or that of `run_play` for its history and first ticket; 121 exactly
+/// where the output couldn't be written, and else nothing is left pending in it.
 pub fn run_task<R: Read, W: Write>(
     alloc: Global,
     task: Task,

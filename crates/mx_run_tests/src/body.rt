@@ -1,7 +1,6 @@
-//! `run_body` over long responses, over what begins no response, and with writes that fail behind a buffer.
+//! `run_body` over long responses, over bytes that begin no response, and with writes that fail after a buffer.
 //!
-//! It is called in one function, which has no contract, and what a row owns is owned by functions that end in one place: so the proof is
-//! short.
+//! It is called in one function, which has no contract, and what a row owns is owned by functions with one exit: so the proof is short.
 use crate::fakes::{Filler, Full, Pipe};
 use crate::long::{Long, add_long, bytes_of};
 use crate::tally::Tally;
@@ -40,7 +39,7 @@ pub(crate) fn prints<R: Read + Drop>(
     u32::from(ended) == status && written.as_slice() == output
 }
 
-/// One behind the other.
+/// One after the other.
 fn joined(alloc: Global, both: &[Long<'_>; 2]) -> Result<Vec<u8>, AllocError> {
     let mut bytes = bytes_of(alloc, both[0])?;
     add_long(&mut bytes, both[1])?;
@@ -147,7 +146,7 @@ fn see_buffers(alloc: Global, tally: &mut Tally) -> Result<(), AllocError> {
     )
 }
 
-/// A head and so many letters, and what comes of it: the exit status, and a line and so many letters.
+/// A head and so many letters, and what `body` gives: the exit status, and a line and so many letters.
 #[derive(Clone, Copy)]
 struct Filled {
     name: &'static str,

@@ -9,7 +9,7 @@ use mx_run_save::{
 use mx_types::{Code, Method};
 use std::alloc::{AllocError, Global};
 
-/// What became of a URL.
+/// The end of a URL.
 #[derive(Clone, Copy)]
 enum Came {
     /// Its body is in that file.
@@ -17,9 +17,9 @@ enum Came {
     Done,
     /// That file is there.
     Skipped(&'static str),
-    /// Its response is one of failure, which is said so.
+    /// Its response is one of failure, with these words.
     Missing(&'static str),
-    /// It is none.
+    /// It isn't a URL.
     Malformed,
 }
 
@@ -165,7 +165,7 @@ const FULL: Pipe = Pipe {
     is_flushed: true,
 };
 
-/// Whether a line and an object that can't be written are told so.
+/// Whether a line and an object that can't be written give that error.
 fn is_unwritten(alloc: Global, row: Row) -> Result<bool, AllocError> {
     let end = end_of(alloc, row)?;
     let line = print_line(&mut Output::new(FULL), &end);

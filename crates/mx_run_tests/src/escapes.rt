@@ -1,5 +1,5 @@
-//! Bytes as rows of text write them. `\r`, `\n`, `\t`, `\s` (a space) and `\\` are bytes, and `\x41` is one by its number; `\{3}` has the
-//! byte before it stand three times; a backslash at the end of a line says that no LF stands behind it.
+//! Bytes as rows of text write them. `\r`, `\n`, `\t`, `\s` (a space) and `\\` are bytes, and `\x41` is one by its number; `\{3}` repeats
+//! the byte before it three times in all; after a backslash at the end of a line there is no LF.
 use std::alloc::{AllocError, Global};
 
 /// What was read of an escape.
@@ -22,13 +22,13 @@ fn digit(byte: u8) -> u8 {
     }
 }
 
-/// Adds a byte, behind which no escape is open.
+/// Adds a byte, after which no escape is open.
 fn add(bytes: &mut Vec<u8>, byte: u8) -> Result<Escape, AllocError> {
     bytes.push(byte)?;
     Ok(Escape::Nothing)
 }
 
-/// Has the last byte stand so many times.
+/// Repeats the last byte so many times.
 fn repeat(bytes: &mut Vec<u8>, count: usize) -> Result<Escape, AllocError> {
     if let Some(last) = bytes.last().copied() {
         for _ in 1..count {
@@ -38,7 +38,7 @@ fn repeat(bytes: &mut Vec<u8>, count: usize) -> Result<Escape, AllocError> {
     Ok(Escape::Nothing)
 }
 
-/// Goes on behind a backslash.
+/// Goes on after a backslash.
 fn open(bytes: &mut Vec<u8>, byte: u8) -> Result<Escape, AllocError> {
     match byte {
         b'r' => add(bytes, b'\r'),
@@ -81,14 +81,14 @@ pub(crate) fn add_unescaped(bytes: &mut Vec<u8>, text: &str) -> Result<bool, All
 pub(crate) struct Seen {
     alloc: Global,
     pub(crate) text: String,
-    /// The last byte, and how often it stands there, of which nothing is in the text yet.
+    /// The last byte, and how often it came, which isn't in the text yet.
     last: Option<u8>,
     count: usize,
     /// Whether a line is begun.
     is_open: bool,
 }
 
-/// A byte that stands more often is written once, with its count.
+/// A byte that comes more often is written once, with its count.
 const MOST_WRITTEN: usize = 16;
 
 impl Seen {
@@ -128,7 +128,7 @@ impl Seen {
         Ok(())
     }
 
-    /// Writes what of the last byte isn't in the text yet.
+    /// Writes the last byte, where it isn't in the text yet.
     fn settle(&mut self, mark: char) -> Result<(), AllocError> {
         let Some(byte) = self.last else {
             return Ok(());

@@ -10,7 +10,7 @@ use std::alloc::{AllocGlobal, Global};
 use std::io;
 use std::random::RandomSource;
 
-/// What is to become of some GETs, the exit status, and all that is printed.
+/// Some GETs with their ends, the exit status, and all that is printed.
 #[derive(Clone, Copy)]
 struct Row {
     name: &'static str,
@@ -87,7 +87,7 @@ fn see_printed<R: RandomSource + AllocGlobal>(rt: &R, tally: &mut Tally) -> io::
 /// Of a failure the code, the status, how many bytes came, and the reason.
 type Told = (Code, u16, usize, Option<Reason>);
 
-/// What is to become of a GET, and what is told of it, if it is a failure.
+/// A GET with its end, and what is reported of it, if it is a failure.
 type Failing = (&'static str, Planned, Option<Told>);
 
 // rule get-failures

@@ -8,7 +8,7 @@ use std::alloc::{AllocError, Global};
 /// The most entries that are read of a list.
 const MOST_ENTRIES: usize = 16;
 
-/// Tells an entry on a line of its own.
+/// Writes an entry on a line of its own.
 fn tell(text: &mut String, entry: &Entry) -> Result<(), AllocError> {
     match entry {
         Entry::Url(url) => {
@@ -22,7 +22,7 @@ fn tell(text: &mut String, entry: &Entry) -> Result<(), AllocError> {
     text.push('\n')
 }
 
-/// Tells the end of a list, if the answer is one.
+/// Writes the end of a list, if the answer is one.
 fn tell_next<'a>(text: &mut String, list: &mut UrlList<Pieces<'a>>) -> Result<bool, AllocError> {
     match list.next() {
         Ok(Some(entry)) => {
@@ -36,7 +36,7 @@ fn tell_next<'a>(text: &mut String, list: &mut UrlList<Pieces<'a>>) -> Result<bo
     Ok(false)
 }
 
-/// Tells what the list of these bytes has, read in pieces of at most `most`, by so many reads.
+/// Writes what the list of these bytes has, read in pieces of at most `most`, by so many reads.
 fn told(alloc: Global, bytes: &[u8], most: usize, reads: usize) -> Result<String, AllocError> {
     let pieces = Pieces { bytes, most, reads };
     let mut list = UrlList::new(alloc, Input::new(pieces, 1_000_000));

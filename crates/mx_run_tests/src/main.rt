@@ -24,7 +24,7 @@ mod words;
 use crate::tally::Tally;
 use std::{fs, io};
 
-/// Prints what became of a table.
+/// Prints the result of a table.
 fn print(rt: &impl Print, name: &str, tally: &Tally) -> io::Result<()> {
     println!(rt; "{name}: {} rows, {} wrong", tally.rows, tally.wrong)?;
     print!(rt; "{}", tally.text)

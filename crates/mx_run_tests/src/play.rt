@@ -96,7 +96,7 @@ fn see_most_reads(alloc: Global, tally: &mut Tally) -> Result<(), AllocError> {
     Ok(())
 }
 
-/// A number of reads of `SCRIPT`, a byte each, behind which one fails, what is printed, and the exit status.
+/// A number of reads of `SCRIPT`, a byte each, after which one fails, what is printed, and the exit status.
 type Written<'a> = (usize, &'a str, u8);
 
 /// The whole script, its first line, and nothing of it.
@@ -106,7 +106,7 @@ static WRITTEN: [Written<'static>; 3] = [
     (0, "FAULT 56\n", 56),
 ];
 
-/// What is answered where the writer takes so many writes; `None` where it took other bytes than it should.
+/// The exit status where the writer takes so many writes; `None` where it took other bytes than it should.
 fn answers_full(alloc: Global, row: Written<'_>, writes: u8) -> Option<u8> {
     let (reads, printed, status) = row;
     let mut taken = Vec::new(alloc);

@@ -29,7 +29,7 @@ fn output_of(alloc: Global, response: &Response, len: usize) -> Result<Vec<u8>, 
     Ok(output)
 }
 
-/// A response, and what comes of it.
+/// A response, and its result.
 #[derive(Clone, Copy)]
 struct Row<'a> {
     name: &'static str,
@@ -65,7 +65,7 @@ fn trickle(bytes: &[u8], reads: usize) -> Pieces<'_> {
 }
 
 // rule program-failed-read
-/// Whether a failed read is printed wherever it stands, and the row where all went well: one read for each byte, and one for the end.
+/// Whether a failed read is printed wherever it comes, and the row where all went well: one read for each byte, and one for the end.
 fn tells_failing_reads(alloc: Global, row: Row<'_>) -> bool {
     let bytes = row.bytes;
     for reads in 0..=bytes.len() {
@@ -93,7 +93,7 @@ fn ends_full(alloc: Global, row: Row<'_>, writes: u8) -> Option<u32> {
 }
 
 // rule program-unwritten
-/// Whether each write that fails is told: the first of them fails where there may be none, and none fails where there may be 39.
+/// Whether each write that fails is reported: the first of them fails where there may be none, and none fails where there may be 39.
 fn tells_failing_writes(alloc: Global, row: Row<'_>) -> bool {
     let mut last = None;
     for writes in 0..40 {

@@ -28,7 +28,7 @@ static LASTING: [Code; 9] = [
 ];
 
 // rule save-retries
-/// Each method, and whether it is tried again: nothing is asked for twice that may change something.
+/// Each method, and whether it is tried again: a request that may change something isn't repeated.
 static METHODS: [(Method, bool); 6] = [
     (Method::Get, true),
     (Method::Head, true),

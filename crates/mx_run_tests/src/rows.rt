@@ -1,6 +1,6 @@
-//! Rows of text. A row begins with its kind and its name. In the lines behind it `<` stands before its input, and before what is to be seen
-//! `>` where it is printed, `!` where it is told on standard error, and `=` before the exit status. Blank lines, and lines that begin with
-//! `#`, say nothing. In an input, and in what is seen, bytes are escaped.
+//! Rows of text. A row begins with its kind and its name. In the lines after it `<` marks its input, `>` what is printed, `!` what is
+//! reported on standard error, and `=` the exit status. Blank lines, and lines that begin with `#`, are ignored. In an input, and in what
+//! is seen, bytes are escaped.
 use crate::escapes::add_unescaped;
 use std::alloc::{AllocError, Global};
 
@@ -11,7 +11,7 @@ pub(crate) struct Row<'a> {
     pub(crate) kind: &'a str,
     pub(crate) name: &'a str,
     pub(crate) input: Vec<u8>,
-    /// What is to be seen, as it stands there.
+    /// What is to be seen, as it is written there.
     pub(crate) wanted: String,
 }
 
@@ -29,7 +29,7 @@ fn row_of<'a>(alloc: Global, title: &'a str) -> Row<'a> {
     }
 }
 
-/// Adds a line of its input, behind its mark and one space.
+/// Adds a line of its input, after its mark and one space.
 fn add_input(row: &mut Row<'_>, text: &str) -> Result<(), AllocError> {
     let text = text.strip_prefix(' ').unwrap_or(text);
     if add_unescaped(&mut row.input, text)? {

@@ -88,7 +88,7 @@ fn see_explained(alloc: Global, method: Method, input: &[u8]) -> Result<String, 
     }
 }
 
-/// What is seen of a command line, behind the name and a colon, that is run on an input.
+/// What is seen of a command line, after the name and a colon, that is run on an input.
 pub(crate) fn see_run(alloc: Global, name: &str, input: &[u8]) -> Result<String, AllocError> {
     let line = match name.split_once(": ") {
         Some((_, line)) => line,

@@ -94,7 +94,7 @@ pub(crate) fn tell_save(alloc: Global, save: &Save<'_>) -> Result<String, AllocE
     Ok(text)
 }
 
-/// What a command line is answered by what reads those of `save` alone.
+/// The answer to a command line of the parser of `save` alone.
 pub(crate) fn see_save(alloc: Global, line: &str) -> Result<String, AllocError> {
     let words = words_of(alloc, line)?;
     match read_save(alloc, words.as_slice()) {

@@ -1,7 +1,7 @@
-//! What became of the rows of a table.
+//! The results of the rows of a table.
 use std::alloc::{AllocError, Global};
 
-/// How many rows were gone through, how many of them are wrong, and what is said of these.
+/// How many rows were tried, how many of them are wrong, and what is said of these.
 #[derive(Drop)]
 pub(crate) struct Tally {
     pub(crate) rows: u64,
@@ -10,7 +10,7 @@ pub(crate) struct Tally {
 }
 
 impl Tally {
-    /// That of no rows.
+    /// The tally of no rows.
     pub(crate) fn new(alloc: Global) -> Tally {
         Tally {
             rows: 0,
@@ -19,7 +19,7 @@ impl Tally {
         }
     }
 
-    /// Counts a row. Of a wrong one its name and what was seen are said.
+    /// Counts a row. For a wrong one it notes its name and what was seen.
     pub(crate) fn see(&mut self, is_right: bool, name: &str, seen: &str) -> Result<(), AllocError> {
         self.rows = self.rows.saturating_add(1);
         if is_right {
@@ -32,7 +32,7 @@ impl Tally {
         self.text.push_str(seen)
     }
 
-    /// Counts a row of which no more is to be said than that it is wrong.
+    /// Counts a row of which only its name is noted if it is wrong.
     pub(crate) fn hold(&mut self, name: &str, is_right: bool) -> Result<(), AllocError> {
         self.see(is_right, name, "")
     }

@@ -59,14 +59,14 @@ fn fetch<R: RandomSource + AllocGlobal>(rt: &R, response: &[u8]) -> io::Result<F
     poll(rt.alloc(), &task, &mut transfer)
 }
 
-/// What is to become of a GET: a link gives this response and then ends, or the GET is refused with this code.
+/// The end of a GET: a link gives this response and then ends, or the GET is refused with this code.
 #[derive(Clone, Copy)]
 pub(crate) enum Planned {
     Response(&'static [u8]),
     Refused(Code),
 }
 
-/// What becomes of each GET.
+/// The end of each GET.
 pub(crate) fn fetch_all<R: RandomSource + AllocGlobal>(
     rt: &R,
     all: &[Planned],

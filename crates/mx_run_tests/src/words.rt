@@ -1,4 +1,4 @@
-//! Command lines, what they are answered, and what is said to those that are refused.
+//! Command lines, the answers to them, and the hints for those that are refused.
 use crate::escapes::add_unescaped;
 use crate::saves::tell_save;
 use clap::Error;
@@ -7,7 +7,7 @@ use mx_command::{Asked, Get, Task, read_command};
 use mx_hint::hint_of;
 use std::alloc::{AllocError, Global};
 
-/// A word as it is meant. One that isn't UTF-8 is empty.
+/// A word without its escapes. One that isn't UTF-8 is empty.
 fn word_of(alloc: Global, text: &str) -> Result<String, AllocError> {
     let mut bytes = Vec::new(alloc);
     add_unescaped(&mut bytes, text)?;
@@ -98,7 +98,7 @@ fn tell_asked(alloc: Global, asked: &Asked<'_>) -> Result<String, AllocError> {
     }
 }
 
-/// What a command line is answered.
+/// The answer to a command line.
 pub(crate) fn see_command(alloc: Global, line: &str) -> Result<String, AllocError> {
     let words = words_of(alloc, line)?;
     match read_command(alloc, words.as_slice()) {
@@ -115,7 +115,7 @@ fn kind_of(alloc: Global, words: &[String]) -> Option<ErrorKind> {
     }
 }
 
-/// What is said to a command line behind clap's words.
+/// The hint after clap's words for a command line.
 pub(crate) fn see_hint(alloc: Global, line: &str) -> Result<String, AllocError> {
     let words = words_of(alloc, line)?;
     if let Some(kind) = kind_of(alloc, words.as_slice()) {

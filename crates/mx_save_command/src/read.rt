@@ -11,7 +11,7 @@ use mx_run_io::Options;
 use mx_types::{LEAST_HISTORY, MOST_HISTORY, Method};
 use std::alloc::{AllocError, Global};
 
-/// The numbers of `save`, if its values are there. Their ranges are tested here too, since clap's contract doesn't tell that they were.
+/// The numbers of `save`, if its values are there. Their ranges are tested here too, since clap's contract doesn't say that they were.
 fn numbers_of(save: &ArgMatches<'_>) -> Option<SaveNumbers>
     ensures { IfSome result AreSaveNumbers }
 {
@@ -150,7 +150,7 @@ fn mxfetch_command<'a>(alloc: Global) -> Result<Command<'a>, AllocError> {
         .subcommand(save)
 }
 
-// Reads the words at a command, which stays there.
+// Reads the words at a command, which stays.
 fn read_at<'a>(
     alloc: Global,
     command: &mut Command<'a>,
@@ -168,7 +168,7 @@ fn read_at<'a>(
 }
 
 /// Reads a command line of `save`, of which the first word is the program's name and the second `save`. An error is help that was asked
-/// for, a refusal in clap's words, or the want of memory.
+/// for, a refusal in clap's words, or `OutOfMemory`.
 pub fn read_save<'a>(alloc: Global, words: &'a [String]) -> Result<Save<'a>, Error>
     ensures { IfOk result (λ s. AreSaveNumbers s.numbers) }
 {

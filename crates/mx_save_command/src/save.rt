@@ -20,7 +20,7 @@ pub enum BodySource<'a> {
     File(&'a str),
 }
 
-/// A header field of the requests: its name, and its value without blanks at its ends. Whether a request may have it is not asked here.
+/// A header field of the requests: its name, and its value without blanks at its ends. Whether a request may have it isn't checked here.
 #[derive(Clone, Copy)]
 pub struct Header<'a> {
     pub name: &'a str,
@@ -60,7 +60,7 @@ pub struct Save<'a> {
     pub flags: SaveFlags,
     /// The folder that files are saved in.
     pub into: &'a str,
-    /// Where further URLs are read, behind those of the command line.
+    /// Where further URLs are read, after those of the command line.
     pub input: Option<ListSource<'a>>,
     /// The URLs of the command line, as they were written. Where there is none, there is an input.
     pub urls: Vec<&'a str>,

@@ -65,7 +65,7 @@ place_cases (suc n) (suc m) lt =
       | inr h ↦ inr (ap suc h)
     ]
 
--- what was told holds when more is saved, and more URLs were read
+-- what was reported holds when more is saved, and more URLs were read
 holds_on : (asking : Asking) (name : List ℕ) (old new : Saves) (e : EndValue) (v : Verdict) → GrowsBy name old new → HoldsOf asking old e v → HoldsOf asking new e v
 holds_on asking name old new e verdict.Saved grows h = record {
   name = h.name;
@@ -99,7 +99,7 @@ ended_more ts t place h = (h.0, Contains-append_left ts (t ∷ []) h.0 h.1, h.2)
 ended_now : (ts : List ToldValue) (t : ToldValue) (place : ℕ) → t.place ≡ place → HasEnded (ts ++ t ∷ []) place
 ended_now ts t place is = (t, Contains-push ts t, is)
 
--- how many were told as saved, one end further
+-- how many were reported as saved, one end further
 abbrev weigh : Bool → ℕ
 weigh b = cond b 1 0
 
@@ -190,7 +190,7 @@ not_free [] at p free is = absurd (cc)
 not_free (s ∷ ss) zero p free is = let same : s ≡ slot.Free = cc in let bad : None ≡ Some p = ap job_of (sym same) ∙ is in cc
 not_free (s ∷ ss) (suc i) p free is = not_free ss i p free is
 
--- a URL stands in a slot that was free
+-- a URL is in a slot that was free
 pub stood : (b : State) (read : ℕ) (bases : List (List ℕ)) (at : ℕ) (job : Job) → IsBook b read bases → NamesAreDistinct → read + 1 < 2 ^ 64
     → slice_get b.slots at ≡ Some slot.Free → job.place ≡ read → job.name ≡ numbered (base_name job.url.items) (count_of bases (base_name job.url.items))
     → IsBook (record b { urls = b.urls ++ job.url.items ∷ []; named = b.named ++ job.url.items ∷ []; slots = slice_set b.slots at (slot.Waiting job) })
@@ -234,7 +234,7 @@ stood b read bases at job is law few free place name =
       owed = is.owed;
     }
 
--- what stands in a slot has changed but for its place, its text and its name
+-- what is in a slot has changed but for its place, its text and its name
 pub again : (b : State) (read : ℕ) (bases : List (List ℕ)) (at : ℕ) (old new : Job) (v : Slot) → IsBook b read bases → job_at b.slots at ≡ Some old → job_of v ≡ Some new
     → new.place ≡ old.place → new.url ≡ old.url → new.name ≡ old.name → IsBook (record b { slots = slice_set b.slots at v }) read bases
 again b read bases at old new v is was now place url name =
@@ -409,7 +409,7 @@ pub job_for : {E : Type 0} (asking : Asking) (slots : List Slot) (at : ℕ) (job
 job_for asking slots at job (Ok q) there is = (record { job = job; there = there; asked = is.0 }, is.1)
 job_for asking slots at job (Err e) there is = tt
 
--- what is told of a body that was saved holds
+-- what is reported of a body that was saved holds
 pub saved_holds : (asking : Asking) (saves old : Saves) (url file name : List ℕ) (t : Transferred) (o : OutcomeValue) (e : EndValue) → saves ≡ (name, o) ∷ old → file ≡ name
     → Asks asking url o.request → IsDecision o.code o.last.request.method o.status asking.content_on_error decision.Save → t.status ≡ o.status
     → t.length ≡ length (joined o.wire o.parts) → e ≡ saved_end url file t → HoldsOf asking saves e e.verdict

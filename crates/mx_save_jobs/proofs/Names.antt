@@ -25,7 +25,7 @@ last_of : (names : List (List ℕ)) (name n : List ℕ) → AllByRecursion (λ o
 last_of [] name n all = all.0
 last_of (m ∷ names) name n all = last_of names name n all.1
 
--- the first, or one behind it
+-- the first, or one after it
 at_front : {X : Type 0} (k : ℕ) (head x : X) (rest : List X) → k < length (head ∷ rest) → slice_index_or (head ∷ rest) k x ≡ x → (head ≡ x) ⊎ Contains rest x
 at_front zero head x rest lt is = inl is
 at_front (suc k) head x rest lt is = inr (k, omega (arith, lt), is)

@@ -1,4 +1,4 @@
--- Where the URLs stand that have no end yet.
+-- The slots of URLs that have no end yet.
 use Rattle.std.proofs.Common.{◌≡◌, ◌≢◌, ◌∙◌, refl, ap, sym, ℕ, ◌+◌, ◌<◌, suc, zero, List, [], ◌∷◌, ◌++◌, length, Bool, true, false, inl, inr, cond, arith}
 use Rattle.std.specs.Prelude.{◌⊎◌, Option, Some, None, count_by, slice_get, slice_set}
 use Rattle.std.specs.List.{AllByRecursion}
@@ -21,7 +21,7 @@ cases (s ∷ ss) (suc i) (suc j) v p is =
       | inr c ↦ inr ((λ e. c.0 (omega (arith, e))), c.1)
     ]
 
--- what stands in another slot still does
+-- what is in another slot stays
 pub stays : (slots : List Slot) (i j : ℕ) (v : Slot) → j ≢ i → job_at (slice_set slots i v) j ≡ job_at slots j
 stays [] i j v other = refl
 stays (s ∷ ss) zero zero v other = absurd (other refl)
@@ -29,7 +29,7 @@ stays (s ∷ ss) zero (suc j) v other = refl
 stays (s ∷ ss) (suc i) zero v other = refl
 stays (s ∷ ss) (suc i) (suc j) v other = stays ss i j v (λ e. other (ap suc e))
 
--- and in this one the new one does
+-- and the new one is in this slot
 pub there : (slots : List Slot) (i : ℕ) (old v : Slot) → slice_get slots i ≡ Some old → job_at (slice_set slots i v) i ≡ job_of v
 there [] i old v is = absurd (cc)
 there (s ∷ ss) zero old v is = refl
@@ -81,7 +81,7 @@ as_many slots i v p q was is =
     let s = inside slots i p was in
     omega (arith, counted slots i s.0 v s.1, weighs s.0 p s.2, weighs v q is)
 
--- where none is taken, no URL stands
+-- where none is taken, no URL is in one
 pub none : (slots : List Slot) (i : ℕ) (p : Job) → count_by is_taken slots ≡ 0 → job_at slots i ≡ Some p → ⊥
 none [] i p zero_taken is = absurd (cc)
 none (s ∷ ss) zero p zero_taken is = omega (arith, front s ss, weighs s p is, zero_taken)

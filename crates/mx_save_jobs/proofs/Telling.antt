@@ -1,4 +1,4 @@
--- What is told, one end further.
+-- What is reported, one end further.
 use Rattle.std.proofs.Common.{◌≡◌, ◌≢◌, ◌∙◌, refl, ap, sym, subst, inl, inr, ℕ, Bool, true, false, List, [], ◌∷◌, ◌++◌, map, append_assoc, append-nil}
 use Rattle.std.specs.Prelude.{◌⊎◌, Option, None}
 use Rattle.std.specs.Io.KnownBytes.{Appends, Keeps}
@@ -43,7 +43,7 @@ flushed_on contents l out are well keeps flushed = record {
   status = are.status;
 }
 
--- one end more was told, and flushed
+-- one end more was reported, and flushed
 pub told_on : {W : Type 0} (contents : W → Option (List ℕ)) (l : LinesValue W) (mid out : Output W) (t : ToldValue) (status : ExitStatus) (ts : List ToldValue) → AreLines contents l
     → has_failed_write l.output ≢ true → Wrote contents l.output mid (line_of l.json t.end) → Keeps (contents (writer_of mid)) (contents (writer_of out)) → is_pending out ≡ false
     → first_of status ≡ after_note (first_of l.status) (note_of t) → ts ≡ l.told ++ t ∷ [] → AreLines contents (record l { status = status; output = out; told = ts })

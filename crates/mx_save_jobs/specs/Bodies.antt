@@ -11,7 +11,7 @@ abbrev pub parts_of : OutcomeValue → List (List ℕ)
 parts_of o = map (λ p. slice_range o.wire p.start p.end) o.parts
 
 -- The outcome is one, of code 0: the first bytes of its last hop are a response to the last request of its chain by RFC 9112, whose content
--- is what its parts come to.
+-- is its parts, joined.
 pub record IsWholeBody (o : OutcomeValue) : Type 0 where
   pub outcome : IsOutcome o
   pub code : o.code ≡ code.Ok

@@ -30,7 +30,7 @@ pub record IsSameRun {W : Type 0} (old new : BookValue W) : Type 0 where
   pub folder : new.ledger.start ≡ old.ledger.start
   pub flush : new.ledger.flush ≡ old.ledger.flush
 
--- a URL with this text stands in the slot now, and waits
+-- a URL with this text is in the slot now, and waits
 pub record StandsAt (old new : List Slot) (at : ℕ) (text : List ℕ) : Type 0 where
   pub job : Job
   pub is : new ≡ slice_set old at (slot.Waiting job)
@@ -58,7 +58,7 @@ pub record WaitsAgain (old new : List Slot) (at : ℕ) : Type 0 where
   pub url : next.url ≡ job.url
   pub name : next.name ≡ job.name
 
--- no transfer is added of what stands there
+-- no transfer is added of what is there
 abbrev pub is_unadded : Slot → Bool
 is_unadded slot.Free = true
 is_unadded (slot.Waiting job) = true
@@ -85,8 +85,8 @@ awaits_at slots i t = option_map_or (awaits t) (slice_get slots i) false
 
 -- rule save-bodies: A body is saved for a URL that is reported as saved, and for no other.
 --
--- All URLs have ended: what was told holds, of each URL something was told, and as many ends were told as there are URLs;
--- and no more bodies were saved than URLs were told as saved: of one that failed, or was skipped, nothing was.
+-- All URLs have ended: what was reported holds, each URL was reported, and as many ends were reported as there are URLs; and no more bodies
+-- were saved than URLs were reported as saved: of one that failed, or was skipped, nothing was.
 pub record HaveEnded (asking : Asking) (urls : List (List ℕ)) (saves : Saves) (told : List ToldValue) : Type 0 where
   pub holds : AllByRecursion (IsTold asking urls saves) told
   pub each : (place : ℕ) → place < length urls → HasEnded told place

@@ -41,8 +41,8 @@ job_at slots i = option_map_or job_of (slice_get slots i) None
 abbrev pub Saves : Type 0
 Saves = List (List ℕ × OutcomeValue)
 
--- A URL that was told as saved: under the name that was told the body of an outcome was saved, of a transfer of the URL's request, whose
--- status is one that is saved; and what was told is that outcome's.
+-- A URL that was reported as saved: under the name that was reported the body of an outcome was saved, of a transfer of the URL's request,
+-- whose status is one that is saved; and what was reported is that outcome's.
 pub record IsSavedEnd (asking : Asking) (saves : Saves) (e : EndValue) : Type 0 where
   pub name : List ℕ
   pub outcome : OutcomeValue
@@ -53,7 +53,7 @@ pub record IsSavedEnd (asking : Asking) (saves : Saves) (e : EndValue) : Type 0 
   pub status : e.status ≡ outcome.status
   pub size : e.length ≡ length (joined outcome.wire outcome.parts)
 
--- A URL that was told as done: the outcome of a transfer of its request is whole, and has nothing to save.
+-- A URL that was reported as done: the outcome of a transfer of its request is whole, and has nothing to save.
 pub record IsDoneEnd (asking : Asking) (e : EndValue) : Type 0 where
   pub outcome : OutcomeValue
   pub is : IsOutcome outcome
@@ -61,27 +61,27 @@ pub record IsDoneEnd (asking : Asking) (e : EndValue) : Type 0 where
   pub decided : IsDecision outcome.code outcome.last.request.method outcome.status asking.content_on_error decision.Done
   pub status : e.status ≡ outcome.status
 
--- rule save-failures: Of each URL that failed it is said why: of a transfer what its bytes tell, of a whole response that its status isn't
+-- rule save-failures: Of each URL that failed it is said why: of a transfer what its bytes show, of a whole response that its status isn't
 -- 2xx.
 --
 -- a URL that failed: it is said why
 abbrev pub IsFailedEnd : EndValue → Type 0
 IsFailedEnd e = IsSome e.error
 
--- what was told of a URL holds
+-- what was reported of a URL holds
 abbrev pub HoldsOf : Asking → Saves → EndValue → Verdict → Type 0
 HoldsOf asking saves e verdict.Saved = IsSavedEnd asking saves e
 HoldsOf asking saves e verdict.Done = IsDoneEnd asking e
 HoldsOf asking saves e verdict.Skipped = ⊤
 HoldsOf asking saves e verdict.Failed = IsFailedEnd e
 
--- of the URL at the place that was told
+-- of the URL at the place that was reported
 pub record IsTold (asking : Asking) (urls : List (List ℕ)) (saves : Saves) (t : ToldValue) : Type 0 where
   pub url : slice_get urls t.place ≡ Some t.end.url
   pub holds : HoldsOf asking saves t.end t.end.verdict
 
--- what is asked of each URL; the URLs so far, and those of them that took a name; where those stand that have no end yet, and what was told
--- of the others; and what was saved
+-- what is asked of each URL; the URLs so far, and those of them that took a name; the slots of those that have no end yet, and what was
+-- reported of the others; and what was saved
 pub record State : Type 0 where
   pub asking : Asking
   pub urls : List (List ℕ)
@@ -103,17 +103,17 @@ pub record BookValue (W : Type 0) : Type 0 where
 abbrev pub state_of : {W : Type 0} → BookValue W → State
 state_of b = record { asking = b.asking; urls = b.urls; named = b.named; slots = b.slots; told = b.lines.told; saves = b.ledger.entries }
 
--- a URL that has no end yet: it stands at its place, its name is one of those that were given, and nothing was saved under it
+-- a URL that has no end yet: it is at its place, its name is one of those that were given, and nothing was saved under it
 pub record Pends (urls named : List (List ℕ)) (saves : Saves) (job : Job) : Type 0 where
   pub url : slice_get urls job.place ≡ Some job.url.items
   pub given : Contains (names_of named) job.name
   pub fresh : IsFresh job.name saves
 
--- it stands in a slot
+-- it is in a slot
 abbrev pub IsPending : List Slot → ℕ → Type 0
 IsPending slots place = (i : ℕ) × (job : Job) × (job_at slots i ≡ Some job) × (job.place ≡ place)
 
--- it was told of
+-- it was reported
 abbrev pub HasEnded : List ToldValue → ℕ → Type 0
 HasEnded told place = (t : ToldValue) × Contains told t × (t.place ≡ place)
 
@@ -124,8 +124,8 @@ is_saved _ = false
 abbrev pub is_told_saved : ToldValue → Bool
 is_told_saved t = is_saved t.end.verdict
 
--- Each URL stands in a slot, or it has ended, and there are as many ends as URLs that don't stand in one. What was told holds. No two of
--- the names are alike, and nothing was saved but under a name that was given; and as many bodies were saved as URLs were told as saved.
+-- Each URL is in a slot, or it has ended, and there are as many ends as URLs that aren't in one. What was reported holds. No two of the
+-- names are alike, and nothing was saved but under a name that was given; and as many bodies were saved as URLs were reported as saved.
 pub record IsBook (b : State) (n : ℕ) (names : List (List ℕ)) : Type 0 where
   pub read : n ≡ length b.urls
   pub bases : names ≡ map base_name b.named
@@ -143,7 +143,7 @@ abbrev pub GrowsBy : List ℕ → Saves → Saves → Type 0
 GrowsBy name old new = (new ≡ old) ⊎ ((outcome : OutcomeValue) × (new ≡ (name, outcome) ∷ old))
 
 -- rule save-bodies
--- they grow by one where a URL is told as saved, and only there
+-- they grow by one where a URL is reported as saved, and only there
 abbrev pub GrowsFor : List ℕ → Verdict → Saves → Saves → Type 0
 GrowsFor name v old new =
     ((is_saved v ≡ false) × (new ≡ old)) ⊎ ((is_saved v ≡ true) × (outcome : OutcomeValue) × (new ≡ (name, outcome) ∷ old))

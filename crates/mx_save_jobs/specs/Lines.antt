@@ -1,4 +1,4 @@
--- What is told of URLs, as they end.
+-- What is printed of URLs, as they end.
 use Rattle.std.specs.Prelude.{◌≡◌, ◌≢◌, ℕ, Bool, true, false, if◌then◌else◌, List, [], ◌∷◌, ◌++◌, map, None, Option}
 use Rattle.mx_run_io.specs.Ends.{Wrote, has_failed_write, is_pending}
 use Rattle.mx_run_io.specs.declared.output.Output.{Output}
@@ -9,7 +9,7 @@ use Rattle.mx_run_save.specs.Texts.{end_line, json_line}
 use Rattle.mx_run_save.specs.declared.status.ExitStatus.{ExitStatus}
 use Rattle.mx_run_save.specs.declared.status.PlacedCode.{PlacedCode}
 
--- an end that was told, with the place of its URL
+-- an end that was printed, with the place of its URL
 pub record ToldValue : Type 0 where
   pub place : ℕ
   pub end : EndValue
@@ -33,13 +33,13 @@ pub record LinesValue (W : Type 0) : Type 0 where
   pub start : Output W
   pub told : List ToldValue
 
--- What was printed since is the text of what was told, and it is flushed; and the status is that of its codes.
+-- The output since is the text of these ends, and it is flushed; and the status is that of their codes.
 pub record AreLines {W : Type 0} (contents : W → Option (List ℕ)) (l : LinesValue W) : Type 0 where
   pub written : has_failed_write l.output ≢ true → Wrote contents l.start l.output (text_of l.json l.told)
   pub flushed : has_failed_write l.output ≢ true → is_pending l.output ≡ false
   pub status : first_of l.status ≡ after_notes None (map note_of l.told)
 
--- nothing was told yet
+-- nothing was printed yet
 pub record IsFreshLines {W : Type 0} (j : Bool) (o : Output W) (l : LinesValue W) : Type 0 where
   pub told : l.told ≡ []
   pub start : l.start ≡ o

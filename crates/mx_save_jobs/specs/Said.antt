@@ -6,7 +6,7 @@ use Rattle.mx_chain.specs.Outcomes.{OutcomeValue}
 use Rattle.mx_run_get.specs.Failures.{IsWhy}
 use Rattle.mx_words.specs.Words.{told_text}
 
--- the words of the code of a transfer that failed, and what its bytes tell
+-- the words of the code of a transfer that failed, and what its bytes show
 abbrev pub IsToldOf : OutcomeValue → List ℕ → Type 0
 IsToldOf outcome text = (reason : Option Reason) × IsWhy outcome reason × (text ≡ told_text outcome.code reason)
 

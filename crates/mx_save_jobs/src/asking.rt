@@ -8,12 +8,12 @@ use mx_request::{Request, RequestError};
 use mx_types::{Method, Settings};
 use std::alloc::{AllocError, Global};
 
-/// What is asked of each URL of a run, and what is done with what comes of it.
+/// What is asked of each URL of a run, and what is done with its response.
 #[derive(Drop)]
 pub struct Asking {
     /// The method of the requests.
     pub method: Method,
-    /// What else is set for them.
+    /// Their settings.
     pub settings: Settings,
     /// How many further tries a URL has.
     pub retries: u8,
@@ -71,7 +71,7 @@ fn copy_settings(alloc: Global, settings: &Settings) -> Result<Settings, AllocEr
     })
 }
 
-// What was built, of which it is known that it is a request. It does nothing else.
+// Returns what was built, and gives the proof the fact that it is a request.
 fn known(built: Result<Request, RequestError>) -> Result<Request, RequestError>
     ensures same { result ≡ built }
     ensures known { IfOk result IsRequest }
@@ -83,7 +83,7 @@ fn known(built: Result<Request, RequestError>) -> Result<Request, RequestError>
 }
 
 impl Asking {
-    /// The request of a URL, or why it is refused. `OutOfMemory` stands in place of either where a growth was refused.
+    /// The request of a URL, or why it is refused. `OutOfMemory` comes in place of either where a growth was refused.
     pub fn request(&self, alloc: Global, url: &str) -> Result<Request, RequestError>
         ensures known { IfOk result IsRequest }
         ensures answer { MatchResult result (λ r. request_of self.now.method url.now self.now.settings ≡ Ok r)

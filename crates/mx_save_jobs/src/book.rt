@@ -28,11 +28,11 @@ use std::io::Write;
 use std::marker::Model;
 use std::{mem, str};
 
-/// The URLs of a run: those that have no end yet, each in a slot, and what the others ended with, which is told and saved. Contracts see it
-/// as `BookValue`.
+/// The URLs of a run: those that have no end yet, each in a slot, and what the others ended with, which is printed and saved. Contracts see
+/// it as `BookValue`.
 ///
-/// Each URL of the run stands in a slot, or was told of, once. What was told holds: a body that was told as saved is in its file, whole.
-/// Once a call has answered an error, that alone isn't known any more; what was saved still is.
+/// Each URL of the run is in a slot, or was reported, once. What was reported holds: a body that was reported as saved is in its file,
+/// whole. Once a call has answered an error, only that isn't known any more; what was saved still is.
 #[derive(Drop)]
 pub struct Book<F: Folder, W: Write> {
     alloc: Global,
@@ -92,7 +92,7 @@ fn untried() -> Transferred {
 }
 
 impl<F: Folder, W: Write> Book<F, W> {
-    /// No URL was read yet, and nothing was saved or told. The slots are free.
+    /// No URL was read yet, and nothing was saved or printed. The slots are free.
     pub fn new(
         alloc: Global,
         asking: Asking,
@@ -118,7 +118,7 @@ impl<F: Folder, W: Write> Book<F, W> {
         }
     }
 
-    /// Tells of a URL that is refused, which takes no name.
+    /// Reports a URL that is refused, which takes no name.
     fn refuse(&mut self, url: Vec<u8>, code: Code) -> Result<(), Stop>
         requires going { self.old.is_stopped ≡ false }
         requires code { code_number code ≢ 0 }
@@ -141,7 +141,7 @@ impl<F: Folder, W: Write> Book<F, W> {
         Ok(())
     }
 
-    /// Gives a URL its name, and has it stand in that slot, which is free.
+    /// Gives a URL its name, and puts it into that slot, which is free.
     fn stand(&mut self, at: usize, url: Vec<u8>) -> Result<(), Stop>
         requires going { self.old.is_stopped ≡ false }
         requires free { slice_get self.old.slots at ≡ Some slot.Free }
@@ -169,8 +169,8 @@ impl<F: Folder, W: Write> Book<F, W> {
         Ok(())
     }
 
-    /// Takes a URL in: its request comes back, and it stands in that slot, which is free. Where it is refused, that is told, it takes no name,
-    /// and nothing comes back.
+    /// Takes a URL in: its request comes back, and it is in that slot, which was free. Where it is refused, that is reported, it takes no
+    /// name, and nothing comes back.
     pub fn admit(&mut self, at: usize, url: Vec<u8>) -> Result<Option<Request>, Stop>
         requires going { self.old.is_stopped ≡ false }
         requires free { slice_get self.old.slots at ≡ Some slot.Free }
@@ -197,7 +197,7 @@ impl<F: Folder, W: Write> Book<F, W> {
         }
     }
 
-    /// The request of the URL that stands in that slot, once more.
+    /// The request of the URL in that slot, once more.
     pub fn request(&self, at: usize) -> Result<Request, RequestError>
         ensures { IfOk result (λ r. IsJobFor self.now.asking self.now.slots at r × IsRequest r) }
     {
@@ -207,7 +207,7 @@ impl<F: Folder, W: Write> Book<F, W> {
         }
     }
 
-    /// Ends the URL in that slot, which waits, without asking for it, where a regular file has its name and such are skipped.
+    /// Ends the URL in that slot, which waits, without fetching it, where a regular file has its name and such are skipped.
     pub fn skip(&mut self, at: usize) -> Result<bool, Stop>
         requires going { self.old.is_stopped ≡ false }
         ensures slots { IfOk result (λ skipped. self.new.slots ≡ (if skipped then slice_set self.old.slots at slot.Free else self.old.slots)) }
@@ -268,7 +268,7 @@ impl<F: Folder, W: Write> Book<F, W> {
         }
     }
 
-    /// Ends the URL in that slot, whose transfer ended so: its body is saved where it is to be, and that is told. Where it is to be tried
+    /// Ends the URL in that slot, whose transfer ended so: its body is saved if it should be, and that is reported. Where it is to be tried
     /// again, it waits, and the milliseconds until then come back.
     pub fn close(&mut self, at: usize, outcome: Outcome) -> Result<Option<u64>, Stop>
         requires going { self.old.is_stopped ≡ false }
@@ -330,7 +330,7 @@ impl<F: Folder, W: Write> Book<F, W> {
         self.lines.tally()
     }
 
-    /// What was told last, if anything was. No clause says which end it is: only what is shown to who watches depends on it.
+    /// What was printed last, if anything was. No clause says which end it is: only what is shown to who watches depends on it.
     pub fn last(&self) -> Option<&End> {
         self.lines.last()
     }
@@ -421,7 +421,7 @@ fn skipped(alloc: Global, job: Job) -> Result<End, AllocError>
     Ok(End::skipped(job.url, file))
 }
 
-// Has the transfer of the URL in a slot added under this ticket.
+// Notes that the transfer of the URL in a slot is added under this ticket.
 fn set_added(slots: &mut Vec<Slot>, at: usize, ticket: Ticket)
     requires there { IsSome (job_at slots.old.items at) }
     ensures { IsAdded slots.old.items slots.new.items at ticket }
@@ -432,7 +432,7 @@ fn set_added(slots: &mut Vec<Slot>, at: usize, ticket: Ticket)
     slots[at] = Slot::Added(job, ticket);
 }
 
-// Has the URL in a slot wait for a further try.
+// Notes that the URL in a slot waits for a further try.
 fn set_waiting(slots: &mut Vec<Slot>, at: usize)
     requires there { IsSome (job_at slots.old.items at) }
     ensures { WaitsAgain slots.old.items slots.new.items at }
@@ -443,7 +443,7 @@ fn set_waiting(slots: &mut Vec<Slot>, at: usize)
     slots[at] = Slot::Waiting(again(job));
 }
 
-// Frees a slot. The URL that stood in it comes back.
+// Frees a slot. Its URL comes back.
 fn take_job(slots: &mut Vec<Slot>, at: usize) -> Option<Job>
     ensures job { result ≡ job_at slots.old.items at }
     ensures free { slots.new.items ≡ slice_set slots.old.items at slot.Free }

@@ -1,4 +1,4 @@
-//! What comes of a URL whose transfer has ended.
+//! What a URL ends with, once its transfer has ended.
 ghost use Rattle.std.specs.Prelude.{◌≡◌, ◌≢◌, IfOk, OnErr, length};
 ghost use Rattle.mx_body.specs.Parts.{joined};
 ghost use Rattle.mx_save.specs.Ledgers.{IsFresh};
@@ -21,7 +21,7 @@ use mx_save::{Ledger, SaveError};
 use mx_types::Code;
 use std::alloc::{AllocError, Global};
 
-// What is told of a transfer.
+// What is reported of a transfer.
 fn transferred(outcome: &Outcome, tries: u32) -> Transferred
     ensures status { result.status ≡ outcome.now.status }
     ensures length { result.length ≡ length (joined outcome.now.wire outcome.now.parts) }
@@ -94,7 +94,7 @@ fn save<F: Folder>(
 }
 
 // rule save-failures
-// Ends a URL whose transfer ended so: its body is saved where it is to be.
+// Ends a URL whose transfer ended so: its body is saved if it should be.
 pub(crate) fn finish<F: Folder>(
     alloc: Global,
     asking: &Asking,

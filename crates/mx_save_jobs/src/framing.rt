@@ -14,8 +14,8 @@ fn word(found: Result<Framing, Code>) -> Option<FramingWord> {
     }
 }
 
-/// How the end of the body is found of a response to a request of that method, by its final head (RFC 9112, section 6.3); `None` where it
-/// has no body, or none is read.
+/// How the end of a response's body is found, by the request's method and the final head (RFC 9112, section 6.3); `None` where it has no
+/// body, or none is read.
 pub(crate) fn framing_of(method: Method, wire: &[u8]) -> Option<FramingWord> {
     let mut rest = wire;
     for _ in 0..=MOST_INTERIM {

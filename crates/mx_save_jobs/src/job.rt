@@ -19,7 +19,7 @@ pub struct Job {
     pub tries: u32,
 }
 
-/// Where a URL that has no end yet stands. The number of a slot is the handle of its transfer.
+/// The slot of a URL that has no end yet. Its number is the handle of the URL's transfer.
 #[derive(Drop)]
 pub enum Slot {
     /// No URL.

@@ -1,4 +1,4 @@
-//! What is told of URLs, as they end.
+//! What is printed of URLs, as they end.
 ghost use Rattle.std.specs.Prelude.{◌≡◌, ◌≢◌, ◌⊎◌, ◌++◌, ◌∷◌, [], true, false, map, None, OnOk, OnErr};
 ghost use Rattle.mx_run_io.specs.Ends.{has_failed_write, is_pending, Wrote};
 ghost use Rattle.mx_run_save.specs.Status.{after_notes, status_of};
@@ -29,8 +29,8 @@ impl Model for Told {
     ghost view = { λ t. record { place = t.place; end = t.end.value } };
 }
 
-/// What was told of the URLs that have ended, in the order in which they ended: a line each, or an object in JSON. Contracts see the ends,
-/// and the output before the first was printed, and now.
+/// What was printed of the URLs that have ended, in the order in which they ended: a line each, or an object in JSON. Contracts see the
+/// ends, and the output before the first was printed, and now.
 #[derive(Drop)]
 pub struct Lines<W: Write> {
     alloc: Global,
@@ -77,7 +77,7 @@ fn print_end<W: Write>(
 }
 
 impl<W: Write> Lines<W> {
-    /// Nothing was told yet. What was written into the output before was flushed.
+    /// Nothing was printed yet. What was written into the output before was flushed.
     pub fn new(alloc: Global, output: Output<W>, json: bool) -> Lines<W>
         requires { is_pending output ≡ false }
         ensures { IsFreshLines json output result }
@@ -106,9 +106,9 @@ impl<W: Write> Lines<W> {
         }
     }
 
-    /// Tells what the URL at that place ended with, and flushes.
+    /// Prints what the URL at that place ended with, and flushes.
     ///
-    /// An error is the want of memory for a text in JSON, before anything was written, or that the output couldn't be written.
+    /// An error says that memory for a text in JSON was refused, before anything was written, or that the output couldn't be written.
     pub fn tell(&mut self, place: u64, end: End) -> Result<(), Stop>
         ensures told { OnOk result (self.new.told ≡ self.old.told ++ record { place = place; end = end } ∷ []) }
         ensures kept { OnErr result (self.new.told ≡ self.old.told) }
@@ -129,12 +129,12 @@ impl<W: Write> Lines<W> {
         Ok(())
     }
 
-    /// How far the run is.
+    /// The progress of the run.
     pub fn tally(&self) -> Tally {
         self.tally
     }
 
-    /// What was told last, if anything was.
+    /// What was printed last, if anything was.
     pub fn last(&self) -> Option<&End> {
         self.last.as_ref()
     }
@@ -146,7 +146,7 @@ impl<W: Write> Lines<W> {
         let _json = self.json;
     }
 
-    /// The exit status by the codes that were told: the first that isn't 0, in the order of the URLs.
+    /// The exit status by the codes that were printed: the first that isn't 0, in the order of the URLs.
     pub fn status(&self) -> u8
         ensures { result ≡ status_of (after_notes None (map note_of self.now.told)) }
     {

@@ -27,10 +27,10 @@ pub enum Stop {
     /// A worker's thread couldn't be started.
     #[error("a thread can't be started")]
     NoThread,
-    /// The multi handle refused a transfer, or its removal, and not for want of memory or room.
+    /// The multi handle refused a transfer, or its removal, for another reason than memory or room.
     #[error("a transfer can't be added")]
     NotAdded,
-    /// Of a transfer that was added no message was read, for want of memory, or one came that is of no addition of the run.
+    /// No message of a transfer that was added was read, as memory was refused; or one came that is of no addition of the run.
     #[error("no message came of a transfer that was added")]
     NoMessage,
 }
@@ -43,7 +43,7 @@ impl From<AllocError> for Stop {
     }
 }
 
-/// The value that found no room is dropped.
+/// The value that couldn't be stored is dropped.
 impl<T: Drop> From<AllocFailed<T>> for Stop {
     ghost from_gives = { λ _ e. e ≡ stop.OutOfMemory };
 

@@ -1,4 +1,4 @@
-//! How far a run is.
+//! The progress of a run.
 use mx_run_save::{End, Verdict};
 
 /// How many URLs of a run have ended, how many of these failed, and how many bytes the bodies of the others have.

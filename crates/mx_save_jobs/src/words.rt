@@ -11,7 +11,7 @@ use mx_types::Code;
 use mx_words::Told;
 use std::alloc::{AllocError, Global};
 
-// What is told of a transfer that failed: its code, and what its bytes tell.
+// What is reported of a transfer that failed: its code, and what its bytes show.
 fn told_of(alloc: Global, outcome: &Outcome) -> Told
     ensures code { result.code ≡ outcome.now.code }
     ensures reason { IsWhy outcome.now result.reason }
@@ -22,7 +22,7 @@ fn told_of(alloc: Global, outcome: &Outcome) -> Told
     }
 }
 
-// That in words.
+// The report in words.
 fn told_words(alloc: Global, outcome: &Outcome) -> Result<String, AllocError>
     ensures { IfOk result (λ text. IsToldOf outcome.now (string_bytes text)) }
 {
@@ -31,8 +31,8 @@ fn told_words(alloc: Global, outcome: &Outcome) -> Result<String, AllocError>
 }
 
 // rule save-failures
-/// What is said of a URL whose transfer ended so, and of which nothing is saved: where it failed what its bytes tell, else that its status isn't
-/// one of success.
+/// What is said of a URL whose transfer ended so, and of which nothing is saved: where it failed what its bytes show, else that its status
+/// isn't one of success.
 pub(crate) fn failure_words(alloc: Global, outcome: &Outcome) -> Result<String, AllocError>
     ensures { IfOk result (λ text. IsSaid outcome.now (string_bytes text)) }
 {

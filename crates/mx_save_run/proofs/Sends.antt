@@ -1,5 +1,5 @@
--- A link of a socket gate may go to another thread where threads may share its runtime. `search` doesn't look into it from a call's type, so
--- each step stands here.
+-- A link of a socket gate may go to another thread where threads may share its runtime. `search` doesn't look into it from a call's type,
+-- so each step is here.
 use denote.RattleType.{RattleType}
 use denote.Ref.{NamedLft}
 use denote.Param.Send.{IsSend, IsSync, sendable}

@@ -6,7 +6,7 @@ use Rattle.mx_save_jobs.specs.Books.{HaveEnded}
 use Rattle.mx_save_jobs.specs.Lines.{LinesValue}
 use Rattle.mx_save_jobs.specs.declared.asking.Asking.{Asking}
 
--- The folder and the output are those that the run began with, and what was saved and told since is in them.
+-- The folder and the output are those that the run began with, and what was saved and printed since is in them.
 pub record IsOneRun {W : Type 0} (old_ledger : LedgerValue OutcomeValue) (old_lines : LinesValue W) (ledger : LedgerValue OutcomeValue) (lines : LinesValue W) : Type 0 where
   pub folder : ledger.start ≡ old_ledger.start
   pub flush : ledger.flush ≡ old_ledger.flush
@@ -15,8 +15,8 @@ pub record IsOneRun {W : Type 0} (old_ledger : LedgerValue OutcomeValue) (old_li
 
 -- rule save-each-once: Each URL that was read ends and is reported once; what was reported as saved is whole in its file.
 --
--- Each URL has ended, and was told of once: one that was told as saved has the whole body of a response to the last request of its chain
--- under the name that was told. Where it is known which URLs there were, these are the ones.
+-- Each URL has ended, and was printed once: one that was printed as saved has the whole body of a response to the last request of its chain
+-- under the name that was printed. Where it is known which URLs there were, these are the ones.
 pub record SavesAll (asking : Asking) (given : Option (List (List ℕ))) {W : Type 0} (ledger : LedgerValue OutcomeValue) (lines : LinesValue W) : Type 0 where
   pub urls : List (List ℕ)
   pub all : (every : List (List ℕ)) → given ≡ Some every → every ≡ urls

@@ -1,4 +1,4 @@
-//! The time of one multi handle.
+//! The part of a run at one multi handle.
 ghost use Rattle.std.specs.Prelude.{◌≡◌, ◌+◌, false, All, IfOk, IsOkAnd, Ok, OnOk, vec_len};
 ghost use Rattle.mx_save_jobs.specs.Books.{HasNoneAdded};
 ghost use Rattle.mx_save_work.specs.Works.{IsSameWork};
@@ -121,7 +121,7 @@ fn desk_for<'m, L: Link>(
     Desk::new(alloc, seat, plan.slots(), usize::from(plan.options.at_once))
 }
 
-// Fetches at a multi handle that is open. What is let go where memory is wanting is here, and not where the handle is owned.
+// Fetches at a multi handle that is open. What is dropped where memory is refused is owned here, and not where the handle is.
 fn fetch_with<
     'a,
     L: Link + Send,
@@ -166,8 +166,8 @@ fn fetch_with<
     }
 }
 
-/// Fetches at a new multi handle, with a worker at each gate, which are as many as the plan has workers. It knows nothing of sockets: what it
-/// lets go, in each of its ends, is of any link.
+/// Fetches at a new multi handle, with a worker at each gate, which are as many as the plan has workers. It knows nothing of sockets: what
+/// its exits drop is of any link.
 pub fn run_epoch<
     'a,
     L: Link + Send,

@@ -10,7 +10,7 @@ use mx_run_io::Options;
 /// How the URLs of a run are fetched.
 #[derive(Clone, Copy)]
 pub struct Plan {
-    /// By how many workers, how many at a time, and how. `at_once` says how many transfers run, whatever the workers.
+    /// The workers, how many transfers run at a time (`at_once`, whatever the workers), and the limits of each.
     pub options: Options,
     /// The events that the history of a multi handle has room for: 4 to 1,048,576.
     pub history: u32,
@@ -31,7 +31,7 @@ impl Plan {
         }
     }
 
-    /// For how many URLs that have no end yet a run has places: those of the transfers that run, and those that wait.
+    /// The number of places for URLs without an end: those of running transfers, and those that wait.
     pub fn slots(&self) -> usize
         ensures { result ≡ self.now.options.at_once + MOST_WAITING }
     {

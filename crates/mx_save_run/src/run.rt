@@ -110,7 +110,7 @@ fn run_over_sockets<
     }
 }
 
-/// What a run left: what it saved, what it told of its URLs, who watched it, and why it stopped before all had ended, if it did.
+/// What a run left: what it saved, what it printed of its URLs, who watched it, and why it stopped before all had ended, if it did.
 #[derive(Drop)]
 pub struct Ended<F: Folder, W: Write, V> {
     pub ledger: Ledger<F, WholeBody>,
@@ -120,12 +120,12 @@ pub struct Ended<F: Folder, W: Write, V> {
 }
 
 // rule save-each-once
-/// Has workers over sockets fetch the URLs, saves what is to be saved of each into the ledger's folder, and tells what each ended with. At most
-/// `at_once` transfers run at a time. Where the history of a multi handle is full the run waits until all that were added have ended, and goes
-/// on with a new one. Who watches is told of each end, how the run stands, and where a
-/// connection couldn't be begun since too many files were open. It may wait.
+/// Workers over sockets fetch the URLs. It saves what is to be saved of each into the ledger's folder, and prints what each ended with. At
+/// most `at_once` transfers run at a time. Where the history of a multi handle is full the run waits until all that were added have ended,
+/// and goes on with a new one. Who watches gets each end, the run's standing, and a report where a connection couldn't be begun since too
+/// many files were open. It may wait.
 ///
-/// It stops before all URLs have ended where memory is wanting, where the output can't be written, where the list of URLs can't be read, or
+/// It stops before all URLs have ended where memory is refused, where the output can't be written, where the list of URLs can't be read, or
 /// where the system has no clock, no poll or no thread for it. No clause says that the cause it names is the right one, or which URLs were
 /// read of a list whose bytes std doesn't know.
 pub fn save_all<

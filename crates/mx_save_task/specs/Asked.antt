@@ -11,7 +11,7 @@ use Rattle.mx_save_jobs.specs.declared.asking.Asking.{Asking}
 abbrev pub field_given : Header → Field
 field_given header = record { name = header.name.now; value = header.value.now }
 
--- what is set for each request, with that body
+-- the settings of each request, with that body
 abbrev pub settings_given : Save → Option (List ℕ) → SettingsValue
 settings_given save body = record {
   user_agent = option_map (λ t. t.now) save.user_agent;
@@ -27,7 +27,7 @@ IsBodyOf None body = body ≡ None
 IsBodyOf (Some (Text text)) body = body ≡ Some text.now
 IsBodyOf (Some (File path)) body = (bytes : List ℕ) × (body ≡ Some bytes)
 
--- each request has what is asked for, and so has what is done with what comes of it
+-- each request has what is asked for, and so has what is done with its response
 pub record IsAskedBy (save : Save) (asking : Asking) : Type 0 where
   pub method : asking.method ≡ save.method
   pub body : IsBodyOf save.body asking.settings.body

@@ -9,12 +9,12 @@ use Rattle.mx_save_jobs.specs.Lines.{LinesValue}
 use Rattle.mx_save_jobs.specs.declared.asking.Asking.{Asking}
 use Rattle.mx_save_run.specs.Runs.{SavesAll}
 
--- the URLs of a run, where it is known what its list has: those of the command line, and behind them those of the list
+-- the URLs of a run, where it is known what its list has: those of the command line, and then those of the list
 abbrev pub urls_of : Save → Option (List (List ℕ)) → Option (List (List ℕ))
 urls_of save listed = option_map (λ more. map (λ u. u.now) save.urls.items ++ more) listed
 
 -- rule save-each-once
--- Each URL has ended, and was told of once. What was saved is in the folder, which had one list of steps when the run began, and has
+-- Each URL has ended, and was printed once. What was saved is in the folder, which had one list of steps when the run began, and has
 -- another now: each file was at each moment what it was before or a whole body that was saved, and each body that was saved is there now,
 -- flushed where that was asked for.
 pub record SavesIn (save : Save) (asking : Asking) (given : Option (List (List ℕ))) (old new : List Step) {W : Type 0} (lines : LinesValue W) : Type 0 where

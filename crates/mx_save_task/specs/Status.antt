@@ -11,6 +11,6 @@ stop_number stop.Unwritten = 121
 stop_number stop.Unread = 26
 stop_number _ = 27
 
--- by the codes that were told: the first that isn't 0, in the order of the URLs
+-- by the codes that were printed: the first that isn't 0, in the order of the URLs
 abbrev pub codes_number : List ToldValue → ℕ
 codes_number told = status_of (after_notes None (map note_of told))

@@ -11,7 +11,7 @@ use mx_types::Settings;
 use std::alloc::{AllocError, AllocGlobal, Global};
 use std::rt::Files;
 
-/// Tells on standard error that memory is wanting. The answer is the exit status.
+/// Reports on standard error that memory was refused. The answer is the exit status.
 pub fn tell_out_of_memory(rt: &impl Eprint) -> u8
     ensures { result ≡ OUT_OF_MEMORY }
 {
@@ -40,7 +40,7 @@ fn copy_headers(alloc: Global, headers: &[Header<'_>]) -> Result<Vec<(String, St
     Ok(fields)
 }
 
-// What is set for each request, with that body.
+// The settings of each request, with that body.
 fn settings_of(
     alloc: Global,
     save: &Save<'_>,
@@ -59,7 +59,7 @@ fn settings_of(
     })
 }
 
-// The body of each request, or the exit status where it can't be had, which is told.
+// The body of each request; or the exit status where it can't be read, which is reported.
 fn body_of<R: Files + AllocGlobal + Eprint>(
     rt: &R,
     body: Option<BodySource<'_>>,
@@ -77,7 +77,7 @@ fn body_of<R: Files + AllocGlobal + Eprint>(
     }
 }
 
-/// What is asked of each URL, or the exit status where it can't be had, which is told.
+/// What is asked of each URL; or the exit status where a file of it can't be read, which is reported.
 pub fn asking_of<R: Files + AllocGlobal + Eprint>(rt: &R, save: &Save<'_>) -> Result<Asking, u8>
     ensures asked { IfOk result (IsAskedBy save.now) }
     ensures status { IfErr result (λ status. (status ≡ UNREAD) ⊎ (status ≡ OUT_OF_MEMORY)) }

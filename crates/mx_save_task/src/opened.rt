@@ -13,7 +13,7 @@ use std::fs::File;
 use std::io::Input;
 use std::rt::Files;
 
-/// The list of URLs, if there is one, or the exit status where it can't be opened, which is told.
+/// The list of URLs, if there is one; or the exit status where it can't be opened, which is reported.
 pub fn list_of<R: Files + Input + AllocGlobal + Eprint>(
     rt: &R,
     input: Option<ListSource<'_>>,
@@ -31,7 +31,7 @@ pub fn list_of<R: Files + Input + AllocGlobal + Eprint>(
     Ok(Some(UrlList::new(rt.alloc(), CountedInput::new(reader, u64::MAX))))
 }
 
-/// The folder of the files, which is made where it isn't there, or the exit status where it can't be, which is told.
+/// The folder of the files, which is made where it isn't there; or the exit status where it can't be, which is reported.
 pub fn folder_of<'a, R: Files + AllocGlobal + Eprint>(
     rt: &'a R,
     path: &str,

@@ -24,8 +24,8 @@ use std::io::{BufWriter, Input, IsTerminal, Read, Write};
 use std::net::{Net, TcpListener, TcpStream};
 use std::rt::Files;
 
-/// What a run left: the folder that it saved in, what it told of its URLs, why it stopped before all had ended, if it did, and whether the
-/// folder was flushed, where that was asked for.
+/// What a run left: the folder that it saved in, what it printed of its URLs, why it stopped before all had ended, if it did, and whether
+/// the folder was flushed, where that was asked for.
 #[derive(Drop)]
 pub struct Saved<F: Folder, W: Write> {
     pub folder: F,
@@ -35,8 +35,8 @@ pub struct Saved<F: Folder, W: Write> {
 }
 
 // rule save-each-once
-/// Has the URLs of the command line, and behind them those of a list, fetched and saved in a folder, and tells what each ended with. The files
-/// that hold a part of a body are named for this process. It may wait.
+/// Fetches the URLs of the command line and then those of a list, saves their bodies in a folder, and prints what each ended with. The
+/// files that hold a part of a body are named for this process. It may wait.
 pub fn save_in<
     R: Runtime + Net<Listener = TcpListener, Stream = TcpStream>,
     F: Folder,
@@ -81,7 +81,7 @@ pub fn save_in<
     }
 }
 
-// Tells on standard error why a run stopped, and why its folder wasn't flushed. The answer is the exit status.
+// Reports on standard error why a run stopped, and why its folder wasn't flushed. The answer is the exit status.
 fn end<F: Folder, W: Write>(rt: &impl Eprint, saved: &Saved<F, W>) -> u8
     ensures stopped { IfErr saved.now.stopped (λ stop. result ≡ stop_number stop) }
     ensures failed { OnOk saved.now.stopped (codes_number saved.now.lines.told ≢ 0 → result ≡ codes_number saved.now.lines.told) }
@@ -97,7 +97,7 @@ fn end<F: Folder, W: Write>(rt: &impl Eprint, saved: &Saved<F, W>) -> u8
     status_of(saved.lines.status(), saved.stopped, saved.flushed)
 }
 
-// Saves in a folder, and tells on standard output. The answer is the exit status.
+// Saves in a folder, and prints to standard output. The answer is the exit status.
 fn save_aloud<
     R: Runtime + Net<Listener = TcpListener, Stream = TcpStream> + Print + Eprint,
     F: Folder,
@@ -126,10 +126,10 @@ fn save_aloud<
     }
 }
 
-/// Saves what is asked for: its URLs are fetched, the bodies saved in its folder, and each URL told of on standard output as it ends. Why the
-/// run can't begin, or stopped, is told on standard error, and which URLs failed on `stderr`, where it is also shown how the run stands, if that
-/// is asked for, or if it is a terminal and that isn't forbidden. The answer is the exit status. The files that hold a part of a body are named for
-/// this process. It may wait.
+/// Saves what is asked for: its URLs are fetched, the bodies saved in its folder, and each URL printed on standard output as it ends. Why
+/// the run can't begin, or stopped, is reported on standard error, and which URLs failed on `stderr`, where the run's standing is also
+/// shown if that is asked for, or if it is a terminal and that isn't forbidden. The answer is the exit status. The files that hold a part
+/// of a body are named for this process. It may wait.
 ///
 /// It has no `ensures`: [`save_in`] has the promise, and the exit status and what is printed on standard error are left to tests.
 pub fn run_save<

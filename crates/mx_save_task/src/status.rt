@@ -12,7 +12,7 @@ pub const UNMADE: u8 = 23;
 /// The exit status where the list of URLs, or the file of the body, can't be read.
 pub const UNREAD: u8 = 26;
 
-/// The exit status where memory, a thread, a poll or a clock isn't had, or a transfer is refused.
+/// The exit status where memory, a thread, a poll, a clock or a transfer is refused.
 pub const OUT_OF_MEMORY: u8 = 27;
 
 /// The exit status of a run that stopped.
@@ -26,8 +26,8 @@ pub fn stop_status(stop: Stop) -> u8
     }
 }
 
-/// The exit status of a run, by that of the codes that were told, by why it stopped before all URLs had ended, if it did, and by whether the
-/// folder was flushed.
+/// The exit status of a run, by that of the codes that were printed, by why it stopped before all URLs had ended, if it did, and by whether
+/// the folder was flushed.
 pub fn status_of(codes: u8, stopped: Result<(), Stop>, flushed: Result<(), FolderError>) -> u8
     ensures stopped { IfErr stopped (λ stop. result ≡ stop_number stop) }
     ensures failed { OnOk stopped (codes ≢ 0 → result ≡ codes) }

@@ -1,4 +1,4 @@
-//! What is said of a run on standard error: which URLs failed, and how it stands.
+//! What is written of a run on standard error: which URLs failed, and its standing.
 use mx_run_io::Output;
 use mx_run_save::{End, SaveCode};
 use mx_save_urls::{Standing, Watch};
@@ -6,11 +6,11 @@ use mx_words::{print_failure, print_file_limit, print_words};
 use std::alloc::{AllocError, Global};
 use std::io::Write;
 
-/// How many milliseconds lie between two moments at which it is shown how a run stands.
+/// How many milliseconds are between two displays of a run's standing.
 const PERIOD_MS: u32 = 250;
 
-/// Standard error, or what stands for it. Each URL that failed has a line there; and, where that is to be shown, a line that is taken off
-/// again tells how the run stands. Where memory isn't had, that is left out; a write that fails isn't told.
+/// Standard error, or what stands for it. Each URL that failed has a line there; and, if asked for, a line that is removed again shows how
+/// far the run is. Where memory is refused, that line is left out; a write that fails is ignored.
 #[derive(Drop)]
 pub struct Terminal<E: Write> {
     alloc: Global,
@@ -31,7 +31,7 @@ fn in_unit(bytes: u64) -> (u64, &'static str) {
     }
 }
 
-// How many URLs are left, and how many seconds they take, where that can be told.
+// How many URLs are left, and how many seconds they take, where that is known.
 fn left_of(standing: &Standing) -> Option<(u64, u64)> {
     let left = standing.known?.saturating_sub(standing.tally.ended);
     let seconds = left
@@ -40,7 +40,7 @@ fn left_of(standing: &Standing) -> Option<(u64, u64)> {
     Some((left, seconds))
 }
 
-// How a run stands, in a line.
+// The standing of a run, as a line.
 fn text_of(alloc: Global, standing: &Standing) -> Result<String, AllocError> {
     let Standing {
         moment,
@@ -64,7 +64,7 @@ fn text_of(alloc: Global, standing: &Standing) -> Result<String, AllocError> {
 }
 
 impl<E: Write> Terminal<E> {
-    /// Nothing was said yet. `shows` tells whether it is shown how the run stands.
+    /// Nothing was written yet. `shows` says whether it is shown how far the run is.
     pub fn new(alloc: Global, output: Output<E>, shows: bool) -> Terminal<E> {
         Terminal {
             alloc,
@@ -75,7 +75,7 @@ impl<E: Write> Terminal<E> {
         }
     }
 
-    // Tells of a URL that failed with that code, and flushes.
+    // Reports a URL that failed with that code, and flushes.
     fn tell(&mut self, url: &[u8], words: &str, code: SaveCode) {
         let _ = match code {
             SaveCode::Transfer(code) => print_failure(&mut self.output, url, words, code),

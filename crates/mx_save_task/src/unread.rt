@@ -7,7 +7,7 @@ use std::io::ErrorKind;
 use std::rt::Files;
 use std::{fs, io};
 
-/// Tells on standard error that a file can't be read, and why. The answer is the exit status.
+/// Reports on standard error that a file can't be read, and why. The answer is the exit status.
 pub fn tell_unread(rt: &impl Eprint, path: &str, error: io::Error) -> u8
     ensures { (result ≡ UNREAD) ⊎ (result ≡ OUT_OF_MEMORY) }
 {
@@ -19,7 +19,7 @@ pub fn tell_unread(rt: &impl Eprint, path: &str, error: io::Error) -> u8
     }
 }
 
-/// The bytes of a file, or the exit status where they can't be had, which is told.
+/// The bytes of a file; or the exit status where they can't be read, which is reported.
 pub fn read_file<R: Files + AllocGlobal + Eprint>(rt: &R, path: &str) -> Result<Vec<u8>, u8>
     ensures { IfErr result (λ status. (status ≡ UNREAD) ⊎ (status ≡ OUT_OF_MEMORY)) }
 {

@@ -32,7 +32,7 @@ pub fn name_of(alloc: Global, url: &str) -> Result<FileName, OutOfMemory> {
     file_name(alloc, url.as_bytes(), 0)
 }
 
-/// Whether these are the same bytes. A loop of one's own is proved in a fraction of the time that `==` takes for slices.
+/// Whether these are the same bytes. This loop is proved in a fraction of the time that `==` takes for slices.
 pub fn is_same(bytes: &[u8], wanted: &[u8]) -> bool {
     if bytes.len() != wanted.len() {
         return false;

@@ -1,5 +1,5 @@
-//! Tests of the names of files, of saving over a folder in memory and over one of the system, and of `save` over loopback. There is nothing in
-//! this crate but tests.
+//! Tests of the names of files, of saving over a folder in memory and over one of the system, and of `save` over loopback. There is nothing
+//! in this crate but tests.
 #![tactic(auto)]
 
 #[cfg(test)]

@@ -164,7 +164,7 @@ fn wrong_of_faults(alloc: Global) -> Result<Option<&'static str>, OutOfMemory> {
     Ok(None)
 }
 
-// A run of two saves whose call of this number fails: whether each is told as saved, and whether the folder is flushed.
+// A run of two saves whose call of this number fails: whether each is reported as saved, and whether the folder is flushed.
 struct Two {
     name: &'static str,
     call: u64,
@@ -235,7 +235,7 @@ static RUNS_OF_TWO: [Two; 12] = [
     },
 ];
 
-// Whether the folder has what was told, no more and no less.
+// Whether the folder has what was reported, no more and no less.
 fn has_told(
     alloc: Global,
     folder: &MemoryFolder,
@@ -252,7 +252,7 @@ fn has_told(
     )
 }
 
-// Whether such a run tells what its row says, and leaves that.
+// Whether such a run reports what its row says, and leaves that.
 fn is_told(
     alloc: Global,
     first: &FileName,
@@ -271,7 +271,7 @@ fn is_told(
     Ok(left? && (one, two, flushed.is_ok()) == row.told)
 }
 
-// The first of these runs that tells something else.
+// The first of these runs that reports something else.
 fn wrong_of_two(alloc: Global) -> Result<Option<&'static str>, OutOfMemory> {
     let first = name_of(alloc, "http://h/x")?;
     let second = name_of(alloc, "http://h/y")?;
@@ -370,7 +370,7 @@ fn is_saved(alloc: Global, folder: &MemoryFolder) -> Result<bool, OutOfMemory> {
     }
 }
 
-// A save, and where it was refused, for want of memory, the same one again: whether the first and the last went well, and the folder.
+// A save, and where it was refused memory the same one again: whether the first and the last went well, and the folder.
 fn save_twice(alloc: Global, name: &FileName) -> (bool, bool, MemoryFolder) {
     let folder = MemoryFolder::new(alloc, 4, u64::MAX, FolderError::Full);
     let mut ledger = Ledger::new(alloc, 42, folder, true);
@@ -382,7 +382,7 @@ fn save_twice(alloc: Global, name: &FileName) -> (bool, bool, MemoryFolder) {
     (first.is_ok(), last.is_ok(), ledger.finish().0)
 }
 
-// Whether the body is there then. The want of memory is told after that.
+// Whether the body is there then. After that `OutOfMemory` is returned.
 fn is_saved_at_last(alloc: Global) -> Result<bool, OutOfMemory> {
     let name = name_of(alloc, "http://h/x")?;
     let (first, last, folder) = save_twice(alloc, &name);

@@ -54,7 +54,7 @@ static OF_URLS: [(&str, &str, &str); 34] = [
     ("h/x", "", "index.html"),
 ];
 
-// The name that a URL gives. Where memory is refused, a further call gives it, and then that is told.
+// The name that a URL gives. Where memory is refused, a further call gives it, and then `OutOfMemory` is returned.
 fn is_given(alloc: Global, url: &str, wanted: &str) -> Result<bool, OutOfMemory> {
     match file_name(alloc, url.as_bytes(), 0) {
         Ok(name) => Ok(is_same(name.as_str().as_bytes(), wanted.as_bytes())),
@@ -79,7 +79,7 @@ fn wrong_of_urls(alloc: Global) -> Result<Option<&'static str>, OutOfMemory> {
 }
 
 // rule file-numbered-name
-// The URLs of a run in their order, and their names: whether what came of them was saved has no part in it.
+// The URLs of a run in their order, and their names: these don't depend on whether a URL was saved.
 static OF_A_RUN: [(&str, &str); 10] = [
     ("http://h/a/x", "x"),
     ("http://h/b/x", "x#1"),
@@ -93,7 +93,7 @@ static OF_A_RUN: [(&str, &str); 10] = [
     ("http://h/X", "X"),
 ];
 
-// The next name of a run; where memory is refused, a further call gives it, and then that is told.
+// The next name of a run; where memory is refused, a further call gives it, and then `OutOfMemory` is returned.
 fn next_name(
     alloc: Global,
     names: &mut Names,
@@ -123,7 +123,7 @@ fn wrong_of_a_run(alloc: Global) -> Result<Option<&'static str>, OutOfMemory> {
 }
 
 // rule file-name-size
-// What stands behind the name of a segment of so many letters, and how long the name is, by the number that it is given.
+// What follows the name of a segment of so many letters, and the length of the name, by the number that it is given.
 static LONG: [(&str, u32, u64, usize); 2] = [
     ("300 letters, no number", 300, 0, 234),
     ("300 letters, the greatest number", 300, u64::MAX, 255),

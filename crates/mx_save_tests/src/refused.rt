@@ -20,7 +20,7 @@ fn was_printed(printed: &[u8], line: &[u8]) -> bool {
     false
 }
 
-// Whether a URL was told as saved.
+// Whether a URL was printed as saved.
 fn was_saved(alloc: Global, port: u16, printed: &[u8], name: &str) -> Result<bool, AllocError> {
     let line = format!(in alloc; "saved 0 200 3 {name} http://127.0.0.1:{port}/{name}\n")?;
     Ok(was_printed(printed, line.as_bytes()))
@@ -44,8 +44,8 @@ fn bodies_in(held: &[u8]) -> Option<(bool, bool)> {
     None
 }
 
-// Whether a run of two URLs leaves whole bodies alone, and one for each URL that it tells as saved. Where it doesn't save both it has wanted
-// memory.
+// Whether a run of two URLs leaves only whole bodies, and one for each URL that it prints as saved. Where it doesn't save both, it was
+// refused memory.
 fn is_right<R: Runtime + Net<Listener = TcpListener, Stream = TcpStream>>(
     rt: &R,
 ) -> Result<bool, Fail> {
@@ -70,8 +70,8 @@ fn is_right<R: Runtime + Net<Listener = TcpListener, Stream = TcpStream>>(
 }
 
 // rule save-bodies
-/// Two bodies are saved. Where a growth is refused, the folder holds the whole bodies of those URLs that were told as saved, and nothing that
-/// isn't whole.
+/// Two bodies are saved. Where a growth is refused, the folder holds the whole bodies of those URLs that were printed as saved, and nothing
+/// that isn't whole.
 #[test]
 fn what_is_told_is_there(rt: HostRuntime) -> Result<(), Fail> {
     assert!(rt; is_right(&rt)?);

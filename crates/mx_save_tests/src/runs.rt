@@ -1,4 +1,4 @@
-//! Runs of `save` over loopback: what each leaves in a folder in memory, and what it tells.
+//! Runs of `save` over loopback: what each leaves in a folder in memory, and what it prints.
 
 use crate::bodies::is_same;
 use crate::server::Server;
@@ -16,7 +16,7 @@ use std::net::{Net, TcpListener, TcpStream};
 use std::test::Fail;
 
 /// What a run left: what was printed, the exit status by its codes, whether it came to its end and the folder was flushed, the bytes under
-/// each name that was looked for, with a stroke behind them, and how many requests the server answered.
+/// each name that was looked for, with a stroke after them, and how many requests the server answered.
 #[derive(Drop)]
 pub(crate) struct Ran {
     pub printed: Vec<u8>,
@@ -34,7 +34,7 @@ struct Row {
     history: u32,
     // The call of the folder that fails.
     fails_at: u64,
-    // The names that are looked for, and the bytes under them, with a stroke behind each.
+    // The names that are looked for, and the bytes under them, with a stroke after each.
     names: &'static [&'static str],
     held: &'static [u8],
     printed: &'static str,
@@ -92,7 +92,7 @@ static ROWS: [Row; 15] = [
         ..BOTH
     },
     // rule save-long-runs
-    // There is room for one URL at a multi handle: five of them take five, one after another, at the same gates.
+    // A multi handle has room for one URL: five URLs take five, one after another, at the same gates.
     Row {
         name: "the least history",
         list: "@a\n@b\n@c\n@d\n@e",

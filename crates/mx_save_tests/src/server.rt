@@ -10,7 +10,7 @@ use std::thread::{JoinHandle, Threads};
 /// The most bytes of a request that are read.
 const MOST: u32 = 1000;
 
-// The byte behind `GET /` of the request on a connection; None where there is none.
+// The byte after `GET /` of the request on a connection; None where there is none.
 fn path_of(stream: &mut TcpStream) -> Option<u8> {
     let mut path = b' ';
     let mut last = [0; 4];
@@ -30,7 +30,7 @@ fn path_of(stream: &mut TcpStream) -> Option<u8> {
     None
 }
 
-// What is answered to a path that begins with this byte: nothing is there, or the byte, three times.
+// The answer to a path that begins with this byte: not found, or the byte three times.
 fn answer(stream: &mut TcpStream, path: u8) -> bool {
     let head: &[u8] = if path == b'n' {
         b"HTTP/1.1 404 Not Found\r\nContent-Length: 3\r\nConnection: close\r\n\r\n"
@@ -54,7 +54,7 @@ fn serve(listener: &TcpListener, connections: u32) -> u32 {
     served
 }
 
-/// A server that runs.
+/// A running server.
 #[derive(Drop)]
 pub struct Server {
     pub address: SocketAddr,

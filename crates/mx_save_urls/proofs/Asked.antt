@@ -38,7 +38,7 @@ module _ {X : Type 0} where
   there (y ∷ ys) zero x v is = refl
   there (y ∷ ys) (suc i) x v is = there ys i x v is
 
--- the URL that stands in a slot
+-- the URL that is in a slot
 job_there : (slots : List Slot) (i : ℕ) (s : Slot) → slice_get slots i ≡ Some s → job_at slots i ≡ job_of s
 job_there [] i s is = absurd (cc)
 job_there (t ∷ ts) zero s is = let same : t ≡ s = cc in ap job_of same

@@ -16,14 +16,14 @@ use std::alloc::AllocGlobal;
 use std::io::{Read, Write};
 use std::sync::Wait;
 
-/// What came of an attempt to begin a transfer.
+/// The result of an attempt to begin a transfer.
 #[derive(Clone, Copy)]
 pub enum Begun {
     /// One is added.
     Added,
-    /// None is, since the URL that was read is refused or skipped, or since all were read.
+    /// None is: the URL that was read is refused or skipped, or all were read.
     Read,
-    /// None is, and none can be now.
+    /// None is, and none can be added now.
     Nothing,
 }
 
@@ -65,7 +65,7 @@ fn add<'a, L: Link, F: Folder, W: Write, Rd: Read + Drop, R: Wait + AllocGlobal>
     }
 }
 
-// Reads a URL, and adds its transfer, if it is to be asked for.
+// Reads a URL, and adds its transfer, if it is to be fetched.
 fn read<'a, L: Link, F: Folder, W: Write, Rd: Read + Drop, R: Wait + AllocGlobal, V: Watch>(
     rt: &R,
     desk: &mut Desk<'_, L>,
@@ -93,7 +93,7 @@ fn read<'a, L: Link, F: Folder, W: Write, Rd: Read + Drop, R: Wait + AllocGlobal
     add(rt, desk, work, at, request, now)
 }
 
-/// Begins a transfer, if there is room for one: of a URL that has waited long enough, else of the next one that is read.
+/// Begins a transfer, if there is room for one: that of a URL that has waited long enough, else of the next one that is read.
 pub fn begin<'a, L: Link, F: Folder, W: Write, Rd: Read + Drop, R: Wait + AllocGlobal, V: Watch>(
     rt: &R,
     desk: &mut Desk<'_, L>,

@@ -3,14 +3,14 @@ use mx_save_jobs::Stop;
 use std::rt::Clock;
 use std::time::Instant;
 
-/// What tells the moments of a run: milliseconds since it began.
+/// The clock of a run: milliseconds since it began.
 #[derive(Clone, Copy, Drop)]
 pub struct Timer {
     start: Instant,
 }
 
 impl Timer {
-    /// Of a run that began then.
+    /// The clock of a run that began then.
     pub fn new(start: Instant) -> Timer {
         Timer { start }
     }

@@ -19,7 +19,7 @@ use std::io::{Read, Write};
 use std::rt::Clock;
 use std::sync::Wait;
 
-/// How long a run waits for a message at most, in milliseconds, before it looks again.
+/// The longest that a run waits for a message, in milliseconds, before it looks again.
 const LONGEST_WAIT_MS: u32 = 60_000;
 
 /// How a run left its desk: nothing is added there.
@@ -31,14 +31,14 @@ pub enum Turned {
     HistoryFull,
 }
 
-// What was seen of a run: how many URLs had ended, and when it is shown next how it stands.
+// What was seen of a run: how many URLs had ended, and when its standing is shown next.
 #[derive(Clone, Copy)]
 struct Seen {
     ended: u64,
     next: u64,
 }
 
-// Says what a URL ended with that has ended since, and shows how the run stands, where it is time.
+// Reports the end of a URL that has ended since, and shows the run's standing, where it is time.
 fn look<'a, L: Link, F: Folder, W: Write, Rd: Read + Drop, V: Watch>(
     desk: &mut Desk<'_, L>,
     work: &Work<'a, F, W, Rd>,
@@ -87,7 +87,7 @@ fn wait_ms(period: Option<u32>, may_add: bool, next: Option<u64>, now: u64) -> u
 }
 
 // rule save-requests
-// Ends the URL whose transfer has ended, or has it wait, where it is to be tried again.
+// Ends the URL whose transfer has ended, or lets it wait, where it is to be tried again.
 fn close<'a, F: Folder, W: Write, Rd: Read + Drop, R: Clock>(
     rt: &R,
     work: &mut Work<'a, F, W, Rd>,
@@ -144,7 +144,7 @@ fn await_one<
     }
 }
 
-// How the run leaves its desk, if it does.
+// Why the run leaves its desk, if it does.
 fn how_turned<'a, L: Link, F: Folder, W: Write, Rd: Read + Drop>(
     desk: &Desk<'_, L>,
     work: &Work<'a, F, W, Rd>,
@@ -163,7 +163,8 @@ fn how_turned<'a, L: Link, F: Folder, W: Write, Rd: Read + Drop>(
     None
 }
 
-// Begins transfers and waits for their ends, until nothing is left to do at the desk. The workers are woken once as many are added as can be.
+// Begins transfers and waits for their ends, until nothing is left to do at the desk. The workers are woken once as many are added as can
+// be.
 fn take_turns<
     'a,
     L: Link,
@@ -214,8 +215,8 @@ fn take_turns<
     unreachable!()
 }
 
-/// Fetches the URLs of a run at a desk, where nothing is added yet, with the workers of a crew. It goes on until all have ended, or the history
-/// of the multi handle is full. Who watches is told of each end, and how the run stands. It may wait.
+/// Fetches the URLs of a run at a desk, where nothing is added yet, with the workers of a crew. It goes on until all have ended, or the
+/// history of the multi handle is full. Who watches gets each end, and the run's standing. It may wait.
 ///
 /// No clause says how long it waits, that it wakes the workers, or in which order it begins transfers and ends URLs.
 pub fn fetch<

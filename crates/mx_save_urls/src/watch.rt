@@ -2,7 +2,7 @@
 use mx_run_save::End;
 use mx_save_jobs::Tally;
 
-/// How a run stands.
+/// The standing of a run.
 #[derive(Clone, Copy)]
 pub struct Standing {
     /// How long it runs, in milliseconds.
@@ -13,7 +13,7 @@ pub struct Standing {
     pub known: Option<u64>,
     /// How many transfers run.
     pub running: usize,
-    /// How many bytes have come of these.
+    /// How many bytes these have received.
     pub arrived: u64,
 }
 
@@ -37,12 +37,12 @@ impl Watch for Nobody {
     fn meet_file_limit(&mut self) {}
 }
 
-/// Who watches a run: who shows how it stands, and says of a URL what it ended with.
+/// Who watches a run, shows its standing, and reports the end of each URL.
 pub trait Watch {
-    /// How many milliseconds lie between two moments at which it is shown how the run stands, at least 1; None where that isn't shown.
+    /// How many milliseconds are between two displays of the run's standing, at least 1; None where that isn't shown.
     fn period(&self) -> Option<u32>;
 
-    /// Shows how the run stands.
+    /// Shows the run's standing.
     fn show(&mut self, standing: &Standing);
 
     /// Takes off what is shown, before something else is printed.
@@ -51,9 +51,9 @@ pub trait Watch {
     /// Shows what was shown before it was taken off.
     fn show_again(&mut self);
 
-    /// Says of a URL what it ended with, where that is to be said.
+    /// Reports the end of a URL, where that is to be reported.
     fn say(&mut self, end: &End);
 
-    /// Says that a connection couldn't be begun since too many files were open, where that is to be said.
+    /// Reports that a connection couldn't be begun since too many files were open, where that is to be reported.
     fn meet_file_limit(&mut self);
 }

@@ -37,7 +37,7 @@ fed_more given urls more left now is_read bytes x fed gives grown all is =
       λ e. let none : bytes x ∷ g.0 ≡ [] = sym g.2 ∙ f.3 e in absurd (cc),
     )
 
--- what was put into a slot that is there stands in it
+-- what was put into a slot that is there is in it
 there : (slots : List Slot) (i : ℕ) (old v : Slot) → slice_get slots i ≡ Some old → job_at (slice_set slots i v) i ≡ job_of v
 there [] i old v is = absurd (cc)
 there (s ∷ ss) zero old v is = refl
@@ -71,7 +71,7 @@ adds_then a b c h k j job ticket is = h j job ticket (k j job ticket is)
 pub adds_standing : (old new : List Slot) (at : ℕ) (text : List ℕ) → StandsAt old new at text → AddsNone old new
 adds_standing old new at text s = subst (AddsNone old) (sym s.is) (adds_none old at (slot.Waiting s.job) refl)
 
--- a URL that stands in a slot since has its request
+-- a URL that is in a slot since has its request
 pub stands_for : (asking : Asking) (old new : List Slot) (at : ℕ) (text : List ℕ) (request : RequestValue) → slice_get old at ≡ Some slot.Free → StandsAt old new at text
     → Asks asking text request → IsJobFor asking new at request
 stands_for asking old new at text request free s asked = record {

@@ -2,7 +2,7 @@
 use Rattle.std.specs.Prelude.{ℕ, List}
 use Rattle.mx_url_list.specs.Entries.{Told, url, not_text, too_long}
 
--- the bytes of an entry, which stand for its URL
+-- the bytes of an entry: the text of its URL
 abbrev pub bytes_of : Told → List ℕ
 bytes_of (url text) = text
 bytes_of (not_text bytes) = bytes

@@ -1,4 +1,4 @@
-//! The URLs of a run: those of the command line, and behind them those of a list.
+//! The URLs of a run: those of the command line, and then those of a list.
 ghost use Rattle.std.specs.Prelude.{◌≡◌, ◌≤◌, length};
 ghost use Rattle.mx_url_list.specs.Entries.{told};
 ghost use Rattle.mx_save_work.specs.Texts.{bytes_of};
@@ -53,7 +53,7 @@ impl<'a, R: Read + Drop> Feed<'a, R> {
         }
     }
 
-    /// How many URLs are left, where that is known: of a list it isn't.
+    /// How many URLs are left, where that is known: with a list it isn't.
     pub fn rest(&self) -> Option<u64> {
         match self.list {
             Some(_) => None,
@@ -79,7 +79,7 @@ impl<'a, R: Read + Drop> Feed<'a, R> {
 
     /// The next URL, or None where all were read.
     ///
-    /// An error is that the list couldn't be read, or the want of memory: the same URLs are left.
+    /// An error says that the list couldn't be read, or that memory was refused: the same URLs are left.
     pub fn next(&mut self) -> Result<Option<Vec<u8>>, Stop>
         ensures next { IfOk result (λ said. Gives (left R.remaining self.old) said (λ v. v.items) (left R.remaining self.new)) }
         ensures kept { OnErr result (Keeps (left R.remaining self.old) (left R.remaining self.new)) }

@@ -21,8 +21,8 @@ use std::marker::Model;
 use std::snapshot::Snapshot;
 
 /// The work of a run: the URLs that are to be read, those that were read, and which of these wait to be tried again, by their slots and the
-/// moments until which they wait. Contracts see the book of the URLs, which were there at first and which are left, where that is known, and
-/// whether all were read.
+/// moments until which they wait. Contracts see the book of the URLs, which URLs there were at first and which are left, where that is
+/// known, and whether all were read.
 #[derive(Drop)]
 pub struct Work<'a, F: Folder, W: Write, R: Read + Drop> {
     book: Book<F, W>,
@@ -64,7 +64,7 @@ impl<'a, F: Folder, W: Write, R: Read + Drop> Work<'a, F, W, R> {
         !self.is_read && !self.waiting.is_full()
     }
 
-    /// Reads a URL, which stands in this slot then, which is free, if it is to be asked for: then its request comes back.
+    /// Reads a URL. If it is to be fetched, it goes into this slot, which is free, and its request comes back.
     pub fn read(&mut self, at: usize) -> Result<Option<Request>, Stop>
         requires going { self.old.book.is_stopped ≡ false }
         requires free { slice_get self.old.book.slots at ≡ Some slot.Free }
@@ -129,7 +129,7 @@ impl<'a, F: Folder, W: Write, R: Read + Drop> Work<'a, F, W, R> {
         self.book.close(at, outcome)
     }
 
-    /// The slot of a URL that waited until now at most, and its request.
+    /// The slot of a URL whose wait is over, and its request.
     pub fn again(&mut self, now: u64) -> Result<Option<(usize, Request)>, Stop>
         ensures asked { IfOk result (λ due. IfSome due (λ d. IsJobFor self.new.book.asking self.new.book.slots d.0 d.1 × IsRequest d.1)) }
         ensures book { self.new.book ≡ self.old.book }
@@ -146,7 +146,7 @@ impl<'a, F: Folder, W: Write, R: Read + Drop> Work<'a, F, W, R> {
         }
     }
 
-    /// Has the URL in this slot wait until that moment.
+    /// Notes that the URL in this slot waits until that moment.
     pub fn wait(&mut self, at: usize, moment: u64) -> Result<(), Stop>
         ensures book { self.new.book ≡ self.old.book }
         ensures run { IsSameWork self.old self.new }
@@ -166,7 +166,7 @@ impl<'a, F: Folder, W: Write, R: Read + Drop> Work<'a, F, W, R> {
         self.waiting.next()
     }
 
-    /// How many URLs there are, where that is known: a list tells it at its end.
+    /// How many URLs there are, where that is known: with a list, at its end.
     pub fn known(&self) -> Option<u64> {
         match self.feed.rest() {
             Some(rest) => Some(self.book.read().saturating_add(rest)),
@@ -175,12 +175,12 @@ impl<'a, F: Folder, W: Write, R: Read + Drop> Work<'a, F, W, R> {
         }
     }
 
-    /// How far the run is.
+    /// The progress of the run.
     pub fn tally(&self) -> Tally {
         self.book.tally()
     }
 
-    /// What was told last, if anything was.
+    /// What was printed last, if anything was.
     pub fn last(&self) -> Option<&End> {
         self.book.last()
     }

@@ -24,7 +24,7 @@ not_false false e = refl
 not_lf : (b : ℕ) → b ≢ 10 → (b == 10) ≡ false
 not_lf b other = elim (eqb_tells b 10) as (λ _. (b == 10) ≡ false) [ inl t ↦ absurd (other t.1) | inr f ↦ f.0 ]
 
--- the first line of a text, and the lines behind it
+-- the first line of a text, and the lines after it
 record Cut (bytes : List ℕ) : Type 0 where
   first : List ℕ
   more : List (List ℕ)

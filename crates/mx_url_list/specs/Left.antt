@@ -8,7 +8,7 @@ use Rattle.mx_url_list.specs.declared.list.Turn.{Turn}
 use Rattle.mx_url_list.specs.declared.list.Turn.TheVariants as turn
 use Rattle.mx_url_list.specs.Entries.{Told, told, told_if, entries_from}
 
--- the entries of the line that is open, and of the bytes behind it
+-- the entries of the line that is open, and of the bytes after it
 abbrev pub entries_after : OpenLine → List ℕ → List Told
 entries_after line rest = entries_from line.is_first (line.bytes.items ++ rest)
 

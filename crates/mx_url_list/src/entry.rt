@@ -16,7 +16,7 @@ pub enum Entry {
     Url(String),
     /// Bytes that aren't UTF-8, so they are no URL.
     NotText(Vec<u8>),
-    // An entry of its own: a URL that is left out silently would be worse.
+    // It is an entry, so that no URL is left out silently.
     /// The front of a line of more than [`MOST_LINE`] bytes: its first `MOST_LINE + 1` bytes.
     TooLong(Vec<u8>),
 }

@@ -31,7 +31,7 @@ impl OpenLine {
 
     /// Ends the line: the answer is what it said, if anything, and the next one is open.
     ///
-    /// An error is the want of memory, and leaves the line open.
+    /// An error says that memory was refused, and leaves the line open.
     pub(crate) fn end(&mut self, alloc: Global) -> Result<Option<Entry>, AllocError>
         ensures next { IfOk result (λ said. (rest : List ℕ) → entries_after self.old (10 ∷ rest) ≡ then said (entries_after self.new rest)) }
         ensures last { IfOk result (λ said. entries_after self.old [] ≡ then said []) }
@@ -58,7 +58,7 @@ impl OpenLine {
 
     /// Takes in a byte: the answer is what the line said that it ended, if anything.
     ///
-    /// An error is the want of memory, and the byte isn't taken in.
+    /// An error says that memory was refused, and the byte isn't taken in.
     pub(crate) fn take(&mut self, alloc: Global, byte: u8) -> Result<Option<Entry>, AllocError>
         ensures taken { IfOk result (λ said. (rest : List ℕ) → entries_after self.old (byte ∷ rest) ≡ then said (entries_after self.new rest)) }
         ensures kept { OnErr result ((rest : List ℕ) → entries_after self.new rest ≡ entries_after self.old rest) }

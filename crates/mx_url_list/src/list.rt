@@ -13,12 +13,12 @@ const READ_SIZE: usize = 4096;
 /// The most reads that are made for an entry.
 const MOST_READS: u64 = 4_294_967_295;
 
-/// Why the next entry of a list isn't had.
+/// Why the next entry of a list can't be read.
 #[derive(Clone, Copy)]
 pub enum ListError {
     /// A read failed, and each further one will; or so many as are allowed were made.
     Unread,
-    /// There was no memory for the line or the entry. The next call begins where this one stopped.
+    /// Memory for the line or the entry was refused. The next call begins where this one stopped.
     OutOfMemory,
 }
 
@@ -37,7 +37,7 @@ impl From<ReadFailed> for ListError {
 /// How a list goes on after a read.
 #[derive(Drop)]
 enum Turn {
-    /// What was read says nothing yet.
+    /// What was read has no entry yet.
     More,
     /// The next entry, if there is one.
     Next(Option<Entry>),
@@ -132,8 +132,8 @@ impl<R: Read + Drop> UrlList<R> {
     /// The next entry, or `None` where the list is at its end: then each further call reads once more, since a terminal may go on.
     ///
     /// An error leaves the entries that are left as they were: `Unread` where a read failed, and then each further call answers so once
-    /// what was read before is used up, or where 4,294,967,295 reads ended no line that says something; `OutOfMemory` where there was no
-    /// memory for the line or the entry, and the next call goes on where this one stopped.
+    /// what was read before is used up, or where 4,294,967,295 reads ended no line that says something; `OutOfMemory` where memory for the
+    /// line or the entry was refused, and the next call goes on where this one stopped.
     pub fn next(&mut self) -> Result<Option<Entry>, ListError>
         ensures next { IfOk result (λ said. GivesNext (entries_left R.remaining self.old) said (entries_left R.remaining self.new)) }
         ensures kept { OnErr result (KeepsEntries (entries_left R.remaining self.old) (entries_left R.remaining self.new)) }

@@ -18,7 +18,7 @@ words_printed (Ok x) (Some text) old a b new front back first second third =
 words_printed (Ok x) None old a b new front back first second third = tt
 words_printed (Err e) words old a b new front back first second third = tt
 
--- a line is printed, and behind it the hint that is due
+-- a line is printed, and then the hint that is due
 pub hint_printed : {A E : Type 0} (r : Result A E) (old mid new : Option (List ℕ)) (line : List ℕ) (hint due : Option Hint) → hint ≡ due
     → Appends old mid line → OnOk r (Appends mid new (hint_line hint)) → OnOk r (Appends old new (line ++ hint_line due))
 hint_printed (Ok a) old mid new line hint due is first more =

@@ -1,4 +1,4 @@
--- What is said to the mistakes that everybody makes first.
+-- Hints for common first mistakes.
 use Rattle.std.specs.Prelude.{◌≡◌, ℕ, ◌≤◌, Bool, true, false, List, length, take, map, codes, Option, Some, None}
 use Rattle.std.specs.Char.{to_ascii_lowercase}
 use Rattle.mx_types.specs.declared.code.Code.{Code}
@@ -29,8 +29,8 @@ BeginsInAnyCase front url =
 
 -- rule program-url-hint: A URL without `http:` gets a hint with a code of a refused URL, and with no other.
 --
--- What is said to a URL that failed with that code: that there is no TLS, if it begins with https; that it wants a scheme, if it begins
--- with neither that nor http. Nothing is said to another, nor with a code that may have other reasons.
+-- The hint for a URL that failed with that code: that there is no TLS, if it begins with https; that it needs a scheme, if it begins with
+-- neither that nor http. There is none for another, nor with a code that may have other reasons.
 pub record IsUrlHint (url : List ℕ) (c : Code) (hint : Option Hint) : Type 0 where
   pub elsewhere : is_url_code c ≡ false → hint ≡ None
   pub https : is_url_code c ≡ true → BeginsInAnyCase (codes "https:") url → hint ≡ Some Https
@@ -38,14 +38,14 @@ pub record IsUrlHint (url : List ℕ) (c : Code) (hint : Option Hint) : Type 0 w
   pub other : is_url_code c ≡ true → ¬ (BeginsInAnyCase (codes "https:") url) → ¬ (BeginsInAnyCase (codes "http:") url)
       → hint ≡ Some NoScheme
 
--- rule program-file-limit-hint: A run that met the limit of open files gets a hint, behind all, and no other does.
+-- rule program-file-limit-hint: A run that met the limit of open files gets a hint, after all else, and no other run does.
 --
--- to a run that met the limit of open files
+-- for a run that met the limit of open files
 abbrev pub file_limit_hint : Bool → Option Hint
 file_limit_hint true = Some FileLimit
 file_limit_hint false = None
 
--- Where a response's first line is no status line, or a chunk's size is none, it may have been saved otherwise than it came.
+-- Where a response's first line isn't a status line, or a chunk's size isn't one, it may have been changed when it was saved.
 abbrev pub what_hint : What → Option Hint
 what_hint (what.Fault fault.StatusLine) = Some NotRaw
 what_hint (what.Fault fault.SizeLine) = Some NotRaw

@@ -37,7 +37,7 @@ abbrev pub hint_line : Option Hint → List ℕ
 hint_line None = []
 hint_line (Some hint) = codes "  hint: " ++ (hint_words hint ++ 10 ∷ [])
 
--- what is told of a URL that failed: its line with the words, and a hint where one is due
+-- what is reported of a URL that failed: its line with the words, and a hint where one is due
 pub record IsFailureText (url : List ℕ) (c : Code) (words text : List ℕ) : Type 0 where
   pub hint : Option Hint
   pub due : IsUrlHint url c hint
@@ -47,6 +47,6 @@ pub record IsFailureText (url : List ℕ) (c : Code) (words text : List ℕ) : T
 abbrev pub Writes : (List ℕ → Type 0) → (List ℕ → Type 0) → Type 0
 Writes IsText Written = (text : List ℕ) × IsText text × Written text
 
--- what is told of a response that isn't whole
+-- what is reported of a response that isn't whole
 abbrev pub body_lines : Code → Option Reason → List ℕ
 body_lines c reason = body_line (told_text c reason) (code_number c) ++ hint_line (body_hint reason)

@@ -1,4 +1,4 @@
--- What is told of a failure, in words.
+-- What is reported of a failure, in words.
 use Rattle.std.specs.Prelude.{ℕ, List, [], ◌++◌, ◌==◌, codes, if◌then◌else◌, Option, Some, None}
 use Rattle.std.specs.Fmt.{decimal}
 use Rattle.mx_types.specs.declared.code.Code.{Code}
@@ -35,7 +35,7 @@ abbrev pub cut_words : Code → List ℕ
 cut_words code.WeirdServerReply = codes "the response ended within its head"
 cut_words c = code_words c
 
--- what stands wrong where bytes are refused, with the section that says so
+-- what is wrong where bytes are refused, with the section that says so
 abbrev pub fault_words : Fault → List ℕ
 fault_words fault.StatusLine = codes "it can't stand in a status line (RFC 9112, section 4)"
 fault_words fault.FieldLine = codes "it can't stand in a field line (RFC 9112, sections 2.1 and 5)"
@@ -51,8 +51,8 @@ fault_words fault.ChunkEnd = codes "no CRLF stands behind a chunk's data (RFC 91
 fault_words fault.Trailer = codes "it can't stand in a trailer section (RFC 9112, section 7.1.2)"
 fault_words fault.ManyBytes = codes "the response has more than 67108864 bytes"
 
--- How much of a response came: nothing is said where no byte did. Of a body whose length is known it is how many of its bytes; else how many
--- of the response's.
+-- How much of a response came: nothing is said where no byte did. Of a body whose length is known it is how many of its bytes; else how
+-- many of the response's.
 abbrev pub cut_text : ℕ → Cut → List ℕ
 cut_text at cut.Head = if at == 0 then [] else (codes ": " ++ (decimal at ++ codes " bytes came, and no whole head"))
 cut_text at (cut.Counted came of) = codes ": " ++ (decimal came ++ (codes " of " ++ (decimal of ++ codes " bytes of the body came")))
@@ -69,7 +69,7 @@ what_text c at (what.Cut x) = cut_words c ++ cut_text at x
 
 -- rule program-failure-line: A failure's line has the URL, the words of its code or of what is wrong with the bytes, and the code's number.
 --
--- what is told of a failure: of its code, and of why the bytes that came are no whole response
+-- what is reported of a failure: of its code, and of why the bytes that came aren't a whole response
 abbrev pub told_text : Code → Option Reason → List ℕ
 told_text c None = code_words c
 told_text c (Some reason) = what_text c reason.at reason.what

@@ -4,7 +4,7 @@ ghost use Rattle.mx_words.specs.Words.{code_words, cut_words};
 
 use mx_types::Code;
 
-/// What a code says where no bytes are known to be refused.
+/// The words of a code where no bytes are known to be refused.
 pub fn code_words(code: Code) -> &'static str
     ensures { result.now ≡ code_words code }
 {
@@ -28,7 +28,7 @@ pub fn code_words(code: Code) -> &'static str
     }
 }
 
-/// What a code says where the bytes that came are not refused, and end in a response.
+/// The words of a code where the bytes that came aren't refused, and end in a response.
 pub(crate) fn cut_words(code: Code) -> &'static str
     ensures { result.now ≡ cut_words code }
 {

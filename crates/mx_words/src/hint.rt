@@ -1,11 +1,11 @@
-//! What is said to the mistakes that everybody makes first.
+//! Hints for common first mistakes.
 ghost use Rattle.std.specs.Prelude.{◌≡◌, ◌↔◌, IsTrue, Some};
 ghost use Rattle.mx_words.specs.Hints.{is_url_code, BeginsInAnyCase, IsUrlHint, hint_words, body_hint, file_limit_hint};
 
 use mx_reason::{Fault, Reason, What};
 use mx_types::Code;
 
-/// What is said to a mistake that everybody makes first.
+/// A hint for a common first mistake.
 #[derive(Clone, Copy)]
 pub enum Hint {
     /// A URL begins with `http://`.
@@ -51,7 +51,7 @@ fn begins_with(url: &[u8], front: &[u8]) -> bool
 }
 
 // rule program-url-hint
-/// What is said to a URL that failed with that code, if anything.
+/// The hint for a URL that failed with that code, if any.
 pub fn url_hint(url: &[u8], code: Code) -> Option<Hint>
     ensures { IsUrlHint url.now code result }
 {
@@ -68,15 +68,15 @@ pub fn url_hint(url: &[u8], code: Code) -> Option<Hint>
 }
 
 // rule program-file-limit-hint
-/// What is said of a run, if anything: where it `met` the limit of open files, that it did.
+/// The hint for a run, if any: where it `met` the limit of open files.
 pub fn file_limit_hint(met: bool) -> Option<Hint>
     ensures { result ≡ file_limit_hint met }
 {
     if met { Some(Hint::FileLimit) } else { None }
 }
 
-/// What is said to a response that isn't whole for that reason, if anything: where its first line is no status line, or a chunk's size is
-/// none, it may have been saved otherwise than it came.
+/// The hint for a response that isn't whole for that reason, if any: where its first line isn't a status line, or a chunk's size isn't one,
+/// it may have been changed when it was saved.
 pub fn body_hint(reason: Option<Reason>) -> Option<Hint>
     ensures { result ≡ body_hint reason }
 {

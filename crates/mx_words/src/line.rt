@@ -25,7 +25,7 @@ pub fn shown(bytes: &[u8]) -> PercentEncode<'_>
     percent_encode(bytes, HIDDEN)
 }
 
-// Prints what stands before the words: the URL.
+// Prints what comes before the words: the URL.
 fn print_front<W: Write>(output: &mut Output<W>, url: &[u8]) -> Result<(), WriteFailed>
     ensures bytes { OnOk result (Wrote W.contents output.old output.new (line_front url.now)) }
     ensures failed { IsErr result ↔ (has_failed_write output.new ≡ true) }
@@ -34,7 +34,7 @@ fn print_front<W: Write>(output: &mut Output<W>, url: &[u8]) -> Result<(), Write
     output.print(format_args!("mxfetch: {url}: "))
 }
 
-// Prints what stands behind the words: the number of the code.
+// Prints what comes after the words: the number of the code.
 fn print_back<W: Write>(output: &mut Output<W>, number: u32) -> Result<(), WriteFailed>
     ensures bytes { OnOk result (Wrote W.contents output.old output.new (line_back number)) }
     ensures failed { IsErr result ↔ (has_failed_write output.new ≡ true) }
@@ -73,8 +73,8 @@ fn print_hint<W: Write>(output: &mut Output<W>, hint: Option<Hint>) -> Result<()
     }
 }
 
-/// Prints what is told of a URL that failed with that code: a line with the words, and behind it the line of a hint where the code and the URL
-/// call for one.
+/// Prints what is reported of a URL that failed with that code: a line with the words, and then the line of a hint where the code and the
+/// URL call for one.
 pub fn print_failure<W: Write, D: Display + Drop>(
     output: &mut Output<W>,
     url: &[u8],
@@ -124,7 +124,7 @@ fn print_told<W: Write>(output: &mut Output<W>, told: Told) -> Result<(), WriteF
     output.print(format_args!("mxfetch: {told} ({number})\n"))
 }
 
-/// Prints what is told of a response that isn't whole, a line, and behind it the line of a hint where there is one.
+/// Prints what is reported of a response that isn't whole, a line, and then the line of a hint where there is one.
 pub fn print_body_failure<W: Write>(output: &mut Output<W>, told: Told) -> Result<(), WriteFailed>
     ensures bytes { OnOk result (Wrote W.contents output.old output.new (body_lines told.code told.reason)) }
     ensures failed { IsErr result ↔ (has_failed_write output.new ≡ true) }

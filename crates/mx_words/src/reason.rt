@@ -5,7 +5,7 @@ ghost use Rattle.mx_words.specs.Words.{fault_words, cut_text};
 use mx_reason::{Cut, Fault};
 use std::fmt;
 
-/// What stands wrong where bytes are refused, with the section that says so; a limit is this engine's own, where none is named.
+/// What is wrong where bytes are refused, with the section that says so; where none is named, it is a limit of this engine's own.
 pub fn fault_words(fault: Fault) -> &'static str
     ensures { result.now ≡ fault_words fault }
 {
@@ -34,7 +34,7 @@ pub fn fault_words(fault: Fault) -> &'static str
     }
 }
 
-/// How much of a response came, behind the words of a code: of how many bytes that was, and where they end.
+/// How much of a response came, after the words of a code: how many bytes, and where they end.
 #[derive(Clone, Copy)]
 pub(crate) struct CutText {
     pub at: usize,

@@ -1,4 +1,4 @@
-//! What is told of a failure.
+//! What is reported of a failure.
 ghost use Rattle.std.specs.Prelude.{◌≡◌, Some, None};
 ghost use Rattle.mx_words.specs.Words.{told_text};
 
@@ -8,7 +8,7 @@ use mx_reason::{Reason, What};
 use mx_types::Code;
 use std::fmt;
 
-/// What is told of a failure: the words of its code; of a response that is refused, at which of its bytes, counted from 1, and what stands
+/// What is reported of a failure: the words of its code; of a response that is refused, at which of its bytes, counted from 1, and what is
 /// wrong there; of one that ended, how much of it came.
 #[derive(Clone, Copy)]
 pub struct Told {

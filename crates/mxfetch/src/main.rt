@@ -26,7 +26,7 @@ use std::{env, io, process};
 /// The exit status of a command line that is refused.
 const REFUSED: u8 = 120;
 
-/// Prints the want of memory, which takes none.
+/// Prints that memory was refused, without taking any.
 fn out_of_memory(rt: &impl Print) -> u8
     ensures { (result ≡ 27) ⊎ (result ≡ 121) }
 {
@@ -36,7 +36,7 @@ fn out_of_memory(rt: &impl Print) -> u8
     }
 }
 
-/// Prints what clap has to say: help and the version on standard output, a refusal on standard error. The exit status tells which it was.
+/// Prints clap's text: help and the version on standard output, a refusal on standard error. The exit status says which it was.
 fn explain(rt: &(impl Print + Eprint), error: &Error) -> u8
     ensures any { (result ≡ 0) ⊎ ((result ≡ 120) ⊎ ((result ≡ 27) ⊎ (result ≡ 121))) }
     ensures memory { kind_of error.now ≡ kinds.OutOfMemory → (result ≡ 27) ⊎ (result ≡ 121) }
@@ -57,7 +57,7 @@ fn explain(rt: &(impl Print + Eprint), error: &Error) -> u8
     }
 }
 
-/// Says behind clap's words what was meant, or what is wanted, where that is known.
+/// Adds to clap's words what was meant, or what is needed, where that is known.
 fn hint(rt: &(impl Eprint + AllocGlobal), words: &[String], error: &Error) {
     if let Ok(Some(hint)) = hint_of(rt.alloc(), words, error.kind()) {
         let _ = eprintln!(rt; "  hint: {hint}");
@@ -69,14 +69,14 @@ fn run<R: io::Input + Print + AllocGlobal>(rt: &R, task: Task) -> u8
     requires { IsTask task }
 {
     let mut input = Input::new(rt.reader(), most_reads(task));
-    // Parts smaller than the buffer are gathered, larger ones are written as they are.
+    // Parts smaller than the buffer are gathered; larger ones are written directly.
     match BufWriter::with_capacity(rt.alloc(), 65_536, io::writer(rt)) {
         Ok(writer) => run_task(rt.alloc(), task, &mut input, &mut Output::new(writer)),
         Err(_) => out_of_memory(rt),
     }
 }
 
-/// Decodes a response from standard input to standard output, and tells on standard error why it isn't whole.
+/// Decodes a response from standard input to standard output, and reports on standard error why it isn't whole.
 fn run_explained<R: io::Input + Print + AllocGlobal, E: Write + Drop>(
     rt: &R,
     method: Method,
@@ -125,8 +125,7 @@ fn fetch<
     }
 }
 
-/// The words of the command line, or the exit status where they can't be had: for want of memory, or since a
-/// word isn't UTF-8.
+/// The words of the command line, or the exit status where there are none: memory was refused, or a word isn't UTF-8.
 fn words(rt: &HostRuntime) -> Result<Vec<String>, u8>
     ensures { IfErr result (λ status. (status ≡ 120) ⊎ ((status ≡ 27) ⊎ (status ≡ 121))) }
 {

@@ -3,7 +3,7 @@ use Rattle.mx_head.specs.Limits.{most_bytes}
 use Rattle.mx_run_body.proofs.Received.{IsReading}
 use Rattle.mx_run_body.proofs.reading.receive.Given as goal
 
--- what was read stood at the front of the input, each read gave some of it, and none failed
+-- what was read is a prefix of the input, each read gave some of it, and none failed
 abbrev pub invariant-loop-len : goal.invariant-loop-len
 invariant-loop-len g l = record {
   reading : IsReading (g.R.Read.remaining l.initial.input.reader) (g.R.Read.remaining l.input.reader) l.decoder l.fn.method l.len;
