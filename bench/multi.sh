@@ -3,7 +3,7 @@
 # and 255 handles added (beside those that the threads add and remove themselves, at most 256 together); by the clock, and of
 # the threads' processor time, the mean of the threads, the least of RUNS runs row by row. Then the reads beside a writer, who
 # adds and removes for as long as they last (the last column is the writer's own), and beside a keeper, whose call keeps the
-# lock from before the first read to behind the last. Where calls weren't all answered as they are to be, the row says so, and
+# lock from before the first read to behind the last. Where calls weren't all answered as they should be, the row says so, and
 # the script ends with 1.
 #
 # Beside it libcurl, whose multi handle is no thread's but its owner's: one under one pthread mutex. Of its calls are alike:

@@ -8,7 +8,7 @@
 #   cycles    add, done, read and remove of one handle
 #   beside K  add and remove of one handle beside K others
 #   polls     pause, unpause, and a poll that would wait
-#   stale     add and remove, and the end of each addition told at once
+#   stale     add and remove, and the end of each addition reported at once
 #   kept      add and remove, and then the ends of all additions, from the first on
 #   last      add and remove, and then the ends of all additions, from the last on
 #   retire K  retire alone, an event that there is: a handle was added, ended and removed, again and again, beside K that ended

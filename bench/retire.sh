@@ -1,7 +1,7 @@
 #!/usr/bin/env bash
 # A million transfers through one multi handle whose history has room for 2,048 events and is retired as it fills; before that a tenth of
 # them. For each run how long a transfer takes by the clock, and the most memory that the process had at any moment: both stay as they
-# are. Where a call wasn't answered as it is to be, the run says WRONG, and the script ends with 1.
+# are. Where a call wasn't answered as it should be, the run says WRONG, and the script ends with 1.
 #
 #     bench/retire.sh [TRANSFERS]       1,000,000
 #

@@ -142,7 +142,7 @@ def case_cut_short():
 
 
 def case_failed_wires_are_let_go():
-    # what came of a transfer that failed is let go when its message is read: kept, these 64 would take some 530 MiB
+    # a failed transfer's bytes are freed when its message is read: kept, these 64 would take some 530 MiB
     sent = b"HTTP/1.1 200 OK\r\nContent-Length: %d\r\n\r\n" % (16 * MIB) + bytes(8 * MIB)
 
     def serve(connection, _):

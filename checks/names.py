@@ -11,7 +11,7 @@ import time
 
 from servers import Run, Server, Wrong, body_of, counted, read_request, want, want_ends
 
-# What a name stands for, and after how many seconds that is told; a name that isn't here isn't known.
+# The addresses of a name, and after how many seconds they are given; a name that isn't here isn't known.
 ADDRESSES = {
     "fast.test": (0, ["127.0.0.1"]),
     "never.test": (None, []),
@@ -146,7 +146,7 @@ def case_a_wait_for_a_name_costs_nothing():
 
 
 def case_the_next_address():
-    # the C library tells 127.0.0.1 first, where the server doesn't listen
+    # the C library gives 127.0.0.1 first, where the server doesn't listen
     with Timed("127.0.0.2") as server:
         run = Run(["--workers", "2"] + urls(server, ["half.test", "refused.test", "half.test"]))
         want_ends(run, [(0, 200, body_of("/0")), (7, 0, b""), (0, 200, body_of("/2"))])

@@ -153,7 +153,7 @@ def follow(chains, most, workers="1", max_connects="4"):
 
 # --- curl ---------------------------------------------------------------------------------------------------------------
 
-# the curl whose rules are told here
+# the curl whose rules are written here
 IS_THAT_CURL = subprocess.run(["curl", "--version"], capture_output=True).stdout.startswith(b"curl 7.88.1 ")
 CURL = ["curl", "-q", "-s", "-g", "--http1.1", "--noproxy", "*", "--proto", "=http", "--proto-redir", "=http", "--max-time", "120"]
 
@@ -429,7 +429,7 @@ def case_redirects_and_connections():
 
 
 def case_redirects_by_many_workers():
-    # a worker has 64 transfers in hand at most: so none of them loses the link of its last hop to the others' idle ones
+    # a worker has at most 64 transfers in flight: so none of them loses the link of its last hop to the others' idle ones
     for workers in ("2", "4", "16"):
         faults = follow(hop_chains() * 4, 5, workers, max_connects="64")
         want(not faults, "\n    WRONG: ".join(faults))

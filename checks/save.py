@@ -73,7 +73,7 @@ def case_python_http_server():
     for name, content in files.items():
         with open(os.path.join(root, name), "wb") as file:
             file.write(content)
-    # it tells the port that the system gave it, once it listens
+    # it prints the port that the system gave it, once it listens
     server = subprocess.Popen([sys.executable, "-u", "-m", "http.server", "0", "--bind", "127.0.0.1", "--directory", root],
                               stdout=subprocess.PIPE, stderr=subprocess.DEVNULL)
     try:
@@ -344,7 +344,7 @@ def case_folder_that_is_a_link():
         want_files(deep, {"m": body_of("/m")})
 
 
-# --- what is told -------------------------------------------------------------------------------------------------------
+# --- what is printed -------------------------------------------------------------------------------------------------------
 
 FORGED = b"\nsaved 0 200 4 forged http://forged/\n"
 
@@ -755,8 +755,8 @@ def case_refused_growths():
                         asked=asked)
             if not os.path.exists(note):
                 break
-            # what was told as saved is there, whole, and nothing is half there; what wasn't saved is told so (23 where the folder lacked
-            # the memory), or the run was ended with 27
+            # what was printed as saved is there, whole, and nothing is half there; what wasn't saved is printed so (23 where the folder
+            # lacked the memory), or the run was ended with 27
             found = files_in(into)
             want(all(content == body_of(f"/{name}") for name, content in found.items()), f"growth {which}: a file isn't whole")
             want({line[4] for line in run.lines if line[0] == "saved"} <= set(found), f"growth {which}: a file that was told isn't there")
