@@ -141,10 +141,10 @@ pub fn open_with<Q: Work + Drop, R: Wait>(
 }
 
 /// Lets two seats see one list of events. False where one of them isn't the multi handle's any more.
-pub fn meet_two<Q: Work + Drop, R: Wait>(
+pub fn meet_two<'m, Q: Work + Drop, R: Wait>(
     rt: &R,
-    one: &mut Seated<'_, Application, Q, Outcome>,
-    two: &mut Seated<'_, Application, Q, Outcome>,
+    one: &mut Seated<'m, Application, Q, Outcome>,
+    two: &mut Seated<'m, Application, Q, Outcome>,
 ) -> bool
     requires { two.old.of ≡ one.old.of }
     ensures { result ≡ true → one.new.seen ≡ two.new.seen }
