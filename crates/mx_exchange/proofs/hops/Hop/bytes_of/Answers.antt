@@ -22,7 +22,8 @@ slice_bounds-result-end c =
 pub returns : goal.returns
 returns c =
     let part = c.index-part.result.now in
-    let less = rw (← c.self.view_is) at c.requires in
-    (part,
-     rw (← c.self.view_is) (slice_get_read c.self.inside.parts.items (length c.self.inside.parts.items) c.args.i part refl less c.index-part.ensures),
-     rw (← c.self.view_is) (ap (λ (l : _). slice_range l part.start part.end) c.deref.ensures.value))
+    let less = rw (← c.self.view_is) at c.requires in (
+      part,
+      rw (← c.self.view_is) (slice_get_read c.self.inside.parts.items (length c.self.inside.parts.items) c.args.i part refl less c.index-part.ensures),
+      rw (← c.self.view_is) (ap (λ (l : _). slice_range l part.start part.end) c.deref.ensures.value),
+    )

@@ -10,6 +10,6 @@ loop-i-preserved c =
     let next : c.loop-i.i + 1 ≡ suc c.loop-i.i = omega arith in
     let before = joined hop.wire (take c.loop-i.i hop.parts) in
     rw next (c.in_ok-extend_from_slice.ensures.items
-        ∙ ap (λ (l : List ℕ). l ++ c.bytes_of.result.now) c.loop-i.invariant
-        ∙ ap (λ (l : List ℕ). before ++ l) at.2
-        ∙ sym (joined_one hop.wire hop.parts c.loop-i.i at.0 at.1))
+    ∙ ap (λ (l : List ℕ). l ++ c.bytes_of.result.now) c.loop-i.invariant
+    ∙ ap (λ (l : List ℕ). before ++ l) at.2
+    ∙ sym (joined_one hop.wire hop.parts c.loop-i.i at.0 at.1))
