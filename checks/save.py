@@ -645,6 +645,77 @@ def case_tries():
         want_lines(Saved(["--retry", "1", "ftp://a/"], folder()), [failed(1, 0, "ftp://a/")], 1)
 
 
+# rule save-places
+def case_more_failures_than_places():
+    # more than 4,096 URLs want to be tried again at a time: reading pauses, and each is reported once
+    with deaf() as nobody:
+        urls = [f"http://{nobody}/x{number}" for number in range(5_000)]
+        run = Saved(["--retry", "1"], folder(), urls)
+        want_lines(run, [failed(7, 0, url) for url in urls], 7)
+        print(f"    5,000 URLs that fail twice: {run.seconds:.2f} s")
+
+
+def first_line(words, list_, stop):
+    """The first line of a run that reads a list from a pipe, while `list_` writes it until the event is set."""
+    child = start(words + ["--into", folder(), "--input", "-"], stdin=subprocess.PIPE, stdout=subprocess.PIPE)
+    ends = threading.Timer(60, child.kill)
+    ends.start()
+
+    def write():
+        with contextlib.suppress(OSError), child.stdin as pipe:
+            list_(pipe)
+            stop.wait()
+
+    writer = threading.Thread(target=write)
+    writer.start()
+    for line in child.stdout:
+        if line.startswith(b"saved "):
+            break
+    else:
+        line = b""
+    stop.set()
+    child.kill()
+    child.stdout.close()
+    child.wait()
+    writer.join()
+    ends.cancel()
+    return line
+
+
+# rule save-stalled-lists
+def case_lists_that_stall():
+    # the first URL is saved and reported while the list has no more, or goes on without end and has no other URL that can be fetched
+    with Server(keeping) as server:
+        first = server.url("/a").encode() + b"\n"
+        for more in (b"", b"http://127.0.0.1", b"https://x/\n", b"# a comment\n", b"x", b"\n"):
+            for words in ([], ["--progress"], ["--retry", "1"]):
+                stop = threading.Event()
+
+                def write(pipe):
+                    pipe.write(first)
+                    pipe.flush()
+                    while more and not stop.is_set():
+                        pipe.write(more * 1000)
+
+                line = first_line(words, write, stop)
+                want(line == b"saved 0 200 %d a %s" % (len(body_of("/a")), first), f"{words}, {more!r} without end: {line!r}")
+
+
+# rule save-stalled-lists
+def case_retry_beside_a_list_that_stalls():
+    asked = []
+
+    def serve(connection, _):
+        while (path := read_request(connection)) is not None:
+            asked.append(path)
+            connection.sendall(counted(b"busy", "HTTP/1.1 503 busy") if len(asked) == 1 else counted(body_of(path)))
+
+    with Server(serve) as server:
+        stop, url = threading.Event(), server.url("/a").encode() + b"\n"
+        line = first_line(["--retry", "1"], lambda pipe: (pipe.write(url), pipe.flush()), stop)
+        want(line == b"saved 0 200 %d a %s" % (len(body_of("/a")), url) and len(asked) == 2, f"{line!r}, asked {len(asked)} times")
+
+
 def case_a_server_that_hangs():
     with Server(lambda connection, _: until_closed(connection)) as silent, Server(keeping) as good:
         paths, into = [f"/g{number}" for number in range(200)], folder()

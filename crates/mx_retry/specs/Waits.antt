@@ -18,7 +18,7 @@ pub record Adds (old new : List Wait) (w : Wait) : Type 0 where
   pub before : AllByRecursion (λ v. v.moment ≤ w.moment) earlier
   pub behind : AllByRecursion (λ v. w.moment < v.moment) later
 
--- rule save-waiting: Those that wait to be tried again come out by moment, and then as they were added; at most 4,096 wait.
+-- rule save-waiting: Those that wait to be tried again come out by moment, and then as they were added.
 --
 -- who has waited longest of those whose moment has come; where none's has, nothing changes
 abbrev pub PopsDue : ℕ → List Wait → Option ℕ → List Wait → Type 0

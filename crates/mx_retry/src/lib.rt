@@ -5,4 +5,4 @@ mod rules;
 mod waiting;
 
 pub use crate::rules::{delay_ms, is_retried};
-pub use crate::waiting::{MOST_WAITING, Wait, Waiting};
+pub use crate::waiting::{Wait, Waiting};

@@ -1,12 +1,8 @@
 //! Who waits until when.
-ghost use Rattle.std.specs.Prelude.{◌≡◌, ◌<◌, ◌≤◌, ◌↔◌, [], length, IsTrue, IsNone, IfSome, IfErr, OnOk, OnErr, All, Any};
+ghost use Rattle.std.specs.Prelude.{◌≡◌, ◌≤◌, ◌↔◌, [], length, IsNone, IfSome, OnOk, OnErr, All, Any};
 
 use std::alloc::{AllocError, AllocFailed, Global};
 use std::marker::Model;
-
-// rule save-waiting
-/// The greatest number of jobs that wait at a time.
-pub const MOST_WAITING: usize = 4_096;
 
 /// A job that waits. Its number is the caller's own; moments are milliseconds on whatever clock the caller reads.
 #[derive(Clone, Copy)]
@@ -15,14 +11,14 @@ pub struct Wait {
     pub job: u64,
 }
 
-/// The jobs that wait, at most [`MOST_WAITING`]. Contracts see them as a list, by moment; of one moment, as they were added.
+/// The jobs that wait. Contracts see them as a list, by moment; of one moment, as they were added.
 #[derive(Drop)]
 pub struct Waiting {
     waits: Vec<Wait>,
 }
 
 impl Model for Waiting {
-    ghost use Rattle.std.specs.Prelude.{List, length, ◌≤◌};
+    ghost use Rattle.std.specs.Prelude.{List};
     ghost use Rattle.mx_retry.specs.declared.waiting.Wait.{Wait as OneWait};
     ghost use Rattle.mx_retry.specs.Waits.{IsInOrder};
 
@@ -30,7 +26,7 @@ impl Model for Waiting {
 
     ghost view = { λ w. w.waits.items };
 
-    ghost invariant = { λ w. IsInOrder w.waits.items × (length w.waits.items ≤ 4096) };
+    ghost invariant = { λ w. IsInOrder w.waits.items };
 }
 
 impl Waiting {
@@ -49,17 +45,9 @@ impl Waiting {
     /// How many jobs wait.
     pub fn len(&self) -> usize
         ensures len { result ≡ length self.now }
-        ensures most { result ≤ MOST_WAITING }
         ensures ordered { IsInOrder self.now }
     {
         self.waits.len()
-    }
-
-    /// Whether as many jobs wait as may.
-    pub fn is_full(&self) -> bool
-        ensures { IsTrue result ↔ (MOST_WAITING ≤ length self.now) }
-    {
-        self.waits.len() >= MOST_WAITING
     }
 
     // How many wait until that moment or an earlier one.
@@ -70,11 +58,10 @@ impl Waiting {
     }
 
     // rule save-waiting
-    /// Adds a job that waits until that moment, after those that wait until then already. Fewer than [`MOST_WAITING`] may wait.
+    /// Adds a job that waits until that moment, behind those that wait until then already.
     ///
     /// An error says that memory was refused: nothing changes.
     pub fn add(&mut self, wait: Wait) -> Result<(), AllocError>
-        requires { length self.old < MOST_WAITING }
         ensures added { OnOk result (Adds self.old self.new wait) }
         ensures ordered { IsInOrder self.new }
         ensures kept { OnErr result (self.new ≡ self.old) }

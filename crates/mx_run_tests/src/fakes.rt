@@ -23,6 +23,23 @@ impl Read for Pieces<'_> {
     }
 }
 
+/// Gives what pieces give, but has nothing now every other time.
+#[derive(Drop)]
+pub(crate) struct Stalling<'a> {
+    pub(crate) pieces: Pieces<'a>,
+    pub(crate) stalls: bool,
+}
+
+impl Read for Stalling<'_> {
+    fn read(&mut self, buffer: &mut [u8]) -> io::Result<usize> {
+        self.stalls = !self.stalls;
+        if self.stalls {
+            return Err(Error::from(ErrorKind::WouldBlock));
+        }
+        self.pieces.read(buffer)
+    }
+}
+
 /// Gives its first bytes, and then so many of the letter `v`, as many as each read asks for.
 #[derive(Drop)]
 pub(crate) struct Filler<'a> {

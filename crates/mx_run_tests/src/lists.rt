@@ -1,12 +1,12 @@
 //! Lists of URLs.
 use crate::escapes::Seen;
-use crate::fakes::Pieces;
-use mx_run_io::Input;
+use crate::fakes::{Pieces, Stalling};
 use mx_url_list::{Entry, ListError, MOST_LINE, UrlList};
 use std::alloc::{AllocError, Global};
+use std::io::Read;
 
-/// The most entries that are read of a list.
-const MOST_ENTRIES: usize = 16;
+/// The most calls that are made for the entries of a list.
+const MOST_CALLS: usize = 10_000;
 
 /// Writes an entry on a line of its own.
 fn tell(text: &mut String, entry: &Entry) -> Result<(), AllocError> {
@@ -23,7 +23,7 @@ fn tell(text: &mut String, entry: &Entry) -> Result<(), AllocError> {
 }
 
 /// Writes the end of a list, if the answer is one.
-fn tell_next<'a>(text: &mut String, list: &mut UrlList<Pieces<'a>>) -> Result<bool, AllocError> {
+fn tell_next<R: Read + Drop>(text: &mut String, list: &mut UrlList<R>) -> Result<bool, AllocError> {
     match list.next() {
         Ok(Some(entry)) => {
             tell(text, &entry)?;
@@ -32,21 +32,42 @@ fn tell_next<'a>(text: &mut String, list: &mut UrlList<Pieces<'a>>) -> Result<bo
         Ok(None) => text.push_str("end\n")?,
         Err(ListError::Unread) => text.push_str("unread\n")?,
         Err(ListError::OutOfMemory) => text.push_str("no memory\n")?,
+        Err(ListError::NotYet) | Err(ListError::Unended) => return Ok(true),
     }
     Ok(false)
 }
 
-/// Writes what the list of these bytes has, read in pieces of at most `most`, by so many reads.
-fn told(alloc: Global, bytes: &[u8], most: usize, reads: usize) -> Result<String, AllocError> {
-    let pieces = Pieces { bytes, most, reads };
-    let mut list = UrlList::new(alloc, Input::new(pieces, 1_000_000));
+/// Tells what a list has.
+fn told_of<R: Read + Drop>(alloc: Global, reader: R) -> Result<String, AllocError> {
+    let mut list = UrlList::new(alloc, reader);
     let mut text = String::new(alloc);
-    for _ in 0..MOST_ENTRIES {
+    for _ in 0..MOST_CALLS {
         if !tell_next(&mut text, &mut list)? {
             return Ok(text);
         }
     }
     Ok(text)
+}
+
+/// Tells what the list of these bytes has, read in pieces of at most `most`, by so many reads.
+fn told(alloc: Global, bytes: &[u8], most: usize, reads: usize) -> Result<String, AllocError> {
+    told_of(alloc, Pieces { bytes, most, reads })
+}
+
+/// The same, where every other read finds nothing.
+fn told_late(alloc: Global, bytes: &[u8], most: usize) -> Result<String, AllocError> {
+    let pieces = Pieces {
+        bytes,
+        most,
+        reads: 1_000_000,
+    };
+    told_of(
+        alloc,
+        Stalling {
+            pieces,
+            stalls: false,
+        },
+    )
 }
 
 fn seen(alloc: Global, told: &str) -> Result<String, AllocError> {
@@ -56,13 +77,19 @@ fn seen(alloc: Global, told: &str) -> Result<String, AllocError> {
 }
 
 // rule list-entries
-/// What is seen of a list, which has to be the same read by 4096 bytes, by threes and byte by byte.
+/// What is seen of a list, which has to be the same read by 4096 bytes, by threes and byte by byte, and where every other read finds nothing.
 pub(crate) fn see_list(alloc: Global, bytes: &[u8]) -> Result<String, AllocError> {
     let whole = told(alloc, bytes, 4096, 1_000_000)?;
     for most in [1, 3] {
         let other = told(alloc, bytes, most, 1_000_000)?;
         if other.as_str() != whole.as_str() {
             return format!(in alloc; "> by {most} bytes\n{other}> by 4096 bytes\n{whole}");
+        }
+    }
+    for most in [7, 4096] {
+        let late = told_late(alloc, bytes, most)?;
+        if late.as_str() != whole.as_str() {
+            return format!(in alloc; "> late, by {most} bytes\n{late}> by 4096 bytes\n{whole}");
         }
     }
     seen(alloc, whole.as_str())

@@ -1,6 +1,6 @@
 //! What `save` tries again, and when.
 use crate::tally::Tally;
-use mx_retry::{MOST_WAITING, Wait, Waiting, delay_ms, is_retried};
+use mx_retry::{Wait, Waiting, delay_ms, is_retried};
 use mx_types::{Code, Method};
 use std::alloc::{AllocError, Global};
 
@@ -95,14 +95,6 @@ fn see_delays(alloc: Global, tally: &mut Tally) -> Result<(), AllocError> {
     Ok(())
 }
 
-fn add(waiting: &mut Waiting, moment: u64, job: u64) -> Result<bool, AllocError> {
-    if waiting.is_full() {
-        return Ok(false);
-    }
-    waiting.add(Wait { moment, job })?;
-    Ok(true)
-}
-
 /// The moment and the number of each job, out of order.
 static JOBS: [(u64, u64); 4] = [(30, 1), (10, 2), (20, 3), (10, 4)];
 
@@ -120,7 +112,10 @@ static DUE: [(u64, Option<u64>); 6] = [
 fn see_due(alloc: Global, tally: &mut Tally) -> Result<(), AllocError> {
     let mut waiting = Waiting::new(alloc);
     for job in &JOBS {
-        add(&mut waiting, job.0, job.1)?;
+        waiting.add(Wait {
+            moment: job.0,
+            job: job.1,
+        })?;
     }
     tally.hold("the next moment", waiting.next() == Some(10))?;
     for row in &DUE {
@@ -131,20 +126,6 @@ fn see_due(alloc: Global, tally: &mut Tally) -> Result<(), AllocError> {
     tally.hold("no next moment", waiting.next().is_none())
 }
 
-// rule save-waiting
-/// As many jobs find room as may wait.
-fn see_most(alloc: Global, tally: &mut Tally) -> Result<(), AllocError> {
-    let mut waiting = Waiting::new(alloc);
-    let mut added = 0usize;
-    for job in 0..5_000u64 {
-        if add(&mut waiting, job, job)? {
-            added = added.saturating_add(1);
-        }
-    }
-    let is_right = added == MOST_WAITING && waiting.len() == 4_096;
-    tally.hold("as many as may wait", is_right)
-}
-
 /// Goes through all of them.
 pub(crate) fn tally(alloc: Global) -> Result<Tally, AllocError> {
     let mut tally = Tally::new(alloc);
@@ -152,6 +133,5 @@ pub(crate) fn tally(alloc: Global) -> Result<Tally, AllocError> {
     see_statuses(alloc, &mut tally)?;
     see_delays(alloc, &mut tally)?;
     see_due(alloc, &mut tally)?;
-    see_most(alloc, &mut tally)?;
     Ok(tally)
 }

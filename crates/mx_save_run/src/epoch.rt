@@ -1,12 +1,12 @@
 //! The part of a run at one multi handle.
-ghost use Rattle.std.specs.Prelude.{◌≡◌, ◌+◌, false, All, IfOk, IsOkAnd, Ok, OnOk, vec_len};
+ghost use Rattle.std.specs.Prelude.{◌≡◌, false, All, IfOk, IsOkAnd, Ok, OnOk, vec_len};
 ghost use Rattle.mx_save_jobs.specs.Books.{HasNoneAdded};
 ghost use Rattle.mx_save_work.specs.Works.{IsSameWork};
 ghost use Rattle.mx_save_urls.specs.Asked.{HasTurned};
 ghost use Rattle.mx_desk.specs.Desks.{IsNewDesk};
 ghost use Rattle.mx_save_run.specs.Plans.{IsOpenedAs, IsPlan};
 
-use crate::plan::Plan;
+use crate::plan::{MOST_PENDING, Plan};
 use mx_chain::Outcome;
 use mx_crew::{Crew, CrewError, Opened, Post, Worked, open_one, posts, run_beside};
 use mx_desk::Desk;
@@ -110,15 +110,15 @@ fn fetch_beside<
     (work, watch, left)
 }
 
-// A desk for as many URLs as the plan has places for, at which as many transfers run as it says.
+// A desk for as many URLs as may have no end yet, at which as many transfers run as the plan says.
 fn desk_for<'m, L: Link>(
     alloc: Global,
     seat: Seated<'m, Application, Queued<L>, Outcome>,
     plan: Plan,
 ) -> Result<Desk<'m, L>, OutOfMemory>
-    ensures { IfOk result (IsNewDesk (plan.options.at_once + 4096) plan.options.at_once) }
+    ensures { IfOk result (IsNewDesk MOST_PENDING plan.options.at_once) }
 {
-    Desk::new(alloc, seat, plan.slots(), usize::from(plan.options.at_once))
+    Desk::new(alloc, seat, MOST_PENDING, usize::from(plan.options.at_once))
 }
 
 // Fetches at a multi handle that is open. What is dropped where memory is refused is owned here, and not where the handle is.

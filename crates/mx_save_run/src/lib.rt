@@ -5,5 +5,5 @@ mod epoch;
 mod plan;
 mod run;
 
-pub use crate::plan::Plan;
+pub use crate::plan::{MOST_PENDING, Plan};
 pub use crate::run::{Ended, save_all};

@@ -1,11 +1,15 @@
 //! How a run fetches.
-ghost use Rattle.std.specs.Prelude.{◌≡◌, ◌+◌, true};
+ghost use Rattle.std.specs.Prelude.{◌≡◌, true};
 ghost use Rattle.mx_multi.specs.Opening.{are_within as are_limits_within};
 ghost use Rattle.mx_save_run.specs.Plans.{IsPlan};
 
 use mx_multi::Limits;
-use mx_retry::MOST_WAITING;
 use mx_run_io::Options;
+
+// rule save-places: At most 4,096 URLs of a run have been read and have no end yet: those that run, and those that wait to be tried again.
+// While there are so many no further one is read.
+/// The greatest number of URLs that were read and have no end yet.
+pub const MOST_PENDING: usize = 4_096;
 
 /// How the URLs of a run are fetched.
 #[derive(Clone, Copy)]
@@ -29,12 +33,5 @@ impl Plan {
             history: self.history,
             max_connects: self.options.max_connects,
         }
-    }
-
-    /// The number of places for URLs without an end: those of running transfers, and those that wait.
-    pub fn slots(&self) -> usize
-        ensures { result ≡ self.now.options.at_once + MOST_WAITING }
-    {
-        usize::from(self.options.at_once) + MOST_WAITING
     }
 }

@@ -9,7 +9,7 @@ ghost use Rattle.mx_save_run.specs.Plans.{IsPlan};
 ghost use Rattle.mx_save_run.specs.Runs.{IsOneRun, SavesAll};
 
 use crate::epoch::{run_epoch, stop_of};
-use crate::plan::Plan;
+use crate::plan::{MOST_PENDING, Plan};
 use mx_crew::{Crew, Runtime};
 use mx_folder::Folder;
 use mx_gate::Gate;
@@ -149,7 +149,7 @@ pub fn save_all<
     ensures all { OnOk result.stopped (SavesAll asking (left Rd.remaining feed.entry) result.ledger result.lines) }
     ensures run { IsOneRun ledger lines result.ledger result.lines }
 {
-    let (start, slots) = match (Instant::now(rt), free_slots(rt.alloc(), plan.slots())) {
+    let (start, slots) = match (Instant::now(rt), free_slots(rt.alloc(), MOST_PENDING)) {
         (Ok(start), Ok(slots)) => (start, slots),
         (Err(_), _) => {
             return Ended {

@@ -3,6 +3,7 @@
 
 mod asked;
 mod opened;
+mod polled;
 mod run;
 mod status;
 mod terminal;

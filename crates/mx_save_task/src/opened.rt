@@ -1,34 +1,37 @@
 //! What a run reads its URLs from, and what it saves in.
 ghost use Rattle.std.specs.Prelude.{◌≡◌, ◌⊎◌, [], IfErr, IfOk};
 
+use crate::polled::Polled;
 use crate::status::{OUT_OF_MEMORY, UNMADE, UNREAD};
 use crate::unread::tell_unread;
 use either::{Either, Left, Right};
 use mx_folder::{FolderError, SystemFolder};
-use mx_run_io::Input as CountedInput;
 use mx_save_command::ListSource;
 use mx_url_list::UrlList;
 use std::alloc::AllocGlobal;
 use std::fs::File;
-use std::io::Input;
+use std::io::{Input, StdinLock};
 use std::rt::Files;
 
+/// What a list is read from, without waiting.
+pub type ListReader = Either<Polled<File>, Polled<StdinLock<'static>>>;
+
 /// The list of URLs, if there is one; or the exit status where it can't be opened, which is reported.
-pub fn list_of<R: Files + Input + AllocGlobal + Eprint>(
+pub fn list_of<R: Files<File = File> + Input<Reader = StdinLock<'static>> + AllocGlobal + Eprint>(
     rt: &R,
     input: Option<ListSource<'_>>,
-) -> Result<Option<UrlList<Either<R::File, R::Reader>>>, u8>
+) -> Result<Option<UrlList<ListReader>>, u8>
     ensures { IfErr result (λ status. (status ≡ UNREAD) ⊎ (status ≡ OUT_OF_MEMORY)) }
 {
     let reader = match input {
         None => return Ok(None),
-        Some(ListSource::Standard) => Right(rt.reader()),
+        Some(ListSource::Standard) => Right(Polled::new(rt.reader())),
         Some(ListSource::File(path)) => match File::open(rt, path) {
-            Ok(file) => Left(file),
+            Ok(file) => Left(Polled::new(file)),
             Err(error) => return Err(tell_unread(rt, path, error)),
         },
     };
-    Ok(Some(UrlList::new(rt.alloc(), CountedInput::new(reader, u64::MAX))))
+    Ok(Some(UrlList::new(rt.alloc(), reader)))
 }
 
 /// The folder of the files, which is made where it isn't there; or the exit status where it can't be, which is reported.

@@ -19,8 +19,9 @@ use mx_save_run::{Ended, Plan, save_all};
 use mx_save_urls::Watch;
 use mx_save_work::Feed;
 use mx_url_list::UrlList;
+use std::fs::File;
 use std::io;
-use std::io::{BufWriter, Input, IsTerminal, Read, Write};
+use std::io::{BufWriter, Input, IsTerminal, Read, StdinLock, Write};
 use std::net::{Net, TcpListener, TcpStream};
 use std::rt::Files;
 
@@ -133,7 +134,12 @@ fn save_aloud<
 ///
 /// It has no `ensures`: [`save_in`] has the promise, and the exit status and what is printed on standard error are left to tests.
 pub fn run_save<
-    R: Runtime + Net<Listener = TcpListener, Stream = TcpStream> + Files + Input + Print + Eprint,
+    R: Runtime
+        + Net<Listener = TcpListener, Stream = TcpStream>
+        + Files<File = File>
+        + Input<Reader = StdinLock<'static>>
+        + Print
+        + Eprint,
     E: Write + IsTerminal + Drop,
 >(rt: &R, save: &Save<'_>, process: u32, stderr: E) -> u8
     requires { AreSaveNumbers save.now.numbers }

@@ -4,7 +4,7 @@ use crate::bodies::is_same;
 use crate::server::Server;
 use mx_crew::Runtime;
 use mx_folder::{FolderError, MemoryFolder};
-use mx_run_io::{Input, Options, Output};
+use mx_run_io::{Options, Output};
 use mx_save_command::{Save, SaveFlags, SaveNumbers};
 use mx_save_jobs::{Asking, Lines};
 use mx_save_task::{Saved, save_in};
@@ -12,6 +12,8 @@ use mx_save_urls::Nobody;
 use mx_types::{LEAST_HISTORY, MOST_HISTORY, Method, OutOfMemory, Settings};
 use mx_url_list::UrlList;
 use std::alloc::{AllocError, Global};
+use std::io;
+use std::io::{Error, ErrorKind, Read};
 use std::net::{Net, TcpListener, TcpStream};
 use std::test::Fail;
 
@@ -231,6 +233,27 @@ fn held(alloc: Global, folder: &MemoryFolder, names: &[&str]) -> Result<Vec<u8>,
     Ok(all)
 }
 
+// A list that is read by at most 32 bytes, and has nothing now every other time.
+#[derive(Drop)]
+struct Stalling<'a> {
+    bytes: &'a [u8],
+    stalls: bool,
+}
+
+impl Read for Stalling<'_> {
+    fn read(&mut self, buffer: &mut [u8]) -> io::Result<usize> {
+        self.stalls = !self.stalls;
+        if self.stalls {
+            return Err(Error::from(ErrorKind::WouldBlock));
+        }
+        let count = self.bytes.len().min(buffer.len()).min(32);
+        buffer[..count].copy_from_slice(&self.bytes[..count]);
+        self.bytes = &self.bytes[count..];
+        Ok(count)
+    }
+}
+
+// rule save-stalled-lists
 // A run over the URLs of the command line and those of a list, which looks for these names. The folder's call of that number fails.
 pub(crate) fn save<R: Runtime + Net<Listener = TcpListener, Stream = TcpStream>>(
     rt: &R,
@@ -254,7 +277,13 @@ pub(crate) fn save<R: Runtime + Net<Listener = TcpListener, Stream = TcpStream>>
         });
     }
     let lines = Lines::new(alloc, Output::new(&mut printed), false);
-    let list = UrlList::new(alloc, Input::new(list, 1000));
+    let list = UrlList::new(
+        alloc,
+        Stalling {
+            bytes: list,
+            stalls: false,
+        },
+    );
     let folder = MemoryFolder::new(alloc, 2, fails_at, FolderError::Full);
     let Saved {
         folder,

@@ -11,7 +11,7 @@ use mx_folder::Folder;
 use mx_link::Link;
 use mx_request::Request;
 use mx_save_jobs::Stop;
-use mx_save_work::Work;
+use mx_save_work::{Ahead, Work};
 use std::alloc::AllocGlobal;
 use std::io::{Read, Write};
 use std::sync::Wait;
@@ -21,8 +21,10 @@ use std::sync::Wait;
 pub enum Begun {
     /// One is added.
     Added,
-    /// None is: the URL that was read is refused or skipped, or all were read.
+    /// None is, since the URL that was read is refused or skipped, or what was read of the list says nothing yet: the next attempt may add one.
     Read,
+    /// None is, since the list has nothing now.
+    NotYet,
     /// None is, and none can be added now.
     Nothing,
 }
@@ -80,12 +82,15 @@ fn read<'a, L: Link, F: Folder, W: Write, Rd: Read + Drop, R: Wait + AllocGlobal
     ensures going { OnOk result (work.new.book.is_stopped ≡ false) }
     ensures run { IsSameWork work.old work.new }
 {
-    if !work.may_read() {
-        return Ok(Begun::Nothing);
-    }
     let Some(at) = work.free_slot() else {
         return Ok(Begun::Nothing);
     };
+    match work.look_ahead()? {
+        Ahead::Url => {}
+        Ahead::NotYet => return Ok(Begun::NotYet),
+        Ahead::Unended => return Ok(Begun::Read),
+        Ahead::End => return Ok(Begun::Nothing),
+    }
     watch.hide();
     let Some(request) = work.read(at)? else {
         return Ok(Begun::Read);

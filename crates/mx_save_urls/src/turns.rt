@@ -22,6 +22,9 @@ use std::sync::Wait;
 /// The longest that a run waits for a message, in milliseconds, before it looks again.
 const LONGEST_WAIT_MS: u32 = 60_000;
 
+/// The same, where a list has nothing now.
+const LIST_WAIT_MS: u32 = 20;
+
 /// How a run left its desk: nothing is added there.
 #[derive(Clone, Copy)]
 pub enum Turned {
@@ -74,9 +77,14 @@ fn look<'a, L: Link, F: Folder, W: Write, Rd: Read + Drop, V: Watch>(
     }
 }
 
-// How long a message may be waited for: until the run is looked at, and until the next URL may be tried again, if one could be added then.
-fn wait_ms(period: Option<u32>, may_add: bool, next: Option<u64>, now: u64) -> u32 {
-    let longest = period.unwrap_or(LONGEST_WAIT_MS);
+// How long a message may be waited for, where a transfer was begun or not: not at all where the next one may be begun now; and else until the
+// run or its list is looked at, and until the next URL may be tried again, if one could be added then.
+fn wait_ms(begun: Begun, period: Option<u32>, may_add: bool, next: Option<u64>, now: u64) -> u32 {
+    let longest = match begun {
+        Begun::Added | Begun::Read => return 0,
+        Begun::NotYet => LIST_WAIT_MS,
+        Begun::Nothing => period.unwrap_or(LONGEST_WAIT_MS),
+    };
     match next {
         Some(moment) if may_add => {
             let left = moment.saturating_sub(now);
@@ -163,8 +171,9 @@ fn how_turned<'a, L: Link, F: Folder, W: Write, Rd: Read + Drop>(
     None
 }
 
-// Begins transfers and waits for their ends, until nothing is left to do at the desk. The workers are woken once as many are added as can
-// be.
+// rule save-stalled-lists, unproved: A list that has nothing now, or none but refused URLs, delays no transfer, no retry and no report.
+//
+// Begins transfers and waits for their ends, until nothing is left to do at the desk. The workers are woken where none can be added at once.
 fn take_turns<
     'a,
     L: Link,
@@ -195,22 +204,21 @@ fn take_turns<
     for _ in rt.forever() {
         let now = timer.now(rt)?;
         seen = look(desk, work, watch, seen, now);
-        match begin(rt, desk, work, watch, now)? {
-            Begun::Added => to_wake = true,
-            Begun::Read => {}
-            Begun::Nothing => {
-                if to_wake {
-                    crew.ring();
-                    to_wake = false;
-                }
-                if let Some(turned) = how_turned(desk, work) {
-                    return Ok(turned);
-                }
-                let may_add = desk.has_room() && !desk.is_full();
-                let milliseconds = wait_ms(watch.period(), may_add, work.next_moment(), now);
-                await_one(rt, desk, work, watch, timer, milliseconds)?;
-            }
+        let begun = begin(rt, desk, work, watch, now)?;
+        if matches!(begun, Begun::Added) {
+            to_wake = true;
+            continue;
         }
+        if to_wake {
+            crew.ring();
+            to_wake = false;
+        }
+        if let Some(turned) = how_turned(desk, work) {
+            return Ok(turned);
+        }
+        let may_add = desk.has_room() && !desk.is_full();
+        let milliseconds = wait_ms(begun, watch.period(), may_add, work.next_moment(), now);
+        await_one(rt, desk, work, watch, timer, milliseconds)?;
     }
     unreachable!()
 }

@@ -1,15 +1,13 @@
 -- The work of a run, one URL further.
-use Rattle.std.proofs.Common.{◌≡◌, ◌≢◌, ◌∙◌, refl, ap, sym, subst, ℕ, suc, zero, List, [], ◌∷◌, ◌++◌, Bool, true, false, inl, inr, append_assoc, arith}
-use Rattle.std.specs.Prelude.{◌⊎◌, Option, Some, None, Result, Ok, Err, OnOk, MatchOption, if◌then◌else◌, option_map, option_to_list, slice_get, slice_set}
-use Rattle.mx_types.specs.declared.names.Ticket.{Ticket}
-use Rattle.mx_request.specs.Request.{IsRequest, RequestValue}
-use Rattle.mx_save_jobs.specs.Books.{HasNoneAdded, IsJobFor, IsSameRun, StandsAt, is_unadded}
+use Rattle.std.proofs.Common.{◌≡◌, ◌∙◌, refl, ap, sym, subst, ℕ, suc, zero, List, [], ◌∷◌, ◌++◌, Bool, true, false, inl, inr, append_assoc}
+use Rattle.std.specs.Prelude.{◌⊎◌, Option, Some, None, Result, Ok, Err, OnOk, MatchOption, if◌then◌else◌, slice_get, slice_set}
+use Rattle.mx_request.specs.Request.{RequestValue}
+use Rattle.mx_save_jobs.specs.Books.{IsJobFor, IsSameRun, StandsAt, is_unadded}
 use Rattle.mx_save_jobs.specs.Jobs.{Asks, BookValue, job_at, job_of}
 use Rattle.mx_save_jobs.specs.declared.asking.Asking.{Asking}
-use Rattle.mx_save_jobs.specs.declared.job.Job.{Job}
 use Rattle.mx_save_jobs.specs.declared.job.Slot.{Slot}
 use Rattle.mx_save_jobs.specs.declared.job.Slot.TheVariants as slot
-use Rattle.mx_save_work.specs.Feeds.{Gives, IsFed, Keeps}
+use Rattle.mx_save_work.specs.Feeds.{Gives, IsFed, IsUsedUp, Keeps}
 use Rattle.mx_save_work.specs.Works.{AddsNone, IsSameWork, WorkValue}
 
 -- what was read, and what is left
@@ -19,12 +17,16 @@ fed_first given urls none all is = (all, is, ap (λ l. l ++ all) (sym none), λ 
 pub fed_kept : (given : Option (List (List ℕ))) (urls : List (List ℕ)) (left now : Option (List (List ℕ))) (is_read : Bool) → IsFed given urls left is_read → Keeps left now → IsFed given urls now is_read
 fed_kept given urls left now is_read fed keeps all is = let f = fed all is in (f.0, keeps f.0 f.1, f.2, f.3)
 
-pub fed_ended : {X : Type 0} (given : Option (List (List ℕ))) (urls : List (List ℕ)) (left now : Option (List (List ℕ))) (is_read : Bool) (bytes : X → List ℕ) → IsFed given urls left is_read
-    → Gives left None bytes now → IsFed given urls now true
-fed_ended given urls left now is_read bytes fed gives all is =
+pub fed_ended : (given : Option (List (List ℕ))) (urls : List (List ℕ)) (left now : Option (List (List ℕ))) (is_read : Bool) → IsFed given urls left is_read
+    → Keeps left now → IsUsedUp left → IsFed given urls now true
+fed_ended given urls left now is_read fed keeps none all is = let f = fed all is in (f.0, keeps f.0 f.1, f.2, λ e. none f.0 f.1)
+
+pub fed_none : {X : Type 0} (given : Option (List (List ℕ))) (urls : List (List ℕ)) (left now : Option (List (List ℕ))) (is_read : Bool) (bytes : X → List ℕ) → IsFed given urls left is_read
+    → Gives left None bytes now → IsFed given urls now is_read
+fed_none given urls left now is_read bytes fed gives all is =
     let f = fed all is in
     let g = gives f.0 f.1 in
-    (g.0, g.1, f.2 ∙ ap (λ l. urls ++ l) g.2, λ e. g.3 refl)
+    (g.0, g.1, f.2 ∙ ap (λ l. urls ++ l) g.2, λ e. sym g.2 ∙ f.3 e)
 
 pub fed_more : {X : Type 0} (given : Option (List (List ℕ))) (urls more : List (List ℕ)) (left now : Option (List (List ℕ))) (is_read : Bool) (bytes : X → List ℕ) (x : X) → IsFed given urls left is_read
     → Gives left (Some x) bytes now → more ≡ urls ++ bytes x ∷ [] → IsFed given more now is_read

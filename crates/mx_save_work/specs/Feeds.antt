@@ -1,5 +1,5 @@
 -- The URLs that are still to be read.
-use Rattle.std.specs.Prelude.{◌≡◌, ℕ, Bool, true, List, [], ◌∷◌, ◌++◌, drop, map, Option, Some, None, option_map, option_to_list}
+use Rattle.std.specs.Prelude.{◌≡◌, ℕ, Bool, true, List, [], ◌++◌, drop, map, Option, Some, None, option_map, option_to_list}
 use Rattle.mx_url_list.specs.Left.{entries_left}
 use Rattle.mx_url_list.specs.declared.list.UrlList.{UrlList}
 use Rattle.mx_save_work.specs.Texts.{bytes_of}
@@ -10,13 +10,21 @@ abbrev pub list_left : {R : Type 0} → (R → Option (List ℕ)) → Option (Ur
 list_left remaining None = Some []
 list_left remaining (Some list) = option_map (map bytes_of) (entries_left remaining list)
 
+-- the URL of the list that is at hand, if one is
+abbrev pub at_hand : {R : Type 0} → Feed R → List (List ℕ)
+at_hand feed = option_to_list (option_map (λ v. v.items) feed.ahead)
+
 -- what is left of all, where that is known
 abbrev pub left : {R : Type 0} → (R → Option (List ℕ)) → Feed R → Option (List (List ℕ))
-left remaining feed = option_map (λ more. drop feed.next (map (λ u. u.now) feed.urls.now) ++ more) (list_left remaining feed.list)
+left remaining feed = option_map (λ more. drop feed.next (map (λ u. u.now) feed.urls.now) ++ (at_hand feed ++ more)) (list_left remaining feed.list)
 
--- the URLs that are left begin with that one; or there is none, and none is left
+-- the URLs that are left begin with that one; or the same ones are left
 abbrev pub Gives : {X : Type 0} → Option (List (List ℕ)) → Option X → (X → List ℕ) → Option (List (List ℕ)) → Type 0
-Gives old said bytes new = (all : List (List ℕ)) → old ≡ Some all → (rest : List (List ℕ)) × (new ≡ Some rest) × (all ≡ option_to_list (option_map bytes said) ++ rest) × (said ≡ None → rest ≡ [])
+Gives old said bytes new = (all : List (List ℕ)) → old ≡ Some all → (rest : List (List ℕ)) × (new ≡ Some rest) × (all ≡ option_to_list (option_map bytes said) ++ rest)
+
+-- none is left
+abbrev pub IsUsedUp : Option (List (List ℕ)) → Type 0
+IsUsedUp now = (all : List (List ℕ)) → now ≡ Some all → all ≡ []
 
 -- the same ones are left
 abbrev pub Keeps : Option (List (List ℕ)) → Option (List (List ℕ)) → Type 0

@@ -4,5 +4,5 @@
 mod feed;
 mod work;
 
-pub use crate::feed::Feed;
+pub use crate::feed::{Ahead, Feed};
 pub use crate::work::Work;

@@ -1,13 +1,14 @@
 //! The work of a run: its URLs, from their reading to their ends.
-ghost use Rattle.std.specs.Prelude.{◌≡◌, [], true, false, count_by, IfOk, IfSome, IsSome, OnErr, OnOk, Some, slice_get};
+ghost use Rattle.std.specs.Prelude.{◌≡◌, [], true, false, count_by, IfErr, IfOk, IfSome, IsSome, OnErr, OnOk, Some, slice_get};
 ghost use Rattle.mx_request.specs.Request.{IsRequest};
 ghost use Rattle.mx_save_jobs.specs.Books.{HasNoneAdded, IsAdded, IsClosed, IsJobFor, awaits_at};
 ghost use Rattle.mx_save_jobs.specs.Jobs.{is_taken, job_at};
 ghost use Rattle.mx_save_jobs.specs.declared.job.Slot.TheVariants as slot;
+ghost use Rattle.mx_save_jobs.specs.declared.stop.Stop.TheVariants as stop;
 ghost use Rattle.mx_save_work.specs.Feeds.{left, IsFed};
 ghost use Rattle.mx_save_work.specs.Works.{AddsNone, IsSameWork};
 
-use crate::feed::Feed;
+use crate::feed::{Ahead, Feed};
 use mx_chain::Outcome;
 use mx_folder::Folder;
 use mx_request::{Request, RequestError};
@@ -59,12 +60,24 @@ impl<'a, F: Folder, W: Write, R: Read + Drop> Work<'a, F, W, R> {
         }
     }
 
-    /// Whether a URL may be read: not all were, and not too many wait.
-    pub fn may_read(&self) -> bool {
-        !self.is_read && !self.waiting.is_full()
+    /// Has the next URL at hand, where it can be had without waiting for the list; where none is left, that is noted, and the list isn't read
+    /// any more.
+    pub fn look_ahead(&mut self) -> Result<Ahead, Stop>
+        ensures book { self.new.book ≡ self.old.book }
+        ensures run { IsSameWork self.old self.new }
+    {
+        if self.is_read {
+            return Ok(Ahead::End);
+        }
+        let how = self.feed.look_ahead()?;
+        if matches!(how, Ahead::End) {
+            self.is_read = true;
+        }
+        Ok(how)
     }
 
-    /// Reads a URL. If it is to be fetched, it goes into this slot, which is free, and its request comes back.
+    /// Reads the URL that is at hand, if one is. It stands in this slot then, which is free, if it is to be asked for: then its request comes
+    /// back.
     pub fn read(&mut self, at: usize) -> Result<Option<Request>, Stop>
         requires going { self.old.book.is_stopped ≡ false }
         requires free { slice_get self.old.book.slots at ≡ Some slot.Free }
@@ -74,7 +87,6 @@ impl<'a, F: Folder, W: Write, R: Read + Drop> Work<'a, F, W, R> {
         ensures run { IsSameWork self.old self.new }
     {
         let Some(url) = self.feed.next()? else {
-            self.is_read = true;
             return Ok(None);
         };
         let Some(request) = self.book.admit(at, url)? else {
@@ -146,14 +158,13 @@ impl<'a, F: Folder, W: Write, R: Read + Drop> Work<'a, F, W, R> {
         }
     }
 
-    /// Notes that the URL in this slot waits until that moment.
+    // rule save-waiting
+    /// Has the URL in this slot wait until that moment. `OutOfMemory` alone is an error: however many wait, one more may.
     pub fn wait(&mut self, at: usize, moment: u64) -> Result<(), Stop>
         ensures book { self.new.book ≡ self.old.book }
         ensures run { IsSameWork self.old self.new }
+        ensures why { IfErr result (λ e. e ≡ stop.OutOfMemory) }
     {
-        if self.waiting.is_full() {
-            return Err(Stop::NotAdded);
-        }
         self.waiting.add(Wait {
             moment,
             job: at as u64,

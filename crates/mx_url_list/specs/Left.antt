@@ -1,6 +1,5 @@
 -- What a list that is being read has still to give.
 use Rattle.std.specs.Prelude.{◌≡◌, ℕ, List, [], ◌∷◌, ◌++◌, take, drop, Option, Some, None, option_map, option_to_list, ⊤}
-use Rattle.mx_run_io.specs.Ends.{reader_of}
 use Rattle.mx_url_list.specs.declared.entry.Entry.{Entry}
 use Rattle.mx_url_list.specs.declared.line.OpenLine.{OpenLine}
 use Rattle.mx_url_list.specs.declared.list.UrlList.{UrlList}
@@ -22,7 +21,7 @@ held list = drop list.start (take list.end list.buffer)
 
 -- the entries that are left, where the rest of the input is known
 abbrev pub entries_left : {R : Type 0} → (R → Option (List ℕ)) → UrlList R → Option (List Told)
-entries_left remaining list = option_map (λ more. entries_after list.line (held list ++ more)) (remaining (reader_of list.input))
+entries_left remaining list = option_map (λ more. entries_after list.line (held list ++ more)) (remaining list.reader)
 
 -- rule list-entries
 -- the entries that are left begin with that one; or there is none, and none is left

@@ -3,34 +3,31 @@ ghost use Rattle.std.specs.Prelude.{◌≤◌, length};
 
 use crate::entry::Entry;
 use crate::line::OpenLine;
-use mx_run_io::{Input, ReadFailed};
 use std::alloc::{AllocError, Global};
-use std::io::Read;
+use std::io::{Error, ErrorKind, Read};
 
 /// How many bytes one read asks for.
 const READ_SIZE: usize = 4096;
 
-/// The most reads that are made for an entry.
-const MOST_READS: u64 = 4_294_967_295;
+/// The most reads that one call makes.
+const MOST_READS: u32 = 16;
 
-/// Why the next entry of a list can't be read.
+/// Why there is no next entry of a list.
 #[derive(Clone, Copy)]
 pub enum ListError {
-    /// A read failed, and each further one will; or so many as are allowed were made.
+    /// A read failed, and each further one will.
     Unread,
     /// Memory for the line or the entry was refused. The next call begins where this one stopped.
     OutOfMemory,
+    /// The reader has nothing now (`WouldBlock`). The next call reads on.
+    NotYet,
+    /// As many reads as one call makes ended no line that says something. The next call reads on.
+    Unended,
 }
 
 impl From<AllocError> for ListError {
     fn from(_: AllocError) -> ListError {
         ListError::OutOfMemory
-    }
-}
-
-impl From<ReadFailed> for ListError {
-    fn from(_: ReadFailed) -> ListError {
-        ListError::Unread
     }
 }
 
@@ -48,7 +45,8 @@ enum Turn {
 #[derive(Drop)]
 pub struct UrlList<R> {
     alloc: Global,
-    input: Input<R>,
+    reader: R,
+    has_failed: bool,
     buffer: [u8; READ_SIZE],
     start: usize,
     end: usize,
@@ -60,17 +58,17 @@ pub struct UrlList<R> {
 impl<R: Read + Drop> UrlList<R> {
     ghost use Rattle.std.specs.Prelude.{◌≡◌, ℕ, List, [], ◌++◌, option_map, IfOk, OnErr, IsNone, IfNone};
     ghost use Rattle.std.specs.Io.KnownBytes.{IsAtEnd};
-    ghost use Rattle.mx_run_io.specs.Ends.{reader_of};
     ghost use Rattle.mx_url_list.specs.Entries.{entries_of};
     ghost use Rattle.mx_url_list.specs.Left.{entries_after, held, then, entries_left, GivesNext, KeepsEntries, GoesOn};
 
     /// A list of which nothing was read. It takes no memory.
-    pub fn new(alloc: Global, input: Input<R>) -> UrlList<R>
-        ensures { entries_left R.remaining result ≡ option_map entries_of (R.remaining (reader_of input)) }
+    pub fn new(alloc: Global, reader: R) -> UrlList<R>
+        ensures { entries_left R.remaining result ≡ option_map entries_of (R.remaining reader) }
     {
         UrlList {
             alloc,
-            input,
+            reader,
+            has_failed: false,
             buffer: [0; READ_SIZE],
             start: 0,
             end: 0,
@@ -85,7 +83,7 @@ impl<R: Read + Drop> UrlList<R> {
         ensures kept { OnErr result ((rest : List ℕ)
             → entries_after self.old.line (held self.old ++ rest) ≡ entries_after self.new.line (held self.new ++ rest)) }
         ensures all { IfOk result (λ said. IfNone said (self.new.start ≡ self.new.end)) }
-        ensures input { self.new.input ≡ self.old.input }
+        ensures reader { self.new.reader ≡ self.old.reader }
     {
         while self.start < self.end {
             let byte = self.buffer[self.start];
@@ -99,17 +97,36 @@ impl<R: Read + Drop> UrlList<R> {
         Ok(None)
     }
 
+    // What an error of the reader says, which fails the list for good, unless the reader has nothing now.
+    fn fail(&mut self, error: &Error) -> ListError
+        ensures { self.new ≡ record self.old { has_failed = self.new.has_failed } }
+    {
+        if error.kind() == ErrorKind::WouldBlock {
+            return ListError::NotYet;
+        }
+        self.has_failed = true;
+        ListError::Unread
+    }
+
+    // An interrupted read fails the list: the program installs no signal handlers.
     // Reads once, where all that was read before was taken in. The answer is how many bytes came.
-    fn fill(&mut self) -> Result<usize, ReadFailed>
+    fn fill(&mut self) -> Result<usize, ListError>
         requires { self.old.start ≡ self.old.end }
         ensures kept { KeepsEntries (entries_left R.remaining self.old) (entries_left R.remaining self.new) }
-        ensures ended { IfOk result (λ count. count ≡ 0 → IsAtEnd (R.remaining (reader_of self.new.input)) × (held self.new ≡ [])) }
+        ensures ended { IfOk result (λ count. count ≡ 0 → IsAtEnd (R.remaining self.new.reader) × (held self.new ≡ [])) }
     {
         self.start = 0;
         self.end = 0;
-        let count = self.input.read(&mut self.buffer)?;
-        self.end = count;
-        Ok(count)
+        if self.has_failed {
+            return Err(ListError::Unread);
+        }
+        match self.reader.read(&mut self.buffer) {
+            Ok(count) => {
+                self.end = count;
+                Ok(count)
+            }
+            Err(error) => Err(self.fail(&error)),
+        }
     }
 
     // Goes on by one read at most.
@@ -132,8 +149,9 @@ impl<R: Read + Drop> UrlList<R> {
     /// The next entry, or `None` where the list is at its end: then each further call reads once more, since a terminal may go on.
     ///
     /// An error leaves the entries that are left as they were: `Unread` where a read failed, and then each further call answers so once
-    /// what was read before is used up, or where 4,294,967,295 reads ended no line that says something; `OutOfMemory` where memory for the
-    /// line or the entry was refused, and the next call goes on where this one stopped.
+    /// what was read before is used up; `OutOfMemory` where there was no memory for the line or the entry; `NotYet` where the reader has
+    /// nothing now; and `Unended` where 16 reads ended no line that says something. After these three the next call goes on where this one
+    /// stopped.
     pub fn next(&mut self) -> Result<Option<Entry>, ListError>
         ensures next { IfOk result (λ said. GivesNext (entries_left R.remaining self.old) said (entries_left R.remaining self.new)) }
         ensures kept { OnErr result (KeepsEntries (entries_left R.remaining self.old) (entries_left R.remaining self.new)) }
@@ -144,6 +162,6 @@ impl<R: Read + Drop> UrlList<R> {
                 Turn::Next(said) => return Ok(said),
             }
         }
-        Err(ListError::Unread)
+        Err(ListError::Unended)
     }
 }

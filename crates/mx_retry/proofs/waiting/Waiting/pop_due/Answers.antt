@@ -9,4 +9,4 @@ pub returns-then-first-now-clause-popped : goal.returns-then-first-now-clause-po
 returns-then-first-now-clause-popped c =
     let there = c.deref.ensures.value ∙ c.self.view_is in
     let first = sym (c.in_ok-first.ensures.value ∙ ap (λ ws. slice_get {X = Wait} ws 0) there) in
-    (refl, all_late c.args.now c.args.self.now c.in_ok-first.field-0.now (subst IsInOrder c.self.view_is c.self.invariant.0) first c.if-first-now.true)
+    (refl, all_late c.args.now c.args.self.now c.in_ok-first.field-0.now (subst IsInOrder c.self.view_is c.self.invariant) first c.if-first-now.true)

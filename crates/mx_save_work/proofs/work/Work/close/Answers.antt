@@ -1,4 +1,4 @@
-use Rattle.std.proofs.Common.{◌≡◌, subst}
+use Rattle.std.proofs.Common.{subst}
 use Rattle.mx_save_jobs.specs.Books.{IsClosed}
 use Rattle.mx_save_work.proofs.Works.{on_ok}
 use Rattle.mx_save_work.proofs.work.Work.close.Goals as goal

@@ -1,4 +1,4 @@
-use Rattle.std.proofs.Common.{◌≡◌, ◌∙◌, ap, sym, subst}
+use Rattle.std.proofs.Common.{◌∙◌, ap, sym, subst}
 use Rattle.std.specs.Prelude.{IfSome, slice_get}
 use Rattle.mx_request.specs.Request.{IsRequest}
 use Rattle.mx_save_jobs.specs.Books.{IsJobFor}

@@ -18,5 +18,5 @@ loop-self-preserved g c =
           c.loop-self.invariant.left rest
           ∙ took s.line c.take.new.self s.buffer s.start s.end (get_or s.buffer s.start 0) c.in_ok-said.said c.loop-self-test.true s.room refl c.in_ok-said.ensures.taken rest
           ∙ ap (λ said. then said (entries_after c.take.new.self (drop (s.start + 1) (take s.end s.buffer) ++ rest))) c.in-None.is;
-      input = c.loop-self.invariant.input;
+      reader = c.loop-self.invariant.reader;
     }

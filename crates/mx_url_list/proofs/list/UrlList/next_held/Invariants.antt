@@ -5,7 +5,7 @@ use Rattle.mx_url_list.proofs.list.UrlList.next_held.Given as goal
 abbrev pub invariant-loop-self : goal.invariant-loop-self
 invariant-loop-self g l = record {
   left : (rest : List ℕ) → entries_after l.initial.self.line (held l.initial.self ++ rest) ≡ entries_after l.self.line (held l.self ++ rest);
-  input : l.self.input ≡ l.initial.self.input;
+  reader : l.self.reader ≡ l.initial.self.reader;
 }
 
 abbrev pub decreases-loop-self : goal.decreases-loop-self
