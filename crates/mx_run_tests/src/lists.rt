@@ -6,7 +6,7 @@ use std::alloc::{AllocError, Global};
 use std::io::Read;
 
 /// The most calls that are made for the entries of a list.
-const MOST_CALLS: usize = 10_000;
+const MOST_CALLS: usize = 100_000;
 
 /// Writes an entry on a line of its own.
 fn tell(text: &mut String, entry: &Entry) -> Result<(), AllocError> {
