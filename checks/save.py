@@ -138,6 +138,15 @@ def case_what_is_asked_for():
         want_lines(run, [failed(3, 0, server.url("/x"))], 3)
 
 
+# rule save-folder-name
+def case_folder_without_a_name():
+    with Server(keeping) as server:
+        for words in (["--into", ""], ["--into="]):
+            run = Saved(words + [server.url("/x")])
+            want(run.status == 120 and run.out == b"" and b"--into" in run.err, f"{words}: {run.status}, {run.err!r}")
+        want(server.count == 0, "something was asked for")
+
+
 def case_redirects():
     def serve(connection, _):
         while (path := read_request(connection)) is not None:

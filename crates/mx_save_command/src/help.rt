@@ -36,5 +36,11 @@ pub const MORE_SAVE: &str = "Exit status: the first CODE that isn't 0, in the or
 Example:
     $ mxfetch save --into pkgs --retry 2 --input urls.txt";
 
+/// What is said where the folder has no name.
+pub const NO_FOLDER: &str = "the name of the folder is empty: it is written `--into DIR`";
+
+/// What is said where an option has no value, or one that it doesn't take, and clap hasn't said so.
+pub const NO_VALUE: &str = "an option has no value, or one that it doesn't take";
+
 /// What is said of a header field without a colon.
 pub const NO_HEADER: &str = "a header field has no colon: it is written `-H 'NAME: VALUE'`";

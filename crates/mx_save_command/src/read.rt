@@ -1,6 +1,6 @@
 //! What a command line of `save` asks for.
 ghost use Rattle.std.specs.Prelude.{IfOk, IfSome};
-ghost use Rattle.mx_save_command.specs.Saving.{AreSaveNumbers};
+ghost use Rattle.mx_save_command.specs.Saving.{AreSaveNumbers, IsSaveAsked};
 
 use crate::help;
 use crate::options::save_command;
@@ -110,17 +110,24 @@ fn headers_of<'a>(
     Ok(Some(headers))
 }
 
-/// What `save` is asked for, if its values are there and its header fields have colons.
-fn save_of<'a>(alloc: Global, save: &ArgMatches<'a>) -> Result<Option<Save<'a>>, AllocError>
-    ensures { IfOk result (λ o. IfSome o (λ s. AreSaveNumbers s.numbers)) }
+// rule save-folder-name
+/// What `save` is asked for, or what is said where a value is missing, the folder has no name, or a header field has no colon.
+fn save_of<'a>(
+    alloc: Global,
+    save: &ArgMatches<'a>,
+) -> Result<Result<Save<'a>, &'static str>, AllocError>
+    ensures { IfOk result (λ asked. IfOk asked IsSaveAsked) }
 {
     let (Some(numbers), Some(into)) = (numbers_of(save), save.get_str("into")) else {
-        return Ok(None);
+        return Ok(Err(help::NO_VALUE));
     };
+    if into.is_empty() {
+        return Ok(Err(help::NO_FOLDER));
+    }
     let Some(headers) = headers_of(alloc, save)? else {
-        return Ok(None);
+        return Ok(Err(help::NO_HEADER));
     };
-    Ok(Some(Save {
+    Ok(Ok(Save {
         numbers,
         flags: flags_of(save),
         into,
@@ -133,12 +140,15 @@ fn save_of<'a>(alloc: Global, save: &ArgMatches<'a>) -> Result<Option<Save<'a>>,
     }))
 }
 
-fn asked_of<'a>(alloc: Global, matches: &ArgMatches<'a>) -> Result<Option<Save<'a>>, AllocError>
-    ensures { IfOk result (λ o. IfSome o (λ s. AreSaveNumbers s.numbers)) }
+fn asked_of<'a>(
+    alloc: Global,
+    matches: &ArgMatches<'a>,
+) -> Result<Result<Save<'a>, &'static str>, AllocError>
+    ensures { IfOk result (λ asked. IfOk asked IsSaveAsked) }
 {
     match matches.subcommand_matches("save") {
         Some(save) => save_of(alloc, save),
-        None => Ok(None),
+        None => Ok(Err(help::NO_VALUE)),
     }
 }
 
@@ -156,21 +166,21 @@ fn read_at<'a>(
     command: &mut Command<'a>,
     words: &'a [String],
 ) -> Result<Save<'a>, Error>
-    ensures { IfOk result (λ s. AreSaveNumbers s.numbers) }
+    ensures { IfOk result IsSaveAsked }
 {
     let matches = command.try_get_matches_from_mut(words)?;
     let asked = asked_of(alloc, &matches);
     drop(matches);
     match asked? {
-        Some(save) => Ok(save),
-        None => Err(command.error(ErrorKind::ValueValidation, help::NO_HEADER)?),
+        Ok(save) => Ok(save),
+        Err(words) => Err(command.error(ErrorKind::ValueValidation, words)?),
     }
 }
 
 /// Reads a command line of `save`, of which the first word is the program's name and the second `save`. An error is help that was asked
 /// for, a refusal in clap's words, or `OutOfMemory`.
 pub fn read_save<'a>(alloc: Global, words: &'a [String]) -> Result<Save<'a>, Error>
-    ensures { IfOk result (λ s. AreSaveNumbers s.numbers) }
+    ensures { IfOk result IsSaveAsked }
 {
     let mut command = mxfetch_command(alloc)?;
     let read = read_at(alloc, &mut command, words);
