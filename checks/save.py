@@ -133,9 +133,35 @@ def case_what_is_asked_for():
             line, *fields = asked[0][0].split(b"\r\n")
             want(line == method + b" /x HTTP/1.1", f"{words}: {line!r}")
             want({b"X-One: 1", b"X-Two: two", b"User-Agent: me/1"} <= set(fields), f"{words}: other fields, {fields}")
-        # what no request can have is refused, URL by URL
-        run = Saved(["-H", "Bad Name: 1", server.url("/x")], folder())
-        want_lines(run, [failed(3, 0, server.url("/x"))], 3)
+        # the longest body
+        longest = bytes(range(256)) * 4096
+        with open(given, "wb") as file:
+            file.write(longest)
+        asked.clear()
+        want_lines(Saved(["--data", f"@{given}", server.url("/x")], folder()), [saved(server, "/x", "x", b"taken")], 0)
+        want(len(asked) == 1 and asked[0][1] == longest, "another body in place of the longest one")
+
+
+# rule save-settings
+def case_what_no_request_can_have():
+    # it is refused once, by its option, and nothing is fetched or made
+    with Server(keeping) as server:
+        above, given = folder(), os.path.join(folder(), "given")
+        into = os.path.join(above, "into")
+        with open(given, "wb") as file:
+            file.write(bytes(1_048_577))
+        field = "a header field can't be sent: its name, its value or the number of fields isn't allowed"
+        rows = [(["-H", "Bad Name: 1"], "-H", field), (["-H", "host: a"], "-H", field), (["-H", "A: \x01"], "-H", field),
+                (["-H", "A: 1", "-H", ": 2"], "-H", field), ([f"-HA{number}: 1" for number in range(65)], "-H", field),
+                (["-H", "A: " + "a" * 8193], "-H", field), (["--user-agent", "a "], "--user-agent", field),
+                (["--user-agent", "\x7f", "-H", "A: 1"], "--user-agent", field), (["--user-agent", "\x7f", "-H", "TE: 1"], "-H", field),
+                (["--data", f"@{given}"], "--data", "the body is over 1,048,576 bytes"),
+                (["--data", "@/dev/zero"], "--data", "the body is over 1,048,576 bytes")]
+        for words, option, why in rows:
+            run = Saved(words + [server.url("/a"), server.url("/b")], into)
+            want(run.status == 120 and run.out == b"" and run.err.decode() == f"mxfetch: {option}: {why}\n", f"{words}: {run.status}, {run.err!r}")
+            want(run.peak < 32 * MIB, f"{words}: peak {run.peak // MIB} MiB")
+        want(server.count == 0 and os.listdir(above) == [], "something was asked for, or the folder was made")
 
 
 # rule save-folder-name

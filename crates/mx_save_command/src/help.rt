@@ -30,7 +30,8 @@ pub const MORE_SAVE: &str = "Exit status: the first CODE that isn't 0, in the or
    23  the folder couldn't be made; or flushed, where each CODE is 0
    26  the list, or the file of --data, couldn't be read
    27  no memory, thread, poll or clock was had to begin, or to go on
-  120  the command line is refused
+  120  the command line is refused, or no request can have its header fields,
+       its user agent or its body
   121  the output couldn't be written
 
 Example:

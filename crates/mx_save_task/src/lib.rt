@@ -10,3 +10,4 @@ mod terminal;
 mod unread;
 
 pub use crate::run::{Saved, run_save, save_in};
+pub use crate::status::REFUSED;

@@ -12,6 +12,9 @@ pub const UNMADE: u8 = 23;
 /// The exit status where the list of URLs, or the file of the body, can't be read.
 pub const UNREAD: u8 = 26;
 
+/// The exit status where a header field, the user agent or the body is refused.
+pub const REFUSED: u8 = 120;
+
 /// The exit status where memory, a thread, a poll, a clock or a transfer is refused.
 pub const OUT_OF_MEMORY: u8 = 27;
 

@@ -16,15 +16,12 @@ use mx_hint::hint_of;
 use mx_run_body::{MOST_READS, run_body_explained};
 use mx_run_io::{Input, Output, UNWRITTEN, end_with};
 use mx_run_task::{most_reads, run_task};
-use mx_save_task::run_save;
+use mx_save_task::{REFUSED, run_save};
 use mx_types::{Code, Method};
 use std::io::{BufWriter, Write};
 use std::net::{Net, TcpListener, TcpStream};
 use std::process::ExitCode;
 use std::{env, io, process};
-
-/// The exit status of a command line that is refused.
-const REFUSED: u8 = 120;
 
 /// Prints that memory was refused, without taking any.
 fn out_of_memory(rt: &impl Print) -> u8
