@@ -578,35 +578,40 @@ def screen(came):
     return lines
 
 
-def seen(words, shared):
-    """What a terminal is sent that is standard error, and output, too, where it is shared; what output is else; and the exit status."""
+def seen(words, shared, columns="", interrupted=False):
+    """What a terminal is sent that is standard error, and output, too, where it is shared; what output is else; and the exit status. Where
+    it is interrupted, that is as soon as something was shown."""
     master, slave = pty.openpty()
-    child = start(words, stdout=slave if shared else subprocess.PIPE, stderr=slave)
+    child = start(words, stdout=slave if shared else subprocess.PIPE, stderr=slave, env={**os.environ, "COLUMNS": columns})
     os.close(slave)
     came = b""
     with contextlib.suppress(OSError):  # EIO, once nobody has the other side
         while (piece := os.read(master, 65536)):
             came += piece
+            if interrupted:
+                child.send_signal(signal.SIGINT)
     out = b"" if shared else child.stdout.read()
     os.close(master)
     return came, out, child.wait(timeout=300)
 
 
+# rule save-progress
 def case_progress():
     def serve(connection, _):
         while (read := read_whole(connection)):
-            time.sleep(0.3)
+            time.sleep(0 if b"/q" in read[0] else 0.3)
             connection.sendall(counted(b"x" * 30000) if b"/p" in read[0] else counted(b"no", "HTTP/1.1 404 Not Found"))
 
     with Server(serve) as server:
         urls = [server.url(f"/p{number}") for number in range(6)] + [server.url("/missing")]
-        shown = re.compile(rb"\r(\d+ ended, \d+ of them failed, \d+ run[^\r\n\x1b]*)")
+        # a line is written whole, and the cursor left at its start
+        shown = re.compile(rb"(\d+ ended, \d+ of them failed, \d+ run[^\r\n\x1b]*)\x1b\[K\r")
         for words, is_shown in (([], True), (["--progress"], True), (["--no-progress"], False)):
             for shared in (False, True):
                 begun = time.monotonic()
                 came, out, status = seen(words + ["--into", folder(), "--at-once", "2", "--workers", "2"] + urls, shared)
                 seconds = time.monotonic() - begun
-                texts = set(shown.findall(came))
+                texts = shown.findall(came)
                 want(bool(texts) == is_shown, f"{words}: {came!r}")
                 want(len(texts) <= 4 * seconds + 2, f"{len(texts)} times in {seconds:.1f} s")
                 lines = screen(came)
@@ -619,6 +624,20 @@ def case_progress():
         want(not shown.search(piped.err), f"{piped.err!r}")
         piped = Saved(["--progress", "--at-once", "2"] + urls, folder())
         want(shown.search(piped.err) is not None and screen(piped.err)[-1] == b"", f"{piped.err!r}")
+        # whatever ends, it isn't drawn more often; and it fits the terminal
+        many = [server.url(f"/quick{number}") for number in range(400)]
+        for columns, most in (("", 79), ("40", 39), ("0", 0), ("wide", 79)):
+            for words in ([], ["--history", "4"]):
+                begun = time.monotonic()
+                came, _, status = seen(words + ["--into", folder(), "--content-on-error", "--at-once", "4"] + many, True, columns)
+                seconds = time.monotonic() - begun
+                texts = re.findall(rb"([^\r\n\x1b]*)\x1b\[K\r", came)
+                want(status == 0 and len(texts) <= 2 * (4 * seconds + 2), f"{len(texts)} times in {seconds:.1f} s, with what took it off")
+                want(all(len(text) <= most for text in texts), f"{columns}: {max(texts, key=len)!r}")
+        # an interrupt leaves the cursor at the start of a line
+        for shared in (False, True):
+            came, _, status = seen(["--into", folder(), "--at-once", "1"] + urls, shared, interrupted=True)
+            want(status == -signal.SIGINT and shown.search(came) and came[-1:] in (b"\r", b"\n"), f"{status}, {came!r}")
 
 
 # --- servers that fail --------------------------------------------------------------------------------------------------

@@ -1,4 +1,5 @@
 -- What `run_save` does, and what its exit status says.
 pub mod Asked
 pub mod Saved
+pub mod Screens
 pub mod Status

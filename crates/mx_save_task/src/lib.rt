@@ -11,3 +11,4 @@ mod unread;
 
 pub use crate::run::{Saved, run_save, save_in};
 pub use crate::status::REFUSED;
+pub use crate::terminal::Screen;

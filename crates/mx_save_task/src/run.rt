@@ -8,7 +8,7 @@ ghost use Rattle.mx_save_task.specs.Status.{codes_number, stop_number};
 use crate::asked::{asking_of, tell_out_of_memory};
 use crate::opened::{folder_of, list_of};
 use crate::status::{UNMADE, status_of};
-use crate::terminal::Terminal;
+use crate::terminal::{Screen, Terminal};
 use mx_crew::Runtime;
 use mx_folder::{Folder, FolderError};
 use mx_run_io::Output;
@@ -72,7 +72,7 @@ pub fn save_in<
         mut watch,
         stopped,
     } = save_all(rt, asking, ledger, lines, feed, watch, plan);
-    watch.hide();
+    watch.end();
     let (folder, flushed) = ledger.finish();
     Saved {
         folder,
@@ -141,7 +141,7 @@ pub fn run_save<
         + Print
         + Eprint,
     E: Write + IsTerminal + Drop,
->(rt: &R, save: &Save<'_>, process: u32, stderr: E) -> u8
+>(rt: &R, save: &Save<'_>, process: u32, stderr: E, screen: Screen) -> u8
     requires { AreSaveNumbers save.now.numbers }
 {
     let asking = match asking_of(rt, save) {
@@ -153,7 +153,7 @@ pub fn run_save<
         Err(status) => return status,
     };
     let shows = save.flags.progress.unwrap_or(stderr.is_terminal());
-    let watch = Terminal::new(rt.alloc(), Output::new(stderr), shows);
+    let watch = Terminal::new(rt.alloc(), Output::new(stderr), screen, shows);
     match folder_of(rt, save.into) {
         Ok(folder) => save_aloud(rt, save, process, asking, list, folder, watch),
         Err(status) => status,

@@ -1,4 +1,7 @@
 //! What is written of a run on standard error: which URLs failed, and its standing.
+ghost use Rattle.std.specs.Prelude.{◌≡◌, ◌+◌, ◌-◌, ◌^◌, ◌<◌, ◌≤◌, IfOk, take};
+ghost use Rattle.mx_save_task.specs.Screens.{progress_line};
+
 use mx_run_io::Output;
 use mx_run_save::{End, SaveCode};
 use mx_save_urls::{Standing, Watch};
@@ -6,8 +9,21 @@ use mx_words::{print_failure, print_file_limit, print_words};
 use std::alloc::{AllocError, Global};
 use std::io::Write;
 
-/// How many milliseconds are between two displays of a run's standing.
+/// How many milliseconds lie between two moments at which it is shown how a run stands, at least.
 const PERIOD_MS: u32 = 250;
+
+/// What stands behind the text of the line: the rest of the line is erased, and the cursor goes to its start. So what is printed next, a
+/// shell's prompt after an interrupt, too, begins a line.
+const ERASE: &[u8] = b"\x1b[K\r";
+
+/// Where it is shown how a run stands.
+#[derive(Clone, Copy)]
+pub struct Screen {
+    /// How many columns a line has.
+    pub columns: usize,
+    /// Standard output may go there, too.
+    pub is_shared: bool,
+}
 
 /// Standard error, or what stands for it. Each URL that failed has a line there; and, if asked for, a line that is removed again shows how
 /// far the run is. Where memory is refused, that line is left out; a write that fails is ignored.
@@ -15,8 +31,10 @@ const PERIOD_MS: u32 = 250;
 pub struct Terminal<E: Write> {
     alloc: Global,
     output: Output<E>,
+    screen: Screen,
     shows: bool,
-    text: String,
+    // The moment from which on the line may be drawn.
+    next: u64,
     is_up: bool,
 }
 
@@ -63,20 +81,42 @@ fn text_of(alloc: Global, standing: &Standing) -> Result<String, AllocError> {
     }
 }
 
+// What is shown of a text in ASCII on a line of so many columns, of which one is left free: behind it a line would end.
+fn cut(text: &[u8], columns: usize) -> &[u8]
+    ensures { result.now ≡ take (columns - 1) text.now }
+{
+    match text.get(..columns.saturating_sub(1)) {
+        Some(front) => front,
+        None => text,
+    }
+}
+
+// rule save-progress
+// The line of a text, which is drawn by one write.
+fn line_of(alloc: Global, text: &str, columns: usize) -> Result<Vec<u8>, AllocError>
+    ensures { IfOk result (λ line. line.items ≡ progress_line text.now columns) }
+{
+    let mut line = Vec::from_slice(alloc, cut(text.as_bytes(), columns))?;
+    line.extend_from_slice(ERASE)?;
+    Ok(line)
+}
+
 impl<E: Write> Terminal<E> {
     /// Nothing was written yet. `shows` says whether it is shown how far the run is.
-    pub fn new(alloc: Global, output: Output<E>, shows: bool) -> Terminal<E> {
+    pub fn new(alloc: Global, output: Output<E>, screen: Screen, shows: bool) -> Terminal<E> {
         Terminal {
             alloc,
             output,
+            screen,
             shows,
-            text: String::new(alloc),
+            next: 0,
             is_up: false,
         }
     }
 
     // Reports a URL that failed with that code, and flushes.
     fn tell(&mut self, url: &[u8], words: &str, code: SaveCode) {
+        self.take_off();
         let _ = match code {
             SaveCode::Transfer(code) => print_failure(&mut self.output, url, words, code),
             _ => print_words(&mut self.output, url, words, u32::from(code.number())),
@@ -84,12 +124,24 @@ impl<E: Write> Terminal<E> {
         let _ = self.output.flush();
     }
 
-    // Puts the line up.
-    fn put_up(&mut self) {
-        let text = self.text.as_str();
-        let _ = self.output.print(format_args!("\r{text}\x1b[K"));
-        let _ = self.output.flush();
-        self.is_up = true;
+    // Draws the line.
+    fn draw(&mut self, standing: &Standing) {
+        if let Ok(text) = text_of(self.alloc, standing) {
+            if let Ok(line) = line_of(self.alloc, text.as_str(), self.screen.columns) {
+                let _ = self.output.write_all(line.as_slice());
+                let _ = self.output.flush();
+                self.is_up = true;
+            }
+        }
+    }
+
+    // Takes the line off.
+    fn take_off(&mut self) {
+        if self.is_up {
+            let _ = self.output.write_all(ERASE);
+            let _ = self.output.flush();
+            self.is_up = false;
+        }
     }
 }
 
@@ -98,25 +150,30 @@ impl<E: Write> Watch for Terminal<E> {
         if self.shows { Some(PERIOD_MS) } else { None }
     }
 
-    fn show(&mut self, standing: &Standing) {
-        if let Ok(text) = text_of(self.alloc, standing) {
-            self.text = text;
-            self.put_up();
+    // rule save-progress
+    fn show(&mut self, standing: &Standing)
+        ensures early { standing.now.moment < self.old.next → self.new ≡ self.old }
+        ensures next { self.old.next ≤ standing.now.moment → standing.now.moment + 250 < 2 ^ 64
+            → self.new.next ≡ standing.now.moment + 250 }
+    {
+        if standing.moment < self.next {
+            return;
         }
+        self.draw(standing);
+        self.next = standing.moment.saturating_add(u64::from(PERIOD_MS));
     }
 
     fn hide(&mut self) {
-        if self.is_up {
-            let _ = self.output.write_all(b"\r\x1b[K");
-            let _ = self.output.flush();
-            self.is_up = false;
+        if self.screen.is_shared {
+            self.take_off();
         }
     }
 
-    fn show_again(&mut self) {
-        if !self.is_up && !self.text.is_empty() {
-            self.put_up();
-        }
+    // The line is drawn again as time goes by, and not at each end.
+    fn show_again(&mut self) {}
+
+    fn end(&mut self) {
+        self.take_off();
     }
 
     fn say(&mut self, end: &End) {
@@ -126,7 +183,7 @@ impl<E: Write> Watch for Terminal<E> {
     }
 
     fn meet_file_limit(&mut self) {
-        self.hide();
+        self.take_off();
         let _ = print_file_limit(&mut self.output, true);
         let _ = self.output.flush();
     }

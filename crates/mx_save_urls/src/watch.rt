@@ -32,6 +32,8 @@ impl Watch for Nobody {
 
     fn show_again(&mut self) {}
 
+    fn end(&mut self) {}
+
     fn say(&mut self, _end: &End) {}
 
     fn meet_file_limit(&mut self) {}
@@ -45,11 +47,14 @@ pub trait Watch {
     /// Shows the run's standing.
     fn show(&mut self, standing: &Standing);
 
-    /// Takes off what is shown, before something else is printed.
+    /// Takes off what is shown, before something else is printed on standard output, if that would stand in its way.
     fn hide(&mut self);
 
-    /// Shows what was shown before it was taken off.
+    /// May show again what was taken off.
     fn show_again(&mut self);
+
+    /// Takes off what is shown, since the run has ended.
+    fn end(&mut self);
 
     /// Reports the end of a URL, where that is to be reported.
     fn say(&mut self, end: &End);

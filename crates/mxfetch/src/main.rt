@@ -16,12 +16,16 @@ use mx_hint::hint_of;
 use mx_run_body::{MOST_READS, run_body_explained};
 use mx_run_io::{Input, Output, UNWRITTEN, end_with};
 use mx_run_task::{most_reads, run_task};
-use mx_save_task::{REFUSED, run_save};
+use mx_save_task::{REFUSED, Screen, run_save};
 use mx_types::{Code, Method};
-use std::io::{BufWriter, Write};
+use std::io::{BufWriter, IsTerminal, Write};
 use std::net::{Net, TcpListener, TcpStream};
 use std::process::ExitCode;
+use std::rt::Env;
 use std::{env, io, process};
+
+/// How many columns a line has, where the environment doesn't say so.
+const COLUMNS: u16 = 80;
 
 /// Prints that memory was refused, without taking any.
 fn out_of_memory(rt: &impl Print) -> u8
@@ -136,6 +140,23 @@ fn words(rt: &HostRuntime) -> Result<Vec<String>, u8>
     }
 }
 
+/// How many columns a line of the terminal has, as far as the environment says so.
+fn columns(rt: &(impl Env + AllocGlobal)) -> usize {
+    let columns = match env::var(rt, "COLUMNS") {
+        Ok(text) => text.parse::<u16>().unwrap_or(COLUMNS),
+        Err(_) => COLUMNS,
+    };
+    usize::from(columns)
+}
+
+/// Where it is shown how a run of `save` stands.
+fn screen(rt: &HostRuntime) -> Screen {
+    Screen {
+        columns: columns(rt),
+        is_shared: rt.stdout().is_terminal() || !rt.stderr().is_terminal(),
+    }
+}
+
 fn main(rt: HostRuntime) -> ExitCode {
     let words = match words(&rt) {
         Ok(words) => words,
@@ -145,7 +166,10 @@ fn main(rt: HostRuntime) -> ExitCode {
         Ok(Asked::Task(task)) => run(&rt, task),
         Ok(Asked::Explain(method)) => run_explained(&rt, method, rt.stderr()),
         Ok(Asked::Get(get)) => fetch(&rt, get, rt.stderr()),
-        Ok(Asked::Save(save)) => run_save(&rt, &save, process::id(rt.process()), rt.stderr()),
+        Ok(Asked::Save(save)) => {
+            let process = process::id(rt.process());
+            run_save(&rt, &save, process, rt.stderr(), screen(&rt))
+        }
         Err(error) => {
             let status = explain(&rt, &error);
             hint(&rt, words.as_slice(), &error);
