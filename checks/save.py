@@ -867,6 +867,7 @@ def case_short_history():
         want_files(into, {path[1:]: body_of(path) for path in paths})
 
 
+# rule save-unbegun
 def case_refused_growths():
     note, counts = os.path.join(WORK, "note"), [0, 0, 0]
     with Server(keeping) as server:
@@ -886,12 +887,19 @@ def case_refused_growths():
             want(all(content == body_of(f"/{name}") for name, content in found.items()), f"growth {which}: a file isn't whole")
             want({line[4] for line in run.lines if line[0] == "saved"} <= set(found), f"growth {which}: a file that was told isn't there")
             want(all(line in lines or line[:2] in (("failed", 27), ("failed", 23)) for line in run.lines), f"growth {which}: {run.lines}")
-            is_ended = run.out == b"FAULT 27\n" or any(not WORDS.fullmatch(line) for line in run.err.splitlines())
+            is_ended = any(not WORDS.fullmatch(line) for line in run.err.splitlines())
             codes = [27] if is_ended else [line[1] for line in run.lines if line[1] != 0] + [0]
             want(run.status == codes[0], f"growth {which}: exit status {run.status}, {run.lines}, {run.err!r}")
             want(is_ended or len(run.lines) == 4, f"growth {which}: {len(run.lines)} lines, {run.err!r}")
             counts[0 if is_ended else 1 if run.status else 2] += 1
         want_lines(run, lines, 0)
+        # out of memory before a URL is asked for
+        for words, count in ((["--json"], 1), (["--data", "--json"], 0), (["--", "--json"], 0), ([], 0)):
+            asked = {"REFUSE_GROWTH": "1", "REFUSE_NOTE": note, "LD_PRELOAD": os.path.join(WORK, "refuse.so")}
+            run = Saved([server.url(paths[0])] + words, asked=asked)
+            want(run.status == 27 and run.err == b"mxfetch: out of memory\n", f"{words}: {run.status}, {run.err!r}")
+            found = run.objects()
+            want(len(found) == count and all(one["url"] is None and one["code"] == 27 for one in found), f"{words}: {run.out!r}")
         print(f"    growths refused: {counts[0]} ended the run, {counts[1]} ended a transfer, {counts[2]} were done without")
 
 

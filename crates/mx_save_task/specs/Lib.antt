@@ -3,3 +3,4 @@ pub mod Asked
 pub mod Saved
 pub mod Screens
 pub mod Status
+pub mod Unbegun

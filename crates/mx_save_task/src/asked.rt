@@ -5,6 +5,7 @@ ghost use Rattle.mx_request.specs.Request.{refusal_of};
 ghost use Rattle.mx_save_task.specs.Asked.{IsAskedBy, IsBodyOf, IsOneTooMany, field_given, option_name, refused_option, settings_given};
 
 use crate::status::{OUT_OF_MEMORY, REFUSED, UNREAD};
+use crate::unbegun::tell_out_of_memory;
 use crate::unread::read_file;
 use mx_request::RequestError;
 use mx_save_command::{BodySource, Header, Save};
@@ -15,14 +16,6 @@ use std::rt::Files;
 
 /// A URL of which a request is built to see whether one may have what is asked for.
 const ANY_URL: &str = "http://localhost/";
-
-/// Reports on standard error that memory was refused. The answer is the exit status.
-pub fn tell_out_of_memory(rt: &impl Eprint) -> u8
-    ensures { result ≡ OUT_OF_MEMORY }
-{
-    let _ = eprintln!(rt; "mxfetch: out of memory");
-    OUT_OF_MEMORY
-}
 
 fn copy_text(alloc: Global, text: Option<&str>) -> Result<Option<String>, AllocError>
     ensures { IfOk result (λ copy. option_map string_bytes copy ≡ option_map (λ t. t.now) text.entry) }

@@ -7,8 +7,10 @@ mod polled;
 mod run;
 mod status;
 mod terminal;
+mod unbegun;
 mod unread;
 
 pub use crate::run::{Saved, run_save, save_in};
 pub use crate::status::REFUSED;
 pub use crate::terminal::Screen;
+pub use crate::unbegun::refuse_save;

@@ -5,10 +5,11 @@ ghost use Rattle.mx_save_work.specs.Feeds.{list_left};
 ghost use Rattle.mx_save_task.specs.Saved.{SavesIn, urls_of};
 ghost use Rattle.mx_save_task.specs.Status.{codes_number, stop_number};
 
-use crate::asked::{asking_of, tell_out_of_memory};
+use crate::asked::asking_of;
 use crate::opened::{folder_of, list_of};
-use crate::status::{UNMADE, status_of};
+use crate::status::{OUT_OF_MEMORY, UNMADE, status_of};
 use crate::terminal::{Screen, Terminal};
+use crate::unbegun::{end_unbegun, tell_out_of_memory};
 use mx_crew::Runtime;
 use mx_folder::{Folder, FolderError};
 use mx_run_io::Output;
@@ -123,8 +124,19 @@ fn save_aloud<
                 &save_in(rt, save, process, asking, list, folder, lines, watch),
             )
         }
-        Err(_) => tell_out_of_memory(rt),
+        Err(_) => {
+            let _ = tell_out_of_memory(rt);
+            end_unbegun(rt, save.flags.json)
+        }
     }
+}
+
+// The exit status of a run that can't begin, which was told: where it is out of memory, objects are told so, too.
+fn unbegun(rt: &impl Print, save: &Save<'_>, status: u8) -> u8 {
+    if status == OUT_OF_MEMORY {
+        return end_unbegun(rt, save.flags.json);
+    }
+    status
 }
 
 /// Saves what is asked for: its URLs are fetched, the bodies saved in its folder, and each URL printed on standard output as it ends. Why
@@ -146,16 +158,16 @@ pub fn run_save<
 {
     let asking = match asking_of(rt, save) {
         Ok(asking) => asking,
-        Err(status) => return status,
+        Err(status) => return unbegun(rt, save, status),
     };
     let list = match list_of(rt, save.input) {
         Ok(list) => list,
-        Err(status) => return status,
+        Err(status) => return unbegun(rt, save, status),
     };
     let shows = save.flags.progress.unwrap_or(stderr.is_terminal());
     let watch = Terminal::new(rt.alloc(), Output::new(stderr), screen, shows);
     match folder_of(rt, save.into) {
         Ok(folder) => save_aloud(rt, save, process, asking, list, folder, watch),
-        Err(status) => status,
+        Err(status) => unbegun(rt, save, status),
     }
 }

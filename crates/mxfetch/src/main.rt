@@ -16,8 +16,9 @@ use mx_hint::hint_of;
 use mx_run_body::{MOST_READS, run_body_explained};
 use mx_run_io::{Input, Output, UNWRITTEN, end_with};
 use mx_run_task::{most_reads, run_task};
-use mx_save_task::{REFUSED, Screen, run_save};
+use mx_save_task::{REFUSED, Screen, refuse_save, run_save};
 use mx_types::{Code, Method};
+use std::env::FillError;
 use std::io::{BufWriter, IsTerminal, Write};
 use std::net::{Net, TcpListener, TcpStream};
 use std::process::ExitCode;
@@ -27,7 +28,7 @@ use std::{env, io, process};
 /// How many columns a line has, where the environment doesn't say so.
 const COLUMNS: u16 = 80;
 
-/// Prints that memory was refused, without taking any.
+/// Prints that there isn't enough memory, which takes none.
 fn out_of_memory(rt: &impl Print) -> u8
     ensures { (result ≡ 27) ⊎ (result ≡ 121) }
 {
@@ -37,8 +38,48 @@ fn out_of_memory(rt: &impl Print) -> u8
     }
 }
 
+/// Whether that word of the command line is this one. It takes no memory.
+fn is_word(rt: &impl Env, at: usize, word: &str) -> bool {
+    let mut buffer = [0u8; 8];
+    match rt.arg(at, &mut buffer) {
+        Ok(length) => &buffer[..length] == word.as_bytes(),
+        Err(_) => false,
+    }
+}
+
+/// Whether the command line has that word. It takes no memory.
+fn is_there(rt: &impl Env, at: usize) -> bool {
+    !matches!(rt.arg(at, &mut [0u8; 8]), Err(FillError::NotPresent))
+}
+
+/// Whether objects are to be printed: a word is `--json` that is neither the value of `--data` nor behind `--`. It takes no memory.
+fn has_json(rt: &impl Env) -> bool {
+    let mut is_value = false;
+    for at in 2..usize::MAX {
+        if !is_there(rt, at) || (!is_value && is_word(rt, at, "--")) {
+            return false;
+        }
+        if !is_value && is_word(rt, at, "--json") {
+            return true;
+        }
+        is_value = !is_value && is_word(rt, at, "--data");
+    }
+    false
+}
+
+// rule save-unbegun
+/// Ends a command that has no memory for its own command line.
+fn end_unread(rt: &(impl Env + Print + Eprint)) -> u8
+    ensures { (result ≡ 27) ⊎ (result ≡ 121) }
+{
+    if is_word(rt, 1, "save") {
+        return refuse_save(rt, has_json(rt));
+    }
+    out_of_memory(rt)
+}
+
 /// Prints clap's text: help and the version on standard output, a refusal on standard error. The exit status says which it was.
-fn explain(rt: &(impl Print + Eprint), error: &Error) -> u8
+fn explain(rt: &(impl Env + Print + Eprint), error: &Error) -> u8
     ensures any { (result ≡ 0) ⊎ ((result ≡ 120) ⊎ ((result ≡ 27) ⊎ (result ≡ 121))) }
     ensures memory { kind_of error.now ≡ kinds.OutOfMemory → (result ≡ 27) ⊎ (result ≡ 121) }
     ensures shown { (kind_of error.now ≡ kinds.DisplayHelp) ⊎ (kind_of error.now ≡ kinds.DisplayVersion) → (result ≡ 0) ⊎ (result ≡ 121) }
@@ -46,7 +87,7 @@ fn explain(rt: &(impl Print + Eprint), error: &Error) -> u8
         → kind_of error.now ≢ kinds.DisplayVersion → result ≡ REFUSED }
 {
     if error.kind() == ErrorKind::OutOfMemory {
-        return out_of_memory(rt);
+        return end_unread(rt);
     }
     let printed = error.print(rt).is_ok();
     if error.use_stderr() {
@@ -132,7 +173,7 @@ fn words(rt: &HostRuntime) -> Result<Vec<String>, u8>
 {
     match env::args(rt).and_then(|words| Ok(words.collect(rt.alloc())?)) {
         Ok(words) => Ok(words),
-        Err(error) if error.kind() == io::ErrorKind::OutOfMemory => Err(out_of_memory(rt)),
+        Err(error) if error.kind() == io::ErrorKind::OutOfMemory => Err(end_unread(rt)),
         Err(_) => {
             let _ = eprintln!(rt; "error: a word of the command line is not UTF-8");
             Err(REFUSED)
