@@ -529,7 +529,7 @@ def case_words_of_failures():
     with Server(serve) as server, deaf() as nobody:
         rows = [(server.url("/missing"), 22, "the status of the response isn't 2xx"),
                 (server.url("/cut"), 18, "the response ended within its body: 4 of 9 bytes of the body came"),
-                (server.url("/bad"), 56, "the response is refused at byte 58: it can't stand in the line of a chunk's size (RFC 9112, section 7.1)"),
+                (server.url("/bad"), 56, "the response is refused at byte 58: it isn't allowed in the line of a chunk's size (RFC 9112, section 7.1)"),
                 (server.url("/there"), 0, None), (f"http://{nobody}/", 7, "the connection was refused, or could not be made"),
                 ("127.0.0.1/x", 3, "the URL doesn't parse, or has a user name or a password"), ("https://127.0.0.1/", 1, "the scheme isn't http")]
         hints = {"127.0.0.1/x": "a URL begins with http://", "https://127.0.0.1/": "there is no TLS here, so https can't be fetched"}

@@ -49,7 +49,7 @@ static GET: [OptionRow; 6] = [
         name: "explain",
         takes: Takes::Nothing,
         default: None,
-        help: "Tell on standard error what failed, and why",
+        help: "Say on standard error what failed, and why",
     },
 ];
 
@@ -57,7 +57,7 @@ static BODY: [OptionRow; 1] = [OptionRow {
     name: "explain",
     takes: Takes::Nothing,
     default: None,
-    help: "Tell on standard error what is wrong, and where",
+    help: "Say on standard error what is wrong, and where",
 }];
 
 static PLAY: [OptionRow; 2] = [

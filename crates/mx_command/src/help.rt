@@ -39,9 +39,9 @@ one worker the URLs are fetched one after the other. With more they are fetched
 at the same time: all, or with --at-once N the first N, and then one more for
 each that has ended.
 
-With --explain each URL that failed is told on standard error, too, with why: of
-a response that is refused the byte, counted from 1, and the rule; of one that
-was cut how much of it came. What is printed stays the same.";
+With --explain standard error says of each URL that failed why: of a response
+that is refused the byte, counted from 1, and the rule; of one that ended early
+how much of it came. What is printed stays the same.";
 
 /// The exit statuses of `get`, and an example.
 pub const MORE_GET: &str = "Exit status: the first C that isn't 0, in the order of the URLs:
@@ -51,9 +51,9 @@ pub const MORE_GET: &str = "Exit status: the first C that isn't 0, in the order 
        password
     6  a host wasn't found
     7  a connection was refused, or could not be made
-    8  what came is no response head, or one that is cut short or refused
+    8  what came is not an HTTP response, or its head is incomplete or refused
    18  a connection ended within a body
-   27  there was not enough memory (`FAULT 27`: to begin at all)
+   27  out of memory, or (`FAULT 27`) no thread, poll, clock or result
    28  a transfer took longer than --timeout-ms
    47  there were more redirects than --max-redirects
    52  a connection ended before a byte came
@@ -85,17 +85,16 @@ the response. At most 67108865 bytes are read, one more than a response may
 have. Anything else prints `FAULT C`, where C is the number of a CURLcode
 (libcurl-errors(3)), and is the exit status.
 
-With --explain a response that isn't whole is told on standard error, too, with
-why: the byte at which it is refused, counted from 1, and the rule; or how much
-of it came. What is printed stays the same.";
+With --explain standard error says why a response isn't whole: the byte at which
+it is refused, counted from 1, and the rule; or how much of it came. What is
+printed stays the same.";
 
 /// The exit statuses of `body`, and an example.
 pub const MORE_BODY: &str = "Exit status:
     0  a whole response was printed, or this help
-    8  what came is no response: it begins no head, or one that is refused, or
-       is cut within one
+    8  what came is not an HTTP response, or its head is incomplete or refused
    18  the input ended within the body
-   27  there was not enough memory
+   27  out of memory
    52  there was no input
    56  a read of the input failed, or the framing of a chunked body is bad
    61  a transfer coding other than one `chunked`
@@ -130,11 +129,11 @@ between them, and prints one of these answers:
     state H        not-added, running T, paused T, done T CODE, read T CODE
     retire         retired L, claim-out
 
-H is a handle, and T the ticket of one addition of it. `done` tells the end of
+H is a handle, and T the ticket of one addition of it. `done` reports the end of
 an addition: the number of a CURLcode (libcurl-errors(3)), and the length of its
 body. `retire` drops the events of handles that aren't added any more, and the
-wakeups, from the history, where each addition's end was told; L is how many are
-kept. Tickets only rise, and the greatest is 4294967294: with --first-ticket
+wakeups, from the history, where each addition's end was reported; L is how many
+are kept. Tickets only rise, and the greatest is 4294967294: with --first-ticket
 4294967295 none is left. A number is 1 to 10 digits, of at most 4294967295; at
 most 256 handles are added at a time; a line has at most 64 bytes before its LF.
 Empty lines, and lines that begin with `#`, print nothing. Any other line prints
@@ -143,7 +142,7 @@ Empty lines, and lines that begin with `#`, print nothing. Any other line prints
 /// The exit statuses of `play`, and an example.
 pub const MORE_PLAY: &str = "Exit status:
     0  each line was answered, or this help was printed
-   27  there was not enough memory: `FAULT 27` is printed
+   27  out of memory: `FAULT 27` is printed
    56  a read of the input failed: `FAULT 56` is printed
   120  the command line is refused
   121  the output couldn't be written

@@ -6,7 +6,7 @@ pub const SAVE: &str = "Save the bodies of URLs in a folder, each whole";
 /// What `save` does.
 pub const LONG_SAVE: &str =
     "Save the bodies of URLs of scheme http in a folder. A body gets its name when
-the response was whole, and not before: a file that was told as saved is whole.
+the response was whole, and not before: a file reported as saved is whole.
 As each URL ends it prints a line, with one space between:
 
     VERDICT CODE STATUS LENGTH FILE URL
@@ -19,17 +19,17 @@ and URL each byte that isn't visible ASCII is %XX. Lines come in the order in
 which transfers end. A response whose status isn't 2xx fails with 22, unless
 --content-on-error is given.
 
-A list has a URL on each line; blank lines and lines that begin with # are let
-go. A URL that failed with 6, 7, 18, 28, 52, 55 or 56, or with status 408, 429,
-500, 502, 503 or 504, is tried again as often as --retry says, after 1, 2, 4 and
-up to 60 seconds, if its method is GET or HEAD.";
+A list has a URL on each line; blank lines and lines that begin with # are
+ignored. A URL that failed with 6, 7, 18, 28, 52, 55 or 56, or with status 408,
+429, 500, 502, 503 or 504, is tried again as often as --retry says, after 1, 2,
+4 and up to 60 seconds, if its method is GET or HEAD.";
 
 /// The exit statuses of `save`, and an example.
 pub const MORE_SAVE: &str = "Exit status: the first CODE that isn't 0, in the order of the URLs; but
     0  each URL was saved, done or skipped; or this help was printed
    23  the folder couldn't be made; or flushed, where each CODE is 0
    26  the list, or the file of --data, couldn't be read
-   27  no memory, thread, poll or clock was had to begin, or to go on
+   27  out of memory, or the system gave no thread, poll or clock
   120  the command line is refused, or no request can have its header fields,
        its user agent or its body
   121  the output couldn't be written

@@ -18,10 +18,10 @@ code_words code.UnsupportedProtocol = codes "the scheme isn't http"
 code_words code.UrlMalformat = codes "the URL doesn't parse, or has a user name or a password"
 code_words code.CouldntResolveHost = codes "host not found"
 code_words code.CouldntConnect = codes "the connection was refused, or could not be made"
-code_words code.WeirdServerReply = codes "what came is no response head"
+code_words code.WeirdServerReply = codes "not an HTTP response"
 code_words code.PartialFile = codes "the response ended within its body"
-code_words code.OutOfMemory = codes "not enough memory"
-code_words code.OperationTimedout = codes "the time was over"
+code_words code.OutOfMemory = codes "out of memory"
+code_words code.OperationTimedout = codes "timed out"
 code_words code.TooManyRedirects = codes "too many redirects"
 code_words code.GotNothing = codes "the connection ended before a byte came"
 code_words code.SendError = codes "the request could not be sent"
@@ -37,8 +37,8 @@ cut_words c = code_words c
 
 -- what is wrong where bytes are refused, with the section that says so
 abbrev pub fault_words : Fault → List ℕ
-fault_words fault.StatusLine = codes "it can't stand in a status line (RFC 9112, section 4)"
-fault_words fault.FieldLine = codes "it can't stand in a field line (RFC 9112, sections 2.1 and 5)"
+fault_words fault.StatusLine = codes "it isn't allowed in a status line (RFC 9112, section 4)"
+fault_words fault.FieldLine = codes "it isn't allowed in a field line (RFC 9112, sections 2.1 and 5)"
 fault_words fault.ManyFields = codes "a 129th field line begins, and a head may have 128"
 fault_words fault.LongHead = codes "a head has 65536 bytes, as many as it may, and doesn't end"
 fault_words fault.InterimHead = codes "status 101, or a 17th interim response (RFC 9110, section 15.2)"
@@ -46,9 +46,9 @@ fault_words fault.BadFraming = codes "Content-Length isn't one number, or HTTP/1
 fault_words fault.OtherCoding = codes "a transfer coding other than one chunked (RFC 9112, sections 6.1 and 7)"
 fault_words (fault.LongBody n) = codes "with its Content-Length the response has more than 67108864 bytes (RFC 9112, section 6.2)"
 fault_words fault.LargeChunk = codes "a chunk has more than 67108864 bytes (RFC 9112, section 7.1)"
-fault_words fault.SizeLine = codes "it can't stand in the line of a chunk's size (RFC 9112, section 7.1)"
-fault_words fault.ChunkEnd = codes "no CRLF stands behind a chunk's data (RFC 9112, section 7.1)"
-fault_words fault.Trailer = codes "it can't stand in a trailer section (RFC 9112, section 7.1.2)"
+fault_words fault.SizeLine = codes "it isn't allowed in the line of a chunk's size (RFC 9112, section 7.1)"
+fault_words fault.ChunkEnd = codes "no CRLF follows a chunk's data (RFC 9112, section 7.1)"
+fault_words fault.Trailer = codes "it isn't allowed in a trailer section (RFC 9112, section 7.1.2)"
 fault_words fault.ManyBytes = codes "the response has more than 67108864 bytes"
 
 -- How much of a response came: nothing is said where no byte did. Of a body whose length is known it is how many of its bytes; else how

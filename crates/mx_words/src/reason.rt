@@ -10,8 +10,8 @@ pub fn fault_words(fault: Fault) -> &'static str
     ensures { result.now ≡ fault_words fault }
 {
     match fault {
-        Fault::StatusLine => "it can't stand in a status line (RFC 9112, section 4)",
-        Fault::FieldLine => "it can't stand in a field line (RFC 9112, sections 2.1 and 5)",
+        Fault::StatusLine => "it isn't allowed in a status line (RFC 9112, section 4)",
+        Fault::FieldLine => "it isn't allowed in a field line (RFC 9112, sections 2.1 and 5)",
         Fault::ManyFields => "a 129th field line begins, and a head may have 128",
         Fault::LongHead => "a head has 65536 bytes, as many as it may, and doesn't end",
         Fault::InterimHead => { "status 101, or a 17th interim response (RFC 9110, section 15.2)" }
@@ -26,10 +26,10 @@ pub fn fault_words(fault: Fault) -> &'static str
         }
         Fault::LargeChunk => "a chunk has more than 67108864 bytes (RFC 9112, section 7.1)",
         Fault::SizeLine => {
-            "it can't stand in the line of a chunk's size (RFC 9112, section 7.1)"
+            "it isn't allowed in the line of a chunk's size (RFC 9112, section 7.1)"
         }
-        Fault::ChunkEnd => "no CRLF stands behind a chunk's data (RFC 9112, section 7.1)",
-        Fault::Trailer => "it can't stand in a trailer section (RFC 9112, section 7.1.2)",
+        Fault::ChunkEnd => "no CRLF follows a chunk's data (RFC 9112, section 7.1)",
+        Fault::Trailer => "it isn't allowed in a trailer section (RFC 9112, section 7.1.2)",
         Fault::ManyBytes => "the response has more than 67108864 bytes",
     }
 }
