@@ -12,7 +12,7 @@ use std::io::Write;
 const OBJECT: &str =
     "{\"url\":null,\"verdict\":\"failed\",\"code\":27,\"status\":0,\"length\":0,\"file\":null,\"hops\":0,\"tries\":0,\"framing\":null,\"error\":\"out of memory\"}\n";
 
-/// Tells on standard error that memory is wanting. The answer is the exit status.
+/// Reports on standard error that memory was refused. The answer is the exit status.
 pub fn tell_out_of_memory(rt: &impl Eprint) -> u8
     ensures { result ≡ OUT_OF_MEMORY }
 {
