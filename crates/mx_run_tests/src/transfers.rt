@@ -52,11 +52,20 @@ fn start(alloc: Global, response: &[u8]) -> io::Result<Transfer<ScriptLink>> {
     Ok(transfer)
 }
 
+/// The end of such a GET, which this task polls.
+fn fetch_by(alloc: Global, task: &MockTask, response: &[u8]) -> io::Result<Fetched> {
+    let mut transfer = start(alloc, response)?;
+    let end = poll(alloc, task, &mut transfer);
+    drop(transfer);
+    end
+}
+
 /// The end of such a GET.
 fn fetch<R: RandomSource + AllocGlobal>(rt: &R, response: &[u8]) -> io::Result<Fetched> {
-    let mut transfer = start(rt.alloc(), response)?;
     let task = MockTask::new(rt)?;
-    poll(rt.alloc(), &task, &mut transfer)
+    let end = fetch_by(rt.alloc(), &task, response);
+    drop(task);
+    end
 }
 
 /// The end of a GET: a link gives this response and then ends, or the GET is refused with this code.
