@@ -140,7 +140,7 @@ pub fn open_with<Q: Work + Drop, R: Wait>(
     Multi::open(rt, alloc, limits)
 }
 
-/// Lets two seats see one list of events. False where one of them isn't the multi handle's any more.
+/// Lets two seats see one list of events, and answers whether they do.
 pub fn meet_two<'m, Q: Work + Drop, R: Wait>(
     rt: &R,
     one: &mut Seated<'m, Application, Q, Outcome>,

@@ -91,7 +91,7 @@ fn first_wrong(
         }
     }
     if meets_file_limit(&Error::from(ErrorKind::OutOfMemory)) {
-        return Some("want of memory is no limit of files");
+        return Some("out of memory is no limit of files");
     }
     None
 }

@@ -396,7 +396,7 @@ fn is_saved_at_last(alloc: Global) -> Result<bool, OutOfMemory> {
 }
 
 fn wrong_of_want(alloc: Global) -> Result<Option<&'static str>, OutOfMemory> {
-    Ok((!is_saved_at_last(alloc)?).then_some("a save after the want of memory"))
+    Ok((!is_saved_at_last(alloc)?).then_some("a save after memory was refused"))
 }
 
 // What looks find before and after a save.

@@ -378,7 +378,7 @@ pub static ENDING: [Row; 10] = [
     // rule turn-gone
     // A transfer that a worker holds is dropped as soon as its look says that its handle is gone, without a message.
     Row {
-        name: "a held transfer whose handle is removed is let go",
+        name: "a held transfer whose handle is removed is dropped",
         keeps: 4,
         times: 1,
         steps: &[
