@@ -10,7 +10,7 @@ import time
 
 import hostile
 import redirects
-from servers import (MIB, PROGRAM, Nginx, Run, Server, Wrong, body_of, chunked, counted, deaf, keeping, read_request, refuse_growths,
+from servers import (MIB, PROGRAM, WORK, Nginx, Run, Server, Wrong, body_of, chunked, counted, deaf, keeping, read_request, refuse_growths,
                      until_closed, want, want_ends)
 
 
@@ -220,6 +220,23 @@ def case_at_once():
             run_with(["--workers", workers, "--at-once", str(width)], 1 if workers == "1" else min(width, 20))
 
 
+def case_more_than_one_worker_may_have():
+    # a worker has 64 transfers at most: all 100 are open at a time only where two are at work
+    paths, all_open = [f"/w{number}" for number in range(100)], threading.Barrier(100)
+
+    def holding(connection, _):
+        path = read_request(connection)
+        try:
+            all_open.wait(30)
+        except threading.BrokenBarrierError:
+            return
+        connection.sendall(counted(body_of(path), more="Connection: close\r\n"))
+
+    with Server(holding) as server:
+        run = Run(["--workers", "2", "--timeout-ms", "60000"] + [server.url(path) for path in paths])
+        want_ends(run, [(0, 200, body_of(path)) for path in paths])
+
+
 # rule gate-file-limit
 # rule program-file-limit-hint
 def case_too_many_open_files():
@@ -265,6 +282,20 @@ def case_full_output():
     with Server(keeping) as server, open("/dev/full", "wb") as full:
         child = subprocess.run([PROGRAM, "get", server.url("/f")], stdout=full, stderr=subprocess.DEVNULL, timeout=300)
         want(child.returncode == 121, f"exit status {child.returncode}")
+
+
+def case_what_the_system_refuses():
+    # the first new thread, poll or reading of a clock, and all others
+    rows = [("thread", "a thread can't be started"), ("poll", "the system gives no poll of sockets, or has too many open files"),
+            ("clock", "the system's clock can't be read")]
+    with Server(keeping) as server:
+        for refused, why in rows:
+            asked = {"REFUSE_SYSTEM": refused, "LD_PRELOAD": os.path.join(WORK, "refuse.so")}
+            for words, said in (([], ""), (["--workers", "1"], ""), (["--explain"], f"mxfetch: {why} (27)\n")):
+                run = Run(words + [server.url("/a"), server.url("/b")], asked=asked)
+                want(run.status == 27 and run.out == b"FAULT 27\n", f"no {refused}, {words}: {run.status}, {run.out[:60]!r}")
+                want(run.err.decode() == said, f"no {refused}, {words}: {run.err!r}")
+        want(server.count == 0, "something was asked for")
 
 
 def case_refused_growths():

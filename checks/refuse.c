@@ -1,26 +1,34 @@
 /* A library that refuses the growth of memory whose number is REFUSE_GROWTH, counted from 1 since the program was loaded, and then
-   makes the file REFUSE_NOTE; and that refuses each flush, by EIO, of a folder where REFUSE_FLUSH is `folder`, of a file where it is
-   `file`. Loaded by LD_PRELOAD; checks/refused-growths.sh, checks/get.sh and checks/save.sh compile it. */
+   makes the file REFUSE_NOTE; that refuses each flush, by EIO, of a folder where REFUSE_FLUSH is `folder`, of a file where it is
+   `file`; and each new thread, each new poll or each reading of a clock, where REFUSE_SYSTEM is `thread`, `poll` or `clock`. Loaded by
+   LD_PRELOAD; checks/refused-growths.sh, checks/get.sh and checks/save.sh compile it. */
+#define _GNU_SOURCE
+#include <dlfcn.h>
 #include <errno.h>
 #include <fcntl.h>
 #include <malloc.h>
+#include <pthread.h>
 #include <stdlib.h>
 #include <string.h>
 #include <sys/stat.h>
 #include <sys/syscall.h>
+#include <time.h>
 #include <unistd.h>
 
 void *__libc_malloc(size_t size);
 void *__libc_realloc(void *old, size_t size);
 
 static long left;
-static const char *flush;
+static const char *flush, *system_call;
+static int (*begin_thread)(pthread_t *, const pthread_attr_t *, void *(*)(void *), void *);
 
 /* it starts to count once the program is loaded */
 __attribute__((constructor)) static void begin(void) {
   const char *which = getenv("REFUSE_GROWTH");
-  left = which ? atol(which) : 0;
   flush = getenv("REFUSE_FLUSH");
+  system_call = getenv("REFUSE_SYSTEM");
+  *(void **)&begin_thread = dlsym(RTLD_NEXT, "pthread_create");
+  left = which ? atol(which) : 0;
 }
 
 /* whether this growth is the one that is refused, which it notes */
@@ -46,4 +54,26 @@ int fsync(int file) {
     return -1;
   }
   return (int)syscall(SYS_fsync, file);
+}
+
+static int is_refused_call(const char *name) { return system_call && strcmp(system_call, name) == 0; }
+
+int pthread_create(pthread_t *thread, const pthread_attr_t *attributes, void *(*run)(void *), void *given) {
+  return is_refused_call("thread") ? EAGAIN : begin_thread(thread, attributes, run, given);
+}
+
+int epoll_create1(int flags) {
+  if (is_refused_call("poll")) {
+    errno = EMFILE;
+    return -1;
+  }
+  return (int)syscall(SYS_epoll_create1, flags);
+}
+
+int clock_gettime(clockid_t clock, struct timespec *now) {
+  if (is_refused_call("clock")) {
+    errno = EINVAL;
+    return -1;
+  }
+  return (int)syscall(SYS_clock_gettime, clock, now);
 }

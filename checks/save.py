@@ -109,6 +109,9 @@ def case_framings():
         found = {one["file"]: one for one in run.objects()}
         want({name: one["framing"] for name, one in found.items()}
              == {"chunked": "chunked", "close": "close", "empty": "length", "counted": "length"}, "other framings")
+        # no framing where there is no body, or no head
+        none = Saved(["--json", "--method", "HEAD", server.url("/head"), "ftp://a/"], folder()).objects()
+        want(len(none) == 2 and all(one["framing"] is None for one in none), f"{none}")
 
 
 def case_what_is_asked_for():
@@ -133,6 +136,16 @@ def case_what_is_asked_for():
             line, *fields = asked[0][0].split(b"\r\n")
             want(line == method + b" /x HTTP/1.1", f"{words}: {line!r}")
             want({b"X-One: 1", b"X-Two: two", b"User-Agent: me/1"} <= set(fields), f"{words}: other fields, {fields}")
+        # no field but those that a request needs and those that are given; an Accept of one's own takes the place of the other
+        host, urls = server.url("")[7:].encode(), [server.url("/{a,b}[1-2]#x")]
+        for words, more in (([], [b"Accept: */*"]), (["--data", "a"], [b"Accept: */*", b"Content-Length: 1"]),
+                            (["-H", "accept: a", "-H", "X:"], [b"accept: a", b"X: "])):
+            asked.clear()
+            run = Saved(words + urls, folder(), asked={"http_proxy": "http://127.0.0.1:1/"})
+            want(run.status == 0 and len(asked) == 1, f"{words}: {run.status}, {asked}")
+            line, *fields = asked[0][0].split(b"\r\n")
+            want(line.split(b" ")[1] == b"/%7Ba,b%7D[1-2]", f"{line!r}")
+            want(sorted(fields) == sorted([b"Host: " + host] + more), f"{words}: other fields, {fields}")
         # the longest body
         longest = bytes(range(256)) * 4096
         with open(given, "wb") as file:
@@ -678,6 +691,9 @@ def case_tries():
             if path.startswith("/cut") and asked[path] == 1:
                 connection.sendall(counted(body_of(path))[:-1])
                 return
+            if path.startswith("/to"):
+                connection.sendall(counted(b"", "HTTP/1.1 303 See Other", f"Location: /busy{path}\r\n"))
+                continue
             if path.startswith("/busy") and asked[path] <= 2:
                 connection.sendall(counted(b"busy", "HTTP/1.1 503 busy"))
             else:
@@ -692,7 +708,9 @@ def case_tries():
         want(asked == {"/busy": 3, "/cut": 2, "/good": 1}, f"asked {asked}")
         want(2.9 < run.seconds < 30, f"{run.seconds:.2f} s")
         print(f"    503 twice, then 200: {run.seconds:.2f} s")
-        rows = [(["--retry", "1"], "/busy/1", 2), (["--retry", "2", "--data", "x"], "/busy/post", 1), ([], "/busy/none", 1)]
+        # what is tried again goes by the method that was given: a POST that became a GET isn't
+        rows = [(["--retry", "1"], "/busy/1", 2), (["--retry", "2", "--data", "x"], "/busy/post", 1), ([], "/busy/none", 1),
+                (["--retry", "1"], "/to/get", 2), (["--retry", "2", "--data", "x"], "/to/post", 1)]
         for words, path, times in rows:
             want_lines(Saved(words + [server.url(path)], folder()), [failed(22, 503, server.url(path))], 22)
             want(asked[path] == times, f"{words}: asked {asked[path]} times")
@@ -865,6 +883,20 @@ def case_short_history():
         run = Saved(["--history", "4"] + [server.url(path) for path in paths], into)
         want_lines(run, [saved(server, path, path[1:], body_of(path)) for path in paths], 0)
         want_files(into, {path[1:]: body_of(path) for path in paths})
+
+
+def case_what_the_system_refuses():
+    # the first new thread, poll or reading of a clock, and all others
+    rows = [("thread", "a thread can't be started"), ("poll", "the system gives no poll of sockets"),
+            ("clock", "the system's clock can't be read")]
+    with Server(keeping) as server:
+        for refused, why in rows:
+            asked = {"REFUSE_SYSTEM": refused, "LD_PRELOAD": os.path.join(WORK, "refuse.so")}
+            for words in ([], ["--json"]):
+                run = Saved(words + [server.url("/a"), server.url("/b")], folder(), asked=asked)
+                want(run.status == 27 and run.out == b"" and run.err.decode() == f"mxfetch: {why}\n",
+                     f"no {refused}, {words}: {run.status}, {run.out!r}, {run.err!r}")
+        want(server.count == 0, "something was asked for")
 
 
 # rule save-unbegun
