@@ -1,7 +1,8 @@
 #!/usr/bin/env bash
 # Compares the manual page man/mxfetch.1 with the sources: it is made of the texts and the options of the help, and of man/sections.1, which
 # is written by hand, and has to be that, byte for byte. Of man/sections.1 the keys of an object of `save --json` are compared with those
-# that are printed, and of CHANGES.md the latest version with the program's. Prints what differs, and ends with 1 where something does,
+# that are printed, the exit statuses with those of the help, and the limits with the constants; of the help of `get` the exit statuses with
+# the numbers of codes; and of CHANGES.md the latest version with the program's. Prints what differs, and ends with 1 where something does,
 # else with 0. Takes no second. It needs python3.
 #
 # Use: checks/man.sh                     compares
@@ -63,21 +64,22 @@ def escaped(line):
 lines = []
 
 
-# A text: what is indented, and what comes behind it without an empty line, is printed as it is.
+# A text: of a list of exit statuses each is a paragraph with its number in front; what else is indented is printed as it is.
 def add(text):
     for block in text.split("\n\n"):
         rows = block.split("\n")
-        if any(row.startswith(" ") for row in rows):
-            lead = [row for row in rows if not row.startswith(" ")]
-            lines.append(".PP")
-            if lead:
-                lines.extend(escaped(row) for row in lead)
-                rows = rows[len(lead):]
+        lead = [row for row in rows if not row.startswith(" ")]
+        lines.append(".PP")
+        lines.extend(escaped(row) for row in lead)
+        rows = rows[len(lead):]
+        if rows and re.match(r" *\d+  ", rows[0]):
+            for row in rows:
+                status = re.match(r" *(\d+)  (.*)", row)
+                lines.extend([".TP 6", rf"\fB{status.group(1)}\fR", escaped(status.group(2))] if status else [escaped(row.strip())])
+        elif rows:
             rows = textwrap.dedent("\n".join(rows)).split("\n")
-            lines.extend([".in 2n", ".nf"] + [escaped(row) for row in rows] + [".fi", ".in"])
-        else:
-            lines.append(".PP")
-            lines.extend(escaped(row) for row in rows)
+            shift = "+2n" if max(map(len, rows)) <= 70 else "+0n"
+            lines.extend([f".in {shift}", ".nf"] + [escaped(row) for row in rows] + [".fi", ".in"])
 
 
 def add_option(name, takes, argument, default, text):
@@ -108,9 +110,14 @@ lines.append(f'.TH MXFETCH 1 "" "mxfetch {version}" "User Commands"')
 lines.extend([".SH NAME", r"mxfetch \- fetch and save URLs over plain HTTP/1.1, decode responses, play scripts of calls", ".SH SYNOPSIS"])
 for name, _, _, _, _, rest in commands:
     lines.extend([rf"\fBmxfetch {name}\fR {rest}", ".br"])
-lines.append(r"\fBmxfetch help\fR [\fICOMMAND\fR]")
+lines.extend([r"\fBmxfetch help\fR [\fICOMMAND\fR]", ".br", r"\fBmxfetch \-\-version\fR"])
 lines.append(".SH DESCRIPTION")
 add(main["MXFETCH"] + ".")
+lines.extend([
+    ".PP",
+    r"The value of an option is the next word, or stands behind an =. Options may come behind URLs, each but \fB\-H\fR once; \fB\-\-\fR ends",
+    r"them. \fBmxfetch\fR \fICOMMAND\fR \fB\-\-help\fR prints what a command does, its options and its exit statuses, \fB\-h\fR less of it.",
+])
 for name, words, key, rows, arguments, _ in commands:
     lines.append(f".SH {name.upper()}")
     add(words[f"LONG_{key}"])
@@ -123,6 +130,53 @@ with open(f"{top}/man/sections.1", encoding="utf-8") as it:
     sections = it.read()
 keys = re.findall(r'\\"(\w+)\\":', source("mx_run_save/src/object.rt"))
 compare("the keys of an object of JSON", re.findall(r"(?m)^\.TP\n\\fB(\w+)\\fR$", sections), keys)
+
+
+# The exit statuses in a text of the help.
+def numbers(text):
+    return set(map(int, re.findall(r"(?m)^ *(\d+)  \S", text)))
+
+
+# A section of man/sections.1, as words with one space between.
+def section(name):
+    return sections.partition(f".SH {name}\n")[2].partition("\n.SH ")[0]
+
+
+# The value of a constant.
+def constant(path, name):
+    return int(re.search(rf"const {name}: \w+ = ([\d_]+);", source(path)).group(1).replace("_", ""))
+
+
+codes = set(map(int, re.findall(r"(?m)^code_number \S+ = (\d+)$", source("mx_types/specs/Code.antt"))))
+compare("the exit statuses in the help of get", sorted(numbers(main["MORE_GET"])), sorted(codes | {120, 121}))
+told = numbers("\n".join(words[f"MORE_{key}"] for _, words, key, *_ in commands))
+told |= set(map(int, re.findall(r"(?m)^save_number \S+ = (\d+)$", source("mx_run_save/specs/Codes.antt")))) | {132}
+compare("the exit statuses in man/sections.1", list(map(int, re.findall(r"(?m)^\.TP 6\n\\fB(\d+)\\fR$", section("EXIT STATUS")))), sorted(told))
+for name, limits in {
+    "LIMITS": (
+        ("A response has at most {} bytes", "mx_body/src/limits.rt", "MOST_BYTES"),
+        ("a head has at most {} bytes", "mx_head/src/limits.rt", "MOST_HEAD_BYTES"),
+        ("bytes and {} field lines", "mx_head/src/limits.rt", "MOST_FIELDS"),
+        ("at most {} interim responses", "mx_body/src/limits.rt", "MOST_INTERIM"),
+        ("A URL has at most {} bytes", "mx_request/src/request.rt", "MOST_TEXT"),
+        ("the body of a request {}.", "mx_request/src/request.rt", "MOST_BODY"),
+        ("takes {} URLs", "mx_get/src/fetch.rt", "MOST_URLS"),
+        ("A worker has {} transfers at most", "mx_types/src/limits.rt", "MOST_TRANSFERS"),
+        ("of its own, {} at a time", "mx_names/src/names.rt", "MOST_LOOKUPS"),
+    ),
+    "REQUESTS OF SAVE": (
+        ("more than {} fields", "mx_request/src/fields.rt", "MOST_FIELDS"),
+        ("more than {} bytes", "mx_request/src/fields.rt", "MOST_VALUE"),
+        ("more than {}.", "mx_request/src/request.rt", "MOST_BODY"),
+    ),
+    "LISTS OF URLS": (("more than {} bytes", "mx_url_list/src/entry.rt", "MOST_LINE"),),
+    "NAMES OF FILES": (("at most {} bytes", "mx_file_name/src/names.rt", "MOST_LEN"),),
+    "RETRIES": (("At most {} URLs", "mx_save_run/src/plan.rt", "MOST_PENDING"),),
+}.items():
+    there = " ".join(section(name).split())
+    for words, path, limit in limits:
+        if words.format(constant(path, limit)) not in there:
+            sys.exit(f"man: {name} of man/sections.1 doesn't say {words.format(constant(path, limit))!r}, as {limit} of {path} is")
 with open(f"{top}/CHANGES.md", encoding="utf-8") as it:
     compare("the latest version in CHANGES.md", re.findall(r"(?m)^## (\d\S*)$", it.read())[:1], [version])
 lines.extend(sections.splitlines())
