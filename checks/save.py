@@ -913,12 +913,12 @@ def case_refused_growths():
                         asked=asked)
             if not os.path.exists(note):
                 break
-            # what was printed as saved is there, whole, and nothing is half there; what wasn't saved is printed so (23 where the folder
-            # lacked the memory), or the run was ended with 27
+            # what was printed as saved is there, whole, and nothing is half there; what wasn't saved is printed so, with 27, or the run was
+            # ended with 27
             found = files_in(into)
             want(all(content == body_of(f"/{name}") for name, content in found.items()), f"growth {which}: a file isn't whole")
             want({line[4] for line in run.lines if line[0] == "saved"} <= set(found), f"growth {which}: a file that was told isn't there")
-            want(all(line in lines or line[:2] in (("failed", 27), ("failed", 23)) for line in run.lines), f"growth {which}: {run.lines}")
+            want(all(line in lines or line[:2] == ("failed", 27) for line in run.lines), f"growth {which}: {run.lines}")
             is_ended = any(not WORDS.fullmatch(line) for line in run.err.splitlines())
             codes = [27] if is_ended else [line[1] for line in run.lines if line[1] != 0] + [0]
             want(run.status == codes[0], f"growth {which}: exit status {run.status}, {run.lines}, {run.err!r}")
