@@ -1,8 +1,8 @@
 #!/usr/bin/env bash
-# `mxfetch get` against real servers: nginx, and small servers that close, stall, trickle, reset, flood and redirect; and with each growth
-# of memory refused in turn. It compares every body byte by byte, every code, the exit status, the time and the peak memory, and ends with
-# 1 where one differs from what is expected. Chains of redirects are compared with `curl -L` too, request by request; a line is printed for
-# each where curl has another rule. The rules named there are those of curl 7.88.1.
+# `mxfetch get` against real servers: nginx, and small servers that close, stall, trickle, reset, flood and redirect; without threads, polls
+# or clocks; and with each growth of memory refused in turn. It compares every body byte by byte, every code, the exit status, the time and
+# the peak memory, and ends with 1 where one differs from what is expected. Chains of redirects are compared with `curl -L` too, request by
+# request; a line is printed for each where curl has another rule. The rules named there are those of curl 7.88.1.
 #
 #     checks/get.sh [WORD]        all cases, or those whose names have the word
 #

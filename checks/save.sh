@@ -1,8 +1,8 @@
 #!/usr/bin/env bash
 # `mxfetch save` against real servers: nginx, Python's http.server, and small servers that fail, lie and hang. It kills the program in
 # mid-run and takes the run up again, fills a disk, refuses to flush, puts links and folders in the way, has servers forge lines and names,
-# and counts memory, threads and descriptors over 10,000 URLs; and it refuses each growth of memory in turn. Every file is compared byte by
-# byte, and every line with the expected one. It ends with 1 where one differs.
+# and counts memory, threads and descriptors over 10,000 URLs; and it refuses threads, polls and clocks, and each growth of memory in turn.
+# Every file is compared byte by byte, and every line with the expected one. It ends with 1 where one differs.
 #
 #     checks/save.sh [WORD]       all cases, or those whose names have the word
 #
