@@ -194,10 +194,13 @@ def case_localhost_on_either_address():
 
 
 def main():
-    NameServer()
+    cases = [(name[5:], case) for name, case in globals().items() if name.startswith("case_")]
     word = sys.argv[1] if len(sys.argv) > 1 else ""
+    if not any(word in name for name, _ in cases):
+        sys.exit(f"no case has {word!r} in its name")
+    NameServer()
     wrong = 0
-    for name, case in [(name[5:], case) for name, case in globals().items() if name.startswith("case_")]:
+    for name, case in cases:
         if word not in name:
             continue
         print(name, flush=True)

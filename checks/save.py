@@ -938,6 +938,8 @@ def case_refused_growths():
 def main():
     cases = [(name[5:], case) for name, case in globals().items() if name.startswith("case_")]
     word = sys.argv[1] if len(sys.argv) > 1 else ""
+    if not any(word in name for name, _ in cases):
+        sys.exit(f"no case has {word!r} in its name")
     wrong = 0
     for name, case in cases:
         if word not in name:
