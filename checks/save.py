@@ -595,7 +595,9 @@ def seen(words, shared, columns="", interrupted=False):
     """What a terminal is sent that is standard error, and output, too, where it is shared; what output is else; and the exit status. Where
     it is interrupted, that is as soon as something was shown."""
     master, slave = pty.openpty()
-    child = start(words, stdout=slave if shared else subprocess.PIPE, stderr=slave, env={**os.environ, "COLUMNS": columns})
+    # what a shell starts behind `&` ignores interrupts, and so would the program
+    child = start(words, stdout=slave if shared else subprocess.PIPE, stderr=slave, env={**os.environ, "COLUMNS": columns},
+                  preexec_fn=lambda: signal.signal(signal.SIGINT, signal.SIG_DFL))
     os.close(slave)
     came = b""
     with contextlib.suppress(OSError):  # EIO, once nobody has the other side
