@@ -10,7 +10,7 @@ import time
 from functools import partial
 from typing import NamedTuple
 
-from servers import (WORK, Nginx, Run, Server, Wrong, body_of, chunked, counted, deaf, first_fault, keeping, read_head, read_request,
+from servers import (MIB, WORK, Nginx, Run, Server, Wrong, body_of, chunked, counted, deaf, first_fault, keeping, read_head, read_request,
                      refuse_growths, want, want_ends)
 
 TOO_MANY = 47
@@ -463,6 +463,22 @@ def stepping(connection, _):
     while (path := read_request(connection)) is not None:
         left, rest = path[1:].split("/", 1)
         connection.sendall(counted(body_of(rest)) if left == "0" else moved(f"/{int(left) - 1}/{rest}", STATUSES[int(left) % 5]))
+
+
+# rule redirect-heads
+def case_redirects_with_large_bodies():
+    # a body whose redirect is followed is freed before the next one comes
+    large = bytes(20 * MIB)
+
+    def serve(connection, _):
+        while (path := read_request(connection)) is not None:
+            left = int(path[1:])
+            connection.sendall(moved(f"/{left - 1}", body=large) if left else counted(b"there"))
+
+    with Server(serve) as server:
+        run = Run(["--max-redirects", "10", server.url("/10")])
+        want_ends(run, [(0, 200, b"there")])
+        want(run.peak < 60 * MIB, f"peak {run.peak // MIB} MiB")
 
 
 def case_redirects_with_refused_growths():

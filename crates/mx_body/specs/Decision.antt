@@ -42,6 +42,13 @@ abbrev pub HasFinalHead : List ℕ → Type 0
 HasFinalHead input =
     (hs : List ResponseHead) × (h : ResponseHead) × (r : List ℕ) × StandsAtBody input hs h r
 
+-- the heads of the input: its interim heads and its final head; nothing where it has no final head
+abbrev pub HasHeads : List ℕ → List ℕ → Type 0
+HasHeads input heads =
+    ((hs : List ResponseHead) × (h : ResponseHead) × (r : List ℕ)
+    × StandsAtBody input hs h r × (heads ≡ print_heads hs ++ print_response h))
+    ⊎ (¬ (HasFinalHead input) × (heads ≡ []))
+
 -- rule body-truncated: An input that ends within the body is 18, within a head 8, before its first byte 52.
 abbrev pub EndsTooSoon : List ℕ → Code → Type 0
 EndsTooSoon input code =

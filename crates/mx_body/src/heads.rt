@@ -1,7 +1,8 @@
 //! The final head of a response, after its interim heads.
 
-ghost use Rattle.std.specs.Prelude.{◌≡◌, ◌+◌, ◌↔◌, IsTrue, [], length, slice_range};
+ghost use Rattle.std.specs.Prelude.{◌≡◌, ◌≤◌, ◌+◌, ◌↔◌, IsTrue, [], length, take, slice_range};
 ghost use Rattle.mx_head.specs.Reading.{IsStepOn};
+ghost use Rattle.mx_body.specs.Decision.{HasHeads};
 ghost use Rattle.mx_body.specs.Response.{IsInterimStatus};
 ghost use Rattle.mx_body.specs.Steps.{IsBehind, HavePassed, IsNextOn, IsFinalStepOn};
 
@@ -142,5 +143,17 @@ pub(crate) fn final_head(text: &[u8]) -> FinalStep
             }
             Next::Decided(step) => return step,
         }
+    }
+}
+
+/// How many bytes the heads at the front of the bytes have, the interim heads and the final head (RFC 9112, section 2.1); 0 where there is
+/// no final head. It takes no memory.
+pub fn heads_len(text: &[u8]) -> usize
+    ensures heads { HasHeads text.now (take result text.now) }
+    ensures within { result ≤ length text.now }
+{
+    match final_head(text) {
+        FinalStep::Head { head: _, end } => end,
+        _ => 0,
     }
 }

@@ -16,6 +16,7 @@ mod verdict;
 mod whole;
 
 pub use crate::decoder::{Decoder, Stand};
+pub use crate::heads::heads_len;
 pub use crate::limits::{MOST_BYTES, MOST_INTERIM};
 pub use crate::part::Part;
 pub use crate::verdict::Verdict;

@@ -1,6 +1,6 @@
 -- Hops that lead one to the next, and how a chain of them ends.
 use Rattle.std.proofs.Common.{◌≡◌, ℕ, ◌+◌, ◌≤◌, ◌<◌, Bool, true, false, List, [], ◌∷◌, ◌++◌, length, Some, None, Ok, Err, inl, inr, ◌⊎◌, refl, sym, ap, ◌∙◌, subst, ◌↔◌, arith, length-append}
-use Rattle.std.specs.Prelude.{is_some, ◌||◌}
+use Rattle.std.specs.Prelude.{is_some, ◌||◌, option_map, slice_get}
 use Rattle.std.proofs.lemmas.Bool.{and_parts}
 use Rattle.std.proofs.lemmas.List.Sums.{sum_by-append}
 use Rattle.std.specs.List.{sum_by}
@@ -28,15 +28,29 @@ pub first_is : (most : ℕ) (first : RequestValue) (hops : List HopValue) (last 
 first_is most first [] last l = sym l
 first_is most first (x ∷ hops) last l = l.0
 
+-- it is that of the first hop, where there is one, and else that under way
+pub request_of_first : (most : ℕ) (first : RequestValue) (hops : List HopValue) (last r : RequestValue) → LeadTo most first hops last
+    → Some r ≡ option_map (λ o. o.request) (slice_get hops 0) → r ≡ first
+request_of_first most first [] last r l e = cc
+request_of_first most first (x ∷ hops) last r l e =
+    let same : Some r ≡ Some x.request = e in
+    let is : r ≡ x.request = cc in
+    is ∙ l.0
+
+pub request_of_none : (most : ℕ) (first : RequestValue) (hops : List HopValue) (last : RequestValue) → LeadTo most first hops last
+    → None ≡ option_map (λ (o : HopValue). o.request) (slice_get hops 0) → last ≡ first
+request_of_none most first [] last l e = sym l
+request_of_none most first (x ∷ hops) last l e = cc
+
 -- the request that hops lead from can be sent, as that of each hop can
 request_of : (most : ℕ) (first : RequestValue) (hops : List HopValue) (last : HopValue) → LeadTo most first hops last.request → hop.IsHop last → IsRequest first
 request_of most first [] last l h = subst IsRequest (sym l) h.request
 request_of most first (x ∷ hops) last l h = subst IsRequest l.0 l.2.request
 
 -- an outcome of these hops
-pub made : (first : RequestValue) (hops : List HopValue) (last : HopValue) (c : Code) → LeadTo first.settings.max_redirects first hops last.request
-    → length hops ≤ first.settings.max_redirects → hop.IsHop last → EndsWith first.settings.max_redirects (length hops) last c → IsOutcome (outcome_of hops last c)
-made first hops last c l few h e =
+pub made : (heads_alone : Bool) (first : RequestValue) (hops : List HopValue) (last : HopValue) (c : Code) → LeadTo first.settings.max_redirects first hops last.request
+    → length hops ≤ first.settings.max_redirects → hop.IsHop last → EndsWith first.settings.max_redirects (length hops) last c → IsOutcome (outcome_of heads_alone hops last c)
+made heads_alone first hops last c l few h e =
     let same = sym (first_is first.settings.max_redirects first hops last l) in
     record {
       value = refl;

@@ -96,7 +96,7 @@ module _ {L : Type 0} (t : ChainState L) (mid : ExchangeState L) (o : HopValue) 
 pub finish : {L : Type 0} (t s new : ChainState L) (o : HopValue) (c : Code) → s ≡ record t { now = released t.now; link = left_of t.link t.now }
     → EndsWith t.request.settings.max_redirects (length t.hops) o c → new ≡ record s { hops = []; code = Some c; link = new.link; home = new.home }
     → SettlesHome s s.link o.request new
-    → GoesOn t t.now o new (ends (outcome_of t.hops o c))
+    → GoesOn t t.now o new (ends (outcome_of t.heads_alone t.hops o c))
 finish {L} t s new o c was why e home =
     finishes c why
     (e ∙ ap (λ (x : ChainState L). record x { hops = []; code = Some c; link = new.link; home = new.home }) was)
@@ -106,9 +106,9 @@ finish {L} t s new o c was why e home =
 pub finish_from : {L : Type 0} (t s new : ChainState L) (o : HopValue) (c : Code) → s ≡ record t { now = released t.now; link = left_of t.link t.now }
     → EndsWith s.request.settings.max_redirects (length s.hops) o c → new ≡ record s { hops = []; code = Some c; link = new.link; home = new.home }
     → SettlesHome s s.link o.request new
-    → GoesOn t t.now o new (ends (outcome_of s.hops o c))
+    → GoesOn t t.now o new (ends (outcome_of s.heads_alone s.hops o c))
 finish_from {L} t s new o c was why e home =
-    subst (λ (x : ChainState L). GoesOn t t.now o new (ends (outcome_of x.hops o c))) (sym was)
+    subst (λ (x : ChainState L). GoesOn t t.now o new (ends (outcome_of x.heads_alone x.hops o c))) (sym was)
     (finish t s new o c was (subst (λ (x : ChainState L). EndsWith x.request.settings.max_redirects (length x.hops) o c) was why) e home)
 
 -- ---- an exchange whose link was taken
@@ -153,9 +153,9 @@ goes_released {L} t s new o how was g = on how (subst (λ (x : ChainState L). Go
 pub finish_unkept : {L : Type 0} (t s new : ChainState L) (o p : HopValue) (c : Code) → s ≡ t → p ≡ o → t.now.is_kept ≡ false
     → EndsWith s.request.settings.max_redirects (length s.hops) p c → new ≡ record s { hops = []; code = Some c; link = new.link; home = new.home }
     → SettlesHome s s.link p.request new
-    → GoesOn t t.now o new (ends (outcome_of s.hops p c))
+    → GoesOn t t.now o new (ends (outcome_of s.heads_alone s.hops p c))
 finish_unkept {L} t s new o p c same hop unkept why e home =
-    subst (λ (x : HopValue). GoesOn t t.now o new (ends (outcome_of s.hops x c))) (sym hop)
+    subst (λ (x : HopValue). GoesOn t t.now o new (ends (outcome_of s.heads_alone s.hops x c))) (sym hop)
     (finish_from t s new o c (same ∙ (λ i. record t { now = sym (released_same t.now unkept) i; link = sym (left_same t.now t.link unkept) i }))
     (subst (λ (x : HopValue). EndsWith s.request.settings.max_redirects (length s.hops) x c) hop why) e
     (subst (λ (x : HopValue). SettlesHome s s.link x.request new) hop home))

@@ -9,13 +9,15 @@ use Rattle.mx_exchange.specs.Exchanges as exchange
 use Rattle.mx_exchange.specs.Exchanges.{HopValue, ExchangeState, renewed}
 use Rattle.mx_chain.specs.Hops.{LeadTo}
 
--- A transfer. `request` is the first hop's. `hops` were followed, and `earlier` counts the bytes of their responses; once the transfer has
+-- A transfer. `request` is the first hop's. `hops` were followed, of which memory has the heads alone where `heads_alone` is true, and
+-- `earlier` counts the bytes of their responses; once the transfer has
 -- ended they are in its outcome, and here are none. `now` is the exchange of the hop that is under way, or was the last, and `linked` says
 -- whether a link was attached in it. `link` is what `take_link` hands out: a link that served a hop which has ended, and may serve again.
 -- `home` is where it goes, once the transfer has ended.
 pub record ChainState (L : Type 0) : Type 0 where
   pub request : RequestValue
   pub hops : List HopValue
+  pub heads_alone : Bool
   pub now : ExchangeState L
   pub linked : Bool
   pub earlier : ℕ
@@ -28,6 +30,7 @@ abbrev pub begun : {L : Type 0} → RequestValue → ChainState L
 begun request = record {
   request = request;
   hops = [];
+  heads_alone = false;
   now = exchange.begun request;
   linked = false;
   earlier = 0;
@@ -35,6 +38,10 @@ begun request = record {
   link = None;
   home = None;
 }
+
+-- the same, of which memory will have the heads alone of each hop that is followed
+abbrev pub begun_with_heads : {L : Type 0} → RequestValue → ChainState L
+begun_with_heads request = record (begun request) { heads_alone = true }
 
 -- so many bytes more, held at the greatest number of 32 bits
 abbrev pub counted : ℕ → ℕ → ℕ

@@ -1,18 +1,21 @@
 -- What a transfer ends with.
-use Rattle.std.specs.Prelude.{◌≡◌, ℕ, ◌≤◌, ◌||◌, Bool, true, false, List, [], ◌∷◌, ◌++◌, length, if◌then◌else◌}
+use Rattle.std.specs.Prelude.{◌≡◌, ℕ, ◌≤◌, nat_lt, ◌||◌, ◌&&◌, Bool, true, false, List, [], ◌∷◌, ◌++◌, length, slice_get, Option, Some, None, IfSome, option_map, if◌then◌else◌}
 use Rattle.mx_types.specs.declared.code.Code.{Code}
 use Rattle.mx_types.specs.declared.code.Code.TheVariants as code
 use Rattle.mx_request.specs.Request.{RequestValue, IsRequest}
+use Rattle.mx_body.specs.Decision.{HasHeads}
 use Rattle.mx_body.specs.declared.part.Part.{Part}
 use Rattle.mx_exchange.specs.Hops as hop
 use Rattle.mx_exchange.specs.Exchanges.{HopValue}
 use Rattle.mx_chain.specs.Hops.{is_ok, LeadTo, EndsWith}
 
--- The first hop's request, the hops that were followed, and the last one. The bytes, the status and the parts are those of the last hop,
+-- The first hop's request, the hops that were followed, of which memory has the heads alone where `heads_alone` is true, and the last one,
+-- of which it has all. The bytes, the status and the parts are those of the last hop,
 -- and there are parts with code 0 alone.
 pub record OutcomeValue : Type 0 where
   pub request : RequestValue
   pub earlier : List HopValue
+  pub heads_alone : Bool
   pub last : HopValue
   pub wire : List ℕ
   pub code : Code
@@ -23,6 +26,18 @@ pub record OutcomeValue : Type 0 where
 abbrev pub hops_of : OutcomeValue → List HopValue
 hops_of o = o.earlier ++ o.last ∷ []
 
+-- rule redirect-heads: A hop that was followed keeps its heads alone, where its transfer was made so; the last hop keeps all of its bytes.
+--
+-- the bytes of the response of a hop, counted from 0, where memory has all of them
+abbrev pub wire_at : OutcomeValue → ℕ → Option (List ℕ)
+wire_at o i =
+    if o.heads_alone && nat_lt i (length o.earlier) then None
+    else option_map (λ h. h.wire) (slice_get (hops_of o) i)
+
+-- they are the heads of the response of that hop
+abbrev pub AreHeadsAt : OutcomeValue → ℕ → List ℕ → Type 0
+AreHeadsAt o i heads = IfSome (slice_get (hops_of o) i) (λ h. HasHeads h.wire heads)
+
 -- the request of the first hop
 abbrev pub first_of : List HopValue → HopValue → RequestValue
 first_of [] last = last.request
@@ -31,10 +46,11 @@ first_of (o ∷ hops) last = o.request
 -- rule redirect-outcome: Body, status and code are the last hop's.
 --
 -- the outcome that these hops make, with this code
-abbrev pub outcome_of : List HopValue → HopValue → Code → OutcomeValue
-outcome_of earlier last code = record {
+abbrev pub outcome_of : Bool → List HopValue → HopValue → Code → OutcomeValue
+outcome_of heads_alone earlier last code = record {
   request = first_of earlier last;
   earlier = earlier;
+  heads_alone = heads_alone;
   last = last;
   wire = last.wire;
   code = code;
@@ -57,7 +73,7 @@ is_outcome_code c = hop.is_hop_code c || is_unfollowed_code c
 -- The hops are a chain: each later request is the next request of the hop before, and at most as many were followed as the first request
 -- allows. The code is the last hop's, or says why no other followed it.
 pub record IsOutcome (o : OutcomeValue) : Type 0 where
-  pub value : o ≡ outcome_of o.earlier o.last o.code
+  pub value : o ≡ outcome_of o.heads_alone o.earlier o.last o.code
   pub request : IsRequest o.request
   pub leads : LeadTo o.request.settings.max_redirects o.request o.earlier o.last.request
   pub few : length o.earlier ≤ o.request.settings.max_redirects

@@ -47,7 +47,7 @@ pub data GoesOn {L : Type 0} (t : ChainState L) (mid : ExchangeState L) (o : Hop
       → length t.hops < t.request.settings.max_redirects → next_of o ≡ Ok next → new ≡ onward t mid o next
       → GoesOn t mid o new asks
   finishes : (c : Code) → EndsWith t.request.settings.max_redirects (length t.hops) o c
-      → new ≡ over t mid c new.link new.home → SettlesHome t (left_of t.link mid) o.request new → GoesOn t mid o new (ends (outcome_of t.hops o c))
+      → new ≡ over t mid c new.link new.home → SettlesHome t (left_of t.link mid) o.request new → GoesOn t mid o new (ends (outcome_of t.heads_alone t.hops o c))
 
 -- A turn is one turn of the hop that is under way, and how the chain goes on from its end.
 pub data Steps {L : Type 0} (history : L → List Answer) (t new : ChainState L) : How → Type 0 where

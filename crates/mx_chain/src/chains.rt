@@ -5,9 +5,10 @@ ghost use Rattle.mx_exchange.specs.Exchanges.{ExchangeState, WantsLink, IsDue, I
 ghost use Rattle.mx_types.specs.Code.{is_link_code};
 ghost use Rattle.mx_exchange.specs.Endings.{IsUndecided};
 ghost use Rattle.mx_chain.specs.Hops.{is_redirect, next_of, LeadTo, EndsWith};
-ghost use Rattle.mx_chain.specs.Chains.{ChainState, IsChain, begun, bytes_in, received_of, home_by, home_of, released, left_of};
+ghost use Rattle.mx_chain.specs.Chains.{ChainState, IsChain, begun, begun_with_heads, bytes_in, received_of, home_by, home_of, released, left_of};
 ghost use Rattle.mx_chain.specs.declared.chains.Stepped.TheVariants as stepped;
 
+use crate::followed::Hops;
 use crate::outcomes::{Outcome, is_ok};
 use mx_exchange::{Exchange, Hop, Turned, Want};
 use mx_link::Link;
@@ -15,7 +16,6 @@ use mx_request::{Endpoint, Request, RequestError, is_redirect as sends_on};
 use mx_types::Code;
 use std::alloc::Global;
 use std::marker::Model;
-use std::mem;
 use std::snapshot::Snapshot;
 
 /// The result of a turn.
@@ -35,7 +35,7 @@ pub struct Chain<L: Link> {
     alloc: Global,
     about: Snapshot<Request>,
     most: u8,
-    hops: Vec<Hop>,
+    hops: Hops,
     exchange: Exchange<L>,
     code: Option<Code>,
     // The bytes of the hops that were followed.
@@ -77,7 +77,8 @@ impl<L: Link> Model for Chain<L> {
 
     ghost view = { λ c. record {
       request = c.about.value;
-      hops = c.hops.items;
+      hops = c.hops.all;
+      heads_alone = c.hops.heads_alone;
       now = c.exchange;
       linked = c.is_linked;
       earlier = c.earlier;
@@ -90,7 +91,8 @@ impl<L: Link> Model for Chain<L> {
       most : c.most ≡ c.about.value.settings.max_redirects;
       chain : IsChain (record {
         request = c.about.value;
-        hops = c.hops.items;
+        hops = c.hops.all;
+        heads_alone = c.hops.heads_alone;
         now = c.exchange;
         linked = c.is_linked;
         earlier = c.earlier;
@@ -106,9 +108,24 @@ impl<L: Link> Chain<L> {
     ghost use Rattle.mx_chain.specs.Outcomes.{IsOutcome, outcome_of, first_of, hops_of};
     ghost use Rattle.mx_types.specs.declared.code.Code.TheVariants as code;
 
-    /// A transfer of the request. It takes no memory; what its turns grow comes from `alloc`.
+    /// A transfer of the request, which keeps all bytes of the hops that it follows. It takes no memory; what its turns grow comes from
+    /// `alloc`.
     pub fn new(alloc: Global, request: Request) -> Chain<L>
         ensures { result ≡ begun request }
+    {
+        Chain::make(alloc, request, false)
+    }
+
+    /// The same, which keeps of each hop that it follows its heads alone: the body is freed before the next hop begins.
+    pub fn keeping_heads(alloc: Global, request: Request) -> Chain<L>
+        ensures { result ≡ begun_with_heads request }
+    {
+        Chain::make(alloc, request, true)
+    }
+
+    // A transfer of the request, and whether it keeps heads alone.
+    fn make(alloc: Global, request: Request, heads_alone: bool) -> Chain<L>
+        ensures { result ≡ record (begun request) { heads_alone = heads_alone } }
     {
         let about = Snapshot::of(&request);
         let most = request.max_redirects();
@@ -116,7 +133,7 @@ impl<L: Link> Chain<L> {
             alloc,
             about,
             most,
-            hops: Vec::new(alloc),
+            hops: Hops::new(alloc, heads_alone),
             exchange: Exchange::new(alloc, request),
             code: None,
             earlier: 0,
@@ -135,7 +152,7 @@ impl<L: Link> Chain<L> {
             alloc: _,
             about: _,
             most: _,
-            mut hops,
+            hops,
             exchange,
             code: _,
             earlier: _,
@@ -143,10 +160,13 @@ impl<L: Link> Chain<L> {
             is_linked: _,
             home: _,
         } = self;
-        if hops.is_empty() {
-            return exchange.into_request();
+        match hops.into_first() {
+            Some(request) => {
+                drop(exchange);
+                request
+            }
+            None => exchange.into_request(),
         }
-        hops.swap_remove(0).into_request()
     }
 
     /// The link that it wants, if any: one to the endpoint of the hop that is under way; of any kind when the hop begins.
@@ -258,8 +278,8 @@ impl<L: Link> Chain<L> {
                 None => None,
             };
         }
-        match self.hops.last() {
-            Some(hop) => Some(hop.request().endpoint()),
+        match self.hops.last_request() {
+            Some(served) => Some(served.endpoint()),
             None => None,
         }
     }
@@ -281,8 +301,8 @@ impl<L: Link> Chain<L> {
         if self.is_linked {
             return Some(hop.request().endpoint());
         }
-        match self.hops.last() {
-            Some(before) => Some(before.request().endpoint()),
+        match self.hops.last_request() {
+            Some(before) => Some(before.endpoint()),
             None => None,
         }
     }
@@ -309,8 +329,8 @@ impl<L: Link> Chain<L> {
         requires ended { IsSome self.old.code }
         requires leads { LeadTo self.old.request.settings.max_redirects self.old.request self.old.hops hop.request }
         requires cause { EndsWith self.old.request.settings.max_redirects (length self.old.hops) hop code }
-        ensures outcome { result ≡ stepped.Ended (outcome_of self.old.hops hop code) }
-        ensures known { IsOutcome (outcome_of self.old.hops hop code) }
+        ensures outcome { result ≡ stepped.Ended (outcome_of self.old.heads_alone self.old.hops hop code) }
+        ensures known { IsOutcome (outcome_of self.old.heads_alone self.old.hops hop code) }
         ensures hop { IsExchange L.history L.asked L.token_of self.new.now }
         ensures request { first_of self.old.hops hop ≡ self.old.request }
         ensures new { self.new ≡ record self.old { hops = []; code = Some code; link = self.new.link; home = self.new.home } }
@@ -320,7 +340,7 @@ impl<L: Link> Chain<L> {
         self.exchange.know();
         self.settle_home(&hop);
         self.code = Some(code);
-        let hops = mem::replace(&mut self.hops, Vec::new(self.alloc));
+        let hops = self.hops.take(self.alloc);
         Stepped::Ended(Outcome::new(hops, hop, code))
     }
 

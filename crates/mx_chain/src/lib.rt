@@ -2,6 +2,7 @@
 #![tactic(auto)]
 
 mod chains;
+mod followed;
 pub mod laws;
 mod outcomes;
 

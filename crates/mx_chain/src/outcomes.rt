@@ -8,9 +8,10 @@ ghost use Rattle.mx_exchange.specs.Hops as hop;
 ghost use Rattle.mx_exchange.specs.Order.{InOrder};
 ghost use Rattle.mx_link.specs.Answers.{given};
 ghost use Rattle.mx_chain.specs.Hops as spec;
-ghost use Rattle.mx_chain.specs.Outcomes.{OutcomeValue, IsOutcome, hops_of, outcome_of, is_outcome_code};
+ghost use Rattle.mx_chain.specs.Outcomes.{OutcomeValue, IsOutcome, AreHeadsAt, hops_of, outcome_of, wire_at, is_outcome_code};
 ghost use Rattle.mx_types.specs.declared.code.Code.TheVariants as code;
 
+use crate::followed::{Hops, heads_of};
 use mx_exchange::Hop;
 use mx_request::Request;
 use mx_types::{Code, Ending, OutOfMemory};
@@ -21,7 +22,7 @@ use std::marker::Model;
 /// What a transfer ended with: its hops, of which each but the last was followed, and its code. The response is the last hop's.
 #[derive(Drop)]
 pub struct Outcome {
-    earlier: Vec<Hop>,
+    earlier: Hops,
     last: Hop,
     code: Code,
 }
@@ -31,9 +32,9 @@ impl Model for Outcome {
 
     ghost Value = { OutcomeValue };
 
-    ghost view = { λ o. outcome_of o.earlier.items o.last o.code };
+    ghost view = { λ o. outcome_of o.earlier.heads_alone o.earlier.all o.last o.code };
 
-    ghost invariant = { λ o. IsOutcome (outcome_of o.earlier.items o.last o.code) };
+    ghost invariant = { λ o. IsOutcome (outcome_of o.earlier.heads_alone o.earlier.all o.last o.code) };
 }
 
 /// Whether the code says that a whole response was read.
@@ -44,9 +45,9 @@ pub(crate) fn is_ok(code: Code) -> bool
 }
 
 impl Outcome {
-    pub(crate) fn new(earlier: Vec<Hop>, last: Hop, code: Code) -> Outcome
-        requires { IsOutcome (outcome_of earlier.items last code) }
-        ensures { result ≡ outcome_of earlier.items last code }
+    pub(crate) fn new(earlier: Hops, last: Hop, code: Code) -> Outcome
+        requires { IsOutcome (outcome_of earlier.heads_alone earlier.all last code) }
+        ensures { result ≡ outcome_of earlier.heads_alone earlier.all last code }
     {
         Outcome {
             earlier,
@@ -69,44 +70,48 @@ impl Outcome {
         self.earlier.len() + 1
     }
 
-    // A hop, counted from 0.
-    fn hop(&self, i: usize) -> Option<&Hop>
-        ensures { option_copied result ≡ slice_get (hops_of self.now) i }
-    {
-        if i == self.earlier.len() {
-            return Some(&self.last);
-        }
-        self.earlier.get(i)
-    }
-
     /// The request of a hop, counted from 0; `None` past the last.
     pub fn hop_request(&self, i: usize) -> Option<&Request>
         ensures { option_copied result ≡ option_map (λ o. o.request) (slice_get (hops_of self.now) i) }
     {
-        match self.hop(i) {
-            Some(hop) => Some(hop.request()),
-            None => None,
+        if i == self.earlier.len() {
+            return Some(self.last.request());
         }
+        self.earlier.request(i)
     }
 
-    /// The bytes of the response of a hop, counted from 0; `None` past the last.
+    // rule redirect-heads
+    /// The bytes of the response of a hop, counted from 0, where memory has all of them: of the last hop always, and of each other hop
+    /// unless its transfer keeps heads alone. `None` past the last.
     pub fn hop_wire(&self, i: usize) -> Option<&[u8]>
-        ensures { option_copied result ≡ option_map (λ o. o.wire) (slice_get (hops_of self.now) i) }
+        ensures { option_copied result ≡ wire_at self.now i }
     {
-        match self.hop(i) {
-            Some(hop) => Some(hop.wire()),
-            None => None,
+        if i == self.earlier.len() {
+            return Some(self.last.wire());
         }
+        self.earlier.wire(i)
+    }
+
+    /// The heads of the response of a hop, counted from 0: its interim heads and its final head (RFC 9112, section 2.1), and no bytes where
+    /// it has no final head. `None` past the last.
+    pub fn hop_heads(&self, i: usize) -> Option<&[u8]>
+        ensures count { IsSome result ↔ (i < length (hops_of self.now)) }
+        ensures heads { IfSome result (λ heads. AreHeadsAt self.now i heads.now) }
+    {
+        if i == self.earlier.len() {
+            return Some(heads_of(&self.last));
+        }
+        self.earlier.heads(i)
     }
 
     /// The status of a hop, counted from 0; `None` past the last.
     pub fn hop_status(&self, i: usize) -> Option<u16>
         ensures { result ≡ option_map (λ o. o.status) (slice_get (hops_of self.now) i) }
     {
-        match self.hop(i) {
-            Some(hop) => Some(hop.status()),
-            None => None,
+        if i == self.earlier.len() {
+            return Some(self.last.status());
         }
+        self.earlier.status(i)
     }
 
     /// The request that was handed to the transfer, which is the first hop's. The link of the last hop was asked in order.
@@ -115,8 +120,8 @@ impl Outcome {
         ensures order { InOrder self.now.last.is_reused self.now.last.request.bytes self.now.last.answers }
     {
         let _last = self.last.request();
-        match self.earlier.first() {
-            Some(hop) => hop.request(),
+        match self.earlier.request(0) {
+            Some(request) => request,
             None => self.last.request(),
         }
     }

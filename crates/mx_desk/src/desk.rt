@@ -58,7 +58,7 @@ fn add_transfer<L: Link, R: Wait + AllocGlobal>(
 {
     request.know();
     let asked = Snapshot::of(&request);
-    let Ok(work) = Queued::new(rt.alloc(), request) else {
+    let Ok(work) = Queued::keeping_heads(rt.alloc(), request) else {
         return Err(DeskError::OutOfMemory);
     };
     match added(seat.add(rt, handle, work))? {

@@ -178,6 +178,24 @@ impl Hop {
         self.request
     }
 
+    /// The request and the bytes of the response, by move.
+    pub fn into_parts(self) -> (Request, Vec<u8>)
+        ensures request { result.0 ≡ self.request }
+        ensures wire { result.1.items ≡ self.wire }
+    {
+        let Hop {
+            request,
+            wire,
+            code: _,
+            status: _,
+            parts: _,
+            location: _,
+            answers: _,
+            is_reused: _,
+        } = self;
+        (request, wire)
+    }
+
     /// How many parts the body has; 0 where the code isn't `Ok`.
     pub fn part_count(&self) -> usize
         ensures count { result ≡ length self.now.parts }

@@ -1,7 +1,7 @@
 //! Rows of chains of hops, as redirects lead on: what each hop sends and is given, and what the chain ends with. All was written by hand.
 
 use crate::hops::HERE;
-use crate::responses::{COUNTED, FOUND, TEMPORARY};
+use crate::responses::{COUNTED, FOUND, HEAD, TEMPORARY};
 use crate::rows::Call::{Fresh, Poll};
 use crate::rows::{Call, Ends, Hop, Row, Waiting, Wanted};
 use crate::table::GET;
@@ -118,11 +118,13 @@ static REDIRECTS: [Row<'static>; 3] = [
             Hop {
                 sent: GET_A,
                 reply: FOUND,
+                heads: FOUND,
                 status: 302,
             },
             Hop {
                 sent: GET_B,
                 reply: COUNTED,
+                heads: HEAD,
                 status: 200,
             },
         ],
@@ -136,11 +138,13 @@ static REDIRECTS: [Row<'static>; 3] = [
             Hop {
                 sent: GET_A,
                 reply: FOUND,
+                heads: FOUND,
                 status: 302,
             },
             Hop {
                 sent: GET_B,
                 reply: FOUND,
+                heads: FOUND,
                 status: 302,
             },
         ],
@@ -164,22 +168,90 @@ static REDIRECTS: [Row<'static>; 3] = [
             Hop {
                 sent: GET_A_COOKIE,
                 reply: AWAY,
+                heads: AWAY,
                 status: 302,
             },
             Hop {
                 sent: GET_ROOT,
                 reply: BACK,
+                heads: BACK,
                 status: 308,
             },
             Hop {
                 sent: GET_D_COOKIE,
                 reply: COUNTED,
+                heads: HEAD,
                 status: 200,
             },
         ],
         ..ON
     },
 ];
+
+/// The heads of `HINTED_AND_MOVED`, 95 bytes.
+const HINTED_HEADS: &[u8] =
+    b"HTTP/1.1 103 Early Hints\r\nLink: </x>\r\n\r\nHTTP/1.1 302 Found\r\nLocation: /b\r\nContent-Length: 5\r\n\r\n";
+
+/// A redirect behind an interim head, with a body: 100 bytes.
+const HINTED_AND_MOVED: &[u8] =
+    b"HTTP/1.1 103 Early Hints\r\nLink: </x>\r\n\r\nHTTP/1.1 302 Found\r\nLocation: /b\r\nContent-Length: 5\r\n\r\nmoved";
+
+/// The head of `MOVED_IN_CHUNKS`, 64 bytes.
+const CHUNKED_HEAD: &[u8] =
+    b"HTTP/1.1 302 Found\r\nLocation: /b\r\nTransfer-Encoding: chunked\r\n\r\n";
+
+/// A redirect with a body in chunks: 85 bytes.
+const MOVED_IN_CHUNKS: &[u8] =
+    b"HTTP/1.1 302 Found\r\nLocation: /b\r\nTransfer-Encoding: chunked\r\n\r\n5\r\nmoved\r\n0\r\nA: b\r\n\r\n";
+
+/// A hop whose redirect has a body behind an interim head, and one whose body is in chunks.
+const WITH_BODIES: [Hop<'static>; 3] = [
+    Hop {
+        sent: GET_A,
+        reply: HINTED_AND_MOVED,
+        heads: HINTED_HEADS,
+        status: 302,
+    },
+    Hop {
+        sent: GET_B,
+        reply: MOVED_IN_CHUNKS,
+        heads: CHUNKED_HEAD,
+        status: 302,
+    },
+    Hop {
+        sent: GET_B,
+        reply: COUNTED,
+        heads: HEAD,
+        status: 200,
+    },
+];
+
+// rule redirect-heads
+static BODIES: [Row<'static>; 1] = [Row {
+    name: "redirects_with_bodies_are_followed",
+    max_redirects: 2,
+    calls: &[
+        Fresh(&[Bytes(HINTED_AND_MOVED)], &[]),
+        Poll,
+        Fresh(&[Bytes(MOVED_IN_CHUNKS)], &[]),
+        Poll,
+        GIVES_COUNTED,
+        Poll,
+    ],
+    waits: &[
+        Waiting {
+            received: 100,
+            ..FOLLOWED
+        },
+        Waiting {
+            received: 185,
+            ..FOLLOWED
+        },
+    ],
+    hops: 3,
+    chain: &WITH_BODIES,
+    ..ON
+}];
 
 /// It has no Location.
 const UNLOCATED: &[u8] = b"HTTP/1.1 302 Found\r\nContent-Length: 0\r\n\r\n";
@@ -202,6 +274,7 @@ static NOT_FOLLOWED: [Row<'static>; 4] = [
         chain: &[Hop {
             sent: GET_A,
             reply: FOUND,
+            heads: FOUND,
             status: 302,
         }],
         ..AT_ONCE
@@ -213,6 +286,7 @@ static NOT_FOLLOWED: [Row<'static>; 4] = [
         chain: &[Hop {
             sent: GET_A,
             reply: UNLOCATED,
+            heads: UNLOCATED,
             status: 302,
         }],
         ..AT_ONCE
@@ -225,6 +299,7 @@ static NOT_FOLLOWED: [Row<'static>; 4] = [
         chain: &[Hop {
             sent: GET_A,
             reply: EMPTY,
+            heads: EMPTY,
             status: 302,
         }],
         ..AT_ONCE
@@ -236,6 +311,7 @@ static NOT_FOLLOWED: [Row<'static>; 4] = [
         chain: &[Hop {
             sent: GET_A,
             reply: HINTED,
+            heads: HINTED,
             status: 302,
         }],
         ..AT_ONCE
@@ -258,6 +334,7 @@ static REFUSED_LOCATIONS: [Row<'static>; 4] = [
         chain: &[Hop {
             sent: GET_A,
             reply: TO_HTTPS,
+            heads: TO_HTTPS,
             status: 302,
         }],
         ..AT_ONCE
@@ -269,6 +346,7 @@ static REFUSED_LOCATIONS: [Row<'static>; 4] = [
         chain: &[Hop {
             sent: GET_A,
             reply: TO_USER,
+            heads: TO_USER,
             status: 302,
         }],
         ..AT_ONCE
@@ -280,6 +358,7 @@ static REFUSED_LOCATIONS: [Row<'static>; 4] = [
         chain: &[Hop {
             sent: GET_A,
             reply: TO_BRACKET,
+            heads: TO_BRACKET,
             status: 302,
         }],
         ..AT_ONCE
@@ -291,6 +370,7 @@ static REFUSED_LOCATIONS: [Row<'static>; 4] = [
         chain: &[Hop {
             sent: GET_A,
             reply: TO_BYTE_255,
+            heads: TO_BYTE_255,
             status: 302,
         }],
         ..AT_ONCE
@@ -314,11 +394,13 @@ static REWRITTEN: [Row<'static>; 5] = [
             Hop {
                 sent: POST_A,
                 reply: SEE_OTHER,
+                heads: SEE_OTHER,
                 status: 303,
             },
             Hop {
                 sent: GET_C,
                 reply: COUNTED,
+                heads: HEAD,
                 status: 200,
             },
         ],
@@ -333,11 +415,13 @@ static REWRITTEN: [Row<'static>; 5] = [
             Hop {
                 sent: POST_A,
                 reply: TEMPORARY,
+                heads: TEMPORARY,
                 status: 307,
             },
             Hop {
                 sent: POST_C,
                 reply: COUNTED,
+                heads: HEAD,
                 status: 200,
             },
         ],
@@ -352,11 +436,13 @@ static REWRITTEN: [Row<'static>; 5] = [
             Hop {
                 sent: POST_A,
                 reply: MOVED,
+                heads: MOVED,
                 status: 301,
             },
             Hop {
                 sent: GET_C,
                 reply: COUNTED,
+                heads: HEAD,
                 status: 200,
             },
         ],
@@ -371,11 +457,13 @@ static REWRITTEN: [Row<'static>; 5] = [
             Hop {
                 sent: PUT_A,
                 reply: MOVED,
+                heads: MOVED,
                 status: 301,
             },
             Hop {
                 sent: PUT_C,
                 reply: COUNTED,
+                heads: HEAD,
                 status: 200,
             },
         ],
@@ -390,11 +478,13 @@ static REWRITTEN: [Row<'static>; 5] = [
             Hop {
                 sent: PUT_A,
                 reply: SEE_OTHER,
+                heads: SEE_OTHER,
                 status: 303,
             },
             Hop {
                 sent: GET_C,
                 reply: COUNTED,
+                heads: HEAD,
                 status: 200,
             },
         ],
@@ -402,8 +492,14 @@ static REWRITTEN: [Row<'static>; 5] = [
     },
 ];
 
-/// Redirects that are followed, and one too many; responses that lead nowhere; those with a Location that is refused; and requests with a
+/// Redirects that are followed, and one too many; those with bodies; responses that lead nowhere; those with a Location that is refused; and requests with a
 /// body.
-pub(crate) fn rows() -> [&'static [Row<'static>]; 4] {
-    [&REDIRECTS, &NOT_FOLLOWED, &REFUSED_LOCATIONS, &REWRITTEN]
+pub(crate) fn rows() -> [&'static [Row<'static>]; 5] {
+    [
+        &REDIRECTS,
+        &BODIES,
+        &NOT_FOLLOWED,
+        &REFUSED_LOCATIONS,
+        &REWRITTEN,
+    ]
 }

@@ -5,7 +5,7 @@
 use crate::faults::one_by_one;
 use crate::hops::TWICE;
 use crate::links::{Step, first_wrong};
-use crate::replay::request_of;
+use crate::replay::{request_of, transfer_of};
 use crate::responses::{CHUNKED, COUNTED, FOUND};
 use futures::task::Poll;
 use futures::test::MockTask;
@@ -30,12 +30,14 @@ enum Went {
     Wrong,
 }
 
-/// A transfer that ends with the body `hello` in one part: the bytes that its last link gives, and how many hops it has.
+/// A transfer that ends with the body `hello` in one part: the bytes that its last link gives, how many hops it has, and whether it keeps
+/// the heads alone of those that it follows.
 #[derive(Clone, Copy)]
 struct Row<'a> {
     links: &'a [&'a [ScriptRead<'a>]],
     wire: &'a [u8],
     hops: usize,
+    heads_alone: bool,
 }
 
 // How a transfer ended. Of one that was refused memory the bytes that its last link gave are there up to some read.
@@ -120,7 +122,7 @@ fn serve(
 fn run<R: RandomSource + AllocGlobal>(rt: &R, row: Row<'_>) -> Result<Went, Fail> {
     let request = request_of(rt.alloc(), Method::Get, &TWICE)?;
     let task = MockTask::new(rt)?;
-    let mut transfer = Transfer::new(rt.alloc(), request);
+    let mut transfer = transfer_of(rt.alloc(), request, row.heads_alone);
     let served = serve(rt.alloc(), &task, &mut transfer, row.links);
     drop(transfer);
     Ok(match served? {
@@ -147,6 +149,7 @@ fn a_transfer_is_made_again(rt: HostRuntime) -> Result<(), Fail> {
         links: &[reads.as_slice()],
         wire: CHUNKED,
         hops: 1,
+        heads_alone: false,
     };
     run_again(&rt, row)
 }
@@ -158,8 +161,16 @@ fn a_chain_is_made_again(rt: HostRuntime) -> Result<(), Fail> {
         links: &[&[ScriptRead::Bytes(FOUND)], &[ScriptRead::Bytes(COUNTED)]],
         wire: COUNTED,
         hops: 2,
+        heads_alone: false,
     };
-    run_again(&rt, row)
+    run_again(&rt, row)?;
+    run_again(
+        &rt,
+        Row {
+            heads_alone: true,
+            ..row
+        },
+    )
 }
 
 static READS: [ScriptRead<'static>; 4] = [

@@ -24,6 +24,7 @@ struct Ending {
 /// What was seen of a transfer.
 #[derive(Drop)]
 struct Played {
+    heads_alone: bool,
     waits: Vec<Waiting>,
     links: Vec<Links>,
     ending: Option<Ending>,
@@ -46,26 +47,32 @@ impl Ending {
     }
 }
 
-/// Whether an outcome has this hop, counted from 0.
-fn is_hop(outcome: &Outcome, at: usize, hop: &Hop<'_>) -> bool {
+/// Whether an outcome has this hop, counted from 0: all of its bytes, or its heads alone.
+fn is_hop(outcome: &Outcome, at: usize, hop: &Hop<'_>, is_whole: bool) -> bool {
     let sent = match outcome.hop_request(at) {
         Some(request) => request.bytes() == hop.sent,
         None => false,
     };
-    sent && outcome.hop_wire(at) == Some(hop.reply) && outcome.hop_status(at) == Some(hop.status)
+    let wire = if is_whole { Some(hop.reply) } else { None };
+    sent && outcome.hop_wire(at) == wire
+        && outcome.hop_heads(at) == Some(hop.heads)
+        && outcome.hop_status(at) == Some(hop.status)
 }
 
 /// Whether an outcome has no such hop, counted from 0.
 fn is_no_hop(outcome: &Outcome, at: usize) -> bool {
     outcome.hop_request(at).is_none()
         && outcome.hop_wire(at).is_none()
+        && outcome.hop_heads(at).is_none()
         && outcome.hop_status(at).is_none()
 }
 
-/// Whether an outcome has these hops and no more.
-fn are_hops(outcome: &Outcome, chain: &[Hop<'_>]) -> bool {
+// rule redirect-heads
+/// Whether an outcome has these hops and no more, and of all but the last their heads alone where these are kept.
+fn are_hops(outcome: &Outcome, chain: &[Hop<'_>], heads_alone: bool) -> bool {
     for at in 0..chain.len() {
-        if !is_hop(outcome, at, &chain[at]) {
+        let is_whole = !heads_alone || at == chain.len() - 1;
+        if !is_hop(outcome, at, &chain[at], is_whole) {
             return false;
         }
     }
@@ -73,11 +80,16 @@ fn are_hops(outcome: &Outcome, chain: &[Hop<'_>]) -> bool {
 }
 
 /// What of the end differs from the row.
-fn wrong_at_end(ending: &Ending, expected: Ended<'_>, chain: &[Hop<'_>]) -> Option<&'static str> {
+fn wrong_at_end(
+    ending: &Ending,
+    expected: Ended<'_>,
+    chain: &[Hop<'_>],
+    heads_alone: bool,
+) -> Option<&'static str> {
     if ending.ended() != expected {
         return Some("its end");
     }
-    if !chain.is_empty() && !are_hops(&ending.outcome, chain) {
+    if !chain.is_empty() && !are_hops(&ending.outcome, chain, heads_alone) {
         return Some("its hops");
     }
     None
@@ -93,7 +105,9 @@ fn wrong_part(played: &Played, row: &Row<'_>) -> Option<&'static str> {
     }
     match (&played.ending, end_of(row.ends, row.hops)) {
         (None, None) => None,
-        (Some(ending), Some(expected)) => wrong_at_end(ending, expected, row.chain),
+        (Some(ending), Some(expected)) => {
+            wrong_at_end(ending, expected, row.chain, played.heads_alone)
+        }
         (None, Some(_)) => Some("that it hasn't ended"),
         (Some(_), None) => Some("that it has ended"),
     }
@@ -346,6 +360,18 @@ fn with_task<R: RandomSource + AllocGlobal>(
     make_all(rt.alloc(), &task, transfer, row, played)
 }
 
+/// A transfer that keeps all bytes of its hops, or their heads alone.
+pub(crate) fn transfer_of(
+    alloc: Global,
+    request: Request,
+    heads_alone: bool,
+) -> Transfer<ScriptLink> {
+    if heads_alone {
+        return Transfer::keeping_heads(alloc, request);
+    }
+    Transfer::new(alloc, request)
+}
+
 /// What is seen of a new transfer over the calls of a row, up to its end.
 fn play<R: RandomSource + AllocGlobal>(
     rt: &R,
@@ -354,7 +380,7 @@ fn play<R: RandomSource + AllocGlobal>(
     played: &mut Played,
 ) -> Result<(), Fail> {
     let request = request_of(rt.alloc(), method, row)?;
-    let mut transfer = Transfer::new(rt.alloc(), request);
+    let mut transfer = transfer_of(rt.alloc(), request, played.heads_alone);
     let made = with_task(rt, &mut transfer, row, played);
     drop(transfer);
     made
@@ -364,8 +390,10 @@ fn is_so_with<R: RandomSource + AllocGlobal>(
     rt: &R,
     method: Method,
     row: &Row<'_>,
+    heads_alone: bool,
 ) -> Result<(), Fail> {
     let mut played = Played {
+        heads_alone,
         waits: Vec::new(rt.alloc()),
         links: Vec::new(rt.alloc()),
         ending: None,
@@ -378,10 +406,11 @@ fn is_so_with<R: RandomSource + AllocGlobal>(
     seen
 }
 
-/// Fails unless just this is seen of a new transfer over the calls of the row, up to its end.
+/// Fails unless just this is seen of a new transfer over the calls of the row, up to its end, whether it keeps all bytes of its hops or not.
 pub(crate) fn is_so<R: RandomSource + AllocGlobal>(rt: &R, row: &Row<'_>) -> Result<(), Fail> {
     for method in row.methods {
-        is_so_with(rt, *method, row)?;
+        is_so_with(rt, *method, row, false)?;
+        is_so_with(rt, *method, row, true)?;
     }
     Ok(())
 }

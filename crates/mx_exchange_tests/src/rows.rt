@@ -69,6 +69,8 @@ pub(crate) struct Hop<'a> {
     pub sent: &'a [u8],
     /// The bytes that its link gave.
     pub reply: &'a [u8],
+    /// The heads of these.
+    pub heads: &'a [u8],
     /// The status of these.
     pub status: u16,
 }

@@ -64,7 +64,7 @@ fn add_transfer<L: Link, R: Wait + AllocGlobal>(
 {
     request.know();
     let asked = Snapshot::of(&request);
-    let work = Queued::new(rt.alloc(), request)?;
+    let work = Queued::keeping_heads(rt.alloc(), request)?;
     let ticket = added(seat.add(rt, handle, work))?;
     Ok(Addition::new(ticket, asked))
 }

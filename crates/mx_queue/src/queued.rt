@@ -1,5 +1,5 @@
 //! A transfer that waits for a worker.
-ghost use Rattle.std.specs.Prelude.{◌≡◌, None, false, IfOk, IfErr};
+ghost use Rattle.std.specs.Prelude.{◌≡◌, None, true, false, IfOk, IfErr};
 
 use mx_link::Link;
 use mx_request::Request;
@@ -33,14 +33,34 @@ impl<L: Link> Work for Queued<L> {
 }
 
 impl<L: Link> Queued<L> {
-    /// A transfer of the request, which has not started. What its polls grow comes from `alloc`, as the transfer itself does. Where
-    /// that memory is refused, the request comes back.
+    /// A transfer of the request, which has not started, and keeps all bytes of the hops that it follows. What its polls grow comes from
+    /// `alloc`, as the transfer itself does. Where that memory is refused, the request comes back.
     pub fn new(alloc: Global, request: Request) -> Result<Queued<L>, AllocFailed<Request>>
         ensures request { IfOk result (λ q. q.chain.request ≡ request) }
+        ensures whole { IfOk result (λ q. q.chain.heads_alone ≡ false) }
         ensures unstarted { IfOk result (λ q. (q.chain.now.is_started ≡ false) × (q.chain.code ≡ None) × (q.chain.now.deadline ≡ None)) }
         ensures refused { IfErr result (λ e. e.value ≡ request) }
     {
-        match Box::new(alloc, Transfer::new(alloc, request)) {
+        Queued::boxed(alloc, Transfer::new(alloc, request))
+    }
+
+    /// The same, which keeps of each hop that it follows its heads alone: the body is freed before the next hop begins.
+    pub fn keeping_heads(alloc: Global, request: Request) -> Result<Queued<L>, AllocFailed<Request>>
+        ensures request { IfOk result (λ q. q.chain.request ≡ request) }
+        ensures heads { IfOk result (λ q. q.chain.heads_alone ≡ true) }
+        ensures unstarted { IfOk result (λ q. (q.chain.now.is_started ≡ false) × (q.chain.code ≡ None) × (q.chain.now.deadline ≡ None)) }
+        ensures refused { IfErr result (λ e. e.value ≡ request) }
+    {
+        Queued::boxed(alloc, Transfer::keeping_heads(alloc, request))
+    }
+
+    // The transfer, which has not ended, in a box; or its request.
+    fn boxed(alloc: Global, transfer: Transfer<L>) -> Result<Queued<L>, AllocFailed<Request>>
+        requires { transfer.chain.code ≡ None }
+        ensures same { IfOk result (λ q. q ≡ transfer) }
+        ensures refused { IfErr result (λ e. e.value ≡ transfer.chain.request) }
+    {
+        match Box::new(alloc, transfer) {
             Ok(transfer) => Ok(Queued { transfer }),
             Err(refused) => Err(AllocFailed {
                 value: refused.value.into_request(),

@@ -3,7 +3,7 @@ ghost use Rattle.std.specs.Prelude.{◌≡◌, ◌≤◌, ◌↔◌, ◌⊎◌, 
 ghost use Rattle.mx_types.specs.Code.{is_link_code};
 ghost use Rattle.mx_exchange.specs.Endings.{IsUndecided};
 ghost use Rattle.mx_exchange.specs.Exchanges.{WantsLink, IsDue, IsExchange, KeepsToken, attached, clocked};
-ghost use Rattle.mx_chain.specs.Chains.{IsChain, begun, received_of, home_of};
+ghost use Rattle.mx_chain.specs.Chains.{IsChain, begun, begun_with_heads, received_of, home_of};
 ghost use Rattle.mx_transfer.specs.Transfers.{TransferState};
 
 use futures::Future;
@@ -52,14 +52,33 @@ impl<L: Link> Transfer<L> {
     ghost use Rattle.futures.specs.Slot.{IsLeftIn};
     ghost use Rattle.futures.specs.declared.task.Poll.TheVariants as Poll;
 
-    /// A transfer of the request. It takes no memory; what its polls grow comes from `alloc`.
+    /// A transfer of the request, which keeps all bytes of the hops that it follows. It takes no memory; what its polls grow comes from
+    /// `alloc`.
     pub fn new(alloc: Global, request: Request) -> Transfer<L>
         ensures chain { result.chain ≡ begun request }
         ensures waker { result.waker ≡ None }
         ensures unasked { result.has_asked ≡ false }
     {
+        Transfer::of(Chain::new(alloc, request))
+    }
+
+    /// The same, which keeps of each hop that it follows its heads alone: the body is freed before the next hop begins.
+    pub fn keeping_heads(alloc: Global, request: Request) -> Transfer<L>
+        ensures chain { result.chain ≡ begun_with_heads request }
+        ensures waker { result.waker ≡ None }
+        ensures unasked { result.has_asked ≡ false }
+    {
+        Transfer::of(Chain::keeping_heads(alloc, request))
+    }
+
+    // No poll of it has waited.
+    fn of(chain: Chain<L>) -> Transfer<L>
+        ensures chain { result.chain ≡ chain }
+        ensures waker { result.waker ≡ None }
+        ensures unasked { result.has_asked ≡ false }
+    {
         Transfer {
-            chain: Chain::new(alloc, request),
+            chain,
             link_source: Source::new(),
             time_source: Source::new(),
             waker: None,

@@ -25,14 +25,14 @@ invariant_of-self-in-Ok g c =
     let leads = rw (← c.self.view_is) at c.requires.leads in
     let was = rw (← c.self.view_is) at c.requires.bytes in
     let wire = rw (← c.self.view_is) at c.requires.wire in
-    let bytes : c.saturating_add-count.result ≡ bytes_in (c.self.inside.hops.items ++ c.args.hop ∷ []) =
-    omega (arith, c.saturating_add-count.ensures, c.received.ensures, was, wire, bytes_more c.self.inside.hops.items c.args.hop) in
+    let bytes : c.saturating_add-count.result ≡ bytes_in (c.self.inside.hops.all ++ c.args.hop ∷ []) =
+    omega (arith, c.saturating_add-count.ensures, c.received.ensures, was, wire, bytes_more c.self.inside.hops.all c.args.hop) in
     record {
       most = c.self.invariant.most;
       chain = record {
         going = (λ e. ap (λ (t : ExchangeState _). t.code) c.renew.ensures, λ e. refl);
         leads = λ e. rw (c.in-Ok.ensures.items, ap (λ (t : ExchangeState _). t.request) c.renew.ensures) (leads_on _ _ _ _ _ leads redirect c.know.ensures c.requires.next);
-        few = rw c.in-Ok.ensures.items (omega (arith, few, length-append c.self.inside.hops.items (c.args.hop ∷ [])));
+        few = rw c.in-Ok.ensures.items (omega (arith, few, length-append c.self.inside.hops.all (c.args.hop ∷ [])));
         bytes = λ e. rw c.in-Ok.ensures.items bytes;
       };
     }
@@ -44,12 +44,12 @@ returns-in-Ok-clause-known g c =
     let leads = rw (← c.self.view_is) at c.requires.leads in
     let was = rw (← c.self.view_is) at c.requires.bytes in
     let wire = rw (← c.self.view_is) at c.requires.wire in
-    let bytes : c.saturating_add-count.result ≡ bytes_in (c.self.inside.hops.items ++ c.args.hop ∷ []) =
-    omega (arith, c.saturating_add-count.ensures, c.received.ensures, was, wire, bytes_more c.self.inside.hops.items c.args.hop) in
+    let bytes : c.saturating_add-count.result ≡ bytes_in (c.self.inside.hops.all ++ c.args.hop ∷ []) =
+    omega (arith, c.saturating_add-count.ensures, c.received.ensures, was, wire, bytes_more c.self.inside.hops.all c.args.hop) in
     record {
       going = (λ e. ap (λ (t : ExchangeState _). t.code) c.renew.ensures, λ e. refl);
       leads = λ e. rw (c.in-Ok.ensures.items, ap (λ (t : ExchangeState _). t.request) c.renew.ensures) (leads_on _ _ _ _ _ leads redirect c.know.ensures c.requires.next);
-      few = rw c.in-Ok.ensures.items (omega (arith, few, length-append c.self.inside.hops.items (c.args.hop ∷ [])));
+      few = rw c.in-Ok.ensures.items (omega (arith, few, length-append c.self.inside.hops.all (c.args.hop ∷ [])));
       bytes = λ e. rw c.in-Ok.ensures.items bytes;
     }
 
@@ -62,6 +62,7 @@ returns-in-Ok-clause-goes g c =
     rw (← c.self.view_is) (follows c.args.next redirect few c.requires.next (λ i. record {
       request = c.self.inside.about.value;
       hops = c.in-Ok.ensures.items i;
+      heads_alone = c.in-Ok.ensures.same i;
       now = c.renew.ensures i;
       linked = false;
       earlier = count i;
@@ -76,5 +77,5 @@ returns-in-Err-clause-goes g c =
     let few = rw (← c.self.view_is) at c.requires.few in
     let unkept = rw (← c.self.view_is) at c.requires.unkept in
     rw (← c.self.view_is, c.end.ensures.outcome)
-    (finish_unkept _ _ _ _ _ _ (λ i. record { request = c.self.inside.about.value; hops = c.in-Err.ensures.items i; now = c.self.inside.exchange; linked = c.self.inside.is_linked; earlier = c.self.inside.earlier; code = c.self.inside.code; link = c.self.inside.idle; home = c.self.inside.home })
+    (finish_unkept _ _ _ _ _ _ (λ i. record { request = c.self.inside.about.value; hops = c.in-Err.ensures.items i; heads_alone = c.in-Err.ensures.same i; now = c.self.inside.exchange; linked = c.self.inside.is_linked; earlier = c.self.inside.earlier; code = c.self.inside.code; link = c.self.inside.idle; home = c.self.inside.home })
     c.in-Err.ensures.value_returned unkept (rw (c.in-Err.ensures.items, c.in-Err.ensures.value_returned) (memory redirect few)) c.end.ensures.new c.end.ensures.home)
