@@ -1,10 +1,12 @@
 -- What a call leaves by one of its exits: without an event, with one that was refused memory, and with one.
-use Rattle.std.proofs.Common.{◌≡◌, ◌∙◌, ℕ, List, [], ◌∷◌, ◌++◌, ap, append-nil, false, length, map, refl, sym, true}
-use Rattle.std.specs.Prelude.{Bool, drop, if◌then◌else◌, not, None, Some}
-use Rattle.std.specs.Option.{IsSome, option_to_list}
+use Rattle.std.proofs.Common.{◌≡◌, ◌∙◌, ℕ, List, [], ◌∷◌, ◌++◌, ap, append-nil, false, length, map, refl, subst, sym, true}
+use Rattle.std.specs.Prelude.{Bool, drop, if◌then◌else◌, not, slice_get, None, Some}
+use Rattle.std.specs.Option.{IsSome, is_some, option_to_list}
 use Rattle.std.proofs.Math.Seq.{drop-append_seam, drop-length}
 use Rattle.std.proofs.lemmas.Bool.{false≢true}
 use Rattle.mx_types.specs.declared.call.Call.{Call}
+use Rattle.mx_types.specs.declared.call.Call.TheVariants as call
+use Rattle.mx_types.specs.declared.code.Code.{Code}
 use Rattle.mx_types.specs.declared.event.Event.{Event}
 use Rattle.mx_types.specs.declared.event.What.{What}
 use Rattle.mx_types.specs.declared.event.What.TheVariants as what
@@ -13,11 +15,11 @@ use Rattle.mx_types.specs.declared.names.HandleId.{HandleId}
 use Rattle.mx_types.specs.declared.names.Ticket.{Ticket}
 use Rattle.mx_types.specs.declared.reply.Reply.{Reply}
 use Rattle.mx_types.specs.declared.reply.Reply.TheVariants as reply
-use Rattle.mx_history.specs.Answers.{Answer, Answers, answer, only, pausing_answer, ticket_of}
-use Rattle.mx_history.specs.History.{Opening, has_room, has_ticket, paused, running}
+use Rattle.mx_history.specs.Answers.{Answer, Answers, answer, only, pausing_answer, read_answer, ticket_of}
+use Rattle.mx_history.specs.History.{Opening, has_room, has_ticket, paused, running, waiting}
 use Rattle.mx_history.specs.Receipts.{comes_with_event, lacks_memory}
 use Rattle.mx_journal.specs.Called.{Called, out_after}
-use Rattle.mx_journal.specs.Core.{Core, with_out}
+use Rattle.mx_journal.specs.Core.{Core, message, queued, with_out}
 use Rattle.mx_journal.specs.Replies.{answer_with_room, pausing_call}
 
 idle : (before j : List Event) → before ≡ before ++ drop (length j) j
@@ -63,6 +65,50 @@ called_with events name may_refuse who call x y before after e r answers comes h
   unchanged = λ idle. absurd (false≢true (sym idle ∙ comes));
   opening = opening;
 }
+
+-- without an event, where a claim came back
+pub called_spent : {L Q O : Type 0} (events : L → List Event) (name : L → List ℕ) (may_refuse : L → Type 0) (who : Who) (call : Call) (x y : Core Q O) (log : L) (r : Reply)
+    → Answers x.opening who call x.journal r x.journal → lacks_memory r ≡ false → y ≡ with_out (out_after r x.out) x → Called events name may_refuse who call x y log log r
+called_spent events name may_refuse who call x y log r answers had is =
+    subst (λ z. Called events name may_refuse who call x z log log r) (sym is) (record {
+      answers = answers;
+      logged = idle (events log) x.journal;
+      same_log = refl;
+      memory = λ lacks. absurd (false≢true (sym had ∙ lacks));
+      out = refl;
+      unchanged = λ _. refl;
+      opening = refl;
+    })
+
+-- the answer without an event is the reply alone
+pub answers_alone : (opening : Opening) (who : Who) (call : Call) (j : List Event) (r : Reply) → answer opening j call ≡ only r
+    → (r ≡ (answer opening j call).0) × (j ≡ j ++ map (λ w. record { who = who; what = w }) (option_to_list (answer opening j call).1))
+answers_alone opening who call j r is =
+    (sym (ap (λ (a : Answer). a.0) is), sym (append-nil j) ∙ ap (λ (a : Answer). j ++ map (λ w. record { who = who; what = w }) (option_to_list a.1)) (sym is))
+
+-- what the end of a transfer is answered where that runs, and where it doesn't
+pub end_recorded : (opening : Opening) (j : List Event) (t : Ticket) (code : Code) (size : ℕ) → has_ticket t (running j) ≡ true → answer opening j (call.Finish t code size) ≡ (reply.Recorded, Some (what.Done t code size))
+end_recorded opening j t code size runs = ap (λ b. if b then (reply.Recorded, Some (what.Done t code size)) else only reply.Stale) runs
+
+pub end_stale : (opening : Opening) (j : List Event) (t : Ticket) (code : Code) (size : ℕ) → has_ticket t (running j) ≡ false → answer opening j (call.Finish t code size) ≡ only reply.Stale
+end_stale opening j t code size gone = ap (λ b. if b then (reply.Recorded, Some (what.Done t code size)) else only reply.Stale) gone
+
+-- what a wakeup is answered where there is room, and where there is none
+pub wakeup_taken : (opening : Opening) (j : List Event) → has_room opening.history j 1 ≡ true → answer opening j call.Wakeup ≡ (reply.Ok, Some what.Wake)
+wakeup_taken opening j room = ap (λ b. if b then (reply.Ok, Some what.Wake) else only reply.Failure) room
+
+pub wakeup_refused : (opening : Opening) (j : List Event) → has_room opening.history j 1 ≡ false → answer opening j call.Wakeup ≡ only reply.Failure
+wakeup_refused opening j full = ap (λ b. if b then (reply.Ok, Some what.Wake) else only reply.Failure) full
+
+-- what a reading is answered where no ending waits, and where one does
+pub reading_none : {O : Type 0} (code : O → Code) (size : O → ℕ) (opening : Opening) (j : List Event) (endings : List (Ticket × O)) → map (message code size) endings ≡ waiting j → endings ≡ []
+    → answer opening j call.InfoRead ≡ only reply.Empty
+reading_none code size opening j endings waits none = ap (read_answer j) (sym waits ∙ ap (map (message code size)) none)
+
+pub reading_some : {O : Type 0} (code : O → Code) (size : O → ℕ) (opening : Opening) (j : List Event) (t : Ticket) (endings : List (Ticket × O)) → map (message code size) endings ≡ waiting j
+    → slice_get (queued endings) 0 ≡ Some t → IsSome (answer opening j call.InfoRead).1
+reading_some code size opening j t [] waits first = absurd (false≢true (ap is_some first))
+reading_some code size opening j t (x ∷ xs) waits first = subst (λ ms. IsSome (read_answer j ms).1) waits refl
 
 -- the answer with an event is the reply and the journal with that event
 pub answers_with : (opening : Opening) (who : Who) (call : Call) (j k : List Event) (e : What) (r : Reply) → answer opening j call ≡ (r, Some e) → k ≡ j ++ record { who = who; what = e } ∷ []

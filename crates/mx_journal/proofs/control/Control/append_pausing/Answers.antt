@@ -1,5 +1,12 @@
-use Rattle.std.proofs.Common.{◌≡◌, ◌∙◌, arith, sym, rules, true}
-use Rattle.mx_history.specs.History.{may_follow}
+use Rattle.std.proofs.Common.{◌≡◌, ◌∙◌, ap, arith, false, refl, subst, sym, rules, true}
+use Rattle.std.specs.Prelude.{Some}
+use Rattle.std.specs.Option.{IsSome}
+use Rattle.mx_types.specs.declared.reply.Reply.TheVariants as reply
+use Rattle.mx_history.specs.Answers.{Answer, answer}
+use Rattle.mx_history.specs.History.{has_room, may_follow}
+use Rattle.mx_journal.specs.Core.{Core}
+use Rattle.mx_journal.specs.Replies.{answer_with_room}
+use Rattle.mx_journal.proofs.Calling.{answers_alone, answers_with, called_none, called_refused, called_with}
 use Rattle.mx_journal.proofs.Controls.{control-pausing}
 use Rattle.mx_journal.proofs.OriginLists.{begun-then, origins-then, pausing_adds_none}
 use Rattle.mx_journal.proofs.control.Control.append_pausing.Goals as goal
@@ -22,3 +29,26 @@ invariant_of-self g c =
 
 pub enter-requires-clause-room : goal.enter-requires-clause-room
 enter-requires-clause-room g c = search rules
+
+pub returns-then-not-has_room-clause-called : goal.returns-then-not-has_room-clause-called
+returns-then-not-has_room-clause-called g c call is =
+    let core = c.args.self.now in
+    let full : has_room core.opening.history core.journal 1 ≡ false = sym c.has_room.ensures ∙ search rules in
+    called_none g.L.Log.events g.L.Log.name g.L.Log.may_refuse c.args.event.who call core c.args.log.now reply.HistoryFull
+    (answers_alone core.opening c.args.event.who call core.journal reply.HistoryFull (is ∙ ap (λ b. answer_with_room b c.args.event.what) full)) refl refl
+
+pub returns-then-is_err-clause-called : goal.returns-then-is_err-clause-called
+returns-then-is_err-clause-called g c call is =
+    let core = c.args.self.now in
+    let room : has_room core.opening.history core.journal 1 ≡ true = sym c.has_room.ensures ∙ search rules in
+    called_refused g.L.Log.events g.L.Log.name g.L.Log.may_refuse c.args.event.who call core c.args.log.now c.append.new.self
+    (subst (λ (a : Answer). IsSome a.1) (sym (is ∙ ap (λ b. answer_with_room b c.args.event.what) room)) refl) (search rules) c.append.ensures.same (search rules)
+
+pub returns-clause-called : goal.returns-clause-called
+returns-clause-called g c call is =
+    let core = c.args.self.now in
+    let room : has_room core.opening.history core.journal 1 ≡ true = sym c.has_room.ensures ∙ search rules in
+    let told : answer core.opening core.journal call ≡ (reply.Changed, Some c.args.event.what) = is ∙ ap (λ b. answer_with_room b c.args.event.what) room in
+    called_with g.L.Log.events g.L.Log.name g.L.Log.may_refuse c.args.event.who call core _ c.args.log.now c.append.new.self c.args.event.what reply.Changed
+    (answers_with core.opening c.args.event.who call core.journal c.enter.new.journal.items c.args.event.what reply.Changed told (rw (← c.self.view_is) c.enter.ensures.items))
+    refl refl (rw (← c.self.view_is) c.enter.ensures.items) (search rules) c.append.ensures.same (ap (λ (x : Core _ _). x.out) c.self.view_is) (ap (λ (x : Core _ _). x.opening) c.self.view_is)

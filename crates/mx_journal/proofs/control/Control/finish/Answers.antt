@@ -1,4 +1,4 @@
-use Rattle.std.proofs.Common.{◌≡◌, ◌<◌, ◌∙◌, ap, append-nil, refl, sym, true, arith, length, rules}
+use Rattle.std.proofs.Common.{◌≡◌, ◌<◌, ◌∙◌, ap, append-nil, false, refl, subst, sym, true, arith, length, rules}
 use Rattle.mx_history.specs.History.{has_ticket, running, same_ticket}
 use Rattle.mx_journal.proofs.Controls.{control-finished, endings_short}
 use Rattle.mx_journal.proofs.Remains.{queue_stays, queue_ended, endings_stay, endings_ended}
@@ -7,6 +7,12 @@ use Rattle.mx_types.specs.Limits.{most_handles}
 use Rattle.mx_types.specs.declared.event.What.TheVariants as what
 use Rattle.mx_journal.proofs.OriginLists.{begun-then, origins-then, own_filter, own_pushed}
 use Rattle.mx_journal.specs.Core.{origin_of}
+use Rattle.mx_types.specs.declared.call.Call.TheVariants as call
+use Rattle.mx_types.specs.declared.reply.Reply.TheVariants as reply
+use Rattle.mx_history.specs.Answers.{Answer, answer}
+use Rattle.std.specs.Option.{IsSome}
+use Rattle.mx_journal.specs.Core.{Core}
+use Rattle.mx_journal.proofs.Calling.{answers_alone, answers_with, called_refused, called_spent, called_with, end_recorded, end_stale}
 use Rattle.mx_journal.proofs.control.Control.finish.Goals as goal
 
 pub push_reserved-requires : goal.push_reserved-requires
@@ -72,3 +78,33 @@ returns-clause-own g c own is =
 
 pub enter-requires-clause-may : goal.enter-requires-clause-may
 enter-requires-clause-may g c = search rules
+
+pub returns-then-not-runs-clause-called : goal.returns-then-not-runs-clause-called
+returns-then-not-runs-clause-called g c =
+    let core = c.args.self.now in
+    let t = c.args.claim.ticket in
+    let gone : has_ticket t (running core.journal) ≡ false = sym c.runs.ensures ∙ search rules in
+    let is = end_stale core.opening core.journal t (g.O.Ending.code_of c.args.ending) (g.O.Ending.size_of c.args.ending) gone in
+    called_spent g.L.Log.events g.L.Log.name g.L.Log.may_refuse c.args.who (call.Finish t (g.O.Ending.code_of c.args.ending) (g.O.Ending.size_of c.args.ending)) core _ c.args.log.now reply.Stale
+    (answers_alone core.opening c.args.who (call.Finish t (g.O.Ending.code_of c.args.ending) (g.O.Ending.size_of c.args.ending)) core.journal reply.Stale is) refl (search rules)
+
+pub returns-then-is_err-clause-called : goal.returns-then-is_err-clause-called
+returns-then-is_err-clause-called g c =
+    let core = c.args.self.now in
+    let t = c.args.claim.ticket in
+    let may : has_ticket t (running core.journal) ≡ true = sym c.runs.ensures ∙ search rules in
+    let is = end_recorded core.opening core.journal t (g.O.Ending.code_of c.args.ending) (g.O.Ending.size_of c.args.ending) may in
+    called_refused g.L.Log.events g.L.Log.name g.L.Log.may_refuse c.args.who (call.Finish t (g.O.Ending.code_of c.args.ending) (g.O.Ending.size_of c.args.ending)) core c.args.log.now c.append.new.self
+    (subst (λ (a : Answer). IsSome a.1) (sym is) refl) (search rules) c.append.ensures.same (search rules)
+
+pub returns-clause-called : goal.returns-clause-called
+returns-clause-called g c =
+    let core = c.args.self.now in
+    let t = c.args.claim.ticket in
+    let may : has_ticket t (running core.journal) ≡ true = sym c.runs.ensures ∙ search rules in
+    let e = what.Done c.ticket-ticket.result c.code.result c.size.result in
+    let is : answer core.opening core.journal (call.Finish t (g.O.Ending.code_of c.args.ending) (g.O.Ending.size_of c.args.ending)) ≡ (reply.Recorded, Some e) =
+    rw (c.ticket-ticket.ensures, c.code.ensures, c.size.ensures) (end_recorded core.opening core.journal t (g.O.Ending.code_of c.args.ending) (g.O.Ending.size_of c.args.ending) may) in
+    called_with g.L.Log.events g.L.Log.name g.L.Log.may_refuse c.args.who (call.Finish t (g.O.Ending.code_of c.args.ending) (g.O.Ending.size_of c.args.ending)) core _ c.args.log.now c.append.new.self e reply.Recorded
+    (answers_with core.opening c.args.who (call.Finish t (g.O.Ending.code_of c.args.ending) (g.O.Ending.size_of c.args.ending)) core.journal c.enter.new.journal.items e reply.Recorded is (rw (← c.self.view_is) c.enter.ensures.items))
+    refl refl (rw (← c.self.view_is) c.enter.ensures.items) (search rules) c.append.ensures.same (rw (← c.self.view_is) c.saturating_sub-self-inside-2.ensures) (ap (λ (x : Core _ _). x.opening) c.self.view_is)

@@ -1,10 +1,14 @@
-use Rattle.std.proofs.Common.{refl, arith, rules}
+use Rattle.std.proofs.Common.{◌≡◌, [], refl, arith, rules}
+use Rattle.std.specs.Option.{IsSome}
 use Rattle.std.proofs.lemmas.Grind.{common_steps}
 use Rattle.mx_journal.proofs.Controls.{control-read_first, may_read_first, endings_few}
 use Rattle.mx_types.specs.declared.event.What.TheVariants as what
 use Rattle.mx_journal.proofs.OriginLists.{begun-then, origins-then}
 use Rattle.mx_types.specs.declared.call.Call.TheVariants as call
-use Rattle.mx_journal.proofs.Calling.{called_refused}
+use Rattle.mx_types.specs.declared.reply.Reply.TheVariants as reply
+use Rattle.mx_history.specs.Answers.{answer, only}
+use Rattle.mx_history.specs.History.{Opening}
+use Rattle.mx_journal.proofs.Calling.{answers_alone, called_none, called_refused, reading_none, reading_some}
 use Rattle.mx_journal.proofs.control.Control.info_read.Goals as goal
 
 pub overflow_cast-left : goal.overflow_cast-left
@@ -38,7 +42,23 @@ returns-clause-own g c = search rules
 
 pub returns-then-is_err-clause-called : goal.returns-then-is_err-clause-called
 returns-then-is_err-clause-called g c =
-    called_refused g.L.Log.events g.L.Log.name g.L.Log.may_refuse c.args.who call.InfoRead c.args.self.now c.args.log.now c.append.new.self (grind (arith, common_steps)) (search rules) c.append.ensures.same (search rules)
+    let opening : Opening = record { history = c.self.inside.history; first = c.self.inside.first; from = c.self.inside.from } in
+    let some : IsSome (answer c.args.self.now.opening c.args.self.now.journal call.InfoRead).1 =
+    rw (← c.self.view_is)
+    (reading_some g.O.Ending.code_of g.O.Ending.size_of opening c.self.inside.journal.items c.in-Some.row.ticket c.self.inside.endings.items c.self.invariant.kept.sound.waits
+    (rw (← c.self.view_is) at c.in-Some.ensures.ticket)) in
+    called_refused g.L.Log.events g.L.Log.name g.L.Log.may_refuse c.args.who call.InfoRead c.args.self.now c.args.log.now c.append.new.self some (search rules) c.append.ensures.same (search rules)
+
+pub returns-in_default-clause-called : goal.returns-in_default-clause-called
+returns-in_default-clause-called g c =
+    let core = c.args.self.now in
+    let opening : Opening = record { history = c.self.inside.history; first = c.self.inside.first; from = c.self.inside.from } in
+    let none : core.endings ≡ [] = search rules in
+    let told : answer core.opening core.journal call.InfoRead ≡ only reply.Empty =
+    rw (← c.self.view_is)
+    (reading_none g.O.Ending.code_of g.O.Ending.size_of opening c.self.inside.journal.items c.self.inside.endings.items c.self.invariant.kept.sound.waits (rw (← c.self.view_is) at none)) in
+    called_none g.L.Log.events g.L.Log.name g.L.Log.may_refuse c.args.who call.InfoRead core c.args.log.now reply.Empty
+    (answers_alone core.opening c.args.who call.InfoRead core.journal reply.Empty told) refl refl
 
 pub returns-clause-called : goal.returns-clause-called
 returns-clause-called g c = grind (arith, common_steps)
