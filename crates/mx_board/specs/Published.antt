@@ -15,6 +15,10 @@ use Rattle.mx_board.specs.declared.operation.Operation.{Operation}
 abbrev pub Shown : Type 0
 Shown = TableView × Mark Event
 
+-- the operation of an event after these
+abbrev pub operation : Event → Mark Event → Operation
+operation e m = record { event = e; before = m }
+
 -- the version after an operation, and after several
 abbrev pub shown_after : Shown → Operation → Shown
 shown_after s o = (table_after s.0 o.event, mark_of (o.before.entries ++ o.event ∷ []) o.before.book)

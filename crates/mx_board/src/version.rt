@@ -1,8 +1,9 @@
 //! What readers take: a table, and its journal.
-ghost use Rattle.std.specs.Prelude.{◌≡◌, ◌++◌, IfOk};
+ghost use Rattle.std.specs.Prelude.{◌≡◌, ◌++◌, [], IfOk};
 ghost use Rattle.std.specs.Option.{option_to_list};
 ghost use Rattle.mx_history.specs.Table.{empty_table};
 ghost use Rattle.mx_board.specs.Board.{mark_of};
+ghost use Rattle.mx_board.specs.Published.{IsSound};
 
 use crate::journal::JournalMark;
 use crate::operation::Operation;
@@ -12,6 +13,7 @@ use crossbeam_utils::rule::{Outcome, Protocol};
 use left_right::Absorb;
 use left_right::reader::Reader;
 use left_right::writer::Writer;
+use mx_append_log::AppendLog;
 use mx_table::Table;
 use mx_types::{Event, OutOfMemory};
 use std::alloc::{AllocError, Global};
@@ -38,13 +40,16 @@ impl Model for Version {
 }
 
 impl Version {
-    /// The empty table of a journal with no events.
-    pub fn new(alloc: Global, before: JournalMark) -> Result<Version, OutOfMemory>
-        ensures { IfOk result (λ v. v ≡ (empty_table, before)) }
+    /// The table of a journal with no events.
+    pub fn new(alloc: Global, journal: &AppendLog<Event>) -> Result<Version, OutOfMemory>
+        requires { journal.now.entries ≡ [] }
+        ensures is { IfOk result (λ v. v ≡ (empty_table, journal.now)) }
+        ensures sound { IfOk result (λ v. IsSound v) }
     {
+        let table = Table::new(alloc)?;
         Ok(Version {
-            table: Table::new(alloc)?,
-            before,
+            table,
+            before: journal.counted(),
             last: None,
         })
     }
@@ -70,6 +75,13 @@ impl Version {
     }
 }
 
+// Sets a mark: it drops the old one where there is nothing else.
+fn set_mark(mark: &mut JournalMark, to: &JournalMark)
+    ensures { mark.new ≡ to.now }
+{
+    *mark = to.again();
+}
+
 impl Absorb<Operation> for Version {
     ghost use Rattle.mx_board.specs.Published.{shown_after};
 
@@ -83,7 +95,7 @@ impl Absorb<Operation> for Version {
 
     fn absorb_first(&mut self, operation: &Operation, _other: &Version) -> Result<(), AllocError> {
         self.table.apply(operation.event);
-        self.before = operation.before.again();
+        set_mark(&mut self.before, &operation.before);
         self.last = Some(operation.event);
         Ok(())
     }

@@ -1,11 +1,11 @@
 //! Where events are appended, and their table published.
-ghost use Rattle.std.specs.Prelude.{◌≡◌, ◌++◌, ◌∷◌, ◌<◌, [], true, false, length, drop, IfOk, IfSome, OnOk, OnErr};
+ghost use Rattle.std.specs.Prelude.{◌≡◌, ◌++◌, ◌∷◌, ◌<◌, [], true, false, length, drop, IfOk, IfSome, OnOk, OnErr, MatchBool};
 ghost use Rattle.std.specs.Mem.{manually_drop_value};
 ghost use Rattle.left_right.specs.Sides.{view};
 ghost use Rattle.mx_history.specs.History.{is_legal, is_maker, made_by};
-ghost use Rattle.mx_history.specs.Table.{IsTableOf};
+ghost use Rattle.mx_history.specs.Table.{IsTableOf, empty_table};
 ghost use Rattle.mx_board.specs.Board.{mark_of};
-ghost use Rattle.mx_board.specs.Published.{CaughtUp, IsSound, IsWaiting, shown_by, view_of};
+ghost use Rattle.mx_board.specs.Published.{CaughtUp, IsSound, IsWaiting, operation, shown_by, view_of};
 
 use crate::journal::JournalMark;
 use crate::operation::Operation;
@@ -73,6 +73,36 @@ fn publish_all<R: Wait>(
     writer.publish_as::<CatchesUp, R>(rt).0
 }
 
+// The two copies of the version, with no events.
+fn first_versions(
+    alloc: Global,
+    journal: &AppendLog<Event>,
+) -> Result<(Version, Version), OutOfMemory>
+    requires { journal.now.entries ≡ [] }
+    ensures are { IfOk result (λ v. (v.0 ≡ (empty_table, journal.now)) × (v.1 ≡ (empty_table, journal.now))) }
+    ensures sound { IfOk result (λ v. IsSound v.0) }
+{
+    let first = Version::new(alloc, journal)?;
+    let second = Version::new(alloc, journal)?;
+    Ok((first, second))
+}
+
+// The writer of these copies.
+fn first_writer(
+    alloc: Global,
+    journal: &AppendLog<Event>,
+    readers: usize,
+) -> Result<VersionWriter, OutOfMemory>
+    requires readers { (0 < readers) × (readers < 65) }
+    requires none { journal.now.entries ≡ [] }
+    ensures shown { IfOk result (λ w. w.desk.shown.value ≡ (empty_table, journal.now)) }
+    ensures sound { IfOk result (λ w. IsSound w.desk.shown.value) }
+    ensures none { IfOk result (λ w. drop w.behind w.log.items ≡ []) }
+{
+    let (first, second) = first_versions(alloc, journal)?;
+    Ok(VersionWriter::new(alloc, first, second, readers)?)
+}
+
 /// A board with no events, and places for so many readers at a time. It waits for nobody, since it has no readers yet. The one error is
 /// that memory is refused.
 pub fn board<R: Wait>(rt: &R, alloc: Global, readers: usize) -> Result<BoardWriter, OutOfMemory>
@@ -80,11 +110,7 @@ pub fn board<R: Wait>(rt: &R, alloc: Global, readers: usize) -> Result<BoardWrit
     ensures { IfOk result (λ w. (w.events ≡ []) × (w.published ≡ [])) }
 {
     let journal = AppendLog::new();
-    let first = Version::new(alloc, journal.counted())?;
-    let second = Version::new(alloc, journal.counted())?;
-    let Ok(writer) = VersionWriter::new(alloc, first, second, readers) else {
-        return Err(OutOfMemory);
-    };
+    let writer = first_writer(alloc, &journal, readers)?;
     // The writer's own place sees the empty journal.
     let events = Snapshot::of(&journal);
     let writer = publish_all(rt, writer, &events);
@@ -95,9 +121,23 @@ pub fn board<R: Wait>(rt: &R, alloc: Global, readers: usize) -> Result<BoardWrit
     })
 }
 
+// Appends these events to an empty board, and publishes each.
+#[tactic(auto, using(crate::proofs::Filling::next_is_legal))]
+fn fill<R: Wait>(rt: &R, board: &mut BoardWriter, events: &[Event]) -> Result<(), OutOfMemory>
+    requires none { (board.old.events ≡ []) × (board.old.published ≡ []) }
+    requires legal { is_legal events.now ≡ true }
+    requires few { length events.now < 4294967295 }
+    ensures { OnOk result ((board.new.events ≡ events.now) × (board.new.published ≡ events.now)) }
+{
+    for event in events {
+        board.append(*event)?;
+        board.publish(rt);
+    }
+    Ok(())
+}
+
 /// A board with these events, all of them published, and places for so many readers at a time. It waits for nobody, since
 /// it has no readers yet. Where memory is refused, the board that was begun is closed, which no clause says.
-#[tactic(auto, using(crate::proofs::Filling::next_is_legal))]
 pub fn board_of<R: Wait>(
     rt: &R,
     alloc: Global,
@@ -110,14 +150,20 @@ pub fn board_of<R: Wait>(
     ensures { IfOk result (λ w. (w.events ≡ events.now) × (w.published ≡ events.now)) }
 {
     let mut board = board(rt, alloc, readers)?;
-    for event in events {
-        if board.append(*event).is_err() {
-            let _ = board.close(rt);
-            return Err(OutOfMemory);
-        }
-        board.publish(rt);
+    if fill(rt, &mut board, events).is_err() {
+        drop(board.close(rt));
+        return Err(OutOfMemory);
     }
     Ok(board)
+}
+
+// Has the operation of the event after this journal wait to be published. False, and nothing changes, where memory is refused.
+fn queue(writer: &mut VersionWriter, journal: &AppendLog<Event>, event: Event) -> bool
+    ensures desk { writer.new.desk ≡ writer.old.desk }
+    ensures waits { MatchBool result (drop writer.new.behind writer.new.log.items ≡ drop writer.old.behind writer.old.log.items ++ operation event journal.now ∷ []) (drop writer.new.behind writer.new.log.items ≡ drop writer.old.behind writer.old.log.items) }
+{
+    let before = journal.counted();
+    writer.append(Operation { event, before }).is_ok()
 }
 
 // The greatest length of a journal: the table counts its events in a u32.
@@ -142,11 +188,7 @@ impl Log for BoardWriter {
         if self.journal.len() >= MOST_EVENTS {
             return Err(OutOfMemory);
         }
-        let operation = Operation {
-            event,
-            before: self.journal.counted(),
-        };
-        if self.writer.append(operation).is_err() {
+        if !queue(&mut self.writer, &self.journal, event) {
             return Err(OutOfMemory);
         }
         if self.journal.try_add::<Event, Itself>(&event) {

@@ -1,5 +1,5 @@
 use Rattle.std.proofs.Common.{◌≡◌, take}
-use Rattle.mx_board.proofs.writer.board_of.Given as goal
+use Rattle.mx_board.proofs.writer.fill.Given as goal
 
 -- the first events are appended and published
 abbrev pub invariant-loop-event : goal.invariant-loop-event
