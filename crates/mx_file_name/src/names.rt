@@ -125,15 +125,15 @@ fn front(bytes: &[u8], most: usize) -> &[u8]
     &bytes[..bytes.len().min(most)]
 }
 
-// The name of a segment.
+// rule file-names-size
+// The name of a segment. Its memory has no room to spare, since a run keeps it.
 fn segment_name(alloc: Global, segment: &[u8]) -> Result<String, OutOfMemory>
     ensures { IfOk result (λ name. string_bytes name ≡ unhidden (map kept segment.now)) }
 {
-    let mut name = String::new(alloc);
     let Some((first, rest)) = segment.split_first() else {
-        name.push_str("index.html")?;
-        return Ok(name);
+        return Ok(String::from_str(alloc, "index.html")?);
     };
+    let mut name = String::with_capacity(alloc, segment.len())?;
     name.push(char::from(shown(kept(*first))))?;
     add_kept(&mut name, rest)?;
     Ok(name)
