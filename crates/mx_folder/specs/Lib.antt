@@ -1,5 +1,6 @@
--- What contracts cite: what was done to a folder, what its names hold, and what a kill or a loss of power may leave.
+-- What contracts cite: what was done to a folder, what its names hold, what a kill or a loss of power may leave, and what is said of a refusal.
 pub mod Steps
 pub mod Files
 pub mod Moments
 pub mod Memory
+pub mod Words

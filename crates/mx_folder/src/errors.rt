@@ -1,4 +1,6 @@
 //! Why a folder refuses.
+ghost use Rattle.std.specs.Prelude.{◌≡◌};
+ghost use Rattle.mx_folder.specs.Words.{folder_words};
 
 use std::error::Error;
 use std::fmt;
@@ -14,8 +16,10 @@ pub enum FolderError {
     Denied,
     /// The disk is full, or a quota is used up.
     Full,
-    /// Too many files are open.
+    /// The process, or the system, has as many open files as it may.
     TooManyOpen,
+    /// The file has as many bytes as one of this process may.
+    TooLarge,
     /// That part isn't open.
     NotOpen,
     /// Memory was refused.
@@ -26,13 +30,17 @@ pub enum FolderError {
 
 impl FolderError {
     /// The error in words, with no capital and no full stop.
-    pub fn words(self) -> &'static str {
+    pub fn words(self) -> &'static str
+        ensures { result.now ≡ folder_words self }
+    {
         match self {
             FolderError::AlreadyThere => "something else has that name",
             FolderError::NotThere => "the folder is not there",
             FolderError::Denied => "the folder may not be written",
             FolderError::Full => "the disk is full",
-            FolderError::TooManyOpen => "too many files are open",
+            FolderError::TooManyOpen => "too many files are open: ulimit -n allows more",
+            FolderError::TooLarge =>
+                "the file is over the limit of file sizes: ulimit -f allows more",
             FolderError::NotOpen => "the file is not open",
             FolderError::OutOfMemory => "out of memory",
             FolderError::Failed => "the system could not do it",

@@ -3,6 +3,7 @@
 
 mod errors;
 mod folders;
+mod limit;
 mod memory;
 mod past;
 mod steps;

@@ -28,7 +28,7 @@ enum Done {
 /// replays the calls when it is asked what a name holds: it is for tests.
 ///
 /// A write takes at most so many bytes as it was made with, and the call of the number that it was made with fails, where the first has
-/// number 0. A call that is refused memory fails with `OutOfMemory`.
+/// number 0; after [`failing_on`](MemoryFolder::failing_on) each later one, too. A call that is refused memory fails with `OutOfMemory`.
 #[derive(Drop)]
 pub struct MemoryFolder {
     alloc: Global,
@@ -36,6 +36,7 @@ pub struct MemoryFolder {
     steps: Past<Step>,
     calls: u64,
     fails_at: u64,
+    fails_on: bool,
     error: FolderError,
     most: usize,
 }
@@ -139,8 +140,19 @@ impl MemoryFolder {
             steps: Past::new(),
             calls: 0,
             fails_at,
+            fails_on: false,
             error,
             most,
+        }
+    }
+
+    /// The same folder, where each call after the one that fails does so, too.
+    pub fn failing_on(self) -> MemoryFolder
+        ensures { result ≡ self }
+    {
+        MemoryFolder {
+            fails_on: true,
+            ..self
         }
     }
 
@@ -173,7 +185,7 @@ impl MemoryFolder {
     fn is_refused(&mut self) -> bool
         ensures { self.new ≡ self.old }
     {
-        let refused = self.calls == self.fails_at;
+        let refused = self.calls == self.fails_at || self.fails_on && self.calls > self.fails_at;
         self.calls = self.calls.saturating_add(1);
         refused
     }

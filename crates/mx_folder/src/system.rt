@@ -3,6 +3,7 @@ ghost use Rattle.std.specs.Prelude.{◌≡◌, ◌<◌, ◌≤◌, [], length, I
 
 use crate::errors::FolderError;
 use crate::folders::Folder;
+use crate::limit::{front, most_bytes};
 use crate::past::{Past, bytes_of};
 use crate::steps::{Kind, Step, done};
 use mx_file_name::{FileName, PartName};
@@ -16,11 +17,17 @@ use std::{fs, io};
 // As many files as a process, or the system, may have are open: ENFILE and EMFILE of errno(3).
 const TOO_MANY_OPEN: [i32; 2] = [23, 24];
 
-/// The part that is open: its name, and its file.
+// The number of errno(3) for a file that would be larger than the limit: EFBIG.
+const FILE_TOO_LARGE: i32 = 27;
+
+/// The part that was made last: its name and its path, its file while that is open, and how many more bytes it may have. With its path at
+/// hand no memory is needed to remove it.
 #[derive(Drop)]
-struct OpenPart<F> {
+struct LastPart<F> {
     name: String,
-    file: F,
+    path: String,
+    file: Option<F>,
+    left: u64,
 }
 
 /// A folder of the system, one part of which is open at a time. Contracts see what the system reported to have done, the newest first; no
@@ -30,7 +37,9 @@ pub struct SystemFolder<'a, R: Files> {
     alloc: Global,
     files: &'a R,
     path: String,
-    open: Option<OpenPart<R::File>>,
+    last: Option<LastPart<R::File>>,
+    // A descriptor that is closed where a part lacks one.
+    spare: Option<R::File>,
     steps: Past<Step>,
 }
 
@@ -48,6 +57,9 @@ fn reason(error: io::Error) -> FolderError {
     if let Some(number) = error.raw_os_error() {
         if TOO_MANY_OPEN.contains(&number) {
             return FolderError::TooManyOpen;
+        }
+        if number == FILE_TOO_LARGE {
+            return FolderError::TooLarge;
         }
     }
     match error.kind() {
@@ -73,44 +85,74 @@ fn create_part<R: Files>(
     files: &R,
     folder: &str,
     part: &str,
-) -> Result<OpenPart<R::File>, FolderError> {
+) -> Result<LastPart<R::File>, FolderError> {
     let path = path_in(alloc, folder, part)?;
     let Ok(name) = String::from_str(alloc, part) else {
         return Err(FolderError::OutOfMemory);
     };
     match File::create_new(files, path.as_str()) {
-        Ok(file) => Ok(OpenPart { name, file }),
+        Ok(file) => Ok(LastPart {
+            name,
+            path,
+            file: Some(file),
+            left: most_bytes(),
+        }),
         Err(error) => Err(reason(error)),
     }
 }
 
-// The file of this part, if it is the one that is open.
-fn file_of<'a, F>(open: &'a mut Option<OpenPart<F>>, part: &str) -> Result<&'a mut F, FolderError> {
-    match open.as_mut() {
-        Some(open) if open.name.as_str() == part => Ok(&mut open.file),
-        _ => Err(FolderError::NotOpen),
+// This part, if it is the last one.
+fn last_of<'a, F>(last: &'a mut Option<LastPart<F>>, part: &str) -> Option<&'a mut LastPart<F>> {
+    match last.as_mut() {
+        Some(last) if last.name.as_str() == part => Some(last),
+        _ => None,
     }
 }
 
-fn append_some<F: Write>(
-    open: &mut Option<OpenPart<F>>,
-    part: &str,
-    bytes: &[u8],
-) -> Result<usize, FolderError>
+// rule file-size-limit, unproved: A write stays within the limit of file sizes, beyond which the system ends the process; where no byte is
+// left, it fails (`TooLarge`).
+fn write_some<F: Write>(file: &mut F, bytes: &[u8], left: u64) -> Result<usize, FolderError>
     ensures some { IfOk result (λ n. 0 < n) }
     ensures within { IfOk result (λ n. n ≤ length bytes.now) }
 {
-    let file = file_of(open, part)?;
-    match file.write(bytes) {
+    if left == 0 {
+        return Err(FolderError::TooLarge);
+    }
+    match file.write(front(bytes, left)) {
         Ok(0) => Err(FolderError::Full),
         Ok(n) => Ok(n),
         Err(error) => Err(reason(error)),
     }
 }
 
-fn flush_part<F: OpenFile>(open: &mut Option<OpenPart<F>>, part: &str) -> Result<(), FolderError> {
-    let file = file_of(open, part)?;
-    file.sync_all().map_err(reason)
+fn append_some<F: Write>(
+    last: &mut Option<LastPart<F>>,
+    part: &str,
+    bytes: &[u8],
+) -> Result<usize, FolderError>
+    ensures some { IfOk result (λ n. 0 < n) }
+    ensures within { IfOk result (λ n. n ≤ length bytes.now) }
+{
+    let Some(last) = last_of(last, part) else {
+        return Err(FolderError::NotOpen);
+    };
+    let left = last.left;
+    let Some(file) = last.file.as_mut() else {
+        return Err(FolderError::NotOpen);
+    };
+    let written = write_some(file, bytes, left)?;
+    last.left = left.saturating_sub(written as u64);
+    Ok(written)
+}
+
+fn flush_part<F: OpenFile>(last: &mut Option<LastPart<F>>, part: &str) -> Result<(), FolderError> {
+    let Some(last) = last_of(last, part) else {
+        return Err(FolderError::NotOpen);
+    };
+    match last.file.as_ref() {
+        Some(file) => file.sync_all().map_err(reason),
+        None => Err(FolderError::NotOpen),
+    }
 }
 
 // By rename(2), and not link(2), which refuses a name that is taken, and which some file systems don't have.
@@ -128,14 +170,22 @@ fn place_part<R: Files>(
     fs::rename(files, from.as_str(), to.as_str()).map_err(reason)
 }
 
+// rule file-no-part-left
+// No memory is needed to remove the part that was made last.
 fn remove_part<R: Files>(
     alloc: Global,
     files: &R,
     folder: &str,
+    last: &mut Option<LastPart<R::File>>,
     part: &str,
 ) -> Result<(), FolderError> {
-    let path = path_in(alloc, folder, part)?;
-    fs::remove_file(files, path.as_str()).map_err(reason)
+    match last_of(last, part) {
+        Some(last) => fs::remove_file(files, last.path.as_str()).map_err(reason),
+        None => {
+            let path = path_in(alloc, folder, part)?;
+            fs::remove_file(files, path.as_str()).map_err(reason)
+        }
+    }
 }
 
 fn kind_at<R: Files>(
@@ -174,24 +224,46 @@ impl<'a, R: Files> SystemFolder<'a, R> {
                 alloc,
                 files,
                 path: owned,
-                open: None,
+                last: None,
+                spare: File::open(files, path).ok(),
                 steps: Past::new(),
             }),
             Err(error) => Err(reason(error)),
         }
     }
 
-    // Closes the part, if it is the one that is open.
+    // Closes the part, if it is open.
     fn close(&mut self, part: &str)
         ensures { self.new ≡ self.old }
     {
-        let is_open = match self.open.as_ref() {
-            Some(open) => open.name.as_str() == part,
-            None => false,
-        };
-        if is_open {
+        if let Some(last) = last_of(&mut self.last, part) {
             // The result of the close is lost: std's `File` reports none.
-            self.open = None;
+            last.file = None;
+            self.keep_spare();
+        }
+    }
+
+    // Opens the spare descriptor, where there is none, if one is free.
+    fn keep_spare(&mut self)
+        ensures { self.new ≡ self.old }
+    {
+        if self.spare.is_none() {
+            self.spare = File::open(self.files, self.path.as_str()).ok();
+        }
+    }
+
+    // rule file-descriptors
+    // Makes a part: by the spare descriptor, where too many files are open.
+    fn make(&mut self, part: &str) -> Result<LastPart<R::File>, FolderError>
+        ensures { self.new ≡ self.old }
+    {
+        let made = create_part(self.alloc, self.files, self.path.as_str(), part);
+        match made {
+            Err(FolderError::TooManyOpen) if self.spare.is_some() => {
+                self.spare = None;
+                create_part(self.alloc, self.files, self.path.as_str(), part)
+            }
+            made => made,
         }
     }
 }
@@ -200,14 +272,14 @@ impl<'a, R: Files> Folder for SystemFolder<'a, R> {
     ghost steps = { λ folder. folder };
 
     fn create(&mut self, part: &PartName) -> Result<(), FolderError> {
-        let made = create_part(self.alloc, self.files, self.path.as_str(), part.as_str());
+        let made = self.make(part.as_str());
         self.steps.note(done(&made, Step::Created(bytes_of(part.as_str().as_bytes()))));
-        self.open = Some(made?);
+        self.last = Some(made?);
         Ok(())
     }
 
     fn append(&mut self, part: &PartName, bytes: &[u8]) -> Result<usize, FolderError> {
-        let written = append_some(&mut self.open, part.as_str(), bytes);
+        let written = append_some(&mut self.last, part.as_str(), bytes);
         self.steps.note(match written {
             Ok(n) => Step::Appended(bytes_of(part.as_str().as_bytes()), bytes_of(&bytes[..n])),
             Err(error) => Step::Refused(error),
@@ -216,7 +288,7 @@ impl<'a, R: Files> Folder for SystemFolder<'a, R> {
     }
 
     fn flush(&mut self, part: &PartName) -> Result<(), FolderError> {
-        let flushed = flush_part(&mut self.open, part.as_str());
+        let flushed = flush_part(&mut self.last, part.as_str());
         self.steps.note(done(&flushed, Step::Flushed(bytes_of(part.as_str().as_bytes()))));
         flushed
     }
@@ -242,7 +314,13 @@ impl<'a, R: Files> Folder for SystemFolder<'a, R> {
 
     fn remove(&mut self, part: &PartName) -> Result<(), FolderError> {
         self.close(part.as_str());
-        let removed = remove_part(self.alloc, self.files, self.path.as_str(), part.as_str());
+        let removed = remove_part(
+            self.alloc,
+            self.files,
+            self.path.as_str(),
+            &mut self.last,
+            part.as_str(),
+        );
         self.steps.note(done(&removed, Step::Removed(bytes_of(part.as_str().as_bytes()))));
         removed
     }
