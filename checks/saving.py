@@ -30,15 +30,15 @@ def start(words, **how):
 
 class Saved:
     """What a run told: its lines are (verdict, code, status, length, file, URL), in the order in which they came. One that hangs is ended
-    after these seconds, since a busy disk was seen to take 12 milliseconds a file."""
+    after these seconds, since a busy disk was seen to take 12 milliseconds a file. `first` is called in its process before it starts."""
 
-    def __init__(self, words, into=None, urls=None, seconds=300, asked=None):
+    def __init__(self, words, into=None, urls=None, seconds=300, asked=None, first=None):
         begun = time.monotonic()
         words = words + (["--into", into] if into else []) + (["--input", "-"] if urls is not None else [])
         with tempfile.TemporaryFile(dir=WORK) as list_, tempfile.TemporaryFile(dir=WORK) as out, tempfile.TemporaryFile(dir=WORK) as err:
             list_.write(b"".join(url.encode() + b"\n" if isinstance(url, str) else url for url in urls or []))
             list_.seek(0)
-            child = start(words, stdin=list_, stdout=out, stderr=err, env={**os.environ, **(asked or {})})
+            child = start(words, stdin=list_, stdout=out, stderr=err, env={**os.environ, **(asked or {})}, preexec_fn=first)
             watch = threading.Timer(seconds, child.kill)
             watch.start()
             self.peak = self.descriptors = self.threads = 0

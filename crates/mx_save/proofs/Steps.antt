@@ -1,5 +1,7 @@
 -- What single steps leave.
-use Rattle.std.proofs.Common.{◌≡◌, ◌≢◌, ℕ, ◌≤◌, Bool, true, false, cond, List, [], ◌∷◌, ◌++◌, take, get_or, Some, None, option_map, Result, Ok, Err, refl, ap, sym, ◌∙◌, arith, append_assoc, inl, inr}
+use Rattle.std.proofs.Common.{◌≡◌, ◌≢◌, ℕ, ◌≤◌, Bool, true, false, cond, List, [], ◌∷◌, ◌++◌, take, get_or, Option, Some, None, option_map, Result, Ok, Err, refl, ap, sym, ◌∙◌, arith, append_assoc, inl, inr}
+use Rattle.std.specs.Prelude.{◌⊎◌}
+use Rattle.std.specs.List.{Contains}
 use Rattle.std.specs.Str.{bytes_eq}
 use Rattle.std.proofs.lemmas.Bool.{cond-true, cond-false, false_from_ne_true, cases_Bool}
 use Rattle.std.proofs.lemmas.List.{append-nil}
@@ -7,10 +9,10 @@ use Rattle.std.proofs.lemmas.Slice.Eq.{bytes_eq-Decides}
 use Rattle.mx_file_name.specs.Safe.{IsSafeName, IsPartName}
 use Rattle.mx_folder.specs.declared.errors.FolderError.{FolderError}
 use Rattle.mx_folder.specs.declared.steps.Step.{Step}
-use Rattle.mx_folder.specs.declared.steps.Step.TheVariants.{Created, Appended, Flushed, Placed, Removed}
+use Rattle.mx_folder.specs.declared.steps.Step.TheVariants.{Created, Appended, Flushed, Placed, Removed, Refused}
 use Rattle.mx_folder.specs.Steps.{done, appended, refusals}
-use Rattle.mx_folder.specs.Files.{file, with_more, on_disk}
-use Rattle.mx_save.specs.Bodies.{Holds, Appends, Flushes, FilesAreKept, IsOnlyPart, IsBeforeOrAfter}
+use Rattle.mx_folder.specs.Files.{File, file, with_more, on_disk}
+use Rattle.mx_save.specs.Bodies.{Holds, Appends, Flushes, FilesAreKept, IsGone, IsOnlyPart, IsBeforeOrAfter, LeavesOnly, left_of}
 
 pub same_name : (name : List ℕ) → bytes_eq name name ≡ true
 same_name name = (bytes_eq-Decides name name).1 refl
@@ -100,3 +102,42 @@ only_is_before part final body flushed old moment only found name differ = inl (
 
 pub kept_from_only : (part : List ℕ) (old new : List Step) → IsPartName part → IsOnlyPart part old new → FilesAreKept old new
 kept_from_only part old new hidden only found name safe = only found name (not_part name part safe hidden)
+
+-- parts that are left
+name_cases : (name part : List ℕ) → (name ≡ part) ⊎ (name ≢ part)
+name_cases name part =
+    elim (cases_Bool (bytes_eq name part)) [
+      | inl is ↦ inl ((bytes_eq-Decides name part).0 is)
+      | inr not ↦ inr (λ e. let is : bytes_eq name part ≡ true = (bytes_eq-Decides name part).1 e in cc)
+    ]
+
+pub gone_removed : (part : List ℕ) (old : List Step) → IsGone part (Removed part ∷ old)
+gone_removed part old found = cond-true (bytes_eq part part) None (file found old part) (same_name part)
+
+pub none_left_refused : (error : FolderError) (old new : List Step) → new ≡ Refused error ∷ old → LeavesOnly [] old new
+none_left_refused error old new e found name hidden = inl (ap (λ l. file found l name) e)
+
+pub leaves : (part : List ℕ) (left : Option FolderError) (old new : List Step) → IsOnlyPart part old new → (left ≡ None → IsGone part new) → LeavesOnly (left_of part left) old new
+leaves part None old new only gone found name hidden =
+    elim (name_cases name part) [
+      | inl is ↦ inr (inl (ap (file found new) is ∙ gone refl found))
+      | inr differ ↦ inl (only found name differ)
+    ]
+leaves part (Some why) old new only gone found name hidden =
+    elim (name_cases name part) [
+      | inl is ↦ inr (inr (0, omega arith, sym is))
+      | inr differ ↦ inl (only found name differ)
+    ]
+
+placed_away : (part final : List ℕ) (between : List Step) (found : List ℕ → Option File) (name : List ℕ) → name ≢ final
+    → file found (Placed part final ∷ between) name ≡ cond (bytes_eq name part) None (file found between name)
+placed_away part final between found name differ = cond-false (bytes_eq name final) (file found between part) _ (other_name name final differ)
+
+pub none_left_placed : (part final : List ℕ) (old between new : List Step) → IsSafeName final → IsOnlyPart part old between → new ≡ Placed part final ∷ between → LeavesOnly [] old new
+none_left_placed part final old between new safe only e found name hidden =
+    let now : file found new name ≡ cond (bytes_eq name part) None (file found between name) =
+    ap (λ l. file found l name) e ∙ placed_away part final between found name (λ same. not_part final name safe hidden (sym same)) in
+    elim (name_cases name part) [
+      | inl is ↦ inr (inl (now ∙ cond-true (bytes_eq name part) None (file found between name) ((bytes_eq-Decides name part).1 is)))
+      | inr differ ↦ inl (now ∙ cond-false (bytes_eq name part) None (file found between name) (other_name name part differ) ∙ only found name differ)
+    ]

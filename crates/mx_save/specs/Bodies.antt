@@ -1,8 +1,10 @@
 -- What saving a body does to a folder.
-use Rattle.std.specs.Prelude.{◌≡◌, ◌≢◌, ◌⊎◌, ℕ, Bool, false, List, ◌++◌, Option, Some, flat_map}
+use Rattle.std.specs.Prelude.{◌≡◌, ◌≢◌, ◌⊎◌, ℕ, Bool, false, List, [], ◌∷◌, ◌++◌, Option, Some, None, flat_map}
+use Rattle.std.specs.List.{Contains}
+use Rattle.mx_folder.specs.declared.errors.FolderError.{FolderError}
 use Rattle.mx_folder.specs.declared.steps.Step.{Step}
 use Rattle.mx_folder.specs.Files.{File, file}
-use Rattle.mx_file_name.specs.Safe.{IsSafeName}
+use Rattle.mx_file_name.specs.Safe.{IsSafeName, IsPartName}
 
 -- the bytes of a body, from its parts
 abbrev pub content_of : List (List ℕ) → List ℕ
@@ -24,7 +26,23 @@ Flushes name flushed old new = (bytes : List ℕ) → Holds name bytes false old
 abbrev pub IsOnlyPart : List ℕ → List Step → List Step → Type 0
 IsOnlyPart part old moment = (found : List ℕ → Option File) (name : List ℕ) → name ≢ part → file found moment name ≡ file found old name
 
--- rule file-refused-save: A refused call leaves each file as it was, and no part, unless the folder refused to remove it.
+-- nothing is under this name
+abbrev pub IsGone : List ℕ → List Step → Type 0
+IsGone name moment = (found : List ℕ → Option File) → file found moment name ≡ None
+
+-- the part, where the folder refused to remove it
+abbrev pub left_of : List ℕ → Option FolderError → List (List ℕ)
+left_of part None = []
+left_of part (Some why) = part ∷ []
+
+-- rule file-no-part-left: No part is left but one that the folder refused to remove, whose name is told.
+--
+-- the name of each part holds what it held, or nothing, but for these
+abbrev pub LeavesOnly : List (List ℕ) → List Step → List Step → Type 0
+LeavesOnly left old new = (found : List ℕ → Option File) (name : List ℕ) → IsPartName name
+    → (file found new name ≡ file found old name) ⊎ ((file found new name ≡ None) ⊎ Contains left name)
+
+-- rule file-refused-save: A refused call leaves each file as it was.
 --
 -- each name of a file holds what it held
 abbrev pub FilesAreKept : List Step → List Step → Type 0

@@ -1,20 +1,26 @@
 -- What holds of a run's saves. Bodies are of any type, of which `parts` gives the bytes.
-use Rattle.std.specs.Prelude.{◌≡◌, ◌≢◌, ◌⊎◌, ℕ, Bool, List, map, Option, Some}
+use Rattle.std.specs.Prelude.{◌≡◌, ◌≢◌, ◌⊎◌, ℕ, ◌+◌, ◌*◌, ◌≤◌, Bool, true, false, List, [], length, map, Option, Some, None, option_to_list}
 use Rattle.std.specs.List.{Contains, AllByRecursion}
 use Rattle.mx_file_name.specs.Safe.{IsSafeName}
 use Rattle.mx_file_name.specs.Laws.{AreDistinct}
+use Rattle.mx_folder.specs.declared.errors.FolderError.{FolderError}
+use Rattle.mx_folder.specs.declared.errors.FolderError.TheVariants as why
 use Rattle.mx_folder.specs.declared.steps.Step.{Step}
 use Rattle.mx_folder.specs.Files.{File, file}
 use Rattle.mx_folder.specs.Moments.{AtEachMoment}
-use Rattle.mx_save.specs.Bodies.{content_of, Holds}
+use Rattle.mx_folder.specs.Steps.{refusals}
+use Rattle.mx_save.specs.declared.error.SaveError.{SaveError}
+use Rattle.mx_save.specs.declared.error.SaveError.TheVariants as error
+use Rattle.mx_save.specs.Bodies.{content_of, Holds, LeavesOnly}
 
 -- what had been done to the folder when the run began, and what has been done by now; the bodies that were saved, with their names, the
--- newest first; and whether they are flushed
+-- newest first; whether they are flushed; and the names of the parts that the folder refused to remove, the newest first
 pub record LedgerValue (B : Type 0) : Type 0 where
   pub start : List Step
   pub steps : List Step
   pub entries : List (List ℕ × B)
   pub flush : Bool
+  pub left : List (List ℕ)
 
 -- each name of a file holds what it held, or, whole, a body that was saved under it
 abbrev pub HasOnly : {B : Type 0} → (B → List (List ℕ)) → Bool → List (List ℕ × B) → List Step → List Step → Type 0
@@ -30,10 +36,33 @@ AllHold parts flushed entries moment = AllByRecursion (λ entry. Holds entry.0 (
 abbrev pub IsFresh : {B : Type 0} → List ℕ → List (List ℕ × B) → Type 0
 IsFresh name entries = AllByRecursion (λ entry. name ≢ entry.0) entries
 
+-- rule file-part-that-exists: A part that exists is left alone, and the next number is taken: a save fails for that only once 2^32 - 1 names
+-- in a row were taken.
+--
+-- how many names of parts a save tries before it fails since all are taken
+abbrev pub most_parts : ℕ
+most_parts = 4294967295
+
+-- whether something had the name of the part
+abbrev pub is_there : FolderError → Bool
+is_there why.AlreadyThere = true
+is_there _ = false
+
+abbrev pub is_taken : SaveError → Option FolderError → Bool
+is_taken (error.Create e) None = is_there e
+is_taken _ _ = false
+
+-- the part of a body that wasn't saved, where it is left
+abbrev pub left_names : Option (List ℕ) → Option FolderError → List (List ℕ)
+left_names part None = []
+left_names part (Some e) = option_to_list part
+
 -- Since the run began, each file was at each moment what it was before, or a whole body that was saved under its name; each such body is
--- there now; and the names are those of files, no two alike.
+-- there now; and the names are those of files, no two alike. No part is left but those, for each of which the folder refused two calls.
 pub record IsLedger {B : Type 0} (parts : B → List (List ℕ)) (l : LedgerValue B) : Type 0 where
   pub since : AtEachMoment (HasOnly parts l.flush l.entries l.start) l.start l.steps
   pub holds : AllHold parts l.flush l.entries l.steps
   pub safe : AllByRecursion (λ entry. IsSafeName entry.0) l.entries
   pub distinct : AreDistinct (map (λ entry. entry.0) l.entries)
+  pub leaves : LeavesOnly l.left l.start l.steps
+  pub refused : refusals l.start + 2 * length l.left ≤ refusals l.steps

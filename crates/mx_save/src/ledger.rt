@@ -1,13 +1,13 @@
 //! The saves of a run.
-ghost use Rattle.std.specs.Prelude.{◌≡◌, ◌≢◌, ◌<◌, false, true, [], ◌∷◌, Ok, IsOk, IfErr, OnOk, OnErr};
+ghost use Rattle.std.specs.Prelude.{◌≡◌, ◌≢◌, ◌<◌, ◌≤◌, ◌+◌, false, true, [], ◌∷◌, ◌++◌, map, Ok, IsOk, IfErr, OnOk, OnErr};
 ghost use Rattle.mx_folder.specs.Steps.{refusals, done};
 ghost use Rattle.mx_folder.specs.declared.steps.Step.TheVariants as steps;
-ghost use Rattle.mx_save.specs.Bodies.{FilesAreKept};
-ghost use Rattle.mx_save.specs.Ledgers.{LedgerValue, IsLedger, IsFresh};
+ghost use Rattle.mx_save.specs.Bodies.{FilesAreKept, left_of};
+ghost use Rattle.mx_save.specs.Ledgers.{LedgerValue, IsLedger, IsFresh, is_taken, left_names, most_parts};
 ghost use Rattle.mx_save.specs.declared.error.SaveError.TheVariants as errors;
 
 use crate::body::Body;
-use crate::error::SaveError;
+use crate::error::{PartError, SaveError, Unsaved};
 use crate::save::save_body;
 use mx_file_name::{FileName, PartName, part_name};
 use mx_folder::{Folder, FolderError, Kind, Past};
@@ -16,8 +16,18 @@ use std::alloc::Global;
 use std::marker::Model;
 use std::snapshot::Snapshot;
 
-/// How many names of parts a save tries, where something else has them.
-pub const PART_TRIES: u32 = 8;
+// How many names of parts a save tries, where something else has them.
+const PART_TRIES: u32 = u32::MAX;
+
+// rule file-no-part-left
+// Notes the name of a part, where it is left.
+fn note_left(all: &mut Past<Snapshot<PartName>>, part: &PartName, left: Option<FolderError>)
+    ensures { map (λ p. p.value) all.new ≡ left_of part.now left ++ map (λ p. p.value) all.old }
+{
+    if left.is_some() {
+        all.note(Snapshot::of(part));
+    }
+}
 
 // A body that was saved, and its name, for contracts alone.
 #[derive(Drop)]
@@ -27,10 +37,12 @@ struct Entry<B> {
 }
 
 /// A folder, and what a run saved in it. Contracts see what had been done to the folder when the run began, and what has been done to it
-/// by now, the newest first; the bodies that were saved, each with its name, the newest first; and whether they are flushed.
+/// by now, the newest first; the bodies that were saved, each with its name, the newest first; whether they are flushed; and the names of
+/// the parts that are left, the newest first.
 ///
 /// Since the run began, each file of the folder was at each moment what it was before the run, or the whole body that was saved under its
-/// name. Each body that was saved is under its name now, and no two have the same name.
+/// name. Each body that was saved is under its name now, and no two have the same name. The name of each part holds what it held before
+/// the run, or nothing, but for parts that the folder refused to remove.
 #[derive(Drop)]
 pub struct Ledger<F: Folder, B: Body> {
     alloc: Global,
@@ -40,6 +52,7 @@ pub struct Ledger<F: Folder, B: Body> {
     folder: F,
     start: Snapshot<F>,
     saved: Past<Entry<B>>,
+    left: Past<Snapshot<PartName>>,
 }
 
 impl<F: Folder, B: Body> Model for Ledger<F, B> {
@@ -53,6 +66,7 @@ impl<F: Folder, B: Body> Model for Ledger<F, B> {
       steps = F.steps l.folder;
       entries = map (λ e. (e.name.value, e.body.value)) l.saved;
       flush = l.flush;
+      left = map (λ p. p.value) l.left;
     } };
 
     ghost invariant = { λ l. IsLedger B.parts (record {
@@ -60,13 +74,14 @@ impl<F: Folder, B: Body> Model for Ledger<F, B> {
       steps = F.steps l.folder;
       entries = map (λ e. (e.name.value, e.body.value)) l.saved;
       flush = l.flush;
+      left = map (λ p. p.value) l.left;
     }) };
 }
 
 impl<F: Folder, B: Body> Ledger<F, B> {
     /// A run that begins: nothing was saved yet. Its parts are named for this process, and their bodies are flushed where `flush` says so.
     pub fn new(alloc: Global, process: u32, folder: F, flush: bool) -> Ledger<F, B>
-        ensures { result ≡ record { start = F.steps folder; steps = F.steps folder; entries = []; flush = flush } }
+        ensures { result ≡ record { start = F.steps folder; steps = F.steps folder; entries = []; flush = flush; left = [] } }
     {
         let start = Snapshot::of(&folder);
         Ledger {
@@ -77,6 +92,7 @@ impl<F: Folder, B: Body> Ledger<F, B> {
             folder,
             start,
             saved: Past::new(),
+            left: Past::new(),
         }
     }
 
@@ -97,17 +113,23 @@ impl<F: Folder, B: Body> Ledger<F, B> {
     }
 
     // Saves a body by the next part.
-    fn save_once(&mut self, name: &FileName, body: &B) -> Result<(), SaveError>
+    fn save_once(&mut self, name: &FileName, body: &B) -> Result<(), Unsaved>
         requires { IsFresh name.now self.old.entries }
         ensures saved { OnOk result (self.new.entries ≡ (name.now, body.now) ∷ self.old.entries) }
         ensures kept { OnErr result (self.new.entries ≡ self.old.entries) }
         ensures files { OnErr result (FilesAreKept self.old.steps self.new.steps) }
         ensures start { self.new.start ≡ self.old.start }
         ensures flush { self.new.flush ≡ self.old.flush }
-        ensures cause { IfErr result (λ error. error ≢ errors.OutOfMemory → refusals self.old.steps < refusals self.new.steps) }
+        ensures cause { IfErr result (λ u. u.error ≢ errors.OutOfMemory → refusals self.old.steps < refusals self.new.steps) }
+        ensures whole { OnOk result (self.new.left ≡ self.old.left) }
+        ensures left { IfErr result (λ u. self.new.left ≡ left_names u.part u.left ++ self.old.left) }
     {
         let Ok(part) = self.next_part() else {
-            return Err(SaveError::OutOfMemory);
+            return Err(Unsaved {
+                error: SaveError::OutOfMemory,
+                part: None,
+                left: None,
+            });
         };
         part.know();
         name.know();
@@ -119,29 +141,44 @@ impl<F: Folder, B: Body> Ledger<F, B> {
                 });
                 Ok(())
             }
-            Err(error) => Err(error),
+            Err(PartError { error, left }) => {
+                note_left(&mut self.left, &part, left);
+                Err(Unsaved {
+                    error,
+                    part: Some(part),
+                    left,
+                })
+            }
         }
     }
 
-    // rule file-part-that-exists, unproved: A part that exists is left alone, and the next number is taken.
+    // rule file-part-that-exists
     /// Saves a body under a name that none of those before has. It is written under the name of a part, which is another one for each try:
-    /// where something else has that name, the next one is taken, up to `PART_TRIES` of them. No clause says how many are tried.
+    /// where something else has that name, the next number is taken, and it fails for that only once 2^32 - 1 names in a row were taken.
+    /// The numbers go on from one save to the next, so all saves of a run together make one call more for each part that was there.
     ///
     /// An error says at which call it came, and that the folder refused it, or that memory was refused. It leaves each file as it was,
-    /// and the part stays behind only where the folder refused to remove it.
-    pub fn save(&mut self, name: &FileName, body: &B) -> Result<(), SaveError>
+    /// and the part stays behind only where the folder refused to remove it, which the error says.
+    pub fn save(&mut self, name: &FileName, body: &B) -> Result<(), Unsaved>
         requires { IsFresh name.now self.old.entries }
         ensures saved { OnOk result (self.new.entries ≡ (name.now, body.now) ∷ self.old.entries) }
         ensures kept { OnErr result (self.new.entries ≡ self.old.entries) }
         ensures files { OnErr result (FilesAreKept self.old.steps self.new.steps) }
         ensures start { self.new.start ≡ self.old.start }
         ensures flush { self.new.flush ≡ self.old.flush }
-        ensures cause { IfErr result (λ error. error ≢ errors.OutOfMemory → refusals self.old.steps < refusals self.new.steps) }
+        ensures cause { IfErr result (λ u. u.error ≢ errors.OutOfMemory → refusals self.old.steps < refusals self.new.steps) }
+        ensures tried { IfErr result (λ u. is_taken u.error u.left ≡ true → refusals self.old.steps + most_parts ≤ refusals self.new.steps) }
+        ensures whole { OnOk result (self.new.left ≡ self.old.left) }
+        ensures left { IfErr result (λ u. self.new.left ≡ left_names u.part u.left ++ self.old.left) }
     {
-        for _ in 1..PART_TRIES {
+        for tried in 1..PART_TRIES {
             match self.save_once(name, body) {
-                Err(SaveError::Create(FolderError::AlreadyThere)) => {}
-                ended => return ended,
+                Ok(()) => return Ok(()),
+                Err(unsaved) => {
+                    if !unsaved.is_taken() {
+                        return Err(unsaved);
+                    }
+                }
             }
         }
         self.save_once(name, body)

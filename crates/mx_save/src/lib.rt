@@ -8,6 +8,6 @@ mod ledger;
 mod save;
 
 pub use crate::body::Body;
-pub use crate::error::SaveError;
-pub use crate::ledger::{Ledger, PART_TRIES};
+pub use crate::error::{PartError, SaveError, Unsaved};
+pub use crate::ledger::Ledger;
 pub use crate::save::save_body;

@@ -1,13 +1,13 @@
 //! One body.
-ghost use Rattle.std.specs.Prelude.{◌≡◌, ◌<◌, ◌≤◌, false, [], IsErr, OnOk, OnErr};
+ghost use Rattle.std.specs.Prelude.{◌≡◌, ◌<◌, ◌≤◌, ◌+◌, ◌*◌, false, [], length, IfErr, IsErr, IsSome, MatchResult, None, OnOk, OnErr};
 ghost use Rattle.mx_folder.specs.Steps.{refusals};
 ghost use Rattle.mx_folder.specs.Moments.{AtEachMoment};
-ghost use Rattle.mx_save.specs.Bodies.{content_of, Holds, Appends, Flushes, FilesAreKept, IsOnlyPart, IsBeforeOrAfter};
+ghost use Rattle.mx_save.specs.Bodies.{content_of, Holds, Appends, Flushes, FilesAreKept, IsGone, IsOnlyPart, IsBeforeOrAfter, LeavesOnly, left_of};
 
 use crate::body::Body;
-use crate::error::SaveError;
+use crate::error::{PartError, SaveError};
 use mx_file_name::{FileName, PartName};
-use mx_folder::Folder;
+use mx_folder::{Folder, FolderError};
 
 // Writes all of these bytes at the end of the part.
 fn append_all<F: Folder>(folder: &mut F, part: &PartName, bytes: &[u8]) -> Result<(), SaveError>
@@ -79,13 +79,18 @@ fn fill_part<F: Folder, B: Body>(
     flush_part(folder, part, flush)
 }
 
-// rule file-refused-save
-// Removes the part, if that can be done.
-fn discard<F: Folder>(folder: &mut F, part: &PartName)
+// rule file-no-part-left
+// Removes the part. Where the folder refuses, the answer is why.
+fn discard<F: Folder>(folder: &mut F, part: &PartName) -> Option<FolderError>
     ensures any_moment { AtEachMoment (IsOnlyPart part.now (F.steps folder.old)) (F.steps folder.old) (F.steps folder.new) }
     ensures grows { refusals (F.steps folder.old) ≤ refusals (F.steps folder.new) }
+    ensures gone { result ≡ None → IsGone part.now (F.steps folder.new) }
+    ensures refused { IsSome result → refusals (F.steps folder.old) < refusals (F.steps folder.new) }
 {
-    let _ = folder.remove(part);
+    match folder.remove(part) {
+        Ok(()) => None,
+        Err(error) => Some(error),
+    }
 }
 
 // rule file-whole-body
@@ -94,37 +99,50 @@ fn discard<F: Folder>(folder: &mut F, part: &PartName)
 /// What was under that name before stays until that moment.
 ///
 /// An error comes only where the folder refused a call. It leaves each file as it was, at each moment; the part stays behind only where
-/// the folder refused to remove it.
+/// the folder refused to remove it, and then the error says why.
 pub fn save_body<F: Folder, B: Body>(
     folder: &mut F,
     part: &PartName,
     name: &FileName,
     body: &B,
     flush: bool,
-) -> Result<(), SaveError>
+) -> Result<(), PartError>
     ensures saved { OnOk result (Holds name.now (content_of (B.parts body.now)) flush (F.steps folder.new)) }
     ensures kept { OnErr result (AtEachMoment (FilesAreKept (F.steps folder.old)) (F.steps folder.old) (F.steps folder.new)) }
     ensures any_moment { AtEachMoment (IsBeforeOrAfter part.now name.now (content_of (B.parts body.now)) flush (F.steps folder.old))
         (F.steps folder.old) (F.steps folder.new) }
     ensures cause { IsErr result → refusals (F.steps folder.old) < refusals (F.steps folder.new) }
+    ensures parts { MatchResult result (λ _. LeavesOnly [] (F.steps folder.old) (F.steps folder.new))
+        (λ e. LeavesOnly (left_of part.now e.left) (F.steps folder.old) (F.steps folder.new)) }
+    ensures grows { refusals (F.steps folder.old) ≤ refusals (F.steps folder.new) }
+    ensures refused { IfErr result (λ e. refusals (F.steps folder.old) + 2 * length (left_of part.now e.left) ≤ refusals (F.steps folder.new)) }
 {
     part.know();
+    name.know();
     match folder.create(part) {
         // Nothing is removed: what has that name may be somebody else's.
-        Err(error) => return Err(SaveError::Create(error)),
+        Err(error) => {
+            return Err(PartError {
+                error: SaveError::Create(error),
+                left: None,
+            });
+        }
         Ok(()) => {}
     }
     match fill_part(folder, part, body, flush) {
         Err(error) => {
-            discard(folder, part);
-            return Err(error);
+            let left = discard(folder, part);
+            return Err(PartError { error, left });
         }
         Ok(()) => {}
     }
     match folder.place(part, name) {
         Err(error) => {
-            discard(folder, part);
-            Err(SaveError::Place(error))
+            let left = discard(folder, part);
+            Err(PartError {
+                error: SaveError::Place(error),
+                left,
+            })
         }
         Ok(()) => Ok(()),
     }

@@ -19,10 +19,12 @@ use Rattle.mx_run_save.specs.Ends.{EndValue, done_end, failed_end, saved_end}
 use Rattle.mx_run_save.specs.declared.end.Verdict.{Verdict}
 use Rattle.mx_run_save.specs.declared.end.Verdict.TheVariants as verdict
 use Rattle.mx_save_jobs.specs.declared.asking.Asking.{Asking}
+use Rattle.mx_save_jobs.specs.declared.finish.NotEnded.{NotEnded}
+use Rattle.mx_save_jobs.specs.declared.finish.NotEnded.TheVariants as not_ended
 use Rattle.mx_save_jobs.specs.declared.job.Job.{Job}
 use Rattle.mx_save_jobs.specs.declared.job.Slot.{Slot}
 use Rattle.mx_save_jobs.specs.declared.job.Slot.TheVariants as slot
-use Rattle.mx_save_jobs.specs.Jobs.{Asks, BookValue, GrowsBy, GrowsFor, HasEnded, HoldsOf, IsBook, IsPending, IsSavedEnd, IsTold, Pends, Saves, State, is_saved, is_taken, is_told_saved, job_at, job_of, state_of}
+use Rattle.mx_save_jobs.specs.Jobs.{Asks, BookValue, GrowsBy, GrowsFor, HandsBack, HasEnded, HoldsOf, IsBook, IsPending, IsSavedEnd, IsTold, Pends, Saves, State, is_saved, is_taken, is_told_saved, job_at, job_of, state_of}
 use Rattle.mx_save_jobs.specs.Lines.{ToldValue}
 use Rattle.mx_save_jobs.specs.Books.{HaveEnded, IsJobFor}
 use Rattle.mx_save_jobs.proofs.Names.{all_given_more, fresh_on, given_more, given_new, given_on, is_fresh, is_new, saved_on}
@@ -424,3 +426,33 @@ saved_holds asking saves old url file name t o e is named asked decided status s
       status = status;
       size = size;
     })
+
+-- what is reported of a body that wasn't saved holds
+pub failed_holds : (asking : Asking) (saves : Saves) (e : EndValue) (text : List ℕ) → e.verdict ≡ verdict.Failed → e.error ≡ Some text → HoldsOf asking saves e e.verdict
+failed_holds asking saves e text failed said = subst (HoldsOf asking saves e) (sym failed) (subst IsSome (sym said) refl)
+
+pub failed_grows : (name : List ℕ) (v : Verdict) (old new : Saves) → v ≡ verdict.Failed → new ≡ old → GrowsFor name v old new
+failed_grows name v old new failed same = inl (ap is_saved failed, same)
+
+set_length : (slots : List Slot) (i : ℕ) (v : Slot) → length (slice_set slots i v) ≡ length slots
+set_length [] i v = refl
+set_length (s ∷ ss) zero v = refl
+set_length (s ∷ ss) (suc i) v = ap suc (set_length ss i v)
+
+-- a URL that comes back is the one that was handed in
+pub handed_back : (job back : Job) (e : NotEnded) → HandsBack job e → e ≡ not_ended.Unopened back → back ≡ job
+handed_back job back e hands is = subst (HandsBack job) is hands
+
+-- a slot whose URL was taken out is there
+pub still_within : (slots free : List Slot) (i : ℕ) (v : Slot) (p : Job) → job_at slots i ≡ Some p → free ≡ slice_set slots i v → i < length free
+still_within slots free i v p was is = omega (arith, job_within slots i p was, ap length is, set_length slots i v)
+
+-- a URL that was taken out of its slot is put back, and waits
+pub back_again : (b : State) (read : ℕ) (bases : List (List ℕ)) (at : ℕ) (job back next : Job) (free slots : List Slot) (saves : Saves) → IsBook b read bases → job_at b.slots at ≡ Some job
+    → free ≡ slice_set b.slots at slot.Free → slots ≡ slice_set free at (slot.Waiting next) → back ≡ job → next.place ≡ back.place → next.url ≡ back.url → next.name ≡ back.name → saves ≡ b.saves
+    → IsBook (record b { slots = slots; saves = saves }) read bases
+back_again b read bases at job back next free slots saves is was taken put same place url name kept =
+    let now : slots ≡ slice_set b.slots at (slot.Waiting next) = put ∙ set_again b.slots free at slot.Free (slot.Waiting next) taken in
+    let waits = again b read bases at job next (slot.Waiting next) is was refl (place ∙ ap (λ j. j.place) same) (url ∙ ap (λ j. j.url) same) (name ∙ ap (λ j. j.name) same) in
+    let one = subst (λ l. IsBook (record b { slots = slice_set b.slots at (slot.Waiting next); saves = l }) read bases) (sym kept) waits in
+    subst (λ l. IsBook (record b { slots = l; saves = saves }) read bases) (sym now) one

@@ -58,6 +58,14 @@ pub record WaitsAgain (old new : List Slot) (at : ℕ) : Type 0 where
   pub url : next.url ≡ job.url
   pub name : next.name ≡ job.name
 
+-- the URL is in the slot again, and waits for a further try
+pub record IsPutBack (old new : List Slot) (at : ℕ) (job : Job) : Type 0 where
+  pub next : Job
+  pub is : new ≡ slice_set old at (slot.Waiting next)
+  pub place : next.place ≡ job.place
+  pub url : next.url ≡ job.url
+  pub name : next.name ≡ job.name
+
 -- no transfer is added of what is there
 abbrev pub is_unadded : Slot → Bool
 is_unadded slot.Free = true

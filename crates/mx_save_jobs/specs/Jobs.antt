@@ -14,6 +14,8 @@ use Rattle.mx_run_save.specs.Ends.{EndValue}
 use Rattle.mx_run_save.specs.declared.end.Verdict.{Verdict}
 use Rattle.mx_run_save.specs.declared.end.Verdict.TheVariants as verdict
 use Rattle.mx_save_jobs.specs.declared.asking.Asking.{Asking}
+use Rattle.mx_save_jobs.specs.declared.finish.NotEnded.{NotEnded}
+use Rattle.mx_save_jobs.specs.declared.finish.NotEnded.TheVariants as not_ended
 use Rattle.mx_save_jobs.specs.declared.job.Job.{Job}
 use Rattle.mx_save_jobs.specs.declared.job.Slot.{Slot}
 use Rattle.mx_save_jobs.specs.declared.job.Slot.TheVariants as slot
@@ -147,3 +149,8 @@ GrowsBy name old new = (new ≡ old) ⊎ ((outcome : OutcomeValue) × (new ≡ (
 abbrev pub GrowsFor : List ℕ → Verdict → Saves → Saves → Type 0
 GrowsFor name v old new =
     ((is_saved v ≡ false) × (new ≡ old)) ⊎ ((is_saved v ≡ true) × (outcome : OutcomeValue) × (new ≡ (name, outcome) ∷ old))
+
+-- a URL that has no end comes back as it was, where memory wasn't refused
+abbrev pub HandsBack : Job → NotEnded → Type 0
+HandsBack job not_ended.OutOfMemory = ⊤
+HandsBack job (not_ended.Unopened back) = back ≡ job

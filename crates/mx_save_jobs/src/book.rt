@@ -1,15 +1,15 @@
 //! The URLs of a run, from their reading to their ends.
-ghost use Rattle.std.specs.Prelude.{◌≡◌, ◌≢◌, ◌+◌, ◌<◌, ◌^◌, All, ◌++◌, ◌∷◌, [], true, false, if◌then◌else◌, count_by, IfOk, OnErr, OnOk, Some, IsSome, IsNone, IfSome, MatchOption, slice_get, slice_set};
+ghost use Rattle.std.specs.Prelude.{◌≡◌, ◌≢◌, ◌+◌, ◌<◌, ◌^◌, All, ◌++◌, ◌∷◌, [], true, false, if◌then◌else◌, count_by, IfOk, OnErr, OnOk, Some, IsSome, IsNone, IfSome, MatchOption, length, slice_get, slice_set};
 ghost use Rattle.mx_types.specs.Code.{code_number};
 ghost use Rattle.mx_request.specs.Request.{IsRequest};
 ghost use Rattle.mx_run_save.specs.Ends.{skipped_end};
 ghost use Rattle.mx_save_jobs.specs.Jobs.{Asks, is_taken, job_at};
-ghost use Rattle.mx_save_jobs.specs.Books.{HasNoneAdded, HaveEnded, IsAdded, IsClosed, IsFreshBook, IsJobFor, IsSameRun, StandsAt, WaitsAgain, awaits_at};
+ghost use Rattle.mx_save_jobs.specs.Books.{HasNoneAdded, HaveEnded, IsAdded, IsClosed, IsFreshBook, IsJobFor, IsPutBack, IsSameRun, StandsAt, WaitsAgain, awaits_at};
 ghost use Rattle.mx_save_jobs.specs.declared.job.Slot.TheVariants as slot;
 
 use crate::asking::Asking;
 use crate::body::WholeBody;
-use crate::finish::finish;
+use crate::finish::{NotEnded, finish};
 use crate::job::{Job, Slot};
 use crate::lines::Lines;
 use crate::stop::Stop;
@@ -269,7 +269,7 @@ impl<F: Folder, W: Write> Book<F, W> {
     }
 
     /// Ends the URL in that slot, whose transfer ended so: its body is saved if it should be, and that is reported. Where it is to be tried
-    /// again, it waits, and the milliseconds until then come back.
+    /// again, it waits, and the milliseconds until then come back: where its transfer failed, or no file could be opened for its body.
     pub fn close(&mut self, at: usize, outcome: Outcome) -> Result<Option<u64>, Stop>
         requires going { self.old.is_stopped ≡ false }
         requires asked { IsJobFor self.old.asking self.old.slots at outcome.request }
@@ -279,45 +279,64 @@ impl<F: Folder, W: Write> Book<F, W> {
         ensures stopped { OnErr result (self.new.is_stopped ≡ true) }
         ensures run { IsSameRun self.old self.new }
     {
-        if let Some(delay) = self.delay(at, &outcome) {
+        if let Some(delay) = self.delay(at, outcome.code(), outcome.status()) {
             drop(outcome);
             set_waiting(&mut self.slots, at);
             return Ok(Some(delay));
         }
-        self.end_with(at, outcome)?;
-        Ok(None)
+        self.end_with(at, outcome)
     }
 
-    // How many milliseconds the URL in that slot waits, where its transfer ended so and it is to be tried again.
-    fn delay(&self, at: usize, outcome: &Outcome) -> Option<u64> {
+    // How many milliseconds the URL in that slot waits, where it ended with that code and status and is to be tried again.
+    fn delay(&self, at: usize, code: Code, status: u16) -> Option<u64> {
         let job = self.slots.get(at)?.job()?;
         if job.tries <= u32::from(self.asking.retries)
-            && is_retried(self.asking.method, outcome.code(), outcome.status())
+            && is_retried(self.asking.method, code, status)
         {
             return Some(delay_ms(job.tries.max(1)));
         }
         None
     }
 
-    // Ends the URL in that slot, whose transfer ended so.
-    fn end_with(&mut self, at: usize, outcome: Outcome) -> Result<(), Stop>
+    // rule file-descriptors, unproved: A URL for whose body no file can be opened, since too many are open, is tried again as one is whose
+    // connection couldn't be made.
+    // Ends the URL in that slot, whose transfer ended so; or lets it wait, where no file could be opened for its body.
+    fn end_with(&mut self, at: usize, outcome: Outcome) -> Result<Option<u64>, Stop>
         requires going { self.old.is_stopped ≡ false }
         requires asked { IsJobFor self.old.asking self.old.slots at outcome.request }
-        ensures slots { OnOk result (self.new.slots ≡ slice_set self.old.slots at slot.Free) }
+        ensures slots { OnOk result (IsClosed self.old.slots self.new.slots at) }
         ensures urls { self.new.urls ≡ self.old.urls }
         ensures going { OnOk result (self.new.is_stopped ≡ false) }
         ensures stopped { OnErr result (self.new.is_stopped ≡ true) }
         ensures run { IsSameRun self.old self.new }
     {
         self.is_stopped = true;
+        let delay = self.delay(at, Code::CouldntConnect, outcome.status());
         let Some(job) = take_job(&mut self.slots, at) else {
             unreachable!();
         };
         let place = job.place;
-        let end = finish(self.alloc, &self.asking, &mut self.ledger, job, outcome)?;
-        self.lines.tell(place, end)?;
-        self.is_stopped = false;
-        Ok(())
+        let may_retry = delay.is_some();
+        match finish(
+            self.alloc,
+            &self.asking,
+            &mut self.ledger,
+            job,
+            outcome,
+            may_retry,
+        ) {
+            Ok(end) => {
+                self.lines.tell(place, end)?;
+                self.is_stopped = false;
+                Ok(None)
+            }
+            Err(NotEnded::Unopened(job)) => {
+                put_back(&mut self.slots, at, job);
+                self.is_stopped = false;
+                Ok(delay)
+            }
+            Err(NotEnded::OutOfMemory) => Err(Stop::OutOfMemory),
+        }
     }
 
     /// How many URLs were read.
@@ -440,6 +459,14 @@ fn set_waiting(slots: &mut Vec<Slot>, at: usize)
     let Some(job) = take_job(slots, at) else {
         unreachable!();
     };
+    slots[at] = Slot::Waiting(again(job));
+}
+
+// Puts a URL that was in a slot back there, to wait for a further try.
+fn put_back(slots: &mut Vec<Slot>, at: usize, job: Job)
+    requires { at < length slots.old.items }
+    ensures { IsPutBack slots.old.items slots.new.items at job }
+{
     slots[at] = Slot::Waiting(again(job));
 }
 

@@ -1,11 +1,14 @@
 //! What a URL ends with, once its transfer has ended.
-ghost use Rattle.std.specs.Prelude.{◌≡◌, ◌≢◌, IfOk, OnErr, length};
+ghost use Rattle.std.specs.Prelude.{◌≡◌, ◌≢◌, IfErr, IfOk, OnErr, Some, length};
 ghost use Rattle.mx_body.specs.Parts.{joined};
 ghost use Rattle.mx_save.specs.Ledgers.{IsFresh};
+ghost use Rattle.mx_save.specs.Words.{unsaved_text};
 ghost use Rattle.mx_run_save.specs.Codes.{save_number};
 ghost use Rattle.mx_run_save.specs.Decisions.{IsDecision};
 ghost use Rattle.mx_run_save.specs.declared.decision.Decision.TheVariants as decision;
-ghost use Rattle.mx_save_jobs.specs.Jobs.{Asks, GrowsFor, HoldsOf};
+ghost use Rattle.mx_run_save.specs.declared.end.Verdict.TheVariants as verdict;
+ghost use Rattle.mx_save_jobs.specs.Jobs.{Asks, GrowsFor, HandsBack, HoldsOf};
+ghost use Rattle.mx_save_jobs.specs.declared.finish.NotEnded.TheVariants as not_ended;
 
 use crate::asking::Asking;
 use crate::body::WholeBody;
@@ -17,9 +20,26 @@ use mx_file_name::FileName;
 use mx_folder::{Folder, FolderError};
 use mx_run_get::last_method;
 use mx_run_save::{Decision, End, SaveCode, Transferred, verdict_of};
-use mx_save::{Ledger, SaveError};
+use mx_save::{Ledger, SaveError, Unsaved};
 use mx_types::Code;
 use std::alloc::{AllocError, Global};
+
+/// Why a URL whose transfer ended has no end.
+#[derive(Drop)]
+pub(crate) enum NotEnded {
+    /// Memory was refused.
+    OutOfMemory,
+    /// No file could be opened for its body, since too many are open, and it may be tried again.
+    Unopened(Job),
+}
+
+impl From<AllocError> for NotEnded {
+    ghost from_gives = { λ _ e. e ≡ not_ended.OutOfMemory };
+
+    fn from(_error: AllocError) -> NotEnded {
+        NotEnded::OutOfMemory
+    }
+}
 
 // What is reported of a transfer.
 fn transferred(outcome: &Outcome, tries: u32) -> Transferred
@@ -49,15 +69,32 @@ fn code_of(error: SaveError) -> SaveCode
     }
 }
 
+// rule file-no-part-left
+// The end of a URL whose body wasn't saved, which says why.
+fn unsaved_end(
+    alloc: Global,
+    url: Vec<u8>,
+    told: Transferred,
+    unsaved: &Unsaved,
+) -> Result<End, AllocError>
+    ensures url { IfOk result (λ end. end.url ≡ url.items) }
+    ensures failed { IfOk result (λ end. end.verdict ≡ verdict.Failed) }
+    ensures said { IfOk result (λ end. end.error ≡ Some (unsaved_text unsaved.now.error unsaved.now.part unsaved.now.left)) }
+{
+    let words = format!(in alloc; "{unsaved}")?;
+    Ok(End::failed(url, code_of(unsaved.error), told, Some(words)))
+}
+
 // rule save-bodies
-// Saves the body of an outcome.
+// Saves the body of an outcome. Where no file could be opened for it and the URL may be tried again, that comes back.
 fn save<F: Folder>(
     alloc: Global,
     asking: &Asking,
     ledger: &mut Ledger<F, WholeBody>,
     job: Job,
     outcome: Outcome,
-) -> Result<End, AllocError>
+    may_retry: bool,
+) -> Result<End, NotEnded>
     requires fresh { IsFresh job.name ledger.old.entries }
     requires decided { IsDecision outcome.code outcome.last.request.method outcome.status asking.now.content_on_error decision.Save }
     requires asked { Asks asking.now job.url.items outcome.request }
@@ -65,56 +102,61 @@ fn save<F: Folder>(
     ensures grows { IfOk result (λ end. GrowsFor job.name end.verdict ledger.old.entries ledger.new.entries) }
     ensures kept { OnErr result (ledger.new.entries ≡ ledger.old.entries) }
     ensures holds { IfOk result (λ end. HoldsOf asking.now ledger.new.entries end end.verdict) }
+    ensures back { IfErr result (HandsBack job) }
     ensures run { (ledger.new.start ≡ ledger.old.start) × (ledger.new.flush ≡ ledger.old.flush) }
 {
     let told = transferred(&outcome, job.tries);
-    let Job { url, name, .. } = job;
-    let file = match String::from_str(alloc, name.as_str()) {
+    let file = match String::from_str(alloc, job.name.as_str()) {
         Ok(file) => file,
-        Err(error) => {
+        Err(_) => {
             drop(outcome);
-            return Err(error);
+            return Err(NotEnded::OutOfMemory);
         }
     };
     let _asked = asking.method;
     let Ok(body) = WholeBody::of(outcome) else {
         unreachable!();
     };
-    match ledger.save(&name, &body) {
+    match ledger.save(&job.name, &body) {
         Ok(()) => {
             drop(body);
-            Ok(End::saved(url, file, told))
+            Ok(End::saved(job.url, file, told))
         }
-        Err(error) => {
+        Err(unsaved) => {
             drop(body);
-            let words = String::from_str(alloc, error.words())?;
-            Ok(End::failed(url, code_of(error), told, Some(words)))
+            if may_retry && unsaved.is_file_limit() {
+                return Err(NotEnded::Unopened(job));
+            }
+            Ok(unsaved_end(alloc, job.url, told, &unsaved)?)
         }
     }
 }
 
 // rule save-failures
-// Ends a URL whose transfer ended so: its body is saved if it should be.
+// Ends a URL whose transfer ended so: its body is saved if it should be. Where no file could be opened for that and the URL may be tried
+// again, it comes back.
 pub(crate) fn finish<F: Folder>(
     alloc: Global,
     asking: &Asking,
     ledger: &mut Ledger<F, WholeBody>,
     job: Job,
     outcome: Outcome,
-) -> Result<End, AllocError>
+    may_retry: bool,
+) -> Result<End, NotEnded>
     requires fresh { IsFresh job.name ledger.old.entries }
     requires asked { Asks asking.now job.url.items outcome.request }
     ensures url { IfOk result (λ end. end.url ≡ job.url.items) }
     ensures grows { IfOk result (λ end. GrowsFor job.name end.verdict ledger.old.entries ledger.new.entries) }
     ensures kept { OnErr result (ledger.new.entries ≡ ledger.old.entries) }
     ensures holds { IfOk result (λ end. HoldsOf asking.now ledger.new.entries end end.verdict) }
+    ensures back { IfErr result (HandsBack job) }
     ensures run { (ledger.new.start ≡ ledger.old.start) × (ledger.new.flush ≡ ledger.old.flush) }
 {
     outcome.know();
     let method = last_method(&outcome);
     let status = outcome.status();
     match verdict_of(outcome.code(), method, status, asking.content_on_error) {
-        Decision::Save => save(alloc, asking, ledger, job, outcome),
+        Decision::Save => save(alloc, asking, ledger, job, outcome, may_retry),
         Decision::Done => {
             let told = transferred(&outcome, job.tries);
             drop(outcome);

@@ -4,9 +4,9 @@ ghost use Rattle.std.specs.Prelude.{◌≢◌};
 use crate::bodies::{Pieces, is_same, name_of};
 use mx_file_name::{FileName, PartName, part_name};
 use mx_folder::{Folder, FolderError, Kind, MemoryFolder};
-use mx_save::{Ledger, PART_TRIES, SaveError, save_body};
+use mx_save::{Ledger, PartError, SaveError, Unsaved, save_body};
 use mx_types::OutOfMemory;
-use std::alloc::Global;
+use std::alloc::{AllocError, Global};
 use std::test::Fail;
 
 static HELLO: Pieces = Pieces {
@@ -126,6 +126,14 @@ static FAULTS: [Fault; 13] = [
     },
 ];
 
+// Why a body wasn't saved.
+fn reason_of(saved: Result<(), PartError>) -> Result<(), SaveError> {
+    match saved {
+        Ok(()) => Ok(()),
+        Err(refused) => Err(refused.error),
+    }
+}
+
 // Whether the folder has no part, and the whole body under its name, or nothing where it wasn't saved.
 fn is_left(
     alloc: Global,
@@ -149,7 +157,7 @@ fn is_right(
     let saved = save_body(&mut folder, part, name, &HELLO, row.flush);
     let left = is_left(alloc, &folder, part, name, saved.is_ok());
     drop(folder);
-    Ok(left? && saved == row.saved)
+    Ok(left? && reason_of(saved) == row.saved)
 }
 
 // The first save that leaves something else: the answer, no part, and the whole body under its name or nothing.
@@ -158,6 +166,71 @@ fn wrong_of_faults(alloc: Global) -> Result<Option<&'static str>, OutOfMemory> {
     let name = name_of(alloc, "http://h/x")?;
     for row in FAULTS.iter() {
         if !is_right(alloc, &part, &name, row)? {
+            return Ok(Some(row.name));
+        }
+    }
+    Ok(None)
+}
+
+// A save by writes of 4 bytes, not flushed, each call of which fails from this number on: what it answers, and whether its part is left.
+struct Left {
+    name: &'static str,
+    call: u64,
+    saved: Result<(), PartError>,
+    is_left: bool,
+}
+
+// rule file-no-part-left
+static LEFT: [Left; 3] = [
+    Left {
+        name: "no call is done",
+        call: 0,
+        saved: Err(PartError {
+            error: SaveError::Create(FolderError::Denied),
+            left: None,
+        }),
+        is_left: false,
+    },
+    Left {
+        name: "the second write fails, and the part can't be removed",
+        call: 2,
+        saved: Err(PartError {
+            error: SaveError::Write(FolderError::Denied),
+            left: Some(FolderError::Denied),
+        }),
+        is_left: true,
+    },
+    Left {
+        name: "the part can be neither renamed nor removed",
+        call: 4,
+        saved: Err(PartError {
+            error: SaveError::Place(FolderError::Denied),
+            left: Some(FolderError::Denied),
+        }),
+        is_left: true,
+    },
+];
+
+// Whether such a save answers what its row says, and leaves that.
+fn is_left_so(
+    alloc: Global,
+    part: &PartName,
+    name: &FileName,
+    row: &Left,
+) -> Result<bool, OutOfMemory> {
+    let mut folder = MemoryFolder::new(alloc, 4, row.call, FolderError::Denied).failing_on();
+    let saved = save_body(&mut folder, part, name, &HELLO, false);
+    let there = folder.held(alloc, part.as_str());
+    drop(folder);
+    Ok(there?.is_some() == row.is_left && saved == row.saved)
+}
+
+// The first of these saves that answers or leaves something else.
+fn wrong_of_left(alloc: Global) -> Result<Option<&'static str>, OutOfMemory> {
+    let part = part_name(alloc, 42, 0)?;
+    let name = name_of(alloc, "http://h/x")?;
+    for row in LEFT.iter() {
+        if !is_left_so(alloc, &part, &name, row)? {
             return Ok(Some(row.name));
         }
     }
@@ -286,29 +359,30 @@ fn wrong_of_two(alloc: Global) -> Result<Option<&'static str>, OutOfMemory> {
     Ok(None)
 }
 
-// How many names of parts are taken, and what a save answers then.
+// How many names of parts are taken, and what is said of a second save whose write fails, as each later call does.
 struct Taken {
     name: &'static str,
     count: u32,
-    saved: Result<(), SaveError>,
+    words: &'static str,
 }
 
 // rule file-part-that-exists
+// rule file-no-part-left
 static TAKEN: [Taken; 3] = [
     Taken {
         name: "one part is there",
         count: 1,
-        saved: Ok(()),
+        words: "the disk is full; the part .mxfetch-42-2.part is left: the disk is full",
     },
     Taken {
-        name: "all parts but one that are tried are there",
-        count: PART_TRIES - 1,
-        saved: Ok(()),
+        name: "eight parts are there",
+        count: 8,
+        words: "the disk is full; the part .mxfetch-42-9.part is left: the disk is full",
     },
     Taken {
-        name: "all parts that are tried are there",
-        count: PART_TRIES,
-        saved: Err(SaveError::Create(FolderError::AlreadyThere)),
+        name: "forty parts are there",
+        count: 40,
+        words: "the disk is full; the part .mxfetch-42-41.part is left: the disk is full",
     },
 ];
 
@@ -328,34 +402,61 @@ fn add_parts(alloc: Global, folder: &mut MemoryFolder, count: u32) -> Result<(),
     Ok(())
 }
 
-// A save into a folder: its answer, and the folder.
-fn save_beside(
-    alloc: Global,
-    name: &FileName,
-    folder: MemoryFolder,
-) -> (Result<(), SaveError>, MemoryFolder) {
-    let mut ledger = Ledger::new(alloc, 42, folder, false);
-    let saved = ledger.save(name, &HELLO);
-    (saved, ledger.finish().0)
+// What is said of a save.
+fn words_of(alloc: Global, saved: Result<(), Unsaved>) -> Result<String, AllocError> {
+    match saved {
+        Ok(()) => String::from_str(alloc, "saved"),
+        Err(unsaved) => format!(in alloc; "{unsaved}"),
+    }
 }
 
-// Whether a save where so many names of parts are taken answers what its row says, and leaves the last of those parts there, with no byte.
-fn is_beside(alloc: Global, name: &FileName, row: &Taken) -> Result<bool, OutOfMemory> {
+// Two saves into a folder: whether the first went well, the answer of the second, and the folder.
+fn save_beside(
+    alloc: Global,
+    first: &FileName,
+    second: &FileName,
+    folder: MemoryFolder,
+) -> (bool, Result<(), Unsaved>, MemoryFolder)
+    requires { second.now ≢ first.now }
+{
+    let mut ledger = Ledger::new(alloc, 42, folder, false);
+    let one = ledger.save(first, &HELLO).is_ok();
+    let two = ledger.save(second, &BYE);
+    (one, two, ledger.finish().0)
+}
+
+// Whether the first of two saves goes well where so many names of parts are taken, and the last of these still has no byte; and whether the
+// second takes the number behind that of the first, and says what its row says.
+fn is_beside(
+    alloc: Global,
+    first: &FileName,
+    second: &FileName,
+    row: &Taken,
+) -> Result<bool, OutOfMemory>
+    requires { second.now ≢ first.now }
+{
     let last = part_name(alloc, 42, u64::from(row.count.saturating_sub(1)))?;
-    let mut folder = MemoryFolder::new(alloc, 100, u64::MAX, FolderError::Failed);
+    // the first save makes a part, two writes and a name
+    let fails_at = u64::from(row.count) + 5;
+    let mut folder = MemoryFolder::new(alloc, 100, fails_at, FolderError::Full).failing_on();
     let added = add_parts(alloc, &mut folder, row.count);
-    let (saved, folder) = save_beside(alloc, name, folder);
+    let (one, two, folder) = save_beside(alloc, first, second, folder);
     let left = holds(alloc, &folder, last.as_str(), Some(b""));
     drop(folder);
     added?;
-    Ok(left? && saved == row.saved)
+    let words = words_of(alloc, two)?;
+    Ok(left? && one && is_same(words.as_bytes(), row.words.as_bytes()))
 }
 
 // The first row of these whose save answers something else, or touches the last part.
 fn wrong_of_taken(alloc: Global) -> Result<Option<&'static str>, OutOfMemory> {
-    let name = name_of(alloc, "http://h/x")?;
+    let first = name_of(alloc, "http://h/x")?;
+    let second = name_of(alloc, "http://h/y")?;
+    if second.is_same(&first) {
+        return Ok(Some("the names of two saves"));
+    }
     for row in TAKEN.iter() {
-        if !is_beside(alloc, &name, row)? {
+        if !is_beside(alloc, &first, &second, row)? {
             return Ok(Some(row.name));
         }
     }
@@ -420,8 +521,29 @@ fn wrong_of_looks(alloc: Global) -> Result<Option<&'static str>, OutOfMemory> {
     Ok((after != Ok(Kind::File)).then_some("a look after the save"))
 }
 
+// What is said of a part that couldn't be made.
+fn is_part_named(alloc: Global, error: FolderError, wanted: &str) -> Result<bool, OutOfMemory> {
+    let unsaved = Unsaved {
+        error: SaveError::Create(error),
+        part: Some(part_name(alloc, 42, 7)?),
+        left: None,
+    };
+    let words = format!(in alloc; "{unsaved}")?;
+    Ok(is_same(words.as_bytes(), wanted.as_bytes()))
+}
+
+fn wrong_of_named(alloc: Global) -> Result<Option<&'static str>, OutOfMemory> {
+    let taken = "the part .mxfetch-42-7.part can't be made: something else has that name";
+    let unopened =
+        "the part .mxfetch-42-7.part can't be made: too many files are open: ulimit -n allows more";
+    if !is_part_named(alloc, FolderError::AlreadyThere, taken)? {
+        return Ok(Some(taken));
+    }
+    Ok((!is_part_named(alloc, FolderError::TooManyOpen, unopened)?).then_some(unopened))
+}
+
 // An error of a save, and its words.
-static WORDS: [(SaveError, &str); 4] = [
+static WORDS: [(SaveError, &str); 5] = [
     (
         SaveError::Create(FolderError::Denied),
         "the folder may not be written",
@@ -430,6 +552,10 @@ static WORDS: [(SaveError, &str); 4] = [
     (
         SaveError::Place(FolderError::AlreadyThere),
         "something else has that name",
+    ),
+    (
+        SaveError::Write(FolderError::TooLarge),
+        "the file is over the limit of file sizes: ulimit -f allows more",
     ),
     (SaveError::OutOfMemory, "out of memory"),
 ];
@@ -449,12 +575,14 @@ fn each_row(rt: HostRuntime) -> Result<(), Fail> {
     let alloc = rt.alloc();
     let wrong = [
         wrong_of_faults(alloc)?,
+        wrong_of_left(alloc)?,
         wrong_of_two(alloc)?,
         wrong_of_taken(alloc)?,
         wrong_of_want(alloc)?,
         wrong_of_looks(alloc)?,
+        wrong_of_named(alloc)?,
         wrong_words(),
     ];
-    assert_eq!(rt; wrong, [None; 6]);
+    assert_eq!(rt; wrong, [None; 8]);
     Ok(())
 }

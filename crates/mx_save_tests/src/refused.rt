@@ -4,6 +4,7 @@ use crate::bodies::is_same;
 use crate::runs::{asked, save};
 use crate::server::Server;
 use mx_crew::Runtime;
+use mx_folder::FolderError;
 use mx_types::OutOfMemory;
 use std::alloc::{AllocError, Global};
 use std::net::{Net, TcpListener, TcpStream};
@@ -53,8 +54,16 @@ fn is_right<R: Runtime + Net<Listener = TcpListener, Stream = TcpStream>>(
     let server = Server::start(rt, 2)?;
     let port = server.address.port();
     let list = format!(in alloc; "http://127.0.0.1:{port}/a\nhttp://127.0.0.1:{port}/b")?;
-    let given = asked(alloc, &[], 64)?;
-    let ran = save(rt, &given, list.as_bytes(), &["a", "b"], server, u64::MAX)?;
+    let given = asked(alloc, &[], 64, 0)?;
+    let ran = save(
+        rt,
+        &given,
+        list.as_bytes(),
+        &["a", "b"],
+        server,
+        u64::MAX,
+        FolderError::Full,
+    )?;
     let first = was_saved(alloc, port, ran.printed.as_slice(), "a")?;
     let second = was_saved(alloc, port, ran.printed.as_slice(), "b")?;
     let Some((one, two)) = bodies_in(ran.held.as_slice()) else {

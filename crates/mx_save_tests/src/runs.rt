@@ -34,8 +34,11 @@ struct Row {
     urls: &'static [&'static str],
     list: &'static str,
     history: u32,
-    // The call of the folder that fails.
+    // The call of the folder that fails, and how.
     fails_at: u64,
+    error: FolderError,
+    // How many further tries a URL has.
+    retries: u8,
     // The names that are looked for, and the bytes under them, with a stroke after each.
     names: &'static [&'static str],
     held: &'static [u8],
@@ -53,6 +56,8 @@ const BOTH: Row = Row {
     list: "@a\n@b",
     history: 64,
     fails_at: u64::MAX,
+    error: FolderError::Full,
+    retries: 0,
     names: &["a", "b"],
     held: b"aaa|bbb|",
     printed: "saved 0 200 3 a @a\nsaved 0 200 3 b @b\n",
@@ -79,7 +84,7 @@ const SECOND_FAILS: Row = Row {
 
 // rule save-each-once
 // rule save-bodies
-static ROWS: [Row; 15] = [
+static ROWS: [Row; 18] = [
     // rule save-each-once
     // rule save-requests
     Row {
@@ -171,6 +176,28 @@ static ROWS: [Row; 15] = [
         fails_at: 12,
         ..BOTH
     },
+    // rule file-descriptors
+    Row {
+        name: "no file can be opened for the first body, which has a further try",
+        fails_at: 0,
+        error: FolderError::TooManyOpen,
+        retries: 1,
+        printed: "saved 0 200 3 b @b\nsaved 0 200 3 a @a\n",
+        served: 3,
+        ..BOTH
+    },
+    Row {
+        name: "no file can be opened for the first body, which has no further try",
+        fails_at: 0,
+        error: FolderError::TooManyOpen,
+        ..FIRST_FAILS
+    },
+    Row {
+        name: "the disk is full, and a further try isn't made",
+        fails_at: 0,
+        retries: 1,
+        ..FIRST_FAILS
+    },
 ];
 
 const OPTIONS: Options = Options {
@@ -189,18 +216,23 @@ const FLAGS: SaveFlags = SaveFlags {
     progress: None,
 };
 
-fn asking(alloc: Global) -> Asking {
+fn asking(alloc: Global, retries: u8) -> Asking {
     Asking {
         method: Method::Get,
         settings: Settings::new(alloc),
-        retries: 0,
+        retries,
         skip_existing: false,
         content_on_error: false,
     }
 }
 
-// What is asked for, with that history, and these URLs on the command line.
-pub(crate) fn asked(alloc: Global, urls: &[String], history: u32) -> Result<Save<'_>, AllocError> {
+// What is asked for, with that history, so many further tries, and these URLs on the command line.
+pub(crate) fn asked(
+    alloc: Global,
+    urls: &[String],
+    history: u32,
+    retries: u8,
+) -> Result<Save<'_>, AllocError> {
     let mut given = Vec::new(alloc);
     for url in urls {
         given.push(url.as_str())?;
@@ -208,7 +240,7 @@ pub(crate) fn asked(alloc: Global, urls: &[String], history: u32) -> Result<Save
     Ok(Save {
         numbers: SaveNumbers {
             options: OPTIONS,
-            retries: 0,
+            retries,
             history,
         },
         flags: FLAGS,
@@ -254,7 +286,8 @@ impl Read for Stalling<'_> {
 }
 
 // rule save-stalled-lists
-// A run over the URLs of the command line and those of a list, which looks for these names. The folder's call of that number fails.
+// A run over the URLs of the command line and those of a list, which looks for these names. The folder's call of that number fails with
+// that error.
 pub(crate) fn save<R: Runtime + Net<Listener = TcpListener, Stream = TcpStream>>(
     rt: &R,
     given: &Save<'_>,
@@ -262,6 +295,7 @@ pub(crate) fn save<R: Runtime + Net<Listener = TcpListener, Stream = TcpStream>>
     names: &[&str],
     server: Server,
     fails_at: u64,
+    error: FolderError,
 ) -> Result<Ran, Fail> {
     let alloc = rt.alloc();
     let mut printed = Vec::new(alloc);
@@ -284,7 +318,8 @@ pub(crate) fn save<R: Runtime + Net<Listener = TcpListener, Stream = TcpStream>>
             stalls: false,
         },
     );
-    let folder = MemoryFolder::new(alloc, 2, fails_at, FolderError::Full);
+    let list = Box::new(alloc, list).map_err(AllocError::from)?;
+    let folder = MemoryFolder::new(alloc, 2, fails_at, error);
     let Saved {
         folder,
         lines,
@@ -294,7 +329,7 @@ pub(crate) fn save<R: Runtime + Net<Listener = TcpListener, Stream = TcpStream>>
         rt,
         given,
         7,
-        asking(alloc),
+        asking(alloc, given.numbers.retries),
         Some(list),
         folder,
         lines,
@@ -340,9 +375,9 @@ fn is_right<R: Runtime + Net<Listener = TcpListener, Stream = TcpStream>>(
     let alloc = rt.alloc();
     let server = Server::start(rt, row.served)?;
     let texts = texts_of(alloc, row, server.address.port())?;
-    let given = asked(alloc, texts.urls.as_slice(), row.history)?;
+    let given = asked(alloc, texts.urls.as_slice(), row.history, row.retries)?;
     let list = texts.list.as_bytes();
-    let ran = save(rt, &given, list, row.names, server, row.fails_at)?;
+    let ran = save(rt, &given, list, row.names, server, row.fails_at, row.error)?;
     Ok(
         ran.printed.as_slice() == texts.printed.as_bytes()
             && ran.held.as_slice() == row.held

@@ -232,7 +232,7 @@ fn save_in<R: Files>(
     match (saved, flushed) {
         (Ok(()), Ok(())) => Ok(()),
         (Ok(()), Err(error)) => Err(SaveError::Flush(error)),
-        (Err(error), _) => Err(error),
+        (Err(unsaved), _) => Err(unsaved.error),
     }
 }
 
@@ -282,7 +282,10 @@ fn is_answered<R: Files>(
             let name = name_of(alloc, *url)?;
             let part = part_name(alloc, 42, 0)?;
             let body = Pieces { pieces: *body };
-            Ok(save_body(folder, &part, &name, &body, true) == *wanted)
+            Ok(match save_body(folder, &part, &name, &body, true) {
+                Ok(()) => wanted.is_ok(),
+                Err(refused) => *wanted == Err(refused.error) && refused.left.is_none(),
+            })
         }
     }
 }

@@ -1,7 +1,7 @@
-use Rattle.std.proofs.Common.{refl, subst}
+use Rattle.std.proofs.Common.{[], arith, inl, refl, subst}
 use Rattle.mx_folder.specs.declared.steps.Step.TheVariants.{FolderFlushed}
 use Rattle.mx_save.specs.Ledgers.{LedgerValue, IsLedger}
-use Rattle.mx_save.proofs.Runs.{kept_on, kept_step}
+use Rattle.mx_save.proofs.Runs.{kept_on, kept_step, more_refused, no_part}
 use Rattle.mx_save.proofs.ledger.Ledger.finish.Goals as goal
 
 pub returns-clause-run : goal.returns-clause-run
@@ -10,7 +10,9 @@ returns-clause-run g c =
     let parts = g.B.Body.parts in
     let inside = c.self.inside in
     let new = steps c.flush_folder-flushed.new.self in
-    let P : LedgerValue g.row.B.Denot → Type 0 = λ l. IsLedger parts (record { start = l.start; steps = new; entries = l.entries; flush = l.flush }) in
+    let P : LedgerValue g.row.B.Denot → Type 0 = λ l. IsLedger parts (record { start = l.start; steps = new; entries = l.entries; flush = l.flush; left = l.left }) in
     subst P c.self.view_is
-    (kept_on parts inside.flush _ (steps inside.start.value) (steps inside.folder) new c.self.invariant
-    (kept_step c.flush_folder-flushed.result FolderFlushed (steps inside.folder) new c.flush_folder-flushed.ensures (λ found name safe. refl)))
+    (kept_on parts inside.flush _ _ [] (steps inside.start.value) (steps inside.folder) new c.self.invariant
+    (kept_step c.flush_folder-flushed.result FolderFlushed (steps inside.folder) new c.flush_folder-flushed.ensures (λ found name safe. refl))
+    (no_part c.flush_folder-flushed.result FolderFlushed (steps inside.folder) new c.flush_folder-flushed.ensures (λ found name hidden. inl refl))
+    (more_refused c.flush_folder-flushed.result FolderFlushed (steps inside.folder) new c.flush_folder-flushed.ensures (omega arith)))
