@@ -3,6 +3,7 @@ ghost use Rattle.std.specs.Prelude.{◌≡◌, ◌⊎◌, [], IfErr, IfOk};
 
 use crate::polled::Polled;
 use crate::status::{OUT_OF_MEMORY, UNMADE, UNREAD};
+use crate::unbegun::tell_out_of_memory;
 use crate::unread::tell_unread;
 use either::{Either, Left, Right};
 use mx_folder::{FolderError, SystemFolder};
@@ -16,11 +17,24 @@ use std::rt::Files;
 /// What a list is read from, without waiting.
 pub type ListReader = Either<Polled<File>, Polled<StdinLock<'static>>>;
 
-/// The list of URLs, if there is one; or the exit status where it can't be opened, which is reported.
+// A list, on the heap: its buffers, of 12 KiB together, would be in the frame of each function that it is moved through.
+fn boxed<R: AllocGlobal + Eprint>(
+    rt: &R,
+    list: UrlList<ListReader>,
+) -> Result<Box<UrlList<ListReader>>, u8>
+    ensures { IfErr result (λ status. status ≡ OUT_OF_MEMORY) }
+{
+    match Box::new(rt.alloc(), list) {
+        Ok(list) => Ok(list),
+        Err(_) => Err(tell_out_of_memory(rt)),
+    }
+}
+
+/// The list of URLs, if there is one; or the exit status where it can't be opened, or memory for it was refused, which is reported.
 pub fn list_of<R: Files<File = File> + Input<Reader = StdinLock<'static>> + AllocGlobal + Eprint>(
     rt: &R,
     input: Option<ListSource<'_>>,
-) -> Result<Option<UrlList<ListReader>>, u8>
+) -> Result<Option<Box<UrlList<ListReader>>>, u8>
     ensures { IfErr result (λ status. (status ≡ UNREAD) ⊎ (status ≡ OUT_OF_MEMORY)) }
 {
     let reader = match input {
@@ -31,7 +45,7 @@ pub fn list_of<R: Files<File = File> + Input<Reader = StdinLock<'static>> + Allo
             Err(error) => return Err(tell_unread(rt, path, error)),
         },
     };
-    Ok(Some(UrlList::new(rt.alloc(), reader)))
+    Ok(Some(boxed(rt, UrlList::new(rt.alloc(), reader))?))
 }
 
 /// The folder of the files, which is made where it isn't there; or the exit status where it can't be, which is reported.

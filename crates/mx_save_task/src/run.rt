@@ -50,7 +50,7 @@ pub fn save_in<
     save: &Save<'_>,
     process: u32,
     asking: Asking,
-    list: Option<UrlList<Rd>>,
+    list: Option<Box<UrlList<Rd>>>,
     folder: F,
     lines: Lines<W>,
     watch: V,
@@ -110,7 +110,7 @@ fn save_aloud<
     save: &Save<'_>,
     process: u32,
     asking: Asking,
-    list: Option<UrlList<Rd>>,
+    list: Option<Box<UrlList<Rd>>>,
     folder: F,
     watch: V,
 ) -> u8

@@ -1,14 +1,14 @@
 -- The URLs that are still to be read.
-use Rattle.std.specs.Prelude.{◌≡◌, ℕ, Bool, true, List, [], ◌++◌, drop, map, Option, Some, None, option_map, option_to_list}
+use Rattle.std.specs.Prelude.{◌≡◌, ℕ, Bool, Box, true, List, [], ◌++◌, drop, map, Option, Some, None, option_map, option_to_list}
 use Rattle.mx_url_list.specs.Left.{entries_left}
 use Rattle.mx_url_list.specs.declared.list.UrlList.{UrlList}
 use Rattle.mx_save_work.specs.Texts.{bytes_of}
 use Rattle.mx_save_work.specs.declared.feed.Feed.{Feed}
 
 -- what a list has left, where that is known
-abbrev pub list_left : {R : Type 0} → (R → Option (List ℕ)) → Option (UrlList R) → Option (List (List ℕ))
+abbrev pub list_left : {R A : Type 0} → (R → Option (List ℕ)) → Option (Box (UrlList R) A) → Option (List (List ℕ))
 list_left remaining None = Some []
-list_left remaining (Some list) = option_map (map bytes_of) (entries_left remaining list)
+list_left remaining (Some list) = option_map (map bytes_of) (entries_left remaining list.value)
 
 -- the URL of the list that is at hand, if one is
 abbrev pub at_hand : {R : Type 0} → Feed R → List (List ℕ)

@@ -30,7 +30,7 @@ pub struct Feed<'a, R> {
     urls: &'a [&'a str],
     next: usize,
     ahead: Option<Vec<u8>>,
-    list: Option<UrlList<R>>,
+    list: Option<Box<UrlList<R>>>,
     ghost within: { next ≤ length urls.now },
 }
 
@@ -62,7 +62,7 @@ impl<'a, R: Read + Drop> Feed<'a, R> {
     ghost use Rattle.mx_save_work.specs.Feeds.{left, list_left, Gives, IsUsedUp, Keeps};
 
     /// The URLs, of which none was read yet.
-    pub fn new(alloc: Global, urls: &'a [&'a str], list: Option<UrlList<R>>) -> Feed<'a, R>
+    pub fn new(alloc: Global, urls: &'a [&'a str], list: Option<Box<UrlList<R>>>) -> Feed<'a, R>
         ensures { left R.remaining result ≡ option_map (λ more. map (λ u. u.now) urls.now ++ more) (list_left R.remaining list) }
     {
         Feed {

@@ -1,0 +1,93 @@
+"""The cases of checks/memory.sh: runs with little stack."""
+
+import os
+import resource
+import subprocess
+import sys
+
+from saving import folder
+from servers import PROGRAM, WORK, Server, Wrong, counted, keeping, want
+
+KIB = 1 << 10
+STACK = 192 * KIB        # of each thread
+SECONDS = 20             # which no run takes a tenth of: one that takes longer hangs
+RESPONSE = b"HTTP/1.1 200 OK\r\nContent-Length: 5\r\n\r\nhello"
+SCRIPT = b"add 7\nadd 7\ndone 0 0 5\nread\n"
+PATHS = [f"/m{number}" for number in range(40)]
+
+
+def run(words, stdin=b""):
+    """A run whose threads have this stack each. One that hangs or ends by a signal is wrong."""
+
+    def limit():
+        resource.setrlimit(resource.RLIMIT_STACK, (STACK, resource.getrlimit(resource.RLIMIT_STACK)[1]))
+
+    try:
+        ended = subprocess.run([PROGRAM] + words, input=stdin, capture_output=True, preexec_fn=limit, timeout=SECONDS)
+    except subprocess.TimeoutExpired:
+        raise Wrong(f"{words[:3]}: it hangs") from None
+    want(ended.returncode >= 0, f"{words[:3]}: ended by signal {-ended.returncode}")
+    return ended
+
+
+def taking(connection, _):
+    """Answers a request whose body ends with END."""
+    came = b""
+    while not came.endswith(b"END"):
+        came += connection.recv(65536)
+    connection.sendall(counted(b"taken"))
+
+
+def case_little_stack():
+    with Server(keeping) as server, Server(taking) as taker:
+        urls = [server.url(path) for path in PATHS]
+        lines = "".join(f"{url}\n" for url in urls).encode()
+        with open(os.path.join(WORK, "urls"), "wb") as file:
+            file.write(lines)
+        with open(os.path.join(WORK, "data"), "wb") as file:
+            file.write(b"x" * 100_000 + b"END")
+        named = server.url("/named").replace("127.0.0.1", "localhost")
+        rows = [
+            (["--help"], b"", 0),
+            (["--version"], b"", 0),
+            *(([command, "--help"], b"", 0) for command in ("get", "save", "body", "play")),
+            ([], b"", 120),
+            (["fetch"], b"", 120),
+            (["get"], b"", 120),
+            (["get", "--timeout-ms", "soon", urls[0]], b"", 120),
+            (["save", "--at-once", "0", urls[0]], b"", 120),
+            (["body", "BREW"], b"", 120),
+            (["body", "GET"], RESPONSE, 0),
+            (["body", "--explain", "GET"], RESPONSE + b"!", 0),
+            (["play"], SCRIPT, 0),
+            (["get"] + urls, b"", 0),
+            (["get", "--explain", "--workers", "1", "http://127.0.0.1:1/"], b"", 7),
+            (["get", "--workers", "4", named] + urls, b"", 0),
+            (["save", "--into", folder()] + urls, b"", 0),
+            (["save", "--workers", "4", "--progress", "--into", folder(), "--input", "-"], lines, 0),
+            (["save", "--json", "--fsync", "--into", folder(), "--input", os.path.join(WORK, "urls")], b"", 0),
+            (["save", "--into", folder(), "--data", "@" + os.path.join(WORK, "data"), taker.url("/t")], b"", 0),
+        ]
+        for words, stdin, status in rows:
+            ended = run(words, stdin=stdin)
+            want(ended.returncode == status, f"{words[:4]}: exit status {ended.returncode} in place of {status}: {ended.stderr[-200:]!r}")
+
+
+def main():
+    cases = [(name[5:], case) for name, case in globals().items() if name.startswith("case_")]
+    word = sys.argv[1] if len(sys.argv) > 1 else ""
+    wrong = 0
+    for name, case in cases:
+        if word not in name:
+            continue
+        print(name, flush=True)
+        try:
+            case()
+        except Wrong as error:
+            wrong += 1
+            print(f"    WRONG: {error}", flush=True)
+    print(f"{wrong} wrong" if wrong else "all as expected")
+    sys.exit(1 if wrong else 0)
+
+
+main()
