@@ -166,8 +166,8 @@ fn fetch_with<
     }
 }
 
-/// Fetches at a new multi handle, with a worker at each gate, which are as many as the plan has workers. It knows nothing of sockets: what
-/// its exits drop is of any link.
+/// Fetches at a new multi handle, with a worker at each gate, which are as many as the plan has workers, and closes the handle. It knows
+/// nothing of sockets: what its exits drop is of any link.
 pub fn run_epoch<
     'a,
     L: Link + Send,
@@ -200,9 +200,10 @@ pub fn run_epoch<
             let Opened {
                 multi,
                 seat,
+                closing,
                 workers,
             } = opened;
-            fetch_with(
+            let fetched = fetch_with(
                 rt,
                 &multi,
                 (seat, workers),
@@ -212,7 +213,9 @@ pub fn run_epoch<
                 watch,
                 plan,
                 timer,
-            )
+            );
+            multi.close(rt, closing);
+            fetched
         }
         Err(_) => (work, watch, Err(Stop::OutOfMemory)),
     }
