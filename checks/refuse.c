@@ -1,7 +1,8 @@
 /* A library that refuses the growth of memory whose number is REFUSE_GROWTH, counted from 1 since the program was loaded, and then
-   makes the file REFUSE_NOTE; that refuses each flush, by EIO, of a folder where REFUSE_FLUSH is `folder`, of a file where it is
-   `file`; and each new thread, each new poll or each reading of a clock, where REFUSE_SYSTEM is `thread`, `poll` or `clock`. Loaded by
-   LD_PRELOAD; checks/refused-growths.sh, checks/get.sh and checks/save.sh compile it. */
+   makes the file REFUSE_NOTE, and as many after it as REFUSE_ON says; that refuses each flush, by EIO, of a folder where REFUSE_FLUSH is
+   `folder`, of a file where it is `file`; with REFUSE_REMOVE, by EACCES, to remove a file; and each new thread, each new poll or each
+   reading of a clock, where REFUSE_SYSTEM is `thread`, `poll` or `clock`. Loaded by LD_PRELOAD; checks/refused-growths.sh, checks/get.sh and
+   checks/save.sh compile it. */
 #define _GNU_SOURCE
 #include <dlfcn.h>
 #include <errno.h>
@@ -19,21 +20,30 @@ void *__libc_malloc(size_t size);
 void *__libc_realloc(void *old, size_t size);
 
 static long left;
+static long more;
 static const char *flush, *system_call;
 static int (*begin_thread)(pthread_t *, const pthread_attr_t *, void *(*)(void *), void *);
 
 /* it starts to count once the program is loaded */
 __attribute__((constructor)) static void begin(void) {
   const char *which = getenv("REFUSE_GROWTH");
+  const char *on = getenv("REFUSE_ON");
+  more = on ? atol(on) : 0;
   flush = getenv("REFUSE_FLUSH");
   system_call = getenv("REFUSE_SYSTEM");
   *(void **)&begin_thread = dlsym(RTLD_NEXT, "pthread_create");
   left = which ? atol(which) : 0;
 }
 
-/* whether this growth is the one that is refused, which it notes */
+/* whether this growth is one that is refused; the first of them is noted */
 static int is_refused(void) {
-  if (left <= 0 || --left > 0) return 0;
+  if (left < 0) {
+    if (more-- <= 0) left = 0;
+    if (left < 0) errno = ENOMEM;
+    return left < 0;
+  }
+  if (left == 0 || --left > 0) return 0;
+  left = -1;
   int file = open(getenv("REFUSE_NOTE"), O_WRONLY | O_CREAT, 0600);
   if (file >= 0) close(file);
   errno = ENOMEM;
@@ -76,4 +86,12 @@ int clock_gettime(clockid_t clock, struct timespec *now) {
     return -1;
   }
   return (int)syscall(SYS_clock_gettime, clock, now);
+}
+
+int unlink(const char *path) {
+  if (getenv("REFUSE_REMOVE")) {
+    errno = EACCES;
+    return -1;
+  }
+  return (int)syscall(SYS_unlink, path);
 }

@@ -204,6 +204,26 @@ def case_redirects():
         want_lines(run, [failed(22, 302, server.url("/1/page1"))], 22)
 
 
+# rule redirect-heads
+def case_redirects_with_large_bodies():
+    # a body whose redirect is followed is freed before the next one comes
+    body = body_of("/large") + bytes(20 * MIB)
+
+    def serve(connection, _):
+        while (path := read_request(connection)) is not None:
+            left = int(path.split("/")[1])
+            to = f"Location: /{left - 1}/large\r\n" if left else ""
+            connection.sendall(counted(body, "HTTP/1.1 302 Found" if left else "HTTP/1.1 200 OK", to))
+
+    with Server(serve) as server:
+        into = folder()
+        run = Saved(["--max-redirects", "10", server.url("/10/large")], into)
+        want_lines(run, [saved(server, "/10/large", "large", body)], 0)
+        want_files(into, {"large": body})
+        print(f"    11 responses of 20 MiB: {run.seconds:.2f} s, processor {run.processor:.2f} s, peak {run.peak // MIB} MiB")
+        want(run.peak < 60 * MIB, f"peak {run.peak // MIB} MiB")
+
+
 # --- a run that is killed, and a disk that is full ------------------------------------------------------------------------
 
 def case_killed_and_taken_up_again():
@@ -268,6 +288,65 @@ def case_full_disk():
         want(again.status == 23 and [line[0] for line in again.lines].count("skipped") == 1, f"{again.lines}")
         found = files_in(into)
         want(all(content == files.get(name, b"old") for name, content in found.items()) and not parts_in(into), "other files")
+
+
+# rule file-part-that-exists
+def case_parts_that_are_there():
+    # under the names that this process would take first: they stay as they are
+    with Server(keeping) as server:
+        paths, into = [f"/p{number}" for number in range(10)], folder()
+
+        def leave():
+            for number in range(300):
+                with open(os.path.join(into, f".mxfetch-{os.getpid()}-{number}.part"), "x") as file:
+                    file.write("mine")
+
+        run = Saved([server.url(path) for path in paths], into, first=leave)
+        want_lines(run, [saved(server, path, path[1:], body_of(path)) for path in paths], 0)
+        left = parts_in(into)
+        want(len(left) == 300 and all(os.path.getsize(os.path.join(into, name)) == 4 for name in left), f"{len(left)} parts")
+        for name in left:
+            os.remove(os.path.join(into, name))
+        want_files(into, {path[1:]: body_of(path) for path in paths})
+
+
+# rule file-size-limit
+def case_limit_of_file_sizes():
+    def serve(connection, _):
+        while (path := read_request(connection)) is not None:
+            connection.sendall(counted(b"x" * int(path[1:])))
+
+    words = "the file is over the limit of file sizes: ulimit -f allows more"
+    with Server(serve) as server:
+        for limit in (100_000, 65_536):
+            sizes, into = [0, 1, limit - 1, limit, limit + 1, 10 * limit], folder()
+            run = Saved([server.url(f"/{size}") for size in sizes], into, first=lambda: resource.setrlimit(resource.RLIMIT_FSIZE, (limit, limit)))
+            want_lines(run, [saved(server, f"/{size}", str(size), b"x" * size) if size <= limit else failed(23, 200, server.url(f"/{size}"))
+                             for size in sizes], 23)
+            want_files(into, {str(size): b"x" * size for size in sizes if size <= limit})
+            want(all(f"mxfetch: {server.url(f'/{size}')}: {words} (23)\n".encode() in run.err for size in sizes if size > limit), f"{run.err!r}")
+
+
+# rule file-no-part-left
+def case_parts_that_cannot_be_removed():
+    # of a disk that is full, and of a folder that has the name: the URL's line names the part, or there is none
+    with Server(keeping) as server, small_disk("1m") as full:
+        rows = [(folder(), "/a_folder", "something else has that name")]
+        os.mkdir(os.path.join(rows[0][0], "a_folder"))
+        if full is not None:
+            with open(os.path.join(full, "large"), "wb", buffering=0) as file, contextlib.suppress(OSError):
+                while True:
+                    file.write(bytes(4096))
+            rows.append((full, "/full", "the disk is full"))
+        for into, path, why in rows:
+            refused = Saved(["--json", server.url(path)], into, asked={"REFUSE_REMOVE": "1", "LD_PRELOAD": os.path.join(WORK, "refuse.so")})
+            left = parts_in(into)
+            want(len(left) == 1, f"{path}: parts {left}")
+            error = [one["error"] for one in refused.objects()]
+            want(error == [f"{why}; the part {left[0]} is left: the folder may not be written"], f"{path}: {error}")
+            os.remove(os.path.join(into, left[0]))
+            removed = Saved(["--json", server.url(path)], into)
+            want([one["error"] for one in removed.objects()] == [why] and not parts_in(into), f"{path}: {removed.out!r}, {parts_in(into)}")
 
 
 def case_flushes_that_are_refused():
@@ -575,6 +654,25 @@ def case_too_many_open_files():
         want({line[1] for line in parse(out)} == {0} and err == b"", f"{err[-300:]!r}")
 
 
+# rule file-descriptors
+def case_files_without_descriptors():
+    # connections that are slow or kept take all descriptors, so that none is free for a file
+    def serve(connection, _):
+        while (path := read_request(connection)) is not None:
+            time.sleep(0.2)
+            connection.sendall(counted(body_of(path)))
+
+    with Server(serve) as server:
+        for retries in ("0", "3"):
+            into, urls = folder(), [server.url(f"/{number}") for number in range(64)]
+            run = Saved(["--at-once", "64", "--retry", retries] + urls, into, first=lambda: resource.setrlimit(resource.RLIMIT_NOFILE, (20, 20)))
+            codes = [line[1] for line in run.lines]
+            want(len(codes) == 64 and 0 in codes and set(codes) <= {0, 7}, f"{retries}: {codes}")
+            want(b"ulimit -n allows more" in run.err, f"{run.err[-300:]!r}")
+            names = {line[4] for line in run.lines if line[0] == "saved"}
+            want_files(into, {name: body_of(f"/{name}") for name in names})
+
+
 def screen(came):
     """The lines of a terminal that was sent these bytes, the last one as it is left."""
     lines, at = [b""], 0
@@ -878,6 +976,23 @@ def case_ten_thousand_urls():
     want(peaks[10_000] - peaks[1_000] < 9_000 * 1024, f"the memory grows by {(peaks[10_000] - peaks[1_000]) / MIB:.1f} MiB")
 
 
+# rule file-names-size
+def case_names_in_memory():
+    # a URL that is skipped leaves its name behind, and nothing else
+    peaks, into = {}, folder()
+    names = [f"n{number:07}" for number in range(60_000)]
+    for name in names:
+        os.close(os.open(os.path.join(into, name), os.O_WRONLY | os.O_CREAT))
+    for count in (10_000, 60_000):
+        run = Saved(["--skip-existing"], into, [f"http://127.0.0.1:1/{name}" for name in names[:count]])
+        want(run.status == 0 and len(run.lines) == count, f"exit status {run.status}, {len(run.lines)} lines")
+        peaks[count] = run.peak
+    each = (peaks[60_000] - peaks[10_000]) / 50_000
+    print(f"    a name of {len(names[0])} bytes takes {each:.0f}")
+    # 64 beside its text in a list in order, which fills the nodes least; and what the allocator adds to the text and to the nodes
+    want(each < len(names[0]) + 64 + 56, f"a name of {len(names[0])} bytes takes {each:.0f}")
+
+
 def case_short_history():
     # room for one addition at a time: each URL has a multi handle of its own
     with Server(keeping) as server:
@@ -915,8 +1030,9 @@ def case_refused_growths():
                         asked=asked)
             if not os.path.exists(note):
                 break
-            # what was printed as saved is there, whole, and nothing is half there; what wasn't saved is printed so, with 27, or the run was
-            # ended with 27
+            # what was printed as saved is there, whole, and nothing is half there, nor a part; what wasn't saved is printed so, with 27, or the
+            # run was ended with 27
+            want(not parts_in(into), f"growth {which}: a part is left")
             found = files_in(into)
             want(all(content == body_of(f"/{name}") for name, content in found.items()), f"growth {which}: a file isn't whole")
             want({line[4] for line in run.lines if line[0] == "saved"} <= set(found), f"growth {which}: a file that was told isn't there")
@@ -927,6 +1043,15 @@ def case_refused_growths():
             want(is_ended or len(run.lines) == 4, f"growth {which}: {len(run.lines)} lines, {run.err!r}")
             counts[0 if is_ended else 1 if run.status else 2] += 1
         want_lines(run, lines, 0)
+        # each growth and eight after it: no part is left, and what was printed as saved is there, whole
+        for which in range(1, sum(counts) + 1):
+            into = folder()
+            asked = {"REFUSE_GROWTH": str(which), "REFUSE_ON": "8", "REFUSE_NOTE": note, "LD_PRELOAD": os.path.join(WORK, "refuse.so")}
+            run = Saved(["--timeout-ms", "5000", "--workers", "1", server.url(paths[0])], into, asked=asked)
+            found = files_in(into)
+            want(not parts_in(into), f"growths {which} to {which + 8}: a part is left; {run.lines}, {run.err!r}")
+            want({line[4] for line in run.lines if line[0] == "saved"} <= set(found), f"growths {which} to {which + 8}: {run.lines}")
+            want(all(content == body_of(f"/{name}") for name, content in found.items()), f"growths {which} to {which + 8}: a file isn't whole")
         # out of memory before a URL is asked for
         for words, count in ((["--json"], 1), (["--data", "--json"], 0), (["--", "--json"], 0), ([], 0)):
             asked = {"REFUSE_GROWTH": "1", "REFUSE_NOTE": note, "LD_PRELOAD": os.path.join(WORK, "refuse.so")}
