@@ -1,5 +1,5 @@
 //! A decoder that is fed the bytes of an exchange in pieces.
-ghost use Rattle.std.specs.Prelude.{◌≡◌, ◌≢◌, ◌++◌, [], true, false, length, IfOk, OnErr, Ok};
+ghost use Rattle.std.specs.Prelude.{◌≡◌, ◌≢◌, ◌++◌, [], true, false, length, IfOk, OnOk, OnErr, Ok};
 ghost use Rattle.mx_body.specs.Parts.{AreOrdered};
 ghost use Rattle.mx_body.specs.Decision.{HasStatus, HasLocation, TellsLocation, IsPlaceIn, bytes_at, BeginsWithParts};
 ghost use Rattle.mx_body.specs.Decoder as spec;
@@ -8,8 +8,8 @@ ghost use Rattle.mx_body.specs.declared.decoder.Stand.TheVariants as stand;
 ghost use Rattle.mx_body.specs.declared.verdict.Verdict.TheVariants as verdict;
 
 use crate::part::Part;
-use crate::progress::{Progress, finish, go_on, pass_data};
-use crate::room::make_room;
+use crate::progress::{Progress, finish, read_more};
+use crate::room::append;
 use crate::verdict::Verdict;
 use mx_types::{Code, Method, OutOfMemory};
 use std::alloc::Global;
@@ -114,17 +114,20 @@ impl Decoder {
             Verdict::More if !piece.is_empty() => {}
             other => return Ok(stand_of(other)),
         }
+        self.take(piece)?;
+        Ok(stand_of(&self.verdict))
+    }
+
+    // Takes the next bytes, where nothing is decided yet.
+    fn take(&mut self, piece: &[u8]) -> Result<(), OutOfMemory>
+        requires { self.old.verdict ≡ verdict.More }
+        ensures fed { OnOk result (self.new ≡ record self.old { wire = self.old.wire ++ piece.now; verdict = self.new.verdict }) }
+        ensures exact { IsExact self.new }
+        ensures refused { OnErr result (self.new ≡ self.old) }
+    {
         let len = self.wire.len();
-        make_room(
-            &mut self.wire,
-            piece.len(),
-            self.progress.told_bytes(self.method),
-        )?;
-        self.wire.extend_from_slice(piece)?;
-        if pass_data(self.method, self.wire.as_slice(), len, &mut self.progress) {
-            return Ok(Stand::More);
-        }
-        match go_on(
+        append(&mut self.wire, piece, self.progress.told_bytes(self.method))?;
+        match read_more(
             self.alloc,
             self.method,
             self.wire.as_slice(),
@@ -133,7 +136,7 @@ impl Decoder {
         ) {
             Ok(verdict) => {
                 self.verdict = verdict;
-                Ok(stand_of(&self.verdict))
+                Ok(())
             }
             Err(error) => {
                 self.wire.truncate(len);

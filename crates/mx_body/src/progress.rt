@@ -183,7 +183,7 @@ fn begin_body(
 
 /// Whether all bytes after the first so many are data of the chunk that is being read, without its end; then they are passed, and nothing
 /// is decided. Else nothing changes.
-pub(crate) fn pass_data(method: Method, wire: &[u8], before: usize, progress: &mut Progress) -> bool
+fn pass_data(method: Method, wire: &[u8], before: usize, progress: &mut Progress) -> bool
     requires within { before ≤ length wire.now }
     requires progress { IsProgress method (take before wire.now) progress.old }
     ensures verdict { IsTrue result → IsVerdict method wire.now false More }
@@ -207,7 +207,7 @@ pub(crate) fn pass_data(method: Method, wire: &[u8], before: usize, progress: &m
 }
 
 /// The verdict where more bytes have come, of which the first so many were there before.
-pub(crate) fn go_on(
+fn go_on(
     alloc: Global,
     method: Method,
     wire: &[u8],
@@ -242,6 +242,29 @@ pub(crate) fn go_on(
             go_on_chunked(alloc, method, head, *at, wire, &mut progress.reader)
         }
     }
+}
+
+/// The verdict where more bytes have come, as that of `go_on`. Data of a chunk are passed without being looked at.
+pub(crate) fn read_more(
+    alloc: Global,
+    method: Method,
+    wire: &[u8],
+    before: usize,
+    progress: &mut Progress,
+) -> Result<Verdict, OutOfMemory>
+    requires within { before ≤ length wire.now }
+    requires small { before ≤ most_bytes }
+    requires progress { IsProgress method (take before wire.now) progress.old }
+    ensures verdict { IfOk result (IsVerdict method wire.now false) }
+    ensures progress { result ≡ Ok More → IsProgress method wire.now progress.new }
+    ensures head { IfOk result (λ _. KnowsHead wire.now progress.new.phase) }
+    ensures refused { OnErr result (IsProgress method (take before wire.now) progress.new) }
+    ensures refused_phase { OnErr result (progress.new.phase ≡ progress.old.phase) }
+{
+    if pass_data(method, wire, before, progress) {
+        return Ok(Verdict::More);
+    }
+    go_on(alloc, method, wire, before, progress)
 }
 
 /// The verdict where the bytes have ended.

@@ -78,7 +78,7 @@ fn add_room(wire: &mut Vec<u8>, more: usize, elsewhere: bool) -> Result<(), OutO
 ///
 /// A length that is known is reserved at once. Else the room doubles, up to a mebibyte, and then is one byte more than a response may have.
 /// Where that is refused, only the needed bytes are asked for.
-pub(crate) fn make_room(wire: &mut Vec<u8>, more: usize, told: usize) -> Result<(), OutOfMemory>
+fn make_room(wire: &mut Vec<u8>, more: usize, told: usize) -> Result<(), OutOfMemory>
     ensures items { wire.new.items ≡ wire.old.items }
     ensures room { OnOk result (vec_len wire.new + more ≤ vec_capacity wire.new) }
     ensures bounded { vec_capacity wire.new
@@ -95,5 +95,15 @@ pub(crate) fn make_room(wire: &mut Vec<u8>, more: usize, told: usize) -> Result<
         return Ok(());
     }
     wire.reserve_exact(more)?;
+    Ok(())
+}
+
+/// Puts a piece after the bytes that are there, with room as `make_room` makes it. A refusal leaves the bytes as they were.
+pub(crate) fn append(wire: &mut Vec<u8>, piece: &[u8], told: usize) -> Result<(), OutOfMemory>
+    ensures ok { OnOk result (wire.new.items ≡ wire.old.items ++ piece.now) }
+    ensures refused { OnErr result (wire.new.items ≡ wire.old.items) }
+{
+    make_room(wire, piece.len(), told)?;
+    wire.extend_from_slice(piece)?;
     Ok(())
 }

@@ -1,5 +1,5 @@
 -- What one poll does, by the way it ends.
-use Rattle.std.proofs.Common.{◌≡◌, ℕ, ◌≤◌, Bool, true, false, List, [], ◌∷◌, ◌++◌, length, refl, sym, ◌∙◌, ap, subst, append_assoc, length-append, Option, Some, None, ◌↔◌, inl, inr, arith}
+use Rattle.std.proofs.Common.{◌≡◌, ℕ, ◌≤◌, Bool, true, false, List, [], ◌∷◌, ◌++◌, length, refl, sym, ◌∙◌, ap, subst, append_assoc, length-append, Option, Some, None, ◌↔◌, ◌⊎◌, inl, inr, arith}
 use Rattle.std.specs.Prelude.{IfSome}
 use Rattle.std.proofs.lemmas.Grind.{flat_map-append}
 use Rattle.mx_types.specs.declared.code.Code.{Code}
@@ -18,8 +18,8 @@ use Rattle.mx_link.specs.declared.answers.Answer.TheVariants as said
 use Rattle.mx_exchange.specs.Order.{InOrder}
 use Rattle.mx_types.specs.Code.{is_link_code}
 use Rattle.mx_exchange.specs.Endings.{EndsBy, by_bytes, by_end, by_fault, by_memory, MustRetry, may_keep, code_of, fault_code}
-use Rattle.mx_exchange.specs.Exchanges.{HopValue, ExchangeState, IsDue, clocked, dropped}
-use Rattle.mx_exchange.specs.Turns.{How, waits, asks, ends, ProbeFails, Probed, Answered, GoesOn, EndsWith, StopsWith, Exchanged, unserved, lost, blocked, unfinished, ended, Turns, late, given_up, paused, refused, turned}
+use Rattle.mx_exchange.specs.Exchanges.{HopValue, ExchangeState, IsDue, KeepsToken, clocked, dropped}
+use Rattle.mx_exchange.specs.Turns.{How, waits, asks, ends, MayTouch, ProbeFails, Probed, Answered, GoesOn, EndsWith, StopsWith, Exchanged, unserved, lost, blocked, unfinished, ended, Turns, late, given_up, paused, refused, turned}
 use Rattle.mx_exchange.specs.Lines.{LineState, ServesTo}
 use Rattle.mx_exchange.specs.declared.calls.Halt.{Halt}
 use Rattle.mx_exchange.specs.declared.calls.Halt.TheVariants as halt
@@ -176,12 +176,27 @@ module _ {L : Type 0} (history : L → List Answer) where
     pub Advance-paused : ¬ (IsDue t.deadline t.moment) → t.failure ≡ None → t.is_paused ≡ true → new ≡ t → Turns history (clocked old) new asks
     Advance-paused early failed still same = clock asks (paused (early, failed) still same)
 
-    module _ (early : ¬ (IsDue t.deadline t.moment)) (failed : t.failure ≡ None) (runs : t.is_paused ≡ false) where
-      pub Advance-refused : ProbeFails history t new → Turns history (clocked old) new waits
-      Advance-refused f = clock waits (refused ((early, failed), runs) f)
+    -- it ends with the code that comes before the link
+    pub Advance-stopped : (o : HopValue) (c : Code) → (IsDue t.deadline t.moment × (c ≡ code.OperationTimedout)) ⊎ (¬ (IsDue t.deadline t.moment) × (t.failure ≡ Some c))
+        → o.code ≡ c → StopsWith t new o → Turns history (clocked old) new (ends o)
+    Advance-stopped o c (inl due) is s = Advance-late o due.0 (is ∙ due.1) s
+    Advance-stopped o c (inr given) is s = Advance-given_up o c given.0 given.1 is s
 
-      pub Advance-turned : (mid : ExchangeState L) (how : How) → Probed history t mid → Exchanged history mid new how → Turns history (clocked old) new how
-      Advance-turned mid how p x = clock how (turned ((early, failed), runs) mid p x)
+    -- the same, of what was taken out
+    pub Advance-taken : (o : HopValue) (c : Code) (at : ExchangeState L) → at ≡ t → (IsDue t.deadline t.moment × (c ≡ code.OperationTimedout)) ⊎ (¬ (IsDue t.deadline t.moment) × (t.failure ≡ Some c))
+        → o.code ≡ c → StopsWith at new o → Turns history (clocked old) new (ends o)
+    Advance-taken o c at same cause is s = Advance-stopped o c cause is (subst (λ (x : ExchangeState L). StopsWith x new o) same s)
+
+    pub Advance-on : (how : How) → Turns history t new how → Turns history (clocked old) new how
+    Advance-on how h = clock how h
+
+  -- a turn that may touch the link, whose exchange was taken out
+  pub Touch-refused : (t at mid new : ExchangeState L) → at ≡ t → MayTouch t → ProbeFails history at mid → new ≡ mid → Turns history t new waits
+  Touch-refused t at mid new same may f n =
+      subst (λ (x : ExchangeState L). Turns history t x waits) (sym n) (refused may (subst (λ (x : ExchangeState L). ProbeFails history x mid) same f))
+
+  pub Touch-turned : (t at mid new : ExchangeState L) (how : How) → at ≡ t → MayTouch t → Probed history at mid → Exchanged history mid new how → Turns history t new how
+  Touch-turned t at mid new how same may p x = turned may mid (subst (λ (y : ExchangeState L). Probed history y mid) same p) x
 
   -- a hop is of the exchange's request
   pub Turns-request : (t new : ExchangeState L) (o : HopValue) → Turns history t new (ends o) → o.request ≡ t.request
@@ -277,3 +292,47 @@ module _ {L : Type 0} (history : L → List Answer) where
         let same : mid.received ≡ t.received = ap (λ (y : ExchangeState L). y.received) p.after in
         let heard : mid.answers ≡ t.answers = ap (λ (y : ExchangeState L). y.answers) p.after in
         omega (arith, same, counted_on mid new how (same ∙ counts ∙ ap (λ (l : List Answer). length (given l)) (sym heard)) x)
+
+  -- the number of a link that is left
+  module _ (token_of : L → ℕ) where
+    pub keeps_same : (was is : Option L) → is ≡ was → KeepsToken token_of was is
+    keeps_same None is e = tt
+    keeps_same (Some x) None e = tt
+    keeps_same (Some x) (Some y) e = let same : y ≡ x = (let k : Some y ≡ Some x = e in cc) in ap token_of same
+
+    keeps_none : (was : Option L) → KeepsToken token_of was None
+    keeps_none None = tt
+    keeps_none (Some x) = tt
+
+    keeps_both : (was mid is : Option L) → (mid ≡ None → was ≡ None) → KeepsToken token_of was mid → KeepsToken token_of mid is → KeepsToken token_of was is
+    keeps_both None mid is stays a b = tt
+    keeps_both (Some x) mid None stays a b = tt
+    keeps_both (Some x) None (Some z) stays a b = let none : Some x ≡ None = stays refl in cc
+    keeps_both (Some x) (Some y) (Some z) stays a b = b ∙ a
+
+    -- a probe leaves the link where it doesn't drop it
+    keeps_probed : (t mid : ExchangeState L) (is : Option L) → Probed history t mid → KeepsToken token_of t.link mid.link → KeepsToken token_of mid.link is → KeepsToken token_of t.link is
+    keeps_probed t mid is (inl p) a b = keeps_both t.link mid.link is (λ e. sym (ap (λ (x : ExchangeState L). x.link) p.1) ∙ e) a b
+    keeps_probed t mid is (inr p) a b = keeps_both t.link mid.link is (λ e. let none : Some p.next ≡ None = sym (ap (λ (x : ExchangeState L). x.link) p.after) ∙ e in cc) a b
+
+    keeps_dropped : (t new : ExchangeState L) → ProbeFails history t new → KeepsToken token_of t.link new.link
+    keeps_dropped t new f = subst (λ (x : Option L). KeepsToken token_of t.link x) (sym (ap (λ (x : ExchangeState L). x.link) f.after)) (keeps_none t.link)
+
+    pub touch_dropped : (t at mid new : ExchangeState L) → at ≡ t → ProbeFails history at mid → new ≡ mid → KeepsToken token_of t.link new.link
+    touch_dropped t at mid new same f n =
+        subst (λ (x : ExchangeState L). KeepsToken token_of x.link new.link) same
+        (subst (λ (x : ExchangeState L). KeepsToken token_of at.link x.link) (sym n) (keeps_dropped at mid f))
+
+    pub touch_kept : (t at mid : ExchangeState L) (is : Option L) → at ≡ t → Probed history at mid → KeepsToken token_of at.link mid.link → KeepsToken token_of mid.link is → KeepsToken token_of t.link is
+    touch_kept t at mid is same p a b = subst (λ (x : ExchangeState L). KeepsToken token_of x.link is) same (keeps_probed at mid is p a b)
+
+    pub stop_kept : (old t at new : ExchangeState L) (o : HopValue) → t ≡ clocked old → at ≡ t → StopsWith at new o → KeepsToken token_of old.link new.link
+    stop_kept old t at new o e same s = keeps_same old.link new.link (s.link ∙ ap (λ (x : ExchangeState L). x.link) same ∙ ap (λ (x : ExchangeState L). x.link) e)
+
+    pub clock_kept : (old t : ExchangeState L) (is : Option L) → t ≡ clocked old → KeepsToken token_of t.link is → KeepsToken token_of old.link is
+    clock_kept old t is e kept = subst (λ (x : ExchangeState L). KeepsToken token_of x.link is) e kept
+
+  -- after it none is needed
+  pub probed_ready : (t mid : ExchangeState L) → Probed history t mid → mid.needs_probe ≡ false
+  probed_ready t mid (inl p) = ap (λ (x : ExchangeState L). x.needs_probe) p.1 ∙ p.0
+  probed_ready t mid (inr p) = ap (λ (x : ExchangeState L). x.needs_probe) p.after

@@ -1,5 +1,5 @@
 -- What holds of every link that serves a request, of every hop, and of every exchange's life.
-use Rattle.std.specs.Prelude.{◌≡◌, ℕ, ◌+◌, ◌≤◌, ◌⊎◌, ◌&&◌, Bool, true, false, List, [], ◌++◌, Option, Some, is_some, is_none, if◌then◌else◌}
+use Rattle.std.specs.Prelude.{◌≡◌, ℕ, ◌+◌, ◌≤◌, ◌⊎◌, ◌&&◌, Bool, true, false, List, [], ◌++◌, Some, is_some, is_none, if◌then◌else◌}
 use Rattle.std.specs.List.{list_any}
 use Rattle.mx_types.specs.declared.code.Code.TheVariants as code
 use Rattle.mx_link.specs.Answers.{taken, is_read}

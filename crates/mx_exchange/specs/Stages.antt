@@ -1,10 +1,15 @@
 -- An exchange that goes on, or has ended.
-use Rattle.std.specs.Prelude.{◌≡◌, ℕ, ◌≤◌, Bool, true, false, List, [], length, Option, Some, None, IfSome, option_map, unwrap_or}
+use Rattle.std.specs.Prelude.{◌≡◌, ℕ, ◌≤◌, Bool, true, false, List, [], length, Option, Some, None, IfSome, option_map, unwrap_or, ◌⊎◌}
 use Rattle.mx_types.specs.declared.code.Code.{Code}
+use Rattle.mx_types.specs.declared.code.Code.TheVariants as code
 use Rattle.mx_request.specs.Request.{RequestValue}
 use Rattle.mx_link.specs.declared.answers.Answer.{Answer}
 use Rattle.mx_exchange.specs.Lines.{LineState, IsLine, IsGoing, MayHandOut}
-use Rattle.mx_exchange.specs.Exchanges.{ExchangeState, most_received}
+use Rattle.mx_exchange.specs.Endings.{is_stop_code}
+use Rattle.mx_exchange.specs.Exchanges.{ExchangeState, IsDue, most_received}
+use Rattle.mx_exchange.specs.Turns.{IsOnTime, MayTouch}
+use Rattle.mx_exchange.specs.declared.exchanges.turns.Before.{Before}
+use Rattle.mx_exchange.specs.declared.exchanges.turns.Before.TheVariants as before
 use Rattle.mx_exchange.specs.declared.exchanges.stages.Live.{Live}
 use Rattle.mx_exchange.specs.declared.exchanges.stages.Ended.{Ended}
 use Rattle.mx_exchange.specs.declared.exchanges.stages.Stage.{Stage}
@@ -93,3 +98,11 @@ pub record IsEnded {L : Type 0} (history : L → List Answer) (asked : L → Lis
 abbrev pub IsStage : {L : Type 0} → (L → List Answer) → (L → List ℕ) → (L → ℕ) → RequestValue → Bool → Option Code → Stage L → Type 0
 IsStage history asked token_of request fresh failure (stage.Live o) = IsAlive history asked token_of request fresh failure o
 IsStage history asked token_of request fresh failure (stage.Ended e) = IsEnded history asked token_of request fresh failure e
+
+-- what comes before the link in a turn: it ends with this code, or it is paused
+abbrev pub ComesBefore : {L : Type 0} → ExchangeState L → Before → Type 0
+ComesBefore t (before.Stops c) =
+    ((IsDue t.deadline t.moment × (c ≡ code.OperationTimedout)) ⊎ (¬ (IsDue t.deadline t.moment) × (t.failure ≡ Some c)))
+    × (is_stop_code c ≡ true)
+ComesBefore t before.Pauses = IsOnTime t × (t.is_paused ≡ true)
+ComesBefore t before.Nothing = MayTouch t

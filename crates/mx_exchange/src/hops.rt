@@ -1,5 +1,5 @@
 //! What an exchange ends with.
-ghost use Rattle.std.specs.Prelude.{◌≡◌, ◌≢◌, ◌<◌, ◌↔◌, ℕ, true, length, slice_range, Some, IsSome, IfSome, IfOk, option_copied};
+ghost use Rattle.std.specs.Prelude.{◌≡◌, ◌≢◌, ◌<◌, ◌↔◌, ◌+◌, ◌^◌, ℕ, true, length, take, slice_range, Some, IsSome, IfSome, IfOk, option_copied};
 ghost use Rattle.std.specs.List.{slice_get};
 ghost use Rattle.mx_body.specs.declared.part.Part.{Part};
 ghost use Rattle.mx_body.specs.Parts.{AreOrdered, joined};
@@ -224,14 +224,23 @@ impl Hop {
         Some(self.bytes_of(i))
     }
 
+    // The length of a part that is there.
+    fn part_len(&self, i: usize) -> u32
+        requires { i < length self.now.parts }
+        ensures next { length (joined self.now.wire (take (i + 1) self.now.parts)) ≡ length (joined self.now.wire (take i self.now.parts)) + result }
+        ensures fits { length (joined self.now.wire (take (i + 1) self.now.parts)) < 2 ^ 32 }
+    {
+        let place = self.parts[i];
+        place.end - place.start
+    }
+
     /// The length of the body in bytes.
-    #[tactic(auto, using(crate::proofs::Bodies::ordered_at, crate::proofs::Bodies::joined_before, crate::proofs::Bodies::slice_len))]
     pub fn body_len(&self) -> u32
         ensures { result ≡ length (joined self.now.wire self.now.parts) }
     {
         let mut len = 0;
-        for part in &self.parts {
-            len += part.end - part.start;
+        for i in 0..self.part_count() {
+            len += self.part_len(i);
         }
         len
     }

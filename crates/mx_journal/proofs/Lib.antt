@@ -4,3 +4,4 @@ pub mod OriginLists
 pub mod Returns
 pub mod Retirings
 pub mod Calling
+pub mod Beginnings

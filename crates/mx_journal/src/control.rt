@@ -88,16 +88,22 @@ impl<Q: Work + Drop, O: Ending + Drop> Control<Q, O> {
         requires { IsHistory history }
         ensures { IfOk result (λ c. c ≡ record { opening = record { history = history; first = first; from = 0 }; journal = []; origins = replicate first no_request; queue = []; endings = []; out = 0 }) }
     {
+        let journal = Vec::with_capacity(alloc, history as usize)?;
+        let origins = Origins::new(alloc, first)?;
+        let queue = Vec::with_capacity(alloc, MOST_HANDLES)?;
+        let endings = Vec::with_capacity(alloc, MOST_HANDLES)?;
+        let table = Table::new(alloc)?;
+        let before = MakerCounts::new();
         Ok(Control {
             history,
             first,
             from: 0,
-            before: MakerCounts::new(),
-            journal: Vec::with_capacity(alloc, history as usize)?,
-            table: Table::new(alloc)?,
-            origins: Origins::new(alloc, first)?,
-            queue: Vec::with_capacity(alloc, MOST_HANDLES)?,
-            endings: Vec::with_capacity(alloc, MOST_HANDLES)?,
+            before,
+            journal,
+            table,
+            origins,
+            queue,
+            endings,
             out: 0,
         })
     }

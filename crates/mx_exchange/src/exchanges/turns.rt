@@ -25,27 +25,50 @@ pub enum Turned {
     Ended(Hop),
 }
 
+/// What comes before the link in a turn.
+#[derive(Clone, Copy)]
+pub(crate) enum Before {
+    // It ends with this code.
+    Stops(Code),
+    // It is paused.
+    Pauses,
+    // The link comes next.
+    Nothing,
+}
+
 impl<L: Link> Exchange<L> {
-    ghost use Rattle.mx_exchange.specs.Turns.{how_of, ProbeSo, StopsWith, Exchanged, Turns, IfEnded, IfGoing};
+    ghost use Rattle.mx_exchange.specs.Turns.{how_of, MayTouch, ProbeSo, StopsWith, Exchanged, Turns, IfEnded, IfGoing};
     ghost use Rattle.mx_exchange.specs.Hops.{IsHop};
     ghost use Rattle.mx_types.specs.declared.code.Code.TheVariants as code;
-    ghost use Rattle.mx_exchange.specs.Stages.{alive, over, link_of, IsAlive, IsEnded};
+    ghost use Rattle.mx_exchange.specs.Stages.{alive, over, link_of, ComesBefore, IsAlive, IsEnded};
+
+    // rule exchange-timeout
+    // The deadline that its first turn sets.
+    fn first_deadline(&self) -> Option<u64>
+        requires { self.now.code ≡ None }
+        ensures { result ≡ first_deadline self.now.request self.now.moment }
+    {
+        let Stage::Live(live) = &self.stage else {
+            unreachable!()
+        };
+        let timeout_ms = live.request.timeout_ms();
+        if timeout_ms == 0 {
+            return None;
+        }
+        Some(self.moment.saturating_add(u64::from(timeout_ms)))
+    }
 
     // rule exchange-timeout
     // The first turn sets the deadline.
-    fn start_clock(&mut self, timeout_ms: u32)
-        requires { timeout_ms ≡ self.old.request.timeout_ms }
+    fn start_clock(&mut self)
+        requires { self.old.code ≡ None }
         ensures { self.new ≡ clocked self.old }
     {
         if self.is_polled {
             return;
         }
+        self.deadline = self.first_deadline();
         self.is_polled = true;
-        self.deadline = if timeout_ms == 0 {
-            None
-        } else {
-            Some(self.moment.saturating_add(u64::from(timeout_ms)))
-        };
     }
 
     // rule exchange-pause
@@ -190,27 +213,27 @@ impl<L: Link> Exchange<L> {
         }
     }
 
-    // rule exchange-order
-    // rule exchange-pause
-    // The deadline, the code given in place of a link, the pause, the probe, and then the link.
-    fn advance(&mut self, live: Live<L>) -> Turned
-        requires away { self.old.link ≡ None }
-        requires live { IsAlive L.history L.asked L.token_of self.old.request self.old.needs_fresh self.old.failure live }
-        ensures turn { Turns L.history (clocked (alive self.old live)) self.new (how_of result) }
-        ensures token { KeepsToken L.token_of (link_of live.line) self.new.link }
+    // Takes out what goes on.
+    fn take(&mut self) -> Live<L>
+        requires { self.old.code ≡ None }
+        ensures is { alive self.new result ≡ self.old }
+        ensures live { IsAlive L.history L.asked L.token_of self.new.request self.new.needs_fresh self.new.failure result }
+        ensures away { self.new.link ≡ None }
     {
-        let mut live = live;
-        self.start_clock(live.request.timeout_ms());
-        if self.is_due() {
-            return Turned::Ended(self.stop(live, Code::OperationTimedout));
+        match mem::replace(&mut self.stage, Stage::gone()) {
+            Stage::Live(live) => live,
+            Stage::Ended(_) => unreachable!(),
         }
-        if let Some(code) = self.failure {
-            return Turned::Ended(self.stop(live, code));
-        }
-        if self.is_paused {
-            self.go_on(live);
-            return Turned::Asks;
-        }
+    }
+
+    // Probes the link, and asks it.
+    fn touch(&mut self) -> Turned
+        requires going { self.old.code ≡ None }
+        requires may { MayTouch self.old }
+        ensures turn { Turns L.history self.old self.new (how_of result) }
+        ensures token { KeepsToken L.token_of self.old.link self.new.link }
+    {
+        let mut live = self.take();
         if !self.probe(&mut live) {
             self.go_on(live);
             return Turned::Waits;
@@ -218,15 +241,39 @@ impl<L: Link> Exchange<L> {
         self.exchange(live)
     }
 
+    // rule exchange-order
+    // rule exchange-pause
+    // What comes before the link: the deadline, the code given in place of the link, and the pause.
+    fn before_link(&self) -> Before
+        ensures { ComesBefore self.now result }
+    {
+        if self.is_due() {
+            return Before::Stops(Code::OperationTimedout);
+        }
+        if let Some(code) = self.failure {
+            return Before::Stops(code);
+        }
+        if self.is_paused {
+            return Before::Pauses;
+        }
+        Before::Nothing
+    }
+
+    // rule exchange-order
     // Takes one turn.
-    fn step(&mut self) -> Turned
+    fn advance(&mut self) -> Turned
         requires { self.old.code ≡ None }
         ensures turn { Turns L.history (clocked self.old) self.new (how_of result) }
         ensures token { KeepsToken L.token_of self.old.link self.new.link }
     {
-        match mem::replace(&mut self.stage, Stage::gone()) {
-            Stage::Live(live) => self.advance(live),
-            Stage::Ended(_) => unreachable!(),
+        self.start_clock();
+        match self.before_link() {
+            Before::Stops(code) => {
+                let live = self.take();
+                Turned::Ended(self.stop(live, code))
+            }
+            Before::Pauses => Turned::Asks,
+            Before::Nothing => self.touch(),
         }
     }
 
@@ -249,7 +296,7 @@ impl<L: Link> Exchange<L> {
         ensures undecided { IfGoing result (IsUndecided self.new.request.method self.new.answers) }
     {
         self.know();
-        let turned = self.step();
+        let turned = self.advance();
         self.know();
         match turned {
             Turned::Ended(hop) => {

@@ -1,4 +1,4 @@
-use Rattle.std.proofs.Common.{◌≡◌, ◌<◌, length, ap, refl}
+use Rattle.std.proofs.Common.{length, ap, refl}
 use Rattle.std.specs.Prelude.{slice_range}
 use Rattle.std.proofs.lemmas.Option.{slice_get_read}
 use Rattle.mx_exchange.proofs.Bodies.{ordered_part}

@@ -1,4 +1,4 @@
-use Rattle.std.proofs.Common.{◌∙◌, arith, refl, inl, inr, rules}
+use Rattle.std.proofs.Common.{◌∙◌, arith, inl, inr, rules}
 use Rattle.mx_exchange.proofs.Serves.{same_request, Serves-none, Serves-going, Serves-open, Serves-connected, Serves-wrote, Serves-heard, Serves-full, Serve-blocked, Serve-lost, Serve-over}
 use Rattle.mx_exchange.proofs.lines.Line.serve_into.Goals.{in-Connected, in-Wrote+else-writes-eq-MOST_WRITES, in-Heard+else-reads-eq-MOST_READS}
 use Rattle.mx_exchange.proofs.lines.Line.serve_into.Goals as goal

@@ -1,0 +1,17 @@
+use Rattle.mx_exchange.proofs.Advanced.{Touch-refused, Touch-turned, probed_ready, touch_dropped, touch_kept}
+use Rattle.mx_exchange.proofs.exchanges.Exchange.touch.Goals as goal
+
+pub exchange-requires-clause-probed : goal.exchange-requires-clause-probed
+exchange-requires-clause-probed g c = probed_ready _ _ _ c.if-not-probe.ensures.probe
+
+pub returns-then-not-probe-clause-turn : goal.returns-then-not-probe-clause-turn
+returns-then-not-probe-clause-turn g c = Touch-refused _ _ _ _ _ c.take-live.ensures.is c.requires.may c.if-not-probe.ensures.probe c.go_on.ensures
+
+pub returns-then-not-probe-clause-token : goal.returns-then-not-probe-clause-token
+returns-then-not-probe-clause-token g c = touch_dropped g.L.Link.history g.L.Link.token_of _ _ _ _ c.take-live.ensures.is c.if-not-probe.ensures.probe c.go_on.ensures
+
+pub returns-clause-turn : goal.returns-clause-turn
+returns-clause-turn g c = Touch-turned _ _ _ _ _ _ c.take-live.ensures.is c.requires.may c.if-not-probe.ensures.probe c.exchange.ensures.turn
+
+pub returns-clause-token : goal.returns-clause-token
+returns-clause-token g c = touch_kept g.L.Link.history g.L.Link.token_of _ _ _ _ c.take-live.ensures.is c.if-not-probe.ensures.probe c.if-not-probe.ensures.token c.exchange.ensures.token
