@@ -1,15 +1,16 @@
 //! A transfer whose connection takes some polls, over a stream of the test's own.
 
+use crate::replay::{Stop, request_of, verdict};
 use crate::responses::COUNTED;
+use crate::rows::Row;
+use crate::table::GET;
 use futures::task::Poll;
 use futures::test::MockTask;
 use mx_link::{Called, Link, Stream, StreamLink};
-use mx_request::Request;
 use mx_transfer::Transfer;
-use mx_types::{Code, History, Method, Settings};
-use std::alloc::AllocGlobal;
+use mx_types::{Code, History, Method};
+use std::alloc::Global;
 use std::io::ErrorKind;
-use std::random::RandomSource;
 use std::test::Fail;
 
 /// A stream that has no peer for some checks, and then one, or an error. It takes what is written, and answers with `COUNTED`.
@@ -68,7 +69,11 @@ fn poll<L: Link>(task: &MockTask, transfer: &mut Transfer<L>) -> Option<Code> {
         return None;
     }
     match task.poll(transfer) {
-        Poll::Ready(outcome) => Some(outcome.code()),
+        Poll::Ready(outcome) => {
+            let code = outcome.code();
+            drop(outcome);
+            Some(code)
+        }
         Poll::Pending => None,
     }
 }
@@ -103,26 +108,26 @@ fn take_polls<L: Link>(task: &MockTask, transfer: &mut Transfer<L>) -> Polls {
     }
 }
 
-/// Hands over a link, and polls.
-fn connect<R: RandomSource + AllocGlobal>(
-    rt: &R,
-    waits: u32,
-    is_refused: bool,
-) -> Result<Polls, Fail> {
-    let task = MockTask::new(rt)?;
-    let settings = Settings::new(rt.alloc());
-    let request = Request::build(rt.alloc(), Method::Get, "http://127.0.0.1/", settings)?;
-    let stream = SlowStream {
-        waits,
-        is_refused,
-        given: 0,
-        results: History::new(),
-    };
-    let mut transfer = Transfer::new(rt.alloc(), request);
+/// A GET of the root.
+const ROOT: Row<'static> = Row {
+    url: "http://127.0.0.1/",
+    ..GET
+};
+
+/// Hands over a link whose connection takes so many checks, and then stands or is refused, and polls.
+fn connect(alloc: Global, task: &MockTask, waits: u32, is_refused: bool) -> Result<Polls, Stop> {
+    let request = request_of(alloc, Method::Get, &ROOT)?;
+    let mut transfer = Transfer::new(alloc, request);
     if transfer.wants().is_some() {
+        let stream = SlowStream {
+            waits,
+            is_refused,
+            given: 0,
+            results: History::new(),
+        };
         transfer.attach(StreamLink::over(stream, 9), false);
     }
-    let polls = take_polls(&task, &mut transfer);
+    let polls = take_polls(task, &mut transfer);
     drop(transfer);
     Ok(polls)
 }
@@ -137,20 +142,29 @@ const STANDS: Polls = Polls {
     code: Some(Code::Ok),
 };
 
-#[test]
-fn connections_that_take_some_polls(rt: HostRuntime) -> Result<(), Fail> {
-    if connect(&rt, 2, false)? != STANDS {
-        return Err("a_connection_takes_its_polls".into());
+/// What is seen of one that is refused at the second poll.
+const FAILS: Polls = Polls {
+    codes: [None, Some(Code::CouldntConnect), None],
+    received: 0,
+    code: Some(Code::CouldntConnect),
+    ..STANDS
+};
+
+fn connect_all(alloc: Global, task: &MockTask) -> Result<(), Stop> {
+    if connect(alloc, task, 2, false)? != STANDS {
+        return Err(Stop::Part("a_connection_takes_its_polls"));
     }
-    let fails = Polls {
-        codes: [None, Some(Code::CouldntConnect), None],
-        received: 0,
-        code: Some(Code::CouldntConnect),
-        ..STANDS
-    };
     // rule exchange-connect
-    if connect(&rt, 1, true)? != fails {
-        return Err("a_connection_that_fails_is_code_7".into());
+    if connect(alloc, task, 1, true)? != FAILS {
+        return Err(Stop::Part("a_connection_that_fails_is_code_7"));
     }
     Ok(())
+}
+
+#[test]
+fn connections_that_take_some_polls(rt: HostRuntime) -> Result<(), Fail> {
+    let task = MockTask::new(&rt)?;
+    let connected = connect_all(rt.alloc(), &task);
+    drop(task);
+    verdict(rt.alloc(), connected)
 }

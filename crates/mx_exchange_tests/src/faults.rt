@@ -1,15 +1,15 @@
 //! A link that fails or ends at each read and at each write of one transfer: the code, and the bytes that came before.
 
-use crate::replay::is_so;
+use crate::replay::{Stop, is_so, verdict};
 use crate::responses::CHUNKED;
 use crate::rows::Call::{Fresh, Poll, Reused};
 use crate::rows::{Call, Ends, Row, Waiting};
 use crate::table::{GET, LOST, SERVED};
+use futures::test::MockTask;
 use mx_link::ScriptRead::{Bytes, End, Fault, WouldBlock};
 use mx_link::{ScriptRead, Write};
-use mx_types::Code;
-use std::alloc::{AllocError, AllocGlobal, Global};
-use std::random::RandomSource;
+use mx_types::{Code, OutOfMemory};
+use std::alloc::Global;
 use std::test::Fail;
 
 /// A GET whose request has 56 bytes.
@@ -69,26 +69,31 @@ static READS: [ReadRow; 5] = [
     },
 ];
 
-/// Reads of one byte each, so many of `CHUNKED`.
+/// Reads of one byte each, so many of `CHUNKED`, and then perhaps one that answers this.
 pub(crate) fn one_by_one(
     alloc: Global,
     count: usize,
-) -> Result<Vec<ScriptRead<'static>>, AllocError> {
+    last: Option<ScriptRead<'static>>,
+) -> Result<Vec<ScriptRead<'static>>, OutOfMemory> {
     let mut reads = Vec::new(alloc);
     for at in 0..count.min(72) {
         reads.push(Bytes(&CHUNKED[at..at + 1]))?;
+    }
+    if let Some(answer) = last {
+        reads.push(answer)?;
     }
     Ok(reads)
 }
 
 /// Fails unless these calls show this.
-fn sees<'a, R: RandomSource + AllocGlobal>(
-    rt: &R,
-    name: &'a str,
+fn sees<'a>(
+    alloc: Global,
+    task: &MockTask,
+    name: &'static str,
     calls: &'a [Call<'a>],
     waits: &'a [Waiting],
     ends: Ends<'a>,
-) -> Result<(), Fail> {
+) -> Result<(), Stop> {
     let row = Row {
         name,
         calls,
@@ -96,81 +101,100 @@ fn sees<'a, R: RandomSource + AllocGlobal>(
         ends,
         ..SHORT
     };
-    is_so(rt, &row)
+    is_so(alloc, task, &row)
 }
 
 /// Over a fresh link that reads so it ends so, in its second poll where there are more reads than one poll has.
-fn ends_by<R: RandomSource + AllocGlobal>(
-    rt: &R,
-    name: &str,
+fn ends_by(
+    alloc: Global,
+    task: &MockTask,
+    name: &'static str,
     reads: &[ScriptRead<'_>],
     ends: Ends<'_>,
-) -> Result<(), Fail> {
+) -> Result<(), Stop> {
     let waits: &[Waiting] = if reads.len() > 64 { &[READING] } else { &[] };
-    sees(rt, name, &[Fresh(reads, &[]), Poll, Poll], waits, ends)
+    sees(
+        alloc,
+        task,
+        name,
+        &[Fresh(reads, &[]), Poll, Poll],
+        waits,
+        ends,
+    )
 }
 
 /// It ends so where the first, the second and so on up to the last of these reads answers something else.
-fn ends_at_each<R: RandomSource + AllocGlobal>(rt: &R, row: &ReadRow) -> Result<(), Fail> {
+fn ends_at_each(alloc: Global, task: &MockTask, row: &ReadRow) -> Result<(), Stop> {
     let (first, last) = row.at;
     let (code, status) = row.ends;
     for at in first..=last {
-        let mut reads = one_by_one(rt.alloc(), at)?;
-        reads.push(row.answer)?;
         let ends = Ends::Failed(code, status, &CHUNKED[..at.min(72)]);
-        ends_by(rt, row.name, &reads, ends)?;
+        let reads = one_by_one(alloc, at, Some(row.answer))?;
+        let ended = ends_by(alloc, task, row.name, reads.as_slice(), ends);
+        drop(reads);
+        ended?;
     }
     Ok(())
 }
 
-fn a_byte_at_a_time<R: RandomSource + AllocGlobal>(rt: &R) -> Result<(), Fail> {
-    let reads = one_by_one(rt.alloc(), 72)?;
-    ends_by(rt, "a_byte_at_a_time", &reads, Ends::Hello(CHUNKED, 1))
-}
-
 /// So many writes of one byte, and one that fails.
-fn fails_at_write(alloc: Global, at: usize) -> Result<Vec<Write>, AllocError> {
+fn fails_at_write(alloc: Global, at: usize) -> Result<Vec<Write>, OutOfMemory> {
     let mut writes = vec![in alloc; Write::Bytes(1); at]?;
     writes.push(Write::Fault)?;
     Ok(writes)
 }
 
-/// Over a fresh link that writes so a transfer ends so; and over one that was in use it wants a fresh one first.
-fn ends_over<R: RandomSource + AllocGlobal>(
-    rt: &R,
-    writes: &[Write],
-    ends: Ends<'_>,
-) -> Result<(), Fail> {
-    let fresh = Fresh(&[Bytes(CHUNKED)], writes);
-    let reused = Reused(&[WouldBlock], writes);
+/// Over a fresh link that writes so a transfer fails; and over one that was in use it wants a fresh one first.
+fn fails_over(alloc: Global, task: &MockTask, writes: Vec<Write>) -> Result<(), Stop> {
+    let ends = Ends::Failed(Code::SendError, 0, b"");
+    let fresh = Fresh(&[Bytes(CHUNKED)], &writes);
+    let reused = Reused(&[WouldBlock], &writes);
+    let name = "a_fault_at_a_write";
+    let one = sees(alloc, task, name, &[fresh, Poll], &[], ends);
     let name = "a_fault_at_a_write_of_a_reused_link";
-    sees(rt, "a_fault_at_a_write", &[fresh, Poll], &[], ends)?;
-    sees(rt, name, &[reused, Poll, fresh, Poll], &[LOST], ends)
+    let calls = [reused, Poll, fresh, Poll];
+    let two = sees(alloc, task, name, &calls, &[LOST], ends);
+    drop(writes);
+    one?;
+    two
 }
 
 // rule exchange-retry
-fn a_fault_at_each_write<R: RandomSource + AllocGlobal>(rt: &R) -> Result<(), Fail> {
+fn a_fault_at_each_write(alloc: Global, task: &MockTask) -> Result<(), Stop> {
     for at in 0..56 {
-        let writes = fails_at_write(rt.alloc(), at)?;
-        ends_over(rt, &writes, Ends::Failed(Code::SendError, 0, b""))?;
+        let writes = fails_at_write(alloc, at)?;
+        fails_over(alloc, task, writes)?;
     }
     Ok(())
 }
 
 /// The request has no 57th byte.
-fn a_fault_behind_the_last_write<R: RandomSource + AllocGlobal>(rt: &R) -> Result<(), Fail> {
-    let writes = fails_at_write(rt.alloc(), 56)?;
-    let fresh = Fresh(&[Bytes(CHUNKED)], &writes);
+fn a_fault_behind_the_last_write(alloc: Global, task: &MockTask) -> Result<(), Stop> {
+    let writes = fails_at_write(alloc, 56)?;
+    let calls = [Fresh(&[Bytes(CHUNKED)], &writes), Poll];
     let name = "a_fault_behind_the_last_write";
-    sees(rt, name, &[fresh, Poll], &[], Ends::Hello(CHUNKED, 1))
+    let ended = sees(alloc, task, name, &calls, &[], Ends::Hello(CHUNKED, 1));
+    drop(writes);
+    ended
+}
+
+fn play_all(alloc: Global, task: &MockTask) -> Result<(), Stop> {
+    let reads = one_by_one(alloc, 72, None)?;
+    let ends = Ends::Hello(CHUNKED, 1);
+    let ended = ends_by(alloc, task, "a_byte_at_a_time", reads.as_slice(), ends);
+    drop(reads);
+    ended?;
+    for row in &READS {
+        ends_at_each(alloc, task, row)?;
+    }
+    a_fault_at_each_write(alloc, task)?;
+    a_fault_behind_the_last_write(alloc, task)
 }
 
 #[test]
 fn faults_and_ends_at_each_call(rt: HostRuntime) -> Result<(), Fail> {
-    a_byte_at_a_time(&rt)?;
-    for row in &READS {
-        ends_at_each(&rt, row)?;
-    }
-    a_fault_at_each_write(&rt)?;
-    a_fault_behind_the_last_write(&rt)
+    let task = MockTask::new(&rt)?;
+    let played = play_all(rt.alloc(), &task);
+    drop(task);
+    verdict(rt.alloc(), played)
 }

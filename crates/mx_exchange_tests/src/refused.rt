@@ -5,15 +5,13 @@
 use crate::faults::one_by_one;
 use crate::hops::TWICE;
 use crate::links::{Step, first_wrong};
-use crate::replay::{request_of, transfer_of};
+use crate::replay::{Stop, attach_script, poll, request_of, transfer_of, verdict};
 use crate::responses::{CHUNKED, COUNTED, FOUND};
-use futures::task::Poll;
 use futures::test::MockTask;
 use mx_link::{Read, ScriptLink, ScriptRead, Write};
 use mx_transfer::{Outcome, Transfer};
 use mx_types::{Code, Ending, Method, OutOfMemory};
-use std::alloc::{AllocGlobal, Global};
-use std::random::RandomSource;
+use std::alloc::Global;
 use std::test::Fail;
 
 /// What a test ends with in which a call was refused memory.
@@ -68,109 +66,116 @@ fn copy(alloc: Global, outcome: &Outcome) -> Went {
     }
 }
 
-// Copies the body, once more where that was refused memory.
-fn copy_again(alloc: Global, outcome: &Outcome) -> Went {
+// How a transfer ended, and how its body was copied then: once more where that was refused memory.
+fn judge(alloc: Global, outcome: &Outcome, row: Row<'_>) -> Went {
+    let went = end_of(outcome, row);
+    if went != Went::Right {
+        return went;
+    }
     match copy(alloc, outcome) {
         Went::Refused if copy(alloc, outcome) != Went::Right => Went::Wrong,
         went => went,
     }
 }
 
-// How a transfer ended, and how its body was copied then.
-fn judge(alloc: Global, outcome: Outcome, row: Row<'_>) -> Went {
-    let went = match end_of(&outcome, row) {
-        Went::Right => copy_again(alloc, &outcome),
-        went => went,
-    };
-    drop(outcome);
-    went
-}
-
-// Polls until it has ended or wants a link.
-fn poll_on(task: &MockTask, transfer: &mut Transfer<ScriptLink>) -> Option<Outcome> {
+// Polls until it has ended or wants a link: how it ended, if it did.
+fn poll_on(
+    alloc: Global,
+    task: &MockTask,
+    transfer: &mut Transfer<ScriptLink>,
+    row: Row<'_>,
+) -> Option<Went> {
     for _ in 0..4 {
         if transfer.spent() || transfer.wants().is_some() {
             return None;
         }
-        if let Poll::Ready(outcome) = task.poll(transfer) {
-            return Some(outcome);
+        if let Some(outcome) = poll(task, transfer) {
+            let went = judge(alloc, &outcome, row);
+            drop(outcome);
+            return Some(went);
         }
     }
     None
 }
 
-// Serves a transfer by these links, one for each hop: its end, if it comes.
+// Serves a transfer by the links of a row, one for each hop.
 fn serve(
     alloc: Global,
     task: &MockTask,
     transfer: &mut Transfer<ScriptLink>,
-    links: &[&[ScriptRead<'_>]],
-) -> Result<Option<Outcome>, OutOfMemory> {
-    for reads in links {
-        let link = ScriptLink::new(alloc, *reads, &[])?;
-        if transfer.wants().is_some() {
-            transfer.attach(link, false);
-        }
-        if let Some(outcome) = poll_on(task, transfer) {
-            return Ok(Some(outcome));
+    row: Row<'_>,
+) -> Result<Went, Stop> {
+    for reads in row.links {
+        attach_script(alloc, transfer, *reads, &[], false)?;
+        if let Some(went) = poll_on(alloc, task, transfer, row) {
+            return Ok(went);
         }
     }
-    Ok(None)
+    Ok(Went::Wrong)
 }
 
 // Serves a new transfer.
-fn run<R: RandomSource + AllocGlobal>(rt: &R, row: Row<'_>) -> Result<Went, Fail> {
-    let request = request_of(rt.alloc(), Method::Get, &TWICE)?;
-    let task = MockTask::new(rt)?;
-    let mut transfer = transfer_of(rt.alloc(), request, row.heads_alone);
-    let served = serve(rt.alloc(), &task, &mut transfer, row.links);
+fn run(alloc: Global, task: &MockTask, row: Row<'_>) -> Result<Went, Stop> {
+    let request = request_of(alloc, Method::Get, &TWICE)?;
+    let mut transfer = transfer_of(alloc, request, row.heads_alone);
+    let served = serve(alloc, task, &mut transfer, row);
     drop(transfer);
-    Ok(match served? {
-        Some(outcome) => judge(rt.alloc(), outcome, row),
-        None => Went::Wrong,
-    })
+    served
 }
 
 // Serves a new transfer, and another where memory was refused.
-fn run_again<R: RandomSource + AllocGlobal>(rt: &R, row: Row<'_>) -> Result<(), Fail> {
-    match run(rt, row)? {
+fn run_again(alloc: Global, task: &MockTask, row: Row<'_>) -> Result<(), Stop> {
+    match run(alloc, task, row)? {
         Went::Right => Ok(()),
-        Went::Refused if run(rt, row)? == Went::Right => Err(AGAIN.into()),
-        Went::Refused => Err("another end when memory was had again".into()),
-        Went::Wrong => Err("another end".into()),
+        Went::Wrong => Err(Stop::Part("another end")),
+        Went::Refused => match run(alloc, task, row)? {
+            Went::Right => Err(Stop::Part(AGAIN)),
+            _ => Err(Stop::Part("another end when memory was available")),
+        },
     }
 }
 
-/// A response that comes byte by byte.
-#[test]
-fn a_transfer_is_made_again(rt: HostRuntime) -> Result<(), Fail> {
-    let reads = one_by_one(rt.alloc(), 72)?;
+fn run_byte_by_byte(alloc: Global, task: &MockTask) -> Result<(), Stop> {
+    let reads = one_by_one(alloc, 72, None)?;
     let row = Row {
         links: &[reads.as_slice()],
         wire: CHUNKED,
         hops: 1,
         heads_alone: false,
     };
-    run_again(&rt, row)
+    let ran = run_again(alloc, task, row);
+    drop(reads);
+    ran
 }
 
-/// A response after a redirect.
+/// A response that comes byte by byte.
 #[test]
-fn a_chain_is_made_again(rt: HostRuntime) -> Result<(), Fail> {
+fn a_transfer_is_made_again(rt: HostRuntime) -> Result<(), Fail> {
+    let task = MockTask::new(&rt)?;
+    let ran = run_byte_by_byte(rt.alloc(), &task);
+    drop(task);
+    verdict(rt.alloc(), ran)
+}
+
+fn run_chain(alloc: Global, task: &MockTask) -> Result<(), Stop> {
     let row = Row {
         links: &[&[ScriptRead::Bytes(FOUND)], &[ScriptRead::Bytes(COUNTED)]],
         wire: COUNTED,
         hops: 2,
         heads_alone: false,
     };
-    run_again(&rt, row)?;
-    run_again(
-        &rt,
-        Row {
-            heads_alone: true,
-            ..row
-        },
-    )
+    let heads_alone = true;
+    run_again(alloc, task, row)?;
+    run_again(alloc, task, Row { heads_alone, ..row })
+}
+
+/// A response after a redirect.
+#[test]
+fn a_chain_is_made_again(rt: HostRuntime) -> Result<(), Fail> {
+    let task = MockTask::new(&rt)?;
+    let ran = run_chain(rt.alloc(), &task);
+    drop(task);
+    verdict(rt.alloc(), ran)
 }
 
 static READS: [ScriptRead<'static>; 4] = [

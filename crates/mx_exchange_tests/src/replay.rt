@@ -1,50 +1,62 @@
-//! A transfer over scripted links that is called by hand, and compared with its row.
+//! A transfer over scripted links that is called by hand, and compared with its row as it goes.
 //!
-//! The functions have no contracts, and at most one value that is costly to drop, which they drop by a call: so their proofs are short, and
-//! so are those of the tests, which have only plain values. Where a call of the transfer has a condition, that is checked first.
+//! What was seen is not kept: each part is compared at once with what the row says of it. So the functions own little, and of what is costly
+//! to drop at most one value, which they drop by a call. Where a call of the transfer has a condition, that is checked first.
 
-use crate::rows::{Call, Ended, Hop, Links, Row, Waiting, Wanted, end_of};
+use crate::rows::{Call, Ends, Hop, Links, Row, Waiting, Wanted, end_of};
 use futures::task::Poll;
 use futures::test::MockTask;
 use mx_link::{ScriptLink, ScriptRead, Write};
-use mx_request::Request;
+use mx_request::{Request, RequestError};
 use mx_transfer::{Outcome, Transfer};
-use mx_types::{Code, Ending as Ends, Method, OutOfMemory, Settings};
-use std::alloc::{AllocError, AllocGlobal, Global};
-use std::random::RandomSource;
+use mx_types::{Code, Ending as _, Method, OutOfMemory, Settings};
+use std::alloc::Global;
 use std::test::Fail;
 
-#[derive(Drop)]
-struct Ending {
-    outcome: Outcome,
-    body: Vec<u8>,
-    links: u32,
+/// Why a row stops before its end.
+#[derive(Clone, Copy)]
+pub(crate) enum Stop {
+    /// Memory was refused.
+    Memory,
+    /// Something else was seen of this.
+    Part(&'static str),
+    /// The same, of the row with this name and this method.
+    Row(&'static str, Method, &'static str),
 }
 
-/// What was seen of a transfer.
-#[derive(Drop)]
-struct Played {
-    heads_alone: bool,
-    waits: Vec<Waiting>,
-    links: Vec<Links>,
-    ending: Option<Ending>,
+impl From<OutOfMemory> for Stop {
+    fn from(_refused: OutOfMemory) -> Stop {
+        Stop::Memory
+    }
 }
 
-impl Ending {
-    fn ended(&self) -> Ended<'_> {
-        let outcome = &self.outcome;
-        Ended {
-            code: outcome.code(),
-            status: outcome.status(),
-            wire: outcome.wire(),
-            part_count: outcome.part_count(),
-            part: outcome.part(0),
-            body: self.body.as_slice(),
-            size: outcome.size(),
-            links: self.links,
-            hops: outcome.hops(),
+/// The end of a test. It fails with the row, the method and what differs.
+pub(crate) fn verdict(alloc: Global, played: Result<(), Stop>) -> Result<(), Fail> {
+    match played {
+        Ok(()) => Ok(()),
+        Err(Stop::Memory) => Err(OutOfMemory.into()),
+        Err(Stop::Part(part)) => Err(part.into()),
+        Err(Stop::Row(name, method, part)) => {
+            let method = method.as_str();
+            Err(format!(in alloc; "{name}, {method}: the row says otherwise of {part}")?.into())
         }
     }
+}
+
+/// How much of a row was seen so far: all of that is as the row says.
+#[derive(Clone, Copy)]
+struct Seen {
+    waits: usize,
+    links: usize,
+    is_ended: bool,
+}
+
+/// Fails unless the part is as the row says.
+fn holds(is_so: bool, part: &'static str) -> Result<(), Stop> {
+    if is_so {
+        return Ok(());
+    }
+    Err(Stop::Part(part))
 }
 
 /// Whether an outcome has this hop, counted from 0: all of its bytes, or its heads alone.
@@ -79,101 +91,85 @@ fn are_hops(outcome: &Outcome, chain: &[Hop<'_>], heads_alone: bool) -> bool {
     is_no_hop(outcome, chain.len())
 }
 
-/// What of the end differs from the row.
-fn wrong_at_end(
-    ending: &Ending,
-    expected: Ended<'_>,
-    chain: &[Hop<'_>],
-    heads_alone: bool,
-) -> Option<&'static str> {
-    if ending.ended() != expected {
-        return Some("its end");
-    }
-    if !chain.is_empty() && !are_hops(&ending.outcome, chain, heads_alone) {
-        return Some("its hops");
-    }
-    None
-}
-
-/// What differs from the row.
-fn wrong_part(played: &Played, row: &Row<'_>) -> Option<&'static str> {
-    if played.waits.as_slice() != row.waits {
-        return Some("a poll that answered `Pending`");
-    }
-    if !row.links.is_empty() && played.links.as_slice() != row.links {
-        return Some("its links");
-    }
-    match (&played.ending, end_of(row.ends, row.hops)) {
-        (None, None) => None,
-        (Some(ending), Some(expected)) => {
-            wrong_at_end(ending, expected, row.chain, played.heads_alone)
-        }
-        (None, Some(_)) => Some("that it hasn't ended"),
-        (Some(_), None) => Some("that it has ended"),
-    }
-}
-
-/// What was seen, in numbers.
-fn told(alloc: Global, played: &Played) -> Result<String, AllocError> {
-    let waits = played.waits.len();
-    let Some(ending) = &played.ending else {
-        return format!(in alloc; "{waits} waits, no end");
-    };
-    let end = ending.ended();
-    let code = end.code.number();
-    let Ended {
-        status,
-        size,
-        links,
-        hops,
-        ..
-    } = end;
-    let wire = end.wire.len();
-    format!(in alloc;
-        "{waits} waits, code {code}, status {status}, {wire} bytes, {size} of them body, {links} links, {hops} hops"
+/// Whether an outcome has this body: in one part, or in none where there is no body. The copy of all parts is the same.
+fn has_body(alloc: Global, outcome: &Outcome, body: Option<&[u8]>) -> Result<bool, OutOfMemory> {
+    let bytes = body.unwrap_or(b"");
+    let parts = if body.is_some() { 1 } else { 0 };
+    let copy = outcome.copy_body(alloc)?;
+    Ok(
+        copy.as_slice() == bytes
+            && outcome.part(0) == body
+            && (outcome.part_count(), outcome.size() as usize) == (parts, bytes.len()),
     )
 }
 
-/// Fails unless this was seen, and names the row.
-fn compare(alloc: Global, played: &Played, method: Method, row: &Row<'_>) -> Result<(), Fail> {
-    let Some(part) = wrong_part(played, row) else {
-        return Ok(());
-    };
-    let name = row.name;
-    let method = method.as_str();
-    let told = told(alloc, played)?;
-    Err(format!(in alloc; "{name}, {method}: the row says otherwise of {part}: {told}")?.into())
-}
-
-fn bytes_of(alloc: Global, body: Option<&[u8]>) -> Result<Option<Vec<u8>>, AllocError> {
-    match body {
-        Some(bytes) => Ok(Some(Vec::from_slice(alloc, bytes)?)),
-        None => Ok(None),
+/// Fails unless the row's transfer ends with this outcome. An end with `OutOfMemory` is reported as that.
+fn check_end(
+    alloc: Global,
+    outcome: &Outcome,
+    links: u32,
+    row: &Row<'_>,
+    heads_alone: bool,
+) -> Result<(), Stop> {
+    if outcome.code() == Code::OutOfMemory {
+        return Err(Stop::Memory);
     }
+    let Some(end) = end_of(row.ends) else {
+        return Err(Stop::Part("that it has ended"));
+    };
+    let is_so = has_body(alloc, outcome, end.body)?
+        && (outcome.code(), outcome.status(), outcome.hops()) == (end.code, end.status, row.hops)
+        && outcome.wire() == end.wire
+        && links == end.links;
+    holds(is_so, "its end")?;
+    let has_hops = row.chain.is_empty() || are_hops(outcome, row.chain, heads_alone);
+    holds(has_hops, "its hops")
 }
 
-fn fields_of(alloc: Global, cookie: Option<&str>) -> Result<Vec<(String, String)>, AllocError> {
-    let mut fields = Vec::new(alloc);
-    if let Some(value) = cookie {
+/// Fails unless these are the next links of the row, where it has any.
+fn check_links(links: Links, row: &Row<'_>, seen: &mut Seen) -> Result<(), Stop> {
+    let is_next = match row.links.get(seen.links) {
+        Some(expected) => links == *expected,
+        None => row.links.is_empty(),
+    };
+    seen.links = seen.links.saturating_add(1);
+    holds(is_next, "its links")
+}
+
+/// Fails unless this is what the row says of the next poll that answers `Pending`.
+fn check_wait(waiting: Waiting, row: &Row<'_>, seen: &mut Seen) -> Result<(), Stop> {
+    let is_next = match row.waits.get(seen.waits) {
+        Some(expected) => waiting == *expected,
+        None => false,
+    };
+    seen.waits = seen.waits.saturating_add(1);
+    holds(is_next, "a poll that answered `Pending`")
+}
+
+/// Adds the body, and a field `cookie`.
+fn fill(alloc: Global, settings: &mut Settings, row: &Row<'_>) -> Result<(), OutOfMemory> {
+    if let Some(bytes) = row.body {
+        settings.body = Some(Vec::from_slice(alloc, bytes)?);
+    }
+    if let Some(value) = row.cookie {
         let name = String::from_str(alloc, "cookie")?;
         let value = String::from_str(alloc, value)?;
-        fields.push((name, value))?;
+        settings.fields.push((name, value))?;
     }
-    Ok(fields)
+    Ok(())
 }
 
 /// The request of a row.
-pub(crate) fn request_of(alloc: Global, method: Method, row: &Row<'_>) -> Result<Request, Fail> {
-    let body = bytes_of(alloc, row.body)?;
-    let fields = fields_of(alloc, row.cookie)?;
-    let settings = Settings {
-        user_agent: None,
-        fields,
-        body,
-        timeout_ms: row.timeout_ms,
-        max_redirects: row.max_redirects,
-    };
-    Ok(Request::build(alloc, method, row.url, settings)?)
+pub(crate) fn request_of(alloc: Global, method: Method, row: &Row<'_>) -> Result<Request, Stop> {
+    let mut settings = Settings::new(alloc);
+    settings.timeout_ms = row.timeout_ms;
+    settings.max_redirects = row.max_redirects;
+    fill(alloc, &mut settings, row)?;
+    match Request::build(alloc, method, row.url, settings) {
+        Ok(request) => Ok(request),
+        Err(RequestError::OutOfMemory) => Err(Stop::Memory),
+        Err(_) => Err(Stop::Part("its request, which is refused")),
+    }
 }
 
 fn wants_of(transfer: &Transfer<ScriptLink>) -> Wanted {
@@ -201,49 +197,41 @@ fn attach(transfer: &mut Transfer<ScriptLink>, link: ScriptLink, is_reused: bool
     fits
 }
 
-/// Hands over a link that answers so; false where no such link is wanted.
-fn attach_script(
+/// Hands over a link that answers so; fails where no such link is wanted.
+pub(crate) fn attach_script(
     alloc: Global,
     transfer: &mut Transfer<ScriptLink>,
     reads: &[ScriptRead<'_>],
     writes: &[Write],
     is_reused: bool,
-) -> Result<bool, OutOfMemory> {
+) -> Result<(), Stop> {
     let link = ScriptLink::new(alloc, reads, writes)?;
-    Ok(attach(transfer, link, is_reused))
+    holds(
+        attach(transfer, link, is_reused),
+        "a link that isn't wanted",
+    )
 }
 
-/// False where no link is wanted.
-fn give_up(transfer: &mut Transfer<ScriptLink>) -> bool {
-    let fits = transfer.wants().is_some();
-    if fits {
-        transfer.fail_link(Code::CouldntResolveHost);
-    }
-    fits
-}
-
-fn home_of(transfer: &Transfer<ScriptLink>) -> Option<u16> {
-    match transfer.link_endpoint() {
-        Some(endpoint) => Some(endpoint.port),
-        None => None,
-    }
-}
-
-/// How many links it gives, asked for twice.
-fn count_links(transfer: &mut Transfer<ScriptLink>) -> u32 {
-    let first = transfer.take_link().is_some();
-    let second = transfer.take_link().is_some();
-    u32::from(first) + u32::from(second)
+/// Whether it gives a link.
+fn gives_link(transfer: &mut Transfer<ScriptLink>) -> bool {
+    let link = transfer.take_link();
+    let is_given = link.is_some();
+    drop(link);
+    is_given
 }
 
 /// Takes the links that it gives.
 fn take_links(transfer: &mut Transfer<ScriptLink>) -> Links {
+    let home = match transfer.link_endpoint() {
+        Some(endpoint) => Some(endpoint.port),
+        None => None,
+    };
     Links {
-        home: home_of(transfer),
+        home,
         wants: wants_of(transfer),
         received: transfer.received(),
         code: transfer.code(),
-        given: count_links(transfer),
+        given: u32::from(gives_link(transfer)) + u32::from(gives_link(transfer)),
     }
 }
 
@@ -257,8 +245,8 @@ fn waits(task: &MockTask, transfer: &Transfer<ScriptLink>) -> Waiting {
     }
 }
 
-/// The outcome, or nothing where it is pending or has ended before.
-fn poll(task: &MockTask, transfer: &mut Transfer<ScriptLink>) -> Option<Outcome> {
+/// Polls once: the outcome, or nothing where it is pending or has ended before.
+pub(crate) fn poll(task: &MockTask, transfer: &mut Transfer<ScriptLink>) -> Option<Outcome> {
     if transfer.spent() {
         return None;
     }
@@ -268,96 +256,79 @@ fn poll(task: &MockTask, transfer: &mut Transfer<ScriptLink>) -> Option<Outcome>
     }
 }
 
-/// Keeps what a transfer has ended with, and its links. An end with `OutOfMemory` is reported as that.
-fn end_with(
-    alloc: Global,
-    outcome: Outcome,
-    links: Links,
-    played: &mut Played,
-) -> Result<(), OutOfMemory> {
-    if outcome.code() == Code::OutOfMemory {
-        return Err(OutOfMemory);
-    }
-    let body = outcome.copy_body(alloc)?;
-    played.links.push(links)?;
-    let links = links.given;
-    played.ending = Some(Ending {
-        outcome,
-        body,
-        links,
-    });
-    Ok(())
-}
-
-/// Polls once; what is seen then goes to `played`.
-fn poll_into(
+/// Polls once, and compares what is seen then.
+fn check_poll(
     alloc: Global,
     task: &MockTask,
     transfer: &mut Transfer<ScriptLink>,
-    played: &mut Played,
-) -> Result<(), OutOfMemory> {
-    match poll(task, transfer) {
-        Some(outcome) => end_with(alloc, outcome, take_links(transfer), played),
-        None => Ok(played.waits.push(waits(task, transfer))?),
-    }
+    row: &Row<'_>,
+    heads_alone: bool,
+    seen: &mut Seen,
+) -> Result<(), Stop> {
+    let Some(outcome) = poll(task, transfer) else {
+        return check_wait(waits(task, transfer), row, seen);
+    };
+    let links = take_links(transfer);
+    let ended = check_end(alloc, &outcome, links.given, row, heads_alone);
+    drop(outcome);
+    seen.is_ended = true;
+    ended?;
+    check_links(links, row, seen)
 }
 
-/// Makes the call; false where it can't be made now.
+/// Makes the call; fails where it can't be made now.
 fn make(
     alloc: Global,
     task: &MockTask,
     transfer: &mut Transfer<ScriptLink>,
     call: Call<'_>,
-    played: &mut Played,
-) -> Result<bool, OutOfMemory> {
+    row: &Row<'_>,
+    heads_alone: bool,
+    seen: &mut Seen,
+) -> Result<(), Stop> {
     match call {
         Call::Fresh(reads, writes) => attach_script(alloc, transfer, reads, writes, false),
         Call::Reused(reads, writes) => attach_script(alloc, transfer, reads, writes, true),
-        Call::NoLink => Ok(give_up(transfer)),
+        Call::NoLink => {
+            let fits = transfer.wants().is_some();
+            if fits {
+                transfer.fail_link(Code::CouldntResolveHost);
+            }
+            holds(fits, "a link that isn't wanted")
+        }
         Call::Prepare(now, is_paused) => {
             transfer.prepare(now, is_paused);
-            Ok(true)
+            Ok(())
         }
-        Call::Poll => {
-            poll_into(alloc, task, transfer, played)?;
-            Ok(true)
-        }
-        Call::TakeLinks => {
-            played.links.push(take_links(transfer))?;
-            Ok(true)
-        }
+        Call::Poll => check_poll(alloc, task, transfer, row, heads_alone, seen),
+        Call::TakeLinks => check_links(take_links(transfer), row, seen),
     }
 }
 
+/// Makes all calls of the row. Nothing is asked of the transfer once it has ended.
 fn make_all(
     alloc: Global,
     task: &MockTask,
     transfer: &mut Transfer<ScriptLink>,
     row: &Row<'_>,
-    played: &mut Played,
-) -> Result<(), Fail> {
-    let calls = row.calls;
-    for place in 0..calls.len() {
-        // nothing is asked of it once it has ended
-        if played.ending.is_some() {
-            return Ok(());
-        }
-        if !make(alloc, task, transfer, calls[place], played)? {
-            let name = row.name;
-            return Err(format!(in alloc; "{name}: call {place} can't be made")?.into());
+    heads_alone: bool,
+) -> Result<(), Stop> {
+    let mut seen = Seen {
+        waits: 0,
+        links: 0,
+        is_ended: false,
+    };
+    for call in row.calls {
+        if !seen.is_ended {
+            make(alloc, task, transfer, *call, row, heads_alone, &mut seen)?;
         }
     }
-    Ok(())
-}
-
-fn with_task<R: RandomSource + AllocGlobal>(
-    rt: &R,
-    transfer: &mut Transfer<ScriptLink>,
-    row: &Row<'_>,
-    played: &mut Played,
-) -> Result<(), Fail> {
-    let task = MockTask::new(rt)?;
-    make_all(rt.alloc(), &task, transfer, row, played)
+    let has_waited = seen.waits == row.waits.len();
+    let has_links = row.links.is_empty() || seen.links == row.links.len();
+    let is_ended = !matches!(row.ends, Ends::Never);
+    holds(has_waited, "a poll that answered `Pending`")?;
+    holds(has_links, "its links")?;
+    holds(seen.is_ended == is_ended, "whether it has ended")
 }
 
 /// A transfer that keeps all bytes of its hops, or their heads alone.
@@ -372,53 +343,41 @@ pub(crate) fn transfer_of(
     Transfer::new(alloc, request)
 }
 
-/// What is seen of a new transfer over the calls of a row, up to its end.
-fn play<R: RandomSource + AllocGlobal>(
-    rt: &R,
+/// Compares what is seen of a new transfer over the calls of a row, up to its end.
+fn play(
+    alloc: Global,
+    task: &MockTask,
     method: Method,
     row: &Row<'_>,
-    played: &mut Played,
-) -> Result<(), Fail> {
-    let request = request_of(rt.alloc(), method, row)?;
-    let mut transfer = transfer_of(rt.alloc(), request, played.heads_alone);
-    let made = with_task(rt, &mut transfer, row, played);
+    heads_alone: bool,
+) -> Result<(), Stop> {
+    let request = request_of(alloc, method, row)?;
+    let mut transfer = transfer_of(alloc, request, heads_alone);
+    let made = make_all(alloc, task, &mut transfer, row, heads_alone);
     drop(transfer);
     made
 }
 
-fn is_so_with<R: RandomSource + AllocGlobal>(
-    rt: &R,
-    method: Method,
-    row: &Row<'_>,
-    heads_alone: bool,
-) -> Result<(), Fail> {
-    let mut played = Played {
-        heads_alone,
-        waits: Vec::new(rt.alloc()),
-        links: Vec::new(rt.alloc()),
-        ending: None,
-    };
-    let seen = match play(rt, method, row, &mut played) {
-        Ok(()) => compare(rt.alloc(), &played, method, row),
-        Err(fail) => Err(fail),
-    };
-    drop(played);
-    seen
-}
-
 /// Fails unless just this is seen of a new transfer over the calls of the row, up to its end, whether it keeps all bytes of its hops or not.
-pub(crate) fn is_so<R: RandomSource + AllocGlobal>(rt: &R, row: &Row<'_>) -> Result<(), Fail> {
+pub(crate) fn is_so(alloc: Global, task: &MockTask, row: &Row<'_>) -> Result<(), Stop> {
     for method in row.methods {
-        is_so_with(rt, *method, row, false)?;
-        is_so_with(rt, *method, row, true)?;
+        for heads_alone in &[false, true] {
+            match play(alloc, task, *method, row, *heads_alone) {
+                Ok(()) => {}
+                Err(Stop::Part(part)) => return Err(Stop::Row(row.name, *method, part)),
+                Err(stop) => return Err(stop),
+            }
+        }
     }
     Ok(())
 }
 
 /// Fails with the first row that isn't so, and names it.
-pub(crate) fn are_so<R: RandomSource + AllocGlobal>(rt: &R, rows: &[Row<'_>]) -> Result<(), Fail> {
-    for row in rows {
-        is_so(rt, row)?;
+pub(crate) fn are_so(alloc: Global, task: &MockTask, parts: &[&[Row<'_>]]) -> Result<(), Stop> {
+    for rows in parts {
+        for row in *rows {
+            is_so(alloc, task, row)?;
+        }
     }
     Ok(())
 }

@@ -1,9 +1,11 @@
 //! A row: what a transfer is made of, the calls on it, and what is seen of it then.
 
-use crate::replay::are_so;
+use crate::replay::{Stop, are_so, verdict};
 use crate::{hops, redirects, table};
+use futures::test::MockTask;
 use mx_link::{ScriptRead, Write};
 use mx_types::{Code, Method};
+use std::alloc::Global;
 use std::test::Fail;
 
 /// A call on a transfer.
@@ -92,7 +94,7 @@ pub(crate) enum Ends<'a> {
 #[derive(Clone, Copy)]
 pub(crate) struct Row<'a> {
     /// What it is about.
-    pub name: &'a str,
+    pub name: &'static str,
     /// Each of them is tried.
     pub methods: &'static [Method],
     pub url: &'static str,
@@ -116,70 +118,49 @@ pub(crate) struct Row<'a> {
     pub chain: &'a [Hop<'a>],
 }
 
-/// What a transfer has ended with, to be compared whole.
-#[derive(Clone, Copy, PartialEq)]
-pub(crate) struct Ended<'a> {
+/// What a transfer has ended with, but for its hops.
+#[derive(Clone, Copy)]
+pub(crate) struct End<'a> {
     /// That of its outcome.
     pub code: Code,
     /// The status of the last hop's final head, 0 where none was read.
     pub status: u16,
     /// The bytes that the link of the last hop gave.
     pub wire: &'a [u8],
-    /// How many parts its body has.
-    pub part_count: usize,
-    /// The first part.
-    pub part: Option<&'a [u8]>,
-    /// The copy of all parts.
-    pub body: &'a [u8],
-    /// How many bytes the parts have.
-    pub size: u32,
+    /// The one part of its body; nothing where there is no part.
+    pub body: Option<&'static [u8]>,
     /// How many links it gives, asked for twice.
     pub links: u32,
-    /// One more than redirects were followed.
-    pub hops: usize,
-}
-
-fn bodiless(code: Code, status: u16, wire: &[u8], links: u32, hops: usize) -> Ended<'_> {
-    Ended {
-        code,
-        status,
-        wire,
-        part_count: 0,
-        part: None,
-        body: b"",
-        size: 0,
-        links,
-        hops,
-    }
 }
 
 /// What the transfer of a row has ended with.
-pub(crate) fn end_of(ends: Ends<'_>, hops: usize) -> Option<Ended<'_>> {
-    match ends {
-        Ends::Never => None,
-        Ends::Hello(wire, links) => Some(Ended {
-            part_count: 1,
-            part: Some(b"hello"),
-            body: b"hello",
-            size: 5,
-            ..bodiless(Code::Ok, 200, wire, links, hops)
-        }),
-        Ends::Bodiless(code, status, wire) => Some(bodiless(code, status, wire, 1, hops)),
-        Ends::Failed(code, status, wire) => Some(bodiless(code, status, wire, 0, hops)),
-    }
+pub(crate) fn end_of(ends: Ends<'_>) -> Option<End<'_>> {
+    let (code, status, wire, body, links) = match ends {
+        Ends::Never => return None,
+        Ends::Hello(wire, links) => (Code::Ok, 200, wire, Some(b"hello".as_slice()), links),
+        Ends::Bodiless(code, status, wire) => (code, status, wire, None, 1),
+        Ends::Failed(code, status, wire) => (code, status, wire, None, 0),
+    };
+    Some(End {
+        code,
+        status,
+        wire,
+        body,
+        links,
+    })
 }
 
 /// Naming a long table makes a proof longer by its rows, so each part of it is short, and one function names a few of them.
+fn play_all(alloc: Global, task: &MockTask) -> Result<(), Stop> {
+    are_so(alloc, task, &table::rows())?;
+    are_so(alloc, task, &hops::rows())?;
+    are_so(alloc, task, &redirects::rows())
+}
+
 #[test]
 fn transfers_over_scripted_links(rt: HostRuntime) -> Result<(), Fail> {
-    for rows in table::rows() {
-        are_so(&rt, rows)?;
-    }
-    for rows in hops::rows() {
-        are_so(&rt, rows)?;
-    }
-    for rows in redirects::rows() {
-        are_so(&rt, rows)?;
-    }
-    Ok(())
+    let task = MockTask::new(&rt)?;
+    let played = play_all(rt.alloc(), &task);
+    drop(task);
+    verdict(rt.alloc(), played)
 }

@@ -151,45 +151,64 @@ fn a_refused_connection_is_a_fault(rt: &HostRuntime, waiter: &mut Waiter) -> io:
     seen
 }
 
-// Whether one of many connections is not there yet.
-fn waits_for_one(
+// Opens a connection more: its first answer.
+fn stand(
     rt: &HostRuntime,
     address: SocketAddr,
     standing: &mut Vec<TcpLink>,
-) -> Result<bool, Fail> {
+) -> io::Result<Connect> {
+    let mut link = TcpLink::new(TcpStream::connect(rt, address)?, 7);
+    let answer = link.try_connect();
+    standing.push(link)?;
+    Ok(answer)
+}
+
+// Opens connections until one is not there yet: whether there was one.
+fn stand_until_one_waits(
+    rt: &HostRuntime,
+    address: SocketAddr,
+    standing: &mut Vec<TcpLink>,
+) -> io::Result<bool> {
     for _ in 0..TURNS {
-        let mut link = TcpLink::new(TcpStream::connect(rt, address)?, 7);
-        let answer = link.try_connect();
-        standing.push(link)?;
-        if answer == Connect::WouldBlock {
+        if stand(rt, address, standing)? == Connect::WouldBlock {
             return Ok(true);
         }
     }
     Ok(false)
 }
 
-fn a_connection_that_is_not_there_yet_would_block(rt: &HostRuntime) -> Result<bool, Fail> {
+fn a_connection_that_is_not_there_yet_would_block(rt: &HostRuntime) -> io::Result<bool> {
     // it accepts nothing, so once its queue is full a connection stays unmade
     let listener = net::TcpListener::bind(rt, SocketAddr::from((Ipv4Addr::LOCALHOST, 0)))?;
     let address = listener.local_addr()?;
     let mut standing = Vec::new(rt.alloc());
-    let waits = waits_for_one(rt, address, &mut standing);
+    let waits = stand_until_one_waits(rt, address, &mut standing);
     drop(standing);
     drop(listener);
     waits
 }
 
+// The first that isn't so.
+fn first_wrong(rt: &HostRuntime, waiter: &mut Waiter) -> io::Result<Option<&'static str>> {
+    if !a_socket_reads_and_writes_and_sees_the_end(rt, waiter)? {
+        return Ok(Some("a_socket_reads_and_writes_and_sees_the_end"));
+    }
+    if !a_refused_connection_is_a_fault(rt, waiter)? {
+        return Ok(Some("a_refused_connection_is_a_fault"));
+    }
+    if !a_connection_that_is_not_there_yet_would_block(rt)? {
+        return Ok(Some("a_connection_that_is_not_there_yet_would_block"));
+    }
+    Ok(None)
+}
+
 #[test]
 fn links_over_sockets(rt: HostRuntime) -> Result<(), Fail> {
     let mut waiter = Waiter::new(&rt)?;
-    let talks = a_socket_reads_and_writes_and_sees_the_end(&rt, &mut waiter);
-    let refused = a_refused_connection_is_a_fault(&rt, &mut waiter);
+    let wrong = first_wrong(&rt, &mut waiter);
     drop(waiter);
-    assert!(rt; talks?, "a_socket_reads_and_writes_and_sees_the_end");
-    assert!(rt; refused?, "a_refused_connection_is_a_fault");
-    assert!(rt;
-        a_connection_that_is_not_there_yet_would_block(&rt)?,
-        "a_connection_that_is_not_there_yet_would_block"
-    );
-    Ok(())
+    match wrong? {
+        None => Ok(()),
+        Some(name) => Err(name.into()),
+    }
 }

@@ -120,20 +120,36 @@ fn make(
     Ok((caller.makes(alloc, step)?, true))
 }
 
-// The first call that answers otherwise, with a log that refuses its append of this number.
-fn plays(alloc: Global, refused: u32) -> Result<Option<usize>, OutOfMemory> {
-    let mut caller = Caller::new(alloc, 64, 0, Some(refused))?;
-    for (at, (step, said)) in SCRIPT.iter().enumerate() {
-        let told = make(alloc, &mut caller, *step, at)?;
-        if told != (*said, at == refused as usize)
-            || caller.control.len() as usize != at.wrapping_add(1)
-        {
-            return Ok(Some(at));
-        }
-        if matches!(step, Step::Add(..)) {
-            let _claimed = caller.makes(alloc, Step::Claim)?;
-        }
-        if !agrees(alloc, &caller)? {
+// Whether a call, the one with this number, answers what it is to answer, and the core then what is read off its log. It is refused memory
+// just where it has the number of the append that the log refuses.
+fn plays_call(
+    alloc: Global,
+    caller: &mut Caller,
+    at: usize,
+    call: (Step, Said),
+    refused: u32,
+) -> Result<bool, OutOfMemory> {
+    let (step, said) = call;
+    let told = make(alloc, caller, step, at)?;
+    if told != (said, at == refused as usize)
+        || caller.control.len() as usize != at.wrapping_add(1)
+    {
+        return Ok(false);
+    }
+    if matches!(step, Step::Add(..)) {
+        let _claimed = caller.makes(alloc, Step::Claim)?;
+    }
+    agrees(alloc, caller)
+}
+
+// The first call that answers otherwise.
+fn plays_all(
+    alloc: Global,
+    caller: &mut Caller,
+    refused: u32,
+) -> Result<Option<usize>, OutOfMemory> {
+    for (at, call) in SCRIPT.iter().enumerate() {
+        if !plays_call(alloc, caller, at, *call, refused)? {
             return Ok(Some(at));
         }
     }
@@ -142,6 +158,14 @@ fn plays(alloc: Global, refused: u32) -> Result<Option<usize>, OutOfMemory> {
         return Ok(Some(14));
     }
     Ok(None)
+}
+
+// The same of a new core, with a log that refuses its append of this number.
+fn plays(alloc: Global, refused: u32) -> Result<Option<usize>, OutOfMemory> {
+    let mut caller = Caller::new(alloc, 64, 0, Some(refused))?;
+    let wrong = plays_all(alloc, &mut caller, refused);
+    drop(caller);
+    wrong
 }
 
 // Of each append that may be refused.

@@ -66,14 +66,28 @@ static KEPT: [Event; 1] = [Event {
     what: What::Added(HandleId(7), Ticket(0)),
 }];
 
+// Whether four events are made and then kept as they should be, and whether memory was refused.
+fn makes_and_keeps(
+    alloc: Global,
+    control: &mut Control<Job, End>,
+) -> Result<(bool, bool), OutOfMemory> {
+    let mut log = VecLog::new(alloc);
+    let (are_made, at_an_event) = make_four(control, &mut log);
+    drop(log);
+    let (kept, at_last) = kept(alloc, control)?;
+    let are_kept = kept.as_slice() == KEPT.as_slice();
+    drop(kept);
+    Ok((are_made && are_kept, at_an_event || at_last))
+}
+
 #[test]
 fn a_control_state_is_made_again(rt: HostRuntime) -> Result<(), Fail> {
     let (mut control, at_first) = control(rt.alloc())?;
-    let mut log = VecLog::new(rt.alloc());
-    let (are_made, at_an_event) = make_four(&mut control, &mut log);
-    let (kept, at_last) = kept(rt.alloc(), &control)?;
-    if !are_made || kept.as_slice() != KEPT.as_slice() {
+    let kept = makes_and_keeps(rt.alloc(), &mut control);
+    drop(control);
+    let (are_right, at_last) = kept?;
+    if !are_right {
         return Err("other events".into());
     }
-    end(at_first || at_an_event || at_last)
+    end(at_first || at_last)
 }

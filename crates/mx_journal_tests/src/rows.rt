@@ -364,19 +364,30 @@ fn plays_part(
     Ok(None)
 }
 
-// The first call of a row that answers otherwise.
-fn plays(alloc: Global, row: &Row) -> Result<Option<usize>, OutOfMemory> {
-    // One of two, which the prover knows for numbers of events.
-    let history = if row.history == 8 { 8 } else { 64 };
-    let mut caller = Caller::new(alloc, history, row.first, None)?;
+// The first call of these parts that answers otherwise.
+fn plays_parts(
+    alloc: Global,
+    caller: &mut Caller,
+    parts: &[Part],
+) -> Result<Option<usize>, OutOfMemory> {
     let mut behind = 0usize;
-    for part in row.parts {
-        if let Some(at) = plays_part(alloc, &mut caller, part, behind)? {
+    for part in parts {
+        if let Some(at) = plays_part(alloc, caller, *part, behind)? {
             return Ok(Some(at));
         }
         behind = behind.wrapping_add(part.len());
     }
     Ok(None)
+}
+
+// The same of a row.
+fn plays(alloc: Global, row: &Row) -> Result<Option<usize>, OutOfMemory> {
+    // One of two, which the prover knows for numbers of events.
+    let history = if row.history == 8 { 8 } else { 64 };
+    let mut caller = Caller::new(alloc, history, row.first, None)?;
+    let wrong = plays_parts(alloc, &mut caller, row.parts);
+    drop(caller);
+    wrong
 }
 
 fn first_wrong(alloc: Global) -> Result<Option<Wrong>, OutOfMemory> {
