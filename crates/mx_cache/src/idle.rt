@@ -79,6 +79,13 @@ impl<L: Drop> IdleCache<L> {
         Some(self.links.remove(newest).1)
     }
 
+    /// Drops all links.
+    pub fn clear(&mut self)
+        ensures { self.new ≡ record self.old { links = [] } }
+    {
+        self.links.clear();
+    }
+
     // The place of the endpoint's newest link.
     fn newest(&self, endpoint: &Endpoint) -> Option<usize>
         ensures { MatchOption result (HasNone endpoint.now self.now.links) (λ place. (place < length self.now.links)

@@ -15,7 +15,9 @@ use mx_chain::Outcome;
 use mx_journal::AddReply;
 use mx_lock::TiedClaim;
 use mx_message::next_message;
-use mx_multi::{Application, AtWork, Limits, Multi, OpenError, Seat, Seated, WorkerSeat};
+use mx_multi::{
+    Application, AtWork, Limits, Multi, OpenError, OwnedMulti, Seat, Seated, WorkerSeat,
+};
 use mx_types::{HandleId, Ticket, Work};
 use std::alloc::Global;
 use std::sync::Wait;
@@ -129,7 +131,7 @@ pub fn open_with<Q: Work + Drop, R: Wait>(
     limits: Limits,
 ) -> Result<
     (
-        Multi<Q, Outcome>,
+        OwnedMulti<Q, Outcome>,
         Vec<Seat<Q, Outcome>>,
         Vec<WorkerSeat<Q, Outcome>>,
     ),

@@ -7,6 +7,7 @@ ghost use Rattle.mx_crew.specs.declared.error.CrewError.TheVariants as crew_erro
 use crate::crew::Crew;
 use crate::error::CrewError;
 use crate::post::{Post, Worked, work};
+use crate::starts::{StartGate, Starts};
 use mx_gate::Gate;
 use mx_link::Link;
 use std::alloc::{AllocGlobal, Global};
@@ -51,9 +52,11 @@ fn join_all<R: Threads, G: Drop>(
     worked
 }
 
-// Runs a worker at each post, on a thread of its own, while the application runs on this one. There is room for their handles and results.
+// Runs a worker at each post, on a thread of its own, while the application runs on this one, once one of them has started. There is room
+// for their handles and results.
 fn run_all<
     'm,
+    's,
     L: Link + Send,
     R: Threads + Wait + RandomSource + AllocGlobal + Sync,
     G: Gate<Link = L> + Send + Drop,
@@ -62,6 +65,7 @@ fn run_all<
 >(
     rt: &'m R,
     crew: &'m Crew,
+    starts: &'s Starts,
     posts: Vec<Post<'m, L, G>>,
     handles: Vec<JoinHandle<Worked<G>>>,
     worked: Vec<Worked<G>>,
@@ -82,8 +86,10 @@ fn run_all<
         {
             let mut posts = posts;
             let mut handles = handles;
+            let count = posts.len();
             while let Some(post) = posts.pop() {
                 let Post { seat, gate } = post;
+                let gate = StartGate::new(starts, gate);
                 let started = scope.spawn(
                     move || -> Worked<G>
                         requires { IsSync R.row }
@@ -93,6 +99,10 @@ fn run_all<
                     crew.dismiss();
                     return (application(Err(error)), Err(error));
                 }
+            }
+            if let Err(error) = starts.await_one(rt, count) {
+                crew.dismiss();
+                return (application(Err(error)), Err(error));
             }
             let told = application(Ok(()));
             crew.dismiss();
@@ -115,14 +125,15 @@ fn rooms<G: Drop>(
 }
 
 // rule worker-threads, unproved: Workers on threads run at the same time.
-/// Runs a worker at each post, on a thread of its own, while the application runs on this one. The application is told that there is a
-/// crew, or why there is none: then it runs without workers. Once it has returned the crew is dismissed. It answers what the application
-/// returned, and for each post what its worker did, with its gate; all workers have ended then. Seats don't come back. It may wait.
+/// Runs a worker at each post, on a thread of its own, while the application runs on this one, once one of them has started. The application
+/// is told that there is a crew, or why there is none: then it runs without workers. A worker whose start is refused memory tries again after
+/// 20 milliseconds. Once the application has returned the crew is dismissed. It answers what the application returned, and for each post what
+/// its worker did, with its gate; all workers have ended then. Seats don't come back. It may wait.
 ///
 /// # Errors
 ///
-/// `OutOfMemory` where memory for the threads' handles was refused, and `NoThread` where a thread couldn't be started: the
-/// workers that had started are dismissed then, and have ended. Posts and gates don't come back.
+/// `OutOfMemory` where memory for the threads' handles, or five times for the start of each worker, was refused, and `NoThread` where a
+/// thread couldn't be started: the workers that had started are dismissed then, and have ended. Posts and gates don't come back.
 ///
 /// Of all this the clauses say that what it answers first is what the application may return as it was told, and that it counts as many
 /// workers as there were posts. They don't say on which thread a worker runs, that it ends, or that its gate is that of its post.
@@ -143,7 +154,10 @@ pub fn run_beside<
     ensures told { MatchResult result.1 (λ worked. F.post application (Ok tt) result.0 × (vec_len worked ≡ vec_len posts.entry)) (λ e. F.post application (Err e) result.0) }
 {
     match rooms(rt.alloc(), posts.len()) {
-        Ok((handles, worked)) => run_all(rt, crew, posts, handles, worked, application),
+        Ok((handles, worked)) => {
+            let starts = Starts::new();
+            run_all(rt, crew, &starts, posts, handles, worked, application)
+        }
         Err(error) => (application(Err(error)), Err(error)),
     }
 }

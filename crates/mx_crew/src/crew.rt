@@ -7,6 +7,7 @@ use crate::error::CrewError;
 use mx_gate::{Bell, FileLimit, SocketGate};
 use mx_named_gate::{NameBell, NamedGate};
 use mx_names::{Lookup, Resolver, SystemLookup};
+use mx_paced_gate::PacedGate;
 use mx_types::{Code, OutOfMemory};
 use std::alloc::{AllocError, AllocGlobal, Global};
 use std::net::{Net, TcpListener, TcpStream};
@@ -17,8 +18,8 @@ use std::thread;
 use std::thread::Threads;
 use std::time::Instant;
 
-/// A worker's gate: the system looks its names up, on threads of their own.
-pub type HostGate<'r, R> = NamedGate<'r, R, SystemLookup<R>>;
+/// A worker's gate: it opens the links to an endpoint a few at a time, and the system looks its names up, on threads of their own.
+pub type HostGate<'r, R> = PacedGate<NamedGate<'r, R, SystemLookup<R>>>;
 
 /// What wakes workers, and what stops them; no clause says that it does.
 #[derive(Drop)]
@@ -102,7 +103,7 @@ impl Crew {
             Err(code) => return Err(no_gate(code)),
         };
         match self.know(&gate) {
-            Ok(()) => Ok(NamedGate::new(rt, gate, resolver)?),
+            Ok(()) => Ok(PacedGate::new(NamedGate::new(rt, gate, resolver)?)),
             Err(error) => {
                 drop(gate);
                 Err(error)

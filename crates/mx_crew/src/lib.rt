@@ -7,6 +7,7 @@ mod error;
 mod opening;
 mod post;
 mod runtime;
+mod starts;
 
 pub use crate::beside::run_beside;
 pub use crate::crew::{Crew, HostGate};

@@ -1,6 +1,7 @@
 //! A worker's post.
 ghost use Rattle.std.specs.Prelude.{◌≡◌, ◌≤◌, All, IfErr, IfOk, min, vec_capacity, vec_len};
 
+use crate::starts::StartGate;
 use mx_gate::{Gate, Turn};
 use mx_link::Link;
 use mx_multi::{AtWork, Multi, Seated, WorkerSeat};
@@ -112,17 +113,22 @@ fn work_once<'m, L: Link, R: Wait + RandomSource + AllocGlobal, G: Gate<Link = L
 }
 
 // Works with a seat and a gate until the gate stops it, and says what it did: the gate comes back. Where memory for its start is refused,
-// it tries again after a while. It has no clause, since nobody has the seat afterwards: `run_worker` has them. Tests show that it ends only
-// where its gate stops it.
+// it tries again after a while, and the gate tells so. It has no clause, since nobody has the seat afterwards: `run_worker` has them. Tests
+// show that it ends only where its gate stops it.
 pub(crate) fn work<'m, L: Link, R: Wait + RandomSource + AllocGlobal, G: Gate<Link = L> + Drop>(
     rt: &R,
     seat: Seated<'m, AtWork, Queued<L>, Outcome>,
-    gate: G,
+    gate: StartGate<'_, G>,
 ) -> Worked<G> {
     let (mut seat, mut gate) = (seat, gate);
     for _ in rt.forever() {
         match work_once(rt, seat, &mut gate) {
-            Ok(counts) => return Worked { counts, gate },
+            Ok(counts) => {
+                return Worked {
+                    counts,
+                    gate: gate.into_gate(),
+                };
+            }
             Err(again) => seat = again,
         }
     }

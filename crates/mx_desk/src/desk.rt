@@ -1,10 +1,11 @@
 //! The requests that were added at a seat, and what they ended with.
-ghost use Rattle.std.specs.Prelude.{◌≡◌, true, count_by, is_some, None, Ok, Some, IfOk, IfSome, MatchOption, OnOk, slice_get, ◌↔◌, IsTrue, OnErr};
+ghost use Rattle.std.specs.Prelude.{◌≡◌, true, count_by, is_some, None, Ok, Some, IfErr, IfOk, IfSome, MatchOption, OnOk, slice_get, ◌↔◌, IsTrue, OnErr};
 ghost use mathlib.Core.List.{IsPrefix};
 ghost use Rattle.mx_request.specs.Request.{request_origin};
 ghost use Rattle.mx_lock.specs.Ties.{Has, tie};
 ghost use Rattle.mx_desk.specs.Additions.{IsTold, awaits_at};
 ghost use Rattle.mx_desk.specs.Desks.{HasRoom, IsNewDesk};
+ghost use Rattle.mx_desk.specs.declared.error.DeskError.TheVariants as desk_error;
 
 use crate::addition::Addition;
 use crate::error::DeskError;
@@ -31,21 +32,20 @@ pub struct Ended {
     pub outcome: Outcome,
 }
 
-// The ticket of an addition that was made; None where the history has no room for one more. It is generic over the work, so that what is
-// handed back is dropped as one value.
+// The ticket of an addition that was made; None where the multi handle takes no more: its history is full, its tickets are spent, or the
+// handle is added already. It is generic over the work, so that what is handed back is dropped as one value.
 fn added<Q: Drop>(answer: Result<AddReply<Q>, WrongSeat<Q>>) -> Result<Option<Ticket>, DeskError>
-    ensures { IfOk result (λ o. IfSome o (λ t. answer ≡ Ok (AddReply.Added t))) }
+    ensures ticket { IfOk result (λ o. IfSome o (λ t. answer ≡ Ok (AddReply.Added t))) }
+    ensures why { IfErr result (λ e. e ≡ desk_error.OutOfMemory) }
 {
     match answer {
         Ok(AddReply::Added(ticket)) => Ok(Some(ticket)),
-        Ok(AddReply::HistoryFull(_)) => Ok(None),
-        Ok(AddReply::TicketsSpent(_)) => Ok(None),
         Ok(AddReply::OutOfMemory(_)) => Err(DeskError::OutOfMemory),
-        _ => Err(DeskError::NotAdded),
+        _ => Ok(None),
     }
 }
 
-// Adds a transfer of the request under this handle, if the history has room.
+// Adds a transfer of the request under this handle, if the multi handle takes one more.
 fn add_transfer<L: Link, R: Wait + AllocGlobal>(
     rt: &R,
     seat: &mut Seated<'_, Application, Queued<L>, Outcome>,
@@ -54,6 +54,7 @@ fn add_transfer<L: Link, R: Wait + AllocGlobal>(
 ) -> Result<Option<Addition>, DeskError>
     ensures request { IfOk result (λ o. IfSome o (λ a. a.request ≡ request)) }
     ensures told { IfOk result (λ o. IfSome o (IsTold seat.new.ties)) }
+    ensures why { IfErr result (λ e. e ≡ desk_error.OutOfMemory) }
     ensures later { IsPrefix seat.old.ties seat.new.ties }
 {
     request.know();
@@ -90,7 +91,7 @@ fn free_handle(additions: &[Option<Addition>], at: usize) -> Option<HandleId>
     }
 }
 
-// Removes a handle.
+// Removes a handle. One that can't be removed is added still, so that the next addition under it is refused.
 fn remove<L: Link, R: Wait>(
     rt: &R,
     seat: &mut Seated<'_, Application, Queued<L>, Outcome>,
@@ -99,9 +100,8 @@ fn remove<L: Link, R: Wait>(
     ensures later { IsPrefix seat.old.ties seat.new.ties }
 {
     match seat.remove(rt, handle) {
-        Ok(RemoveReply::Removed) => Ok(()),
         Ok(RemoveReply::OutOfMemory) => Err(DeskError::OutOfMemory),
-        _ => Err(DeskError::NotAdded),
+        _ => Ok(()),
     }
 }
 
@@ -211,17 +211,15 @@ impl<'m, L: Link> Desk<'m, L> {
         all_that_came(&mut self.seat, self.additions.as_slice())
     }
 
-    /// Whether an addition was refused, since the history has no room for one more.
+    /// Whether an addition was refused, for another reason than memory: the multi handle takes no more.
     pub fn is_full(&self) -> bool {
         self.is_full
     }
 
     // rule save-requests
-    /// Adds a request under a number, under which nothing is added. Its ticket comes back; None where the history has no room for one more,
-    /// and then nothing is added.
-    ///
-    /// `NotAdded` comes where there is no such number, or something is added under it, or where the multi handle refuses it. An error
-    /// leaves what is added as it was.
+    /// Adds a request under a number, under which nothing is added. Its ticket comes back; None where the multi handle takes no more, since
+    /// its history has no room, or there is no such number, or something is added under it. Then, and after an error, which is `OutOfMemory`,
+    /// what is added is as it was.
     pub fn add<R: Wait + AllocGlobal>(
         &mut self,
         rt: &R,
@@ -231,10 +229,12 @@ impl<'m, L: Link> Desk<'m, L> {
         requires room { HasRoom self.old }
         ensures added { IfOk result (λ o. MatchOption o (Stays self.old self.new) (λ _. Adds self.old self.new at request)) }
         ensures kept { OnErr result (Stays self.old self.new) }
+        ensures why { IfErr result (λ e. e ≡ desk_error.OutOfMemory) }
     {
         let Some(handle) = free_handle(self.additions.as_slice(), at) else {
             drop(request);
-            return Err(DeskError::NotAdded);
+            self.is_full = true;
+            return Ok(None);
         };
         let Some(addition) = add_transfer(rt, &mut self.seat, handle, request)? else {
             self.is_full = true;
@@ -266,7 +266,7 @@ impl<'m, L: Link> Desk<'m, L> {
     /// Reads the next message, for which it waits as long as that, at most: the request has ended that was added under its number, and its
     /// handle is removed. Where none came it answers None. After an error it isn't known what is added.
     ///
-    /// A removal that is refused is an error. No clause says that the handle is removed.
+    /// A removal that is refused memory is an error. No clause says that the handle is removed.
     pub fn next<R: Wait + AllocGlobal + Clock>(
         &mut self,
         rt: &R,

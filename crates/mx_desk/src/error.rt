@@ -10,9 +10,6 @@ pub enum DeskError {
     /// A growth was refused.
     #[error("out of memory")]
     OutOfMemory,
-    /// The multi handle refused an addition or a removal, for another reason than memory or room.
-    #[error("a transfer can't be added or removed")]
-    NotAdded,
     /// No message was read, as memory was refused; or one came that is of no addition of the desk.
     #[error("no message came of a transfer that was added")]
     NoMessage,

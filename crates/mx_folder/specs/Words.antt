@@ -5,7 +5,7 @@ use Rattle.mx_folder.specs.declared.errors.FolderError.TheVariants as error
 
 abbrev pub folder_words : FolderError → List ℕ
 folder_words error.AlreadyThere = codes "something else has that name"
-folder_words error.NotThere = codes "the folder is not there"
+folder_words error.NotThere = codes "no such file or folder"
 folder_words error.Denied = codes "the folder may not be written"
 folder_words error.Full = codes "the disk is full"
 folder_words error.TooManyOpen = codes "too many files are open: ulimit -n allows more"

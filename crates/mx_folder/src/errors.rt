@@ -35,7 +35,7 @@ impl FolderError {
     {
         match self {
             FolderError::AlreadyThere => "something else has that name",
-            FolderError::NotThere => "the folder is not there",
+            FolderError::NotThere => "no such file or folder",
             FolderError::Denied => "the folder may not be written",
             FolderError::Full => "the disk is full",
             FolderError::TooManyOpen => "too many files are open: ulimit -n allows more",

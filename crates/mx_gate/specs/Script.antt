@@ -1,17 +1,18 @@
 -- What a scripted gate answers.
-use Rattle.std.specs.Prelude.{◌≡◌, ℕ, max, Bool, true, List, [], ◌∷◌, Option, Result, Ok, Err}
+use Rattle.std.specs.Prelude.{◌≡◌, ℕ, max, Bool, true, false, List, [], ◌∷◌, Option, Result, Ok, Err}
 use Rattle.mx_types.specs.Code.{is_link_code}
 use Rattle.mx_gate.specs.Said.{Said}
 use Rattle.mx_link.specs.declared.answers.Answer.{Answer}
 use Rattle.mx_types.specs.declared.code.Code.{Code}
 use Rattle.mx_types.specs.declared.code.Code.TheVariants as code
 
--- What is planned for opens, for moments and for whether a link can be opened, how many turns are to answer that the worker goes on, the
--- latest moment given, the last wait asked for, and all that was said.
+-- What is planned for opens, for moments, for whether a link can be opened and for whether too many files are open, how many turns are to
+-- answer that the worker goes on, the latest moment given, the last wait asked for, and all that was said.
 pub record ScriptGateState (L : Type 0) : Type 0 where
   pub openings : List (Result L Code)
   pub moments : List ℕ
   pub asks : List Bool
+  pub lacks : List Bool
   pub turns : ℕ
   pub latest : ℕ
   pub last_wait : Option ℕ
@@ -31,6 +32,11 @@ next_opening (opening ∷ rest) = (opening, rest)
 abbrev pub next_ask : List Bool → Bool × List Bool
 next_ask [] = (true, [])
 next_ask (can ∷ rest) = (can, rest)
+
+-- Whether too many files are open, and what is planned after it. After the script they aren't.
+abbrev pub next_lack : List Bool → Bool × List Bool
+next_lack [] = (false, [])
+next_lack (lacks ∷ rest) = (lacks, rest)
 
 -- The moment given after the latest, and what is planned after it. Moments never fall, and after the script they stay.
 abbrev pub next_moment : ℕ → List ℕ → ℕ × List ℕ

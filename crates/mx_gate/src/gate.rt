@@ -19,7 +19,7 @@ pub enum Turn {
 pub trait Gate {
     type Link: Link;
 
-    ghost use Rattle.mx_gate.specs.Said.{Said as OneSaid, told, asked, opened, waited, numbered, is_stop};
+    ghost use Rattle.mx_gate.specs.Said.{Said as OneSaid, told, asked, opened, lacked, waited, numbered, is_stop};
 
     // All that it was asked so far and what it answered, in order.
     ghost said: { Self → List OneSaid };
@@ -47,6 +47,12 @@ pub trait Gate {
         ensures code { IfErr result (λ code. is_link_code code ≡ true) }
         ensures moment { latest self.new ≡ latest self.old }
         ensures noted { said self.new ≡ said self.old ++ opened endpoint.now (numbered Self.Link.token_of result) ∷ [] };
+
+    /// Whether the last link couldn't be opened since as many files are open as may be: then one may be opened once some links are dropped.
+    /// No clause says that it is so.
+    fn lacks_files(&mut self) -> bool
+        ensures moment { latest self.new ≡ latest self.old }
+        ensures noted { said self.new ≡ said self.old ++ lacked result ∷ [] };
 
     /// Waits until a link may have become ready, or the worker is to look at something else, and at most `wait_ms` milliseconds.
     fn turn(&mut self, wait_ms: u32) -> Turn

@@ -1,6 +1,6 @@
 //! What a gate was asked, and what it answered: for contracts alone.
 ghost use Rattle.std.specs.Prelude.{◌≡◌, Ok};
-ghost use Rattle.mx_gate.specs.Said.{told, asked, opened, waited, numbered, is_stop};
+ghost use Rattle.mx_gate.specs.Said.{told, asked, opened, lacked, waited, numbered, is_stop};
 
 use crate::gate::Turn;
 use mx_link::Link;
@@ -14,6 +14,7 @@ pub(crate) enum Note {
     Told(u64),
     Asked(Snapshot<Endpoint>, bool),
     Opened(Snapshot<Endpoint>, Result<u64, Code>),
+    Lacked(bool),
     Waited(u32, bool),
 }
 
@@ -68,6 +69,15 @@ impl Said {
     {
         Said {
             note: Note::Opened(Snapshot::of(endpoint), number),
+        }
+    }
+
+    /// Too many files were open for the last link that it couldn't open, or it had another cause.
+    pub fn lacked(files: bool) -> Said
+        ensures { result ≡ lacked files }
+    {
+        Said {
+            note: Note::Lacked(files),
         }
     }
 

@@ -2,8 +2,8 @@
 ghost use Rattle.std.specs.Prelude.{◌≡◌, ◌≤◌, ◌-◌, ◌==◌, ◌∷◌, ◌++◌, true, false, [], length, Some, None, IfOk, IfErr, OnOk, OnErr};
 ghost use Rattle.mx_types.specs.Code.{is_link_code};
 ghost use Rattle.mx_gate.specs.Gates.{turn_of};
-ghost use Rattle.mx_gate.specs.Said.{told, asked, opened, waited, numbered, is_stop};
-ghost use Rattle.mx_gate.specs.Script.{IsOpening, next_ask, next_opening, next_moment};
+ghost use Rattle.mx_gate.specs.Said.{told, asked, opened, lacked, waited, numbered, is_stop};
+ghost use Rattle.mx_gate.specs.Script.{IsOpening, next_ask, next_lack, next_opening, next_moment};
 
 use crate::gate::{Gate, Turn};
 use crate::said::Said;
@@ -14,15 +14,17 @@ use std::alloc::{AllocFailed, Global};
 use std::collections::VecDeque;
 use std::marker::Model;
 
-/// A gate that answers from four scripts, in memory. Contracts see what is left of them, the latest moment given, the last wait that was
+/// A gate that answers from five scripts, in memory. Contracts see what is left of them, the latest moment given, the last wait that was
 /// asked for, and all that was said.
 ///
-/// After its script a link can be opened, an `open` answers `CouldntConnect`, the moment stays, and turns answer `Stop`. It never waits.
+/// After its script a link can be opened, an `open` answers `CouldntConnect`, for another cause than too many open files, the moment stays,
+/// and turns answer `Stop`. It never waits.
 #[derive(Drop)]
 pub struct ScriptGate<L: Link> {
     openings: VecDeque<Result<L, Code>>,
     moments: VecDeque<u64>,
     asks: VecDeque<bool>,
+    lacks: VecDeque<bool>,
     turns: u32,
     latest: u64,
     last_wait: Option<u32>,
@@ -39,6 +41,7 @@ impl<L: Link> Model for ScriptGate<L> {
       openings = g.openings.items;
       moments = g.moments.items;
       asks = g.asks.items;
+      lacks = g.lacks.items;
       turns = g.turns;
       latest = g.latest;
       last_wait = g.last_wait;
@@ -51,12 +54,13 @@ impl<L: Link> Model for ScriptGate<L> {
 impl<L: Link> ScriptGate<L> {
     /// A gate with nothing planned, whose first `turns` turns answer `Continue`.
     pub fn new(alloc: Global, turns: u32) -> ScriptGate<L>
-        ensures { result ≡ record { openings = []; moments = []; asks = []; turns = turns; latest = 0; last_wait = None; said = [] } }
+        ensures { result ≡ record { openings = []; moments = []; asks = []; lacks = []; turns = turns; latest = 0; last_wait = None; said = [] } }
     {
         ScriptGate {
             openings: VecDeque::new(alloc),
             moments: VecDeque::new(alloc),
             asks: VecDeque::new(alloc),
+            lacks: VecDeque::new(alloc),
             turns,
             latest: 0,
             last_wait: None,
@@ -99,6 +103,17 @@ impl<L: Link> ScriptGate<L> {
         ensures back { IfErr result (λ failed. failed.value ≡ can) }
     {
         self.asks.push_back(can)
+    }
+
+    /// Adds whether too many files are open when the gate is asked.
+    ///
+    /// The one error is that memory was refused.
+    pub fn plan_lack(&mut self, lacks: bool) -> Result<(), AllocFailed<bool>>
+        ensures planned { OnOk result (self.new ≡ record self.old { lacks = self.old.lacks ++ lacks ∷ [] }) }
+        ensures refused { OnErr result (self.new ≡ self.old) }
+        ensures back { IfErr result (λ failed. failed.value ≡ lacks) }
+    {
+        self.lacks.push_back(lacks)
     }
 
     /// How many openings are left.
@@ -162,6 +177,17 @@ impl<L: Link> Gate for ScriptGate<L> {
         };
         self.said.note(Said::opened(endpoint, &answer));
         answer
+    }
+
+    fn lacks_files(&mut self) -> bool
+        ensures moment { self.new.latest ≡ self.old.latest }
+        ensures planned { next_lack self.old.lacks ≡ (result, self.new.lacks) }
+        ensures others { self.new ≡ record self.old { lacks = self.new.lacks; said = self.new.said } }
+        ensures noted { self.new.said ≡ self.old.said ++ lacked result ∷ [] }
+    {
+        let lacks = self.lacks.pop_front().unwrap_or(false);
+        self.said.note(Said::lacked(lacks));
+        lacks
     }
 
     fn turn(&mut self, wait_ms: u32) -> Turn

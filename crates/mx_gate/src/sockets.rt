@@ -3,7 +3,7 @@ ghost use Rattle.std.specs.Prelude.{◌≡◌, ◌≤◌, ◌<◌, ◌/◌, ◌-
 ghost use Rattle.std.specs.Duration.{as_nanos};
 ghost use Rattle.mio.specs.Event.{is_readable, is_writable, is_error, is_read_closed, is_write_closed};
 ghost use Rattle.mx_types.specs.Code.{is_link_code};
-ghost use Rattle.mx_gate.specs.Said.{told, asked, opened, waited, numbered, is_stop};
+ghost use Rattle.mx_gate.specs.Said.{told, asked, opened, lacked, waited, numbered, is_stop};
 ghost use Rattle.mx_gate.specs.Dials.{Dials, AreAt, AreAddressesOf, NotesFirst};
 ghost use Rattle.mx_gate.specs.Dialling.{addresses_of};
 ghost use Rattle.mx_gate.specs.Gates.{moment_after, next_token, turn_of, is_start_code};
@@ -40,20 +40,28 @@ const BELL: Token = Token(0);
 pub type SocketLink<'r, R> = ReadyLink<DialLink<SocketDial<'r, R>>>;
 
 // What a gate has in common with those that open its connections: where these are registered, and whether one couldn't be begun since too
-// many files were open.
+// many files were open: the last one, of which the gate wasn't asked yet, and one before it.
 #[derive(Drop)]
 struct Shared {
     registry: Registry,
     met_file_limit: AtomicBool,
+    lacks_files: AtomicBool,
 }
 
 impl Shared {
+    // Notes that too many files were open for the last connection, where that was so, and the gate wasn't asked.
+    fn pass(&self) {
+        if self.lacks_files.swap(false, Ordering::SeqCst) {
+            self.met_file_limit.store(true, Ordering::SeqCst);
+        }
+    }
+
     // The code of a connection that couldn't be begun. It is noted where too many files were open.
     fn refused(&self, error: &io::Error) -> Code
         ensures { is_link_code result ≡ true }
     {
         if meets_file_limit(error) {
-            self.met_file_limit.store(true, Ordering::SeqCst);
+            self.lacks_files.store(true, Ordering::SeqCst);
         }
         connect_code(error)
     }
@@ -127,10 +135,11 @@ pub struct FileLimit {
 }
 
 impl FileLimit {
-    /// Whether a connection couldn't be begun since the process, or the system, had as many open files as it may have. Once it was so, it
-    /// stays true.
+    /// Whether a connection couldn't be begun since the process, or the system, had as many open files as it may have. One of which its gate
+    /// was asked (`Gate::lacks_files`) doesn't count: another may be opened in its place.
     pub fn was_met(&self) -> bool {
         self.shared.met_file_limit.load(Ordering::SeqCst)
+            || self.shared.lacks_files.load(Ordering::SeqCst)
     }
 }
 
@@ -172,6 +181,7 @@ fn share(alloc: Global, poll: &Poll) -> io::Result<Arc<Shared>> {
     let shared = Shared {
         registry: poll.registry().try_clone()?,
         met_file_limit: AtomicBool::new(false),
+        lacks_files: AtomicBool::new(false),
     };
     Ok(Arc::new(alloc, shared)?)
 }
@@ -364,6 +374,7 @@ impl<'r, R: Net + Clock + AllocGlobal> SocketGate<'r, R> {
         ensures dialled { IfOk result (λ _. NotesFirst addresses.items self.old.dialled self.new.dialled) }
         ensures undialled { OnErr result ((self.new.dialled ≡ self.old.dialled) ⊎ NotesFirst addresses.items self.old.dialled self.new.dialled) }
     {
+        self.shared.pass();
         let Ok(dialler) = self.dialler() else {
             return Err(Code::OutOfMemory);
         };
@@ -538,6 +549,17 @@ impl<'r, R: Net + Clock + AllocGlobal> Gate for SocketGate<'r, R> {
         let number = number_of(&answer);
         self.said.note(Said::opened_under(endpoint, number));
         answer
+    }
+
+    /// It lacks some where the system refused a connection for that cause since the last link was to be opened, and it wasn't asked since.
+    fn lacks_files(&mut self) -> bool
+        ensures moment { self.new.latest ≡ self.old.latest }
+        ensures others { self.new ≡ record self.old { said = self.new.said } }
+        ensures noted { self.new.said ≡ self.old.said ++ lacked result ∷ [] }
+    {
+        let lacks = self.shared.lacks_files.swap(false, Ordering::SeqCst);
+        self.said.note(Said::lacked(lacks));
+        lacks
     }
 
     // rule gate-no-wait, unproved: A turn of no wait asks the system once a millisecond, and where a link was opened since.

@@ -1,4 +1,5 @@
 //! Addresses of hosts over a network of the tests' own, and the codes of what fails.
+ghost use Rattle.std.specs.Prelude.{◌≤◌};
 
 use crate::outside::{Outside, endpoint, v4, v6};
 use mx_gate::{addresses_of, connect_code, meets_file_limit};
@@ -9,20 +10,150 @@ use std::io::{Error, ErrorKind};
 use std::net::SocketAddr;
 use std::test::Fail;
 
-/// Whether a host's port has these addresses, or this code, where lookups give these or this error.
-fn has(
-    alloc: Global,
-    (host, port): (&str, u16),
-    gives: Result<&[SocketAddr], ErrorKind>,
-    want: Result<&[SocketAddr], Code>,
-) -> Result<bool, Fail> {
-    let there = endpoint(alloc, host, port)?;
-    let mut outside = Outside::new(alloc, gives.unwrap_or(&[]));
-    outside.refusal = gives.err();
+/// An address of these bytes, or one of the block for documentation with this last number.
+#[derive(Clone, Copy)]
+enum At {
+    V4([u8; 4]),
+    V6(u16),
+}
+
+/// What lookups give: these addresses, four at most, or this error.
+#[derive(Clone, Copy)]
+enum Gives {
+    All(&'static [At]),
+    Fails(ErrorKind),
+}
+
+/// What a host has then: these addresses, each with its port, or this code.
+#[derive(Clone, Copy)]
+enum Has {
+    All(&'static [At]),
+    Code(Code),
+}
+
+#[derive(Clone, Copy)]
+struct Row {
+    name: &'static str,
+    host: &'static str,
+    port: u16,
+    gives: Gives,
+    has: Has,
+}
+
+// rule gate-first-address
+const NAMED: Row = Row {
+    name: "ipv4_comes_first_and_else_the_order_stays",
+    host: "example.com",
+    port: 8080,
+    gives: Gives::All(&[
+        At::V6(1),
+        At::V4([192, 0, 2, 2]),
+        At::V6(4),
+        At::V4([192, 0, 2, 3]),
+    ]),
+    has: Has::All(&[
+        At::V4([192, 0, 2, 2]),
+        At::V4([192, 0, 2, 3]),
+        At::V6(1),
+        At::V6(4),
+    ]),
+};
+
+static ROWS: [Row; 8] = [
+    NAMED,
+    Row {
+        name: "one_address",
+        gives: Gives::All(&[At::V6(1)]),
+        has: Has::All(&[At::V6(1)]),
+        ..NAMED
+    },
+    Row {
+        name: "two_addresses",
+        gives: Gives::All(&[At::V4([192, 0, 2, 1]), At::V6(2)]),
+        has: Has::All(&[At::V4([192, 0, 2, 1]), At::V6(2)]),
+        ..NAMED
+    },
+    // rule gate-codes
+    Row {
+        name: "no_address",
+        gives: Gives::All(&[]),
+        has: Has::Code(Code::CouldntResolveHost),
+        ..NAMED
+    },
+    Row {
+        name: "a_lookup_that_fails",
+        gives: Gives::Fails(ErrorKind::NotFound),
+        has: Has::Code(Code::CouldntResolveHost),
+        ..NAMED
+    },
+    Row {
+        name: "a_lookup_without_memory",
+        gives: Gives::Fails(ErrorKind::OutOfMemory),
+        has: Has::Code(Code::OutOfMemory),
+        ..NAMED
+    },
+    // rule gate-spelled-address
+    // an address is not looked up
+    Row {
+        name: "an_ipv4_address",
+        host: "192.0.2.7",
+        port: 81,
+        gives: Gives::Fails(ErrorKind::NotFound),
+        has: Has::All(&[At::V4([192, 0, 2, 7])]),
+    },
+    Row {
+        name: "an_ipv6_address",
+        host: "[2001:db8::7]",
+        port: 81,
+        gives: Gives::Fails(ErrorKind::NotFound),
+        has: Has::All(&[At::V6(7)]),
+    },
+];
+
+fn address(at: At, port: u16) -> SocketAddr {
+    match at {
+        At::V4(bytes) => v4(bytes, port),
+        At::V6(last) => v6(last, port),
+    }
+}
+
+/// Sets the addresses from the first on: how many.
+fn set(all: &mut [SocketAddr; 4], given: &[At]) -> usize
+    ensures { result ≤ 4 }
+{
+    let count = given.len().min(4);
+    for i in 0..count {
+        all[i] = address(given[i], 0);
+    }
+    count
+}
+
+fn are(found: &[SocketAddr], all: &[At], port: u16) -> bool {
+    if found.len() != all.len() {
+        return false;
+    }
+    for i in 0..all.len() {
+        if found[i] != address(all[i], port) {
+            return false;
+        }
+    }
+    true
+}
+
+/// Whether a host has what its row says.
+fn is_so(alloc: Global, row: &Row) -> Result<bool, Fail> {
+    let there = endpoint(alloc, row.host, row.port)?;
+    let mut all = [v4([0; 4], 0); 4];
+    let (count, refusal) = match row.gives {
+        Gives::All(given) => (set(&mut all, given), None),
+        Gives::Fails(kind) => (0, Some(kind)),
+    };
+    let mut outside = Outside::new(alloc, &all[..count]);
+    outside.refusal = refusal;
     let found = addresses_of(&outside, &there, &mut History::new());
-    Ok(match (&found, want) {
-        (Ok(all), Ok(want)) => all.as_slice() == want,
-        (Err(code), Err(want)) => *code == want,
+    Ok(match (&found, row.has) {
+        (Ok(found), Has::All(all)) => are(found.as_slice(), all, row.port),
+        (Err(code), Has::Code(other)) => *code == other,
         _ => false,
     })
 }
@@ -98,58 +229,13 @@ fn first_wrong(
 
 #[test]
 fn addresses_and_codes(rt: HostRuntime) -> Result<(), Fail> {
-    let alloc = rt.alloc();
-    let name = ("example.com", 8080);
-    let mixed = [
-        v6(1, 0),
-        v4([192, 0, 2, 2], 0),
-        v6(4, 0),
-        v4([192, 0, 2, 3], 0),
-    ];
-    let sorted = [
-        v4([192, 0, 2, 2], 8080),
-        v4([192, 0, 2, 3], 8080),
-        v6(1, 8080),
-        v6(4, 8080),
-    ];
-    let pair = [v4([192, 0, 2, 1], 0), v6(2, 0)];
-    let unknown = Err(Code::CouldntResolveHost);
-    let answers = [
-        // rule gate-first-address
-        has(alloc, name, Ok(&mixed), Ok(&sorted))?,
-        has(alloc, name, Ok(&[v6(1, 0)]), Ok(&[v6(1, 8080)]))?,
-        has(
-            alloc,
-            name,
-            Ok(&pair),
-            Ok(&[v4([192, 0, 2, 1], 8080), v6(2, 8080)]),
-        )?,
-        // rule gate-codes
-        has(alloc, name, Ok(&[]), unknown)?,
-        has(alloc, name, Err(ErrorKind::NotFound), unknown)?,
-        has(
-            alloc,
-            name,
-            Err(ErrorKind::OutOfMemory),
-            Err(Code::OutOfMemory),
-        )?,
-        // rule gate-spelled-address
-        // an address is not looked up
-        has(
-            alloc,
-            ("192.0.2.7", 81),
-            Err(ErrorKind::NotFound),
-            Ok(&[v4([192, 0, 2, 7], 81)]),
-        )?,
-        has(
-            alloc,
-            ("[2001:db8::7]", 81),
-            Err(ErrorKind::NotFound),
-            Ok(&[v6(7, 81)]),
-        )?,
-    ];
-    assert!(rt; answers == [true; 8], "addresses: {answers:?}");
-    let wrong = first_wrong(&HOSTS, &CODES, &FILE_LIMITS);
-    assert!(rt; wrong.is_none(), "something else of {wrong:?}");
-    Ok(())
+    for row in &ROWS {
+        if !is_so(rt.alloc(), row)? {
+            return Err(row.name.into());
+        }
+    }
+    match first_wrong(&HOSTS, &CODES, &FILE_LIMITS) {
+        None => Ok(()),
+        Some(name) => Err(name.into()),
+    }
 }

@@ -5,7 +5,7 @@ use crate::moments::{tells_beside, tells_moments};
 use crate::outside::Outside;
 use crate::peers::{Peer, Told, meets};
 use crate::turns::{Turns, takes};
-use mx_gate::{Gate, SocketGate};
+use mx_gate::{Bell, Gate, SocketGate};
 use mx_link::{Connect, Link, Read, Write};
 use mx_request::Endpoint;
 use mx_types::Code;
@@ -18,6 +18,7 @@ use std::sync::{Arc, Wait};
 use std::test::Fail;
 use std::thread;
 use std::thread::{JoinHandle, Threads};
+use std::time::Instant;
 
 /// How often a test waits for a link, ten milliseconds each time, before it gives up.
 pub(crate) const TURNS: u32 = 1000;
@@ -131,21 +132,44 @@ fn has_three_tokens<R: Clock + Wait, G: Gate>(rt: &R, gate: &mut G, there: &Endp
     true
 }
 
+/// What the gate of a test gives beside links, turns and moments. What a test does there is generic in the gate: so only the function that
+/// makes one has to know which it is.
+pub(crate) trait Ringed {
+    /// A bell that ends its waits.
+    fn new_bell(&self) -> Result<Bell, AllocError>;
+
+    /// When it began.
+    fn begun(&self) -> Instant;
+}
+
+impl<'r, N: Net + Clock + AllocGlobal> Ringed for SocketGate<'r, N> {
+    fn new_bell(&self) -> Result<Bell, AllocError> {
+        self.bell()
+    }
+
+    fn begun(&self) -> Instant {
+        self.start()
+    }
+}
+
 fn do_work<
     R: Clock + Wait + Threads + AllocGlobal + Copy + Send + Drop + 'static,
-    N: Net + Clock + AllocGlobal,
->(rt: &R, gate: &mut SocketGate<'_, N>, stop: &AtomicBool, work: Work<'_>) -> Result<Seen, Fail> {
+    G: Gate + Ringed,
+>(rt: &R, gate: &mut G, stop: &AtomicBool, work: Work<'_>) -> Result<Seen, Fail> {
     let is_right = match work {
         Work::Link(there, task) => return Ok(at_link(rt, gate, there, task)),
-        Work::Tokens(there) => has_three_tokens(rt, gate, there),
-        Work::Turns(turns) => takes(rt, gate, stop, turns)?,
-        Work::Moments(outside) => tells_moments(outside, gate),
+        Work::Tokens(there) => Ok(has_three_tokens(rt, gate, there)),
+        Work::Turns(turns) => takes(rt, gate, stop, turns),
+        Work::Moments(outside) => Ok(tells_moments(outside, gate)),
         Work::Beside(outside) => {
-            let start = gate.start();
-            tells_beside(outside, start, gate)?
+            let start = gate.begun();
+            tells_beside(outside, start, gate)
         }
     };
-    Ok(Ok(is_right.then_some(0)))
+    match is_right {
+        Ok(is_right) => Ok(Ok(is_right.then_some(0))),
+        Err(fail) => Err(fail),
+    }
 }
 
 /// A flag that isn't set.

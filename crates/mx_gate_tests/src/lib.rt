@@ -21,6 +21,8 @@ mod names;
 #[cfg(test)]
 mod outside;
 #[cfg(test)]
+mod paced;
+#[cfg(test)]
 mod peers;
 #[cfg(test)]
 mod ready;

@@ -28,15 +28,14 @@ enum Work<'a> {
     Beside(&'a Endpoint, &'a Endpoint, &'a AtomicBool),
 }
 
-/// A gate whose names this lookup looks up, and its resolver.
-fn gate<R: Net + Clock + AllocGlobal + Wait, L: Lookup + Send + Sync + Drop + 'static>(
-    rt: &R,
-    lookup: L,
-) -> Result<(NamedGate<'_, R, L>, Resolver<L, NameBell>), Fail> {
-    let gate = given(SocketGate::new(rt, flag(rt.alloc())?))?;
-    let resolver = Resolver::new(rt.alloc(), lookup, gate.start())?;
-    let gate = NamedGate::new(rt, gate, &resolver)?;
-    Ok((gate, resolver))
+/// A gate whose names this resolver looks up, and that began then.
+fn gate<'r, R: Net + Clock + AllocGlobal + Wait, L: Lookup + Send + Sync + Drop + 'static>(
+    rt: &'r R,
+    resolver: &Resolver<L, NameBell>,
+    start: Instant,
+) -> Result<NamedGate<'r, R, L>, Fail> {
+    let gate = given(SocketGate::starting_at(rt, flag(rt.alloc())?, start))?;
+    Ok(NamedGate::new(rt, gate, resolver)?)
 }
 
 /// Whether a link to the endpoint can be opened, once it can; each wait lasts until the bell rings, and at most so long.
@@ -88,12 +87,32 @@ fn does<
 fn at_gate<
     R: Net + Clock + AllocGlobal + Threads + Wait + Copy + Send + Drop + 'static,
     L: Lookup + Send + Sync + Drop + 'static,
->(rt: &R, lookup: L, work: Work<'_>) -> Result<bool, Fail> {
-    let (mut gate, resolver) = gate(rt, lookup)?;
-    let does = does(rt, &resolver, &mut gate, work);
+>(rt: &R, resolver: &Resolver<L, NameBell>, start: Instant, work: Work<'_>) -> Result<bool, Fail> {
+    let mut gate = gate(rt, resolver, start)?;
+    let does = does(rt, resolver, &mut gate, work);
     drop(gate);
-    drop(resolver);
     Ok(does)
+}
+
+/// The same, with a new resolver.
+fn looks_up<
+    R: Net + Clock + AllocGlobal + Threads + Wait + Copy + Send + Drop + 'static,
+    L: Lookup + Send + Sync + Drop + 'static,
+>(rt: &R, lookup: L, work: Work<'_>) -> Result<bool, Fail> {
+    let start = Instant::now(rt)?;
+    let resolver = Resolver::new(rt.alloc(), lookup, start)?;
+    let does = at_gate(rt, &resolver, start, work);
+    drop(resolver);
+    does
+}
+
+/// Whether bytes come back from a port of a host, whose lookup is this.
+fn is_sent<
+    R: Net + Clock + AllocGlobal + Threads + Wait + Copy + Send + Drop + 'static,
+    L: Lookup + Send + Sync + Drop + 'static,
+>(rt: &R, lookup: L, host: &str, port: u16) -> Result<bool, Fail> {
+    let there = endpoint(rt.alloc(), host, port)?;
+    looks_up(rt, lookup, Work::Send(&there))
 }
 
 /// Whether a host is served at this address, whose lookup is one of these.
@@ -110,8 +129,7 @@ fn is_served<
     L: Lookup + Send + Sync + Drop + 'static,
 >(rt: &R, lookup: L, host: &str, address: &str) -> Result<bool, Fail> {
     let (port, server) = one_server(rt, address)?;
-    let there = endpoint(rt.alloc(), host, port)?;
-    let sent = at_gate(rt, lookup, Work::Send(&there));
+    let sent = is_sent(rt, lookup, host, port);
     let (is_sent, is_served) = joined(rt, sent, server)?;
     Ok(is_sent && is_served)
 }
@@ -146,51 +164,115 @@ static HOSTS: [&'static str; 5] = ["good", "late", "two", "localhost", "127.0.0.
 
 static IPV6_HOSTS: [&'static str; 2] = ["localhost", "[::1]"];
 
-/// Whether one without addresses is refused, after one lookup, and whether one that hangs delays no other.
-fn are_refused<R: Net + Clock + AllocGlobal + Threads + Wait + Copy + Send + Sync + Drop + 'static>(
+/// Whether a host without addresses is refused, after one lookup.
+fn is_refused<R: Net + Clock + AllocGlobal + Threads + Wait + Copy + Send + Sync + Drop + 'static>(
     rt: &R,
     seen: &Seen,
-) -> Result<(bool, bool), Fail> {
+) -> Result<bool, Fail> {
     let none = endpoint(rt.alloc(), "none", 80)?;
-    let hang = endpoint(rt.alloc(), "hang", 80)?;
-    let good = endpoint(rt.alloc(), "good", 80)?;
-    let refused = at_gate(rt, seen.lookup(rt)?, Work::Refused(&none))?;
-    let begun = seen.begun.load(Ordering::SeqCst);
-    let beside = at_gate(rt, seen.lookup(rt)?, Work::Beside(&hang, &good, &seen.free))?;
-    Ok((refused && begun == 1, beside))
+    let refused = looks_up(rt, seen.lookup(rt)?, Work::Refused(&none))?;
+    Ok(refused && seen.begun.load(Ordering::SeqCst) == 1)
 }
 
-/// The bell ends the wait for each host, so three waits of ten seconds are enough. Where the system has no IPv6 that part is left out.
+/// Whether a host that hangs delays no other.
+fn is_beside<R: Net + Clock + AllocGlobal + Threads + Wait + Copy + Send + Sync + Drop + 'static>(
+    rt: &R,
+    seen: &Seen,
+) -> Result<bool, Fail> {
+    let hang = endpoint(rt.alloc(), "hang", 80)?;
+    let good = endpoint(rt.alloc(), "good", 80)?;
+    looks_up(rt, seen.lookup(rt)?, Work::Beside(&hang, &good, &seen.free))
+}
+
+/// The first host that isn't reached once it is known. The bell ends the wait for each, so three waits of ten seconds are enough.
+fn first_unreached<
+    R: Net<Listener = TcpListener, Stream = TcpStream>
+        + Clock
+        + AllocGlobal
+        + Threads
+        + Wait
+        + Copy
+        + Send
+        + Sync
+        + Drop
+        + 'static,
+>(rt: &R, seen: &Seen) -> Result<Option<&'static str>, Fail> {
+    let start = Instant::now(rt)?;
+    let unserved = first_unserved(rt, seen, &HOSTS, "127.0.0.1:0")?;
+    let in_time = start.elapsed(rt)? < Duration::from_secs(9);
+    if unserved.is_none() && !in_time {
+        return Ok(Some("in time"));
+    }
+    if unserved.is_none() && seen.begun.load(Ordering::SeqCst) != 4 {
+        return Ok(Some("how many lookups began"));
+    }
+    Ok(unserved)
+}
+
+/// What a row tries.
+#[derive(Clone, Copy)]
+enum Trial {
+    Refused,
+    Beside,
+    Reached,
+    /// Where the system has no IPv6 it is left out.
+    ReachedByIpv6,
+    /// By the system's lookup.
+    Served,
+}
+
+static ROWS: [(&'static str, Trial); 5] = [
+    ("a_host_without_addresses_is_6", Trial::Refused),
+    ("a_host_that_hangs_delays_no_other", Trial::Beside),
+    ("hosts_are_reached_once_they_are_known", Trial::Reached),
+    (
+        "a_host_is_reached_at_its_ipv6_address_alone",
+        Trial::ReachedByIpv6,
+    ),
+    ("the_system_looks_names_up", Trial::Served),
+];
+
+/// The host of which a trial fails.
+fn first_wrong<
+    R: Net<Listener = TcpListener, Stream = TcpStream>
+        + Clock
+        + AllocGlobal
+        + Threads
+        + Wait
+        + Copy
+        + Send
+        + Sync
+        + Drop
+        + 'static,
+>(rt: &R, seen: &Seen, trial: Trial) -> Result<Option<&'static str>, Fail> {
+    let (is_so, host) = match trial {
+        Trial::Refused => (is_refused(rt, seen)?, "none"),
+        Trial::Beside => (is_beside(rt, seen)?, "good"),
+        Trial::Served => {
+            let lookup = SystemLookup::new(*rt);
+            let host = "localhost";
+            (is_served(rt, lookup, host, "127.0.0.1:0")?, host)
+        }
+        Trial::Reached => return first_unreached(rt, seen),
+        Trial::ReachedByIpv6 => {
+            if TcpListener::bind(rt, "[::1]:0").is_err() {
+                return Ok(None);
+            }
+            return first_unserved(rt, seen, &IPV6_HOSTS, "[::1]:0");
+        }
+    };
+    Ok(if is_so { None } else { Some(host) })
+}
+
 #[test]
 fn gates_that_wait_for_no_name(rt: HostRuntime) -> Result<(), Fail> {
-    let seen = Seen::new(rt.alloc())?;
-    let (refused, beside) = are_refused(&rt, &seen)?;
-    assert!(rt; refused, "a_host_without_addresses_is_6");
-    assert!(rt; beside, "a_host_that_hangs_delays_no_other");
-    let seen = Seen::new(rt.alloc())?;
-    let start = Instant::now(&rt)?;
-    let unserved = first_unserved(&rt, &seen, &HOSTS, "127.0.0.1:0")?;
-    let in_time = start.elapsed(&rt)? < Duration::from_secs(9);
-    let begun = seen.begun.load(Ordering::SeqCst);
-    assert!(rt;
-        unserved.is_none(),
-        "hosts_are_reached_once_they_are_known: {unserved:?}"
-    );
-    assert!(rt;
-        in_time && begun == 4,
-        "hosts_are_reached_once_they_are_known: {begun} lookups"
-    );
-    if TcpListener::bind(&rt, "[::1]:0").is_ok() {
-        let unserved = first_unserved(&rt, &seen, &IPV6_HOSTS, "[::1]:0")?;
-        assert!(rt;
-            unserved.is_none(),
-            "a_host_is_reached_at_its_ipv6_address_alone: {unserved:?}"
-        );
+    for row in &ROWS {
+        let seen = Seen::new(rt.alloc())?;
+        let wrong = first_wrong(&rt, &seen, row.1);
+        drop(seen);
+        if let Some(host) = wrong? {
+            return Err(format!(in rt.alloc(); "{}: {host}", row.0)?.into());
+        }
     }
-    let system = SystemLookup::new(rt);
-    assert!(rt;
-        is_served(&rt, system, "localhost", "127.0.0.1:0")?,
-        "the_system_looks_names_up"
-    );
     Ok(())
 }

@@ -261,13 +261,34 @@ fn meet<R: Net + Clock + Wait + Threads + AllocGlobal + Copy + Send + Drop + 'st
     told: &Told,
     peer: Peer,
 ) -> Result<Option<u64>, Fail> {
-    let bytes = vec![in rt.alloc(); b'x'; OFFERED]?;
     let there = endpoint(rt.alloc(), "127.0.0.1", port)?;
+    let bytes = vec![in rt.alloc(); b'x'; OFFERED]?;
     let work = Work::Link(&there, Task::Meet(told, peer, bytes.as_slice()));
-    Ok(at_gate(rt, rt, work)?.ok().flatten())
+    let seen = at_gate(rt, rt, work);
+    drop(there);
+    drop(bytes);
+    Ok(seen?.ok().flatten())
 }
 
-/// Whether the link sees what it is to, and its peer read all that was taken.
+/// Whether the link sees what it is to, and its peer read all that was taken, by these signals.
+fn is_met_by<
+    R: Net<Listener = TcpListener, Stream = TcpStream>
+        + Clock
+        + Wait
+        + Threads
+        + AllocGlobal
+        + Copy
+        + Send
+        + Drop
+        + 'static,
+>(rt: &R, told: &Arc<Told>, peer: Peer) -> Result<bool, Fail> {
+    let (port, there) = peer_there(rt, Arc::try_clone(told)?, peer)?;
+    let near = meet(rt, port, told, peer);
+    let (near, far) = joined(rt, near, there)?;
+    Ok(near.is_some() && near == far)
+}
+
+/// The same, by new ones.
 fn is_met<
     R: Net<Listener = TcpListener, Stream = TcpStream>
         + Clock
@@ -282,11 +303,9 @@ fn is_met<
     let go = AtomicBool::new(false);
     let sent = AtomicBool::new(false);
     let told = Arc::new(rt.alloc(), Told { go, sent })?;
-    let (port, there) = peer_there(rt, Arc::try_clone(&told)?, peer)?;
-    let near = meet(rt, port, &told, peer);
+    let is_met = is_met_by(rt, &told, peer);
     drop(told);
-    let (near, far) = joined(rt, near, there)?;
-    Ok(near.is_some() && near == far)
+    is_met
 }
 
 static ROWS: [(&'static str, Peer); 5] = [

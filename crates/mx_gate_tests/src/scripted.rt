@@ -1,7 +1,7 @@
 //! Gates that follow a script: a row is what a gate is planned to answer, the calls of it, and what each answers.
 
 use crate::outside::endpoint;
-use crate::ready;
+use crate::{paced, ready};
 use mx_gate::{Gate, ScriptGate, Turn};
 use mx_link::{Link, ScriptLink};
 use mx_request::Endpoint;
@@ -19,12 +19,16 @@ enum Step {
     /// A plan is refused memory.
     PlanNoMemory,
     PlanMoment(u64),
+    /// It is planned to answer that too many files are open, or aren't.
+    PlanLack(bool),
     /// How many planned openings are left.
     Left(usize),
     /// A link is opened whose token is 0.
     Opens,
     Refuses(Code),
     Now(u64),
+    /// Whether too many files are open.
+    Lacks(bool),
     /// A turn that waits so long.
     Turn(u32, Turn),
     /// How long the last turn was to wait.
@@ -38,7 +42,7 @@ struct Row {
     steps: &'static [Step],
 }
 
-static ROWS: [Row; 3] = [
+static ROWS: [Row; 4] = [
     // after the script's end it refuses
     Row {
         name: "a_script_is_answered_in_order",
@@ -67,6 +71,21 @@ static ROWS: [Row; 3] = [
             Step::Now(5),
             Step::Now(9),
             Step::Now(9),
+        ],
+    },
+    // rule gate-log
+    Row {
+        name: "files_are_lacking_by_the_script",
+        turns: 0,
+        steps: &[
+            Step::Lacks(false),
+            Step::PlanLack(true),
+            Step::PlanLack(false),
+            Step::PlanLack(true),
+            Step::Lacks(true),
+            Step::Lacks(false),
+            Step::Lacks(true),
+            Step::Lacks(false),
         ],
     },
     Row {
@@ -113,9 +132,14 @@ fn is_so(
             gate.plan_moment(moment)?;
             true
         }
+        Step::PlanLack(lacks) => {
+            gate.plan_lack(lacks)?;
+            true
+        }
         Step::Left(count) => gate.openings_left() == count,
         Step::Opens => opened(gate, there) == Ok(0),
         Step::Refuses(code) => opened(gate, there) == Err(code),
+        Step::Lacks(lacks) => gate.lacks_files() == lacks,
         Step::Now(moment) => gate.now() == moment,
         Step::Turn(wait_ms, turn) => gate.turn(wait_ms) == turn,
         Step::Waited(wait_ms) => gate.last_wait() == wait_ms,
@@ -148,6 +172,7 @@ fn first_wrong_of(alloc: Global, there: &Endpoint, row: &Row) -> Result<Option<u
 #[test]
 fn gates_and_links_from_scripts(rt: HostRuntime) -> Result<(), Fail> {
     ready::are_so(rt.alloc(), &ready::ROWS)?;
+    paced::are_so(rt.alloc(), &paced::ROWS)?;
     let there = endpoint(rt.alloc(), "example.com", 80)?;
     for row in &ROWS {
         if first_wrong_of(rt.alloc(), &there, row)?.is_some() {

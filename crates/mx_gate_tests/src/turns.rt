@@ -1,9 +1,8 @@
 //! Turns of gates over sockets: what ends them, and how long they take.
 
-use crate::gates::{RIGHT, Work, at_gate, joined};
-use mx_gate::{Bell, Gate, SocketGate, Turn};
-use std::alloc::AllocGlobal;
-use std::net::Net;
+use crate::gates::{RIGHT, Ringed, Work, at_gate};
+use mx_gate::{Bell, Gate, Turn};
+use std::alloc::AllocError;
 use std::rt::Clock;
 use std::sync::Wait;
 use std::sync::atomic::{AtomicBool, Ordering};
@@ -25,31 +24,36 @@ fn ringer<R: Clock + Wait + Threads + Copy + Send + Drop + 'static>(
 }
 
 /// A long turn in which a thread rings the bell ends in time, but not before the ring.
-fn turns_until_rung<R: Clock + Wait + Threads + Copy + Send + Drop + 'static, G: Gate>(
+fn turns_until_rung<R: Clock + Wait + Threads + Copy + Send + Drop + 'static, G: Gate + Ringed>(
     rt: &R,
     gate: &mut G,
-    bell: Bell,
 ) -> Result<bool, Fail> {
     let start = Instant::now(rt)?;
-    let ringer = ringer(rt, bell)?;
+    let ringer = ringer(rt, gate.new_bell()?)?;
     let turn = gate.turn(20_000);
-    let passed = start.elapsed(rt).map_err(Fail::from);
-    let (passed, is_rung) = joined(rt, passed, ringer)?;
+    let passed = start.elapsed(rt);
+    let is_rung = ringer.join(rt);
+    let passed = passed?;
     let in_time = passed >= Duration::from_millis(40) && passed < Duration::from_secs(10);
     Ok(turn == Turn::Continue && in_time && is_rung)
 }
 
+/// Rings two bells: whether both were rung.
+fn ring_two<G: Ringed>(gate: &G) -> Result<bool, AllocError> {
+    let one = gate.new_bell()?;
+    let two = gate.new_bell()?;
+    let are_rung = one.ring().is_ok() && two.ring().is_ok();
+    drop(one);
+    drop(two);
+    Ok(are_rung)
+}
+
 /// A ring ends the next wait.
-fn is_rung_before<R: Clock, N: Net + Clock + AllocGlobal>(
-    rt: &R,
-    gate: &mut SocketGate<'_, N>,
-) -> Result<bool, Fail> {
-    let bells = (gate.bell()?, gate.bell()?);
+fn is_rung_before<R: Clock, G: Gate + Ringed>(rt: &R, gate: &mut G) -> Result<bool, Fail> {
     let start = Instant::now(rt)?;
-    bells.0.ring()?;
-    bells.1.ring()?;
+    let are_rung = ring_two(gate)?;
     gate.turn(20_000);
-    Ok(start.elapsed(rt)? < Duration::from_secs(10))
+    Ok(start.elapsed(rt)? < Duration::from_secs(10) && are_rung)
 }
 
 /// Whether a turn of 20 milliseconds takes less than 35. Where the machine has much else to do one may take longer, but not each of a
@@ -104,15 +108,14 @@ pub(crate) enum Turns {
 }
 
 /// Whether all is as it should be.
-pub(crate) fn takes<
-    R: Clock + Wait + Threads + Copy + Send + Drop + 'static,
-    N: Net + Clock + AllocGlobal,
->(rt: &R, gate: &mut SocketGate<'_, N>, stop: &AtomicBool, turns: Turns) -> Result<bool, Fail> {
+pub(crate) fn takes<R: Clock + Wait + Threads + Copy + Send + Drop + 'static, G: Gate + Ringed>(
+    rt: &R,
+    gate: &mut G,
+    stop: &AtomicBool,
+    turns: Turns,
+) -> Result<bool, Fail> {
     match turns {
-        Turns::RungLater => {
-            let bell = gate.bell()?;
-            turns_until_rung(rt, gate, bell)
-        }
+        Turns::RungLater => turns_until_rung(rt, gate),
         Turns::RungBefore => is_rung_before(rt, gate),
         Turns::Times => takes_its_time(rt, gate),
         Turns::Flag => Ok(stops_by_the_flag(gate, stop)),

@@ -31,14 +31,14 @@ pub const MOST_URLS: usize = 256;
 /// The events that the history has room for.
 const HISTORY: u32 = 2048;
 
-// The limits of a multi handle: what the options ask for, a seat that adds, and one that closes it.
+// The limits of a multi handle: what the options ask for, and a seat that adds.
 fn limits(options: Options) -> Limits
     requires { are_within options ≡ true }
-    ensures value { result ≡ record { seats = 2; workers = options.workers; history = 2048; max_connects = options.max_connects } }
+    ensures value { result ≡ record { seats = 1; workers = options.workers; history = 2048; max_connects = options.max_connects } }
     ensures within { are_limits_within result ≡ true }
 {
     Limits {
-        seats: 2,
+        seats: 1,
         workers: options.workers,
         history: HISTORY,
         max_connects: options.max_connects,
@@ -163,7 +163,6 @@ fn fetch_opened<
 ) -> Result<Vec<Fetched>, FetchError>
     requires opened { IsOpenedFor options opened.multi }
     requires seat { opened.seat.of ≡ opened.multi }
-    requires closing { opened.closing.of ≡ opened.multi }
     requires workers { All (λ s. s.of ≡ opened.multi) opened.workers.items }
     requires counts { (vec_len opened.workers ≡ options.workers) × (vec_len gates ≡ options.workers) }
     ensures ends { IfOk result (λ ends. AreEndsOf options.timeout_ms options.max_redirects (map (λ u. u.now) urls.now) ends.items) }
@@ -172,11 +171,18 @@ fn fetch_opened<
     let Opened {
         multi,
         seat,
-        closing,
         workers,
     } = opened;
-    let fetched = fetch_with(rt, &multi, (seat, workers), crew, gates, urls, options);
-    multi.close(rt, closing);
+    let fetched = fetch_with(
+        rt,
+        multi.shared(),
+        (seat, workers),
+        crew,
+        gates,
+        urls,
+        options,
+    );
+    multi.close(rt);
     fetched
 }
 

@@ -3,7 +3,7 @@ ghost use Rattle.std.specs.Prelude.{◌≡◌, [], true, false, IfOk, IfErr, Mat
 ghost use Rattle.mx_types.specs.Code.{is_link_code};
 ghost use Rattle.mx_exchange.specs.Exchanges.{WantsLink};
 ghost use Rattle.mx_turn.specs.Turn.{Keeps, served_by, unserved, unlinked};
-ghost use Rattle.mx_links.specs.Supplies.{Supplies, HasNoIdle, TakesIdle};
+ghost use Rattle.mx_links.specs.Supplies.{Supplies, HasNoIdle, Opens, TakesIdle};
 
 use mx_cache::IdleCache;
 use mx_gate::Gate;
@@ -68,10 +68,30 @@ impl<L: Link> Links<L> {
         Some(link)
     }
 
+    // rule turn-files
+    // A link that the gate opens to the endpoint. Where that fails since too many files are open, all idle links are dropped, and it is
+    // opened once more.
+    fn open<G: Gate<Link = L>>(&mut self, gate: &mut G, endpoint: &Endpoint) -> Result<L, Code>
+        ensures fresh { IfOk result (λ link. L.history link ≡ []) }
+        ensures code { IfErr result (λ code. is_link_code code ≡ true) }
+        ensures opens { Opens L.token_of endpoint.now self.old self.new (G.said gate.old) (G.said gate.new) result }
+    {
+        match gate.open(endpoint) {
+            Ok(link) => Ok(link),
+            Err(code) => {
+                if !gate.lacks_files() {
+                    return Err(code);
+                }
+                self.idle.clear();
+                gate.open(endpoint)
+            }
+        }
+    }
+
     // rule turn-links
     /// Hands a link to the transfer where it wants one: the newest idle one of its endpoint, unless only a fresh one will do, else one that
-    /// the gate opens. Where that fails, the transfer gets the code of why. The answer is whether the gate says that none can be opened
-    /// yet: then it is given none.
+    /// the gate opens. Where too many files are open for that, all idle links are dropped, and the gate opens it once more. Where it fails,
+    /// the transfer gets the code of why. The answer is whether the gate says that none can be opened yet: then it is given none.
     pub fn supply<G: Gate<Link = L>>(&mut self, gate: &mut G, transfer: &mut Transfer<L>) -> bool
         ensures supplied { Supplies L.history L.token_of transfer.old.chain transfer.new.chain self.old self.new (G.said gate.old) (G.said gate.new) result }
         ensures same { transfer.new ≡ record transfer.old { chain = transfer.new.chain } }
@@ -89,7 +109,7 @@ impl<L: Link> Links<L> {
         if !gate.can_open(want.endpoint) {
             return true;
         }
-        let opened = gate.open(want.endpoint);
+        let opened = self.open(gate, want.endpoint);
         give(transfer, opened);
         false
     }

@@ -81,7 +81,7 @@ impl<Q: Work + Drop, O: Ending + Drop> EmptyLock<Q, O> {
         })
     }
 
-    // That key is no seat's, and is dropped once a multi handle is opened: so no seat can make keys.
+    // That key is no seat's: who owns the multi handle has it, so no seat can make keys.
     /// The lock with an engine, and the key that makes keys, which has seen its journal.
     pub fn found<R: Wait>(self, rt: &R, engine: Engine<Q, O>) -> (Lock<Q, O>, Key<Q, O>)
         ensures lock { result.0 ≡ self }

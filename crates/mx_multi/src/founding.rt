@@ -10,6 +10,7 @@ ghost use Rattle.mx_types.specs.Limits.{most_seats};
 
 use crate::multi::Multi;
 use crate::open::Limits;
+use crate::owned::OwnedMulti;
 use crate::seat::{Application, AtWork, Seat, SeatOf, WorkerSeat};
 use mx_board::{BoardReader, BoardWriter, JournalMark, NoteSeat, ProgressTable};
 use mx_lock::{EmptyLock, Engine, Key, Lock, TieMark};
@@ -161,14 +162,14 @@ fn skip<Q: Work + Drop, O: Ending + Drop>(lock: &Lock<Q, O>, founder: &mut Key<Q
     }
 }
 
-/// A multi handle over an engine whose journal the readers in the rooms have seen, with these limits; its seats, and its workers'
-/// seats.
+/// A multi handle over an engine whose journal the readers in the rooms have seen, with these limits, by its owner; its seats, and its
+/// workers' seats.
 pub(crate) fn found<Q: Work + Drop, O: Ending + Drop, R: Wait>(
     rt: &R,
     rooms: Rooms<Q, O>,
     engine: Engine<Q, O>,
     limits: Limits,
-) -> (Multi<Q, O>, Vec<Seat<Q, O>>, Vec<WorkerSeat<Q, O>>)
+) -> (OwnedMulti<Q, O>, Vec<Seat<Q, O>>, Vec<WorkerSeat<Q, O>>)
     requires within { are_within limits ≡ true }
     requires history { engine.core.opening.history ≡ limits.history }
     requires begun { engine.core.opening.from ≡ length engine.core.journal }
@@ -215,7 +216,8 @@ pub(crate) fn found<Q: Work + Drop, O: Ending + Drop, R: Wait>(
         limits,
     );
     let multi = Multi::of_parts(lock, start, ties, words, limits, first, from);
-    (multi, seats, workers)
+    let owned = OwnedMulti::with_key(multi, founder);
+    (owned, seats, workers)
 }
 
 impl<Q: Work + Drop, O: Ending + Drop> Multi<Q, O> {

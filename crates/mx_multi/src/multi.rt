@@ -1,16 +1,18 @@
 //! The multi handle that threads share, and what its calls are made of.
-ghost use Rattle.std.specs.Prelude.{◌⊎◌, ◌≡◌, length, take, IfOk, OnErr, OnOk, MatchBool, MatchResult};
+ghost use Rattle.std.specs.Prelude.{◌⊎◌, ◌≡◌, false, true, length, take, IfOk, OnErr, OnOk, MatchBool, MatchResult};
 ghost use Rattle.std.specs.Bool.{OnFalse};
 ghost use Rattle.mx_types.specs.declared.call.Call.{Call};
 ghost use Rattle.mx_types.specs.declared.reply.Reply.{Reply};
+ghost use Rattle.crossbeam_channel.specs.Claims.{view};
 ghost use Rattle.mx_board.specs.Board.{AreOfOneJournal, OneBeginsOther};
+ghost use Rattle.mx_lock.specs.Lock.{IsKeyOf};
 ghost use Rattle.mx_lock.specs.Ties.{AreOfAdditions, Tells};
 ghost use Rattle.mx_multi.specs.Seats.{IsAhead, Stands, Sees, FindsNoneReady, FindsOther, FoundState, LeavesState};
 
 use crate::open::Limits;
 use crate::seat::{Seat, SeatOf, note_receipt};
 use mx_board::{BoardReader, JournalMark, ProgressTable, are_of_one_journal};
-use mx_lock::{Deed, Engine, Lock, TieMark, lets_polls_return};
+use mx_lock::{Deed, Engine, Key, Lock, TieMark, lets_polls_return};
 use mx_types::{AddedHandles, Call, Ending, Reply, Work};
 use std::marker::Model;
 use std::snapshot::Snapshot;
@@ -29,8 +31,7 @@ pub struct HandleList {
     pub list: AddedHandles,
 }
 
-/// A multi handle that threads share, each through a seat of its own. One that is dropped without `close` leaks the two tables of its
-/// board.
+/// A multi handle that threads share, each through a seat of its own. Who opened it has it as an `OwnedMulti`, which lends it.
 #[derive(Drop)]
 pub struct Multi<Q: Work + Drop, O: Ending + Drop> {
     pub(crate) lock: Lock<Q, O>,
@@ -198,6 +199,14 @@ impl<Q: Work + Drop, O: Ending + Drop> Multi<Q, O> {
         ensures confirmed { OneBeginsOther (take one.now.confirmed one.now.seen) (take two.now.confirmed two.now.seen) }
     {
         are_of_one_journal(&one.reader, &two.reader)
+    }
+
+    // Takes the engine out, by a key of its lock, and ends it: no call is answered any more.
+    pub(crate) fn end<R: Wait>(&self, rt: &R, key: &mut Key<Q, O>)
+        requires own { IsKeyOf (record { table = self.now.table; keys = self.now.keys }) key.old }
+        requires free { ((view key.old).holding ≡ false) × ((view key.old).told ≡ true) }
+    {
+        self.lock.end(rt, key);
     }
 
     pub(crate) fn heard<R: Wait>(&self, rt: &R) -> u64 {

@@ -1,10 +1,11 @@
-//! Opening and closing a multi handle.
+//! Opening a multi handle.
 ghost use Rattle.std.specs.Prelude.{◌≡◌, ◌&&◌, nat_le, true, false, Err, IfOk, IfErr};
 ghost use Rattle.mx_multi.specs.Opening.{are_within, open_number, IsOpened};
 ghost use Rattle.mx_types.specs.Limits.{is_history, most_seats};
 
 use crate::founding::{found, make_rooms};
 use crate::multi::Multi;
+use crate::owned::OwnedMulti;
 use crate::seat::{Seat, WorkerSeat};
 use mx_board::board;
 use mx_lock::{Engine, TieMark};
@@ -80,7 +81,7 @@ impl OpenError {
 }
 
 impl<Q: Work + Drop, O: Ending + Drop> Multi<Q, O> {
-    /// Opens a multi handle, with its seats and its workers' seats. It waits until the empty version is published.
+    /// Opens a multi handle, with its seats and its workers' seats, for an owner who closes it. It waits until the empty version is published.
     ///
     /// # Errors
     ///
@@ -90,7 +91,7 @@ impl<Q: Work + Drop, O: Ending + Drop> Multi<Q, O> {
         rt: &R,
         alloc: Global,
         limits: Limits,
-    ) -> Result<(Multi<Q, O>, Vec<Seat<Q, O>>, Vec<WorkerSeat<Q, O>>), OpenError>
+    ) -> Result<(OwnedMulti<Q, O>, Vec<Seat<Q, O>>, Vec<WorkerSeat<Q, O>>), OpenError>
         ensures bad { are_within limits ≡ false → result ≡ Err OpenError.BadLimits }
         ensures good { IfErr result (λ e. e ≡ OpenError.BadLimits → are_within limits ≡ false) }
         ensures opened { IfOk result (λ r. IsOpened limits r.0 r.1.items r.2.items) }
@@ -108,7 +109,7 @@ impl<Q: Work + Drop, O: Ending + Drop> Multi<Q, O> {
         rt: &R,
         alloc: Global,
         limits: Limits,
-    ) -> Result<(Multi<Q, O>, Vec<Seat<Q, O>>, Vec<WorkerSeat<Q, O>>), OutOfMemory>
+    ) -> Result<(OwnedMulti<Q, O>, Vec<Seat<Q, O>>, Vec<WorkerSeat<Q, O>>), OutOfMemory>
         requires { are_within limits ≡ true }
         ensures { IfOk result (λ r. IsOpened limits r.0 r.1.items r.2.items) }
     {
@@ -142,18 +143,5 @@ impl<Q: Work + Drop, O: Ending + Drop> Multi<Q, O> {
         ensures { result ≡ self.now.limits.max_connects }
     {
         self.limits.max_connects
-    }
-
-    // It takes a seat, since taking the engine out needs a key, and with a key in `Multi` threads couldn't share it.
-    /// Ends the multi handle, through one of its seats, and gives all memory back, with the work that waits and the endings that
-    /// were not read; of that no clause says anything. No call is under way then, and none can be made through another seat, a
-    /// read neither, as the multi handle is gone.
-    pub fn close<R: Wait>(self, rt: &R, seat: Seat<Q, O>)
-        requires { seat.of ≡ self }
-    {
-        let mut seat = seat;
-        self.lock.end(rt, &mut seat.key);
-        // By a call, which is less to prove than a drop at the end of the block.
-        drop(self);
     }
 }

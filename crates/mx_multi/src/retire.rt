@@ -12,6 +12,7 @@ ghost use Rattle.mx_multi.specs.Seats.{Finds};
 
 use crate::founding::{Rooms, found, make_rooms};
 use crate::multi::{Multi, fits};
+use crate::owned::OwnedMulti;
 use crate::seat::{Seat, SeatOf, WorkerSeat};
 use mx_board::{BoardWriter, board_of};
 use mx_journal::laws::retiring_keeps;
@@ -60,7 +61,7 @@ pub enum Retiring<T> {
 }
 
 /// A multi handle with its seats and its workers' seats.
-pub type Handle<Q, O> = (Multi<Q, O>, Vec<Seat<Q, O>>, Vec<WorkerSeat<Q, O>>);
+pub type Handle<Q, O> = (OwnedMulti<Q, O>, Vec<Seat<Q, O>>, Vec<WorkerSeat<Q, O>>);
 
 // Whether the journal begins with what the seat has seen, and has no event more of its own. The seat's list of ties and the engine's are
 // prefixes of one.
@@ -92,7 +93,7 @@ pub(crate) fn all_find<K, Q: Work + Drop, O: Ending + Drop>(
     true
 }
 
-impl<Q: Work + Drop, O: Ending + Drop> Multi<Q, O> {
+impl<Q: Work + Drop, O: Ending + Drop> OwnedMulti<Q, O> {
     // rule multi-retire
     /// Retires old history: of the journal only the events of the handles that are added are kept, and the multi handle goes on with
     /// new seats, which have seen those. Handles, their work, their messages and pauses stay as they are. No ticket that
@@ -125,12 +126,12 @@ impl<Q: Work + Drop, O: Ending + Drop> Multi<Q, O> {
         let Some(last) = seats.pop() else {
             return Retiring::Refused(Refusal::SeatsMissing, (self, seats, workers));
         };
-        match self.retire_by(rt, alloc, last, &seats, &workers) {
+        match self.shared().retire_by(rt, alloc, last, &seats, &workers) {
             Ok(retired) => {
                 // By calls, which are less to prove than drops at the end of the block.
                 drop(seats);
                 drop(workers);
-                drop(self);
+                self.release();
                 Retiring::Retired(retired)
             }
             Err((why, last)) => {
@@ -139,7 +140,9 @@ impl<Q: Work + Drop, O: Ending + Drop> Multi<Q, O> {
             }
         }
     }
+}
 
+impl<Q: Work + Drop, O: Ending + Drop> Multi<Q, O> {
     // Retires through one seat beside the others. A refusal hands that back.
     fn retire_by<R: Wait>(
         &self,

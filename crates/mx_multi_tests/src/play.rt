@@ -70,7 +70,6 @@ pub enum Step {
 }
 
 /// A multi handle, the control core of one thread beside it where threads made calls, and whether memory was refused.
-#[derive(Drop)]
 pub struct Play {
     /// It is always there, but for the calls that take it and answer another in its place.
     place: Option<Whole>,
@@ -179,8 +178,23 @@ fn call<R: Threads + Wait + Sync + Clock>(
 
 impl Play {
     // Puts a multi handle in its place.
-    fn put(&mut self, whole: Whole) {
-        drop(self.place.replace(whole));
+    fn put<R: Wait>(&mut self, rt: &R, whole: Whole) {
+        if let Some(other) = self.place.replace(whole) {
+            other.close(rt);
+        }
+    }
+
+    // Closes the multi handle.
+    fn close<R: Wait>(self, rt: &R) {
+        let Play {
+            place,
+            one: _one,
+            history: _,
+            refused: _,
+        } = self;
+        if let Some(whole) = place {
+            whole.close(rt);
+        }
     }
 
     // Retires, with all its seats or without the last; or why not, and whether there was a multi handle.
@@ -198,7 +212,7 @@ impl Play {
         } else {
             whole.retire_without_last(rt, alloc)
         };
-        self.put(whole);
+        self.put(rt, whole);
         (true, why)
     }
 
@@ -251,7 +265,7 @@ impl Play {
             return Ok(None);
         };
         let (whole, told) = whole.beside(rt, alloc, tasks, &hold);
-        self.put(whole);
+        self.put(rt, whole);
         let mut entries = match told {
             Ok(entries) => entries,
             Err(Stop::Memory) => return Err(OutOfMemory),
@@ -343,14 +357,13 @@ impl Play {
 
 // Opens a multi handle, once more where it was refused memory.
 fn open<R: Wait>(rt: &R, alloc: Global, limits: Limits) -> Result<Play, OpenError> {
-    let mut refused = false;
-    let mut answer = Whole::open(rt, alloc, limits);
-    if matches!(answer, Err(OpenError::OutOfMemory)) {
-        refused = true;
-        answer = Whole::open(rt, alloc, limits);
-    }
+    let (whole, refused) = match Whole::open(rt, alloc, limits) {
+        Ok(whole) => (whole, false),
+        Err(OpenError::OutOfMemory) => (Whole::open(rt, alloc, limits)?, true),
+        Err(error) => return Err(error),
+    };
     Ok(Play {
-        place: Some(answer?),
+        place: Some(whole),
         one: None,
         history: limits.history,
         refused,
@@ -389,7 +402,7 @@ pub fn play_steps<R: Threads + Wait + Sync + Clock>(
     if play.refused {
         *refused = true;
     }
-    drop(play);
+    play.close(rt);
     wrong
 }
 

@@ -1,8 +1,8 @@
 //! Scripts of calls on one thread, each with what it answers and how many events the seat has then seen.
 
 use crate::play::{Row, Said, Step, Wrong};
+use crate::whole::Whole;
 use mx_multi::{HistoryUse, Limits, OpenError, Progress, Refusal};
-use mx_multi_tests_base::sample::Handle;
 use mx_types::{Call, Code, HandleId, OutOfMemory, Ticket};
 use std::alloc::Global;
 use std::sync::Wait;
@@ -364,9 +364,15 @@ static BAD_LIMITS: [(u8, u8, u32, u8); 7] = [
     (4, 1, 2048, 65),
 ];
 
-// Whether this is the answer to bad limits. It is generic over the value, so that this is dropped as one.
-fn is_bad<T: Drop>(answer: Result<T, OpenError>) -> bool {
-    matches!(answer, Err(OpenError::BadLimits))
+// Whether these limits are refused as bad. What is opened all the same is closed.
+fn are_bad<R: Wait>(rt: &R, alloc: Global, limits: Limits) -> bool {
+    match Whole::open(rt, alloc, limits) {
+        Ok(whole) => {
+            whole.close(rt);
+            false
+        }
+        Err(error) => matches!(error, OpenError::BadLimits),
+    }
 }
 
 /// The first of the numbers outside their limits that isn't refused.
@@ -378,7 +384,7 @@ pub fn first_opened<R: Wait>(rt: &R, alloc: Global) -> Option<Wrong> {
             history: *history,
             max_connects: *max_connects,
         };
-        if !is_bad(Handle::open(rt, alloc, limits)) {
+        if !are_bad(rt, alloc, limits) {
             // rule multi-limits
             return Some(Wrong {
                 row: "bad_limits_are_refused",

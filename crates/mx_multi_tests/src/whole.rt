@@ -4,7 +4,8 @@ ghost use Rattle.std.specs.List.{All};
 
 use mx_journal::{FinishReply, GiveBackReply};
 use mx_multi::{
-    HistoryUse, Limits, OpenError, Progress, Refusal, Retiring, Seat, WorkerSeat, run_two,
+    HistoryUse, Limits, OpenError, OwnedMulti, Progress, Refusal, Retiring, Seat, WorkerSeat,
+    run_two,
 };
 use mx_multi_tests_base::entries::{Entry, Stop};
 use mx_multi_tests_base::hand::Hand;
@@ -20,9 +21,8 @@ use std::thread::Threads;
 use std::time::Clock;
 
 /// A multi handle, all its seats and its workers' seats, and what the first worker has claimed.
-#[derive(Drop)]
 pub struct Whole {
-    pub multi: Handle,
+    pub multi: OwnedMulti<Job, End>,
     pub seats: Vec<Seat<Job, End>>,
     pub workers: Vec<WorkerSeat<Job, End>>,
     pub hand: Hand,
@@ -69,7 +69,7 @@ impl Whole {
     pub fn open<R: Wait>(rt: &R, alloc: Global, limits: Limits) -> Result<Whole, OpenError> {
         match Handle::open(rt, alloc, limits) {
             Ok((multi, seats, workers)) => {
-                let hand = Hand::new(alloc, multi.first_ties());
+                let hand = Hand::new(alloc, multi.shared().first_ties());
                 Ok(Whole {
                     multi,
                     seats,
@@ -81,13 +81,27 @@ impl Whole {
         }
     }
 
+    /// Closes the multi handle.
+    pub fn close<R: Wait>(self, rt: &R) {
+        let Whole {
+            multi,
+            seats,
+            workers,
+            hand,
+        } = self;
+        drop(seats);
+        drop(workers);
+        drop(hand);
+        multi.close(rt);
+    }
+
     /// Makes a call at the seat with this number, an addition with this crate's work; None where there is no such seat, where it was
     /// answered `WrongSeat` or None, or where it is a worker's.
     pub fn make<R: Wait>(&mut self, rt: &R, number: usize, call: Call) -> Option<Reply>
         ensures { self.new.multi ≡ self.old.multi }
     {
         let seat = self.seats.get_mut(number)?;
-        make_at(rt, &self.multi, seat, call)
+        make_at(rt, self.multi.shared(), seat, call)
     }
 
     /// Polls at the seat with this number, for so many milliseconds at most: whether the poll returned. None where there is no such seat,
@@ -101,7 +115,7 @@ impl Whole {
         ensures { self.new.multi ≡ self.old.multi }
     {
         let seat = self.seats.get_mut(number)?;
-        poll_at(rt, &self.multi, seat, milliseconds)
+        poll_at(rt, self.multi.shared(), seat, milliseconds)
     }
 
     /// Takes the next work at the first worker's seat, and keeps the claim alone: its ticket.
@@ -111,7 +125,7 @@ impl Whole {
         let Some(seat) = self.workers.first_mut() else {
             return Ok(None);
         };
-        let Some((claim, _work)) = self.multi.claim(rt, seat) else {
+        let Some((claim, _work)) = self.multi.shared().claim(rt, seat) else {
             return Ok(None);
         };
         let ticket = claim.ticket();
@@ -124,7 +138,7 @@ impl Whole {
         ensures { self.new.multi ≡ self.old.multi }
     {
         let seat = self.workers.first_mut()?;
-        let look = self.multi.look(seat, ticket)?;
+        let look = self.multi.shared().look(seat, ticket)?;
         Some(look)
     }
 
@@ -138,7 +152,7 @@ impl Whole {
         let Some(claim) = self.hand.claims().last() else {
             return false;
         };
-        self.multi.note(seat, claim, count);
+        self.multi.shared().note(seat, claim, count);
         true
     }
 
@@ -147,7 +161,7 @@ impl Whole {
         ensures { self.new.multi ≡ self.old.multi }
     {
         let seat = self.seats.last_mut()?;
-        let progress = self.multi.progress(seat, handle)?;
+        let progress = self.multi.shared().progress(seat, handle)?;
         Some(progress)
     }
 
@@ -162,7 +176,7 @@ impl Whole {
         let Some(seat) = self.take_last() else {
             return Ok(None);
         };
-        let mut client = self.multi.at(seat);
+        let mut client = self.multi.shared().at(seat);
         let made = client.run_script(rt, calls);
         let cut = client.cut();
         let seat = client.into_seat();
@@ -181,8 +195,8 @@ impl Whole {
         let Some(one) = self.take_last() else {
             return Ok(None);
         };
-        let mut one = self.multi.at(one);
-        let mut two = self.multi.at(two);
+        let mut one = self.multi.shared().at(one);
+        let mut two = self.multi.shared().at(two);
         let met = one.meet(rt, &mut two).ok();
         let cuts = [Some(one.cut()), Some(two.cut())];
         let (one, two) = (one.into_seat(), two.into_seat());
@@ -209,7 +223,7 @@ impl Whole {
         let Some(one) = self.take_last() else {
             return Ok(None);
         };
-        let (one, two, made) = run_two(rt, &self.multi, one, scripts.0, two, scripts.1);
+        let (one, two, made) = run_two(rt, self.multi.shared(), one, scripts.0, two, scripts.1);
         let cuts = [one.cut(), two.cut()];
         self.put_last(one)?;
         self.put_last(two)?;
@@ -223,7 +237,7 @@ impl Whole {
     {
         let claim = self.hand.take()?;
         let seat = self.workers.first_mut()?;
-        match self.multi.give_back(rt, seat, claim, Job) {
+        match self.multi.shared().give_back(rt, seat, claim, Job) {
             Ok(GiveBackReply::Back) => Some(true),
             Ok(GiveBackReply::Stale(_)) => Some(false),
             Err(_) => None,
@@ -237,7 +251,7 @@ impl Whole {
     {
         let claim = self.hand.take()?;
         let seat = self.workers.first_mut()?;
-        match self.multi.finish(rt, seat, claim, end) {
+        match self.multi.shared().finish(rt, seat, claim, end) {
             Ok(FinishReply::OutOfMemory(claim, _)) => {
                 let _kept = self.hand.keep(claim);
                 Some(Reply::OutOfMemory)
@@ -287,6 +301,7 @@ impl Whole {
         }
         let Ok(events) = self
             .multi
+            .shared()
             .meet_all(rt, self.seats.as_mut_slice(), self.workers.as_mut_slice())
         else {
             return None;
@@ -306,7 +321,7 @@ impl Whole {
         } = self;
         match multi.retire(rt, alloc, seats, workers) {
             Retiring::Retired((multi, seats, workers)) => {
-                let hand = Hand::new(alloc, multi.first_ties());
+                let hand = Hand::new(alloc, multi.shared().first_ties());
                 let whole = Whole {
                     multi,
                     seats,
@@ -360,7 +375,7 @@ impl Whole {
             hand,
         } = self;
         let mut pool = Pool {
-            multi: &multi,
+            multi: multi.shared(),
             seats,
             workers,
         };

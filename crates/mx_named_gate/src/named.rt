@@ -2,7 +2,7 @@
 ghost use Rattle.std.specs.Prelude.{◌≡◌, ◌≤◌, ◌<◌, true, [], ◌∷◌, ◌++◌, length, IfOk, IfErr, IfSome};
 ghost use Rattle.mx_types.specs.Code.{is_link_code};
 ghost use Rattle.mx_names.specs.Addresses.{is_lookup_code};
-ghost use Rattle.mx_gate.specs.Said.{told, asked, opened, waited, numbered, is_stop};
+ghost use Rattle.mx_gate.specs.Said.{told, asked, opened, lacked, waited, numbered, is_stop};
 ghost use Rattle.mx_gate.specs.Gates.{next_token};
 ghost use Rattle.mx_gate.specs.Dialling.{addresses_of};
 ghost use Rattle.mx_named_gate.specs.Named.{IsToldOf, AreOf};
@@ -252,6 +252,16 @@ impl<'r, R: Net + Clock + AllocGlobal + Wait, L: Lookup> Gate for NamedGate<'r, 
         let number = number_of(&answer);
         self.said.note(Said::opened_under(endpoint, number));
         answer
+    }
+
+    /// As the gate within says.
+    fn lacks_files(&mut self) -> bool
+        ensures moment { self.new.gate.latest ≡ self.old.gate.latest }
+        ensures noted { self.new.said ≡ self.old.said ++ lacked result ∷ [] }
+    {
+        let lacks = self.gate.lacks_files();
+        self.said.note(Said::lacked(lacks));
+        lacks
     }
 
     /// As the turn of the gate within. Before it the hosts are forgotten on which the resolver has answered: a host without addresses that

@@ -2,7 +2,7 @@
 ghost use Rattle.std.specs.Prelude.{◌≡◌, ◌≢◌, string_bytes, codes, option_map, Some, None};
 ghost use Rattle.mx_run_save.specs.Codes.{save_number};
 ghost use Rattle.mx_run_save.specs.Words.{verdict_word};
-ghost use Rattle.mx_run_save.specs.Ends.{saved_end, done_end, skipped_end, failed_end};
+ghost use Rattle.mx_run_save.specs.Ends.{IsEnd, saved_end, done_end, skipped_end, failed_end};
 
 use crate::code::SaveCode;
 use mx_types::Code;
@@ -160,6 +160,13 @@ impl End {
             transferred: without_length(transferred),
             error,
         }
+    }
+
+    /// What holds of every end. It does nothing: a call gives its caller's proof the law.
+    pub fn know(&self)
+        ensures { IsEnd self.now }
+    {
+        let _verdict = self.verdict;
     }
 
     /// The code.

@@ -22,7 +22,8 @@ which transfers end. A response whose status isn't 2xx fails with 22, unless
 A list has a URL on each line; blank lines and lines that begin with # are
 ignored. A URL that failed with 6, 7, 18, 28, 52, 55 or 56, or with status 408,
 429, 500, 502, 503 or 504, is tried again as often as --retry says, after 1, 2,
-4 and up to 60 seconds, if its method is GET or HEAD.";
+4 and up to 60 seconds, if its method is GET or HEAD. Without --method it is
+GET, or POST where there is --data.";
 
 /// The exit statuses of `save`, and an example.
 pub const MORE_SAVE: &str = "Exit status: the first CODE that isn't 0, in the order of the URLs; but

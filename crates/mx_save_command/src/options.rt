@@ -58,7 +58,7 @@ static OPTIONS: [OptionRow; 18] = [
         name: "history",
         takes: Takes::Number(LEAST_HISTORY, MOST_HISTORY),
         default: Some("65536"),
-        help: "Events kept: 4 to 1048576",
+        help: "Room for events: 4 to 1048576",
     },
     OptionRow {
         name: "skip-existing",

@@ -1,10 +1,12 @@
 -- A book, one URL further, and one end further.
 use Rattle.std.proofs.Common.{◌≡◌, ◌≢◌, ◌∙◌, refl, ap, sym, subst, ℕ, ◌+◌, ◌<◌, ◌≤◌, ◌^◌, suc, zero, List, [], ◌∷◌, ◌++◌, map, length, length-append, Bool, true, false, cond, inl, inr, arith}
-use Rattle.std.specs.Prelude.{◌⊎◌, Option, Some, None, IfSome, IsSome, SomeIff, Result, Ok, Err, IfOk, count_by, slice_get, slice_set}
+use Rattle.std.specs.Prelude.{◌⊎◌, Option, Some, None, IfSome, IsSome, SomeIff, Result, Ok, Err, IfOk, IsUtf8, MatchResult, OnOk, count_by, slice_get, slice_set}
 use Rattle.std.specs.List.{Contains, AllByRecursion}
 use Rattle.std.proofs.lemmas.List.Elements.{Contains-append_left, Contains-push}
 use Rattle.std.proofs.lemmas.List.Sums.{sum_by_push}
-use Rattle.mx_request.specs.Request.{IsRequest, RequestValue}
+use Rattle.mx_request.specs.Request.{IsRequest, RequestValue, request_of}
+use Rattle.mx_request.specs.declared.error.RequestError.{RequestError}
+use Rattle.mx_request.specs.declared.error.RequestError.TheVariants as refusal
 use Rattle.mx_body.specs.Parts.{joined}
 use Rattle.mx_chain.specs.Outcomes.{IsOutcome, OutcomeValue}
 use Rattle.mx_file_name.specs.Names.{base_name, count_of, names_of, numbered}
@@ -15,16 +17,17 @@ use Rattle.mx_run_save.specs.Decisions.{IsDecision}
 use Rattle.mx_run_save.specs.declared.decision.Decision.TheVariants as decision
 use Rattle.mx_run_save.specs.declared.code.SaveCode.{SaveCode}
 use Rattle.mx_run_save.specs.declared.end.Transferred.{Transferred}
-use Rattle.mx_run_save.specs.Ends.{EndValue, done_end, failed_end, saved_end}
+use Rattle.mx_run_save.specs.Ends.{EndValue, IsEnd, done_end, failed_end, saved_end}
 use Rattle.mx_run_save.specs.declared.end.Verdict.{Verdict}
 use Rattle.mx_run_save.specs.declared.end.Verdict.TheVariants as verdict
+use Rattle.mx_save_jobs.specs.Bodies.{IsWholeBody}
 use Rattle.mx_save_jobs.specs.declared.asking.Asking.{Asking}
 use Rattle.mx_save_jobs.specs.declared.finish.NotEnded.{NotEnded}
 use Rattle.mx_save_jobs.specs.declared.finish.NotEnded.TheVariants as not_ended
 use Rattle.mx_save_jobs.specs.declared.job.Job.{Job}
 use Rattle.mx_save_jobs.specs.declared.job.Slot.{Slot}
 use Rattle.mx_save_jobs.specs.declared.job.Slot.TheVariants as slot
-use Rattle.mx_save_jobs.specs.Jobs.{Asks, BookValue, GrowsBy, GrowsFor, HandsBack, HasEnded, HoldsOf, IsBook, IsPending, IsSavedEnd, IsTold, Pends, Saves, State, is_saved, is_taken, is_told_saved, job_at, job_of, state_of}
+use Rattle.mx_save_jobs.specs.Jobs.{Asks, BookValue, CanAsk, GrowsBy, GrowsFor, HandsBack, HasEnded, HoldsOf, IsBook, IsPending, IsSavedEnd, IsTold, Pends, Saves, State, is_saved, is_taken, is_told_saved, job_at, job_of, state_of}
 use Rattle.mx_save_jobs.specs.Lines.{ToldValue}
 use Rattle.mx_save_jobs.specs.Books.{HaveEnded, IsJobFor}
 use Rattle.mx_save_jobs.proofs.Names.{all_given_more, fresh_on, given_more, given_new, given_on, is_fresh, is_new, saved_on}
@@ -74,6 +77,7 @@ holds_on asking name old new e verdict.Saved grows h = record {
   outcome = h.outcome;
   file = h.file;
   saved = saved_on name old new (h.name, h.outcome) grows h.saved;
+  whole = h.whole;
   asked = h.asked;
   decided = h.decided;
   status = h.status;
@@ -87,13 +91,13 @@ told_on : (asking : Asking) (urls : List (List ℕ)) (name : List ℕ) (old new 
     → AllByRecursion (IsTold asking urls old) ts → AllByRecursion (IsTold asking urls new) ts
 told_on asking urls name old new ts grows all =
     all_weaker (IsTold asking urls old) (IsTold asking urls new) ts
-    (λ t h. record { url = h.url; holds = holds_on asking name old new t.end t.end.verdict grows h.holds }) all
+    (λ t h. record { url = h.url; end = h.end; holds = holds_on asking name old new t.end t.end.verdict grows h.holds }) all
 
 told_more : (asking : Asking) (urls more : List (List ℕ)) (saves : Saves) (ts : List ToldValue)
     → AllByRecursion (IsTold asking urls saves) ts → AllByRecursion (IsTold asking (urls ++ more) saves) ts
 told_more asking urls more saves ts all =
     all_weaker (IsTold asking urls saves) (IsTold asking (urls ++ more) saves) ts
-    (λ t h. record { url = get_more urls more t.place t.end.url h.url; holds = h.holds }) all
+    (λ t h. record { url = get_more urls more t.place t.end.url h.url; end = h.end; holds = h.holds }) all
 
 ended_more : (ts : List ToldValue) (t : ToldValue) (place : ℕ) → HasEnded ts place → HasEnded (ts ++ t ∷ []) place
 ended_more ts t place h = (h.0, Contains-append_left ts (t ∷ []) h.0 h.1, h.2)
@@ -145,18 +149,19 @@ begun b names empty urls named slots told_none saves = record {
 }
 
 -- a URL was refused
-pub refused : (b : State) (read : ℕ) (bases : List (List ℕ)) (url : List ℕ) (e : EndValue) (ts : List ToldValue) → IsBook b read bases → ts ≡ b.told ++ record { place = read; end = e } ∷ [] → e.url ≡ url → e.verdict ≡ verdict.Failed → IsSome e.error
+pub refused : (b : State) (read : ℕ) (bases : List (List ℕ)) (url : List ℕ) (e : EndValue) (ts : List ToldValue) → IsBook b read bases → ts ≡ b.told ++ record { place = read; end = e } ∷ [] → IsEnd e → e.url ≡ url → e.verdict ≡ verdict.Failed → IsSome e.error
     → IsBook (record b { urls = b.urls ++ url ∷ []; told = ts }) (read + 1) bases
-refused b read bases url e ts is more same failed words = subst (λ l. IsBook (record b { urls = b.urls ++ url ∷ []; told = l }) (read + 1) bases) (sym more) (record {
+refused b read bases url e ts is more end same failed words = subst (λ l. IsBook (record b { urls = b.urls ++ url ∷ []; told = l }) (read + 1) bases) (sym more) (record {
   read = omega (arith, is.read, push_length b.urls url);
   bases = is.bases;
   fewer = omega (arith, is.fewer, push_length b.urls url);
-  pending = λ i job at. let p = is.pending i job at in record { url = get_more b.urls (url ∷ []) job.place job.url.items p.url; given = p.given; fresh = p.fresh };
+  pending = λ i job at. let p = is.pending i job at in record { url = get_more b.urls (url ∷ []) job.place job.url.items p.url; asks = p.asks; given = p.given; fresh = p.fresh };
   apart = is.apart;
   given = is.given;
   told = all_push (IsTold b.asking (b.urls ++ url ∷ []) b.saves) b.told (record { place = read; end = e }) (told_more b.asking b.urls (url ∷ []) b.saves b.told is.told)
       (record {
         url = ap (slice_get (b.urls ++ url ∷ [])) is.read ∙ get_last b.urls url ∙ ap Some (sym same);
+        end = end;
         holds = subst (HoldsOf b.asking b.saves e) (sym failed) words;
       });
   each = λ place lt. elim (place_cases (length b.urls) place (omega (arith, lt, push_length b.urls url))) [
@@ -194,10 +199,10 @@ not_free (s ∷ ss) (suc i) p free is = not_free ss i p free is
 
 -- a URL is in a slot that was free
 pub stood : (b : State) (read : ℕ) (bases : List (List ℕ)) (at : ℕ) (job : Job) → IsBook b read bases → NamesAreDistinct → read + 1 < 2 ^ 64
-    → slice_get b.slots at ≡ Some slot.Free → job.place ≡ read → job.name ≡ numbered (base_name job.url.items) (count_of bases (base_name job.url.items))
+    → CanAsk b.asking job.url.items → slice_get b.slots at ≡ Some slot.Free → job.place ≡ read → job.name ≡ numbered (base_name job.url.items) (count_of bases (base_name job.url.items))
     → IsBook (record b { urls = b.urls ++ job.url.items ∷ []; named = b.named ++ job.url.items ∷ []; slots = slice_set b.slots at (slot.Waiting job) })
     (read + 1) (bases ++ base_name job.url.items ∷ [])
-stood b read bases at job is law few free place name =
+stood b read bases at job is law few asks free place name =
     let url = job.url.items in
     let named : job.name ≡ numbered (base_name url) (count_of (map base_name b.named) (base_name url)) = name ∙ ap (λ l. numbered (base_name url) (count_of l (base_name url))) is.bases in
     let fewer : length (b.named ++ url ∷ []) < 2 ^ 64 = omega (arith, push_length b.named url, is.fewer, is.read, few) in
@@ -208,10 +213,10 @@ stood b read bases at job is law few free place name =
       bases = ap (λ l. l ++ base_name url ∷ []) is.bases ∙ sym (map_push b.named url);
       fewer = omega (arith, is.fewer, push_length b.urls url, push_length b.named url);
       pending = λ i p at_i. elim (cases b.slots at i (slot.Waiting job) p at_i) [
-        | inl new ↦ subst (Pends (b.urls ++ url ∷ []) (b.named ++ url ∷ []) b.saves) (some_same job p new.1)
-            (record { url = ap (slice_get (b.urls ++ url ∷ [])) (place ∙ is.read) ∙ get_last b.urls url; given = given_new b.named url job.name named; fresh = fresh })
+        | inl new ↦ subst (Pends b.asking (b.urls ++ url ∷ []) (b.named ++ url ∷ []) b.saves) (some_same job p new.1)
+            (record { url = ap (slice_get (b.urls ++ url ∷ [])) (place ∙ is.read) ∙ get_last b.urls url; asks = asks; given = given_new b.named url job.name named; fresh = fresh })
         | inr old ↦ let h = is.pending i p old.1 in
-            record { url = get_more b.urls (url ∷ []) p.place p.url.items h.url; given = given_more b.named url p.name h.given; fresh = h.fresh }
+            record { url = get_more b.urls (url ∷ []) p.place p.url.items h.url; asks = h.asks; given = given_more b.named url p.name h.given; fresh = h.fresh }
       ];
       apart = λ i j p q at_i at_j same. elim (cases b.slots at i (slot.Waiting job) p at_i) [
         | inl one ↦ elim (cases b.slots at j (slot.Waiting job) q at_j) [
@@ -247,9 +252,10 @@ again b read bases at old new v is was now place url name =
       bases = is.bases;
       fewer = is.fewer;
       pending = λ i p at_i. elim (cases b.slots at i v p at_i) [
-        | inl c ↦ subst (Pends b.urls b.named b.saves) (some_same new p (sym now ∙ c.1))
+        | inl c ↦ subst (Pends b.asking b.urls b.named b.saves) (some_same new p (sym now ∙ c.1))
             (record {
               url = ap (slice_get b.urls) place ∙ pends.url ∙ ap (λ u. Some u.items) (sym url);
+              asks = subst (λ u. CanAsk b.asking u.items) (sym url) pends.asks;
               given = subst (Contains (names_of b.named)) (sym name) pends.given;
               fresh = subst (λ n. IsFresh n b.saves) (sym name) pends.fresh;
             })
@@ -279,10 +285,10 @@ again b read bases at old new v is was now place url name =
     }
 
 -- a URL has ended
-pub closed : (b : State) (read : ℕ) (bases : List (List ℕ)) (at : ℕ) (job : Job) (e : EndValue) (ts : List ToldValue) (saves : Saves) → IsBook b read bases → ts ≡ b.told ++ record { place = job.place; end = e } ∷ [] → job_at b.slots at ≡ Some job
+pub closed : (b : State) (read : ℕ) (bases : List (List ℕ)) (at : ℕ) (job : Job) (e : EndValue) (ts : List ToldValue) (saves : Saves) → IsBook b read bases → ts ≡ b.told ++ record { place = job.place; end = e } ∷ [] → IsEnd e → job_at b.slots at ≡ Some job
     → e.url ≡ job.url.items → GrowsFor job.name e.verdict b.saves saves → HoldsOf b.asking saves e e.verdict
     → IsBook (record b { slots = slice_set b.slots at slot.Free; told = ts; saves = saves }) read bases
-closed b read bases at job e ts saves is more was url grows_for holds =
+closed b read bases at job e ts saves is more end was url grows_for holds =
     let grows = grows_by job.name e.verdict b.saves saves grows_for in
     let pends = is.pending at job was in
     let t : ToldValue = record { place = job.place; end = e } in
@@ -295,6 +301,7 @@ closed b read bases at job e ts saves is more was url grows_for holds =
         | inr c ↦ let h = is.pending i p c.1 in
             record {
               url = h.url;
+              asks = h.asks;
               given = h.given;
               fresh = fresh_on p.name job.name b.saves saves (λ same. c.0 (is.apart i at p job c.1 was same)) h.fresh grows;
             }
@@ -308,7 +315,7 @@ closed b read bases at job e ts saves is more was url grows_for holds =
       ];
       given = given_on (names_of b.named) job.name b.saves saves pends.given is.given grows;
       told = all_push (IsTold b.asking b.urls saves) b.told t (told_on b.asking b.urls job.name b.saves saves b.told grows is.told)
-          (record { url = pends.url ∙ ap Some (sym url); holds = holds });
+          (record { url = pends.url ∙ ap Some (sym url); end = end; holds = holds });
       each = λ p lt. elim (is.each p lt) [
         | inl h ↦ elim (same_or_other h.0 at) [
           | inl same ↦ inr (ended_now b.told t p (ap (λ x. x.place) (some_same job h.1 (sym was ∙ ap (job_at b.slots) (sym same) ∙ h.2)) ∙ h.3))
@@ -335,22 +342,22 @@ ended b read bases is empty = record {
 -- the same, as the calls leave it
 pub stood_as : (b : State) (read n : ℕ) (bases us ns bs : List (List ℕ)) (at : ℕ) (job : Job) → IsBook b read bases → n ≡ read + 1 → n < 2 ^ 64
     → us ≡ b.urls ++ job.url.items ∷ [] → ns ≡ b.named ++ job.url.items ∷ [] → bs ≡ bases ++ base_name job.url.items ∷ []
-    → slice_get b.slots at ≡ Some slot.Free → job.place ≡ read → job.name ≡ numbered (base_name job.url.items) (count_of bases (base_name job.url.items))
+    → CanAsk b.asking job.url.items → slice_get b.slots at ≡ Some slot.Free → job.place ≡ read → job.name ≡ numbered (base_name job.url.items) (count_of bases (base_name job.url.items))
     → IsBook (record b { urls = us; named = ns; slots = slice_set b.slots at (slot.Waiting job) }) n bs
-stood_as b read n bases us ns bs at job is more few u m s free place name =
+stood_as b read n bases us ns bs at job is more few u m s asks free place name =
     let ss = slice_set b.slots at (slot.Waiting job) in
-    let book = stood b read bases at job is distinct (omega (arith, more, few)) free place name in
+    let book = stood b read bases at job is distinct (omega (arith, more, few)) asks free place name in
     subst (λ l. IsBook (record b { urls = us; named = ns; slots = ss }) l bs) (sym more)
     (subst (λ l. IsBook (record b { urls = us; named = ns; slots = ss }) (read + 1) l) (sym s)
     (subst (λ l. IsBook (record b { urls = us; named = l; slots = ss }) (read + 1) (bases ++ base_name job.url.items ∷ [])) (sym m)
     (subst (λ l. IsBook (record b { urls = l; named = b.named ++ job.url.items ∷ []; slots = ss }) (read + 1) (bases ++ base_name job.url.items ∷ [])) (sym u) book)))
 
 pub refused_as : (b : State) (read n : ℕ) (bases us : List (List ℕ)) (url : List ℕ) (e : EndValue) (ts : List ToldValue) → IsBook b read bases → n ≡ read + 1
-    → us ≡ b.urls ++ url ∷ [] → ts ≡ b.told ++ record { place = read; end = e } ∷ [] → e.url ≡ url → e.verdict ≡ verdict.Failed → IsSome e.error
+    → us ≡ b.urls ++ url ∷ [] → ts ≡ b.told ++ record { place = read; end = e } ∷ [] → IsEnd e → e.url ≡ url → e.verdict ≡ verdict.Failed → IsSome e.error
     → IsBook (record b { urls = us; told = ts }) n bases
-refused_as b read n bases us url e ts is more u told_more_ same failed words =
+refused_as b read n bases us url e ts is more u told_more_ end same failed words =
     subst (λ l. IsBook (record b { urls = us; told = ts }) l bases) (sym more)
-    (subst (λ l. IsBook (record b { urls = l; told = ts }) (read + 1) bases) (sym u) (refused b read bases url e ts is told_more_ same failed words))
+    (subst (λ l. IsBook (record b { urls = l; told = ts }) (read + 1) bases) (sym u) (refused b read bases url e ts is told_more_ end same failed words))
 
 -- what was put into a slot in place of what was put there before
 set_twice : (slots : List Slot) (i : ℕ) (a v : Slot) → slice_set (slice_set slots i a) i v ≡ slice_set slots i v
@@ -405,22 +412,25 @@ job_within [] i p is = absurd (cc)
 job_within (s ∷ ss) zero p is = omega arith
 job_within (s ∷ ss) (suc i) p is = let h = job_within ss i p is in omega (arith, h)
 
--- the request of a URL is that of the URL in its slot
-pub job_for : {E : Type 0} (asking : Asking) (slots : List Slot) (at : ℕ) (job : Job) (r : Result RequestValue E) → job_at slots at ≡ Some job
-    → IfOk r (λ q. Asks asking job.url.items q × IsRequest q) → IfOk r (λ q. IsJobFor asking slots at q × IsRequest q)
-job_for asking slots at job (Ok q) there is = (record { job = job; there = there; asked = is.0 }, is.1)
-job_for asking slots at job (Err e) there is = tt
+-- a request was made of the URL, so one can be
+pub can_ask : (asking : Asking) (url text : List ℕ) (r : Result RequestValue RequestError) → IsUtf8 url → text ≡ url
+    → MatchResult r (λ q. request_of asking.method text asking.settings ≡ Ok q) (λ e. (request_of asking.method text asking.settings ≡ Err e) ⊎ (e ≡ refusal.OutOfMemory))
+    → OnOk r (CanAsk asking url)
+can_ask asking url text (Ok q) utf8 same made =
+    record { text = utf8; request = q; asks = subst (λ t. request_of asking.method t asking.settings ≡ Ok q) same made }
+can_ask asking url text (Err e) utf8 same made = tt
 
 -- what is reported of a body that was saved holds
 pub saved_holds : (asking : Asking) (saves old : Saves) (url file name : List ℕ) (t : Transferred) (o : OutcomeValue) (e : EndValue) → saves ≡ (name, o) ∷ old → file ≡ name
-    → Asks asking url o.request → IsDecision o.code o.last.request.method o.status asking.content_on_error decision.Save → t.status ≡ o.status
+    → IsWholeBody o → Asks asking url o.request → IsDecision o.code o.last.request.method o.status asking.content_on_error decision.Save → t.status ≡ o.status
     → t.length ≡ length (joined o.wire o.parts) → e ≡ saved_end url file t → HoldsOf asking saves e e.verdict
-saved_holds asking saves old url file name t o e is named asked decided status size same =
+saved_holds asking saves old url file name t o e is named whole asked decided status size same =
     subst (λ x. HoldsOf asking saves x x.verdict) (sym same) (record {
       name = name;
       outcome = o;
       file = ap Some named;
       saved = subst (λ l. Contains l (name, o)) (sym is) (0, omega arith, refl);
+      whole = whole;
       asked = asked;
       decided = decided;
       status = status;

@@ -1,5 +1,5 @@
 -- The URLs of a run, and what each ended with.
-use Rattle.std.specs.Prelude.{◌≡◌, ◌⊎◌, ℕ, ◌+◌, ◌<◌, ◌≤◌, Bool, true, false, List, [], ◌∷◌, ◌++◌, length, map, count_by, Option, Some, None, IsSome, Ok, slice_get, ⊤}
+use Rattle.std.specs.Prelude.{IsUtf8, ◌≡◌, ◌⊎◌, ℕ, ◌+◌, ◌<◌, ◌≤◌, Bool, true, false, List, [], ◌∷◌, ◌++◌, length, map, count_by, Option, Some, None, IsSome, Ok, slice_get, ⊤}
 use Rattle.std.specs.Option.{option_map_or}
 use Rattle.std.specs.List.{Contains, AllByRecursion}
 use Rattle.mx_types.specs.declared.code.Code.TheVariants as code
@@ -10,9 +10,10 @@ use Rattle.mx_file_name.specs.Names.{base_name, names_of}
 use Rattle.mx_save.specs.Ledgers.{LedgerValue, IsFresh}
 use Rattle.mx_run_save.specs.Decisions.{IsDecision}
 use Rattle.mx_run_save.specs.declared.decision.Decision.TheVariants as decision
-use Rattle.mx_run_save.specs.Ends.{EndValue}
+use Rattle.mx_run_save.specs.Ends.{EndValue, IsEnd}
 use Rattle.mx_run_save.specs.declared.end.Verdict.{Verdict}
 use Rattle.mx_run_save.specs.declared.end.Verdict.TheVariants as verdict
+use Rattle.mx_save_jobs.specs.Bodies.{IsWholeBody}
 use Rattle.mx_save_jobs.specs.declared.asking.Asking.{Asking}
 use Rattle.mx_save_jobs.specs.declared.finish.NotEnded.{NotEnded}
 use Rattle.mx_save_jobs.specs.declared.finish.NotEnded.TheVariants as not_ended
@@ -24,6 +25,12 @@ use Rattle.mx_save_jobs.specs.Lines.{LinesValue, ToldValue}
 -- the request is that of the URL
 abbrev pub Asks : Asking → List ℕ → RequestValue → Type 0
 Asks asking url request = request_of asking.method url asking.settings ≡ Ok request
+
+-- a request can be made of the URL
+pub record CanAsk (asking : Asking) (url : List ℕ) : Type 0 where
+  pub text : IsUtf8 url
+  pub request : RequestValue
+  pub asks : Asks asking url request
 
 -- the URL in a slot
 abbrev pub job_of : Slot → Option Job
@@ -43,13 +50,14 @@ job_at slots i = option_map_or job_of (slice_get slots i) None
 abbrev pub Saves : Type 0
 Saves = List (List ℕ × OutcomeValue)
 
--- A URL that was reported as saved: under the name that was reported the body of an outcome was saved, of a transfer of the URL's request,
--- whose status is one that is saved; and what was reported is that outcome's.
+-- A URL that was reported as saved: under the name that was reported a whole body was saved, that of an outcome of a transfer of the URL's
+-- request, whose status is one that is saved; and what was reported is that outcome's.
 pub record IsSavedEnd (asking : Asking) (saves : Saves) (e : EndValue) : Type 0 where
   pub name : List ℕ
   pub outcome : OutcomeValue
   pub file : e.file ≡ Some name
   pub saved : Contains saves (name, outcome)
+  pub whole : IsWholeBody outcome
   pub asked : Asks asking e.url outcome.request
   pub decided : IsDecision outcome.code outcome.last.request.method outcome.status asking.content_on_error decision.Save
   pub status : e.status ≡ outcome.status
@@ -77,9 +85,10 @@ HoldsOf asking saves e verdict.Done = IsDoneEnd asking e
 HoldsOf asking saves e verdict.Skipped = ⊤
 HoldsOf asking saves e verdict.Failed = IsFailedEnd e
 
--- of the URL at the place that was reported
+-- of the URL at the place that was reported, and it is an end
 pub record IsTold (asking : Asking) (urls : List (List ℕ)) (saves : Saves) (t : ToldValue) : Type 0 where
   pub url : slice_get urls t.place ≡ Some t.end.url
+  pub end : IsEnd t.end
   pub holds : HoldsOf asking saves t.end t.end.verdict
 
 -- what is asked of each URL; the URLs so far, and those of them that took a name; the slots of those that have no end yet, and what was
@@ -105,9 +114,11 @@ pub record BookValue (W : Type 0) : Type 0 where
 abbrev pub state_of : {W : Type 0} → BookValue W → State
 state_of b = record { asking = b.asking; urls = b.urls; named = b.named; slots = b.slots; told = b.lines.told; saves = b.ledger.entries }
 
--- a URL that has no end yet: it is at its place, its name is one of those that were given, and nothing was saved under it
-pub record Pends (urls named : List (List ℕ)) (saves : Saves) (job : Job) : Type 0 where
+-- a URL that has no end yet: it is at its place, a request can be made of it, its name is one of those that were given, and nothing was saved
+-- under it
+pub record Pends (asking : Asking) (urls named : List (List ℕ)) (saves : Saves) (job : Job) : Type 0 where
   pub url : slice_get urls job.place ≡ Some job.url.items
+  pub asks : CanAsk asking job.url.items
   pub given : Contains (names_of named) job.name
   pub fresh : IsFresh job.name saves
 
@@ -132,7 +143,7 @@ pub record IsBook (b : State) (n : ℕ) (names : List (List ℕ)) : Type 0 where
   pub read : n ≡ length b.urls
   pub bases : names ≡ map base_name b.named
   pub fewer : length b.named ≤ length b.urls
-  pub pending : (i : ℕ) (job : Job) → job_at b.slots i ≡ Some job → Pends b.urls b.named b.saves job
+  pub pending : (i : ℕ) (job : Job) → job_at b.slots i ≡ Some job → Pends b.asking b.urls b.named b.saves job
   pub apart : (i j : ℕ) (p q : Job) → job_at b.slots i ≡ Some p → job_at b.slots j ≡ Some q → p.name ≡ q.name → i ≡ j
   pub given : AllByRecursion (λ e. Contains (names_of b.named) e.0) b.saves
   pub told : AllByRecursion (IsTold b.asking b.urls b.saves) b.told

@@ -1,9 +1,10 @@
 //! The URLs of a run, from their reading to their ends.
-ghost use Rattle.std.specs.Prelude.{◌≡◌, ◌≢◌, ◌+◌, ◌<◌, ◌^◌, All, ◌++◌, ◌∷◌, [], true, false, if◌then◌else◌, count_by, IfOk, OnErr, OnOk, Some, IsSome, IsNone, IfSome, MatchOption, length, slice_get, slice_set};
+ghost use Rattle.std.specs.Prelude.{◌≡◌, ◌≢◌, ◌+◌, ◌<◌, ◌^◌, All, ◌++◌, ◌∷◌, [], true, false, if◌then◌else◌, count_by, IfErr, IfOk, OnErr, OnOk, Some, IsSome, IsNone, IfSome, MatchOption, length, slice_get, slice_set};
 ghost use Rattle.mx_types.specs.Code.{code_number};
 ghost use Rattle.mx_request.specs.Request.{IsRequest};
 ghost use Rattle.mx_run_save.specs.Ends.{skipped_end};
-ghost use Rattle.mx_save_jobs.specs.Jobs.{Asks, is_taken, job_at};
+ghost use Rattle.mx_request.specs.declared.error.RequestError.TheVariants as refusal;
+ghost use Rattle.mx_save_jobs.specs.Jobs.{Asks, CanAsk, is_taken, job_at};
 ghost use Rattle.mx_save_jobs.specs.Books.{HasNoneAdded, HaveEnded, IsAdded, IsClosed, IsFreshBook, IsJobFor, IsPutBack, IsSameRun, StandsAt, WaitsAgain, awaits_at};
 ghost use Rattle.mx_save_jobs.specs.declared.job.Slot.TheVariants as slot;
 
@@ -144,6 +145,7 @@ impl<F: Folder, W: Write> Book<F, W> {
     /// Gives a URL its name, and puts it into that slot, which is free.
     fn stand(&mut self, at: usize, url: Vec<u8>) -> Result<(), Stop>
         requires going { self.old.is_stopped ≡ false }
+        requires asks { CanAsk self.old.asking url.items }
         requires free { slice_get self.old.slots at ≡ Some slot.Free }
         ensures urls { OnOk result (self.new.urls ≡ self.old.urls ++ url.items ∷ []) }
         ensures slots { OnOk result (StandsAt self.old.slots self.new.slots at url.items) }
@@ -197,13 +199,20 @@ impl<F: Folder, W: Write> Book<F, W> {
         }
     }
 
-    /// The request of the URL in that slot, once more.
-    pub fn request(&self, at: usize) -> Result<Request, RequestError>
+    /// The request of the URL that waits in that slot, once more. An error comes where a growth was refused, or none waits there.
+    pub fn request(&self, at: usize) -> Result<Request, OutOfMemory>
+        requires going { self.now.is_stopped ≡ false }
         ensures { IfOk result (λ r. IsJobFor self.now.asking self.now.slots at r × IsRequest r) }
     {
-        match waiting_job(self.slots.as_slice(), at) {
-            Some(job) => build(self.alloc, &self.asking, job.url.as_slice()),
-            None => Err(RequestError::OutOfMemory),
+        let Some(job) = waiting_job(self.slots.as_slice(), at) else {
+            return Err(OutOfMemory);
+        };
+        match build(self.alloc, &self.asking, job.url.as_slice()) {
+            Ok(request) => Ok(request),
+            Err(why) => match why {
+                RequestError::OutOfMemory => Err(OutOfMemory),
+                _ => unreachable!(),
+            },
         }
     }
 
@@ -402,7 +411,9 @@ impl<F: Folder, W: Write> Book<F, W> {
 
 // The request of a URL by its text.
 fn build(alloc: Global, asking: &Asking, url: &[u8]) -> Result<Request, RequestError>
-    ensures { IfOk result (λ r. Asks asking.now url.now r × IsRequest r) }
+    ensures made { IfOk result (λ r. Asks asking.now url.now r × IsRequest r) }
+    ensures can { OnOk result (CanAsk asking.now url.now) }
+    ensures why { IfErr result (λ e. CanAsk asking.now url.now → e ≡ refusal.OutOfMemory) }
 {
     match str::from_utf8(url) {
         Ok(text) => asking.request(alloc, text),

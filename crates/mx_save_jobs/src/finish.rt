@@ -117,6 +117,7 @@ fn save<F: Folder>(
     let Ok(body) = WholeBody::of(outcome) else {
         unreachable!();
     };
+    body.know();
     match ledger.save(&job.name, &body) {
         Ok(()) => {
             drop(body);

@@ -1,6 +1,7 @@
 //! What is printed of URLs, as they end.
 ghost use Rattle.std.specs.Prelude.{◌≡◌, ◌≢◌, ◌⊎◌, ◌++◌, ◌∷◌, [], true, false, map, None, OnOk, OnErr};
 ghost use Rattle.mx_run_io.specs.Ends.{has_failed_write, is_pending, Wrote};
+ghost use Rattle.mx_run_save.specs.Ends.{IsEnd};
 ghost use Rattle.mx_run_save.specs.Status.{after_notes, status_of};
 ghost use Rattle.mx_save_jobs.specs.Lines.{note_of, line_of, AreLines, IsFreshLines};
 
@@ -111,9 +112,11 @@ impl<W: Write> Lines<W> {
     /// An error says that memory for a text in JSON was refused, before anything was written, or that the output couldn't be written.
     pub fn tell(&mut self, place: u64, end: End) -> Result<(), Stop>
         ensures told { OnOk result (self.new.told ≡ self.old.told ++ record { place = place; end = end } ∷ []) }
+        ensures is { OnOk result (IsEnd end) }
         ensures kept { OnErr result (self.new.told ≡ self.old.told) }
         ensures same { (self.new.start ≡ self.old.start) × (self.new.json ≡ self.old.json) }
     {
+        end.know();
         self.ready()?;
         print_end(self.alloc, &mut self.output, self.json, &end)?;
         let Ok(()) = self.output.flush() else {

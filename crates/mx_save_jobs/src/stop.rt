@@ -27,9 +27,6 @@ pub enum Stop {
     /// A worker's thread couldn't be started.
     #[error("a thread can't be started")]
     NoThread,
-    /// The multi handle refused a transfer, or its removal, for another reason than memory or room.
-    #[error("a transfer can't be added")]
-    NotAdded,
     /// No message of a transfer that was added was read, as memory was refused; or one came that is of no addition of the run.
     #[error("no message came of a transfer that was added")]
     NoMessage,

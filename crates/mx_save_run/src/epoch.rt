@@ -200,12 +200,11 @@ pub fn run_epoch<
             let Opened {
                 multi,
                 seat,
-                closing,
                 workers,
             } = opened;
             let fetched = fetch_with(
                 rt,
-                &multi,
+                multi.shared(),
                 (seat, workers),
                 crew,
                 gates,
@@ -214,7 +213,7 @@ pub fn run_epoch<
                 plan,
                 timer,
             );
-            multi.close(rt, closing);
+            multi.close(rt);
             fetched
         }
         Err(_) => (work, watch, Err(Stop::OutOfMemory)),

@@ -21,14 +21,14 @@ pub struct Plan {
 }
 
 impl Plan {
-    /// What a multi handle is opened with: a seat that adds, one that closes it, and as many workers as the plan has.
+    /// What a multi handle is opened with: a seat that adds, and as many workers as the plan has.
     pub fn limits(&self) -> Limits
         requires { IsPlan self.now }
-        ensures value { result ≡ record { seats = 2; workers = self.now.options.workers; history = self.now.history; max_connects = self.now.options.max_connects } }
+        ensures value { result ≡ record { seats = 1; workers = self.now.options.workers; history = self.now.history; max_connects = self.now.options.max_connects } }
         ensures within { are_limits_within result ≡ true }
     {
         Limits {
-            seats: 2,
+            seats: 1,
             workers: self.options.workers,
             history: self.history,
             max_connects: self.options.max_connects,

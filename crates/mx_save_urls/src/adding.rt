@@ -1,8 +1,10 @@
 //! A URL's transfer, from the URL to the desk.
-ghost use Rattle.std.specs.Prelude.{◌≡◌, false, OnOk};
+ghost use Rattle.std.specs.Prelude.{◌≡◌, false, IfErr, OnOk};
 ghost use Rattle.mx_save_jobs.specs.Books.{IsJobFor};
 ghost use Rattle.mx_save_work.specs.Works.{IsSameWork};
 ghost use Rattle.mx_desk.specs.Desks.{HasRoom};
+ghost use Rattle.mx_desk.specs.declared.error.DeskError.TheVariants as desk_error;
+ghost use Rattle.mx_save_jobs.specs.declared.stop.Stop.TheVariants as stop;
 ghost use Rattle.mx_save_urls.specs.Asked.{AreAsked};
 
 use crate::watch::Watch;
@@ -30,15 +32,17 @@ pub enum Begun {
 }
 
 /// Why a run stops, where its desk can't go on.
-pub fn stop_of(error: DeskError) -> Stop {
+pub fn stop_of(error: DeskError) -> Stop
+    ensures { error ≡ desk_error.OutOfMemory → result ≡ stop.OutOfMemory }
+{
     match error {
         DeskError::OutOfMemory => Stop::OutOfMemory,
-        DeskError::NotAdded => Stop::NotAdded,
         DeskError::NoMessage => Stop::NoMessage,
     }
 }
 
-// Adds the transfer of the URL in that slot. Where the history has no room for it the URL waits.
+// rule save-waiting
+// Adds the transfer of the URL in that slot. Where the multi handle takes no more the URL waits.
 fn add<'a, L: Link, F: Folder, W: Write, Rd: Read + Drop, R: Wait + AllocGlobal>(
     rt: &R,
     desk: &mut Desk<'_, L>,
@@ -51,6 +55,7 @@ fn add<'a, L: Link, F: Folder, W: Write, Rd: Read + Drop, R: Wait + AllocGlobal>
     requires asked { IsJobFor work.old.book.asking work.old.book.slots at request }
     requires all { AreAsked work.old.book.asking work.old.book.slots desk.old.asked }
     ensures all { OnOk result (AreAsked work.new.book.asking work.new.book.slots desk.new.asked) }
+    ensures why { IfErr result (λ e. e ≡ stop.OutOfMemory) }
     ensures going { work.new.book.is_stopped ≡ work.old.book.is_stopped }
     ensures run { IsSameWork work.old work.new }
 {

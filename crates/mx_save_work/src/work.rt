@@ -11,7 +11,7 @@ ghost use Rattle.mx_save_work.specs.Works.{AddsNone, IsSameWork};
 use crate::feed::{Ahead, Feed};
 use mx_chain::Outcome;
 use mx_folder::Folder;
-use mx_request::{Request, RequestError};
+use mx_request::Request;
 use mx_retry::{Wait, Waiting};
 use mx_run_save::End;
 use mx_save_jobs::{Book, Stop, Tally};
@@ -141,9 +141,11 @@ impl<'a, F: Folder, W: Write, R: Read + Drop> Work<'a, F, W, R> {
         self.book.close(at, outcome)
     }
 
-    /// The slot of a URL whose wait is over, and its request.
+    /// The slot of a URL whose wait is over, and its request. `OutOfMemory` alone is an error.
     pub fn again(&mut self, now: u64) -> Result<Option<(usize, Request)>, Stop>
+        requires going { self.old.book.is_stopped ≡ false }
         ensures asked { IfOk result (λ due. IfSome due (λ d. IsJobFor self.new.book.asking self.new.book.slots d.0 d.1 × IsRequest d.1)) }
+        ensures why { IfErr result (λ e. e ≡ stop.OutOfMemory) }
         ensures book { self.new.book ≡ self.old.book }
         ensures run { IsSameWork self.old self.new }
     {
@@ -151,11 +153,8 @@ impl<'a, F: Folder, W: Write, R: Read + Drop> Work<'a, F, W, R> {
             return Ok(None);
         };
         let at = job as usize;
-        match self.book.request(at) {
-            Ok(request) => Ok(Some((at, request))),
-            Err(RequestError::OutOfMemory) => Err(Stop::OutOfMemory),
-            Err(_) => Err(Stop::NotAdded),
-        }
+        let request = self.book.request(at)?;
+        Ok(Some((at, request)))
     }
 
     // rule save-waiting

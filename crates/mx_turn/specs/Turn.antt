@@ -13,7 +13,7 @@ use Rattle.mx_exchange.specs.Exchanges.{WantsLink, IsDue, attached}
 use Rattle.mx_chain.specs.Chains.{ChainState, received_of, home_of}
 use Rattle.mx_chain.specs.Outcomes.{OutcomeValue}
 use Rattle.mx_chain.specs.Steps.{How, waits, asks, ends, Steps}
-use Rattle.mx_gate.specs.Said.{Said, told, asked, opened, waited}
+use Rattle.mx_gate.specs.Said.{Said, told, asked, opened, lacked, waited}
 use Rattle.mx_turn.specs.Workers.{Held, SetAside, Finish, lacking, Return, claims, looks, notes, finishes, gives_back, Worker, in_hand, does, hears, holds}
 
 -- one after another, each from where the one before it left the worker
@@ -58,8 +58,14 @@ unserved t c = record t { now = record t.now { failure = Some c } }
 abbrev pub MustOpen : {L : Type 0} → ChainState L → Idle L → Type 0
 MustOpen t idle = (t.now.needs_fresh ≡ true) ⊎ HasNone t.now.request.endpoint idle.links
 
+-- all idle links were dropped
+abbrev pub cleared : {L : Type 0} → Idle L → Idle L
+cleared idle = record idle { links = [] }
+
 -- rule turn-links: A transfer gets an idle link of its endpoint, unless only a fresh one will do; else the gate opens one, once it says
 -- that it can.
+-- rule turn-files: Where a link can't be opened since too many files are open, the worker drops its idle links, and the gate opens it once
+-- more.
 --
 -- A transfer gets the link that it wants, for the endpoint of the hop that is under way; and this is what the gate said meanwhile.
 pub data Supplied {L : Type 0} (history : L → List Answer) (token_of : L → ℕ) (t new : ChainState L) (idle left : Idle L) : List Said → Type 0 where
@@ -74,9 +80,17 @@ pub data Supplied {L : Type 0} (history : L → List Answer) (token_of : L → �
   -- where one can, it is given one that the gate opens to its endpoint, which has answered nothing yet
   opens : (link : L) → WantsLink t.now → MustOpen t idle → left ≡ idle → history link ≡ [] → new ≡ served_by t link false
       → Supplied history token_of t new idle left (asked t.now.request.endpoint true ∷ opened t.now.request.endpoint (Ok (token_of link)) ∷ [])
-  -- where that fails, it gets the code of why
+  -- where that fails, and not since too many files are open, it gets the code of why
   fails : (c : Code) → WantsLink t.now → MustOpen t idle → left ≡ idle → is_link_code c ≡ true → new ≡ unserved t c
-      → Supplied history token_of t new idle left (asked t.now.request.endpoint true ∷ opened t.now.request.endpoint (Err c) ∷ [])
+      → Supplied history token_of t new idle left (asked t.now.request.endpoint true ∷ opened t.now.request.endpoint (Err c) ∷ lacked false ∷ [])
+  -- where it fails for that cause, all idle links are dropped, and it is given one that the gate then opens
+  reopens : (c : Code) (link : L) → WantsLink t.now → MustOpen t idle → left ≡ cleared idle → history link ≡ [] → new ≡ served_by t link false
+      → Supplied history token_of t new idle left
+      (asked t.now.request.endpoint true ∷ opened t.now.request.endpoint (Err c) ∷ lacked true ∷ opened t.now.request.endpoint (Ok (token_of link)) ∷ [])
+  -- where that fails, too, it gets the code of why
+  gives_up : (c again : Code) → WantsLink t.now → MustOpen t idle → left ≡ cleared idle → is_link_code again ≡ true → new ≡ unserved t again
+      → Supplied history token_of t new idle left
+      (asked t.now.request.endpoint true ∷ opened t.now.request.endpoint (Err c) ∷ lacked true ∷ opened t.now.request.endpoint (Err again) ∷ [])
 
 -- what the gate said shows that no link could be opened yet
 abbrev pub is_delayed : List Said → Bool

@@ -233,7 +233,9 @@ fn serve_gates<
         seat,
         workers,
     } = open(rt, 4)?;
-    serve_at(rt, &multi, seat, workers, gates, flags, plan)
+    let served = serve_at(rt, multi.shared(), seat, workers, gates, flags, plan);
+    multi.close(rt);
+    served
 }
 
 // A gate for each of two workers.

@@ -132,11 +132,20 @@ fn plan_delays(gate: &mut ScriptGate<ScriptLink>, delays: u32) -> Result<(), Out
     Ok(())
 }
 
+// Plans that the gate answers so often that too many files are open.
+fn plan_lacks(gate: &mut ScriptGate<ScriptLink>, lacks: u32) -> Result<(), OutOfMemory> {
+    for _ in 0..lacks {
+        gate.plan_lack(true)?;
+    }
+    Ok(())
+}
+
 /// The gate of a run.
 pub fn gate_of(alloc: Global, run: &Run) -> Result<ScriptGate<ScriptLink>, Trouble> {
     let mut gate = ScriptGate::new(alloc, run.turns);
     plan_openings(&mut gate, alloc, run.links)?;
     plan_moments(&mut gate, run.moments, run.ticks)?;
     plan_delays(&mut gate, run.delays)?;
+    plan_lacks(&mut gate, run.lacks)?;
     Ok(gate)
 }

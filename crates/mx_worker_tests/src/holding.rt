@@ -1,7 +1,7 @@
 //! A gate that holds a worker until a message was read: for workers on threads.
 ghost use Rattle.std.specs.Prelude.{◌≡◌, ◌≤◌, true, [], ◌∷◌, ◌++◌, IfOk, IfErr};
 ghost use Rattle.mx_types.specs.Code.{is_link_code};
-ghost use Rattle.mx_gate.specs.Said.{told, asked, opened, waited, numbered, is_stop};
+ghost use Rattle.mx_gate.specs.Said.{told, asked, opened, lacked, waited, numbered, is_stop};
 
 use mx_crew::Crew;
 use mx_gate::{Gate, Said, Turn};
@@ -116,6 +116,14 @@ impl<'a, R: Clock + AllocGlobal> Gate for HoldingGate<'a, R> {
         let answer = self.link_to(endpoint);
         self.said.note(Said::opened(endpoint, &answer));
         answer
+    }
+
+    fn lacks_files(&mut self) -> bool
+        ensures moment { self.new.moment ≡ self.old.moment }
+        ensures noted { self.new.said ≡ self.old.said ++ lacked result ∷ [] }
+    {
+        self.said.note(Said::lacked(false));
+        false
     }
 
     fn turn(&mut self, wait_ms: u32) -> Turn

@@ -63,7 +63,7 @@ const GO_BACK: Step = Step::Run(Run {
 });
 
 /// Rows of the links that a worker takes for one transfer after another, and for the hops of one.
-pub static LINKS: [Row; 9] = [
+pub static LINKS: [Row; 12] = [
     // rule turn-links
     // The worker keeps its link, and the gate opens one.
     Row {
@@ -181,7 +181,78 @@ pub static LINKS: [Row; 9] = [
             Step::LinksLeft(1),
         ],
     },
+    // rule turn-files
+    // The idle link of the first endpoint is dropped, and the gate opens one to the second once more. The third transfer has its own.
+    Row {
+        name: "idle links are dropped where too many files are open",
+        keeps: 4,
+        times: 1,
+        steps: &[
+            Step::Add(1, "http://a.example/one", 0),
+            Step::Add(2, "http://b.example/two", 0),
+            Step::Add(3, "http://a.example/three", 0),
+            Step::Run(Run {
+                lacks: 1,
+                ..SERVE_BETWEEN
+            }),
+            Step::Read(Wanted::Of(1, Code::Ok, b"hello")),
+            Step::Read(Wanted::Of(2, Code::Ok, b"hello")),
+            Step::Read(Wanted::Of(3, Code::Ok, b"bye")),
+            Step::LinksLeft(0),
+        ],
+    },
+    // For another cause the transfer fails, and the idle link stays.
+    Row {
+        name: "idle links stay where a link is refused for another cause",
+        keeps: 4,
+        times: 1,
+        steps: &[
+            Step::Add(1, "http://a.example/one", 0),
+            Step::Add(2, "http://b.example/two", 0),
+            Step::Add(3, "http://a.example/three", 0),
+            Step::Run(SERVE_BETWEEN),
+            Step::Read(Wanted::Of(1, Code::Ok, b"hello")),
+            Step::Read(Wanted::Of(2, Code::CouldntConnect, b"")),
+            Step::Read(Wanted::Of(3, Code::Ok, b"bye")),
+            Step::LinksLeft(2),
+        ],
+    },
+    // Where that doesn't help, the transfer fails.
+    Row {
+        name: "a link is opened once more where too many files are open, and no more often",
+        keeps: 4,
+        times: 1,
+        steps: &[
+            Step::Add(1, "http://a.example/", 0),
+            Step::Run(Run {
+                turns: 3,
+                links: &[
+                    Opening::Refused(Code::CouldntConnect),
+                    Opening::Refused(Code::CouldntConnect),
+                    AT_ONCE,
+                ],
+                lacks: 2,
+                recorded: 1,
+                ..RUN
+            }),
+            Step::Read(Wanted::Of(1, Code::CouldntConnect, b"")),
+            Step::LinksLeft(1),
+        ],
+    },
 ];
+
+/// Serves a transfer, one of another endpoint, for which a link is refused first, and one more of the first endpoint.
+const SERVE_BETWEEN: Run = Run {
+    turns: 4,
+    links: &[
+        TWICE,
+        Opening::Refused(Code::CouldntConnect),
+        AT_ONCE,
+        OTHER_AT_ONCE,
+    ],
+    recorded: 3,
+    ..RUN
+};
 
 /// Serves one transfer that begins at the moment 100 over a link that gives its response at the third look.
 const SERVE_LATE: Step = Step::Run(Run {

@@ -2,7 +2,7 @@
 ghost use Rattle.std.specs.Prelude.{◌≡◌, All, IfOk};
 
 use mx_link::ScriptLink;
-use mx_multi::{Limits, Multi, Seat, WorkerSeat};
+use mx_multi::{Limits, Multi, OwnedMulti, Seat, WorkerSeat};
 use mx_transfer::Outcome;
 use mx_types::{Ending, OutOfMemory, Work};
 use mx_worker::Queued;
@@ -10,9 +10,8 @@ use std::alloc::AllocGlobal;
 use std::sync::Wait;
 
 /// A multi handle's parts, of any work.
-#[derive(Drop)]
 pub struct Parts<Q: Work + Drop, O: Ending + Drop> {
-    pub multi: Multi<Q, O>,
+    pub multi: OwnedMulti<Q, O>,
     pub seat: Seat<Q, O>,
     pub workers: Vec<WorkerSeat<Q, O>>,
 }
@@ -43,6 +42,10 @@ pub fn open<Q: Work + Drop, O: Ending + Drop, R: Wait + AllocGlobal>(
             seat,
             workers,
         }),
-        None => Err(OutOfMemory),
+        None => {
+            drop(workers);
+            multi.close(rt);
+            Err(OutOfMemory)
+        }
     }
 }

@@ -168,9 +168,9 @@ fn play_parts<R: Wait + RandomSource + AllocGlobal>(
         seat,
         mut workers,
     } = parts;
-    let played = play_at(rt, &multi, seat, &mut workers, row, number, taken);
+    let played = play_at(rt, multi.shared(), seat, &mut workers, row, number, taken);
     drop(workers);
-    drop(multi);
+    multi.close(rt);
     played
 }
 

@@ -1,7 +1,7 @@
 //! What a row is played on: the seat of an application, workers' seats, and the gate of the worker that runs.
 ghost use Rattle.std.specs.Prelude.{◌≡◌, ◌≤◌, true, [], ◌∷◌, ◌++◌, IfOk, IfErr};
 ghost use Rattle.mx_types.specs.Code.{is_link_code};
-ghost use Rattle.mx_gate.specs.Said.{told, asked, opened, waited, numbered, is_stop};
+ghost use Rattle.mx_gate.specs.Said.{told, asked, opened, lacked, waited, numbered, is_stop};
 
 use crate::by_hand::{end_at, new_task};
 use crate::gates::gate_of;
@@ -86,6 +86,13 @@ impl<'r, 'm, R: Wait> Gate for Stage<'r, 'm, R> {
     {
         self.call_meanwhile(true);
         self.gate.open(endpoint)
+    }
+
+    fn lacks_files(&mut self) -> bool
+        ensures moment { self.new.gate.latest ≡ self.old.gate.latest }
+        ensures noted { self.new.gate.said ≡ self.old.gate.said ++ lacked result ∷ [] }
+    {
+        self.gate.lacks_files()
     }
 
     fn turn(&mut self, wait_ms: u32) -> Turn

@@ -43,6 +43,8 @@ pub struct Run {
     pub links: &'static [Opening],
     /// How often the gate answers first that no link can be opened yet.
     pub delays: u32,
+    /// Of how many of its refusals too many open files are first the cause.
+    pub lacks: u32,
     /// The moments that the gate gives, in milliseconds; 0 where there is none.
     pub moments: &'static [u64],
     /// How many moments it gives after these: 0, 1 and so on.
@@ -63,6 +65,7 @@ pub const RUN: Run = Run {
     turns: 0,
     links: &[],
     delays: 0,
+    lacks: 0,
     moments: &[],
     ticks: 0,
     meanwhile: Meanwhile::Nothing,

@@ -45,7 +45,7 @@ returns g c =
     subst (λ (t : List Origin). AreNew m x.core.journal t true 0 c.seated-workers.result.items) told
     (subst (λ (j : List Event). AreNew m j c.tie_mark-ties.result.entries true 0 c.seated-workers.result.items) seen_later
     (subst (λ (e : EngineId). AreNew {Q = g.row.Q.Denot} {O = g.row.O.Denot} (record { table = at.table; keys = at.keys; engine = e; words = c.args.rooms.words.id; limits = l }) (view c.skip.new.founder).seen c.tie_mark-ties.result.entries true 0 c.seated-workers.result.items) later c.seated-workers.ensures.new)) in
-    subst (λ (z : MultiView g.row.Q.Denot g.row.O.Denot). IsFounded l x z c.seated-seats.result.items c.seated-workers.result.items) (sym c.of_parts-multi.ensures)
+    subst (λ (z : MultiView g.row.Q.Denot g.row.O.Denot). IsFounded l x z c.seated-seats.result.items c.seated-workers.result.items) (sym (c.with_key-owned.ensures ∙ c.of_parts-multi.ensures))
     (record {
       engine = here;
       limits = refl;
@@ -92,3 +92,14 @@ pub seated-workers-requires-clause-ties : goal.seated-workers-requires-clause-ti
 seated-workers-requires-clause-ties g c =
     let key = c.skip.ensures.next ∙ later_is _ _ _ _ 17 _ c.found-lock.ensures.key.1 c.seated-seats.ensures.next in
     ap (λ (m : TieState). m.book) c.tie_mark-ties.ensures ∙ sym (ap (λ (v : KeyView). (engine_of v).ties) key)
+
+pub with_key-owned-requires-clause-own : goal.with_key-owned-requires-clause-own
+with_key-owned-requires-clause-own g c =
+    let kept = c.seated-workers.ensures.kept in
+    let is = sym c.of_parts-multi.ensures in
+    (kept.0 ∙ ap (λ (m : MultiView g.row.Q.Denot g.row.O.Denot). m.table) is, kept.1 ∙ ap (λ (m : MultiView g.row.Q.Denot g.row.O.Denot). m.keys) is, kept.2)
+
+pub with_key-owned-requires-clause-free : goal.with_key-owned-requires-clause-free
+with_key-owned-requires-clause-free g c =
+    let next = c.seated-workers.ensures.next in
+    (ap (λ (v : KeyView). v.holding) next, ap (λ (v : KeyView). v.told) next)

@@ -1,6 +1,7 @@
-use Rattle.std.proofs.Common.{◌≡◌, ◌∙◌, ap, ◌∷◌}
+use Rattle.std.proofs.Common.{◌≡◌, ◌∙◌, ap, subst, ◌∷◌}
 use Rattle.mx_run_save.specs.declared.decision.Decision.TheVariants as decision
 use Rattle.mx_run_save.specs.declared.code.SaveCode.TheVariants as code
+use Rattle.mx_save_jobs.specs.Bodies.{IsWholeBody}
 use Rattle.mx_save_jobs.proofs.Books.{failed_grows, failed_holds, saved_holds}
 use Rattle.mx_save_jobs.proofs.finish.save.Goals as goal
 
@@ -11,7 +12,7 @@ pub returns-in-Ok-save-clause-holds : goal.returns-in-Ok-save-clause-holds
 returns-in-Ok-save-clause-holds g c =
     saved_holds c.args.asking.now c.save.new.self.entries c.args.ledger.now.entries c.args.job.url.items _ c.args.job.name c.transferred-told.result c.args.outcome c.saved.result
     (c.in-Ok-save.ensures.saved ∙ ap (λ o. (c.args.job.name, o) ∷ c.args.ledger.now.entries) c.in-Ok-of.ensures.same)
-    (c.in-Ok.ensures.ok ∙ c.as_str.ensures) c.requires.asked c.requires.decided c.transferred-told.ensures.status c.transferred-told.ensures.length c.saved.ensures
+    (c.in-Ok.ensures.ok ∙ c.as_str.ensures) (subst IsWholeBody c.in-Ok-of.ensures.same c.know.ensures) c.requires.asked c.requires.decided c.transferred-told.ensures.status c.transferred-told.ensures.length c.saved.ensures
 
 pub returns-clause-holds : goal.returns-clause-holds
 returns-clause-holds g c =

@@ -5,8 +5,8 @@ use Rattle.mx_desk.specs.Desks.{HasRoom, asked_at}
 use Rattle.mx_desk.proofs.Desks.{asked_set, asked_there, desk_adds, desk_on, inside}
 use Rattle.mx_desk.proofs.desk.Desk.add.Goals as goal
 
-pub invariant_of-self : goal.invariant_of-self
-invariant_of-self g c = desk_on c.self.inside.seat.ties c.add_transfer.new.seat.ties c.self.inside.additions.items c.self.inside.width c.self.inside.waiting c.add_transfer.ensures.later c.self.invariant
+pub invariant_of-self-in_err-addition : goal.invariant_of-self-in_err-addition
+invariant_of-self-in_err-addition g c = desk_on c.self.inside.seat.ties c.add_transfer.new.seat.ties c.self.inside.additions.items c.self.inside.width c.self.inside.waiting c.add_transfer.ensures.later c.self.invariant
 
 pub invariant_of-self-in_default-2 : goal.invariant_of-self-in_default-2
 invariant_of-self-in_default-2 g c = desk_on c.self.inside.seat.ties c.add_transfer.new.seat.ties c.self.inside.additions.items c.self.inside.width c.self.inside.waiting c.add_transfer.ensures.later c.self.invariant

@@ -10,7 +10,7 @@ pub returns-in-Some-take-clause-supplied : goal.returns-in-Some-take-clause-supp
 returns-in-Some-take-clause-supplied g c = by_idle _ _ _ _ _ _ _ _ _ _ _ (c.in-Some.ensures.wants.0 refl) c.in-Some.ensures.which.0 c.in-Some.ensures.which.1 c.in-Some-take.ensures (ap (λ (t : TransferState g.row.L.Denot). t.chain) c.attach.ensures) refl
 
 pub returns-clause-supplied : goal.returns-clause-supplied
-returns-clause-supplied g c = by_gate _ _ _ _ _ _ _ _ _ _ _ _ _ (c.in-Some.ensures.wants.0 refl) c.in-Some.ensures.which.0 c.in-Some.ensures.which.1 c.in_default-take.ensures c.open-opened.ensures.fresh c.open-opened.ensures.code c.give.ensures.given c.if-not-can_open.false c.can_open.ensures.noted c.open-opened.ensures.noted
+returns-clause-supplied g c = by_gate _ _ _ _ _ _ _ _ _ _ _ _ _ _ (c.in-Some.ensures.wants.0 refl) c.in-Some.ensures.which.0 c.in-Some.ensures.which.1 c.in_default-take.ensures c.open-opened.ensures.fresh c.open-opened.ensures.code c.give.ensures.given c.if-not-can_open.false c.can_open.ensures.noted c.open-opened.ensures.opens
 
 pub returns-then-not-can_open-clause-supplied : goal.returns-then-not-can_open-clause-supplied
 returns-then-not-can_open-clause-supplied g c = by_delay _ _ _ _ _ _ _ _ _ _ _ (c.in-Some.ensures.wants.0 refl) c.in-Some.ensures.which.0 c.in-Some.ensures.which.1 c.in_default-take.ensures c.if-not-can_open.true refl c.can_open.ensures.noted

@@ -26,7 +26,7 @@ invariant_of-self-in-Ok g c = λ e.
       told = c.tell.new.self.told;
       saves = c.finish.new.ledger.entries;
     }) c.self.inside.read c.self.inside.names) (sym c.take_job.ensures.free)
-    (closed _ c.self.inside.read c.self.inside.names c.args.at c.in-Some.job c.in-Ok.end _ _ was c.in_ok-tell-in-Ok.ensures.told
+    (closed _ c.self.inside.read c.self.inside.names c.args.at c.in-Some.job c.in-Ok.end _ _ was c.in_ok-tell-in-Ok.ensures.told c.in_ok-tell-in-Ok.ensures.is
     (sym c.take_job.ensures.job ∙ c.in-Some.is) c.in-Ok.ensures.url c.in-Ok.ensures.grows c.in-Ok.ensures.holds)
 
 pub invariant_of-self-in-Err-Unopened : goal.invariant_of-self-in-Err-Unopened

@@ -15,6 +15,6 @@ invariant_of-self-2 g c = λ e.
       told = c.tell.new.self.told;
       saves = c.self.inside.ledger.entries;
     }) c.self.inside.read c.self.inside.names) (sym c.take_job.ensures.free)
-    (closed _ c.self.inside.read c.self.inside.names c.args.at c.in-Some.job c.in_ok-end.end _ _ was c.in_ok-tell.ensures.told
+    (closed _ c.self.inside.read c.self.inside.names c.args.at c.in-Some.job c.in_ok-end.end _ _ was c.in_ok-tell.ensures.told c.in_ok-tell.ensures.is
     (sym c.take_job.ensures.job ∙ c.in-Some.is) (ap (λ x. x.url) end) (inl (ap (λ x. is_saved x.verdict) end, refl))
     (subst (λ v. HoldsOf c.self.inside.asking c.self.inside.ledger.entries c.in_ok-end.end v) (sym (ap (λ x. x.verdict) end)) tt))

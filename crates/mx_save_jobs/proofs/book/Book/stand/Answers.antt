@@ -1,6 +1,7 @@
-use Rattle.std.proofs.Common.{◌∙◌, ap, refl, map, ◌++◌, ◌∷◌, []}
+use Rattle.std.proofs.Common.{◌∙◌, ap, refl, subst, sym, map, ◌++◌, ◌∷◌, []}
 use Rattle.std.specs.Prelude.{slice_get, slice_set}
 use Rattle.mx_file_name.specs.Names.{base_name, count_of, numbered}
+use Rattle.mx_save_jobs.specs.Jobs.{CanAsk}
 use Rattle.mx_save_jobs.specs.declared.job.Job.{Job}
 use Rattle.mx_save_jobs.specs.declared.job.Slot.TheVariants as slot
 use Rattle.mx_save_jobs.proofs.Books.{stood_as, texts_push}
@@ -13,7 +14,7 @@ invariant_of-self-2 g c = λ e.
     (ap (map (λ u. u.items)) c.show-2.ensures ∙ texts_push (λ u. u.items) c.self.inside.urls c.args.url)
     (ap (map (λ u. u.items)) c.show.ensures ∙ texts_push (λ u. u.items) c.self.inside.named c.args.url)
     (c.in_ok-name.ensures.noted ∙ ap (λ x. c.self.inside.names ++ base_name x ∷ []) c.as_slice.ensures.value)
-    (ap (λ b. slice_get b.slots c.args.at) c.self.view_is ∙ c.requires.free)
+    (subst (λ b. CanAsk b.asking c.args.url.items) (sym c.self.view_is) c.requires.asks) (ap (λ b. slice_get b.slots c.args.at) c.self.view_is ∙ c.requires.free)
     refl (c.in_ok-name.ensures.name ∙ ap (λ x. numbered (base_name x) (count_of c.self.inside.names (base_name x))) c.as_slice.ensures.value)
 
 pub returns-clause-slots : goal.returns-clause-slots
