@@ -1,5 +1,6 @@
 """The cases of checks/get.sh: what servers do, and what is expected of `mxfetch get`."""
 
+import contextlib
 import os
 import resource
 import socket
@@ -253,6 +254,17 @@ def case_too_many_open_files():
         want(run.stderr.endswith(b" (7)\n" + hint) and run.stderr.count(b"  hint: ") == 1, f"{run.stderr[-300:]!r}")
         run = run_with(["--at-once", "4"])
         want(run.returncode == 0 and run.stderr == b"", f"exit status {run.returncode}, {run.stderr[-300:]!r}")
+
+
+# rule turn-files
+def case_idle_connections_make_room():
+    # each URL has an endpoint of its own, so that the connections that are kept are of no use to the next
+    with contextlib.ExitStack() as stack:
+        servers = [stack.enter_context(Server(keeping)) for _ in range(40)]
+        run = Run(["--explain", "--workers", "1", "--max-connects", "64"] + [server.url("/a") for server in servers],
+                  first=lambda: resource.setrlimit(resource.RLIMIT_NOFILE, (24, 24)))
+        want_ends(run, [(0, 200, body_of("/a"))] * 40)
+        want(run.err == b"", f"{run.err[-300:]!r}")
 
 
 # rule get-url-count

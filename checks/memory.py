@@ -1,12 +1,12 @@
-"""The cases of checks/memory.sh: runs with little stack."""
+"""The cases of checks/memory.sh: runs with little stack, and with little memory."""
 
 import os
 import resource
 import subprocess
 import sys
 
-from saving import folder
-from servers import PROGRAM, WORK, Server, Wrong, counted, keeping, want
+from saving import files_in, folder, parts_in
+from servers import PROGRAM, WORK, Server, Wrong, body_of, counted, keeping, want
 
 KIB = 1 << 10
 STACK = 192 * KIB        # of each thread
@@ -16,12 +16,12 @@ SCRIPT = b"add 7\nadd 7\ndone 0 0 5\nread\n"
 PATHS = [f"/m{number}" for number in range(40)]
 
 
-def run(words, stdin=b""):
-    """A run whose threads have this stack each. One that hangs or ends by a signal is wrong."""
+def limit_stack():
+    resource.setrlimit(resource.RLIMIT_STACK, (STACK, resource.getrlimit(resource.RLIMIT_STACK)[1]))
 
-    def limit():
-        resource.setrlimit(resource.RLIMIT_STACK, (STACK, resource.getrlimit(resource.RLIMIT_STACK)[1]))
 
+def run(words, stdin=b"", limit=limit_stack):
+    """A run whose process is limited so. One that hangs or ends by a signal is wrong."""
     try:
         ended = subprocess.run([PROGRAM] + words, input=stdin, capture_output=True, preexec_fn=limit, timeout=SECONDS)
     except subprocess.TimeoutExpired:
@@ -71,6 +71,24 @@ def case_little_stack():
         for words, stdin, status in rows:
             ended = run(words, stdin=stdin)
             want(ended.returncode == status, f"{words[:4]}: exit status {ended.returncode} in place of {status}: {ended.stderr[-200:]!r}")
+
+
+# from too little for the start of a worker to enough for four of them
+def case_little_memory():
+    with Server(keeping) as server:
+        urls = [server.url(path) for path in PATHS]
+        for workers, command in [(workers, command) for workers in ("1", "2", "4") for command in ("get", "save")]:
+            codes = set()
+            for kib in range(10_000, 52_000, 200):
+                into = folder()
+                ended = run([command, "--workers", workers, "--timeout-ms", "3000"] + (["--into", into] if command == "save" else []) + urls,
+                            limit=lambda: resource.setrlimit(resource.RLIMIT_AS, (kib * KIB, kib * KIB)))
+                codes.add(ended.returncode)
+                want(not parts_in(into), f"{command} --workers {workers} at {kib} KiB: parts are left")
+                for name, content in files_in(into).items():
+                    want(content == body_of(f"/{name}"), f"{command} --workers {workers} at {kib} KiB: {name} isn't whole")
+            # before the program runs the loader ends with 127
+            want({0, 27} <= codes <= {0, 7, 27, 127}, f"{command} --workers {workers}: exit status {sorted(codes)}")
 
 
 def main():

@@ -1,6 +1,6 @@
 #!/usr/bin/env bash
-# `mxfetch` with little stack: each command with 192 KiB for each thread. A run may neither hang nor end by a signal. It ends with 1 where one
-# does otherwise.
+# `mxfetch` with little stack, each command with 192 KiB for each thread, and `get` and `save` with little memory. A run may neither hang nor
+# end by a signal, and a file that it saved is whole. It ends with 1 where one does otherwise.
 #
 #     checks/memory.sh [WORD]     all cases, or those whose names have the word
 #

@@ -3,7 +3,8 @@
 A mutant is a file crates/NAME/must-fail/*.edit, which `rt ci` tries, too, or crates/NAME/more-edits/*.edit: a line 'file: ..', and pairs of
 lines 'old: ..' and 'new: ..'. Mutants of different functions are put into one copy of the crate, and each is judged by what the prover says of
 its own function: it is refused where that isn't proved. What such a run leaves open is tried alone, and then the verdict on the whole crate
-decides. A mutant that changes what isn't in a function's body is always tried alone.
+decides. A mutant that changes what isn't in a function's body is always tried alone, and so is one that the compiler has to refuse: its
+file in more-edits has a line 'compiler: ..', with words of that error.
 """
 
 import collections
@@ -44,8 +45,9 @@ class Mutant:
     def __init__(self, path):
         self.path, self.folder = path, os.path.dirname(os.path.dirname(path))
         self.name = f"{os.path.basename(self.folder)}/{os.path.basename(path)[:-len('.edit')]}"
+        self.compiler = None
         self.changes, self.why_bad = self.read()
-        self.function = None if self.why_bad else self.function_of()
+        self.function = None if self.why_bad or self.compiler else self.function_of()
 
     def read(self):
         """What it changes: the file, the old and the new text of each pair; and why it can't be applied, None where it can."""
@@ -56,6 +58,8 @@ class Mutant:
             if word == "file":
                 file = rest.strip()
                 texts.setdefault(file, text_of(f"{self.folder}/{file}") if os.path.isfile(f"{self.folder}/{file}") else "")
+            elif word == "compiler":
+                self.compiler = rest
             elif word == "old":
                 old = rest
             elif word == "new" and file and old:
@@ -188,7 +192,12 @@ class Crate:
         found = self.check([mutant])
         status, lines = found or (2, ["it can't be applied"])
         last = lines[-1] if lines else ""
-        if last.startswith("logic=not-proved"):
+        if mutant.compiler and status in (0, 1):
+            if status == 1 and any(mutant.compiler in it for it in lines):
+                self.verdicts[mutant] = REFUSED, "by the compiler"
+            else:
+                self.verdicts[mutant] = THROUGH, f"the compiler doesn't say '{mutant.compiler}': {last[:160]}"
+        elif last.startswith("logic=not-proved"):
             self.verdicts[mutant] = REFUSED, ""
         elif status == 0 and last.startswith("logic=proved"):
             self.verdicts[mutant] = THROUGH, "the crate is still proved with it"

@@ -654,6 +654,20 @@ def case_too_many_open_files():
         want({line[1] for line in parse(out)} == {0} and err == b"", f"{err[-300:]!r}")
 
 
+# rule turn-files
+def case_idle_connections_make_room():
+    # each URL has an endpoint of its own, so that the connections that are kept are of no use to the next
+    with contextlib.ExitStack() as stack:
+        servers = [stack.enter_context(Server(keeping)) for _ in range(40)]
+        into = folder()
+        words = ["--workers", "1", "--at-once", "2", "--max-connects", "64", "--retry", "0"]
+        run = Saved(words + [server.url(f"/f{at}") for at, server in enumerate(servers)], into,
+                    first=lambda: resource.setrlimit(resource.RLIMIT_NOFILE, (24, 24)))
+        want_lines(run, [saved(server, f"/f{at}", f"f{at}", body_of(f"/f{at}")) for at, server in enumerate(servers)], 0)
+        want(run.err == b"", f"{run.err[-300:]!r}")
+        want_files(into, {f"f{at}": body_of(f"/f{at}") for at in range(40)})
+
+
 # rule file-descriptors
 def case_files_without_descriptors():
     # connections that are slow or kept take all descriptors, so that none is free for a file

@@ -31,13 +31,13 @@ def want(is_so, what):
 
 class Run:
     """What a run of `mxfetch get` printed: its ends are (code, status, body), in the order of the handles. One that hangs is ended after
-    these seconds."""
+    these seconds. `first` is called in its process before it starts."""
 
-    def __init__(self, words, seconds=300, asked=None):
+    def __init__(self, words, seconds=300, asked=None, first=None):
         begun = time.monotonic()
         with tempfile.TemporaryFile(dir=WORK) as out, tempfile.TemporaryFile(dir=WORK) as err:
             child = subprocess.Popen([PROGRAM, "get"] + words, stdin=subprocess.DEVNULL, stdout=out, stderr=err,
-                                     env={**os.environ, **(asked or {})})
+                                     env={**os.environ, **(asked or {})}, preexec_fn=first)
             watch = threading.Timer(seconds, child.kill)
             watch.start()
             self.peak = self.descriptors = 0

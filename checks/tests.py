@@ -1,4 +1,4 @@
-"""checks/tests.sh: runs the tests of all crates without their proofs, as many crates at a time as there are cores and memory for, the largest
+"""checks/tests.sh: runs the tests of all crates without their proofs, as many crates at a time as there are cores and memory for, the longest
 first. Prints a line for each crate, and of one that fails what was said.
 
 A crate of tests has functions marked #[test], or is a program with a file `stdout` beside its src: what it has to print, for what the file
@@ -24,6 +24,7 @@ import unproved
 
 JOB_MEMORY = 3 << 30   # of a crate of tests, in bytes
 SECONDS = 600          # of a crate's tests, once they are compiled
+LONG = ("mx_body_tests",)   # crates whose tests take longer to run than others to compile, which a larger crate takes longer to
 TEST = re.compile(r"^\s*#\[test\]", re.M)
 
 
@@ -151,7 +152,7 @@ def crates_of_tests(word):
 
 def main(words):
     try:
-        tests = sorted(crates_of_tests(words[0] if words else ""), key=lambda it: -it.size)
+        tests = sorted(crates_of_tests(words[0] if words else ""), key=lambda it: (it.crate not in LONG, -it.size))
     except prove.Stop as why:
         print(f"checks/tests.sh: {why}", file=sys.stderr)
         return 2

@@ -7,7 +7,8 @@
 #
 # Prints a line for each, and a line for each crate, which becomes the crate's row of data/mutants.csv:
 #
-#     refused              the prover doesn't prove the crate with it: that is what has to be
+#     refused              the prover doesn't prove the crate with it, or the compiler refuses it by the words of its line 'compiler: ..': that
+#                          is what has to be
 #     LET THROUGH          the crate is still proved with it: a contract to strengthen, unless that body is right
 #     NO LONGER APPLIES    its old text isn't there once, or the edited text isn't read as code
 #     NOT JUDGED           the prover gave no verdict
