@@ -33,8 +33,8 @@ pub trait Gate {
         ensures rises { latest self.old ≤ latest self.new }
         ensures noted { said self.new ≡ said self.old ++ told result ∷ [] };
 
-    /// Whether a link to the endpoint can be opened now. A gate that has to look its name up first says no until that lookup has ended, and
-    /// is to be asked again; one that looks no name up, or looks it up in `open`, says yes.
+    /// Whether a link to the endpoint can be opened now. One that can't be yet is to be asked for again: a gate may have to look its name up
+    /// first, or open a few links at a time.
     fn can_open(&mut self, endpoint: &Endpoint) -> bool
         ensures moment { latest self.new ≡ latest self.old }
         ensures noted { said self.new ≡ said self.old ++ asked endpoint.now result ∷ [] };

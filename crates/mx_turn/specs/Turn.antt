@@ -74,7 +74,7 @@ pub data Supplied {L : Type 0} (history : L → List Answer) (token_of : L → �
   -- unless it wants a fresh one, it is given the newest idle link of its endpoint, as one that was in use before
   reuses : (link : L) → WantsLink t.now → t.now.needs_fresh ≡ false → TakesNewest t.now.request.endpoint idle.links link left.links
       → left.limit ≡ idle.limit → new ≡ served_by t link true → Supplied history token_of t new idle left []
-  -- where no idle link will do, and none can be opened yet, as the name of its endpoint isn't known, it is given none in this turn
+  -- where no idle link will do, and none can be opened yet, it is given none in this turn
   delays : WantsLink t.now → MustOpen t idle → left ≡ idle → new ≡ t
       → Supplied history token_of t new idle left (asked t.now.request.endpoint false ∷ [])
   -- where one can, it is given one that the gate opens to its endpoint, which has answered nothing yet
