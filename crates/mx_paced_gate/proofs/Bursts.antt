@@ -1,11 +1,10 @@
 -- The table of a gate's log has for each endpoint as many links as were opened to it, as far as that matters.
 use Rattle.std.proofs.Common.{◌≡◌, ◌∙◌, ◌≤◌, ◌<◌, ◌+◌, ◌*◌, ◌%◌, ℕ, zero, suc, ap, sym, subst, refl, arith, inl, inr, List, [], ◌∷◌, length, Bool, true, false}
-use Rattle.std.specs.Prelude.{◌⊎◌, ◌==◌, bytes_eq, Result, Ok, Err, nat_lt, fold, replicate, slice_index, slice_set, if◌then◌else◌}
+use Rattle.std.specs.Prelude.{◌⊎◌, ◌==◌, bytes_eq, Ok, Err, nat_lt, fold, slice_index, slice_set, if◌then◌else◌}
 use Rattle.std.proofs.lemmas.Bool.{and_parts, eqb-true, ltb-true, ltb-false}
 use Rattle.std.proofs.lemmas.List.{get_or-set_same, length-replicate, length-set}
 use Rattle.std.proofs.lemmas.Nat.{mod_below}
 use Rattle.std.proofs.lemmas.Slice.Eq.{bytes_eq-Decides}
-use Rattle.mx_types.specs.declared.code.Code.{Code}
 use Rattle.mx_request.specs.Endpoint.{HostAndPort, is_same_endpoint}
 use Rattle.mx_gate.specs.Said.{Said, told, asked, opened, lacked, waited}
 use Rattle.mx_paced_gate.specs.Pace.{Burst, Pace, add_byte, first_pace, goes_on, is_renewed, most_new, one_more, opens_one, paces, place_of, places, zeros}

@@ -1,7 +1,7 @@
 -- How many links a gate opens to an endpoint at a time.
-use Rattle.std.specs.Prelude.{◌≡◌, ℕ, ◌+◌, ◌*◌, ◌%◌, ◌<◌, if◌then◌else◌, ◌&&◌, ◌||◌, nat_le, nat_lt, fold, Bool, true, false, List, Ok, Err, replicate, slice_index, slice_set}
+use Rattle.std.specs.Prelude.{ℕ, ◌+◌, ◌*◌, ◌%◌, ◌<◌, if◌then◌else◌, ◌&&◌, ◌||◌, nat_le, nat_lt, fold, Bool, true, false, List, Ok, replicate, slice_index, slice_set}
 use Rattle.mx_request.specs.Endpoint.{HostAndPort, is_same_endpoint}
-use Rattle.mx_gate.specs.Said.{Said, told, asked, opened, waited}
+use Rattle.mx_gate.specs.Said.{Said, told, opened, waited}
 
 -- how many links are opened to an endpoint at a time
 abbrev pub most_new : ℕ

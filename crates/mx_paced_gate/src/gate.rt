@@ -1,8 +1,8 @@
 //! A gate that opens a few links to an endpoint at a time.
-ghost use Rattle.std.specs.Prelude.{◌≡◌, ◌≤◌, ◌<◌, true, [], ◌∷◌, ◌++◌, IfOk, IfErr};
+ghost use Rattle.std.specs.Prelude.{◌≡◌, ◌≤◌, ◌<◌, ℕ, false, true, [], ◌∷◌, ◌++◌, IfOk, IfErr, MatchBool};
 ghost use Rattle.mx_types.specs.Code.{is_link_code};
 ghost use Rattle.mx_gate.specs.Said.{told, asked, opened, lacked, waited, numbered, is_stop};
-ghost use Rattle.mx_paced_gate.specs.Pace.{IsPaced, burst_of};
+ghost use Rattle.mx_paced_gate.specs.Pace.{IsPaced, allows, burst_of, pace_by};
 
 use crate::laws::allows_paced;
 use crate::pace::{Pace, VAIN_MS};
@@ -15,7 +15,7 @@ use std::marker::Model;
 /// clock; then 4 more. Where there are so many it says that none can be opened yet. Endpoints may share what may be opened. Contracts see the
 /// gate within, and all that was said.
 ///
-/// No clause says that it ever says yes, or that its answers but the moment are those of the gate within.
+/// Its answers are those of the gate within, but for the links that it puts off.
 #[derive(Drop)]
 pub struct PacedGate<G> {
     gate: G,
@@ -57,6 +57,7 @@ impl<G: Gate> PacedGate<G> {
 
     // Whether a link can be opened now, by the pace and by the gate within, which is asked where the pace allows it.
     fn can(&mut self, endpoint: &Endpoint) -> bool
+        ensures within { MatchBool (allows endpoint.now (pace_by self.old.said)) (G.said self.new.gate ≡ G.said self.old.gate ++ asked endpoint.now result ∷ []) ((result ≡ false) × (self.new.gate ≡ self.old.gate)) }
         ensures moment { G.latest self.new.gate ≡ G.latest self.old.gate }
         ensures paced { result ≡ true → IsPaced (burst_of endpoint.now self.old.said) }
         ensures said { self.new.said ≡ self.old.said }
@@ -78,6 +79,7 @@ impl<G: Gate> Gate for PacedGate<G> {
     ghost latest = { λ gate. G.latest gate.gate };
 
     fn now(&mut self) -> u64
+        ensures within { G.said self.new.gate ≡ G.said self.old.gate ++ told result ∷ [] }
         ensures told { result ≡ G.latest self.new.gate }
         ensures rises { G.latest self.old.gate ≤ G.latest self.new.gate }
         ensures noted { self.new.said ≡ self.old.said ++ told result ∷ [] }
@@ -89,9 +91,10 @@ impl<G: Gate> Gate for PacedGate<G> {
     }
 
     // rule gate-pace
-    /// It says yes only where one more link to the endpoint is within the pace. No clause says that it then does: an endpoint that shares its
-    /// place in the table may have used it up, or the gate within says no.
+    /// It says yes only where one more link to the endpoint is within the pace. Where the table of places allows one more it answers as the
+    /// gate within, and else no: an endpoint that shares its place may have used it up.
     fn can_open(&mut self, endpoint: &Endpoint) -> bool
+        ensures within { MatchBool (allows endpoint.now (pace_by self.old.said)) (G.said self.new.gate ≡ G.said self.old.gate ++ asked endpoint.now result ∷ []) ((result ≡ false) × (self.new.gate ≡ self.old.gate)) }
         ensures moment { G.latest self.new.gate ≡ G.latest self.old.gate }
         ensures paced { result ≡ true → IsPaced (burst_of endpoint.now self.old.said) }
         ensures noted { self.new.said ≡ self.old.said ++ asked endpoint.now result ∷ [] }
@@ -102,6 +105,7 @@ impl<G: Gate> Gate for PacedGate<G> {
     }
 
     fn open(&mut self, endpoint: &Endpoint) -> Result<G::Link, Code>
+        ensures within { G.said self.new.gate ≡ G.said self.old.gate ++ opened endpoint.now (numbered G.Link.token_of result) ∷ [] }
         ensures fresh { IfOk result (λ link. G.Link.history link ≡ []) }
         ensures code { IfErr result (λ code. is_link_code code ≡ true) }
         ensures moment { G.latest self.new.gate ≡ G.latest self.old.gate }
@@ -115,8 +119,9 @@ impl<G: Gate> Gate for PacedGate<G> {
         answer
     }
 
-    /// As the gate within says, of which there is no clause.
+    /// As the gate within says.
     fn lacks_files(&mut self) -> bool
+        ensures within { G.said self.new.gate ≡ G.said self.old.gate ++ lacked result ∷ [] }
         ensures moment { G.latest self.new.gate ≡ G.latest self.old.gate }
         ensures noted { self.new.said ≡ self.old.said ++ lacked result ∷ [] }
     {
@@ -125,9 +130,10 @@ impl<G: Gate> Gate for PacedGate<G> {
         lacks
     }
 
-    /// As the turn of the gate within, but for 2 milliseconds at most where a link was put off since the turn before. No clause says how long
-    /// it waits.
+    /// As the turn of the gate within, but for 2 milliseconds at most where a link was put off since the turn before. The clause says that it
+    /// waits no longer than it is to.
     fn turn(&mut self, wait_ms: u32) -> Turn
+        ensures within { (ms : ℕ) × (ms ≤ wait_ms) × (G.said self.new.gate ≡ G.said self.old.gate ++ waited ms (is_stop result) ∷ []) }
         ensures moment { G.latest self.new.gate ≡ G.latest self.old.gate }
         ensures noted { self.new.said ≡ self.old.said ++ waited wait_ms (is_stop result) ∷ [] }
     {
