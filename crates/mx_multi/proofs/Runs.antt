@@ -1,5 +1,6 @@
 -- Runs of calls.
-use Rattle.std.proofs.Common.{◌≡◌, ℕ, ◌+◌, ◌<◌, ◌∙◌, sym, refl, ap, subst, List, [], ◌∷◌, ◌++◌, append-nil, append_assoc, length, take, get_or}
+use Rattle.std.proofs.Common.{Bool, true, false, MatchBool, ◌≡◌, ℕ, ◌+◌, ◌<◌, ◌∙◌, sym, refl, ap, subst, List, [], ◌∷◌, ◌++◌, append-nil, append_assoc, length, take, get_or}
+use Rattle.std.proofs.lemmas.Bool.{false≢true}
 use Rattle.std.proofs.lemmas.List.{take_more, map-append}
 use Rattle.mx_types.specs.declared.event.Event.{Event}
 use Rattle.mx_types.specs.declared.event.Who.{Who}
@@ -12,6 +13,10 @@ use Rattle.mx_append_log.proofs.Prefixes.{prefix_self, prefix_trans}
 use Rattle.mx_multi.specs.Seats.{MultiView, SeatView, Stands, Sees, IsNew, Later, Ran}
 use Rattle.mx_multi.specs.Laws.{RanScript}
 use Rattle.mx_multi.proofs.Opening.{new_received}
+
+pub on_true : {A : Type 0} (B : Type 0) (b : Bool) → b ≡ true → MatchBool b A B → A
+on_true B true is h = h
+on_true B false is h = absurd (false≢true is)
 
 pub later_none : {Q O : Type 0} (s : SeatView Q O) → Later s s []
 later_none s = record { of = refl; who = refl; later = prefix_self s.seen; ties = prefix_self s.ties; legal = λ l. l; mine = sym (append-nil s.mine); placed = λ h. h }

@@ -82,8 +82,8 @@ pub fn run_two<Q: Work + Drop + Send, O: Ending + Drop + Send, R: Threads + Wait
         move || run_one(rt, multi, one, one_script),
         move || run_one(rt, multi, two, two_script),
     );
-    match multi.meet(rt, &mut first, &mut second) {
-        Ok(_) => (first, second, Some((one_made, two_made))),
-        Err(_) => (first, second, None),
+    if multi.try_meet(rt, &mut first, &mut second) {
+        return (first, second, Some((one_made, two_made)));
     }
+    (first, second, None)
 }

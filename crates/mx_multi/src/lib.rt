@@ -28,7 +28,6 @@ mod progress;
 mod retire;
 mod seat;
 mod seated;
-mod surface;
 
 pub use crate::laws::run_two;
 pub use crate::multi::{HandleList, Multi, WrongSeat};

@@ -14,7 +14,7 @@ pub(crate) fn read_word(words: &ProgressTable, notes: &mut NoteSeat, found: Foun
 }
 
 // rule multi-progress-never-falls
-/// Of two answers of `Multi::progress` to one seat, both of the bytes of one ticket, the later is no less: the ticket keeps its slot as
+/// Of two answers of `Seated::progress` to one seat, both of the bytes of one ticket, the later is no less: the ticket keeps its slot as
 /// long as its handle is added, and no word that is read for a slot is less than those that the seat had read there.
 pub fn progress_never_falls()
     ensures { ProgressNeverFalls }

@@ -1,12 +1,14 @@
 //! A caller's seat at a multi handle.
 ghost use Rattle.std.specs.Prelude.{◌≡◌, ◌++◌, ◌∷◌, [], length};
+ghost use Rattle.mx_types.specs.declared.call.Call.{Call};
+ghost use Rattle.mx_types.specs.declared.reply.Reply.{Reply};
 ghost use Rattle.mx_multi.specs.Seats.{HasReceipts, given_with};
 
 use crate::open::Limits;
 use mx_board::{BoardReader, NoteSeat};
 use mx_journal::GiveBackReply;
 use mx_lock::{Key, TieMark};
-use mx_types::{Call, Ending, History, Receipt, Reply, Ticket, Work};
+use mx_types::{AddedHandles, Call, Ending, History, Receipt, Reply, Ticket, Work};
 use std::marker::{Model, PhantomData};
 
 /// The role of an application's thread: it adds, removes, pauses and reads.
@@ -95,6 +97,27 @@ pub(crate) fn note_receipt(mine: &mut History<Receipt>, cut: u32, call: Call, re
     ensures { mine.new ≡ mine.old ++ record { cut = cut; call = call; reply = reply } ∷ [] }
 {
     mine.note(Receipt { cut, call, reply })
+}
+
+// Adds the receipt of a list of handles after the others, as `note_receipt`, and hands the list back: it isn't copied.
+pub(crate) fn note_handles(
+    mine: &mut History<Receipt>,
+    cut: u32,
+    list: AddedHandles,
+) -> AddedHandles
+    ensures same { result ≡ list }
+    ensures noted { mine.new ≡ mine.old ++ record { cut = cut; call = Call.Handles; reply = Reply.Handles result } ∷ [] }
+{
+    let receipt = Receipt {
+        cut,
+        call: Call::Handles,
+        reply: Reply::Handles(list),
+    };
+    mine.show(&receipt);
+    let Reply::Handles(list) = receipt.reply else {
+        unreachable!()
+    };
+    list
 }
 
 // Adds a ticket to those that were given back, where its work went back. It is for contracts alone: nothing of it is kept.

@@ -13,12 +13,13 @@ ghost use Rattle.mx_multi.specs.Progress.{IsProgress, noted_by};
 ghost use Rattle.mx_multi.specs.Seats.{FindsNoneReady, FindsOther, HasReceipts, Stands, Sees, SeesVersion, GivesBack, ClaimsLeast, ClaimsNothing, LeavesState, given_with};
 
 use crate::multi::{HandleList, Multi, WrongSeat};
-use crate::seat::{Application, AtWork, SeatOf};
+use crate::progress::read_word;
+use crate::seat::{Application, AtWork, SeatOf, note_given, note_handles, note_receipt};
 use mx_board::Progress;
 use mx_journal::{
     AddReply, FinishReply, GiveBackReply, InfoReply, PauseReply, RemoveReply, WakeupReply,
 };
-use mx_lock::TiedClaim;
+use mx_lock::{Addition, Finishing, Pausing, Reading, Removal, TiedClaim, Waking};
 use mx_types::{Call, Ending, HandleId, Look, Reply, State, Ticket, Work};
 use std::marker::Model;
 use std::sync::Wait;
@@ -111,7 +112,11 @@ impl<'m, Q: Work + Drop, O: Ending + Drop> Seated<'m, Application, Q, O> {
         ensures confirmed { OnOk result (self.new.confirmed ≡ length self.new.seen) }
         ensures right { OnErr result (FindsOther O.code_of O.size_of self.old) }
     {
-        self.multi.add(rt, &mut self.seat, handle, work)
+        let deed = Addition { handle, work };
+        match self.multi.act(rt, &mut self.seat, deed) {
+            Ok(reply) => Ok(reply),
+            Err(WrongSeat(deed)) => Err(WrongSeat(deed.work)),
+        }
     }
 
     /// Removes a handle, whatever its state (curl_multi_remove_handle(3)).
@@ -129,7 +134,10 @@ impl<'m, Q: Work + Drop, O: Ending + Drop> Seated<'m, Application, Q, O> {
         ensures confirmed { OnOk result (self.new.confirmed ≡ length self.new.seen) }
         ensures right { OnErr result (FindsOther O.code_of O.size_of self.old) }
     {
-        self.multi.remove(rt, &mut self.seat, handle)
+        match self.multi.act(rt, &mut self.seat, Removal(handle)) {
+            Ok(reply) => Ok(reply),
+            Err(_) => Err(WrongSeat(())),
+        }
     }
 
     /// Pauses a handle's transfer.
@@ -144,7 +152,14 @@ impl<'m, Q: Work + Drop, O: Ending + Drop> Seated<'m, Application, Q, O> {
         ensures confirmed { OnOk result (self.new.confirmed ≡ length self.new.seen) }
         ensures right { OnErr result (FindsOther O.code_of O.size_of self.old) }
     {
-        self.multi.pause(rt, &mut self.seat, handle)
+        let deed = Pausing {
+            handle,
+            pauses: true,
+        };
+        match self.multi.act(rt, &mut self.seat, deed) {
+            Ok(reply) => Ok(reply),
+            Err(_) => Err(WrongSeat(())),
+        }
     }
 
     /// Resumes a handle's transfer.
@@ -162,7 +177,14 @@ impl<'m, Q: Work + Drop, O: Ending + Drop> Seated<'m, Application, Q, O> {
         ensures confirmed { OnOk result (self.new.confirmed ≡ length self.new.seen) }
         ensures right { OnErr result (FindsOther O.code_of O.size_of self.old) }
     {
-        self.multi.unpause(rt, &mut self.seat, handle)
+        let deed = Pausing {
+            handle,
+            pauses: false,
+        };
+        match self.multi.act(rt, &mut self.seat, deed) {
+            Ok(reply) => Ok(reply),
+            Err(_) => Err(WrongSeat(())),
+        }
     }
 
     /// Reads the first message (curl_multi_info_read(3)). The seat is then told that the addition under its ticket is of the ending's
@@ -178,7 +200,10 @@ impl<'m, Q: Work + Drop, O: Ending + Drop> Seated<'m, Application, Q, O> {
         ensures confirmed { OnOk result (self.new.confirmed ≡ length self.new.seen) }
         ensures right { OnErr result (FindsOther O.code_of O.size_of self.old) }
     {
-        self.multi.info_read(rt, &mut self.seat)
+        match self.multi.act(rt, &mut self.seat, Reading) {
+            Ok(reply) => Ok(reply),
+            Err(_) => Err(WrongSeat(())),
+        }
     }
 
     /// Lets polls return (curl_multi_wakeup(3)).
@@ -192,7 +217,10 @@ impl<'m, Q: Work + Drop, O: Ending + Drop> Seated<'m, Application, Q, O> {
         ensures confirmed { OnOk result (self.new.confirmed ≡ length self.new.seen) }
         ensures right { OnErr result (FindsOther O.code_of O.size_of self.old) }
     {
-        self.multi.wakeup(rt, &mut self.seat)
+        match self.multi.act(rt, &mut self.seat, Waking) {
+            Ok(reply) => Ok(reply),
+            Err(_) => Err(WrongSeat(())),
+        }
     }
 
     /// Waits until there is a wake-up or an end at or after what the seat had seen at its last poll (curl_multi_poll(3)). It sleeps until
@@ -204,7 +232,27 @@ impl<'m, Q: Work + Drop, O: Ending + Drop> Seated<'m, Application, Q, O> {
         ensures confirmed { OnOk result (self.new.confirmed ≡ length self.new.seen) }
         ensures right { OnErr result (FindsOther O.code_of O.size_of self.old) }
     {
-        self.multi.poll(rt, &mut self.seat)
+        let multi = self.multi();
+        for _ in rt.forever() {
+            // The count is read before the journal: an event that comes after the look is counted after the count was read, and ends the
+            // wait.
+            let heard = multi.heard(rt);
+            match self.try_poll(rt) {
+                Ok(true) => return Ok(()),
+                Ok(false) => multi.wait_after(rt, heard),
+                Err(wrong) => return Err(wrong),
+            }
+        }
+        unreachable!()
+    }
+
+    // Polls once. False, and nothing changes, where no event of a journal that begins with what the seat has seen lets it return.
+    fn try_poll<R: Wait>(&mut self, rt: &R) -> Result<bool, WrongSeat<()>>
+        ensures polls { MatchResult result (λ woken. MatchBool woken (Stands self.old self.new Call.Poll Reply.Woken × (self.new.confirmed ≡ length self.new.seen)) (self.new ≡ self.old)) (λ _. self.new ≡ self.old) }
+        ensures asleep { IfOk result (λ woken. OnFalse woken (FindsNoneReady O.code_of O.size_of self.old)) }
+        ensures right { OnErr result (FindsOther O.code_of O.size_of self.old) }
+    {
+        self.multi.try_poll(rt, &mut self.seat)
     }
 
     /// As `poll`, but waits at most so many milliseconds: true where there was such a wake-up or end; false, and no call was made, where
@@ -218,7 +266,15 @@ impl<'m, Q: Work + Drop, O: Ending + Drop> Seated<'m, Application, Q, O> {
         ensures asleep { IfOk result (λ woken. OnFalse woken (FindsNoneReady O.code_of O.size_of self.old)) }
         ensures right { OnErr result (FindsOther O.code_of O.size_of self.old) }
     {
-        self.multi.poll_for(rt, &mut self.seat, milliseconds)
+        let multi = self.multi();
+        let heard = multi.heard(rt);
+        match self.try_poll(rt) {
+            Ok(false) => {
+                multi.wait_after_for(rt, heard, milliseconds);
+                self.try_poll(rt)
+            }
+            answer => answer,
+        }
     }
 
     /// The handles that are added, in order, by the version that was published last (curl_multi_get_handles(3)), with the
@@ -227,7 +283,12 @@ impl<'m, Q: Work + Drop, O: Ending + Drop> Seated<'m, Application, Q, O> {
     pub fn handles(&mut self) -> Option<HandleList>
         ensures { MatchOption result (self.new ≡ self.old) (λ r. Stands self.old self.new Call.Handles (Reply.Handles r.list) × (r.cut ≡ length self.new.seen)) }
     {
-        self.multi.handles(&mut self.seat)
+        let Some(answer) = self.seat.reader.handles() else {
+            return None;
+        };
+        let cut = self.seat.reader.cut();
+        let list = note_handles(&mut self.seat.mine, cut, answer);
+        Some(HandleList { cut, list })
     }
 
     /// How many transfers run, paused ones too, by the version that was published last. It takes no lock and no memory.
@@ -235,7 +296,17 @@ impl<'m, Q: Work + Drop, O: Ending + Drop> Seated<'m, Application, Q, O> {
     pub fn running(&mut self) -> Option<u32>
         ensures { MatchOption result (self.new ≡ self.old) (λ r. Stands self.old self.new Call.Running (Reply.Running r)) }
     {
-        self.multi.running(&mut self.seat)
+        let Some(answer) = self.seat.reader.running() else {
+            return None;
+        };
+        let cut = self.seat.reader.cut();
+        note_receipt(
+            &mut self.seat.mine,
+            cut,
+            Call::Running,
+            Reply::Running(answer),
+        );
+        Some(answer)
     }
 
     /// The state of a handle, by the version that was published last. It takes no lock and no memory. None, and nothing
@@ -243,7 +314,17 @@ impl<'m, Q: Work + Drop, O: Ending + Drop> Seated<'m, Application, Q, O> {
     pub fn state(&mut self, handle: HandleId) -> Option<State>
         ensures { MatchOption result (self.new ≡ self.old) (λ r. Stands self.old self.new (Call.State handle) (Reply.State r)) }
     {
-        self.multi.state(&mut self.seat, handle)
+        let Some(answer) = self.seat.reader.state(handle) else {
+            return None;
+        };
+        let cut = self.seat.reader.cut();
+        note_receipt(
+            &mut self.seat.mine,
+            cut,
+            Call::State(handle),
+            Reply::State(answer),
+        );
+        Some(answer)
     }
 
     /// How far a handle's transfer is, by the version that was published last and the word of its slot, which is no less
@@ -252,7 +333,14 @@ impl<'m, Q: Work + Drop, O: Ending + Drop> Seated<'m, Application, Q, O> {
     pub fn progress(&mut self, handle: HandleId) -> Option<Progress>
         ensures { MatchOption result (self.new ≡ self.old) (λ p. SeesVersion self.old self.new × IsProgress handle self.new.seen self.old.words self.new.words p) }
     {
-        self.multi.progress(&mut self.seat, handle)
+        let multi = self.multi;
+        let Some(found) = self.seat.reader.find(handle) else {
+            return None;
+        };
+        let Some(found) = found else {
+            return Some(Progress::NotAdded);
+        };
+        Some(read_word(&multi.words, &mut self.seat.notes, found))
     }
 
     /// Both seats, of one multi handle, see the journal. It answers how many events that has. `WrongSeat`, and nothing changes,
@@ -270,7 +358,11 @@ impl<'m, Q: Work + Drop, O: Ending + Drop> Seated<'m, Application, Q, O> {
         ensures given { (self.new.given ≡ self.old.given) × (other.new.given ≡ other.old.given) }
         ensures right { OnErr result (FindsOther O.code_of O.size_of self.old ⊎ FindsOther O.code_of O.size_of other.old) }
     {
-        self.multi.meet(rt, &mut self.seat, &mut other.seat)
+        let met = self.multi.try_meet(rt, &mut self.seat, &mut other.seat);
+        if met {
+            return Ok(self.seat.cut());
+        }
+        Err(WrongSeat(()))
     }
 
     /// Makes a call that needs no work. None, and nothing changes, where it was answered `WrongSeat` or None, and where it is an
@@ -278,7 +370,33 @@ impl<'m, Q: Work + Drop, O: Ending + Drop> Seated<'m, Application, Q, O> {
     pub fn make<R: Wait>(&mut self, rt: &R, call: Call) -> Option<Reply>
         ensures { MatchOption result (self.new ≡ self.old) (λ r. Stands self.old self.new call r) }
     {
-        self.multi.make(rt, &mut self.seat, call)
+        match call {
+            Call::Remove(handle) => match self.remove(rt, handle) {
+                Ok(reply) => Some(reply.reply()),
+                Err(_) => None,
+            },
+            Call::Pause(handle) => match self.pause(rt, handle) {
+                Ok(reply) => Some(reply.reply()),
+                Err(_) => None,
+            },
+            Call::Unpause(handle) => match self.unpause(rt, handle) {
+                Ok(reply) => Some(reply.reply()),
+                Err(_) => None,
+            },
+            Call::InfoRead => match self.info_read(rt) {
+                Ok(reply) => Some(reply.reply()),
+                Err(_) => None,
+            },
+            Call::Wakeup => match self.wakeup(rt) {
+                Ok(reply) => Some(reply.reply()),
+                Err(_) => None,
+            },
+            Call::Poll => match self.poll(rt) {
+                Ok(()) => Some(Reply::Woken),
+                Err(_) => None,
+            },
+            _ => self.read(call),
+        }
     }
 
     /// Makes a call that reads a published version, and waits for nothing. None, and nothing changes, where no version can be read, and
@@ -286,7 +404,21 @@ impl<'m, Q: Work + Drop, O: Ending + Drop> Seated<'m, Application, Q, O> {
     pub fn read(&mut self, call: Call) -> Option<Reply>
         ensures { MatchOption result (self.new ≡ self.old) (λ r. Stands self.old self.new call r) }
     {
-        self.multi.read(&mut self.seat, call)
+        match call {
+            Call::Handles => match self.handles() {
+                Some(handles) => Some(Reply::Handles(handles.list)),
+                None => None,
+            },
+            Call::Running => match self.running() {
+                Some(count) => Some(Reply::Running(count)),
+                None => None,
+            },
+            Call::State(handle) => match self.state(handle) {
+                Some(state) => Some(Reply::State(state)),
+                None => None,
+            },
+            _ => None,
+        }
     }
 
     // rule multi-scripts, unproved: A script is run to its end where each of its calls is answered.
@@ -324,7 +456,28 @@ impl<'m, Q: Work + Drop, O: Ending + Drop> Seated<'m, AtWork, Q, O> {
         ensures right { IfNone result (FindsOther O.code_of O.size_of self.old ⊎ ClaimsNothing O.code_of O.size_of self.new) }
         ensures of { self.new.of ≡ self.old.of }
     {
-        self.multi.claim(rt, &mut self.seat)
+        let multi = self.multi;
+        let mut taken = match multi.lock.enter(rt, &mut self.seat.key, &self.seat.reader) {
+            Ok(taken) => taken,
+            Err(_found) => return None,
+        };
+        let found = taken.engine();
+        let _known = found.know();
+        let _cut = found.len();
+        let claimed = taken.claim();
+        let left = taken.engine();
+        let _left = left.know();
+        multi.lock.leave(
+            rt,
+            &mut self.seat.key,
+            taken,
+            &mut self.seat.reader,
+            &mut self.seat.ties,
+        );
+        let Some(claimed) = claimed else {
+            return None;
+        };
+        Some(claimed)
     }
 
     /// What a worker sees of a ticket, by the version that was published last. It takes no lock and no memory. None, and
@@ -332,7 +485,17 @@ impl<'m, Q: Work + Drop, O: Ending + Drop> Seated<'m, AtWork, Q, O> {
     pub fn look(&mut self, ticket: Ticket) -> Option<Look>
         ensures { MatchOption result (self.new ≡ self.old) (λ r. Stands self.old self.new (Call.Look ticket) (Reply.Look r)) }
     {
-        self.multi.look(&mut self.seat, ticket)
+        let Some(answer) = self.seat.reader.look(ticket) else {
+            return None;
+        };
+        let cut = self.seat.reader.cut();
+        note_receipt(
+            &mut self.seat.mine,
+            cut,
+            Call::Look(ticket),
+            Reply::Look(answer),
+        );
+        Some(answer)
     }
 
     /// Notes that a claimed transfer has received so many bytes of its response. Where a greater word was noted for its slot,
@@ -340,7 +503,10 @@ impl<'m, Q: Work + Drop, O: Ending + Drop> Seated<'m, AtWork, Q, O> {
     pub fn note(&mut self, claim: &TiedClaim<Q>, count: u32)
         ensures { self.new ≡ noted_by self.old claim.now.slot claim.now.ticket count }
     {
-        self.multi.note(&mut self.seat, claim, count)
+        let multi = self.multi;
+        multi
+            .words
+            .note(&mut self.seat.notes, claim.slot(), claim.ticket(), count)
     }
 
     /// Records the end of a claimed transfer, with a claim that this multi handle gave. What isn't recorded comes back.
@@ -367,7 +533,11 @@ impl<'m, Q: Work + Drop, O: Ending + Drop> Seated<'m, AtWork, Q, O> {
         ensures confirmed { OnOk result (self.new.confirmed ≡ length self.new.seen) }
         ensures right { OnErr result (FindsOther O.code_of O.size_of self.old) }
     {
-        self.multi.finish(rt, &mut self.seat, claim, ending)
+        let deed = Finishing { claim, ending };
+        match self.multi.act(rt, &mut self.seat, deed) {
+            Ok(reply) => Ok(reply),
+            Err(WrongSeat(deed)) => Err(WrongSeat((deed.claim, deed.ending))),
+        }
     }
 
     /// Gives claimed work back: to its place by ticket in the queue. `Stale` hands the work back, where the ticket doesn't run
@@ -388,6 +558,26 @@ impl<'m, Q: Work + Drop, O: Ending + Drop> Seated<'m, AtWork, Q, O> {
         ensures given { IfOk result (λ r. self.new.given ≡ given_with r claim.ticket self.old.given) }
         ensures right { OnErr result (FindsOther O.code_of O.size_of self.old) }
     {
-        self.multi.give_back(rt, &mut self.seat, claim, work)
+        let multi = self.multi;
+        let mut taken = match multi.lock.enter(rt, &mut self.seat.key, &self.seat.reader) {
+            Ok(taken) => taken,
+            Err(_found) => return Err(WrongSeat((claim, work))),
+        };
+        let found = taken.engine();
+        let _known = found.know();
+        let _cut = found.len();
+        let ticket = claim.ticket();
+        let reply = taken.give_back(claim, work);
+        let left = taken.engine();
+        let _left = left.know();
+        multi.lock.leave(
+            rt,
+            &mut self.seat.key,
+            taken,
+            &mut self.seat.reader,
+            &mut self.seat.ties,
+        );
+        note_given(&mut self.seat.given, ticket, &reply);
+        Ok(reply)
     }
 }

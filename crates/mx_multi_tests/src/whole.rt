@@ -4,9 +4,10 @@ ghost use Rattle.std.specs.List.{All};
 
 use mx_journal::{FinishReply, GiveBackReply};
 use mx_multi::{
-    HistoryUse, Limits, OpenError, OwnedMulti, Progress, Refusal, Retiring, Seat, WorkerSeat,
-    run_two,
+    HistoryUse, Limits, OpenError, OwnedMulti, Progress, Refusal, Retiring, Seat, SeatOf, Seated,
+    WorkerSeat, run_two,
 };
+use mx_multi_tests_base::client::make;
 use mx_multi_tests_base::entries::{Entry, Stop};
 use mx_multi_tests_base::hand::Hand;
 use mx_multi_tests_base::hold::Hold;
@@ -16,6 +17,7 @@ use mx_multi_tests_base::stress;
 use mx_multi_tests_base::stress::Pool;
 use mx_types::{Call, HandleId, Look, OutOfMemory, Reply, Ticket};
 use std::alloc::Global;
+use std::mem::replace;
 use std::sync::{Arc, Wait};
 use std::thread::Threads;
 use std::time::Clock;
@@ -30,39 +32,41 @@ pub struct Whole {
     pub ghost claims: { hand ≡ multi.engine.ties },
 }
 
-// Makes a call at a seat, an addition with this crate's work.
-fn make_at<R: Wait>(rt: &R, multi: &Handle, seat: &mut Seat<Job, End>, call: Call) -> Option<Reply>
-    requires { seat.old.of ≡ multi.now }
-    ensures { seat.new.of ≡ seat.old.of }
+// Takes the seat with this number, the last one where there are fewer. Where it isn't the last, that has its place meanwhile. None where
+// there is no seat.
+fn take_at<'m, K>(
+    multi: &'m Handle,
+    seats: &mut Vec<SeatOf<K, Job, End>>,
+    number: usize,
+) -> Option<Seated<'m, K, Job, End>>
+    requires { All (λ s. s.of ≡ multi.now) seats.old.items }
+    ensures all { All (λ s. s.of ≡ multi.now) seats.new.items }
+    ensures own { IfSome result (λ s. s.of ≡ multi.now) }
 {
-    match call {
-        Call::Add(handle) => match multi.add(rt, seat, handle, Job) {
-            Ok(reply) => Some(reply.reply()),
-            Err(_) => None,
-        },
-        _ => {
-            let Some(reply) = multi.make(rt, seat, call) else {
-                return None;
-            };
-            Some(reply)
-        }
+    let last = seats.pop()?;
+    if number < seats.len() {
+        return Some(multi.at(replace(&mut seats[number], last)));
     }
+    Some(multi.at(last))
 }
 
-// Polls at a seat, for so many milliseconds at most.
-fn poll_at<R: Wait + Clock>(
-    rt: &R,
+// Puts a seat that `take_at` took back, at this number.
+fn put_at<K>(
     multi: &Handle,
-    seat: &mut Seat<Job, End>,
-    milliseconds: u32,
-) -> Option<bool>
-    requires { seat.old.of ≡ multi.now }
-    ensures { seat.new.of ≡ seat.old.of }
+    seats: &mut Vec<SeatOf<K, Job, End>>,
+    number: usize,
+    seat: Seated<'_, K, Job, End>,
+) -> Result<(), OutOfMemory>
+    requires own { (seat.of ≡ multi.now) × All (λ s. s.of ≡ multi.now) seats.old.items }
+    ensures { All (λ s. s.of ≡ multi.now) seats.new.items }
 {
-    match multi.poll_for(rt, seat, milliseconds) {
-        Ok(woken) => Some(woken),
-        Err(_) => None,
+    let _ = multi;
+    let mut last = seat.into_seat();
+    if number < seats.len() {
+        last = replace(&mut seats[number], last);
     }
+    seats.push(last)?;
+    Ok(())
 }
 
 impl Whole {
@@ -100,8 +104,10 @@ impl Whole {
     pub fn make<R: Wait>(&mut self, rt: &R, number: usize, call: Call) -> Option<Reply>
         ensures { self.new.multi ≡ self.old.multi }
     {
-        let seat = self.seats.get_mut(number)?;
-        make_at(rt, self.multi.shared(), seat, call)
+        let mut client = take_at(self.multi.shared(), &mut self.seats, number)?;
+        let reply = make(rt, &mut client, call);
+        put_at(self.multi.shared(), &mut self.seats, number, client).ok()?;
+        reply
     }
 
     /// Polls at the seat with this number, for so many milliseconds at most: whether the poll returned. None where there is no such seat,
@@ -114,18 +120,22 @@ impl Whole {
     ) -> Option<bool>
         ensures { self.new.multi ≡ self.old.multi }
     {
-        let seat = self.seats.get_mut(number)?;
-        poll_at(rt, self.multi.shared(), seat, milliseconds)
+        let mut client = take_at(self.multi.shared(), &mut self.seats, number)?;
+        let woken = client.poll_for(rt, milliseconds).ok();
+        put_at(self.multi.shared(), &mut self.seats, number, client).ok()?;
+        woken
     }
 
     /// Takes the next work at the first worker's seat, and keeps the claim alone: its ticket.
     pub fn claim<R: Wait>(&mut self, rt: &R) -> Result<Option<Ticket>, OutOfMemory>
         ensures { self.new.multi ≡ self.old.multi }
     {
-        let Some(seat) = self.workers.first_mut() else {
+        let Some(mut worker) = take_at(self.multi.shared(), &mut self.workers, 0) else {
             return Ok(None);
         };
-        let Some((claim, _work)) = self.multi.shared().claim(rt, seat) else {
+        let claimed = worker.claim(rt);
+        put_at(self.multi.shared(), &mut self.workers, 0, worker)?;
+        let Some((claim, _work)) = claimed else {
             return Ok(None);
         };
         let ticket = claim.ticket();
@@ -137,32 +147,35 @@ impl Whole {
     pub fn look(&mut self, ticket: Ticket) -> Option<Look>
         ensures { self.new.multi ≡ self.old.multi }
     {
-        let seat = self.workers.first_mut()?;
-        let look = self.multi.shared().look(seat, ticket)?;
-        Some(look)
+        let mut worker = take_at(self.multi.shared(), &mut self.workers, 0)?;
+        let look = worker.look(ticket);
+        put_at(self.multi.shared(), &mut self.workers, 0, worker).ok()?;
+        look
     }
 
     /// The first worker notes so many bytes for its last claim. False where there is none.
     pub fn note(&mut self, count: u32) -> bool
         ensures { self.new.multi ≡ self.old.multi }
     {
-        let Some(seat) = self.workers.first_mut() else {
-            return false;
-        };
         let Some(claim) = self.hand.claims().last() else {
             return false;
         };
-        self.multi.shared().note(seat, claim, count);
-        true
+        let Some(mut worker) = take_at(self.multi.shared(), &mut self.workers, 0) else {
+            return false;
+        };
+        worker.note(claim, count);
+        put_at(self.multi.shared(), &mut self.workers, 0, worker).is_ok()
     }
 
     /// The last seat reads the progress of a handle's transfer. None where there is no such seat, or no answer.
     pub fn progress(&mut self, handle: HandleId) -> Option<Progress>
         ensures { self.new.multi ≡ self.old.multi }
     {
-        let seat = self.seats.last_mut()?;
-        let progress = self.multi.shared().progress(seat, handle)?;
-        Some(progress)
+        let seat = self.take_last()?;
+        let mut client = self.multi.shared().at(seat);
+        let progress = client.progress(handle);
+        self.put_last(client.into_seat()).ok()?;
+        progress
     }
 
     /// The last seat makes the calls of a script: how many, and how many events it has then seen. None where there is no such seat.
@@ -236,8 +249,10 @@ impl Whole {
         ensures { self.new.multi ≡ self.old.multi }
     {
         let claim = self.hand.take()?;
-        let seat = self.workers.first_mut()?;
-        match self.multi.shared().give_back(rt, seat, claim, Job) {
+        let mut worker = take_at(self.multi.shared(), &mut self.workers, 0)?;
+        let given = worker.give_back(rt, claim, Job);
+        put_at(self.multi.shared(), &mut self.workers, 0, worker).ok()?;
+        match given {
             Ok(GiveBackReply::Back) => Some(true),
             Ok(GiveBackReply::Stale(_)) => Some(false),
             Err(_) => None,
@@ -250,8 +265,10 @@ impl Whole {
         ensures { self.new.multi ≡ self.old.multi }
     {
         let claim = self.hand.take()?;
-        let seat = self.workers.first_mut()?;
-        match self.multi.shared().finish(rt, seat, claim, end) {
+        let mut worker = take_at(self.multi.shared(), &mut self.workers, 0)?;
+        let ended = worker.finish(rt, claim, end);
+        put_at(self.multi.shared(), &mut self.workers, 0, worker).ok()?;
+        match ended {
             Ok(FinishReply::OutOfMemory(claim, _)) => {
                 let _kept = self.hand.keep(claim);
                 Some(Reply::OutOfMemory)
