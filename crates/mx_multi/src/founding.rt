@@ -63,12 +63,41 @@ fn readers(
     Ok(readers)
 }
 
+// Readers for the seats, and for the workers.
+fn all_readers(
+    alloc: Global,
+    log: &mut BoardWriter,
+    limits: Limits,
+) -> Result<(VecDeque<BoardReader>, VecDeque<BoardReader>), OutOfMemory>
+    requires within { are_within limits ≡ true }
+    requires published { log.old.published ≡ log.old.events }
+    ensures same { log.new ≡ log.old }
+    ensures readers { IfOk result (λ r. AreReaders false 0 log.old.events log.old.book r.0.items × (deque_len r.0 ≡ limits.seats) × AreReaders true 0 log.old.events log.old.book r.1.items × (deque_len r.1 ≡ limits.workers)) }
+{
+    let for_seats = readers(alloc, log, limits.seats, false)?;
+    let for_workers = readers(alloc, log, limits.workers, true)?;
+    Ok((for_seats, for_workers))
+}
+
+// Places for the seats, and for the workers' seats.
+fn seat_places<Q: Work + Drop, O: Ending + Drop>(
+    alloc: Global,
+    limits: Limits,
+) -> Result<(Vec<Seat<Q, O>>, Vec<WorkerSeat<Q, O>>), OutOfMemory>
+    ensures none { IfOk result (λ r. (r.0.items ≡ []) × (r.1.items ≡ [])) }
+    ensures enough { IfOk result (λ r. (limits.seats ≤ vec_capacity r.0) × (limits.workers ≤ vec_capacity r.1)) }
+{
+    let seats = Vec::with_capacity(alloc, usize::from(limits.seats))?;
+    let workers = Vec::with_capacity(alloc, usize::from(limits.workers))?;
+    Ok((seats, workers))
+}
+
 /// Makes the rooms, with readers of this board.
 ///
 /// # Errors
 ///
 /// `OutOfMemory` where a growth is refused.
-pub(crate) fn make_rooms<Q: Work + Drop, O: Ending + Drop>(
+fn make_rooms<Q: Work + Drop, O: Ending + Drop>(
     alloc: Global,
     log: &mut BoardWriter,
     limits: Limits,
@@ -78,12 +107,11 @@ pub(crate) fn make_rooms<Q: Work + Drop, O: Ending + Drop>(
     ensures same { log.new ≡ log.old }
     ensures rooms { IfOk result (AreRooms limits log.old.events log.old.book) }
 {
+    // What is much to drop comes last.
+    let (for_seats, for_workers) = all_readers(alloc, log, limits)?;
     let (words, notes) = ProgressTable::new(alloc, limits.seats + limits.workers)?;
+    let (seats, workers) = seat_places(alloc, limits)?;
     let lock = EmptyLock::new(alloc)?;
-    let seats = Vec::with_capacity(alloc, usize::from(limits.seats))?;
-    let workers = Vec::with_capacity(alloc, usize::from(limits.workers))?;
-    let for_seats = readers(alloc, log, limits.seats, false)?;
-    let for_workers = readers(alloc, log, limits.workers, true)?;
     Ok(Rooms {
         lock,
         words,
@@ -93,6 +121,32 @@ pub(crate) fn make_rooms<Q: Work + Drop, O: Ending + Drop>(
         seats,
         workers,
     })
+}
+
+/// The rooms, with readers of this board, beside it. Where a growth is refused the board is closed.
+///
+/// # Errors
+///
+/// `OutOfMemory` where a growth is refused.
+pub(crate) fn rooms_by<Q: Work + Drop, O: Ending + Drop, R: Wait>(
+    rt: &R,
+    alloc: Global,
+    log: BoardWriter,
+    limits: Limits,
+) -> Result<(Rooms<Q, O>, BoardWriter), OutOfMemory>
+    requires within { are_within limits ≡ true }
+    requires published { log.published ≡ log.events }
+    ensures log { IfOk result (λ r. r.1 ≡ log) }
+    ensures rooms { IfOk result (λ r. AreRooms limits log.events log.book r.0) }
+{
+    let mut log = log;
+    match make_rooms(alloc, &mut log, limits) {
+        Ok(rooms) => Ok((rooms, log)),
+        Err(OutOfMemory) => {
+            let _table = log.close(rt);
+            Err(OutOfMemory)
+        }
+    }
 }
 
 // A seat for each reader, with the next keys.

@@ -3,7 +3,7 @@ ghost use Rattle.std.specs.Prelude.{◌≡◌, ◌&&◌, nat_le, true, false, Er
 ghost use Rattle.mx_multi.specs.Opening.{are_within, open_number, IsOpened};
 ghost use Rattle.mx_types.specs.Limits.{is_history, most_seats};
 
-use crate::founding::{found, make_rooms};
+use crate::founding::{found, rooms_by};
 use crate::multi::Multi;
 use crate::owned::OwnedMulti;
 use crate::seat::{Seat, WorkerSeat};
@@ -114,17 +114,13 @@ impl<Q: Work + Drop, O: Ending + Drop> Multi<Q, O> {
         ensures { IfOk result (λ r. IsOpened limits r.0 r.1.items r.2.items) }
     {
         let places = usize::from(limits.seats) + usize::from(limits.workers);
-        let mut log = board(rt, alloc, places)?;
-        let rooms = match make_rooms(alloc, &mut log, limits) {
-            Ok(rooms) => rooms,
-            Err(OutOfMemory) => {
-                let _table = log.close(rt);
-                return Err(OutOfMemory);
-            }
-        };
+        let log = board(rt, alloc, places)?;
+        let (rooms, log) = rooms_by(rt, alloc, log, limits)?;
         match Engine::new(alloc, limits.history, log) {
             Ok(engine) => Ok(found(rt, rooms, engine, limits)),
             Err(log) => {
+                // By a call, which is less to prove than a drop at the end of the block.
+                drop(rooms);
                 let _table = log.close(rt);
                 Err(OutOfMemory)
             }

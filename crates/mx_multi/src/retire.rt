@@ -10,7 +10,7 @@ ghost use Rattle.mx_multi.specs.Opening.{AreRooms};
 ghost use Rattle.mx_multi.specs.Retiring.{refusal_number, AllFind, AllToldOf, Hinders, IsRefused, IsRetiredTo, MatchRetiring, MayRetire, OneFindsOther};
 ghost use Rattle.mx_multi.specs.Seats.{Finds};
 
-use crate::founding::{Rooms, found, make_rooms};
+use crate::founding::{Rooms, found, rooms_by};
 use crate::multi::{Multi, fits};
 use crate::owned::OwnedMulti;
 use crate::seat::{Seat, SeatOf, WorkerSeat};
@@ -242,13 +242,7 @@ impl<Q: Work + Drop, O: Ending + Drop> Multi<Q, O> {
         retiring_keeps();
         let kept = engine.kept(alloc)?;
         let places = usize::from(self.limits.seats) + usize::from(self.limits.workers);
-        let mut log = board_of(rt, alloc, places, &kept)?;
-        match make_rooms(alloc, &mut log, self.limits) {
-            Ok(rooms) => Ok((rooms, log)),
-            Err(OutOfMemory) => {
-                let _table = log.close(rt);
-                Err(OutOfMemory)
-            }
-        }
+        let log = board_of(rt, alloc, places, &kept)?;
+        rooms_by(rt, alloc, log, self.limits)
     }
 }
