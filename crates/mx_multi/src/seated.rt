@@ -399,6 +399,7 @@ impl<'m, Q: Work + Drop, O: Ending + Drop> Seated<'m, Application, Q, O> {
         }
     }
 
+    // rule multi-reads
     /// Makes a call that reads a published version, and waits for nothing. None, and nothing changes, where no version can be read, and
     /// where it is another call.
     pub fn read(&mut self, call: Call) -> Option<Reply>
@@ -439,6 +440,7 @@ impl<'m, Q: Work + Drop, O: Ending + Drop> Seated<'m, Application, Q, O> {
 }
 
 impl<'m, Q: Work + Drop, O: Ending + Drop> Seated<'m, AtWork, Q, O> {
+    // rule multi-least-ticket
     /// Takes the work of the lowest ticket in the queue, which then runs as this worker's seat has seen; its claim has the
     /// handle and the slot of that addition, and is of its request. None where the queue is empty, which the seat has then seen
     /// too, or where the seat isn't one of this multi handle's, and nothing changes.
