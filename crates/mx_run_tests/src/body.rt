@@ -39,11 +39,30 @@ pub(crate) fn prints<R: Read + Drop>(
     u32::from(ended) == status && written.as_slice() == output
 }
 
+/// The same where it reads these bytes.
+pub(crate) fn prints_of(
+    alloc: Global,
+    method: Method,
+    input: &[u8],
+    status: u32,
+    output: &[u8],
+) -> bool {
+    prints(alloc, method, input, status, output)
+}
+
 /// One after the other.
 fn joined(alloc: Global, both: &[Long<'_>; 2]) -> Result<Vec<u8>, AllocError> {
     let mut bytes = bytes_of(alloc, both[0])?;
     add_long(&mut bytes, both[1])?;
     Ok(bytes)
+}
+
+/// Whether `body` writes both, one after the other, where it reads these bytes.
+fn prints_both(alloc: Global, input: &[u8], both: &[Long<'_>; 2]) -> Result<bool, AllocError> {
+    let output = joined(alloc, both)?;
+    let are_printed = prints_of(alloc, Method::Get, input, 0, output.as_slice());
+    drop(output);
+    Ok(are_printed)
 }
 
 /// A chunked body of 70,000 pieces of one byte, one of 70,000 bytes (11170 in hexadecimal), and one of two: more pieces than one write
@@ -69,17 +88,21 @@ static GATHERED: [Long<'static>; 2] = [
     (b"", b"b", 70_000, b"cd"),
 ];
 
-fn see_pieces(alloc: Global, tally: &mut Tally) -> Result<(), AllocError> {
+fn are_gathered(alloc: Global) -> Result<bool, AllocError> {
     let input = joined(alloc, &MANY_PIECES)?;
-    let output = joined(alloc, &GATHERED)?;
-    let is_right = prints(alloc, Method::Get, input.as_slice(), 0, output.as_slice());
-    tally.hold("pieces are gathered", is_right)
+    let gathered = prints_both(alloc, input.as_slice(), &GATHERED);
+    drop(input);
+    gathered
+}
+
+fn see_pieces(alloc: Global, tally: &mut Tally) -> Result<(), AllocError> {
+    tally.hold("pieces are gathered", are_gathered(alloc)?)
 }
 
 /// Each front of a head, but for none of it, is refused.
 fn see_cuts(alloc: Global, tally: &mut Tally) -> Result<(), AllocError> {
     for cut in 1..HEAD.len() {
-        let is_right = prints(alloc, Method::Get, &HEAD[..cut], 8, b"FAULT 8\n");
+        let is_right = prints_of(alloc, Method::Get, &HEAD[..cut], 8, b"FAULT 8\n");
         tally.hold("a head that is cut", is_right)?;
     }
     Ok(())
@@ -100,7 +123,7 @@ fn see_random(alloc: Global, tally: &mut Tally) -> Result<(), AllocError> {
     let mut bytes = [b'!'; 101];
     for _ in 0..200 {
         state = set_random(&mut bytes[1..], state);
-        let is_right = prints(alloc, Method::Get, bytes.as_slice(), 8, b"FAULT 8\n");
+        let is_right = prints_of(alloc, Method::Get, bytes.as_slice(), 8, b"FAULT 8\n");
         tally.hold("random bytes", is_right)?;
     }
     Ok(())
@@ -222,12 +245,10 @@ fn see_filled(alloc: Global, tally: &mut Tally) -> Result<(), AllocError> {
 }
 
 /// Goes through all of them.
-pub(crate) fn tally(alloc: Global) -> Result<Tally, AllocError> {
-    let mut tally = Tally::new(alloc);
-    see_pieces(alloc, &mut tally)?;
-    see_cuts(alloc, &mut tally)?;
-    see_random(alloc, &mut tally)?;
-    see_buffers(alloc, &mut tally)?;
-    see_filled(alloc, &mut tally)?;
-    Ok(tally)
+pub(crate) fn see_all(alloc: Global, tally: &mut Tally) -> Result<(), AllocError> {
+    see_pieces(alloc, tally)?;
+    see_cuts(alloc, tally)?;
+    see_random(alloc, tally)?;
+    see_buffers(alloc, tally)?;
+    see_filled(alloc, tally)
 }

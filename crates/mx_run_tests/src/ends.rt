@@ -145,18 +145,21 @@ fn end_of(alloc: Global, row: Row) -> Result<End, AllocError> {
     })
 }
 
-/// Whether the line of an end is that one, and its object that one, too.
-fn is_printed(alloc: Global, row: Row) -> Result<bool, AllocError> {
-    let end = end_of(alloc, row)?;
+/// Whether the line of an end is that one.
+fn is_line(alloc: Global, end: &End, row: Row) -> bool {
     let mut line = Vec::new(alloc);
+    let _ = print_line(&mut Output::new(&mut line), end);
+    line.as_slice() == row.line
+}
+
+/// Whether its object is that one.
+fn is_object(alloc: Global, end: &End, row: Row) -> bool {
     let mut object = Vec::new(alloc);
-    let _ = print_line(&mut Output::new(&mut line), &end);
-    let _ = print_json(alloc, &mut Output::new(&mut object), &end);
-    let is_object = match object.as_slice().strip_prefix(row.front) {
+    let _ = print_json(alloc, &mut Output::new(&mut object), end);
+    match object.as_slice().strip_prefix(row.front) {
         Some(back) => back == row.back,
         None => false,
-    };
-    Ok(is_object && line.as_slice() == row.line)
+    }
 }
 
 /// A writer that takes nothing.
@@ -166,17 +169,24 @@ const FULL: Pipe = Pipe {
 };
 
 /// Whether a line and an object that can't be written give that error.
-fn is_unwritten(alloc: Global, row: Row) -> Result<bool, AllocError> {
+fn is_unwritten(alloc: Global, end: &End) -> bool {
+    let line = print_line(&mut Output::new(FULL), end);
+    let object = print_json(alloc, &mut Output::new(FULL), end);
+    line.is_err() && matches!(object, Err(JsonError::Unwritten))
+}
+
+fn see_end(alloc: Global, tally: &mut Tally, row: Row) -> Result<(), AllocError> {
     let end = end_of(alloc, row)?;
-    let line = print_line(&mut Output::new(FULL), &end);
-    let object = print_json(alloc, &mut Output::new(FULL), &end);
-    Ok(line.is_err() && matches!(object, Err(JsonError::Unwritten)))
+    let is_printed = is_line(alloc, &end, row) && is_object(alloc, &end, row);
+    let is_unwritten = is_unwritten(alloc, &end);
+    drop(end);
+    tally.see(is_printed, row.name, "printed otherwise\n")?;
+    tally.see(is_unwritten, row.name, "a write that fails\n")
 }
 
 fn see_ends(alloc: Global, tally: &mut Tally) -> Result<(), AllocError> {
     for row in &ENDS {
-        tally.see(is_printed(alloc, *row)?, row.name, "printed otherwise\n")?;
-        tally.see(is_unwritten(alloc, *row)?, row.name, "a write that fails\n")?;
+        see_end(alloc, tally, *row)?;
     }
     Ok(())
 }
@@ -219,12 +229,24 @@ static CASES: [Case; 17] = [
     ),
 ];
 
+/// Counts a row of this name.
+fn hold(
+    tally: &mut Tally,
+    name: Result<String, AllocError>,
+    is_right: bool,
+) -> Result<(), AllocError> {
+    let name = name?;
+    let held = tally.hold(name.as_str(), is_right);
+    drop(name);
+    held
+}
+
 fn see_decisions(alloc: Global, tally: &mut Tally) -> Result<(), AllocError> {
     for case in &CASES {
         let (code, method, status, content_on_error, decision) = *case;
         let is_right = verdict_of(code, method, status, content_on_error) == decision;
-        let name = format!(in alloc; "the decision on {} {status}", method.as_str())?;
-        tally.hold(name.as_str(), is_right)?;
+        let name = format!(in alloc; "the decision on {} {status}", method.as_str());
+        hold(tally, name, is_right)?;
     }
     Ok(())
 }
@@ -257,17 +279,15 @@ fn status_after(ends: &[(u64, SaveCode)]) -> u8 {
 
 fn see_statuses(alloc: Global, tally: &mut Tally) -> Result<(), AllocError> {
     for (at, row) in RUNS.iter().enumerate() {
-        let name = format!(in alloc; "exit status {at}")?;
-        tally.hold(name.as_str(), status_after(row.0) == row.1)?;
+        let name = format!(in alloc; "exit status {at}");
+        hold(tally, name, status_after(row.0) == row.1)?;
     }
     Ok(())
 }
 
 /// Goes through all of them.
-pub(crate) fn tally(alloc: Global) -> Result<Tally, AllocError> {
-    let mut tally = Tally::new(alloc);
-    see_ends(alloc, &mut tally)?;
-    see_decisions(alloc, &mut tally)?;
-    see_statuses(alloc, &mut tally)?;
-    Ok(tally)
+pub(crate) fn see_all(alloc: Global, tally: &mut Tally) -> Result<(), AllocError> {
+    see_ends(alloc, tally)?;
+    see_decisions(alloc, tally)?;
+    see_statuses(alloc, tally)
 }

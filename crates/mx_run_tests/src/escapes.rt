@@ -76,6 +76,27 @@ pub(crate) fn add_unescaped(bytes: &mut Vec<u8>, text: &str) -> Result<bool, All
     Ok(matches!(escape, Escape::Open))
 }
 
+/// The escape of a byte that has one of its own.
+fn escape_of(byte: u8) -> Option<&'static str> {
+    if byte == b'\\' {
+        Some("\\\\")
+    } else if byte == b'\r' {
+        Some("\\r")
+    } else if byte == b'\t' {
+        Some("\\t")
+    } else {
+        None
+    }
+}
+
+/// Adds a byte by its number.
+fn add_number(alloc: Global, text: &mut String, byte: u8) -> Result<(), AllocError> {
+    let escape = format!(in alloc; "\\x{byte:02x}")?;
+    let added = text.push_str(escape.as_str());
+    drop(escape);
+    added
+}
+
 /// What is seen, in lines as rows have them.
 #[derive(Drop)]
 pub(crate) struct Seen {
@@ -103,15 +124,13 @@ impl Seen {
     }
 
     fn write_byte(&mut self, byte: u8) -> Result<(), AllocError> {
-        match byte {
-            b'\\' => self.text.push_str("\\\\"),
-            b'\r' => self.text.push_str("\\r"),
-            b'\t' => self.text.push_str("\\t"),
-            b' '..=b'~' => self.text.push(char::from(byte)),
-            _ => self
-                .text
-                .push_str(format!(in self.alloc; "\\x{byte:02x}")?.as_str()),
+        if let Some(escape) = escape_of(byte) {
+            return self.text.push_str(escape);
         }
+        if b' ' <= byte && byte <= b'~' {
+            return self.text.push(char::from(byte));
+        }
+        add_number(self.alloc, &mut self.text, byte)
     }
 
     fn write_run(&mut self, byte: u8) -> Result<(), AllocError> {

@@ -23,16 +23,17 @@ impl Read for Pieces<'_> {
     }
 }
 
-/// Gives what pieces give, but has nothing now every other time.
+/// Gives what pieces give, but has nothing now every other time if it is late.
 #[derive(Drop)]
 pub(crate) struct Stalling<'a> {
     pub(crate) pieces: Pieces<'a>,
+    pub(crate) is_late: bool,
     pub(crate) stalls: bool,
 }
 
 impl Read for Stalling<'_> {
     fn read(&mut self, buffer: &mut [u8]) -> io::Result<usize> {
-        self.stalls = !self.stalls;
+        self.stalls = self.is_late && !self.stalls;
         if self.stalls {
             return Err(Error::from(ErrorKind::WouldBlock));
         }

@@ -2,13 +2,13 @@
 use crate::fakes::Pipe;
 use crate::tally::Tally;
 use crate::transfers::{Planned, fetch_all};
+use futures::test::MockTask;
 use mx_reason::{Cut, Fault, Reason, What};
 use mx_run_get::{Fetched, print_get};
 use mx_run_io::Output;
 use mx_types::Code;
-use std::alloc::{AllocGlobal, Global};
+use std::alloc::{AllocError, Global};
 use std::io;
-use std::random::RandomSource;
 
 /// Some GETs with their ends, the exit status, and all that is printed.
 #[derive(Clone, Copy)]
@@ -73,15 +73,6 @@ fn is_printed(alloc: Global, fetched: &[Fetched], row: Row) -> bool {
     let mut written = Vec::new(alloc);
     let status = print_get(&mut Output::new(&mut written), fetched);
     status == row.status && written.as_slice() == row.printed
-}
-
-fn see_printed<R: RandomSource + AllocGlobal>(rt: &R, tally: &mut Tally) -> io::Result<()> {
-    for row in &PRINTED {
-        let fetched = fetch_all(rt, row.planned)?;
-        let is_right = is_printed(rt.alloc(), fetched.as_slice(), *row);
-        tally.hold(row.name, is_right)?;
-    }
-    Ok(())
 }
 
 /// Of a failure the code, the status, how many bytes came, and the reason.
@@ -168,16 +159,6 @@ fn told_of(end: &Fetched) -> Option<Told> {
     }
 }
 
-fn see_failing<R: RandomSource + AllocGlobal>(rt: &R, tally: &mut Tally) -> io::Result<()> {
-    for row in &FAILING {
-        let (name, planned, told) = *row;
-        for end in &fetch_all(rt, &[planned])? {
-            tally.hold(name, told_of(end) == told)?;
-        }
-    }
-    Ok(())
-}
-
 /// How many writes are taken, whether the flush succeeds, and the exit status.
 static PIPES: [(usize, bool, u8); 7] = [
     (1000, true, 3),
@@ -194,26 +175,92 @@ fn status_of(fetched: &[Fetched], writes: usize, is_flushed: bool) -> u8 {
     print_get(&mut Output::new(Pipe { writes, is_flushed }), fetched)
 }
 
-fn see_pipes<R: RandomSource + AllocGlobal>(rt: &R, tally: &mut Tally) -> io::Result<()> {
-    tally.hold("nothing to write", status_of(&[], 0, true) == 0)?;
-    let planned = [
-        Planned::Response(b"HTTP/1.1 200 OK\r\nContent-Length: 5\r\n\r\nhello"),
-        Planned::Refused(Code::UrlMalformat),
-    ];
-    let fetched = fetch_all(rt, &planned)?;
+/// What is written to each of the pipes.
+static PIPED: [Planned; 2] = [
+    Planned::Response(b"HTTP/1.1 200 OK\r\nContent-Length: 5\r\n\r\nhello"),
+    Planned::Refused(Code::UrlMalformat),
+];
+
+fn see_pipes(tally: &mut Tally, fetched: &[Fetched]) -> Result<(), AllocError> {
     for row in &PIPES {
         let (writes, is_flushed, status) = *row;
-        let is_right = status_of(fetched.as_slice(), writes, is_flushed) == status;
+        let is_right = status_of(fetched, writes, is_flushed) == status;
         tally.hold("a write that fails", is_right)?;
     }
     Ok(())
 }
 
+/// What is to be seen of some GETs.
+#[derive(Clone, Copy)]
+enum Seen {
+    /// What is printed.
+    Printed(Row),
+    /// What is reported of the only one.
+    Failing(&'static str, Option<Told>),
+    /// The exit status for each of the pipes.
+    Pipes,
+}
+
+fn see_ends(
+    alloc: Global,
+    tally: &mut Tally,
+    fetched: &[Fetched],
+    seen: Seen,
+) -> Result<(), AllocError> {
+    match seen {
+        Seen::Printed(row) => tally.hold(row.name, is_printed(alloc, fetched, row)),
+        Seen::Failing(name, told) => {
+            let is_told = fetched.len() == 1 && told_of(&fetched[0]) == told;
+            tally.hold(name, is_told)
+        }
+        Seen::Pipes => see_pipes(tally, fetched),
+    }
+}
+
+/// Goes through what is to be seen of these GETs, whose ends it adds.
+fn see_into(
+    alloc: Global,
+    task: &MockTask,
+    tally: &mut Tally,
+    planned: &[Planned],
+    seen: Seen,
+    fetched: &mut Vec<Fetched>,
+) -> io::Result<()> {
+    fetch_all(alloc, task, planned, fetched)?;
+    see_ends(alloc, tally, fetched.as_slice(), seen)?;
+    Ok(())
+}
+
+/// Goes through what is to be seen of these GETs.
+fn see(
+    alloc: Global,
+    task: &MockTask,
+    tally: &mut Tally,
+    planned: &[Planned],
+    seen: Seen,
+) -> io::Result<()> {
+    let mut fetched = Vec::new(alloc);
+    let ended = see_into(alloc, task, tally, planned, seen, &mut fetched);
+    drop(fetched);
+    ended
+}
+
+fn see_by(alloc: Global, task: &MockTask, tally: &mut Tally) -> io::Result<()> {
+    for row in &PRINTED {
+        see(alloc, task, tally, row.planned, Seen::Printed(*row))?;
+    }
+    for row in &FAILING {
+        let (name, planned, told) = *row;
+        see(alloc, task, tally, &[planned], Seen::Failing(name, told))?;
+    }
+    tally.hold("nothing to write", status_of(&[], 0, true) == 0)?;
+    see(alloc, task, tally, &PIPED, Seen::Pipes)
+}
+
 /// Goes through all of them.
-pub(crate) fn tally<R: RandomSource + AllocGlobal>(rt: &R) -> io::Result<Tally> {
-    let mut tally = Tally::new(rt.alloc());
-    see_printed(rt, &mut tally)?;
-    see_failing(rt, &mut tally)?;
-    see_pipes(rt, &mut tally)?;
-    Ok(tally)
+pub(crate) fn see_all(rt: &HostRuntime, tally: &mut Tally) -> io::Result<()> {
+    let task = MockTask::new(rt)?;
+    let seen = see_by(rt.alloc(), &task, tally);
+    drop(task);
+    seen
 }

@@ -22,34 +22,102 @@ mod transfers;
 mod words;
 
 use crate::tally::Tally;
+use std::alloc::{AllocError, Global};
 use std::{fs, io};
 
-/// Prints the result of a table.
-fn print(rt: &impl Print, name: &str, tally: &Tally) -> io::Result<()> {
-    println!(rt; "{name}: {} rows, {} wrong", tally.rows, tally.wrong)?;
-    print!(rt; "{}", tally.text)
+/// Where the rows of a table are.
+#[derive(Clone, Copy)]
+enum Table {
+    /// In the file of its name.
+    File,
+    /// In `mx_responses`.
+    Responses,
+    Body,
+    Play,
+    Get,
+    Ends,
+    Retries,
 }
 
-/// Prints how many rows of a table of another crate are wrong, however many it has.
-fn print_wrong(rt: &impl Print, name: &str, tally: &Tally) -> io::Result<()> {
-    println!(rt; "{name}: {} wrong", tally.wrong)?;
-    print!(rt; "{}", tally.text)
-}
+/// The tables by their names, as they are printed.
+static TABLES: [(&str, Table); 11] = [
+    ("commands", Table::File),
+    ("hints", Table::File),
+    ("scripts", Table::File),
+    ("responses", Table::File),
+    ("lists", Table::File),
+    ("mx_responses", Table::Responses),
+    ("body", Table::Body),
+    ("play", Table::Play),
+    ("get", Table::Get),
+    ("ends of save", Table::Ends),
+    ("retries of save", Table::Retries),
+];
 
 /// Goes through the rows of a file.
-fn go_through(rt: &HostRuntime, name: &str) -> io::Result<()> {
+fn see_file(rt: &HostRuntime, name: &str, tally: &mut Tally) -> io::Result<()> {
     let text = fs::read_to_string(rt, name)?;
-    print(rt, name, &texts::tally(rt.alloc(), text.as_str())?)
+    let seen = texts::see_all(rt.alloc(), text.as_str(), tally);
+    drop(text);
+    seen?;
+    Ok(())
+}
+
+/// Goes through the rows of a table of values.
+fn see_values(alloc: Global, table: Table, tally: &mut Tally) -> Result<(), AllocError> {
+    match table {
+        Table::Responses => responses::see_all(alloc, tally),
+        Table::Body => body::see_all(alloc, tally),
+        Table::Play => play::see_all(alloc, tally),
+        Table::Ends => ends::see_all(alloc, tally),
+        Table::Retries => retries::see_all(alloc, tally),
+        Table::File | Table::Get => Ok(()),
+    }
+}
+
+/// Goes through the rows of a table.
+fn see(rt: &HostRuntime, name: &str, table: Table, tally: &mut Tally) -> io::Result<()> {
+    match table {
+        Table::File => see_file(rt, name, tally),
+        Table::Get => gets::see_all(rt, tally),
+        _ => {
+            see_values(rt.alloc(), table, tally)?;
+            Ok(())
+        }
+    }
+}
+
+/// The result of a table. Of one of another crate it isn't said how many rows it has.
+fn result_of(alloc: Global, name: &str, table: Table, tally: &Tally) -> Result<String, AllocError> {
+    let Tally { rows, wrong, text } = tally;
+    match table {
+        Table::Responses => format!(in alloc; "{name}: {wrong} wrong\n{text}"),
+        _ => format!(in alloc; "{name}: {rows} rows, {wrong} wrong\n{text}"),
+    }
+}
+
+/// Prints a text.
+fn print(rt: &HostRuntime, text: &str) -> io::Result<()> {
+    print!(rt; "{text}")
+}
+
+/// Goes through the rows of a table, and prints its result.
+fn try_table(rt: &HostRuntime, name: &str, table: Table) -> io::Result<()> {
+    let mut tally = Tally::new(rt.alloc());
+    let seen = see(rt, name, table, &mut tally);
+    let result = result_of(rt.alloc(), name, table, &tally);
+    drop(tally);
+    seen?;
+    let result = result?;
+    let printed = print(rt, result.as_str());
+    drop(result);
+    printed
 }
 
 fn main(rt: HostRuntime) -> io::Result<()> {
-    for name in ["commands", "hints", "scripts", "responses", "lists"] {
-        go_through(&rt, name)?;
+    for row in &TABLES {
+        let (name, table) = *row;
+        try_table(&rt, name, table)?;
     }
-    print_wrong(&rt, "mx_responses", &responses::tally(rt.alloc())?)?;
-    print(&rt, "body", &body::tally(rt.alloc())?)?;
-    print(&rt, "play", &play::tally(rt.alloc())?)?;
-    print(&rt, "get", &gets::tally(&rt)?)?;
-    print(&rt, "ends of save", &ends::tally(rt.alloc())?)?;
-    print(&rt, "retries of save", &retries::tally(rt.alloc())?)
+    Ok(())
 }

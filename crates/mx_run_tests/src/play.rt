@@ -183,13 +183,25 @@ fn see_buffers(alloc: Global, tally: &mut Tally) -> Result<(), AllocError> {
     )
 }
 
+fn add_line(alloc: Global, text: &mut String, word: &str, number: u32) -> Result<(), AllocError> {
+    let line = format!(in alloc; "{word} {number}\n")?;
+    let added = text.push_str(line.as_str());
+    drop(line);
+    added
+}
+
+/// Adds the word with each of 256 numbers, a line each, and then the end.
+fn add_numbered(alloc: Global, text: &mut String, word: &str, end: &str) -> Result<(), AllocError> {
+    for number in 0..256 {
+        add_line(alloc, text, word, number)?;
+    }
+    text.push_str(end)
+}
+
 /// The word with each of 256 numbers, a line each, and then the end.
 fn numbered(alloc: Global, word: &str, end: &str) -> Result<String, AllocError> {
     let mut text = String::new(alloc);
-    for number in 0..256 {
-        text.push_str(format!(in alloc; "{word} {number}\n")?.as_str())?;
-    }
-    text.push_str(end)?;
+    add_numbered(alloc, &mut text, word, end)?;
     Ok(text)
 }
 
@@ -201,24 +213,35 @@ const BEHIND: &str = "add 256\nadd 0\npause 0\nwakeup\ndone 0 0 1\nread\nremove 
 const PRINTED_BEHIND: &str =
     "table-full\nadded-already\nhistory-full\nfailure\nrecorded\nmessage 0 0 0 1 left 0\nremoved\nhistory-full\n";
 
+/// Whether `play` prints that of a script, and ends well.
+fn plays_whole(alloc: Global, script: &str, printed: &str) -> bool {
+    let mut written = Vec::new(alloc);
+    let ended = run(alloc, script.as_bytes(), MOST_READS, &mut written);
+    ended == Some(0) && written.as_slice() == printed.as_bytes()
+}
+
+/// Whether it does of additions, and of what stands behind them.
+fn plays_full(alloc: Global, script: &str) -> Result<bool, AllocError> {
+    let printed = numbered(alloc, "added", PRINTED_BEHIND)?;
+    let is_right = plays_whole(alloc, script, printed.as_str());
+    drop(printed);
+    Ok(is_right)
+}
+
 // rule core-add-refusals
 // rule core-room
 fn see_full(alloc: Global, tally: &mut Tally) -> Result<(), AllocError> {
     let script = numbered(alloc, "add", BEHIND)?;
-    let printed = numbered(alloc, "added", PRINTED_BEHIND)?;
-    let mut written = Vec::new(alloc);
-    let ended = run(alloc, script.as_bytes(), MOST_READS, &mut written);
-    let is_right = ended == Some(0) && written.as_slice() == printed.as_bytes();
-    tally.hold("the table and the history are full", is_right)
+    let is_right = plays_full(alloc, script.as_str());
+    drop(script);
+    tally.hold("the table and the history are full", is_right?)
 }
 
 /// Goes through all of them.
-pub(crate) fn tally(alloc: Global) -> Result<Tally, AllocError> {
-    let mut tally = Tally::new(alloc);
-    see_failing_reads(alloc, &mut tally)?;
-    see_most_reads(alloc, &mut tally)?;
-    see_failing_writes(alloc, &mut tally)?;
-    see_buffers(alloc, &mut tally)?;
-    see_full(alloc, &mut tally)?;
-    Ok(tally)
+pub(crate) fn see_all(alloc: Global, tally: &mut Tally) -> Result<(), AllocError> {
+    see_failing_reads(alloc, tally)?;
+    see_most_reads(alloc, tally)?;
+    see_failing_writes(alloc, tally)?;
+    see_buffers(alloc, tally)?;
+    see_full(alloc, tally)
 }

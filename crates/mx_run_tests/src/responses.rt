@@ -1,12 +1,19 @@
 //! `run_body` over the responses of `mx_responses`, whole, and with reads and writes that fail.
-use crate::body::{prints, run};
+use crate::body::{prints, prints_of, run};
 use crate::fakes::{Full, Pieces};
 use crate::tally::Tally;
 use mx_responses::response::Response;
 use mx_responses::table::responses;
 use mx_types::Method;
 use std::alloc::{AllocError, Global};
-use std::io::Read;
+
+/// The line that is printed of a response that is decoded, and leaves so many bytes.
+fn ok_line(alloc: Global, response: &Response, left: usize) -> Result<String, AllocError> {
+    let status = response.status;
+    let body = response.body.len();
+    let keep = if response.keep { "yes" } else { "no" };
+    format!(in alloc; "OK status={status} body={body} keep={keep} left={left}\n")
+}
 
 /// The line that is printed of a response that has so many bytes.
 fn line_of(alloc: Global, response: &Response, len: usize) -> Result<String, AllocError> {
@@ -14,19 +21,22 @@ fn line_of(alloc: Global, response: &Response, len: usize) -> Result<String, All
     if number != 0 {
         return format!(in alloc; "FAULT {number}\n");
     }
-    let status = response.status;
-    let body = response.body.len();
-    let keep = if response.keep { "yes" } else { "no" };
     let left = len.saturating_sub(response.decided.unwrap_or(len));
-    format!(in alloc; "OK status={status} body={body} keep={keep} left={left}\n")
+    ok_line(alloc, response, left)
 }
 
-/// What is printed of it.
-fn output_of(alloc: Global, response: &Response, len: usize) -> Result<Vec<u8>, AllocError> {
+/// Adds what is printed of it.
+fn add_output(
+    alloc: Global,
+    output: &mut Vec<u8>,
+    response: &Response,
+    len: usize,
+) -> Result<(), AllocError> {
     let line = line_of(alloc, response, len)?;
-    let mut output = Vec::from_slice(alloc, line.as_bytes())?;
-    output.extend_from_slice(response.body)?;
-    Ok(output)
+    let added = output.extend_from_slice(line.as_bytes());
+    drop(line);
+    added?;
+    output.extend_from_slice(response.body)
 }
 
 /// A response, and its result.
@@ -50,30 +60,26 @@ fn row_of<'a>(response: &Response, bytes: &'a [u8], output: &'a [u8]) -> Row<'a>
     }
 }
 
-/// Whether `body` ends so, and writes that output, where a reader gives the bytes.
-fn prints_row<R: Read + Drop>(alloc: Global, row: Row<'_>, reader: R) -> bool {
-    prints(alloc, row.method, reader, row.status, row.output)
-}
-
-/// A reader that gives a byte a read, and fails after so many reads.
-fn trickle(bytes: &[u8], reads: usize) -> Pieces<'_> {
-    Pieces {
-        bytes,
+/// Whether `body` ends so, and writes that output, where a reader gives a byte a read, and fails after so many reads.
+fn prints_by(alloc: Global, row: Row<'_>, reads: usize, status: u32, output: &[u8]) -> bool {
+    let reader = Pieces {
+        bytes: row.bytes,
         most: 1,
         reads,
-    }
+    };
+    prints(alloc, row.method, reader, status, output)
 }
 
 // rule program-failed-read
 /// Whether a failed read is printed wherever it comes, and the row where all went well: one read for each byte, and one for the end.
 fn tells_failing_reads(alloc: Global, row: Row<'_>) -> bool {
-    let bytes = row.bytes;
-    for reads in 0..=bytes.len() {
-        if !prints(alloc, row.method, trickle(bytes, reads), 56, b"FAULT 56\n") {
+    let count = row.bytes.len();
+    for reads in 0..=count {
+        if !prints_by(alloc, row, reads, 56, b"FAULT 56\n") {
             return false;
         }
     }
-    prints_row(alloc, row, trickle(bytes, bytes.len().saturating_add(1)))
+    prints_by(alloc, row, count.saturating_add(1), row.status, row.output)
 }
 
 /// What `body` ends with where the writer takes so many writes; `None` where it took other bytes than it should.
@@ -107,7 +113,7 @@ fn tells_failing_writes(alloc: Global, row: Row<'_>) -> bool {
 
 /// Tries it whole, with each read failing where it has at most 200 bytes, and with each write failing.
 fn see_row(alloc: Global, tally: &mut Tally, row: Row<'_>) -> Result<(), AllocError> {
-    let is_printed = prints_row(alloc, row, row.bytes);
+    let is_printed = prints_of(alloc, row.method, row.bytes, row.status, row.output);
     tally.see(is_printed, row.name, "printed otherwise\n")?;
     if row.bytes.len() <= 200 {
         tally.see(
@@ -123,14 +129,26 @@ fn see_row(alloc: Global, tally: &mut Tally, row: Row<'_>) -> Result<(), AllocEr
     )
 }
 
+fn see_bytes(
+    alloc: Global,
+    tally: &mut Tally,
+    response: &Response,
+    bytes: &[u8],
+) -> Result<(), AllocError> {
+    let mut output = Vec::new(alloc);
+    let seen = match add_output(alloc, &mut output, response, bytes.len()) {
+        Ok(()) => see_row(alloc, tally, row_of(response, bytes, output.as_slice())),
+        Err(error) => Err(error),
+    };
+    drop(output);
+    seen
+}
+
 fn see_response(alloc: Global, tally: &mut Tally, response: &Response) -> Result<(), AllocError> {
     let bytes = response.bytes(alloc)?;
-    let output = output_of(alloc, response, bytes.len())?;
-    see_row(
-        alloc,
-        tally,
-        row_of(response, bytes.as_slice(), output.as_slice()),
-    )
+    let seen = see_bytes(alloc, tally, response, bytes.as_slice());
+    drop(bytes);
+    seen
 }
 
 fn see_part(alloc: Global, tally: &mut Tally, rows: &[Response]) -> Result<(), AllocError> {
@@ -140,16 +158,10 @@ fn see_part(alloc: Global, tally: &mut Tally, rows: &[Response]) -> Result<(), A
     Ok(())
 }
 
-fn see_responses(alloc: Global, tally: &mut Tally) -> Result<(), AllocError> {
+/// Goes through all of them.
+pub(crate) fn see_all(alloc: Global, tally: &mut Tally) -> Result<(), AllocError> {
     for rows in responses() {
         see_part(alloc, tally, rows)?;
     }
     Ok(())
-}
-
-/// Goes through all of them.
-pub(crate) fn tally(alloc: Global) -> Result<Tally, AllocError> {
-    let mut tally = Tally::new(alloc);
-    see_responses(alloc, &mut tally)?;
-    Ok(tally)
 }

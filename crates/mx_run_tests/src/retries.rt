@@ -65,10 +65,24 @@ fn see_codes(tally: &mut Tally) -> Result<(), AllocError> {
     Ok(())
 }
 
+/// Counts a row whose name has a number.
+fn hold_number(
+    alloc: Global,
+    tally: &mut Tally,
+    name: &str,
+    number: u64,
+    is_right: bool,
+) -> Result<(), AllocError> {
+    let name = format!(in alloc; "{name} {number}")?;
+    let held = tally.hold(name.as_str(), is_right);
+    drop(name);
+    held
+}
+
 fn see_statuses(alloc: Global, tally: &mut Tally) -> Result<(), AllocError> {
     for status in 0..1_000u16 {
         let is_right = is_retried(Method::Get, Code::Ok, status) == STATUSES.contains(&status);
-        tally.hold(format!(in alloc; "status {status}")?.as_str(), is_right)?;
+        hold_number(alloc, tally, "status", u64::from(status), is_right)?;
     }
     Ok(())
 }
@@ -90,7 +104,7 @@ fn see_delays(alloc: Global, tally: &mut Tally) -> Result<(), AllocError> {
     for row in &DELAYS {
         let (tries, delay) = *row;
         let is_right = tries >= 1 && delay_ms(tries) == delay;
-        tally.hold(format!(in alloc; "delay {tries}")?.as_str(), is_right)?;
+        hold_number(alloc, tally, "delay", u64::from(tries), is_right)?;
     }
     Ok(())
 }
@@ -108,30 +122,37 @@ static DUE: [(u64, Option<u64>); 6] = [
     (30, Some(1)),
 ];
 
-// rule save-waiting
-fn see_due(alloc: Global, tally: &mut Tally) -> Result<(), AllocError> {
-    let mut waiting = Waiting::new(alloc);
+fn add_jobs(waiting: &mut Waiting) -> Result<(), AllocError> {
     for job in &JOBS {
-        waiting.add(Wait {
-            moment: job.0,
-            job: job.1,
-        })?;
+        let (moment, job) = *job;
+        waiting.add(Wait { moment, job })?;
     }
+    Ok(())
+}
+
+fn see_waiting(alloc: Global, tally: &mut Tally, waiting: &mut Waiting) -> Result<(), AllocError> {
+    add_jobs(waiting)?;
     tally.hold("the next moment", waiting.next() == Some(10))?;
     for row in &DUE {
         let (moment, job) = *row;
         let is_right = waiting.pop_due(moment) == job;
-        tally.hold(format!(in alloc; "due at {moment}")?.as_str(), is_right)?;
+        hold_number(alloc, tally, "due at", moment, is_right)?;
     }
     tally.hold("no next moment", waiting.next().is_none())
 }
 
+// rule save-waiting
+fn see_due(alloc: Global, tally: &mut Tally) -> Result<(), AllocError> {
+    let mut waiting = Waiting::new(alloc);
+    let seen = see_waiting(alloc, tally, &mut waiting);
+    drop(waiting);
+    seen
+}
+
 /// Goes through all of them.
-pub(crate) fn tally(alloc: Global) -> Result<Tally, AllocError> {
-    let mut tally = Tally::new(alloc);
-    see_codes(&mut tally)?;
-    see_statuses(alloc, &mut tally)?;
-    see_delays(alloc, &mut tally)?;
-    see_due(alloc, &mut tally)?;
-    Ok(tally)
+pub(crate) fn see_all(alloc: Global, tally: &mut Tally) -> Result<(), AllocError> {
+    see_codes(tally)?;
+    see_statuses(alloc, tally)?;
+    see_delays(alloc, tally)?;
+    see_due(alloc, tally)
 }

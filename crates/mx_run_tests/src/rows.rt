@@ -54,20 +54,36 @@ fn add_line(row: &mut Row<'_>, line: &str) -> Result<(), AllocError> {
 
 /// Whether the line belongs to the row before it.
 fn is_of_row(line: &str) -> bool {
-    matches!(line.as_bytes().first(), Some(b'<' | b'>' | b'!' | b'='))
+    match line.as_bytes().first() {
+        Some(mark) => b"<>!=".contains(mark),
+        None => false,
+    }
+}
+
+/// Adds a line to the last row, or a row that begins with it.
+fn add<'a>(alloc: Global, rows: &mut Vec<Row<'a>>, line: &'a str) -> Result<(), AllocError> {
+    match rows.last_mut() {
+        Some(row) if is_of_row(line) => add_line(row, line),
+        _ => {
+            rows.push(row_of(alloc, line))?;
+            Ok(())
+        }
+    }
+}
+
+/// Adds all rows of a text.
+fn add_all<'a>(alloc: Global, rows: &mut Vec<Row<'a>>, text: &'a str) -> Result<(), AllocError> {
+    for line in text.lines() {
+        if !line.is_empty() && !line.starts_with('#') {
+            add(alloc, rows, line)?;
+        }
+    }
+    Ok(())
 }
 
 /// All rows of a text.
 pub(crate) fn rows_of<'a>(alloc: Global, text: &'a str) -> Result<Vec<Row<'a>>, AllocError> {
-    let mut rows: Vec<Row<'a>> = Vec::new(alloc);
-    for line in text.lines() {
-        if line.is_empty() || line.starts_with('#') {
-            continue;
-        }
-        match rows.last_mut() {
-            Some(row) if is_of_row(line) => add_line(row, line)?,
-            _ => rows.push(row_of(alloc, line))?,
-        }
-    }
+    let mut rows = Vec::new(alloc);
+    add_all(alloc, &mut rows, text)?;
     Ok(rows)
 }

@@ -67,24 +67,54 @@ fn explain(alloc: Global, method: Method, input: &[u8]) -> Written {
     }
 }
 
-fn tell_run(alloc: Global, run: &Written) -> Result<String, AllocError> {
-    let mut seen = Seen::new(alloc);
+fn add_run(seen: &mut Seen, run: &Written) -> Result<(), AllocError> {
     seen.see('>', run.written.as_slice())?;
     seen.see('!', run.told.as_slice())?;
-    seen.end(run.status)?;
+    seen.end(run.status)
+}
+
+fn tell_run(alloc: Global, run: &Written) -> Result<String, AllocError> {
+    let mut seen = Seen::new(alloc);
+    add_run(&mut seen, run)?;
     Ok(seen.text)
+}
+
+/// Whether `body` prints and ends with this.
+fn is_plain(alloc: Global, method: Method, input: &[u8], run: &Written) -> bool {
+    let plain = decode(alloc, method, input);
+    let is_so = run.status == plain.status && run.written.as_slice() == plain.written.as_slice();
+    drop(plain);
+    is_so
 }
 
 /// What is seen of `body --explain`, which has to print and to end with what `body` does.
 fn see_explained(alloc: Global, method: Method, input: &[u8]) -> Result<String, AllocError> {
-    let plain = decode(alloc, method, input);
     let explained = explain(alloc, method, input);
-    if explained.status == plain.status
-        && explained.written.as_slice() == plain.written.as_slice()
-    {
+    let seen = if is_plain(alloc, method, input, &explained) {
         tell_run(alloc, &explained)
     } else {
         String::from_str(alloc, "> other than without --explain\n")
+    };
+    drop(explained);
+    seen
+}
+
+/// What is seen of a task.
+fn see_task(alloc: Global, task: Task, input: &[u8]) -> Result<String, AllocError>
+    requires { IsTask task }
+{
+    let run = run(alloc, task, input);
+    let seen = tell_run(alloc, &run);
+    drop(run);
+    seen
+}
+
+/// What is seen of a command line that is run on an input.
+fn see_words(alloc: Global, words: &[String], input: &[u8]) -> Result<String, AllocError> {
+    match read_command(alloc, words) {
+        Ok(Asked::Task(task)) => see_task(alloc, task, input),
+        Ok(Asked::Explain(method)) => see_explained(alloc, method, input),
+        _ => String::from_str(alloc, "> no run\n"),
     }
 }
 
@@ -95,9 +125,7 @@ pub(crate) fn see_run(alloc: Global, name: &str, input: &[u8]) -> Result<String,
         None => name,
     };
     let words = words_of(alloc, line)?;
-    match read_command(alloc, words.as_slice()) {
-        Ok(Asked::Task(task)) => tell_run(alloc, &run(alloc, task, input)),
-        Ok(Asked::Explain(method)) => see_explained(alloc, method, input),
-        _ => String::from_str(alloc, "> no run\n"),
-    }
+    let seen = see_words(alloc, words.as_slice(), input);
+    drop(words);
+    seen
 }

@@ -1,4 +1,5 @@
 //! Command lines of `save`.
+use crate::tally::add_all;
 use crate::words::{tell_error, words_of};
 use mx_save_command::{BodySource, ListSource, Save, read_save};
 use std::alloc::{AllocError, Global};
@@ -18,87 +19,97 @@ fn tell_numbers(alloc: Global, save: &Save<'_>) -> Result<String, AllocError> {
     )
 }
 
+/// The text, or none of it.
+fn if_so(is_so: bool, text: &'static str) -> &'static str {
+    if is_so { text } else { "" }
+}
+
 fn tell_flags(text: &mut String, save: &Save<'_>) -> Result<(), AllocError> {
     let flags = save.flags;
-    if flags.skip_existing {
-        text.push_str(" skip")?;
-    }
-    if flags.content_on_error {
-        text.push_str(" content")?;
-    }
-    if flags.fsync {
-        text.push_str(" fsync")?;
-    }
-    if flags.json {
-        text.push_str(" json")?;
-    }
-    match flags.progress {
-        Some(true) => text.push_str(" progress"),
-        Some(false) => text.push_str(" quiet"),
-        None => Ok(()),
-    }
+    let progress = match flags.progress {
+        Some(true) => " progress",
+        Some(false) => " quiet",
+        None => "",
+    };
+    add_all(
+        text,
+        &[
+            if_so(flags.skip_existing, " skip"),
+            if_so(flags.content_on_error, " content"),
+            if_so(flags.fsync, " fsync"),
+            if_so(flags.json, " json"),
+            progress,
+        ],
+    )
 }
 
 fn tell_places(text: &mut String, save: &Save<'_>) -> Result<(), AllocError> {
-    text.push_str(" into=")?;
-    text.push_str(save.into)?;
-    match save.input {
-        Some(ListSource::File(file)) => {
-            text.push_str(" list=")?;
-            text.push_str(file)?;
-        }
-        Some(ListSource::Standard) => text.push_str(" stdin")?,
-        None => {}
-    }
+    let (mark, list) = match save.input {
+        Some(ListSource::File(file)) => (" list=", file),
+        Some(ListSource::Standard) => (" stdin", ""),
+        None => ("", ""),
+    };
+    add_all(text, &[" into=", save.into, mark, list])?;
     for url in &save.urls {
-        text.push(' ')?;
-        text.push_str(*url)?;
+        add_all(text, &[" ", *url])?;
     }
     Ok(())
 }
 
-fn tell_requests(text: &mut String, save: &Save<'_>) -> Result<(), AllocError> {
-    text.push(' ')?;
-    text.push_str(save.method.as_str())?;
+fn tell_headers(text: &mut String, save: &Save<'_>) -> Result<(), AllocError> {
+    add_all(text, &[" ", save.method.as_str()])?;
     for header in &save.headers {
-        text.push_str(" [")?;
-        text.push_str(header.name)?;
-        text.push('|')?;
-        text.push_str(header.value)?;
-        text.push(']')?;
-    }
-    match save.body {
-        Some(BodySource::Text(body)) => {
-            text.push_str(" body=")?;
-            text.push_str(body)?;
-        }
-        Some(BodySource::File(file)) => {
-            text.push_str(" file=")?;
-            text.push_str(file)?;
-        }
-        None => {}
-    }
-    if let Some(agent) = save.user_agent {
-        text.push_str(" agent=")?;
-        text.push_str(agent)?;
+        add_all(text, &[" [", header.name, "|", header.value, "]"])?;
     }
     Ok(())
+}
+
+fn tell_body(text: &mut String, save: &Save<'_>) -> Result<(), AllocError> {
+    let (mark, body) = match save.body {
+        Some(BodySource::Text(body)) => (" body=", body),
+        Some(BodySource::File(file)) => (" file=", file),
+        None => ("", ""),
+    };
+    let (agent_mark, agent) = match save.user_agent {
+        Some(agent) => (" agent=", agent),
+        None => ("", ""),
+    };
+    add_all(text, &[mark, body, agent_mark, agent, "\n"])
+}
+
+fn tell_rest(text: &mut String, save: &Save<'_>) -> Result<(), AllocError> {
+    tell_flags(text, save)?;
+    tell_places(text, save)?;
+    tell_headers(text, save)?;
+    tell_body(text, save)
 }
 
 pub(crate) fn tell_save(alloc: Global, save: &Save<'_>) -> Result<String, AllocError> {
     let mut text = tell_numbers(alloc, save)?;
-    tell_flags(&mut text, save)?;
-    tell_places(&mut text, save)?;
-    tell_requests(&mut text, save)?;
-    text.push('\n')?;
+    tell_rest(&mut text, save)?;
     Ok(text)
+}
+
+/// Tells the answer to the words of a command line, and drops it.
+fn tell_answer(alloc: Global, words: &[String]) -> Result<String, AllocError> {
+    match read_save(alloc, words) {
+        Ok(save) => {
+            let told = tell_save(alloc, &save);
+            drop(save);
+            told
+        }
+        Err(error) => {
+            let told = tell_error(alloc, &error);
+            drop(error);
+            told
+        }
+    }
 }
 
 /// The answer to a command line of the parser of `save` alone.
 pub(crate) fn see_save(alloc: Global, line: &str) -> Result<String, AllocError> {
     let words = words_of(alloc, line)?;
-    match read_save(alloc, words.as_slice()) {
-        Ok(save) => tell_save(alloc, &save),
-        Err(error) => tell_error(alloc, &error),
-    }
+    let told = tell_answer(alloc, words.as_slice());
+    drop(words);
+    told
 }

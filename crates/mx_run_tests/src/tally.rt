@@ -1,6 +1,14 @@
 //! The results of the rows of a table.
 use std::alloc::{AllocError, Global};
 
+/// Adds all of these texts.
+pub(crate) fn add_all(text: &mut String, parts: &[&str]) -> Result<(), AllocError> {
+    for part in parts {
+        text.push_str(*part)?;
+    }
+    Ok(())
+}
+
 /// How many rows were tried, how many of them are wrong, and what is said of these.
 #[derive(Drop)]
 pub(crate) struct Tally {
@@ -26,10 +34,7 @@ impl Tally {
             return Ok(());
         }
         self.wrong = self.wrong.saturating_add(1);
-        self.text.push_str("WRONG: ")?;
-        self.text.push_str(name)?;
-        self.text.push('\n')?;
-        self.text.push_str(seen)
+        add_all(&mut self.text, &["WRONG: ", name, "\n", seen])
     }
 
     /// Counts a row of which only its name is noted if it is wrong.

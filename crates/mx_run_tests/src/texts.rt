@@ -19,17 +19,25 @@ fn see(alloc: Global, row: &Row<'_>) -> Result<String, AllocError> {
     }
 }
 
-/// Goes through the rows of a text.
-pub(crate) fn tally(alloc: Global, text: &str) -> Result<Tally, AllocError> {
-    let mut tally = Tally::new(alloc);
-    let rows = rows_of(alloc, text)?;
-    for row in &rows {
-        let seen = see(alloc, row)?;
-        tally.see(
-            seen.as_str() == row.wanted.as_str(),
-            row.title,
-            seen.as_str(),
-        )?;
+fn see_row(alloc: Global, row: &Row<'_>, tally: &mut Tally) -> Result<(), AllocError> {
+    let seen = see(alloc, row)?;
+    let is_right = seen.as_str() == row.wanted.as_str();
+    let noted = tally.see(is_right, row.title, seen.as_str());
+    drop(seen);
+    noted
+}
+
+fn see_rows(alloc: Global, rows: &[Row<'_>], tally: &mut Tally) -> Result<(), AllocError> {
+    for row in rows {
+        see_row(alloc, row, tally)?;
     }
-    Ok(tally)
+    Ok(())
+}
+
+/// Goes through the rows of a text.
+pub(crate) fn see_all(alloc: Global, text: &str, tally: &mut Tally) -> Result<(), AllocError> {
+    let rows = rows_of(alloc, text)?;
+    let seen = see_rows(alloc, rows.as_slice(), tally);
+    drop(rows);
+    seen
 }

@@ -6,10 +6,9 @@ use mx_request::Request;
 use mx_run_get::Fetched;
 use mx_transfer::Transfer;
 use mx_types::{Code, Method, Settings};
-use std::alloc::{AllocGlobal, Global};
+use std::alloc::Global;
 use std::io;
 use std::io::{Error, ErrorKind};
-use std::random::RandomSource;
 
 /// Hands over the link, where one is wanted.
 fn attach(transfer: &mut Transfer<ScriptLink>, link: ScriptLink) {
@@ -53,18 +52,10 @@ fn start(alloc: Global, response: &[u8]) -> io::Result<Transfer<ScriptLink>> {
 }
 
 /// The end of such a GET, which this task polls.
-fn fetch_by(alloc: Global, task: &MockTask, response: &[u8]) -> io::Result<Fetched> {
+fn fetch(alloc: Global, task: &MockTask, response: &[u8]) -> io::Result<Fetched> {
     let mut transfer = start(alloc, response)?;
     let end = poll(alloc, task, &mut transfer);
     drop(transfer);
-    end
-}
-
-/// The end of such a GET.
-fn fetch<R: RandomSource + AllocGlobal>(rt: &R, response: &[u8]) -> io::Result<Fetched> {
-    let task = MockTask::new(rt)?;
-    let end = fetch_by(rt.alloc(), &task, response);
-    drop(task);
     end
 }
 
@@ -75,17 +66,24 @@ pub(crate) enum Planned {
     Refused(Code),
 }
 
-/// The end of each GET.
-pub(crate) fn fetch_all<R: RandomSource + AllocGlobal>(
-    rt: &R,
-    all: &[Planned],
-) -> io::Result<Vec<Fetched>> {
-    let mut ends = Vec::new(rt.alloc());
-    for planned in all {
-        ends.push(match *planned {
-            Planned::Response(response) => fetch(rt, response)?,
-            Planned::Refused(code) => Fetched::Refused(code),
-        })?;
+/// The end of a GET.
+fn end_of(alloc: Global, task: &MockTask, planned: Planned) -> io::Result<Fetched> {
+    match planned {
+        Planned::Response(response) => fetch(alloc, task, response),
+        Planned::Refused(code) => Ok(Fetched::Refused(code)),
     }
-    Ok(ends)
+}
+
+/// Adds the end of each GET, which this task polls.
+pub(crate) fn fetch_all(
+    alloc: Global,
+    task: &MockTask,
+    all: &[Planned],
+    ends: &mut Vec<Fetched>,
+) -> io::Result<()> {
+    for planned in all {
+        let end = end_of(alloc, task, *planned)?;
+        ends.push(end)?;
+    }
+    Ok(())
 }
