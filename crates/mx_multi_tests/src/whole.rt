@@ -4,8 +4,8 @@ ghost use Rattle.std.specs.List.{All};
 
 use mx_journal::{FinishReply, GiveBackReply};
 use mx_multi::{
-    HistoryUse, Limits, OpenError, OwnedMulti, Progress, Refusal, Retiring, Seat, SeatOf, Seated,
-    WorkerSeat, run_two,
+    AtWork, HistoryUse, Limits, OpenError, OwnedMulti, Progress, Refusal, Retiring, Seat, SeatOf,
+    Seated, WorkerSeat, run_two,
 };
 use mx_multi_tests_base::client::make;
 use mx_multi_tests_base::entries::{Entry, Stop};
@@ -32,6 +32,35 @@ pub struct Whole {
     pub ghost claims: { hand ≡ multi.engine.ties },
 }
 
+// Takes the last seat.
+fn pop_at<K>(multi: &Handle, seats: &mut Vec<SeatOf<K, Job, End>>) -> Option<SeatOf<K, Job, End>>
+    requires { All (λ s. s.of ≡ multi.now) seats.old.items }
+    ensures all { All (λ s. s.of ≡ multi.now) seats.new.items }
+    ensures own { IfSome result (λ s. s.of ≡ multi.now) }
+{
+    let _ = multi;
+    let seat = seats.pop()?;
+    Some(seat)
+}
+
+// Puts a seat in the place of the one with this number, and answers that one; or answers the seat, where there are fewer.
+fn replace_at<K>(
+    multi: &Handle,
+    seats: &mut Vec<SeatOf<K, Job, End>>,
+    number: usize,
+    seat: SeatOf<K, Job, End>,
+) -> SeatOf<K, Job, End>
+    requires own { (seat.of ≡ multi.now) × All (λ s. s.of ≡ multi.now) seats.old.items }
+    ensures all { All (λ s. s.of ≡ multi.now) seats.new.items }
+    ensures own { result.of ≡ multi.now }
+{
+    let _ = multi;
+    if number < seats.len() {
+        return replace(&mut seats[number], seat);
+    }
+    seat
+}
+
 // Takes the seat with this number, the last one where there are fewer. Where it isn't the last, that has its place meanwhile. None where
 // there is no seat.
 fn take_at<'m, K>(
@@ -43,11 +72,9 @@ fn take_at<'m, K>(
     ensures all { All (λ s. s.of ≡ multi.now) seats.new.items }
     ensures own { IfSome result (λ s. s.of ≡ multi.now) }
 {
-    let last = seats.pop()?;
-    if number < seats.len() {
-        return Some(multi.at(replace(&mut seats[number], last)));
-    }
-    Some(multi.at(last))
+    let last = pop_at(multi, seats)?;
+    let seat = replace_at(multi, seats, number, last);
+    Some(multi.at(seat))
 }
 
 // Puts a seat that `take_at` took back, at this number.
@@ -60,13 +87,50 @@ fn put_at<K>(
     requires own { (seat.of ≡ multi.now) × All (λ s. s.of ≡ multi.now) seats.old.items }
     ensures { All (λ s. s.of ≡ multi.now) seats.new.items }
 {
-    let _ = multi;
-    let mut last = seat.into_seat();
-    if number < seats.len() {
-        last = replace(&mut seats[number], last);
-    }
+    let last = replace_at(multi, seats, number, seat.into_seat());
     seats.push(last)?;
     Ok(())
+}
+
+// Gives the work of the last claim back at a worker's seat, as `Whole::give_back`.
+fn give_back_at<R: Wait>(
+    rt: &R,
+    worker: &mut Seated<'_, AtWork, Job, End>,
+    hand: &mut Hand,
+) -> Option<bool>
+    requires { hand.old ≡ worker.old.of.engine.ties }
+    ensures of { worker.new.of ≡ worker.old.of }
+    ensures hand { hand.new ≡ hand.old }
+{
+    let claim = hand.take()?;
+    match worker.give_back(rt, claim, Job) {
+        Ok(GiveBackReply::Back) => Some(true),
+        Ok(GiveBackReply::Stale(_)) => Some(false),
+        Err(_) => None,
+    }
+}
+
+// Ends the transfer of the last claim at a worker's seat, as `Whole::finish`.
+fn finish_at<R: Wait>(
+    rt: &R,
+    worker: &mut Seated<'_, AtWork, Job, End>,
+    hand: &mut Hand,
+    end: End,
+) -> Option<Reply>
+    requires { hand.old ≡ worker.old.of.engine.ties }
+    ensures of { worker.new.of ≡ worker.old.of }
+    ensures hand { hand.new ≡ hand.old }
+{
+    let claim = hand.take()?;
+    match worker.finish(rt, claim, end) {
+        Ok(FinishReply::OutOfMemory(claim, _)) => {
+            let _kept = hand.keep(claim);
+            Some(Reply::OutOfMemory)
+        }
+        Ok(FinishReply::Recorded) => Some(Reply::Recorded),
+        Ok(FinishReply::Stale(_)) => Some(Reply::Stale),
+        Err(_) => None,
+    }
 }
 
 impl Whole {
@@ -174,7 +238,8 @@ impl Whole {
         let seat = self.take_last()?;
         let mut client = self.multi.shared().at(seat);
         let progress = client.progress(handle);
-        self.put_last(client.into_seat()).ok()?;
+        let seat = client.into_seat();
+        self.put_last(seat).ok()?;
         progress
     }
 
@@ -248,15 +313,10 @@ impl Whole {
     pub fn give_back<R: Wait>(&mut self, rt: &R) -> Option<bool>
         ensures { self.new.multi ≡ self.old.multi }
     {
-        let claim = self.hand.take()?;
         let mut worker = take_at(self.multi.shared(), &mut self.workers, 0)?;
-        let given = worker.give_back(rt, claim, Job);
+        let given = give_back_at(rt, &mut worker, &mut self.hand);
         put_at(self.multi.shared(), &mut self.workers, 0, worker).ok()?;
-        match given {
-            Ok(GiveBackReply::Back) => Some(true),
-            Ok(GiveBackReply::Stale(_)) => Some(false),
-            Err(_) => None,
-        }
+        given
     }
 
     /// Ends the transfer of the last claim; None where it was answered `WrongSeat`, or where there is no claim. A claim that comes back as
@@ -264,19 +324,10 @@ impl Whole {
     pub fn finish<R: Wait>(&mut self, rt: &R, end: End) -> Option<Reply>
         ensures { self.new.multi ≡ self.old.multi }
     {
-        let claim = self.hand.take()?;
         let mut worker = take_at(self.multi.shared(), &mut self.workers, 0)?;
-        let ended = worker.finish(rt, claim, end);
+        let reply = finish_at(rt, &mut worker, &mut self.hand, end);
         put_at(self.multi.shared(), &mut self.workers, 0, worker).ok()?;
-        match ended {
-            Ok(FinishReply::OutOfMemory(claim, _)) => {
-                let _kept = self.hand.keep(claim);
-                Some(Reply::OutOfMemory)
-            }
-            Ok(FinishReply::Recorded) => Some(Reply::Recorded),
-            Ok(FinishReply::Stale(_)) => Some(Reply::Stale),
-            Err(_) => None,
-        }
+        reply
     }
 
     /// How many events the seat with this number has seen; None where there is no such seat.
