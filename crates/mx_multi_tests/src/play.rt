@@ -1,6 +1,7 @@
 //! Scripts of calls at a multi handle of its own, each with what it is to answer. A call that is refused memory is made once more, and is
 //! then to answer as if it had been the first.
 
+use crate::rows::first_opened;
 use crate::whole::Whole;
 use mx_multi::{HistoryUse, Limits, OpenError, Progress, Refusal};
 use mx_multi_tests_base::entries::{Entry, Stop, text_of};
@@ -372,10 +373,10 @@ fn open<R: Wait>(rt: &R, alloc: Global, limits: Limits) -> Result<Play, OpenErro
 
 /// A script: its name, the limits of its multi handle, and its steps.
 #[derive(Clone, Copy)]
-pub struct Row {
+pub struct Row<'a> {
     pub name: &'static str,
     pub limits: Limits,
-    pub steps: &'static [Step],
+    pub steps: &'a [Step],
 }
 
 /// The script that fails, and its step.
@@ -385,8 +386,8 @@ pub struct Wrong {
     pub step: usize,
 }
 
-/// The first step of a script that fails. It notes where a call was refused memory.
-pub fn play_steps<R: Threads + Wait + Sync + Clock>(
+// The first step of a script that fails. It notes where a call was refused memory.
+fn play_steps<R: Threads + Wait + Sync + Clock>(
     rt: &R,
     alloc: Global,
     limits: Limits,
@@ -406,11 +407,11 @@ pub fn play_steps<R: Threads + Wait + Sync + Clock>(
     wrong
 }
 
-/// The same of the first of these scripts.
-pub fn play_all<R: Threads + Wait + Sync + Clock>(
+// The same of the first of these scripts.
+fn play_all<R: Threads + Wait + Sync + Clock>(
     rt: &R,
     alloc: Global,
-    rows: &[Row],
+    rows: &[Row<'static>],
     refused: &mut bool,
 ) -> Result<Option<Wrong>, OutOfMemory> {
     for row in rows {
@@ -424,8 +425,32 @@ pub fn play_all<R: Threads + Wait + Sync + Clock>(
     Ok(None)
 }
 
-/// The end of a test: it fails with the script and the step, and else, where a call was refused memory, by a text of its own.
-pub fn end(alloc: Global, wrong: Option<Wrong>, refused: bool) -> Result<(), Fail> {
+// The same of these scripts and of one that was made, and of the numbers outside their limits, where these are tried.
+fn play_both<R: Threads + Wait + Sync + Clock>(
+    rt: &R,
+    alloc: Global,
+    rows: &[Row<'static>],
+    made: Row<'_>,
+    tries_limits: bool,
+    refused: &mut bool,
+) -> Result<Option<Wrong>, OutOfMemory> {
+    if let Some(wrong) = play_all(rt, alloc, rows, refused)? {
+        return Ok(Some(wrong));
+    }
+    if let Some(step) = play_steps(rt, alloc, made.limits, made.steps, refused)? {
+        return Ok(Some(Wrong {
+            row: made.name,
+            step,
+        }));
+    }
+    if tries_limits {
+        return Ok(first_opened(rt, alloc));
+    }
+    Ok(None)
+}
+
+// The end of a test: it fails with the script and the step, and else, where a call was refused memory, by a text of its own.
+fn end(alloc: Global, wrong: Option<Wrong>, refused: bool) -> Result<(), Fail> {
     if let Some(Wrong { row, step }) = wrong {
         return Err(format!(in alloc; "{row}: step {step}")?.into());
     }
@@ -433,4 +458,20 @@ pub fn end(alloc: Global, wrong: Option<Wrong>, refused: bool) -> Result<(), Fai
         return Err("memory was refused, and the call answered when it was made again".into());
     }
     Ok(())
+}
+
+/// Plays these scripts and one that was made, and tries the numbers outside their limits, if it is to. It fails with the script and the
+/// step that fails, and else, where a call was refused memory, by a text of its own.
+///
+/// A test calls it once: each call with the runtime of a test costs a proof of its own.
+pub fn try_rows<R: Threads + Wait + Sync + Clock>(
+    rt: &R,
+    alloc: Global,
+    rows: &[Row<'static>],
+    made: Row<'_>,
+    tries_limits: bool,
+) -> Result<(), Fail> {
+    let mut refused = false;
+    let wrong = play_both(rt, alloc, rows, made, tries_limits, &mut refused)?;
+    end(alloc, wrong, refused)
 }

@@ -164,7 +164,7 @@ const GIVEN_BACK: &[Step] = &[
     Step::Make(3, Call::InfoRead, Said::Text("message 2 1 0 2 left 0"), 5),
 ];
 
-pub static SCRIPTS: [Row; 9] = [
+pub static SCRIPTS: [Row<'static>; 9] = [
     // rule multi-out-of-memory
     Row {
         name: "every_call_that_may_find_no_memory",
@@ -278,7 +278,7 @@ const KEPT: &[Step] = &[
     Step::Claim(Ticket(4)),
 ];
 
-pub static RETIRINGS: [Row; 2] = [
+pub static RETIRINGS: [Row<'static>; 2] = [
     // rule multi-retire
     // rule multi-meet-all
     Row {

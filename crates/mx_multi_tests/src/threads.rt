@@ -1,16 +1,13 @@
 //! Scripts whose calls are made by threads at the same time: reads while another call keeps the lock, turns that are taken by polls and
 //! wake-ups, and calls by chance, which one thread answers the same.
 
-use crate::play::{Row, Said, Step, Wrong, end, play_all, play_steps};
+use crate::play::{Row, Said, Step, try_rows};
 use crate::rows::FOUR_SEATS;
 use mx_multi::Limits;
 use mx_multi_tests_base::party::{Act, Task};
 use mx_types::{Call, Code, HandleId, OutOfMemory, Ticket};
 use std::alloc::Global;
-use std::sync::Wait;
 use std::test::Fail;
-use std::thread::Threads;
-use std::time::Clock;
 
 const ONE: HandleId = HandleId(1);
 
@@ -113,7 +110,7 @@ const POLLS: &[Step] = &[
     Step::Make(0, Call::Running, Said::Text("running 0"), 300),
 ];
 
-static ROWS: [Row; 6] = [
+static ROWS: [Row<'static>; 6] = [
     // rule multi-scripts
     Row {
         name: "two_threads_make_all_their_calls",
@@ -168,33 +165,20 @@ fn retired_storms(alloc: Global) -> Result<Vec<Step>, OutOfMemory> {
     Ok(steps)
 }
 
-fn play_threads<R: Threads + Wait + Sync + Clock>(
-    rt: &R,
-    alloc: Global,
-    refused: &mut bool,
-) -> Result<Option<Wrong>, OutOfMemory> {
-    if let Some(wrong) = play_all(rt, alloc, &ROWS, refused)? {
-        return Ok(Some(wrong));
-    }
-    let steps = retired_storms(alloc)?;
-    let limits = Limits {
-        history: 8192,
-        ..EIGHT_THREADS
-    };
-    let Some(step) = play_steps(rt, alloc, limits, steps.as_slice(), refused)? else {
-        return Ok(None);
-    };
-    // rule multi-retire
-    Ok(Some(Wrong {
-        row: "a_retired_handle_answers_as_one_thread_does",
-        step,
-    }))
-}
-
 /// What threads do at the same time is answered as its row says, and as one thread answers it.
 #[test]
 fn threads_answer_as_one_does(rt: HostRuntime) -> Result<(), Fail> {
-    let mut refused = false;
-    let wrong = play_threads(&rt, rt.alloc(), &mut refused)?;
-    end(rt.alloc(), wrong, refused)
+    let steps = retired_storms(rt.alloc())?;
+    // rule multi-retire
+    let storms = Row {
+        name: "a_retired_handle_answers_as_one_thread_does",
+        limits: Limits {
+            history: 8192,
+            ..EIGHT_THREADS
+        },
+        steps: steps.as_slice(),
+    };
+    let played = try_rows(&rt, rt.alloc(), &ROWS, storms, false);
+    drop(steps);
+    played
 }

@@ -133,6 +133,24 @@ fn finish_at<R: Wait>(
     }
 }
 
+// Lets two seats meet: how many events both have then seen. None where it was answered `WrongSeat`, and where they have seen other numbers.
+fn meet_both<R: Wait>(
+    rt: &R,
+    multi: &Handle,
+    one: Seat<Job, End>,
+    two: Seat<Job, End>,
+) -> (Seat<Job, End>, Seat<Job, End>, Option<u32>)
+    requires { (one.of ≡ multi.now) × (two.of ≡ multi.now) }
+    ensures { (result.0.of ≡ multi.now) × (result.1.of ≡ multi.now) }
+{
+    let mut one = multi.at(one);
+    let mut two = multi.at(two);
+    let met = one.meet(rt, &mut two).ok();
+    let are_equal = met == Some(one.cut()) && met == Some(two.cut());
+    let met = if are_equal { met } else { None };
+    (one.into_seat(), two.into_seat(), met)
+}
+
 impl Whole {
     pub fn open<R: Wait>(rt: &R, alloc: Global, limits: Limits) -> Result<Whole, OpenError> {
         match Handle::open(rt, alloc, limits) {
@@ -273,17 +291,12 @@ impl Whole {
         let Some(one) = self.take_last() else {
             return Ok(None);
         };
-        let mut one = self.multi.shared().at(one);
-        let mut two = self.multi.shared().at(two);
-        let met = one.meet(rt, &mut two).ok();
-        let cuts = [Some(one.cut()), Some(two.cut())];
-        let (one, two) = (one.into_seat(), two.into_seat());
-        self.put_last(one)?;
-        self.put_last(two)?;
-        if cuts == [met, met] {
-            return Ok(met);
-        }
-        Ok(None)
+        let (one, two, met) = meet_both(rt, self.multi.shared(), one, two);
+        let first = self.put_last(one);
+        let second = self.put_last(two);
+        first?;
+        second?;
+        Ok(met)
     }
 
     /// Two threads make the calls of a script each, at the last two seats: how many each made, where they met, and how many events each
@@ -303,9 +316,14 @@ impl Whole {
         };
         let (one, two, made) = run_two(rt, self.multi.shared(), one, scripts.0, two, scripts.1);
         let cuts = [one.cut(), two.cut()];
-        self.put_last(one)?;
-        self.put_last(two)?;
-        Ok(made.map(|made| (made, cuts)))
+        let first = self.put_last(one);
+        let second = self.put_last(two);
+        first?;
+        second?;
+        match made {
+            Some(made) => Ok(Some((made, cuts))),
+            None => Ok(None),
+        }
     }
 
     /// Gives the work of the last claim back: whether its ticket ran and was claimed. None where it was answered `WrongSeat`, or where
