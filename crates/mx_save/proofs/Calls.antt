@@ -1,5 +1,5 @@
 -- What calls of a folder leave, one after the other.
-use Rattle.std.proofs.Common.{◌≡◌, ℕ, ◌≤◌, ◌<◌, ◌+◌, List, [], ◌∷◌, ◌++◌, take, drop, length, get_or, Result, Ok, Bool, Some, refl, ap, sym, subst, ◌∙◌, arith}
+use Rattle.std.proofs.Common.{◌≡◌, ℕ, ◌≤◌, ◌<◌, ◌+◌, List, [], ◌∷◌, ◌++◌, take, drop, length, get_or, Result, Ok, Bool, Some, refl, ap, sym, subst, ◌∙◌, arith, append_assoc}
 use Rattle.std.specs.Prelude.{IfOk}
 use Rattle.std.specs.List.{slice_get}
 use Rattle.std.proofs.lemmas.List.{take_more, flat_map_more, length-drop}
@@ -11,9 +11,9 @@ use Rattle.mx_folder.specs.declared.steps.Step.{Step}
 use Rattle.mx_folder.specs.declared.steps.Step.TheVariants.{Created, Appended, Flushed, Placed, Removed, Refused}
 use Rattle.mx_folder.specs.Steps.{done, appended, refusals}
 use Rattle.mx_folder.specs.Moments.{AtEachMoment}
-use Rattle.mx_save.specs.Bodies.{content_of, Holds, Appends, FilesAreKept, IsOnlyPart, IsBeforeOrAfter}
+use Rattle.mx_save.specs.Bodies.{content_of, Holds, Appends, AppendsFront, FilesAreKept, IsOnlyPart, IsBeforeOrAfter}
 use Rattle.mx_save.proofs.Moments.{at_once, join, weaker, one_more}
-use Rattle.mx_save.proofs.Steps.{only_now, only_done, only_appending, only_on, only_created, only_flushed, only_removed, appends_more, appends_step, before_or_after_placed, only_is_before, kept_from_only}
+use Rattle.mx_save.proofs.Steps.{only_now, only_done, only_appending, only_on, only_created, only_flushed, only_removed, appends_none, appends_more, appends_step, before_or_after_placed, only_is_before, kept_from_only}
 
 abbrev pub PartMoments : List ℕ → List Step → List Step → Type 0
 PartMoments part old new = AtEachMoment (IsOnlyPart part old) old new
@@ -62,14 +62,45 @@ front_on part bytes rest w n old between new before e at =
     let all : take w bytes ++ take n rest ≡ take (w + n) bytes = ap (λ r. take w bytes ++ take n r) at ∙ sym (take-add w n bytes) in
     subst (λ (x : List ℕ). Appends part x old new) all (appends_more part (take w bytes) (take n rest) old between new before more)
 
+-- the parts up to the next
+content_more : (parts : List (List ℕ)) (i : ℕ) (bytes : List ℕ) → i < length parts → slice_get parts i ≡ Some bytes
+    → content_of (take i parts) ++ bytes ≡ content_of (take (i + 1) parts)
+content_more parts i bytes small at =
+    let is : get_or parts i bytes ≡ bytes = get_or_from_slice_get parts i bytes bytes at in
+    flat_map_more (λ p. p) [] (take i parts) bytes ∙ ap content_of (ap (λ p. take i parts ++ p ∷ []) (sym is) ∙ sym (take_more parts i bytes small))
+
+-- nothing is written, and nothing held
+pub front_none : (part : List ℕ) (steps : List Step) → AppendsFront part [] [] steps steps
+front_none part steps = record { front = []; written = appends_none part steps; is = refl }
+
+-- what is held, and no more, is written
+pub front_all : (part bytes held : List ℕ) (old between new : List Step) → AppendsFront part bytes held old between → Appends part held between new → Appends part bytes old new
+front_all part bytes held old between new before more =
+    subst (λ (x : List ℕ). Appends part x old new) (sym before.is) (appends_more part before.front held old between new before.written more)
+
+-- a piece after what is held
+front_more : (part bytes held piece next : List ℕ) (old between new : List Step) → AppendsFront part bytes held old between → AppendsFront part (held ++ piece) next between new
+    → AppendsFront part (bytes ++ piece) next old new
+front_more part bytes held piece next old between new before after = record {
+  front = before.front ++ after.front;
+  written = appends_more part before.front after.front old between new before.written after.written;
+  is = ap (λ (t : List ℕ). t ++ piece) before.is ∙ append_assoc before.front held piece ∙ ap (λ (t : List ℕ). before.front ++ t) after.is
+      ∙ sym (append_assoc before.front after.front next);
+}
+
+-- a part of the body after what is held of the parts before it
+pub front_part : (part held next : List ℕ) (parts : List (List ℕ)) (i : ℕ) (bytes : List ℕ) (old between new : List Step) → i < length parts → slice_get parts i ≡ Some bytes
+    → AppendsFront part (content_of (take i parts)) held old between → AppendsFront part (held ++ bytes) next between new
+    → AppendsFront part (content_of (take (i + 1) parts)) next old new
+front_part part held next parts i bytes old between new small at before after =
+    subst (λ (x : List ℕ). AppendsFront part x next old new) (content_more parts i bytes small at)
+    (front_more part (content_of (take i parts)) held bytes next old between new before after)
+
 -- a part of the body after the parts before it
 pub part_on : (part : List ℕ) (parts : List (List ℕ)) (i : ℕ) (bytes : List ℕ) (old between new : List Step) → i < length parts → slice_get parts i ≡ Some bytes
     → Appends part (content_of (take i parts)) old between → Appends part bytes between new → Appends part (content_of (take (i + 1) parts)) old new
 part_on part parts i bytes old between new small at before after =
-    let is : get_or parts i bytes ≡ bytes = get_or_from_slice_get parts i bytes bytes at in
-    let all : content_of (take i parts) ++ bytes ≡ content_of (take (i + 1) parts) =
-    flat_map_more (λ p. p) [] (take i parts) bytes ∙ ap content_of (ap (λ p. take i parts ++ p ∷ []) (sym is) ∙ sym (take_more parts i bytes small)) in
-    subst (λ (x : List ℕ). Appends part x old new) all (appends_more part (content_of (take i parts)) bytes old between new before after)
+    subst (λ (x : List ℕ). Appends part x old new) (content_more parts i bytes small at) (appends_more part (content_of (take i parts)) bytes old between new before after)
 
 -- a save that ended before the part had its name
 pub unplaced : (part final body : List ℕ) (flushed : Bool) (old new : List Step) → PartMoments part old new → AtEachMoment (IsBeforeOrAfter part final body flushed old) old new

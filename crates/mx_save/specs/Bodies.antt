@@ -18,6 +18,12 @@ Holds name bytes flushed moment = (found : List ℕ → Option File) → file fo
 abbrev pub Appends : List ℕ → List ℕ → List Step → List Step → Type 0
 Appends name more old new = (bytes : List ℕ) → Holds name bytes false old → Holds name (bytes ++ more) false new
 
+-- Private: from old to new a prefix of these bytes was added to what the file of this name had, and their rest is held.
+pub record AppendsFront (name more held : List ℕ) (old new : List Step) : Type 0 where
+  pub front : List ℕ
+  pub written : Appends name front old new
+  pub is : more ≡ front ++ held
+
 -- what the file of this name had is on the disk now, where that was asked for
 abbrev pub Flushes : List ℕ → Bool → List Step → List Step → Type 0
 Flushes name flushed old new = (bytes : List ℕ) → Holds name bytes false old → Holds name bytes flushed new

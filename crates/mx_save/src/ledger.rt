@@ -19,6 +19,9 @@ use std::snapshot::Snapshot;
 // How many names of parts a save tries, where something else has them.
 const PART_TRIES: u32 = u32::MAX;
 
+/// How many bytes of the parts of a body are gathered for a write.
+const GATHERED: usize = 65_536;
+
 // rule file-no-part-left
 // Notes the name of a part, where it is left.
 fn note_left(all: &mut Past<Snapshot<PartName>>, part: &PartName, left: Option<FolderError>)
@@ -49,6 +52,8 @@ pub struct Ledger<F: Folder, B: Body> {
     process: u32,
     number: u64,
     flush: bool,
+    // where the parts of a body are gathered; empty until a body has several, and while its memory is refused
+    buffer: Vec<u8>,
     folder: F,
     start: Snapshot<F>,
     saved: Past<Entry<B>>,
@@ -89,6 +94,7 @@ impl<F: Folder, B: Body> Ledger<F, B> {
             process,
             number: 0,
             flush,
+            buffer: Vec::new(alloc),
             folder,
             start,
             saved: Past::new(),
@@ -112,6 +118,18 @@ impl<F: Folder, B: Body> Ledger<F, B> {
         part_name(self.alloc, self.process, number)
     }
 
+    // Makes the buffer for a body of several parts. Where its memory is refused, each part is written by itself.
+    fn make_room(&mut self, body: &B)
+        ensures { self.new ≡ self.old }
+    {
+        if body.part_count() <= 1 || !self.buffer.is_empty() {
+            return;
+        }
+        if let Ok(buffer) = vec![in self.alloc; 0; GATHERED] {
+            self.buffer = buffer;
+        }
+    }
+
     // Saves a body by the next part.
     fn save_once(&mut self, name: &FileName, body: &B) -> Result<(), Unsaved>
         requires { IsFresh name.now self.old.entries }
@@ -131,9 +149,17 @@ impl<F: Folder, B: Body> Ledger<F, B> {
                 left: None,
             });
         };
+        self.make_room(body);
         part.know();
         name.know();
-        match save_body(&mut self.folder, &part, name, body, self.flush) {
+        match save_body(
+            &mut self.folder,
+            &part,
+            name,
+            body,
+            self.flush,
+            &mut self.buffer,
+        ) {
             Ok(()) => {
                 self.saved.note(Entry {
                     name: Snapshot::of(name),

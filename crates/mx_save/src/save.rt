@@ -1,8 +1,8 @@
 //! One body.
-ghost use Rattle.std.specs.Prelude.{◌≡◌, ◌<◌, ◌≤◌, ◌+◌, ◌*◌, false, [], length, IfErr, IsErr, IsSome, MatchResult, None, OnOk, OnErr};
+ghost use Rattle.std.specs.Prelude.{◌≡◌, ◌<◌, ◌≤◌, ◌+◌, ◌*◌, ◌++◌, false, [], length, take, IfErr, IfOk, IsErr, IsSome, MatchResult, None, OnOk, OnErr};
 ghost use Rattle.mx_folder.specs.Steps.{refusals};
 ghost use Rattle.mx_folder.specs.Moments.{AtEachMoment};
-ghost use Rattle.mx_save.specs.Bodies.{content_of, Holds, Appends, Flushes, FilesAreKept, IsGone, IsOnlyPart, IsBeforeOrAfter, LeavesOnly, left_of};
+ghost use Rattle.mx_save.specs.Bodies.{content_of, Holds, Appends, AppendsFront, Flushes, FilesAreKept, IsGone, IsOnlyPart, IsBeforeOrAfter, LeavesOnly, left_of};
 
 use crate::body::Body;
 use crate::error::{PartError, SaveError};
@@ -26,24 +26,85 @@ fn append_all<F: Folder>(folder: &mut F, part: &PartName, bytes: &[u8]) -> Resul
     Ok(())
 }
 
-// Writes the parts of a body.
-fn append_parts<F: Folder, B: Body>(
+// Puts a piece behind the bytes that are held at the front of the buffer, which has room for it. The answer is how many are held then.
+fn hold(buffer: &mut [u8], held: usize, piece: &[u8]) -> usize
+    requires room { held + length piece.now ≤ length buffer.old }
+    ensures held { result ≡ held + length piece.now }
+    ensures len { length buffer.new ≡ length buffer.old }
+    ensures bytes { take result buffer.new ≡ take held buffer.old ++ piece.now }
+{
+    let end = held + piece.len();
+    buffer[held..end].copy_from_slice(piece);
+    end
+}
+
+// Holds a piece behind the bytes that are held at the front of the buffer. Where it has no room beside them these are written, and the piece
+// too, where it is larger than the buffer. The answer is how many bytes are held then.
+fn gather<F: Folder>(
+    folder: &mut F,
+    part: &PartName,
+    buffer: &mut [u8],
+    held: usize,
+    piece: &[u8],
+) -> Result<usize, SaveError>
+    requires held { held ≤ length buffer.old }
+    ensures len { length buffer.new ≡ length buffer.old }
+    ensures within { IfOk result (λ n. n ≤ length buffer.old) }
+    ensures bytes { IfOk result (λ n. AppendsFront part.now (take held buffer.old ++ piece.now) (take n buffer.new) (F.steps folder.old) (F.steps folder.new)) }
+    ensures any_moment { AtEachMoment (IsOnlyPart part.now (F.steps folder.old)) (F.steps folder.old) (F.steps folder.new) }
+    ensures grows { refusals (F.steps folder.old) ≤ refusals (F.steps folder.new) }
+    ensures cause { IsErr result → refusals (F.steps folder.old) < refusals (F.steps folder.new) }
+{
+    if piece.len() <= buffer.len() - held {
+        return Ok(hold(buffer, held, piece));
+    }
+    append_all(folder, part, &buffer[..held])?;
+    if piece.len() <= buffer.len() {
+        return Ok(hold(buffer, 0, piece));
+    }
+    append_all(folder, part, piece)?;
+    Ok(0)
+}
+
+// Writes the parts of a body, as many of them at a time as the buffer has room for.
+fn append_gathered<F: Folder, B: Body>(
     folder: &mut F,
     part: &PartName,
     body: &B,
+    buffer: &mut [u8],
 ) -> Result<(), SaveError>
     ensures written { OnOk result (Appends part.now (content_of (B.parts body.now)) (F.steps folder.old) (F.steps folder.new)) }
     ensures any_moment { AtEachMoment (IsOnlyPart part.now (F.steps folder.old)) (F.steps folder.old) (F.steps folder.new) }
     ensures grows { refusals (F.steps folder.old) ≤ refusals (F.steps folder.new) }
     ensures cause { IsErr result → refusals (F.steps folder.old) < refusals (F.steps folder.new) }
 {
+    let mut held = 0;
     for i in 0..body.part_count() {
         let Some(bytes) = body.part(i) else {
             unreachable!();
         };
-        append_all(folder, part, bytes)?;
+        held = gather(folder, part, buffer, held, bytes)?;
     }
-    Ok(())
+    append_all(folder, part, &buffer[..held])
+}
+
+// Writes the parts of a body. One that has a single part isn't copied.
+fn append_parts<F: Folder, B: Body>(
+    folder: &mut F,
+    part: &PartName,
+    body: &B,
+    buffer: &mut [u8],
+) -> Result<(), SaveError>
+    ensures written { OnOk result (Appends part.now (content_of (B.parts body.now)) (F.steps folder.old) (F.steps folder.new)) }
+    ensures any_moment { AtEachMoment (IsOnlyPart part.now (F.steps folder.old)) (F.steps folder.old) (F.steps folder.new) }
+    ensures grows { refusals (F.steps folder.old) ≤ refusals (F.steps folder.new) }
+    ensures cause { IsErr result → refusals (F.steps folder.old) < refusals (F.steps folder.new) }
+{
+    if body.part_count() > 1 {
+        append_gathered(folder, part, body, buffer)
+    } else {
+        append_gathered(folder, part, body, &mut [])
+    }
 }
 
 // Flushes the part to the disk, where that is asked for.
@@ -68,6 +129,7 @@ fn fill_part<F: Folder, B: Body>(
     part: &PartName,
     body: &B,
     flush: bool,
+    buffer: &mut [u8],
 ) -> Result<(), SaveError>
     requires { Holds part.now [] false (F.steps folder.old) }
     ensures filled { OnOk result (Holds part.now (content_of (B.parts body.now)) flush (F.steps folder.new)) }
@@ -75,7 +137,7 @@ fn fill_part<F: Folder, B: Body>(
     ensures grows { refusals (F.steps folder.old) ≤ refusals (F.steps folder.new) }
     ensures cause { IsErr result → refusals (F.steps folder.old) < refusals (F.steps folder.new) }
 {
-    append_parts(folder, part, body)?;
+    append_parts(folder, part, body, buffer)?;
     flush_part(folder, part, flush)
 }
 
@@ -96,7 +158,8 @@ fn discard<F: Folder>(folder: &mut F, part: &PartName) -> Option<FolderError>
 // rule file-whole-body
 // rule file-refused-save
 /// Saves a body under a name: writes it under the name of the part, flushes it to the disk where `flush` says so, and gives it its name.
-/// What was under that name before stays until that moment.
+/// What was under that name before stays until that moment. The parts of a body that has several are gathered in the buffer for a write,
+/// as many as it has room for; it may be empty, and what it holds before and afterwards has no meaning.
 ///
 /// An error comes only where the folder refused a call. It leaves each file as it was, at each moment; the part stays behind only where
 /// the folder refused to remove it, and then the error says why.
@@ -106,6 +169,7 @@ pub fn save_body<F: Folder, B: Body>(
     name: &FileName,
     body: &B,
     flush: bool,
+    buffer: &mut [u8],
 ) -> Result<(), PartError>
     ensures saved { OnOk result (Holds name.now (content_of (B.parts body.now)) flush (F.steps folder.new)) }
     ensures kept { OnErr result (AtEachMoment (FilesAreKept (F.steps folder.old)) (F.steps folder.old) (F.steps folder.new)) }
@@ -129,7 +193,7 @@ pub fn save_body<F: Folder, B: Body>(
         }
         Ok(()) => {}
     }
-    match fill_part(folder, part, body, flush) {
+    match fill_part(folder, part, body, flush, buffer) {
         Err(error) => {
             let left = discard(folder, part);
             return Err(PartError { error, left });

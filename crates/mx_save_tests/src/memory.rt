@@ -9,8 +9,9 @@ use mx_types::OutOfMemory;
 use std::alloc::{AllocError, Global};
 use std::test::Fail;
 
+// Its pieces are gathered: there are no more writes than the bytes need.
 static HELLO: Pieces = Pieces {
-    pieces: &[b"hello ", b"", b"you"],
+    pieces: &[b"h", b"e", b"l", b"l", b"o", b" ", b"", b"you"],
 };
 
 static BYE: Pieces = Pieces { pieces: &[b"bye"] };
@@ -154,7 +155,7 @@ fn is_right(
     row: &Fault,
 ) -> Result<bool, OutOfMemory> {
     let mut folder = MemoryFolder::new(alloc, 4, row.call, FolderError::Full);
-    let saved = save_body(&mut folder, part, name, &HELLO, row.flush);
+    let saved = save_body(&mut folder, part, name, &HELLO, row.flush, &mut [0; 16]);
     let left = is_left(alloc, &folder, part, name, saved.is_ok());
     drop(folder);
     Ok(left? && reason_of(saved) == row.saved)
@@ -219,7 +220,7 @@ fn is_left_so(
     row: &Left,
 ) -> Result<bool, OutOfMemory> {
     let mut folder = MemoryFolder::new(alloc, 4, row.call, FolderError::Denied).failing_on();
-    let saved = save_body(&mut folder, part, name, &HELLO, false);
+    let saved = save_body(&mut folder, part, name, &HELLO, false, &mut [0; 16]);
     let there = folder.held(alloc, part.as_str());
     drop(folder);
     Ok(there?.is_some() == row.is_left && saved == row.saved)

@@ -282,10 +282,12 @@ fn is_answered<R: Files>(
             let name = name_of(alloc, *url)?;
             let part = part_name(alloc, 42, 0)?;
             let body = Pieces { pieces: *body };
-            Ok(match save_body(folder, &part, &name, &body, true) {
-                Ok(()) => wanted.is_ok(),
-                Err(refused) => *wanted == Err(refused.error) && refused.left.is_none(),
-            })
+            Ok(
+                match save_body(folder, &part, &name, &body, true, &mut []) {
+                    Ok(()) => wanted.is_ok(),
+                    Err(refused) => *wanted == Err(refused.error) && refused.left.is_none(),
+                },
+            )
         }
     }
 }

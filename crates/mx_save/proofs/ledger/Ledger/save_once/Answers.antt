@@ -10,7 +10,7 @@ pub invariant_of-self : goal.invariant_of-self
 invariant_of-self g c =
     let steps = g.F.Folder.steps in
     let inside = c.self.inside in
-    let same = ap (λ (l : LedgerValue g.row.B.Denot). l.entries) (c.self.view_is ∙ c.next_part.ensures) in
+    let same = ap (λ (l : LedgerValue g.row.B.Denot). l.entries) (c.self.view_is ∙ c.make_room.ensures ∙ c.next_part.ensures) in
     let fresh = subst (IsFresh c.args.name.now) (sym same) c.requires in
     simp (c.note.ensures, c.of.ensures, c.of-in-Ok-save_body.ensures)
     (saved_on g.B.Body.parts inside.flush _ c.args.name.now c.args.body.now _ _ (steps inside.start.value) (steps inside.folder) (steps c.save_body.new.folder)
@@ -29,10 +29,10 @@ pub returns-in-Err-clause-files : goal.returns-in-Err-clause-files
 returns-in-Err-clause-files g c found name safe =
     let steps = g.F.Folder.steps in
     let old = steps c.self.inside.folder in
-    let same = ap (λ (l : LedgerValue g.row.B.Denot). file found l.steps name) (c.self.view_is ∙ c.next_part.ensures) in
+    let same = ap (λ (l : LedgerValue g.row.B.Denot). file found l.steps name) (c.self.view_is ∙ c.make_room.ensures ∙ c.next_part.ensures) in
     at_end (FilesAreKept old) old (steps c.save_body.new.folder) c.in-Err.ensures.kept found name safe ∙ same
 
 pub returns-in-Err-clause-left : goal.returns-in-Err-clause-left
 returns-in-Err-clause-left g c =
-    let old = ap (λ (l : LedgerValue g.row.B.Denot). l.left) (c.self.view_is ∙ c.next_part.ensures) in
+    let old = ap (λ (l : LedgerValue g.row.B.Denot). l.left) (c.self.view_is ∙ c.make_room.ensures ∙ c.next_part.ensures) in
     simp (c.note_left.ensures, left_same, old)
