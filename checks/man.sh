@@ -95,7 +95,7 @@ def add_other(name, short, value, text):
 
 
 main, command = texts("mx_command/src/help.rt"), "mx_command/src/command.rt"
-saving, save = texts("mx_save_command/src/help.rt"), "mx_save_command/src/options.rt"
+saving, save = texts("mx_command/src/save/help.rt"), "mx_command/src/save/options.rt"
 arguments = [it for part in ("header", "urls") for it in others(save, part)]
 version = re.search(r'\.version\("([^"]*)"\)', source(command)).group(1)
 commands = [

@@ -2,7 +2,7 @@
 use Rattle.std.specs.Prelude.{◌≡◌, true}
 use Rattle.mx_types.specs.Limits.{IsHistory}
 use Rattle.mx_run_io.specs.Options.{are_within}
-use Rattle.mx_save_command.specs.Saving.{IsSaveAsked}
+use Rattle.mx_command.specs.Saving.{IsSaveAsked}
 use Rattle.mx_command.specs.declared.asked.Asked.{Asked}
 use Rattle.mx_command.specs.declared.asked.Asked.TheVariants.{Task, Explain, Get, Save}
 use Rattle.mx_command.specs.declared.task.Task.{Task as Tasks}

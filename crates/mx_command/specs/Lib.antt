@@ -1,2 +1,5 @@
--- What `read_command` promises.
+-- What `read_command`, `read_save` and `hint_of` promise.
 pub mod Asked
+pub mod Hints
+pub mod Said
+pub mod Saving

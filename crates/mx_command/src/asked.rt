@@ -1,7 +1,7 @@
 //! What a command line asks for.
+use crate::save::Save;
 use crate::task::Task;
 use mx_run_io::Options;
-use mx_save_command::Save;
 use mx_types::Method;
 
 /// What `get` is asked for.

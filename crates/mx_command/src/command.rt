@@ -5,12 +5,13 @@ ghost use Rattle.mx_command.specs.Asked.{IsTask, IsAsked};
 
 use crate::asked::{Asked, Get};
 use crate::help;
+use crate::options::{METHODS, OptionRow, Takes, with_options};
+use crate::save::options::save_command;
+use crate::save::read::read_save;
 use crate::task::Task;
 use clap::error::ErrorKind;
 use clap::{Arg, ArgAction, ArgMatches, Command, Error};
-use mx_options::{METHODS, OptionRow, Takes, with_options};
 use mx_run_io::Options;
-use mx_save_command::{read_save, save_command};
 use mx_types::{LEAST_HISTORY, MOST_HISTORY, Method};
 use std::alloc::{AllocError, Global};
 

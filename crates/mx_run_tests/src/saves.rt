@@ -1,7 +1,7 @@
 //! Command lines of `save`.
 use crate::tally::add_all;
 use crate::words::{tell_error, words_of};
-use mx_save_command::{BodySource, ListSource, Save, read_save};
+use mx_command::{BodySource, ListSource, Save, read_save};
 use std::alloc::{AllocError, Global};
 
 fn tell_numbers(alloc: Global, save: &Save<'_>) -> Result<String, AllocError> {

@@ -4,8 +4,7 @@ use crate::saves::tell_save;
 use crate::tally::add_all;
 use clap::Error;
 use clap::error::ErrorKind;
-use mx_command::{Asked, Get, Task, read_command};
-use mx_hint::{Hint, hint_of};
+use mx_command::{Asked, Get, Hint, Task, hint_of, read_command};
 use std::alloc::{AllocError, Global};
 
 /// The text of these bytes, or none where they aren't UTF-8.

@@ -5,10 +5,10 @@ use Rattle.mx_request.specs.Fields.{are_fields}
 use Rattle.mx_request.specs.Request.{is_body_too_large, refusal_of}
 use Rattle.mx_request.specs.declared.error.RequestError.{RequestError}
 use Rattle.mx_request.specs.declared.error.RequestError.TheVariants as refusal
-use Rattle.mx_save_command.specs.declared.save.BodySource.{BodySource}
-use Rattle.mx_save_command.specs.declared.save.BodySource.TheVariants.{Text, File}
-use Rattle.mx_save_command.specs.declared.save.Header.{Header}
-use Rattle.mx_save_command.specs.declared.save.Save.{Save}
+use Rattle.mx_command.specs.declared.save.BodySource.{BodySource}
+use Rattle.mx_command.specs.declared.save.BodySource.TheVariants.{Text, File}
+use Rattle.mx_command.specs.declared.save.Header.{Header}
+use Rattle.mx_command.specs.declared.save.Save.{Save}
 use Rattle.mx_save_jobs.specs.declared.asking.Asking.{Asking}
 
 -- a header field

@@ -3,7 +3,7 @@ use Rattle.std.specs.Prelude.{◌≡◌, ℕ, List, map, ◌++◌, Option, optio
 use Rattle.mx_chain.specs.Outcomes.{OutcomeValue}
 use Rattle.mx_folder.specs.declared.steps.Step.{Step}
 use Rattle.mx_save.specs.Ledgers.{LedgerValue, IsLedger}
-use Rattle.mx_save_command.specs.declared.save.Save.{Save}
+use Rattle.mx_command.specs.declared.save.Save.{Save}
 use Rattle.mx_save_jobs.specs.Bodies.{parts_of}
 use Rattle.mx_save_jobs.specs.Lines.{LinesValue}
 use Rattle.mx_save_jobs.specs.declared.asking.Asking.{Asking}

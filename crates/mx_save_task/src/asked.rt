@@ -7,8 +7,8 @@ ghost use Rattle.mx_save_task.specs.Asked.{IsAskedBy, IsBodyOf, IsOneTooMany, fi
 use crate::status::{OUT_OF_MEMORY, REFUSED, UNREAD};
 use crate::unbegun::tell_out_of_memory;
 use crate::unread::read_file;
+use mx_command::{BodySource, Header, Save};
 use mx_request::RequestError;
-use mx_save_command::{BodySource, Header, Save};
 use mx_save_jobs::Asking;
 use mx_types::{OutOfMemory, Settings};
 use std::alloc::{AllocError, AllocGlobal, Global};

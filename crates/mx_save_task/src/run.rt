@@ -1,6 +1,6 @@
 //! The run of what is asked for.
 ghost use Rattle.std.specs.Prelude.{◌≡◌, ◌≢◌, [], IfErr, OnOk, IsErr};
-ghost use Rattle.mx_save_command.specs.Saving.{AreSaveNumbers};
+ghost use Rattle.mx_command.specs.Saving.{AreSaveNumbers};
 ghost use Rattle.mx_save_work.specs.Feeds.{list_left};
 ghost use Rattle.mx_save_task.specs.Saved.{SavesIn, urls_of};
 ghost use Rattle.mx_save_task.specs.Status.{codes_number, stop_number};
@@ -10,11 +10,11 @@ use crate::opened::{folder_of, list_of};
 use crate::status::{OUT_OF_MEMORY, UNMADE, status_of};
 use crate::terminal::{Screen, Terminal};
 use crate::unbegun::{end_unbegun, tell_out_of_memory};
+use mx_command::Save;
 use mx_crew::Runtime;
 use mx_folder::{Folder, FolderError};
 use mx_run_io::Output;
 use mx_save::Ledger;
-use mx_save_command::Save;
 use mx_save_jobs::{Asking, Lines, Stop};
 use mx_save_run::{Ended, Plan, save_all};
 use mx_save_urls::Watch;

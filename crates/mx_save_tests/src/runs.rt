@@ -2,10 +2,10 @@
 
 use crate::bodies::is_same;
 use crate::server::Server;
+use mx_command::{Save, SaveFlags, SaveNumbers};
 use mx_crew::Runtime;
 use mx_folder::{FolderError, MemoryFolder};
 use mx_run_io::{Options, Output};
-use mx_save_command::{Save, SaveFlags, SaveNumbers};
 use mx_save_jobs::{Asking, Lines};
 use mx_save_task::{Saved, save_in};
 use mx_save_urls::Nobody;

@@ -9,10 +9,9 @@ ghost use Rattle.mx_command.specs.Asked.{IsTask};
 
 use clap::Error;
 use clap::error::ErrorKind;
-use mx_command::{Asked, Get, Task, read_command};
+use mx_command::{Asked, Get, Task, hint_of, read_command};
 use mx_explain::run_get_explained;
 use mx_get::{MOST_URLS, Runtime, run_get};
-use mx_hint::hint_of;
 use mx_run_body::{MOST_READS, run_body_explained};
 use mx_run_io::{Input, Output, UNWRITTEN, end_with};
 use mx_run_task::{most_reads, run_task};

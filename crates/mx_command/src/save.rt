@@ -1,4 +1,9 @@
 //! What `save` is asked for.
+
+pub(crate) mod help;
+pub(crate) mod options;
+pub(crate) mod read;
+
 use mx_run_io::Options;
 use mx_types::Method;
 

@@ -2,8 +2,8 @@
 use Rattle.std.specs.Prelude.{◌≡◌, ◌≢◌, true, []}
 use Rattle.mx_types.specs.Limits.{IsHistory}
 use Rattle.mx_run_io.specs.Options.{are_within}
-use Rattle.mx_save_command.specs.declared.save.Save.{Save}
-use Rattle.mx_save_command.specs.declared.save.SaveNumbers.{SaveNumbers}
+use Rattle.mx_command.specs.declared.save.Save.{Save}
+use Rattle.mx_command.specs.declared.save.SaveNumbers.{SaveNumbers}
 
 -- each number is within its limits
 pub record AreSaveNumbers (n : SaveNumbers) : Type 0 where

@@ -1,7 +1,7 @@
 //! The options of `save`.
-use crate::help;
+use crate::options::{OptionRow, Takes, with_arg, with_options};
+use crate::save::help;
 use clap::{Arg, ArgAction, Command};
-use mx_options::{OptionRow, Takes, with_arg, with_options};
 use mx_types::{LEAST_HISTORY, MOST_HISTORY};
 use std::alloc::{AllocError, Global};
 
@@ -135,7 +135,7 @@ fn urls<'a>(alloc: Global) -> Result<Arg<'a>, AllocError> {
 }
 
 /// The command `save`, with its options and its help.
-pub fn save_command<'a>(alloc: Global) -> Result<Command<'a>, AllocError> {
+pub(crate) fn save_command<'a>(alloc: Global) -> Result<Command<'a>, AllocError> {
     let command = Command::new(alloc, "save")
         .about(help::SAVE)
         .long_about(help::LONG_SAVE)

@@ -3,9 +3,9 @@ use Rattle.std.specs.Prelude.{◌≡◌, ℕ, ◌≤◌, ◌⊎◌, true, List, 
 use Rattle.std.specs.List.{starts_with}
 use Rattle.clap.specs.declared.error.kind.ErrorKind.{ErrorKind}
 use Rattle.clap.specs.declared.error.kind.ErrorKind.TheVariants as kind
-use Rattle.mx_hint.specs.declared.hint.Hint.{Hint}
-use Rattle.mx_hint.specs.declared.hint.Hint.TheVariants.{Nearest, Url, Wanted}
-use Rattle.mx_hint.specs.Hints.{distance, is_url}
+use Rattle.mx_command.specs.declared.hint.Hint.{Hint}
+use Rattle.mx_command.specs.declared.hint.Hint.TheVariants.{Nearest, Url, Wanted}
+use Rattle.mx_command.specs.Hints.{distance, is_url}
 
 -- for a word that is no command: that it is a URL, if it may be one, else the name of a command at most two edits away
 abbrev pub IsSaidToWord : List ℕ → Hint → Type 0

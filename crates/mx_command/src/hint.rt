@@ -1,9 +1,12 @@
 //! A hint after clap's words.
 ghost use Rattle.std.specs.Prelude.{IfOk, IfSome, map, string_bytes};
-ghost use Rattle.mx_hint.specs.Said.{IsSaid, IsSaidToWord, IsSaidToValue, IsCommandWord};
+ghost use Rattle.mx_command.specs.Said.{IsSaid, IsSaidToWord, IsSaidToValue, IsCommandWord};
 
-use crate::command::{is_url, nearest};
-use crate::number::{NumberRow, refused_at};
+pub(crate) mod command;
+pub(crate) mod number;
+
+use crate::hint::command::{is_url, nearest};
+use crate::hint::number::{NumberRow, refused_at};
 use clap::error::ErrorKind;
 use std::alloc::{AllocError, Global};
 use std::fmt;

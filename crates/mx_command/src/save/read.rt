@@ -1,10 +1,9 @@
 //! What a command line of `save` asks for.
 ghost use Rattle.std.specs.Prelude.{IfOk, IfSome};
-ghost use Rattle.mx_save_command.specs.Saving.{AreSaveNumbers, IsSaveAsked};
+ghost use Rattle.mx_command.specs.Saving.{AreSaveNumbers, IsSaveAsked};
 
-use crate::help;
-use crate::options::save_command;
-use crate::save::{BodySource, Header, ListSource, Save, SaveFlags, SaveNumbers};
+use crate::save::options::save_command;
+use crate::save::{BodySource, Header, ListSource, Save, SaveFlags, SaveNumbers, help};
 use clap::error::ErrorKind;
 use clap::{ArgMatches, Command, Error};
 use mx_run_io::Options;

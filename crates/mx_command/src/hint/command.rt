@@ -1,6 +1,6 @@
 //! The command that was meant.
 ghost use Rattle.std.specs.Prelude.{◌≡◌, ◌≤◌, IfOk, IfSome};
-ghost use Rattle.mx_hint.specs.Hints.{distance, is_url};
+ghost use Rattle.mx_command.specs.Hints.{distance, is_url};
 
 use std::alloc::{AllocError, Global};
 use strsim::{jaro, levenshtein};

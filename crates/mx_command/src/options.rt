@@ -1,7 +1,37 @@
-//! The arguments of a table, added to a command.
-use crate::option::{METHODS, OptionRow, Takes};
+//! The options of a command, as the rows of a table.
 use clap::{Arg, ArgAction, Command, value_parser};
 use std::alloc::{AllocError, Global};
+
+/// The names of the methods.
+pub(crate) static METHODS: [&str; 6] = ["GET", "HEAD", "POST", "PUT", "DELETE", "OPTIONS"];
+
+/// What an option takes, with the help's name of a text.
+#[derive(Clone, Copy)]
+pub(crate) enum Takes {
+    /// Nothing: it is given, or it isn't.
+    Nothing,
+    /// Nothing, and that option may not be given with it.
+    NothingBeside(&'static str),
+    /// A text that begins with no hyphen, unless it is one alone.
+    Word(&'static str),
+    /// Any text.
+    Text(&'static str),
+    /// A number from the first to the second.
+    Number(u32, u32),
+    /// The name of a method.
+    Method,
+}
+
+/// An option.
+pub(crate) struct OptionRow {
+    /// Its name, after two hyphens.
+    pub name: &'static str,
+    pub takes: Takes,
+    /// The value that is meant where it isn't given.
+    pub default: Option<&'static str>,
+    /// What the help says of it.
+    pub help: &'static str,
+}
 
 // An argument that takes this.
 fn taking<'a>(arg: Arg<'a>, takes: Takes) -> Result<Arg<'a>, AllocError> {
@@ -34,7 +64,7 @@ fn arg_of<'a>(alloc: Global, row: &'static OptionRow) -> Result<Arg<'a>, AllocEr
 }
 
 /// The command with an argument, where that could be made.
-pub fn with_arg<'a>(
+pub(crate) fn with_arg<'a>(
     command: Command<'a>,
     arg: Result<Arg<'a>, AllocError>,
 ) -> Result<Command<'a>, AllocError> {
@@ -48,7 +78,7 @@ pub fn with_arg<'a>(
 }
 
 /// The command with the options of the table.
-pub fn with_options<'a>(
+pub(crate) fn with_options<'a>(
     alloc: Global,
     mut command: Command<'a>,
     rows: &'static [OptionRow],

@@ -1,7 +1,7 @@
 //! The options that take a number.
 ghost use Rattle.std.specs.Prelude.{◌≡◌, true, nat_eq, IfSome, map, string_bytes};
 ghost use Rattle.std.specs.List.{starts_with};
-ghost use Rattle.mx_hint.specs.Said.{IsNamedAt};
+ghost use Rattle.mx_command.specs.Said.{IsNamedAt};
 
 use mx_types::{LEAST_HISTORY, MOST_HISTORY};
 

@@ -1,2 +1,0 @@
--- What `read_save` promises.
-pub mod Saving
