@@ -1,4 +1,5 @@
 //! Command lines that are run on an input.
+ghost use Rattle.mx_types.specs.Limits.{IsHistory};
 ghost use Rattle.mx_command.specs.Asked.{IsTask};
 
 use crate::escapes::Seen;
@@ -6,7 +7,7 @@ use crate::words::words_of;
 use mx_command::{Asked, Task, read_command};
 use mx_run_body::{MOST_READS, run_body, run_body_explained};
 use mx_run_io::{Input, Output};
-use mx_run_task::{most_reads, run_task};
+use mx_run_play::run_play;
 use mx_types::Method;
 use std::alloc::{AllocError, Global};
 
@@ -18,14 +19,12 @@ struct Written {
     status: u8,
 }
 
-fn run(alloc: Global, task: Task, input: &[u8]) -> Written
-    requires { IsTask task }
-{
+fn decode(alloc: Global, method: Method, input: &[u8]) -> Written {
     let mut written = Vec::new(alloc);
-    let status = run_task(
+    let status = run_body(
         alloc,
-        task,
-        &mut Input::new(input, most_reads(task)),
+        method,
+        &mut Input::new(input, MOST_READS),
         &mut Output::new(&mut written),
     );
     Written {
@@ -35,12 +34,15 @@ fn run(alloc: Global, task: Task, input: &[u8]) -> Written
     }
 }
 
-fn decode(alloc: Global, method: Method, input: &[u8]) -> Written {
+fn play(alloc: Global, history: u32, first: u32, input: &[u8]) -> Written
+    requires { IsHistory history }
+{
     let mut written = Vec::new(alloc);
-    let status = run_body(
+    let status = run_play(
         alloc,
-        method,
-        &mut Input::new(input, MOST_READS),
+        history,
+        first,
+        &mut Input::new(input, mx_run_play::MOST_READS),
         &mut Output::new(&mut written),
     );
     Written {
@@ -103,7 +105,10 @@ fn see_explained(alloc: Global, method: Method, input: &[u8]) -> Result<String, 
 fn see_task(alloc: Global, task: Task, input: &[u8]) -> Result<String, AllocError>
     requires { IsTask task }
 {
-    let run = run(alloc, task, input);
+    let run = match task {
+        Task::Body(method) => decode(alloc, method, input),
+        Task::Play { history, first } => play(alloc, history, first, input),
+    };
     let seen = tell_run(alloc, &run);
     drop(run);
     seen

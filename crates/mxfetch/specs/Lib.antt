@@ -1,0 +1,2 @@
+-- What `run_task` promises.
+pub mod Tasks

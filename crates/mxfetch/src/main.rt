@@ -7,6 +7,9 @@ ghost use Rattle.clap.specs.declared.error.kind.ErrorKind.TheVariants as kinds;
 ghost use Rattle.mx_run_io.specs.Options.{are_within};
 ghost use Rattle.mx_command.specs.Asked.{IsTask};
 
+mod task;
+
+use crate::task::{most_reads, run_task};
 use clap::Error;
 use clap::error::ErrorKind;
 use mx_command::{Asked, Get, Task, hint_of, read_command};
@@ -14,7 +17,6 @@ use mx_explain::run_get_explained;
 use mx_get::{MOST_URLS, Runtime, run_get};
 use mx_run_body::{MOST_READS, run_body_explained};
 use mx_run_io::{Input, Output, UNWRITTEN, end_with};
-use mx_run_task::{most_reads, run_task};
 use mx_save_task::{REFUSED, Screen, refuse_save, run_save};
 use mx_types::{Code, Method};
 use std::env::FillError;

@@ -3,7 +3,7 @@ ghost use Rattle.std.specs.Prelude.{◌≡◌, ◌≢◌, ◌≤◌, true};
 ghost use Rattle.mx_run_io.specs.Ends.{reader_of, reads_of, most_reads_of, has_failed_read, has_failed_write, Wrote, EndsRun};
 ghost use Rattle.mx_run_play.specs.Run.{WasAsked};
 ghost use Rattle.mx_command.specs.Asked.{IsTask};
-ghost use Rattle.mx_run_task.specs.Tasks.{most_reads, AnswersTask, PrintsFailedRead, StopsReading};
+ghost use Rattle.mxfetch.specs.Tasks.{most_reads, AnswersTask, PrintsFailedRead, StopsReading};
 
 use mx_command::Task;
 use mx_run_body::run_body;
@@ -13,7 +13,7 @@ use std::alloc::Global;
 use std::io::{Read, Write};
 
 /// How often the run of a task reads at most.
-pub fn most_reads(task: Task) -> u64
+pub(crate) fn most_reads(task: Task) -> u64
     ensures { result ≡ most_reads task }
 {
     match task {
@@ -25,7 +25,7 @@ pub fn most_reads(task: Task) -> u64
 /// Runs a task over an input that wasn't read yet, and that may be read as often as the task may need. The answer is the exit status, and
 /// the output belongs to it: that of `run_body` for the task's method, or that of `run_play` for its history and first ticket; 121 exactly
 /// where the output couldn't be written, and else nothing is left pending in it.
-pub fn run_task<R: Read, W: Write>(
+pub(crate) fn run_task<R: Read, W: Write>(
     alloc: Global,
     task: Task,
     input: &mut Input<R>,

@@ -1,2 +1,0 @@
--- What `run_task` promises.
-pub mod Tasks
