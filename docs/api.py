@@ -10,7 +10,8 @@ it is in, with its signature, its clauses and the comments between them, its doc
 these clauses name, with its file, the comment over it, and links to its rules. Columns in front of a function: `waits` where a bound lets
 it wait; `refused` what it answers in place of a value (the type of its error, or `None`); `left` the clauses named `refused`, `kept` or
 `back`, which say what a refusal leaves. Left out are methods of a trait's impl that have neither clause nor doc comment of their own, since
-the trait has theirs, derived traits, private fields, and crates of tests. CRATES has all crates, in the order of crates.txt.
+the trait has theirs, derived traits, private fields, and crates of tests. CRATES has all crates, in the order of crates.txt, by the
+floors that its headings name, as `# 1 bytes`.
 """
 
 import difflib
@@ -35,9 +36,14 @@ method that a type has from a trait is written at the type only where it has a c
 
 CRATES_HEAD = """# Crates
 
-Each crate with the first sentence of its root file, lowest first: printed by `docs/api.py` from the sources, and compared with them by
-`./check`. Of the crates that its line in crates.txt names, those are left out that another one of them is built on. A name leads to the
-crate's public items; that of a program or of a crate of tests leads to its folder.
+Each crate with the first sentence of its root file, by floor, lowest first: printed by `docs/api.py` from the sources, and compared with
+them by `./check`. [ARCHITECTURE](../ARCHITECTURE.md) says what the floors are for. Of the crates that its line in crates.txt names, those
+are left out that another one of them is built on. A name leads to the crate's public items; that of a program or of a crate of tests leads
+to its folder."""
+
+FLOOR = re.compile(r"# (\d+ [a-z ]+)$")
+FLOOR_HEAD = """
+## {}
 
 | Crate | What it is | Built on | Of the toolchain |
 |---|---|---|---|"""
@@ -406,13 +412,17 @@ def page():
 
 
 def crates_page():
-    lines, names, below = [CRATES_HEAD], {}, {}
+    lines, names, floors, below = [CRATES_HEAD], {}, {}, {}
     for line in read("crates.txt").splitlines():
         front, _, rest = line.partition("#")[0].partition(":")
         if front.strip():
             names[front.split()[0]] = rest.split()
+        elif FLOOR.match(line):
+            floors[len(names)] = FLOOR.match(line)[1]
     libraries = set(library_crates())
-    for name, used in names.items():
+    for at, (name, used) in enumerate(names.items()):
+        if at in floors:
+            lines.append(FLOOR_HEAD.format(floors[at]))
         own = [it for it in used if it in names]
         below[name] = set(own).union(*(below[it] for it in own))
         nearest = [it for it in own if not any(it in below[other] for other in own)]
