@@ -8,8 +8,8 @@ use Rattle.mx_gate.specs.declared.gate.Turn.TheVariants as turn
 -- rule gate-log: What a gate is asked and answers is in its list, in order: moments, links that it opened or didn't, waits and stops.
 --
 -- The moment that it gave. Whether it could open a link to an endpoint when it was asked. What it opened for an endpoint: the number of the
--- link, or the code of why it couldn't. Whether too many files were open for the last one that it couldn't open. How many milliseconds it
--- was to wait, and whether it then said that the worker is to stop.
+-- link, or the code of why it couldn't. Whether too many files were open for a link that couldn't be opened. How many milliseconds it was to
+-- wait, and whether it then said that the worker is to stop.
 pub data Said : Type 0 where
   told : ℕ → Said
   asked : HostAndPort → Bool → Said

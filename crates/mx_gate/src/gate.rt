@@ -48,8 +48,8 @@ pub trait Gate {
         ensures moment { latest self.new ≡ latest self.old }
         ensures noted { said self.new ≡ said self.old ++ opened endpoint.now (numbered Self.Link.token_of result) ∷ [] };
 
-    /// Whether the last link couldn't be opened since as many files are open as may be: then one may be opened once some links are dropped.
-    /// No clause says that it is so.
+    /// Whether a link couldn't be opened, since this was asked last, because as many files are open as may be: then one may be opened once
+    /// some links are dropped. A gate may say so for a link of another worker, too. No clause says that it is so.
     fn lacks_files(&mut self) -> bool
         ensures moment { latest self.new ≡ latest self.old }
         ensures noted { said self.new ≡ said self.old ++ lacked result ∷ [] };

@@ -1,9 +1,9 @@
 //! A worker's idle links, and how a transfer gets one.
-ghost use Rattle.std.specs.Prelude.{◌≡◌, [], true, false, IfOk, IfErr, MatchOption, MatchResult};
+ghost use Rattle.std.specs.Prelude.{◌≡◌, [], true, false, IfOk, IfErr, IfSome, MatchOption, MatchResult};
 ghost use Rattle.mx_types.specs.Code.{is_link_code};
 ghost use Rattle.mx_exchange.specs.Exchanges.{WantsLink};
 ghost use Rattle.mx_turn.specs.Turn.{Keeps, served_by, unserved, unlinked};
-ghost use Rattle.mx_links.specs.Supplies.{Supplies, HasNoIdle, Opens, TakesIdle};
+ghost use Rattle.mx_links.specs.Supplies.{Supplies, HasNoIdle, IsPutOff, Opens, Relieves, TakesIdle};
 
 use mx_cache::IdleCache;
 use mx_gate::Gate;
@@ -70,28 +70,46 @@ impl<L: Link> Links<L> {
 
     // rule turn-files
     // A link that the gate opens to the endpoint. Where that fails since too many files are open, all idle links are dropped, and it is
-    // opened once more.
-    fn open<G: Gate<Link = L>>(&mut self, gate: &mut G, endpoint: &Endpoint) -> Result<L, Code>
-        ensures fresh { IfOk result (λ link. L.history link ≡ []) }
-        ensures code { IfErr result (λ code. is_link_code code ≡ true) }
-        ensures opens { Opens L.token_of endpoint.now self.old self.new (G.said gate.old) (G.said gate.new) result }
+    // opened once more, unless the gate says that none can be opened yet.
+    fn open<G: Gate<Link = L>>(
+        &mut self,
+        gate: &mut G,
+        endpoint: &Endpoint,
+    ) -> Option<Result<L, Code>>
+        ensures fresh { IfSome result (λ r. IfOk r (λ link. L.history link ≡ [])) }
+        ensures code { IfSome result (λ r. IfErr r (λ code. is_link_code code ≡ true)) }
+        ensures opens { MatchOption result (IsPutOff endpoint.now self.old self.new (G.said gate.old) (G.said gate.new)) (λ r. Opens L.token_of endpoint.now self.old self.new (G.said gate.old) (G.said gate.new) r) }
     {
         match gate.open(endpoint) {
-            Ok(link) => Ok(link),
+            Ok(link) => Some(Ok(link)),
             Err(code) => {
                 if !gate.lacks_files() {
-                    return Err(code);
+                    return Some(Err(code));
                 }
                 self.idle.clear();
-                gate.open(endpoint)
+                if !gate.can_open(endpoint) {
+                    return None;
+                }
+                Some(gate.open(endpoint))
             }
+        }
+    }
+
+    // rule turn-files
+    /// Asks the gate whether too many files are open, and drops all idle links where they are.
+    pub fn relieve<G: Gate<Link = L>>(&mut self, gate: &mut G)
+        ensures { Relieves self.old self.new (G.said gate.old) (G.said gate.new) }
+    {
+        if gate.lacks_files() {
+            self.idle.clear();
         }
     }
 
     // rule turn-links
     /// Hands a link to the transfer where it wants one: the newest idle one of its endpoint, unless only a fresh one will do, else one that
-    /// the gate opens. Where too many files are open for that, all idle links are dropped, and the gate opens it once more. Where it fails,
-    /// the transfer gets the code of why. The answer is whether the gate says that none can be opened yet: then it is given none.
+    /// the gate opens. Where too many files are open for that, all idle links are dropped, and the gate opens it once more, where it says
+    /// that it can. Where it fails, the transfer gets the code of why. The answer is whether the gate says that none can be opened yet: then
+    /// it is given none.
     pub fn supply<G: Gate<Link = L>>(&mut self, gate: &mut G, transfer: &mut Transfer<L>) -> bool
         ensures supplied { Supplies L.history L.token_of transfer.old.chain transfer.new.chain self.old self.new (G.said gate.old) (G.said gate.new) result }
         ensures same { transfer.new ≡ record transfer.old { chain = transfer.new.chain } }
@@ -109,7 +127,9 @@ impl<L: Link> Links<L> {
         if !gate.can_open(want.endpoint) {
             return true;
         }
-        let opened = self.open(gate, want.endpoint);
+        let Some(opened) = self.open(gate, want.endpoint) else {
+            return true;
+        };
         give(transfer, opened);
         false
     }

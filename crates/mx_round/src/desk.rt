@@ -7,7 +7,7 @@ ghost use Rattle.mx_chain.specs.Steps.{IfEnded, IfGoing, Steps, how_of};
 ghost use Rattle.mx_gate.specs.Said.{is_stop};
 ghost use Rattle.mx_turn.specs.Workers.{Return, gives_back, in_hand, does, holds, IsOver};
 ghost use Rattle.mx_turn.specs.Turn.{Each, Claims, Retries, LooksAt, GivesBack, GoesThrough, Stops, WorkerTurn, longest_wait, prepared, time_left, wait_of};
-ghost use Rattle.mx_round.specs.Desks.{Advances, HandsIn, IsReadied, Polls, beside};
+ghost use Rattle.mx_round.specs.Desks.{Advances, HandsIn, IsReadied, Polls, Relieves, beside};
 
 use crate::engine::{Engine, Finished, Held, LONGEST_WAIT, Right, Tied};
 use crate::next::{least_deadline, take_next};
@@ -180,6 +180,15 @@ impl<L: Link, C: Right, E: Engine<L, C>> Desk<L, C, E> {
     {
         self.go_on_if(could);
         self.hold(Held::new(right, transfer));
+    }
+
+    // rule turn-files
+    // Asks the gate whether too many files are open, and drops the idle links where they are.
+    fn relieve<G: Gate<Link = L>>(&mut self, gate: &mut G)
+        ensures relieves { Relieves self.old.worker self.new.worker (G.said gate.old) (G.said gate.new) }
+        ensures same { self.new ≡ record self.old { worker = self.new.worker } }
+    {
+        self.links.relieve(gate);
     }
 
     // rule turn-claims
@@ -476,6 +485,7 @@ impl<L: Link, C: Right, E: Engine<L, C>> Desk<L, C, E> {
     {
         self.can_go_on = false;
         let now = gate.now();
+        self.relieve(gate);
         self.claim(rt);
         self.retry_all(rt, ends);
         let last = self.go_all(rt, gate, now, held);

@@ -12,7 +12,7 @@ use Rattle.mx_chain.specs.Outcomes.{OutcomeValue}
 use Rattle.mx_chain.specs.Steps.{How, waits, asks, ends}
 use Rattle.mx_gate.specs.Said.{told, waited}
 use Rattle.mx_turn.specs.Workers.{Held, SetAside, Worker, Finish, recorded, stale, lacking, unseated, Return, returned, ended_before, unreturned, Deed, claims, looks, notes, gives_back, hears, does, holds, starts}
-use Rattle.mx_turn.specs.Turn.{Each, Claims, keeps, finds_none, claims_one, handed_in, Retries, Settles, LooksAt, lets_go, serves, unlinked, GoesThrough, through, due, asks_time, next, GivesBack, holds_on, returns, Stops, wait_of, WorkerTurn, Runs, begins, turns}
+use Rattle.mx_turn.specs.Turn.{relieves, Each, Claims, keeps, finds_none, claims_one, handed_in, Retries, Settles, LooksAt, lets_go, serves, unlinked, GoesThrough, through, due, asks_time, next, GivesBack, holds_on, returns, Stops, wait_of, WorkerTurn, Runs, begins, turns}
 use Rattle.mx_turn.specs.Laws.{claimed_by, recorded_by, stale_by, given_back_by, gone_by, unseated_by, many, EachClaimIsAccounted}
 
 module _ (p : Ticket → Bool) where
@@ -172,7 +172,7 @@ module _ (p : Ticket → Bool) where
 
       turn_step : (w v : Worker L) → WorkerTurn history token_of w v → Owes w 0 → Owes v 0
       turn_step w v t o =
-          let begun : Worker L = hears (record w { can_go_on = false }) (told t.now) in
+          let begun : Worker L = relieves t.lacks (hears (record w { can_go_on = false }) (told t.now)) in
           let at_claimed = claims_step begun t.claimed t.claim o in
           let emptied : Worker L = record t.claimed { set_aside = [] } in
           let at_emptied : Owes emptied (of_aside t.claimed.set_aside + 0) = owes_more t.claimed emptied 0 _ [] at_claimed (sym (append-nil t.claimed.did)) (omega arith) in

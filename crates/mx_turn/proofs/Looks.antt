@@ -11,7 +11,7 @@ use Rattle.mx_chain.specs.Outcomes.{OutcomeValue}
 use Rattle.mx_chain.specs.Steps.{How, waits, asks, ends}
 use Rattle.mx_gate.specs.Said.{told, waited}
 use Rattle.mx_turn.specs.Workers.{Held, SetAside, Worker, Finish, recorded, stale, lacking, unseated, Return, Deed, claims, looks, notes, finishes, gives_back, hears, does, holds}
-use Rattle.mx_turn.specs.Turn.{Each, Claims, keeps, finds_none, claims_one, handed_in, Retries, Settles, LooksAt, lets_go, serves, unlinked, GoesThrough, through, due, asks_time, next, GivesBack, holds_on, returns, Stops, wait_of, WorkerTurn}
+use Rattle.mx_turn.specs.Turn.{relieves, Each, Claims, keeps, finds_none, claims_one, handed_in, Retries, Settles, LooksAt, lets_go, serves, unlinked, GoesThrough, through, due, asks_time, next, GivesBack, holds_on, returns, Stops, wait_of, WorkerTurn}
 use Rattle.mx_turn.specs.Laws.{claimed_by, looked_at_by, many, EachIsLookedAt, ClaimsNoneOnceStopping, HoldsWhatHasStarted}
 use Rattle.mx_turn.proofs.Accounts.{many-append}
 
@@ -136,7 +136,7 @@ module _ (p : Ticket → Bool) where
       turn_looks : (w v : Worker L) → WorkerTurn history token_of w v
           → many looked_at_by p v.did + many claimed_by p w.did ≡ many looked_at_by p w.did + of_held w.held + many claimed_by p v.did
       turn_looks w v t =
-          let begun : Worker L = hears (record w { can_go_on = false }) (told t.now) in
+          let begun : Worker L = relieves t.lacks (hears (record w { can_go_on = false }) (told t.now)) in
           let at_claimed = claimed begun t.claimed t.claim in
           let emptied : Worker L = record t.claimed { set_aside = [] } in
           let at_tried = retried t.claimed.set_aside emptied t.tried t.retries in
@@ -220,7 +220,7 @@ module _ {L : Type 0} where
     until_told w v t =
         through_stopping t.last t.gone_through t.now true t.tried.held (record t.tried { held = [] }) t.each
         ∙ retries_stopping t.claimed.set_aside (record t.claimed { set_aside = [] }) t.tried t.retries
-        ∙ claims_stopping (hears (record w { can_go_on = false }) (told t.now)) t.claimed t.claim
+        ∙ claims_stopping (relieves t.lacks (hears (record w { can_go_on = false }) (told t.now))) t.claimed t.claim
 
     claimed_none : (p : Ticket → Bool) (w v : Worker L) → Claims w v → w.is_stopping ≡ true → many claimed_by p v.did ≡ many claimed_by p w.did
     claimed_none p w v (keeps why e) is = ap (λ x. many claimed_by p x.did) e
@@ -234,7 +234,7 @@ module _ {L : Type 0} where
         let same = stops_again t.stop t.gone_through.is_stopping heard v told_before t.stops in (
           ap (λ x. x.is_stopping) same ∙ told_before,
           λ p.
-              let begun : Worker L = hears (record w { can_go_on = false }) (told t.now) in
+              let begun : Worker L = relieves t.lacks (hears (record w { can_go_on = false }) (told t.now)) in
               let at_tried = retried p t.claimed.set_aside (record t.claimed { set_aside = [] }) t.tried t.retries in
               let at_through = gone_through p history token_of t.last t.gone_through t.now true t.tried.held (record t.tried { held = [] }) t.each in
               ap (λ x. many claimed_by p x.did) same ∙ at_through.claims_same ∙ at_tried.0.claims_same ∙ claimed_none p begun t.claimed t.claim is,

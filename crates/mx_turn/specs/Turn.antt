@@ -62,10 +62,21 @@ MustOpen t idle = (t.now.needs_fresh ≡ true) ⊎ HasNone t.now.request.endpoin
 abbrev pub cleared : {L : Type 0} → Idle L → Idle L
 cleared idle = record idle { links = [] }
 
+-- the idle links, once the gate has said whether too many files are open: then all are dropped
+abbrev pub relieved : {L : Type 0} → Bool → Idle L → Idle L
+relieved true idle = cleared idle
+relieved false idle = idle
+
+-- rule turn-files: Where its gate says that too many files are open, a worker drops its idle links: at each turn, and where a link can't be
+-- opened. The gate opens that link once more, if it says that it can; else the transfer is given none in this turn.
+--
+-- it asks its gate whether too many files are open, for a link of its own or of another worker
+abbrev pub relieves : {L : Type 0} → Bool → Worker L → Worker L
+relieves lacks w = record (hears w (lacked lacks)) { idle = relieved lacks w.idle }
+
 -- rule turn-links: A transfer gets an idle link of its endpoint, unless only a fresh one will do; else the gate opens one, once it says
 -- that it can.
--- rule turn-files: Where a link can't be opened since too many files are open, the worker drops its idle links, and the gate opens it once
--- more.
+-- rule turn-files
 --
 -- A transfer gets the link that it wants, for the endpoint of the hop that is under way; and this is what the gate said meanwhile.
 pub data Supplied {L : Type 0} (history : L → List Answer) (token_of : L → ℕ) (t new : ChainState L) (idle left : Idle L) : List Said → Type 0 where
@@ -83,19 +94,31 @@ pub data Supplied {L : Type 0} (history : L → List Answer) (token_of : L → �
   -- where that fails, and not since too many files are open, it gets the code of why
   fails : (c : Code) → WantsLink t.now → MustOpen t idle → left ≡ idle → is_link_code c ≡ true → new ≡ unserved t c
       → Supplied history token_of t new idle left (asked t.now.request.endpoint true ∷ opened t.now.request.endpoint (Err c) ∷ lacked false ∷ [])
-  -- where it fails for that cause, all idle links are dropped, and it is given one that the gate then opens
+  -- where it fails for that cause, all idle links are dropped; and where one can then be opened, it is given one that the gate opens
   reopens : (c : Code) (link : L) → WantsLink t.now → MustOpen t idle → left ≡ cleared idle → history link ≡ [] → new ≡ served_by t link false
       → Supplied history token_of t new idle left
-      (asked t.now.request.endpoint true ∷ opened t.now.request.endpoint (Err c) ∷ lacked true ∷ opened t.now.request.endpoint (Ok (token_of link)) ∷ [])
+      (asked t.now.request.endpoint true ∷ opened t.now.request.endpoint (Err c) ∷ lacked true ∷ asked t.now.request.endpoint true
+      ∷ opened t.now.request.endpoint (Ok (token_of link)) ∷ [])
   -- where that fails, too, it gets the code of why
   gives_up : (c again : Code) → WantsLink t.now → MustOpen t idle → left ≡ cleared idle → is_link_code again ≡ true → new ≡ unserved t again
       → Supplied history token_of t new idle left
-      (asked t.now.request.endpoint true ∷ opened t.now.request.endpoint (Err c) ∷ lacked true ∷ opened t.now.request.endpoint (Err again) ∷ [])
+      (asked t.now.request.endpoint true ∷ opened t.now.request.endpoint (Err c) ∷ lacked true ∷ asked t.now.request.endpoint true
+      ∷ opened t.now.request.endpoint (Err again) ∷ [])
+  -- and where none can be opened yet, it is given none in this turn
+  puts_off : (c : Code) → WantsLink t.now → MustOpen t idle → left ≡ cleared idle → new ≡ t
+      → Supplied history token_of t new idle left
+      (asked t.now.request.endpoint true ∷ opened t.now.request.endpoint (Err c) ∷ lacked true ∷ asked t.now.request.endpoint false ∷ [])
 
--- what the gate said shows that no link could be opened yet
+-- no link can be opened yet
+abbrev pub is_not_yet : Said → Bool
+is_not_yet (asked endpoint false) = true
+is_not_yet _ = false
+
+-- the last that the gate said is that no link can be opened yet
 abbrev pub is_delayed : List Said → Bool
-is_delayed (asked endpoint false ∷ _) = true
-is_delayed _ = false
+is_delayed [] = false
+is_delayed (said ∷ []) = is_not_yet said
+is_delayed (_ ∷ said ∷ more) = is_delayed (said ∷ more)
 
 -- the transfer, once the link was taken out of it that a hop has left
 abbrev pub unlinked : {L : Type 0} → ChainState L → ChainState L
@@ -219,14 +242,16 @@ pub record WorkerTurn {L : Type 0} (history : L → List Answer) (token_of : L �
   -- the moment at its beginning, and the last that it was given
   pub now : ℕ
   pub last : ℕ
+  -- whether too many files are open
+  pub lacks : Bool
   -- the worker once it has claimed, once it has tried the ends again, and once it has gone through its transfers
   pub claimed : Worker L
   pub tried : Worker L
   pub gone_through : Worker L
   -- whether it is told to stop
   pub stop : Bool
-  -- it asks its gate for the moment, and claims at most one transfer
-  pub claim : Claims (hears (record w { can_go_on = false }) (told now)) claimed
+  -- it asks its gate for the moment and whether it is to drop its idle links, and claims at most one transfer
+  pub claim : Claims (relieves lacks (hears (record w { can_go_on = false }) (told now))) claimed
   -- it tries the ends again that were refused memory, in order
   pub retries : Each Retries claimed.set_aside (record claimed { set_aside = [] }) tried
   -- it goes through its transfers, the due ones first, then in order of claim, and asks for the moment between

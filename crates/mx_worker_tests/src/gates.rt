@@ -132,8 +132,11 @@ fn plan_delays(gate: &mut ScriptGate<ScriptLink>, delays: u32) -> Result<(), Out
     Ok(())
 }
 
-// Plans that the gate answers so often that too many files are open.
-fn plan_lacks(gate: &mut ScriptGate<ScriptLink>, lacks: u32) -> Result<(), OutOfMemory> {
+// Plans that the gate answers so often that not too many files are open, and then so often that they are.
+fn plan_lacks(gate: &mut ScriptGate<ScriptLink>, calm: u32, lacks: u32) -> Result<(), OutOfMemory> {
+    for _ in 0..calm {
+        gate.plan_lack(false)?;
+    }
     for _ in 0..lacks {
         gate.plan_lack(true)?;
     }
@@ -146,6 +149,6 @@ pub fn gate_of(alloc: Global, run: &Run) -> Result<ScriptGate<ScriptLink>, Troub
     plan_openings(&mut gate, alloc, run.links)?;
     plan_moments(&mut gate, run.moments, run.ticks)?;
     plan_delays(&mut gate, run.delays)?;
-    plan_lacks(&mut gate, run.lacks)?;
+    plan_lacks(&mut gate, run.calm, run.lacks)?;
     Ok(gate)
 }

@@ -63,7 +63,7 @@ const GO_BACK: Step = Step::Run(Run {
 });
 
 /// Rows of the links that a worker takes for one transfer after another, and for the hops of one.
-pub static LINKS: [Row; 12] = [
+pub static LINKS: [Row; 13] = [
     // rule turn-links
     // The worker keeps its link, and the gate opens one.
     Row {
@@ -192,8 +192,33 @@ pub static LINKS: [Row; 12] = [
             Step::Add(2, "http://b.example/two", 0),
             Step::Add(3, "http://a.example/three", 0),
             Step::Run(Run {
+                calm: 2,
                 lacks: 1,
                 ..SERVE_BETWEEN
+            }),
+            Step::Read(Wanted::Of(1, Code::Ok, b"hello")),
+            Step::Read(Wanted::Of(2, Code::Ok, b"hello")),
+            Step::Read(Wanted::Of(3, Code::Ok, b"bye")),
+            Step::LinksLeft(0),
+        ],
+    },
+    // rule turn-files
+    // In the third turn, in which the third transfer is claimed: the idle link of its endpoint is dropped before.
+    Row {
+        name: "idle links are dropped in a turn in which too many files are open",
+        keeps: 4,
+        times: 1,
+        steps: &[
+            Step::Add(1, "http://a.example/one", 0),
+            Step::Add(2, "http://b.example/two", 0),
+            Step::Add(3, "http://a.example/three", 0),
+            Step::Run(Run {
+                turns: 4,
+                links: &[TWICE, AT_ONCE, OTHER_AT_ONCE],
+                calm: 2,
+                lacks: 1,
+                recorded: 3,
+                ..RUN
             }),
             Step::Read(Wanted::Of(1, Code::Ok, b"hello")),
             Step::Read(Wanted::Of(2, Code::Ok, b"hello")),
@@ -231,6 +256,7 @@ pub static LINKS: [Row; 12] = [
                     Opening::Refused(Code::CouldntConnect),
                     AT_ONCE,
                 ],
+                calm: 1,
                 lacks: 2,
                 recorded: 1,
                 ..RUN

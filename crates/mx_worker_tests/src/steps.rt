@@ -43,7 +43,9 @@ pub struct Run {
     pub links: &'static [Opening],
     /// How often the gate answers first that no link can be opened yet.
     pub delays: u32,
-    /// Of how many of its refusals too many open files are first the cause.
+    /// How often the gate answers first that not too many files are open: once a turn, and once for each refusal.
+    pub calm: u32,
+    /// How often it then answers that they are.
     pub lacks: u32,
     /// The moments that the gate gives, in milliseconds; 0 where there is none.
     pub moments: &'static [u64],
@@ -65,6 +67,7 @@ pub const RUN: Run = Run {
     turns: 0,
     links: &[],
     delays: 0,
+    calm: 0,
     lacks: 0,
     moments: &[],
     ticks: 0,
