@@ -1,6 +1,6 @@
 -- What a worker's calls make of its seat, of the list of what was done with it, and of its counts.
 use Rattle.std.proofs.Common.{◌≡◌, ◌∙◌, ◌⊎◌, inl, inr, ℕ, ◌+◌, ◌-◌, ◌^◌, List, [], ◌∷◌, ◌++◌, append-nil, append_assoc, length, length-append, map, refl, ap, sym, subst, arith, Option, Some, None}
-use Rattle.std.specs.Prelude.{min, filter_map, MatchOption}
+use Rattle.std.specs.Prelude.{min, filter_map, option_map, MatchOption, IfSome, Result, Ok, Err, MatchResult, IfOk, OnErr}
 use Rattle.std.proofs.lemmas.List.{map-append}
 use Rattle.std.proofs.lemmas.List.Elements.{filter_map-append}
 use Rattle.mx_types.specs.declared.names.Ticket.{Ticket}
@@ -10,21 +10,26 @@ use Rattle.mx_types.specs.declared.call.Receipt.{Receipt}
 use Rattle.mx_types.specs.declared.reply.Reply.{Reply}
 use Rattle.mx_types.specs.declared.reply.Reply.TheVariants as reply
 use Rattle.mx_types.specs.declared.reply.Look.{Look}
+use Rattle.mx_request.specs.Request.{request_origin}
 use Rattle.mx_chain.specs.Outcomes.{OutcomeValue}
-use Rattle.mx_board.specs.declared.note.Note.{Note}
-use Rattle.mx_board.specs.Progress.{note, word_of}
+use Rattle.logbook.specs.Pages.{Book}
+use Rattle.mx_journal.specs.declared.replies.FinishReply.{FinishReply}
+use Rattle.mx_journal.specs.declared.replies.FinishReply.TheVariants as finish
+use Rattle.mx_journal.specs.declared.replies.GiveBackReply.{GiveBackReply}
+use Rattle.mx_journal.specs.declared.replies.GiveBackReply.TheVariants as giving
+use Rattle.mx_journal.specs.Replies.{IsHandedBack, reply_of_finish}
 use Rattle.mx_multi.proofs.Runs.{later_none, later_more, later_sees}
-use Rattle.mx_multi.specs.Seats.{SeatView, Stands, Sees, Later, FindsOther}
+use Rattle.mx_multi.specs.Seats.{SeatView, Stands, Sees, Later, FindsOther, given_with}
 use Rattle.mx_multi.specs.Progress.{noted_by}
 use Rattle.mx_turn.specs.Workers.{Held, Deed, Finish, starts, claims, looks, notes, finishes, gives_back, recorded, stale, lacking, unseated, returned, ended_before, unreturned}
 use Rattle.mx_link.specs.declared.answers.Answer.{Answer}
 use Rattle.mx_gate.specs.Said.{Said}
 use Rattle.mx_turn.specs.Turn.{Runs}
 use Rattle.mx_turn.proofs.Accounts.{accounted}
-use Rattle.mx_round.specs.Desks.{EndView, HandsIn, HasRun}
+use Rattle.mx_round.specs.Desks.{EndView, HandsIn, HasRun, HeldView}
 use Rattle.mx_lock.specs.Ties.{TiedClaimed}
 use Rattle.mx_turn.specs.Laws.{claimed_by, recorded_by, stale_by, given_back_by, unseated_by}
-use Rattle.mx_worker.specs.Work.{AreCounted, FoundOther, IsDone, WorkerRan, answered_by, code_of, finish_call, held_count, noted_by_deed, size_of}
+use Rattle.mx_worker.specs.Work.{AreCounted, AreHeld, FoundOther, IsBackOwn, IsDone, IsUncounted, WorkerRan, answered_by, back_of, code_of, finish_call, finish_of, held_count, noted_by_deed, return_of, size_of}
 
 -- what a deed more adds to a list that is picked out of the deeds
 picks_more : {D X : Type 0} (by : D → Option X) (ds : List D) (d : D) (old is start : List X) → old ≡ start ++ filter_map by ds → is ≡ old ++ filter_map by (d ∷ []) → is ≡ start ++ filter_map by (ds ++ d ∷ [])
@@ -221,19 +226,82 @@ module _ {L : Type 0} where
 pub with_last : {L : Type 0} (P : List (Deed L) → Type 0) (did is : List (Deed L)) (told d : Deed L) → is ≡ did ++ told ∷ [] → told ≡ d → P (did ++ d ∷ []) → P is
 with_last P did is told d e f p = subst P (sym (e ∙ ap (λ x. did ++ x ∷ []) f)) p
 
--- the call of an end that was handed in, by its claim and its outcome
-pub as_end : {Q : Type 0} (t u : Seat Q) (e f : EndView) (claim : TiedClaimed) (was r : Reply) → e ≡ f → claim.ticket ≡ f.end.ticket → was ≡ r → Stands t u (finish_call claim.ticket f.end.outcome) was
-    → Stands t u (finish_call e.end.ticket e.end.outcome) r
-as_end t u e f claim was r e_is is r_is h = subst (Stands t u (finish_call e.end.ticket e.end.outcome)) r_is
-    (subst (λ (x : EndView). Stands t u (finish_call x.end.ticket x.end.outcome) was) (sym e_is) (subst (λ x. Stands t u (finish_call x f.end.outcome) was) is h))
+module _ {L Q : Type 0} where
+  -- an end was handed in
+  pub done_finish : {W : Type 0} (P : W → Type 0) (s t u : Seat Q) (did : List (Deed L)) (e : EndView) (claim right : TiedClaimed) (o : OutcomeValue) (answer : Result (FinishReply TiedClaimed OutcomeValue) W) → IsDone s t did
+      → e ≡ record { end = record { ticket = right.ticket; outcome = o }; of = right.of } → claim ≡ right
+      → MatchResult answer (λ r. Stands t u (finish_call claim.ticket o) (reply_of_finish r)) (λ w. (u ≡ t) × P w) → OnErr answer (FindsOther code_of size_of t)
+      → IsDone s u (did ++ finishes e.end.ticket e.end.outcome (finish_of answer) ∷ [])
+  done_finish {W} P s t u did e claim right o answer w e_is own stands other =
+      subst (λ (x : EndView). IsDone s u (did ++ finishes x.end.ticket x.end.outcome (finish_of answer) ∷ [])) (sym e_is)
+      (subst (λ (x : TiedClaimed). IsDone s u (did ++ finishes x.ticket o (finish_of answer) ∷ [])) own (by answer stands other)) where
+        by : (a : Result (FinishReply TiedClaimed OutcomeValue) W) → MatchResult a (λ r. Stands t u (finish_call claim.ticket o) (reply_of_finish r)) (λ w. (u ≡ t) × P w) → OnErr a (FindsOther code_of size_of t)
+            → IsDone s u (did ++ finishes claim.ticket o (finish_of a) ∷ [])
+        by (Ok finish.Recorded) st _ = done_recorded s t u did claim.ticket o w st
+        by (Ok (finish.Stale _)) st _ = done_stale s t u did claim.ticket o w st
+        by (Ok (finish.OutOfMemory _ _)) st _ = done_lacking s t u did claim.ticket o w st
+        by (Err _) st f = done_unseated s t u did claim.ticket o w st.0 f
 
--- an end for which memory was refused comes back
-pub lacks : {L : Type 0} (was is : List (Deed L)) (e back : EndView) → is ≡ was ++ finishes e.end.ticket e.end.outcome lacking ∷ [] → back ≡ e → HandsIn was is e (Some back)
-lacks was is e back did b = record { f = lacking; did = did; comes_back = λ _. ap Some b; is_taken = none } where
-  none : ((lacking ≡ recorded) ⊎ (lacking ≡ stale)) ⊎ (lacking ≡ unseated) → Some back ≡ None
+  -- a transfer was given back
+  pub done_return : {W X : Type 0} (P : W → Type 0) (s t u : Seat Q) (did : List (Deed L)) (h : Held L) (ticket : Ticket) (answer : Result (GiveBackReply X) W) → IsDone s t did → h.ticket ≡ ticket
+      → MatchResult answer (λ r. Sees t u) (λ w. (u ≡ t) × P w) → u.claims ≡ t.claims → IfOk answer (λ r. u.given ≡ given_with r ticket t.given) → OnErr answer (FindsOther code_of size_of t)
+      → IsDone s u (did ++ gives_back h (return_of answer) ∷ [])
+  done_return P s t u did h ticket (Ok giving.Back) w is sees claimed given _ = done_returned s t u did h ticket w is sees claimed given
+  done_return P s t u did h ticket (Ok (giving.Stale _)) w is sees claimed given _ = done_ended_before s t u did h w sees claimed given
+  done_return P s t u did h ticket (Err _) w is sees claimed given f = done_unreturned s t u did h w sees.0 f
+
+  -- it asked for work
+  pub done_claimed : {X : Type 0} (s t u : Seat Q) (did : List (Deed L)) (claimed : Option (TiedClaimed × X)) (held : Option (HeldView L)) → IsDone s t did → AreHeld claimed held
+      → MatchOption claimed ((u ≡ t) ⊎ Sees t u) (λ r. Sees t u) → MatchOption claimed (u.claims ≡ t.claims) (λ r. u.claims ≡ t.claims ++ r.0.ticket ∷ []) → u.given ≡ t.given
+      → IsDone s u (did ++ claims (option_map (λ h. h.held) held) ∷ [])
+  done_claimed s t u did (Some (c, _)) (Some h) w are sees claimed given = done_claims s t u did h.held c.ticket w are.0 sees claimed given
+  done_claimed s t u did None None w are sees claimed given = done_claims_none s t u did w sees claimed given
+  done_claimed s t u did (Some _) None w are sees claimed given = absurd are
+  done_claimed s t u did None (Some _) w are sees claimed given = absurd are
+
+-- what is held is of the claim's engine
+pub held_own : {L X : Type 0} (claimed : Option (TiedClaimed × X)) (held : Option (HeldView L)) (b k : Book) → AreHeld claimed held → IfSome claimed (λ r. r.0.of ≡ b) → b ≡ k → IfSome held (λ h. h.of ≡ k)
+held_own (Some (c, _)) (Some h) b k are own e = are.1 ∙ own ∙ e
+held_own None None b k are own e = tt
+held_own (Some _) None b k are own e = absurd are
+held_own None (Some _) b k are own e = absurd are
+
+-- what comes back of an end is of one request
+pub back_own : {W : Type 0} (claim right : TiedClaimed) (o : OutcomeValue) (answer : Result (FinishReply TiedClaimed OutcomeValue) W) → IfOk answer (IsHandedBack claim o) → claim ≡ right → request_origin o.request ≡ right.origin → IsBackOwn answer
+back_own claim right o (Ok finish.Recorded) handed own of = tt
+back_own claim right o (Ok (finish.Stale _)) handed own of = tt
+back_own claim right o (Ok (finish.OutOfMemory c x)) handed own of =
+    ap (λ (y : OutcomeValue). request_origin y.request) handed.1 ∙ of ∙ ap (λ (t : TiedClaimed). t.origin) (sym (handed.0 ∙ own))
+back_own claim right o (Err _) handed own of = tt
+
+-- an end comes back where memory was refused for it, and only there
+pub hands_in_so : {L W : Type 0} (was is : List (Deed L)) (noted e : EndView) (claim right : TiedClaimed) (o : OutcomeValue) (answer : Result (FinishReply TiedClaimed OutcomeValue) W) (back : Option EndView)
+    → is ≡ was ++ finishes noted.end.ticket noted.end.outcome (finish_of answer) ∷ [] → noted ≡ e → back ≡ back_of answer → IfOk answer (IsHandedBack claim o)
+    → e ≡ record { end = record { ticket = right.ticket; outcome = o }; of = right.of } → claim ≡ right → HandsIn was is e back
+hands_in_so {L} {W} was is noted e claim right o answer back did noted_is b handed e_is own = by answer (did ∙ ap (λ (x : EndView). was ++ finishes x.end.ticket x.end.outcome (finish_of answer) ∷ []) noted_is) b handed where
+  taken : (f : Finish) → (f ≡ lacking → ⊥) → is ≡ was ++ finishes e.end.ticket e.end.outcome f ∷ [] → back ≡ None → HandsIn was is e back
+  taken f other d n = record { f = f; did = d; comes_back = λ x. absurd (other x); is_taken = λ _. n }
+
+  none : ((lacking ≡ recorded) ⊎ (lacking ≡ stale)) ⊎ (lacking ≡ unseated) → back ≡ None
   none (inl (inl x)) = absurd cc
   none (inl (inr x)) = absurd cc
   none (inr x) = absurd cc
+
+  by : (a : Result (FinishReply TiedClaimed OutcomeValue) W) → is ≡ was ++ finishes e.end.ticket e.end.outcome (finish_of a) ∷ [] → back ≡ back_of a → IfOk a (IsHandedBack claim o) → HandsIn was is e back
+  by (Ok finish.Recorded) d n _ = taken recorded (λ x. cc) d n
+  by (Ok (finish.Stale _)) d n _ = taken stale (λ x. cc) d n
+  by (Ok (finish.OutOfMemory c x)) d n h = record {
+    f = lacking;
+    did = d;
+    comes_back = λ _.
+        n ∙ ap Some (ap (λ (t : TiedClaimed). record { end = record { ticket = t.ticket; outcome = x }; of = t.of }) (h.0 ∙ own) ∙ ap (λ y. record { end = record { ticket = right.ticket; outcome = y }; of = right.of }) h.1 ∙ sym e_is);
+    is_taken = none;
+  }
+  by (Err _) d n _ = taken unseated (λ x. cc) d n
+
+-- a deed that isn't counted, as a call reported it
+pub uncounted : {L : Type 0} (told d : Deed L) → told ≡ d → IsUncounted d → IsUncounted told
+uncounted told d e p = subst IsUncounted (sym e) p
 
 -- a run of an engine that was a seat, from its start on
 pub ran : {L Q : Type 0} (history : L → List Answer) (token_of : L → ℕ) (s t : Seat Q) (limit : ℕ) (did : List (Deed L)) (was is : List Said) (r k g : ℕ)

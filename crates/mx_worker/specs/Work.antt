@@ -1,5 +1,5 @@
 -- What a worker did with its seat.
-use Rattle.std.specs.Prelude.{◌≡◌, ◌⊎◌, ℕ, ◌-◌, ◌^◌, min, List, [], ◌++◌, length, map, filter_map, Option, Some, None}
+use Rattle.std.specs.Prelude.{◌≡◌, ◌⊎◌, ℕ, ◌-◌, ◌^◌, min, List, [], ◌∷◌, ◌++◌, length, map, filter_map, Option, Some, None, Result, Ok, Err}
 use Rattle.mx_types.specs.declared.code.Code.{Code}
 use Rattle.mx_types.specs.declared.names.Ticket.{Ticket}
 use Rattle.mx_types.specs.declared.call.Call.{Call}
@@ -7,15 +7,22 @@ use Rattle.mx_types.specs.declared.call.Call.TheVariants as call
 use Rattle.mx_types.specs.declared.call.Receipt.{Receipt}
 use Rattle.mx_types.specs.declared.reply.Reply.{Reply}
 use Rattle.mx_types.specs.declared.reply.Reply.TheVariants as reply
+use Rattle.mx_request.specs.Request.{request_origin}
 use Rattle.mx_body.specs.Parts.{joined}
 use Rattle.mx_link.specs.declared.answers.Answer.{Answer}
 use Rattle.mx_chain.specs.Outcomes.{OutcomeValue}
+use Rattle.mx_journal.specs.declared.replies.FinishReply.{FinishReply}
+use Rattle.mx_journal.specs.declared.replies.FinishReply.TheVariants as finish
+use Rattle.mx_journal.specs.declared.replies.GiveBackReply.{GiveBackReply}
+use Rattle.mx_journal.specs.declared.replies.GiveBackReply.TheVariants as giving
+use Rattle.mx_lock.specs.Ties.{TiedClaimed}
 use Rattle.mx_board.specs.declared.note.Note.{Note}
 use Rattle.mx_board.specs.Progress.{note, word_of}
 use Rattle.mx_multi.specs.Seats.{MultiView, SeatView, Later, FindsOther}
 use Rattle.mx_gate.specs.Said.{Said}
-use Rattle.mx_turn.specs.Workers.{Deed, looks, notes, finishes, recorded, stale, lacking, Worker, starts, IsOver}
+use Rattle.mx_turn.specs.Workers.{Deed, looks, notes, finishes, Finish, recorded, stale, lacking, unseated, Return, returned, ended_before, unreturned, Worker, starts, IsOver}
 use Rattle.mx_turn.specs.Turn.{Runs}
+use Rattle.mx_round.specs.Desks.{EndView, HeldView}
 use Rattle.mx_turn.specs.Laws.{claimed_by, recorded_by, stale_by, given_back_by, unseated_by, AreAccounted}
 
 -- the code of an outcome, and how many bytes its body has, as in its message
@@ -85,11 +92,50 @@ pub record WorkerRan {L Q : Type 0} (history : L → List Answer) (token_of : L 
   pub accounted : AreAccounted last.did
   pub counted : AreCounted last.did recorded_count stale_count given_back_count
 
--- a worker's seat as it began and as it is, what was done with it since, and what was counted
-pub record TallyView (L Q : Type 0) : Type 0 where
-  pub start : SeatView Q OutcomeValue
-  pub seat : SeatView Q OutcomeValue
+-- what a worker did, and what was counted of it
+pub record LogView (L : Type 0) : Type 0 where
   pub did : List (Deed L)
   pub recorded_count : ℕ
   pub stale_count : ℕ
   pub given_back_count : ℕ
+
+-- a worker's seat as it began and as it is, and what was done with it since
+pub record TallyView (L Q : Type 0) : Type 0 where
+  pub start : SeatView Q OutcomeValue
+  pub seat : SeatView Q OutcomeValue
+  pub did : List (Deed L)
+
+-- what became of an end, by the answer to its call
+abbrev pub finish_of : {C O W : Type 0} → Result (FinishReply C O) W → Finish
+finish_of (Ok finish.Recorded) = recorded
+finish_of (Ok (finish.Stale _)) = stale
+finish_of (Ok (finish.OutOfMemory _ _)) = lacking
+finish_of (Err _) = unseated
+
+-- the end that comes back with it
+abbrev pub back_of : {W : Type 0} → Result (FinishReply TiedClaimed OutcomeValue) W → Option EndView
+back_of (Ok (finish.OutOfMemory c o)) = Some (record { end = record { ticket = c.ticket; outcome = o }; of = c.of })
+back_of _ = None
+
+-- what comes back with it is of one request
+abbrev pub IsBackOwn : {W : Type 0} → Result (FinishReply TiedClaimed OutcomeValue) W → Type 0
+IsBackOwn (Ok (finish.OutOfMemory c o)) = request_origin o.request ≡ c.origin
+IsBackOwn _ = Unit {0}
+
+-- what became of a transfer that was given back, by the answer to its call
+abbrev pub return_of : {Q W : Type 0} → Result (GiveBackReply Q) W → Return
+return_of (Ok giving.Back) = returned
+return_of (Ok (giving.Stale _)) = ended_before
+return_of (Err _) = unreturned
+
+-- a claim and its transfer, as they are held
+abbrev pub AreHeld : {L X : Type 0} → Option (TiedClaimed × X) → Option (HeldView L) → Type 0
+AreHeld (Some (c, _)) (Some h) = (h.held.ticket ≡ c.ticket) × (h.of ≡ c.of)
+AreHeld None None = Unit {0}
+AreHeld _ _ = ⊥
+
+-- none of the counts counts it
+pub record IsUncounted {L : Type 0} (d : Deed L) : Type 0 where
+  pub unrecorded : filter_map recorded_by (d ∷ []) ≡ []
+  pub fresh : filter_map stale_by (d ∷ []) ≡ []
+  pub kept : filter_map given_back_by (d ∷ []) ≡ []

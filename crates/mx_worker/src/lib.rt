@@ -2,6 +2,7 @@
 #![tactic(auto)]
 
 mod claims;
+mod log;
 mod tally;
 mod worker;
 

@@ -1,74 +1,90 @@
-//! A worker's calls on the multi handle, with the count of its recorded and stale ends, and of what it gave back.
+//! A worker's calls on the multi handle.
 ghost use Rattle.std.specs.Prelude.{◌≡◌, ◌∷◌, ◌++◌, [], option_map, IfSome};
-ghost use Rattle.mx_turn.specs.Workers.{Return, claims, looks, notes, finishes, gives_back, recorded, stale, lacking, unseated, returned, ended_before, unreturned};
+ghost use Rattle.mx_turn.specs.Workers.{Return, claims, looks, notes, gives_back};
+ghost use Rattle.mx_request.specs.Request.{request_origin};
 ghost use Rattle.mx_round.specs.Desks.{HandsIn};
-ghost use Rattle.mx_worker.specs.Work.{AreCounted, IsDone};
+ghost use Rattle.mx_worker.specs.Work.{AreCounted, AreHeld, IsDone};
 
 use crate::claims::WorkerClaim;
-use mx_journal::{FinishReply, GiveBackReply};
+use crate::log::Log;
+use crate::worker::WorkerEnd;
 use mx_link::Link;
+use mx_lock::TiedClaim;
 use mx_multi::{AtWork, Seated};
 use mx_queue::Queued;
 use mx_round::{Done, Engine, Finished, Held, Tied};
 use mx_transfer::Outcome;
-use mx_types::{History, Look, Ticket};
+use mx_types::{Look, Ticket};
 use std::marker::Model;
 use std::mem;
 use std::snapshot::Snapshot;
 use std::sync::Wait;
 
-/// The seat of a running worker, beside the seat as the worker began, what was done with it since, and what was counted. Only the calls
-/// here touch it.
+/// The seat of a running worker, beside the seat as the worker began, and what was done with it since. Only the calls here touch it.
 #[derive(Drop)]
 pub(crate) struct Tally<'m, L: Link> {
     start: Snapshot<Seated<'m, AtWork, Queued<L>, Outcome>>,
     seat: Seated<'m, AtWork, Queued<L>, Outcome>,
-    did: History<Done<L, WorkerClaim<L>>>,
-    recorded: u32,
-    stale: u32,
-    given_back: u32,
+    log: Log<L>,
 }
 
 impl<'m, L: Link> Model for Tally<'m, L> {
     ghost use Rattle.mx_transfer.specs.Transfers.{TransferState};
-    ghost use Rattle.mx_worker.specs.Work.{AreCounted, IsDone, TallyView};
+    ghost use Rattle.mx_worker.specs.Work.{IsDone, TallyView};
 
     ghost Value = { TallyView L (TransferState L) };
 
-    ghost view = { λ t. record { start = t.start.value; seat = t.seat; did = t.did; recorded_count = t.recorded; stale_count = t.stale; given_back_count = t.given_back } };
+    ghost view = { λ t. record { start = t.start.value; seat = t.seat; did = t.log.did } };
 
-    ghost invariant = { λ t. IsDone t.start.value t.seat t.did × AreCounted t.did t.recorded t.stale t.given_back };
+    ghost invariant = { λ t. IsDone t.start.value t.seat t.log.did };
 }
 
 impl<'m, L: Link> Tied for Tally<'m, L> {
     ghost of = { λ t. t.start.of.engine.ties };
 }
 
+// A claim and its transfer, as a worker holds them.
+fn held_of<L: Link>(
+    claimed: Option<(TiedClaim<Queued<L>>, Queued<L>)>,
+) -> Option<Held<L, WorkerClaim<L>>>
+    requires { IfSome claimed (λ r. r.0.origin ≡ request_origin r.1.chain.request) }
+    ensures { AreHeld claimed result }
+{
+    match claimed {
+        Some((claim, queued)) => Some(Held::new(WorkerClaim::new(claim), queued.into_transfer())),
+        None => None,
+    }
+}
+
 impl<'m, L: Link> Tally<'m, L> {
     pub fn new(seat: Seated<'m, AtWork, Queued<L>, Outcome>) -> Tally<'m, L>
-        ensures { result ≡ record { start = seat.entry; seat = seat.entry; did = []; recorded_count = 0; stale_count = 0; given_back_count = 0 } }
+        ensures { result ≡ record { start = seat.entry; seat = seat.entry; did = [] } }
     {
         Tally {
             start: Snapshot::of(&seat),
             seat,
-            did: History::new(),
-            recorded: 0,
-            stale: 0,
-            given_back: 0,
+            log: Log::new(),
         }
     }
 
     // rule worker-seat
-    /// The seat, how many ends were recorded and how many were stale, and how many transfers went back to the queue.
-    pub fn into_parts(self) -> (Seated<'m, AtWork, Queued<L>, Outcome>, u32, u32, u32)
-        ensures seat { result.0 ≡ self.entry.seat }
-        ensures done { IsDone self.entry.start result.0 self.entry.did }
-        ensures counted { AreCounted self.entry.did result.1 result.2 result.3 }
+    /// The end of a run that memory for its start was refused, or wasn't.
+    pub fn end(self, refused: bool) -> WorkerEnd<'m, L>
+        ensures seat { result.seat ≡ self.entry.seat }
+        ensures done { IsDone self.entry.start result.seat self.entry.did }
+        ensures counted { AreCounted self.entry.did result.recorded result.stale result.given_back }
+        ensures refused { result.refused ≡ refused }
     {
-        (self.seat, self.recorded, self.stale, self.given_back)
+        let (recorded, stale, given_back) = self.log.counts();
+        WorkerEnd {
+            seat: self.seat,
+            recorded,
+            stale,
+            given_back,
+            refused,
+        }
     }
 
-    // rule worker-counts
     // Hands in an end. One that is refused memory comes back.
     fn hand_in<R: Wait>(
         &mut self,
@@ -81,28 +97,8 @@ impl<'m, L: Link> Tally<'m, L> {
     {
         let end = Snapshot::of(&finished);
         let (right, outcome) = finished.into_parts();
-        match self.seat.finish(rt, right.into_claim(), outcome) {
-            Ok(FinishReply::Recorded) => {
-                self.did.note(Done::recorded(end));
-                self.recorded = self.recorded.saturating_add(1);
-                None
-            }
-            Ok(FinishReply::Stale(outcome)) => {
-                self.did.note(Done::stale(end));
-                self.stale = self.stale.saturating_add(1);
-                drop(outcome);
-                None
-            }
-            Ok(FinishReply::OutOfMemory(claim, outcome)) => {
-                self.did.note(Done::lacking(end));
-                Some(Finished::new(WorkerClaim::new(claim), outcome))
-            }
-            Err(refused) => {
-                self.did.note(Done::unseated(end));
-                drop(refused);
-                None
-            }
-        }
+        let answer = self.seat.finish(rt, right.into_claim(), outcome);
+        self.log.note_end(answer, end)
     }
 
     // Gives a transfer back. One that doesn't go back to the queue is dropped.
@@ -113,23 +109,10 @@ impl<'m, L: Link> Tally<'m, L> {
     {
         let given = Snapshot::of(&held);
         let (right, transfer) = held.into_parts();
-        match self
+        let answer = self
             .seat
-            .give_back(rt, right.into_claim(), Queued::of(transfer))
-        {
-            Ok(GiveBackReply::Back) => {
-                self.did.note(Done::returned(given));
-                self.given_back = self.given_back.saturating_add(1);
-            }
-            Ok(GiveBackReply::Stale(queued)) => {
-                self.did.note(Done::ended_before(given));
-                drop(queued);
-            }
-            Err(refused) => {
-                self.did.note(Done::unreturned(given));
-                drop(refused);
-            }
-        }
+            .give_back(rt, right.into_claim(), Queued::of(transfer));
+        self.log.note_return(answer, given);
     }
 }
 
@@ -145,18 +128,9 @@ impl<'m, L: Link> Engine<L, WorkerClaim<L>> for Tally<'m, L> {
         ensures own { IfSome result (λ h. h.of ≡ self.old.start.of.engine.ties) }
         ensures same { (self.new.start.of.engine.ties ≡ self.old.start.of.engine.ties) × (self.new.start ≡ self.old.start) }
     {
-        match self.seat.claim(rt) {
-            Some((claim, queued)) => {
-                let held = Some(Held::new(WorkerClaim::new(claim), queued.into_transfer()));
-                self.did.note(Done::claims(&held));
-                held
-            }
-            None => {
-                let none = None;
-                self.did.note(Done::claims(&none));
-                none
-            }
-        }
+        let held = held_of(self.seat.claim(rt));
+        self.log.note(Done::claims(&held));
+        held
     }
 
     fn look(&mut self, ticket: Ticket) -> Option<Look>
@@ -164,7 +138,7 @@ impl<'m, L: Link> Engine<L, WorkerClaim<L>> for Tally<'m, L> {
         ensures same { (self.new.start.of.engine.ties ≡ self.old.start.of.engine.ties) × (self.new.start ≡ self.old.start) }
     {
         let seen = self.seat.look(ticket);
-        self.did.note(Done::looks(ticket, seen));
+        self.log.note(Done::looks(ticket, seen));
         seen
     }
 
@@ -173,7 +147,7 @@ impl<'m, L: Link> Engine<L, WorkerClaim<L>> for Tally<'m, L> {
         ensures same { (self.new.start.of.engine.ties ≡ self.old.start.of.engine.ties) × (self.new.start ≡ self.old.start) }
     {
         self.seat.note(right.claim(), count);
-        self.did.note(Done::notes(right, count));
+        self.log.note(Done::notes(right, count));
     }
 
     fn finish<R: Wait>(&mut self, rt: &R, finished: &mut Option<Finished<WorkerClaim<L>>>)

@@ -1,6 +1,6 @@
 //! A worker's run.
 ghost use Rattle.std.specs.Prelude.{◌≡◌, true, false};
-ghost use Rattle.mx_worker.specs.Work.{AreCounted, IsDone, WorkerRan};
+ghost use Rattle.mx_worker.specs.Work.{WorkerRan};
 
 use crate::tally::Tally;
 use mx_gate::Gate;
@@ -27,22 +27,6 @@ pub struct WorkerEnd<'m, L: Link> {
     pub refused: bool,
 }
 
-fn end<'m, L: Link>(tally: Tally<'m, L>, refused: bool) -> WorkerEnd<'m, L>
-    ensures seat { result.seat ≡ tally.entry.seat }
-    ensures done { IsDone tally.entry.start result.seat tally.entry.did }
-    ensures counted { AreCounted tally.entry.did result.recorded result.stale result.given_back }
-    ensures refused { result.refused ≡ refused }
-{
-    let (seat, recorded, stale, given_back) = tally.into_parts();
-    WorkerEnd {
-        seat,
-        recorded,
-        stale,
-        given_back,
-        refused,
-    }
-}
-
 /// Runs a worker at a multi handle: it claims transfers, polls them over links of its gate, notes how many bytes they have received, and
 /// records their ends. What is gone it gives back. Once its gate answers `Stop` it claims nothing more, gives back what has not started,
 /// and goes on with the rest.
@@ -64,7 +48,7 @@ pub fn run_worker<'m, L: Link, R: Wait + RandomSource + AllocGlobal, G: Gate<Lin
 {
     let limit = seat.multi().max_connects();
     match run_at(rt, Tally::new(seat), limit, gate) {
-        Ok(tally) => end(tally, false),
-        Err(tally) => end(tally, true),
+        Ok(tally) => tally.end(false),
+        Err(tally) => tally.end(true),
     }
 }

@@ -1,5 +1,5 @@
-use Rattle.std.proofs.Common.{ap, subst, sym, ◌∙◌, ◌≡◌}
-use Rattle.mx_multi.specs.Seats.{MultiView, SeatView}
+use Rattle.std.proofs.Common.{ap, subst, ◌∙◌}
+use Rattle.mx_multi.specs.Seats.{MultiView}
 use Rattle.mx_round.specs.Desks.{HasRun}
 use Rattle.mx_worker.specs.Work.{IsDone, TallyView}
 use Rattle.mx_worker.proofs.Tallies.{ran}

@@ -1,7 +1,5 @@
-use Rattle.std.proofs.Common.{subst, sym}
-use Rattle.mx_worker.specs.Work.{AreCounted, IsDone}
-use Rattle.mx_worker.proofs.Tallies.{counts_none, done_none}
+use Rattle.mx_worker.proofs.Tallies.{done_none}
 use Rattle.mx_worker.proofs.tally.Tally.new.Goals as goal
 
 pub invariant_of-result : goal.invariant_of-result
-invariant_of-result g c = rw (c.of.ensures, c.new.ensures) (done_none c.args.seat, counts_none)
+invariant_of-result g c = rw (c.of.ensures, c.new.ensures) (done_none c.args.seat)

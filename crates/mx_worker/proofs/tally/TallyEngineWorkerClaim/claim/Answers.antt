@@ -1,18 +1,15 @@
-use Rattle.std.proofs.Common.{refl, ap, ◌∙◌}
-use Rattle.mx_round.specs.Desks.{HeldView}
-use Rattle.mx_lock.specs.Ties.{TiedClaimed}
-use Rattle.mx_worker.specs.Work.{AreCounted, IsDone}
-use Rattle.mx_worker.proofs.Tallies.{counts_same, done_claims, done_claims_none, with_last}
+use Rattle.std.proofs.Common.{ap, refl, ◌∙◌}
+use Rattle.mx_multi.specs.Seats.{MultiView}
+use Rattle.mx_worker.specs.Work.{IsDone}
+use Rattle.mx_worker.proofs.Tallies.{done_claimed, held_own, uncounted, with_last}
 use Rattle.mx_worker.proofs.tally.TallyEngineWorkerClaim.claim.Goals as goal
 
-pub invariant_of-self : goal.invariant_of-self
-invariant_of-self g c = with_last (λ l. IsDone c.self.inside.start.value c.claim.new.self l × AreCounted l c.self.inside.recorded c.self.inside.stale c.self.inside.given_back) _ _ _ _ c.note.ensures c.claims.ensures (
-  done_claims _ _ _ _ c.new-in-Some.result.held c.in-Some.claim.ticket c.self.invariant.0
-      (ap (λ (h : HeldView _). h.held.ticket) c.new-in-Some.ensures ∙ ap (λ (t : TiedClaimed). t.ticket) c.new.ensures)
-      c.in-Some.ensures.sees c.in-Some.ensures.claims c.in-Some.ensures.given,
-  counts_same _ _ _ _ _ c.self.invariant.1 refl refl refl,
-)
+pub note-requires : goal.note-requires
+note-requires g c = uncounted _ _ c.claims.ensures (record { unrecorded = refl; fresh = refl; kept = refl })
 
-pub invariant_of-self-in-None : goal.invariant_of-self-in-None
-invariant_of-self-in-None g c = with_last (λ l. IsDone c.self.inside.start.value c.claim.new.self l × AreCounted l c.self.inside.recorded c.self.inside.stale c.self.inside.given_back) _ _ _ _ c.note-in-None.ensures c.claims-in-None.ensures
-    (done_claims_none _ _ _ _ c.self.invariant.0 c.in-None.ensures.sees c.in-None.ensures.claims c.in-None.ensures.given, counts_same _ _ _ _ _ c.self.invariant.1 refl refl refl)
+pub invariant_of-self : goal.invariant_of-self
+invariant_of-self g c = with_last (λ l. IsDone c.self.inside.start.value c.claim.new.self l) _ _ _ _ c.note.ensures c.claims.ensures
+    (done_claimed _ _ _ _ c.claim.result c.held_of-held.result c.self.invariant c.held_of-held.ensures c.claim.ensures.sees c.claim.ensures.claims c.claim.ensures.given)
+
+pub returns-clause-own : goal.returns-clause-own
+returns-clause-own g c = rw (← c.self.view_is) (held_own c.claim.result c.held_of-held.result _ _ c.held_of-held.ensures c.claim.ensures.own (ap (λ (m : MultiView _ _). m.engine.ties) (c.claim.ensures.of ∙ c.self.invariant.later.of)))

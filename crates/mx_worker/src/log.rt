@@ -1,0 +1,126 @@
+//! What a worker did, and what was counted of it.
+ghost use Rattle.std.specs.Prelude.{◌≡◌, ◌∷◌, ◌++◌, []};
+ghost use Rattle.mx_turn.specs.Workers.{finishes, gives_back};
+ghost use Rattle.mx_worker.specs.Work.{AreCounted, IsBackOwn, IsUncounted, back_of, finish_of, return_of};
+
+use crate::claims::WorkerClaim;
+use mx_journal::{FinishReply, GiveBackReply};
+use mx_link::Link;
+use mx_lock::TiedClaim;
+use mx_multi::WrongSeat;
+use mx_queue::Queued;
+use mx_round::{Done, Finished, Held};
+use mx_transfer::Outcome;
+use mx_types::History;
+use std::marker::Model;
+use std::snapshot::Snapshot;
+
+/// What a worker did, and how many ends were recorded, how many were stale, and how many transfers went back to the queue.
+#[derive(Drop)]
+pub(crate) struct Log<L: Link> {
+    did: History<Done<L, WorkerClaim<L>>>,
+    recorded: u32,
+    stale: u32,
+    given_back: u32,
+}
+
+impl<L: Link> Model for Log<L> {
+    ghost use Rattle.mx_worker.specs.Work.{AreCounted, LogView};
+
+    ghost Value = { LogView L };
+
+    ghost view = { λ l. record { did = l.did; recorded_count = l.recorded; stale_count = l.stale; given_back_count = l.given_back } };
+
+    ghost invariant = { λ l. AreCounted l.did l.recorded l.stale l.given_back };
+}
+
+impl<L: Link> Log<L> {
+    pub fn new() -> Log<L>
+        ensures { result ≡ record { did = []; recorded_count = 0; stale_count = 0; given_back_count = 0 } }
+    {
+        Log {
+            did: History::new(),
+            recorded: 0,
+            stale: 0,
+            given_back: 0,
+        }
+    }
+
+    // rule worker-counts
+    /// How many ends were recorded, how many were stale, and how many transfers went back to the queue.
+    pub fn counts(&self) -> (u32, u32, u32)
+        ensures { AreCounted self.now.did result.0 result.1 result.2 }
+    {
+        (self.recorded, self.stale, self.given_back)
+    }
+
+    /// Notes what isn't counted.
+    pub fn note(&mut self, done: Done<L, WorkerClaim<L>>)
+        requires { IsUncounted done }
+        ensures { self.new.did ≡ self.old.did ++ done ∷ [] }
+    {
+        self.did.note(done);
+    }
+
+    // rule worker-counts
+    /// Notes what the call answered by which this end was handed in. One that was refused memory comes back.
+    pub fn note_end(
+        &mut self,
+        answer: Result<
+            FinishReply<TiedClaim<Queued<L>>, Outcome>,
+            WrongSeat<(TiedClaim<Queued<L>>, Outcome)>,
+        >,
+        end: Snapshot<Finished<WorkerClaim<L>>>,
+    ) -> Option<Finished<WorkerClaim<L>>>
+        requires { IsBackOwn answer }
+        ensures did { self.new.did ≡ self.old.did ++ finishes end.value.end.ticket end.value.end.outcome (finish_of answer) ∷ [] }
+        ensures back { result ≡ back_of answer }
+    {
+        match answer {
+            Ok(FinishReply::Recorded) => {
+                self.did.note(Done::recorded(end));
+                self.recorded = self.recorded.saturating_add(1);
+                None
+            }
+            Ok(FinishReply::Stale(outcome)) => {
+                self.did.note(Done::stale(end));
+                self.stale = self.stale.saturating_add(1);
+                drop(outcome);
+                None
+            }
+            Ok(FinishReply::OutOfMemory(claim, outcome)) => {
+                self.did.note(Done::lacking(end));
+                Some(Finished::new(WorkerClaim::new(claim), outcome))
+            }
+            Err(refused) => {
+                self.did.note(Done::unseated(end));
+                drop(refused);
+                None
+            }
+        }
+    }
+
+    /// Notes what the call answered by which this transfer was given back. One that doesn't go back to the queue is dropped.
+    pub fn note_return(
+        &mut self,
+        answer: Result<GiveBackReply<Queued<L>>, WrongSeat<(TiedClaim<Queued<L>>, Queued<L>)>>,
+        given: Snapshot<Held<L, WorkerClaim<L>>>,
+    )
+        ensures { self.new.did ≡ self.old.did ++ gives_back given.value.held (return_of answer) ∷ [] }
+    {
+        match answer {
+            Ok(GiveBackReply::Back) => {
+                self.did.note(Done::returned(given));
+                self.given_back = self.given_back.saturating_add(1);
+            }
+            Ok(GiveBackReply::Stale(queued)) => {
+                self.did.note(Done::ended_before(given));
+                drop(queued);
+            }
+            Err(refused) => {
+                self.did.note(Done::unreturned(given));
+                drop(refused);
+            }
+        }
+    }
+}
