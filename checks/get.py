@@ -247,11 +247,15 @@ def case_too_many_open_files():
         return subprocess.run([PROGRAM, "get", "--explain"] + words + urls, stdin=subprocess.DEVNULL, capture_output=True, timeout=300,
                               preexec_fn=lambda: resource.setrlimit(resource.RLIMIT_NOFILE, (24, 24)))
 
-    with Server(keeping) as server:
+    # connections that are at work for longer than others are tried for
+    with Server(lambda connection, number: (time.sleep(2), keeping(connection, number))) as server:
         urls = [server.url(f"/{number}") for number in range(150)]
         run = run_with([])
         want(run.returncode == 7, f"exit status {run.returncode}")
         want(run.stderr.endswith(b" (7)\n" + hint) and run.stderr.count(b"  hint: ") == 1, f"{run.stderr[-300:]!r}")
+    # with fewer at once all are fetched, and nothing is said
+    with Server(keeping) as server:
+        urls = [server.url(f"/{number}") for number in range(150)]
         run = run_with(["--at-once", "4"])
         want(run.returncode == 0 and run.stderr == b"", f"exit status {run.returncode}, {run.stderr[-300:]!r}")
 
@@ -264,6 +268,17 @@ def case_idle_connections_make_room():
         run = Run(["--explain", "--workers", "1", "--max-connects", "64"] + [server.url("/a") for server in servers],
                   first=lambda: resource.setrlimit(resource.RLIMIT_NOFILE, (24, 24)))
         want_ends(run, [(0, 200, body_of("/a"))] * 40)
+        want(run.err == b"", f"{run.err[-300:]!r}")
+
+
+# rule turn-files
+def case_idle_connections_of_other_workers_make_room():
+    # there is room for fewer connections than there are workers: where all are kept, some worker has none that it could close
+    with contextlib.ExitStack() as stack:
+        servers = [stack.enter_context(Server(keeping)) for _ in range(60)]
+        run = Run(["--explain", "--workers", "8", "--at-once", "2", "--max-connects", "64"] + [server.url("/a") for server in servers],
+                  first=lambda: resource.setrlimit(resource.RLIMIT_NOFILE, (40, 40)))
+        want_ends(run, [(0, 200, body_of("/a"))] * 60)
         want(run.err == b"", f"{run.err[-300:]!r}")
 
 

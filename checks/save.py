@@ -637,7 +637,8 @@ def case_words_of_failures():
 # rule gate-file-limit
 # rule program-file-limit-hint
 def case_too_many_open_files():
-    with Server(keeping) as server:
+    # connections that are at work for longer than others are tried for
+    with Server(lambda connection, number: (time.sleep(2), keeping(connection, number))) as server:
         into, urls = folder(), [server.url(f"/{number}") for number in range(150)]
         child = start(["--at-once", "150", "--into", into] + urls, stdout=subprocess.PIPE, stderr=subprocess.PIPE,
                       preexec_fn=lambda: resource.setrlimit(resource.RLIMIT_NOFILE, (24, 24)))
@@ -646,8 +647,9 @@ def case_too_many_open_files():
         want(len(codes) == 150 and 7 in codes and set(codes) <= {0, 7, 23}, f"{codes}")
         hint = b"  hint: too many files were open for a connection: ulimit -n allows more, --at-once fewer transfers\n"
         want(err.endswith(hint) and err.count(b"  hint: ") == 1, f"{err[-300:]!r}")
-        # with fewer at once all are saved, and nothing is said
-        into = folder()
+    # with fewer at once all are saved, and nothing is said
+    with Server(keeping) as server:
+        into, urls = folder(), [server.url(f"/{number}") for number in range(150)]
         child = start(["--at-once", "4", "--workers", "1", "--into", into] + urls, stdout=subprocess.PIPE, stderr=subprocess.PIPE,
                       preexec_fn=lambda: resource.setrlimit(resource.RLIMIT_NOFILE, (24, 24)))
         out, err = child.communicate(timeout=300)
@@ -666,6 +668,20 @@ def case_idle_connections_make_room():
         want_lines(run, [saved(server, f"/f{at}", f"f{at}", body_of(f"/f{at}")) for at, server in enumerate(servers)], 0)
         want(run.err == b"", f"{run.err[-300:]!r}")
         want_files(into, {f"f{at}": body_of(f"/f{at}") for at in range(40)})
+
+
+# rule turn-files
+def case_idle_connections_of_other_workers_make_room():
+    # there is room for fewer connections than there are workers: where all are kept, some worker has none that it could close
+    with contextlib.ExitStack() as stack:
+        servers = [stack.enter_context(Server(keeping)) for _ in range(60)]
+        into = folder()
+        words = ["--workers", "8", "--at-once", "2", "--max-connects", "64", "--retry", "0"]
+        run = Saved(words + [server.url(f"/f{at}") for at, server in enumerate(servers)], into,
+                    first=lambda: resource.setrlimit(resource.RLIMIT_NOFILE, (40, 40)))
+        want_lines(run, [saved(server, f"/f{at}", f"f{at}", body_of(f"/f{at}")) for at, server in enumerate(servers)], 0)
+        want(run.err == b"", f"{run.err[-300:]!r}")
+        want_files(into, {f"f{at}": body_of(f"/f{at}") for at in range(60)})
 
 
 # rule file-descriptors

@@ -6,14 +6,14 @@ ghost use Rattle.mx_crew.specs.declared.error.CrewError.TheVariants as crew_erro
 
 use crate::crew::Crew;
 use crate::error::CrewError;
+use crate::gate::{Common, RunGate};
 use crate::post::{Post, Worked, work};
-use crate::starts::{StartGate, Starts};
 use mx_gate::Gate;
 use mx_link::Link;
 use std::alloc::{AllocGlobal, Global};
 use std::random::RandomSource;
 use std::sync::Wait;
-use std::thread::{JoinHandle, Threads};
+use std::thread::{JoinHandle, Scope, Threads};
 use std::{io, thread};
 
 // Keeps the handle of a thread that was started: there is room for it.
@@ -23,6 +23,7 @@ fn keep<G: Drop, E: Drop>(
 ) -> Result<(), CrewError>
     requires { vec_len handles.old + 1 ≤ vec_capacity handles.old }
     ensures kept { OnOk result (vec_len handles.new ≡ vec_len handles.old + 1) }
+    ensures most { vec_len handles.new ≤ vec_len handles.old + 1 }
     ensures room { vec_capacity handles.new ≡ vec_capacity handles.old }
     ensures cause { IfErr result (λ e. e ≡ crew_error.NoThread) }
 {
@@ -33,6 +34,86 @@ fn keep<G: Drop, E: Drop>(
         }
         Err(_) => Err(CrewError::NoThread),
     }
+}
+
+// Starts a worker at a post, on a thread of its own, and keeps its handle.
+fn start_one<
+    's,
+    'm: 's,
+    'r: 's,
+    E,
+    L: Link + Send + 's,
+    R: Threads + Wait + RandomSource + AllocGlobal + Sync + 's,
+    G: Gate<Link = L> + Send + Drop + 's,
+>(
+    scope: &Scope<'s, E>,
+    rt: &'r R,
+    common: &'s Common,
+    post: Post<'m, L, G>,
+    handles: &mut Vec<JoinHandle<Worked<G>>>,
+) -> Result<(), CrewError>
+    requires runtime { IsSync R.row }
+    requires room { vec_len handles.old + 1 ≤ vec_capacity handles.old }
+    ensures kept { OnOk result (vec_len handles.new ≡ vec_len handles.old + 1) }
+    ensures most { vec_len handles.new ≤ vec_len handles.old + 1 }
+    ensures room { vec_capacity handles.new ≡ vec_capacity handles.old }
+{
+    let Post { seat, gate } = post;
+    let gate = RunGate::new(common, gate);
+    let started = scope.spawn(
+        move || -> Worked<G>
+            requires { IsSync R.row }
+        { work(rt, seat, gate) },
+    );
+    keep(handles, started)
+}
+
+// Starts a worker at each post, until one can't be started. It owns neither posts nor handles, so its exits drop none.
+fn start_all<
+    's,
+    'm: 's,
+    'r: 's,
+    E,
+    L: Link + Send + 's,
+    R: Threads + Wait + RandomSource + AllocGlobal + Sync + 's,
+    G: Gate<Link = L> + Send + Drop + 's,
+>(
+    scope: &Scope<'s, E>,
+    rt: &'r R,
+    common: &'s Common,
+    posts: &mut Vec<Post<'m, L, G>>,
+    handles: &mut Vec<JoinHandle<Worked<G>>>,
+) -> Result<(), CrewError>
+    requires runtime { IsSync R.row }
+    requires none { vec_len handles.old ≡ 0 }
+    requires room { vec_len posts.old ≤ vec_capacity handles.old }
+    ensures started { OnOk result (vec_len handles.new ≡ vec_len posts.old) }
+    ensures most { vec_len handles.new ≤ vec_len posts.old }
+{
+    while let Some(post) = posts.pop() {
+        start_one(scope, rt, common, post, handles)?;
+    }
+    Ok(())
+}
+
+// Waits until a worker has started, where all threads were started. Where there is no crew, those that have started are dismissed.
+fn stand<R: Wait>(
+    rt: &R,
+    crew: &Crew,
+    common: &Common,
+    started: Result<(), CrewError>,
+    count: usize,
+) -> Result<(), CrewError>
+    ensures { OnOk result (started ≡ Ok tt) }
+{
+    let stands = match started {
+        Ok(()) => common.starts.await_one(rt, count),
+        Err(error) => Err(error),
+    };
+    if stands.is_err() {
+        crew.dismiss();
+    }
+    stands
 }
 
 // What each worker did, with its gate.
@@ -52,6 +133,19 @@ fn join_all<R: Threads, G: Drop>(
     worked
 }
 
+// What the workers did, where there is a crew.
+fn worked_if<G: Drop>(
+    stands: Result<(), CrewError>,
+    worked: Vec<Worked<G>>,
+) -> Result<Vec<Worked<G>>, CrewError>
+    ensures { MatchResult result (λ w. (stands ≡ Ok tt) × (w ≡ worked)) (λ e. stands ≡ Err e) }
+{
+    match stands {
+        Ok(()) => Ok(worked),
+        Err(error) => Err(error),
+    }
+}
+
 // Runs a worker at each post, on a thread of its own, while the application runs on this one, once one of them has started. There is room
 // for their handles and results.
 fn run_all<
@@ -65,7 +159,7 @@ fn run_all<
 >(
     rt: &'m R,
     crew: &'m Crew,
-    starts: &'s Starts,
+    common: &'s Common,
     posts: Vec<Post<'m, L, G>>,
     handles: Vec<JoinHandle<Worked<G>>>,
     worked: Vec<Worked<G>>,
@@ -87,26 +181,11 @@ fn run_all<
             let mut posts = posts;
             let mut handles = handles;
             let count = posts.len();
-            while let Some(post) = posts.pop() {
-                let Post { seat, gate } = post;
-                let gate = StartGate::new(starts, gate);
-                let started = scope.spawn(
-                    move || -> Worked<G>
-                        requires { IsSync R.row }
-                    { work(rt, seat, gate) },
-                );
-                if let Err(error) = keep(&mut handles, started) {
-                    crew.dismiss();
-                    return (application(Err(error)), Err(error));
-                }
-            }
-            if let Err(error) = starts.await_one(rt, count) {
-                crew.dismiss();
-                return (application(Err(error)), Err(error));
-            }
-            let told = application(Ok(()));
+            let started = start_all(scope, rt, common, &mut posts, &mut handles);
+            let stands = stand(rt, crew, common, started, count);
+            let told = application(stands);
             crew.dismiss();
-            (told, Ok(join_all(rt, handles, worked)))
+            (told, worked_if(stands, join_all(rt, handles, worked)))
         },
     )
 }
@@ -155,8 +234,8 @@ pub fn run_beside<
 {
     match rooms(rt.alloc(), posts.len()) {
         Ok((handles, worked)) => {
-            let starts = Starts::new();
-            run_all(rt, crew, &starts, posts, handles, worked, application)
+            let common = Common::new();
+            run_all(rt, crew, &common, posts, handles, worked, application)
         }
         Err(error) => (application(Err(error)), Err(error)),
     }

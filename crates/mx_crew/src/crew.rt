@@ -88,6 +88,32 @@ impl Crew {
         Arc::try_clone(&self.stop)
     }
 
+    // A gate that this crew wakes and stops.
+    fn socket_gate<'r, R: Net<Listener = TcpListener, Stream = TcpStream> + Clock + AllocGlobal>(
+        &mut self,
+        rt: &'r R,
+        start: Instant,
+    ) -> Result<SocketGate<'r, R>, CrewError> {
+        match SocketGate::starting_at(rt, self.stop()?, start) {
+            Ok(gate) => self.register(gate),
+            Err(code) => Err(no_gate(code)),
+        }
+    }
+
+    // Keeps the waker and the flag of a gate, and hands it back.
+    fn register<'r, R: Net + Clock + AllocGlobal>(
+        &mut self,
+        gate: SocketGate<'r, R>,
+    ) -> Result<SocketGate<'r, R>, CrewError> {
+        match self.know(&gate) {
+            Ok(()) => Ok(gate),
+            Err(error) => {
+                drop(gate);
+                Err(error)
+            }
+        }
+    }
+
     // A gate that this crew wakes and stops, and whose names this resolver looks up.
     fn gate<
         'r,
@@ -98,17 +124,8 @@ impl Crew {
         start: Instant,
         resolver: &Resolver<SystemLookup<R>, NameBell>,
     ) -> Result<HostGate<'r, R>, CrewError> {
-        let gate = match SocketGate::starting_at(rt, self.stop()?, start) {
-            Ok(gate) => gate,
-            Err(code) => return Err(no_gate(code)),
-        };
-        match self.know(&gate) {
-            Ok(()) => Ok(PacedGate::new(NamedGate::new(rt, gate, resolver)?)),
-            Err(error) => {
-                drop(gate);
-                Err(error)
-            }
-        }
+        let gate = self.socket_gate(rt, start)?;
+        Ok(PacedGate::new(NamedGate::new(rt, gate, resolver)?))
     }
 
     // Keeps the waker of the worker at this gate, and the flag that says whether too many files were open for it.
@@ -140,11 +157,27 @@ impl Crew {
     >(&mut self, rt: &'r R, start: Instant, count: u8) -> Result<Vec<HostGate<'r, R>>, CrewError>
         ensures { IfOk result (λ gates. vec_len gates ≡ count) }
     {
-        let mut gates = Vec::with_capacity(rt.alloc(), usize::from(count))?;
         let resolver = served(rt, start)?;
-        let filled = self.fill(rt, start, &resolver, &mut gates, count);
+        let gates = self.named_gates(rt, start, &resolver, count);
         drop(resolver);
-        match filled {
+        gates
+    }
+
+    // So many gates, whose names this resolver looks up.
+    fn named_gates<
+        'r,
+        R: Net<Listener = TcpListener, Stream = TcpStream> + Clock + AllocGlobal + Wait + Drop,
+    >(
+        &mut self,
+        rt: &'r R,
+        start: Instant,
+        resolver: &Resolver<SystemLookup<R>, NameBell>,
+        count: u8,
+    ) -> Result<Vec<HostGate<'r, R>>, CrewError>
+        ensures { IfOk result (λ gates. vec_len gates ≡ count) }
+    {
+        let mut gates = Vec::with_capacity(rt.alloc(), usize::from(count))?;
+        match self.fill(rt, start, resolver, &mut gates, count) {
             Ok(()) => Ok(gates),
             Err(error) => {
                 drop(gates);

@@ -4,9 +4,11 @@
 mod beside;
 mod crew;
 mod error;
+mod gate;
 mod opening;
 mod post;
 mod runtime;
+mod shortage;
 mod starts;
 
 pub use crate::beside::run_beside;

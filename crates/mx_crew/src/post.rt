@@ -1,7 +1,7 @@
 //! A worker's post.
 ghost use Rattle.std.specs.Prelude.{◌≡◌, ◌≤◌, All, IfErr, IfOk, min, vec_capacity, vec_len};
 
-use crate::starts::StartGate;
+use crate::gate::RunGate;
 use mx_gate::{Gate, Turn};
 use mx_link::Link;
 use mx_multi::{AtWork, Multi, Seated, WorkerSeat};
@@ -64,7 +64,7 @@ pub fn posts<'m, L: Link, G: Gate<Link = L> + Drop>(
     Ok(posts)
 }
 
-// Makes a post of each seat, as far as there are gates: there is room for them. It owns none of these, so its exits drop none.
+// Makes a post of each gate, as far as there are seats: there is room for them. It owns none of these, so its exits drop none but a gate.
 fn fill<'m, L: Link, G: Gate<Link = L> + Drop>(
     multi: &'m Multi<Queued<L>, Outcome>,
     seats: &mut Vec<WorkerSeat<Queued<L>, Outcome>>,
@@ -76,8 +76,8 @@ fn fill<'m, L: Link, G: Gate<Link = L> + Drop>(
     requires room { vec_len seats.old ≤ vec_capacity posts.old }
     ensures { vec_len posts.new ≡ min (vec_len seats.old) (vec_len gates.old) }
 {
-    while let Some(seat) = seats.pop() {
-        let Some(gate) = gates.pop() else {
+    while let Some(gate) = gates.pop() {
+        let Some(seat) = seats.pop() else {
             return;
         };
         posts.push_reserved(Post {
@@ -112,25 +112,34 @@ fn work_once<'m, L: Link, R: Wait + RandomSource + AllocGlobal, G: Gate<Link = L
     Ok(counts_of(end))
 }
 
+// Works until the gate stops it, and says what it did. Where memory for its start is refused, it tries again after a while.
+fn work_on<'m, L: Link, R: Wait + RandomSource + AllocGlobal, G: Gate<Link = L>>(
+    rt: &R,
+    seat: Seated<'m, AtWork, Queued<L>, Outcome>,
+    gate: &mut G,
+) -> Counts {
+    let mut seat = seat;
+    for _ in rt.forever() {
+        match work_once(rt, seat, gate) {
+            Ok(counts) => return counts,
+            Err(again) => seat = again,
+        }
+    }
+    unreachable!()
+}
+
 // Works with a seat and a gate until the gate stops it, and says what it did: the gate comes back. Where memory for its start is refused,
 // it tries again after a while, and the gate tells so. It has no clause, since nobody has the seat afterwards: `run_worker` has them. Tests
 // show that it ends only where its gate stops it.
 pub(crate) fn work<'m, L: Link, R: Wait + RandomSource + AllocGlobal, G: Gate<Link = L> + Drop>(
     rt: &R,
     seat: Seated<'m, AtWork, Queued<L>, Outcome>,
-    gate: StartGate<'_, G>,
+    gate: RunGate<'_, G>,
 ) -> Worked<G> {
-    let (mut seat, mut gate) = (seat, gate);
-    for _ in rt.forever() {
-        match work_once(rt, seat, &mut gate) {
-            Ok(counts) => {
-                return Worked {
-                    counts,
-                    gate: gate.into_gate(),
-                };
-            }
-            Err(again) => seat = again,
-        }
+    let mut gate = gate;
+    let counts = work_on(rt, seat, &mut gate);
+    Worked {
+        counts,
+        gate: gate.into_gate(),
     }
-    unreachable!()
 }

@@ -1,10 +1,6 @@
 //! Whether the workers of a run have started.
-ghost use Rattle.std.specs.Prelude.{◌≡◌};
 
 use crate::error::CrewError;
-use mx_gate::{Gate, Turn};
-use mx_request::Endpoint;
-use mx_types::Code;
 use std::sync::Wait;
 use std::sync::atomic::{AtomicU64, Ordering};
 
@@ -49,46 +45,33 @@ impl Starts {
     }
 }
 
-/// A worker's gate that tells whether its worker has started: a worker asks for the moment first, and where its start is refused memory it
-/// waits without having asked for one.
+/// What a worker tells of its start, once.
 #[derive(Drop)]
-pub(crate) struct StartGate<'s, G> {
+pub(crate) struct Start<'s> {
     starts: &'s Starts,
-    gate: G,
     has_started: bool,
     refusals: u32,
 }
 
-impl<'s, G> StartGate<'s, G> {
-    pub fn new(starts: &'s Starts, gate: G) -> StartGate<'s, G> {
-        StartGate {
+impl<'s> Start<'s> {
+    pub fn new(starts: &'s Starts) -> Start<'s> {
+        Start {
             starts,
-            gate,
             has_started: false,
             refusals: 0,
         }
     }
 
-    /// The gate within, once its worker has ended.
-    pub fn into_gate(self) -> G {
-        if !self.has_started && self.refusals < TRIES {
-            self.starts.tell(REFUSED);
-        }
-        self.gate
-    }
-
-    fn tell_start(&mut self)
-        ensures { self.new.gate ≡ self.old.gate }
-    {
+    /// The worker has started.
+    pub fn tell(&mut self) {
         if !self.has_started {
             self.has_started = true;
             self.starts.tell(1);
         }
     }
 
-    fn tell_refusal(&mut self)
-        ensures { self.new.gate ≡ self.old.gate }
-    {
+    /// Its start was refused memory once more, unless it has started.
+    pub fn tell_refusal(&mut self) {
         if self.has_started || self.refusals >= TRIES {
             return;
         }
@@ -97,34 +80,11 @@ impl<'s, G> StartGate<'s, G> {
             self.starts.tell(REFUSED);
         }
     }
-}
 
-impl<'s, G: Gate> Gate for StartGate<'s, G> {
-    type Link = G::Link;
-
-    ghost said = { λ gate. G.said gate.gate };
-
-    ghost latest = { λ gate. G.latest gate.gate };
-
-    fn now(&mut self) -> u64 {
-        self.tell_start();
-        self.gate.now()
-    }
-
-    fn can_open(&mut self, endpoint: &Endpoint) -> bool {
-        self.gate.can_open(endpoint)
-    }
-
-    fn open(&mut self, endpoint: &Endpoint) -> Result<G::Link, Code> {
-        self.gate.open(endpoint)
-    }
-
-    fn lacks_files(&mut self) -> bool {
-        self.gate.lacks_files()
-    }
-
-    fn turn(&mut self, wait_ms: u32) -> Turn {
-        self.tell_refusal();
-        self.gate.turn(wait_ms)
+    /// The worker has ended.
+    pub fn end(&self) {
+        if !self.has_started && self.refusals < TRIES {
+            self.starts.tell(REFUSED);
+        }
     }
 }
