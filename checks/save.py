@@ -634,6 +634,15 @@ def case_words_of_failures():
         want(found == {url: words for url, _, words in rows}, f"{found}")
 
 
+def case_each_failure_has_its_words():
+    # a URL that is refused when it is read, and a connection that is refused meanwhile
+    with deaf() as nobody:
+        urls = [url for number in range(400) for url in (f"http://{nobody}/{number}", f"127.0.0.1/{number}")]
+        run = Saved(["--at-once", "4"] + urls, folder())
+        said = [line[len("mxfetch: "):].split(": ")[0] for line in run.err.decode().splitlines() if line.startswith("mxfetch: ")]
+        want(sorted(said) == sorted(urls), f"{len(said)} lines, none for {sorted(set(urls) - set(said))[:3]}")
+
+
 # rule gate-file-limit
 # rule program-file-limit-hint
 def case_too_many_open_files():

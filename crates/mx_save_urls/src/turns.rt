@@ -41,6 +41,21 @@ struct Seen {
     next: u64,
 }
 
+// Reports the last end, if a URL has ended since so many had; at most one may have. Returns how many have ended.
+fn report<'a, F: Folder, W: Write, Rd: Read + Drop, V: Watch>(
+    work: &Work<'a, F, W, Rd>,
+    watch: &mut V,
+    ended: u64,
+) -> u64 {
+    let now = work.tally().ended;
+    if now != ended {
+        if let Some(end) = work.last() {
+            watch.say(end);
+        }
+    }
+    now
+}
+
 // Reports the end of a URL that has ended since, and shows the run's standing, where it is time.
 fn look<'a, L: Link, F: Folder, W: Write, Rd: Read + Drop, V: Watch>(
     desk: &mut Desk<'_, L>,
@@ -51,19 +66,14 @@ fn look<'a, L: Link, F: Folder, W: Write, Rd: Read + Drop, V: Watch>(
 ) -> Seen
     ensures { Stays desk.old desk.new }
 {
-    let tally = work.tally();
-    if tally.ended != seen.ended {
-        if let Some(end) = work.last() {
-            watch.say(end);
-        }
-    }
+    let ended = report(work, watch, seen.ended);
     let mut next = seen.next;
     match watch.period() {
         Some(period) if now >= next => {
             next = now.saturating_add(u64::from(period));
             watch.show(&Standing {
                 moment: now,
-                tally,
+                tally: work.tally(),
                 known: work.known(),
                 running: desk.len(),
                 arrived: desk.arrived(),
@@ -71,10 +81,7 @@ fn look<'a, L: Link, F: Folder, W: Write, Rd: Read + Drop, V: Watch>(
         }
         _ => watch.show_again(),
     }
-    Seen {
-        ended: tally.ended,
-        next,
-    }
+    Seen { ended, next }
 }
 
 // How long a message may be waited for, where a transfer was begun or not: not at all where the next one may be begun now; and else until the
@@ -205,6 +212,8 @@ fn take_turns<
         let now = timer.now(rt)?;
         seen = look(desk, work, watch, seen, now);
         let begun = begin(rt, desk, work, watch, now)?;
+        // another may end while a message is awaited
+        seen.ended = report(work, watch, seen.ended);
         if matches!(begun, Begun::Added) {
             to_wake = true;
             continue;
