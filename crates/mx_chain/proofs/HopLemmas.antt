@@ -1,9 +1,8 @@
 -- Hops that lead one to the next, and how a chain of them ends.
-use Rattle.std.proofs.Common.{◌≡◌, ℕ, ◌+◌, ◌≤◌, ◌<◌, Bool, true, false, List, [], ◌∷◌, ◌++◌, length, Some, None, Ok, Err, inl, inr, ◌⊎◌, refl, sym, ap, ◌∙◌, subst, ◌↔◌, arith, length-append}
+use Rattle.std.proofs.Common.{◌≡◌, ℕ, ◌≤◌, ◌<◌, Bool, true, List, [], ◌∷◌, ◌++◌, length, Some, None, Ok, Err, inl, inr, ◌⊎◌, refl, sym, ap, ◌∙◌, subst, ◌↔◌, arith}
 use Rattle.std.specs.Prelude.{is_some, ◌||◌, option_map, slice_get}
 use Rattle.std.proofs.lemmas.Bool.{and_parts}
 use Rattle.std.proofs.lemmas.List.Sums.{sum_by-append}
-use Rattle.std.specs.List.{sum_by}
 use Rattle.mx_types.specs.declared.code.Code.{Code}
 use Rattle.mx_types.specs.declared.code.Code.TheVariants as code
 use Rattle.mx_request.specs.Redirects.{is_redirect_status}
@@ -15,7 +14,7 @@ use Rattle.mx_exchange.specs.Hops as hop
 use Rattle.mx_exchange.specs.Exchanges.{HopValue}
 use Rattle.mx_chain.specs.Hops.{is_ok, is_redirect, next_of, LeadTo, EndsWith, stays, too_many, refused, memory}
 use Rattle.mx_chain.specs.Chains.{bytes_in, counted}
-use Rattle.mx_chain.specs.Outcomes.{OutcomeValue, IsOutcome, first_of, outcome_of, is_outcome_code, is_unfollowed_code}
+use Rattle.mx_chain.specs.Outcomes.{IsOutcome, first_of, outcome_of, is_outcome_code, is_unfollowed_code}
 
 -- one hop more
 pub leads_on : (most : ℕ) (first : RequestValue) (hops : List HopValue) (o : HopValue) (next : RequestValue) → LeadTo most first hops o.request

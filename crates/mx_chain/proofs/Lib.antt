@@ -2,3 +2,4 @@ pub mod HopLemmas
 pub mod StepLemmas
 pub mod Sends
 pub mod LawLemmas
+pub mod Places

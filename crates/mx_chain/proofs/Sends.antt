@@ -4,7 +4,6 @@ use denote.Param.Send.{IsSend, struct_send, enum_send, sendable}
 use denote.Struct.Declared.{shape}
 use denote.Enum.Declared.{shape as enum_shape}
 use Rattle.std.proofs.Crossing.{crosses}
-use Rattle.std.specs.contracts.option.Option as Option
 use Rattle.mx_request.proofs.request.Request.TheSendSync.{the_send as request_send}
 use Rattle.mx_request.proofs.endpoint.Endpoint.TheSendSync.{the_send as endpoint_send}
 use Rattle.mx_link.specs.declared.links.Link as link

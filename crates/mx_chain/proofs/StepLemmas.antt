@@ -1,5 +1,5 @@
 -- What a turn of a transfer leaves.
-use Rattle.std.proofs.Common.{◌≡◌, ◌≢◌, ℕ, ◌+◌, ◌≤◌, ◌<◌, ◌^◌, min, Bool, true, false, cond, List, [], ◌∷◌, ◌++◌, length, Option, Some, None, refl, sym, ap, ◌∙◌, subst, inl, inr, ◌⊎◌, ◌↔◌, arith}
+use Rattle.std.proofs.Common.{◌≡◌, ◌≢◌, ℕ, ◌≤◌, Bool, true, false, cond, List, [], ◌∷◌, ◌++◌, length, Option, Some, None, refl, sym, ap, ◌∙◌, subst, inl, inr, ◌↔◌, arith}
 use Rattle.std.specs.Prelude.{IsSome}
 use Rattle.mx_request.specs.Request.{RequestValue}
 use Rattle.mx_types.specs.declared.code.Code.{Code}
@@ -7,13 +7,15 @@ use Rattle.mx_types.specs.declared.code.Code.TheVariants as code
 use Rattle.mx_link.specs.declared.answers.Answer.{Answer}
 use Rattle.mx_exchange.specs.Endings.{IsUndecided}
 use Rattle.mx_exchange.specs.Exchanges.{HopValue, ExchangeState, IsExchange, KeepsToken, renewed}
-use Rattle.mx_chain.specs.Hops.{EndsWith}
+use Rattle.mx_chain.specs.Hops.{LeadTo, EndsWith}
 use Rattle.mx_chain.specs.Outcomes.{OutcomeValue, hops_of, outcome_of}
-use Rattle.mx_chain.specs.Chains.{ChainState, IsChain, counted, bytes_in, received_of, home_by, released, left_of, over, onward}
-use Rattle.mx_chain.specs.Steps.{How, waits, asks, ends, how_of, IfEnded, IfGoing, SettlesHome, GoesOn, follows, finishes}
+use Rattle.mx_chain.specs.Chains.{ChainState, IsChain, counted, bytes_in, received_of, released, left_of, over, onward}
+use Rattle.mx_chain.specs.Steps.{How, waits, how_of, IfEnded, IfGoing, SettlesHome, GoesOn, follows, finishes}
 use Rattle.mx_chain.specs.declared.chains.Stepped.{Stepped}
 use Rattle.mx_chain.specs.declared.chains.Stepped.TheVariants as stepped
-use Rattle.mx_chain.proofs.HopLemmas.{late_as, bytes_more}
+use Rattle.mx_chain.specs.Going.{IsFollowed, GoesOnTo}
+use Rattle.mx_exchange.specs.Hops.{IsHop}
+use Rattle.mx_chain.proofs.HopLemmas.{late_as, bytes_more, made, first_is}
 
 module _ {L : Type 0} (t : ChainState L) (mid : ExchangeState L) (o : HopValue) (new : ChainState L) where
   not_waits : (how : How) → GoesOn t mid o new how → how ≡ waits → ⊥
@@ -92,25 +94,6 @@ module _ {L : Type 0} (t : ChainState L) (mid : ExchangeState L) (o : HopValue) 
   goes_undecided history asked token_of stepped.Asks g k h = h.undecided (k.going.0 (goes_again stepped.Asks g))
   goes_undecided history asked token_of (stepped.Ended x) g k h = tt
 
--- a transfer that was released ends
-pub finish : {L : Type 0} (t s new : ChainState L) (o : HopValue) (c : Code) → s ≡ record t { now = released t.now; link = left_of t.link t.now }
-    → EndsWith t.request.settings.max_redirects (length t.hops) o c → new ≡ record s { hops = []; code = Some c; link = new.link; home = new.home }
-    → SettlesHome s s.link o.request new
-    → GoesOn t t.now o new (ends (outcome_of t.heads_alone t.hops o c))
-finish {L} t s new o c was why e home =
-    finishes c why
-    (e ∙ ap (λ (x : ChainState L). record x { hops = []; code = Some c; link = new.link; home = new.home }) was)
-    (subst (λ (x : ChainState L). SettlesHome x x.link o.request new) was home)
-
--- the same, said of what it was before its end
-pub finish_from : {L : Type 0} (t s new : ChainState L) (o : HopValue) (c : Code) → s ≡ record t { now = released t.now; link = left_of t.link t.now }
-    → EndsWith s.request.settings.max_redirects (length s.hops) o c → new ≡ record s { hops = []; code = Some c; link = new.link; home = new.home }
-    → SettlesHome s s.link o.request new
-    → GoesOn t t.now o new (ends (outcome_of s.heads_alone s.hops o c))
-finish_from {L} t s new o c was why e home =
-    subst (λ (x : ChainState L). GoesOn t t.now o new (ends (outcome_of x.heads_alone x.hops o c))) (sym was)
-    (finish t s new o c was (subst (λ (x : ChainState L). EndsWith x.request.settings.max_redirects (length x.hops) o c) was why) e home)
-
 -- ---- an exchange whose link was taken
 
 module _ {L : Type 0} (n : ExchangeState L) where
@@ -123,7 +106,7 @@ module _ {L : Type 0} (n : ExchangeState L) where
   renewed_released : (next : RequestValue) → renewed (released n) next ≡ renewed n next
   renewed_released next = elim (n.is_kept) as (λ b. renewed (cond b (record n { link = None; attached = None; answers = []; is_reused = false; needs_probe = false; is_kept = false }) n) next ≡ renewed n next) [ true ↦ refl | false ↦ refl ]
 
-  received_released : (released n).received ≡ n.received
+  pub received_released : (released n).received ≡ n.received
   received_released = elim (n.is_kept) as (λ b. (cond b (record n { link = None; attached = None; answers = []; is_reused = false; needs_probe = false; is_kept = false }) n).received ≡ n.received) [ true ↦ refl | false ↦ refl ]
 
   left_same : (x : Option L) → n.is_kept ≡ false → left_of x n ≡ x
@@ -149,13 +132,59 @@ goes_released {L} t s new o how was g = on how (subst (λ (x : ChainState L). Go
     on how (finishes c why e (inr home)) =
         finishes c why (e ∙ (λ i. record (over t t.now c new.link new.home) { now = released_twice t.now i })) (inr home)
 
--- a transfer with no link to hand out ends
-pub finish_unkept : {L : Type 0} (t s new : ChainState L) (o p : HopValue) (c : Code) → s ≡ t → p ≡ o → t.now.is_kept ≡ false
-    → EndsWith s.request.settings.max_redirects (length s.hops) p c → new ≡ record s { hops = []; code = Some c; link = new.link; home = new.home }
-    → SettlesHome s s.link p.request new
-    → GoesOn t t.now o new (ends (outcome_of s.heads_alone s.hops p c))
-finish_unkept {L} t s new o p c same hop unkept why e home =
-    subst (λ (x : HopValue). GoesOn t t.now o new (ends (outcome_of s.heads_alone s.hops x c))) (sym hop)
-    (finish_from t s new o c (same ∙ (λ i. record t { now = sym (released_same t.now unkept) i; link = sym (left_same t.now t.link unkept) i }))
-    (subst (λ (x : HopValue). EndsWith s.request.settings.max_redirects (length s.hops) x c) hop why) e
-    (subst (λ (x : HopValue). SettlesHome s s.link x.request new) hop home))
+not_none : {A : Type 0} (x : Option A) → IsSome x → x ≡ None → ⊥
+not_none None s e = (let k : false ≡ true = s in cc)
+not_none (Some a) s e = cc
+
+module _ {L : Type 0} where
+  -- a transfer whose link was released goes on as the transfer itself
+  pub goes_on_released : (t s new : ChainState L) (o : HopValue) (r : Stepped) → s ≡ record t { now = released t.now; link = left_of t.link t.now }
+      → GoesOnTo s o new r → GoesOnTo t o new r
+  goes_on_released t s new o r was g = record {
+    goes = goes_released t s new o (how_of r) was g.goes;
+    outcome = g.outcome;
+    value = subst (λ (x : ChainState L). IfEnded r (λ y. y.request ≡ x.request)) was g.value;
+  }
+
+  -- and so does one that is the same, from the same hop
+  pub goes_on_same : (t s new : ChainState L) (o p : HopValue) (r : Stepped) → s ≡ t → p ≡ o → GoesOnTo s p new r → GoesOnTo t o new r
+  goes_on_same t s new o p r same hop g =
+      subst (λ (x : HopValue). GoesOnTo t x new r) hop (subst (λ (x : ChainState L). GoesOnTo x p new r) same g)
+
+  -- a transfer whose link was set aside follows a hop
+  pub follows_on : (t new : ChainState L) (o : HopValue) (next : RequestValue) → t.now.is_kept ≡ false
+      → IsFollowed t.request.settings.max_redirects (length t.hops) o next
+      → new ≡ record t { hops = t.hops ++ o ∷ []; now = renewed t.now next; linked = false; earlier = counted t.earlier t.now.received; code = None }
+      → GoesOnTo t o new stepped.Asks
+  follows_on t new o next unkept f e = record {
+    goes = follows next f.0 f.1 f.2 (e ∙ (λ i. record (onward t t.now o next) { link = sym (left_same t.now t.link unkept) i }));
+    outcome = tt;
+    value = tt;
+  }
+
+  -- it ends with it
+  pub ends_on : (t new : ChainState L) (o : HopValue) (c : Code) (x : OutcomeValue) → t.now.is_kept ≡ false
+      → LeadTo t.request.settings.max_redirects t.request t.hops o.request → length t.hops ≤ t.request.settings.max_redirects → IsHop o
+      → EndsWith t.request.settings.max_redirects (length t.hops) o c → x ≡ outcome_of t.heads_alone t.hops o c
+      → new ≡ record t { hops = []; code = Some c; link = new.link; home = new.home } → SettlesHome t t.link o.request new
+      → GoesOnTo t o new (stepped.Ended x)
+  ends_on t new o c x unkept leads few is why same e home =
+      subst (λ (y : OutcomeValue). GoesOnTo t o new (stepped.Ended y)) (sym same) (record {
+        goes = finishes c why (e ∙ (λ i. record (record t { hops = []; code = Some c; link = new.link; home = new.home }) { now = sym (released_same t.now unkept) i }))
+            (subst (λ (l : Option L). SettlesHome t l o.request new) (sym (left_same t.now t.link unkept)) home);
+        outcome = made t.heads_alone t.request t.hops o c leads few is why;
+        value = first_is t.request.settings.max_redirects t.request t.hops o leads;
+      })
+
+  -- what holds of a transfer whose hop has ended, with other hops
+  pub kept_with : (t : ChainState L) (hops : List HopValue) (alone : Bool) → IsSome t.code → IsChain t → length hops ≤ t.request.settings.max_redirects
+      → IsChain (record t { hops = hops; heads_alone = alone })
+  kept_with t hops alone some k few = record {
+    going = k.going;
+    leads = λ e. absurd (not_none t.code some e);
+    few = few;
+    bytes = λ e. absurd (not_none t.code some e);
+  }
+
+  pub released_unkept : (n : ExchangeState L) → (released n).is_kept ≡ false
+  released_unkept n = elim (n.is_kept) as (λ b. n.is_kept ≡ b → (cond b (record n { link = None; attached = None; answers = []; is_reused = false; needs_probe = false; is_kept = false }) n).is_kept ≡ false) [ true ↦ λ e. refl | false ↦ λ e. e ] refl

@@ -1,6 +1,5 @@
 -- Private: the hops that a transfer followed, as memory has them.
-use Rattle.std.specs.Prelude.{◌≡◌, Bool, true, false, List, Some, slice_get, ℕ}
-use Rattle.mx_body.specs.Decision.{HasHeads}
+use Rattle.std.specs.Prelude.{Bool, true, false, List}
 use Rattle.mx_exchange.specs.Exchanges.{HopValue}
 use Rattle.mx_chain.specs.declared.followed.Kept.{Kept}
 use Rattle.mx_chain.specs.declared.followed.Kept.TheVariants as kept

@@ -1,5 +1,5 @@
 -- What one turn of a transfer does.
-use Rattle.std.specs.Prelude.{◌≡◌, ◌≢◌, ◌<◌, true, List, length, Option, Some, None, Ok, IsSome, ◌⊎◌}
+use Rattle.std.specs.Prelude.{◌≡◌, ◌≢◌, ◌<◌, true, List, length, Option, None, Ok, IsSome, ◌⊎◌}
 use Rattle.mx_types.specs.declared.code.Code.{Code}
 use Rattle.mx_request.specs.Request.{RequestValue}
 use Rattle.mx_link.specs.declared.answers.Answer.{Answer}

@@ -1,12 +1,11 @@
 //! A transfer with its hops.
-ghost use Rattle.std.specs.Prelude.{◌≡◌, ◌≢◌, ◌≤◌, ◌<◌, ◌↔◌, ◌⊎◌, ◌∷◌, ◌++◌, ℕ, true, false, [], None, Some, Ok, Err, IsSome, IfSome, IsTrue, MatchResult, is_some, option_map, option_copied, length};
+ghost use Rattle.std.specs.Prelude.{◌≡◌, ◌≢◌, ◌≤◌, ◌<◌, ◌↔◌, ◌⊎◌, ℕ, true, false, None, Some, Ok, Err, IsSome, IfSome, IsTrue, MatchResult, is_some, option_map, option_copied, length};
 ghost use Rattle.mx_request.specs.declared.error.RequestError.TheVariants as refusal;
-ghost use Rattle.mx_exchange.specs.Exchanges.{ExchangeState, WantsLink, IsDue, IsExchange, KeepsToken, attached, clocked};
+ghost use Rattle.mx_exchange.specs.Exchanges.{ExchangeState, WantsLink, IsDue, IsExchange, KeepsToken, attached, clocked, renewed};
 ghost use Rattle.mx_types.specs.Code.{is_link_code};
 ghost use Rattle.mx_exchange.specs.Endings.{IsUndecided};
 ghost use Rattle.mx_chain.specs.Hops.{is_redirect, next_of, LeadTo, EndsWith};
 ghost use Rattle.mx_chain.specs.Chains.{ChainState, IsChain, begun, begun_with_heads, bytes_in, received_of, home_by, home_of, released, left_of};
-ghost use Rattle.mx_chain.specs.declared.chains.Stepped.TheVariants as stepped;
 
 use crate::followed::Hops;
 use crate::outcomes::{Outcome, is_ok};
@@ -104,8 +103,9 @@ impl<L: Link> Model for Chain<L> {
 }
 
 impl<L: Link> Chain<L> {
-    ghost use Rattle.mx_chain.specs.Steps.{how_of, IfEnded, IfGoing, Steps, GoesOn, SettlesHome};
-    ghost use Rattle.mx_chain.specs.Outcomes.{IsOutcome, outcome_of, first_of, hops_of};
+    ghost use Rattle.mx_chain.specs.Going.{IsFollowed, Decides, GoesOnTo};
+    ghost use Rattle.mx_chain.specs.Steps.{how_of, IfEnded, IfGoing, Steps, SettlesHome};
+    ghost use Rattle.mx_chain.specs.Outcomes.{IsOutcome, hops_of};
     ghost use Rattle.mx_types.specs.declared.code.Code.TheVariants as code;
 
     /// A transfer of the request, which keeps all bytes of the hops that it follows. It takes no memory; what its turns grow comes from
@@ -324,52 +324,54 @@ impl<L: Link> Chain<L> {
         self.home = copy;
     }
 
-    // Ends with this hop.
+    // Ends with this hop, whose link was set aside.
     fn end(&mut self, hop: Hop, code: Code) -> Stepped
         requires ended { IsSome self.old.code }
+        requires unkept { self.old.now.is_kept ≡ false }
         requires leads { LeadTo self.old.request.settings.max_redirects self.old.request self.old.hops hop.request }
         requires cause { EndsWith self.old.request.settings.max_redirects (length self.old.hops) hop code }
-        ensures outcome { result ≡ stepped.Ended (outcome_of self.old.heads_alone self.old.hops hop code) }
-        ensures known { IsOutcome (outcome_of self.old.heads_alone self.old.hops hop code) }
-        ensures hop { IsExchange L.history L.asked L.token_of self.new.now }
-        ensures request { first_of self.old.hops hop ≡ self.old.request }
-        ensures new { self.new ≡ record self.old { hops = []; code = Some code; link = self.new.link; home = self.new.home } }
-        ensures home { SettlesHome self.old self.old.link hop.request self.new }
+        ensures { GoesOnTo self.old hop self.new result }
     {
         hop.know();
-        self.exchange.know();
         self.settle_home(&hop);
         self.code = Some(code);
         let hops = self.hops.take(self.alloc);
         Stepped::Ended(Outcome::new(hops, hop, code))
     }
 
-    // Begins the hop of the next request.
+    // Begins the hop of the next request, with so many bytes before it.
+    fn begin(&mut self, next: Request, earlier: u32)
+        requires ended { IsSome self.old.code }
+        requires leads { LeadTo self.old.request.settings.max_redirects self.old.request self.old.hops next }
+        requires few { length self.old.hops ≤ self.old.request.settings.max_redirects }
+        requires bytes { earlier ≡ bytes_in self.old.hops }
+        ensures { self.new ≡ record self.old { now = renewed self.old.now next; linked = false; earlier = earlier; code = None } }
+    {
+        self.exchange.renew(next);
+        self.earlier = earlier;
+        self.is_linked = false;
+        self.code = None;
+    }
+
+    // Follows the hop, whose link was set aside.
     fn follow(&mut self, hop: Hop, next: Request) -> Stepped
         requires ended { IsSome self.old.code }
         requires unkept { self.old.now.is_kept ≡ false }
         requires leads { LeadTo self.old.request.settings.max_redirects self.old.request self.old.hops hop.request }
-        requires redirect { is_redirect self.old.request.settings.max_redirects hop ≡ true }
-        requires few { length self.old.hops < self.old.request.settings.max_redirects }
-        requires next { next_of hop ≡ Ok next }
+        requires follows { IsFollowed self.old.request.settings.max_redirects (length self.old.hops) hop next }
         requires bytes { self.old.earlier ≡ bytes_in self.old.hops }
         requires wire { self.old.now.received ≡ length hop.wire }
-        ensures goes { GoesOn self.old self.old.now hop self.new (how_of result) }
-        ensures outcome { IfEnded result IsOutcome }
-        ensures value { IfEnded result (λ o. o.request ≡ self.old.request) }
-        ensures known { IsChain self.new }
-        ensures hop { IsExchange L.history L.asked L.token_of self.new.now }
+        ensures { GoesOnTo self.old hop self.new result }
     {
         hop.know();
         let count = self.earlier.saturating_add(self.exchange.received());
         match self.hops.push(hop) {
-            Err(refused) => self.end(refused.value, Code::OutOfMemory),
+            Err(refused) => {
+                drop(next);
+                self.end(refused.value, Code::OutOfMemory)
+            }
             Ok(()) => {
-                self.earlier = count;
-                self.exchange.renew(next);
-                self.exchange.know();
-                self.is_linked = false;
-                self.code = None;
+                self.begin(next, count);
                 Stepped::Asks
             }
         }
@@ -392,29 +394,34 @@ impl<L: Link> Chain<L> {
         self.hops.len() >= usize::from(self.most)
     }
 
+    // The request that follows the hop, or the code that the transfer ends with.
+    fn decide(&self, hop: &Hop) -> Result<Request, Code>
+        ensures { Decides self.now.request.settings.max_redirects (length self.now.hops) hop.now result }
+    {
+        if !self.redirects(hop) {
+            return Err(hop.code());
+        }
+        if self.is_at_limit() {
+            return Err(Code::TooManyRedirects);
+        }
+        match next_request(self.alloc, hop) {
+            Ok(next) => Ok(next),
+            Err(refused) => Err(refused.code()),
+        }
+    }
+
     // Goes on from a hop that has ended.
     fn go_on(&mut self, hop: Hop) -> Stepped
         requires ended { IsSome self.old.code }
         requires leads { LeadTo self.old.request.settings.max_redirects self.old.request self.old.hops hop.request }
         requires bytes { self.old.earlier ≡ bytes_in self.old.hops }
         requires wire { self.old.now.received ≡ length hop.wire }
-        ensures goes { GoesOn self.old self.old.now hop self.new (how_of result) }
-        ensures outcome { IfEnded result IsOutcome }
-        ensures value { IfEnded result (λ o. o.request ≡ self.old.request) }
-        ensures known { IsChain self.new }
-        ensures hop { IsExchange L.history L.asked L.token_of self.new.now }
+        ensures { GoesOnTo self.old hop self.new result }
     {
         self.release();
-        if !self.redirects(&hop) {
-            let code = hop.code();
-            return self.end(hop, code);
-        }
-        if self.is_at_limit() {
-            return self.end(hop, Code::TooManyRedirects);
-        }
-        match next_request(self.alloc, &hop) {
+        match self.decide(&hop) {
             Ok(next) => self.follow(hop, next),
-            Err(refused) => self.end(hop, refused.code()),
+            Err(code) => self.end(hop, code),
         }
     }
 
@@ -444,7 +451,9 @@ impl<L: Link> Chain<L> {
             Turned::Asks => Stepped::Asks,
             Turned::Ended(hop) => {
                 self.code = Some(hop.code());
-                self.go_on(hop)
+                let stepped = self.go_on(hop);
+                self.know();
+                stepped
             }
         }
     }

@@ -1,39 +1,39 @@
-use Rattle.std.proofs.Common.{sym, ◌∙◌, subst, length}
-use Rattle.mx_types.specs.declared.code.Code.{Code}
-use Rattle.mx_chain.specs.Hops.{EndsWith, stays, too_many}
-use Rattle.mx_types.specs.declared.code.Code.TheVariants as code
-use Rattle.mx_chain.proofs.HopLemmas.{refused_or}
-use Rattle.mx_chain.proofs.StepLemmas.{finish_from, goes_released}
+use Rattle.std.proofs.Common.{◌∙◌}
+use Rattle.mx_chain.proofs.StepLemmas.{goes_on_released, received_released, released_unkept}
 use Rattle.mx_chain.proofs.chains.Chain.go_on.Goals as goal
 
+pub follow-requires-clause-ended : goal.follow-requires-clause-ended
+follow-requires-clause-ended g c = rw c.release.ensures c.requires.ended
+
+pub follow-requires-clause-unkept : goal.follow-requires-clause-unkept
+follow-requires-clause-unkept g c = rw c.release.ensures (released_unkept c.args.self.now.now)
+
+pub follow-requires-clause-leads : goal.follow-requires-clause-leads
+follow-requires-clause-leads g c = rw c.release.ensures c.requires.leads
+
+pub follow-requires-clause-follows : goal.follow-requires-clause-follows
+follow-requires-clause-follows g c = c.in-Ok.ensures
+
+pub follow-requires-clause-bytes : goal.follow-requires-clause-bytes
+follow-requires-clause-bytes g c = rw c.release.ensures c.requires.bytes
+
+pub follow-requires-clause-wire : goal.follow-requires-clause-wire
+follow-requires-clause-wire g c = rw c.release.ensures (received_released _ ∙ c.requires.wire)
+
+pub returns-in-Ok : goal.returns-in-Ok
+returns-in-Ok g c = goes_on_released _ _ _ _ _ c.release.ensures c.follow.ensures
+
+pub end-requires-clause-ended : goal.end-requires-clause-ended
+end-requires-clause-ended g c = rw c.release.ensures c.requires.ended
+
+pub end-requires-clause-unkept : goal.end-requires-clause-unkept
+end-requires-clause-unkept g c = rw c.release.ensures (released_unkept c.args.self.now.now)
+
+pub end-requires-clause-leads : goal.end-requires-clause-leads
+end-requires-clause-leads g c = rw c.release.ensures c.requires.leads
+
 pub end-requires-clause-cause : goal.end-requires-clause-cause
-end-requires-clause-cause g c = rw c.code-code.ensures.code (stays (sym c.redirects.ensures ∙ c.if-not-redirects.true))
+end-requires-clause-cause g c = c.in-Err.ensures
 
-pub returns-then-not-redirects-clause-goes : goal.returns-then-not-redirects-clause-goes
-returns-then-not-redirects-clause-goes g c =
-    rw c.end.ensures.outcome (finish_from _ _ _ _ _ c.release.ensures
-    (subst (λ (x : Code). EndsWith c.release.new.self.request.settings.max_redirects (length c.release.new.self.hops) c.args.hop x) (sym c.code-code.ensures.code) (stays (sym c.redirects.ensures ∙ c.if-not-redirects.true)))
-    c.end.ensures.new c.end.ensures.home)
-
-pub end-requires-then-is_at_limit-clause-cause : goal.end-requires-then-is_at_limit-clause-cause
-end-requires-then-is_at_limit-clause-cause g c =
-    rw (← c.self.view_is) (too_many (rw (← c.self.view_is) at (sym c.redirects.ensures ∙ c.if-not-redirects.false)) (rw (← c.self.view_is) at (c.is_at_limit.ensures.full c.if-is_at_limit.true)))
-
-pub returns-in-Ok-clause-goes : goal.returns-in-Ok-clause-goes
-returns-in-Ok-clause-goes g c = goes_released _ _ _ _ _ c.release.ensures c.follow.ensures.goes
-
-pub returns-then-is_at_limit-clause-goes : goal.returns-then-is_at_limit-clause-goes
-returns-then-is_at_limit-clause-goes g c =
-    let cause : EndsWith c.release.new.self.request.settings.max_redirects (length c.release.new.self.hops) c.args.hop code.TooManyRedirects =
-    rw (← c.self.view_is) (too_many (rw (← c.self.view_is) at (sym c.redirects.ensures ∙ c.if-not-redirects.false)) (rw (← c.self.view_is) at (c.is_at_limit.ensures.full c.if-is_at_limit.true))) in
-    rw c.end-then-is_at_limit.ensures.outcome (finish_from _ _ _ _ _ c.release.ensures cause c.end-then-is_at_limit.ensures.new c.end-then-is_at_limit.ensures.home)
-
-pub end-requires-in-Err-clause-cause : goal.end-requires-in-Err-clause-cause
-end-requires-in-Err-clause-cause g c =
-    rw (← c.self.view_is) (refused_or _ _ _ _ _ (rw (← c.self.view_is) at (sym c.redirects.ensures ∙ c.if-not-redirects.false)) (rw (← c.self.view_is) at (c.is_at_limit.ensures.room c.if-is_at_limit.false)) c.in-Err.ensures c.code.ensures)
-
-pub returns-in-Err-clause-goes : goal.returns-in-Err-clause-goes
-returns-in-Err-clause-goes g c =
-    let cause : EndsWith c.release.new.self.request.settings.max_redirects (length c.release.new.self.hops) c.args.hop c.code.result =
-    rw (← c.self.view_is) (refused_or _ _ _ _ _ (rw (← c.self.view_is) at (sym c.redirects.ensures ∙ c.if-not-redirects.false)) (rw (← c.self.view_is) at (c.is_at_limit.ensures.room c.if-is_at_limit.false)) c.in-Err.ensures c.code.ensures) in
-    rw c.end-in-Err.ensures.outcome (finish_from _ _ _ _ _ c.release.ensures cause c.end-in-Err.ensures.new c.end-in-Err.ensures.home)
+pub returns-in-Err : goal.returns-in-Err
+returns-in-Err g c = goes_on_released _ _ _ _ _ c.release.ensures c.end.ensures

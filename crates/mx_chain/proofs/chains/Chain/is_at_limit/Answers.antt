@@ -1,4 +1,4 @@
-use Rattle.std.proofs.Common.{rules, arith}
+use Rattle.std.proofs.Common.{rules}
 use Rattle.mx_chain.proofs.chains.Chain.is_at_limit.Goals as goal
 
 pub returns-clause-full : goal.returns-clause-full
