@@ -29,6 +29,16 @@ pub struct Parts<Q: Work + Drop, O: Ending + Drop> {
     pub ties: TieLog,
 }
 
+impl<Q: Work + Drop, O: Ending + Drop> Parts<Q, O> {
+    // The board. What else there is ends.
+    fn into_log(self) -> BoardWriter {
+        let Parts { core, log, ties } = self;
+        drop(core);
+        drop(ties);
+        log
+    }
+}
+
 /// The control state, and the board. The published version is always that of the control state's journal. Beside the journal it has the
 /// request of each addition, for contracts alone. All of it is boxed, so that an engine is cheap to move.
 #[derive(Drop)]
@@ -55,21 +65,26 @@ impl<Q: Work + Drop, O: Ending + Drop> Engine<Q, O> {
         requires log { (log.events ≡ []) × (log.published ≡ []) }
         ensures { IfOk result (λ s. (s.core.journal ≡ []) × (s.core.opening ≡ record { history = history; first = 0; from = 0 }) × (s.ties.entries ≡ []) × (s.book ≡ log.book)) }
     {
-        let core = match Control::new(alloc, history) {
-            Ok(core) => core,
-            Err(OutOfMemory) => return Err(log),
-        };
-        let parts = Parts {
-            core,
-            log,
-            ties: TieLog::new(),
-        };
-        match Box::new(alloc, parts) {
+        match Control::new(alloc, history) {
+            Ok(core) => Engine::over(alloc, core, log),
+            Err(OutOfMemory) => Err(log),
+        }
+    }
+
+    // Of a control state that has no events.
+    fn over(
+        alloc: Global,
+        core: Control<Q, O>,
+        log: BoardWriter,
+    ) -> Result<Engine<Q, O>, BoardWriter>
+        requires core { (core.journal ≡ []) × (core.origins ≡ []) × (core.endings ≡ []) }
+        requires log { (log.events ≡ []) × (log.published ≡ []) }
+        ensures { IfOk result (λ s. (s.core ≡ core) × (s.ties.entries ≡ []) × (s.book ≡ log.book)) }
+    {
+        let ties = TieLog::new();
+        match Box::new(alloc, Parts { core, log, ties }) {
             Ok(parts) => Ok(Engine { parts }),
-            Err(refused) => {
-                let Parts { log, .. } = refused.value;
-                Err(log)
-            }
+            Err(refused) => Err(refused.value.into_log()),
         }
     }
 
@@ -230,11 +245,7 @@ impl<Q: Work + Drop, O: Ending + Drop> Engine<Q, O> {
     /// with its queue and its endings.
     pub fn close<R: Wait>(self, rt: &R) {
         let Engine { parts } = self;
-        let Parts {
-            core: _core,
-            log,
-            ties: _ties,
-        } = Box::into_inner(parts);
-        let _table = log.close(rt);
+        let log = Box::into_inner(parts).into_log();
+        drop(log.close(rt));
     }
 }
