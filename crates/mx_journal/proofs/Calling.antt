@@ -1,9 +1,10 @@
 -- What a call leaves by one of its exits: without an event, with one that was refused memory, and with one.
 use Rattle.std.proofs.Common.{◌≡◌, ◌∙◌, ℕ, List, [], ◌∷◌, ◌++◌, ap, append-nil, false, length, map, refl, subst, sym, true}
-use Rattle.std.specs.Prelude.{Bool, drop, if◌then◌else◌, not, slice_get, None, Some}
+use Rattle.std.specs.Prelude.{Bool, ◌<◌, ◌≤◌, Option, drop, if◌then◌else◌, nat_le, not, option_map, slice_get, None, Some}
 use Rattle.std.specs.Option.{IsSome, is_some, option_to_list}
 use Rattle.std.proofs.Math.Seq.{drop-append_seam, drop-length}
-use Rattle.std.proofs.lemmas.Bool.{false≢true}
+use Rattle.std.proofs.lemmas.Bool.{false≢true, le-ltb, lt-ltb}
+use Rattle.mx_types.specs.Limits.{greatest_ticket, most_handles}
 use Rattle.mx_types.specs.declared.call.Call.{Call}
 use Rattle.mx_types.specs.declared.call.Call.TheVariants as call
 use Rattle.mx_types.specs.declared.code.Code.{Code}
@@ -15,8 +16,9 @@ use Rattle.mx_types.specs.declared.names.HandleId.{HandleId}
 use Rattle.mx_types.specs.declared.names.Ticket.{Ticket}
 use Rattle.mx_types.specs.declared.reply.Reply.{Reply}
 use Rattle.mx_types.specs.declared.reply.Reply.TheVariants as reply
-use Rattle.mx_history.specs.Answers.{Answer, Answers, answer, only, pausing_answer, read_answer, ticket_of}
-use Rattle.mx_history.specs.History.{Opening, has_room, has_ticket, paused, running, waiting}
+use Rattle.mx_history.specs.Answers.{Answer, Answers, answer, are_spent, next_ticket, only, pausing_answer, read_answer, ticket_of}
+use Rattle.mx_history.specs.History.{Opening, added, has_room, has_ticket, paused, running, waiting}
+use Rattle.mx_history.specs.declared.row.Row.{Row}
 use Rattle.mx_history.specs.Receipts.{comes_with_event, lacks_memory}
 use Rattle.mx_journal.specs.Called.{Called, out_after}
 use Rattle.mx_journal.specs.Core.{Core, message, queued, with_out}
@@ -92,6 +94,42 @@ end_recorded opening j t code size runs = ap (λ b. if b then (reply.Recorded, S
 
 pub end_stale : (opening : Opening) (j : List Event) (t : Ticket) (code : Code) (size : ℕ) → has_ticket t (running j) ≡ false → answer opening j (call.Finish t code size) ≡ only reply.Stale
 end_stale opening j t code size gone = ap (λ b. if b then (reply.Recorded, Some (what.Done t code size)) else only reply.Stale) gone
+
+-- what an addition is answered, by the ticket that its handle is added under and three tests
+abbrev by_tests : Option Ticket → Bool → Bool → Bool → Ticket → HandleId → Answer
+by_tests o full spent room t h =
+    elim o [
+      | Some _ ↦ only reply.AddedAlready
+      | None ↦
+          (if full then only reply.TableFull
+          else if spent then only reply.TicketsSpent
+          else if room then (reply.Added t, Some (what.Added h t))
+          else only reply.HistoryFull)
+    ]
+
+pub no_ticket : (x : Option Ticket) (o : Option Row) → is_some o ≡ false → option_map (λ r. r.ticket) o ≡ x → x ≡ None
+no_ticket x None s e = sym e
+no_ticket x (Some r) s e = cc
+
+module _ (opening : Opening) (j : List Event) (h : HandleId) where
+  pub added_again : (o : Option Row) → is_some o ≡ true → option_map (λ r. r.ticket) o ≡ ticket_of h j → answer opening j (call.Add h) ≡ only reply.AddedAlready
+  added_again None s e = cc
+  added_again (Some r) s e = λ i. by_tests (sym e i) (nat_le most_handles (length (added j))) (are_spent opening j) (has_room opening.history j 4) (next_ticket opening j) h
+
+  pub added_full : ticket_of h j ≡ None → nat_le most_handles (length (added j)) ≡ true → answer opening j (call.Add h) ≡ only reply.TableFull
+  added_full new full = λ i. by_tests (new i) (full i) (are_spent opening j) (has_room opening.history j 4) (next_ticket opening j) h
+
+  pub added_spent : ticket_of h j ≡ None → nat_le most_handles (length (added j)) ≡ false → greatest_ticket < (next_ticket opening j).0
+      → answer opening j (call.Add h) ≡ only reply.TicketsSpent
+  added_spent new few above = λ i. by_tests (new i) (few i) (lt-ltb greatest_ticket (next_ticket opening j).0 above i) (has_room opening.history j 4) (next_ticket opening j) h
+
+  pub added_without_room : ticket_of h j ≡ None → nat_le most_handles (length (added j)) ≡ false → (next_ticket opening j).0 ≤ greatest_ticket
+      → has_room opening.history j 4 ≡ false → answer opening j (call.Add h) ≡ only reply.HistoryFull
+  added_without_room new few below full = λ i. by_tests (new i) (few i) (le-ltb greatest_ticket (next_ticket opening j).0 below i) (full i) (next_ticket opening j) h
+
+  pub added_next : ticket_of h j ≡ None → nat_le most_handles (length (added j)) ≡ false → (next_ticket opening j).0 ≤ greatest_ticket
+      → has_room opening.history j 4 ≡ true → answer opening j (call.Add h) ≡ (reply.Added (next_ticket opening j), Some (what.Added h (next_ticket opening j)))
+  added_next new few below room = λ i. by_tests (new i) (few i) (le-ltb greatest_ticket (next_ticket opening j).0 below i) (room i) (next_ticket opening j) h
 
 -- what a wakeup is answered where there is room, and where there is none
 pub wakeup_taken : (opening : Opening) (j : List Event) → has_room opening.history j 1 ≡ true → answer opening j call.Wakeup ≡ (reply.Ok, Some what.Wake)

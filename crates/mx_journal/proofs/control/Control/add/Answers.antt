@@ -1,5 +1,4 @@
-use Rattle.std.proofs.Common.{◌≡◌, ◌+◌, ◌<◌, ◌≤◌, ◌∙◌, [], ◌∷◌, ap, sym, rules, true, false, arith, length, refl}
-use Rattle.std.proofs.lemmas.Grind.{common_steps}
+use Rattle.std.proofs.Common.{◌≡◌, ◌+◌, ◌<◌, ◌≤◌, ◌∙◌, [], ◌∷◌, ap, sym, subst, rules, true, false, arith, length, refl}
 use Rattle.std.specs.Prelude.{max, nat_le, Some}
 use Rattle.std.proofs.lemmas.Bool.Decides.{nat_tests}
 use Rattle.mx_types.specs.Limits.{greatest_ticket, most_handles}
@@ -11,9 +10,10 @@ use Rattle.mx_types.specs.declared.names.Ticket.{Ticket}
 use Rattle.mx_journal.proofs.OriginLists.{begun-then, origins-added, own_later}
 use Rattle.mx_types.specs.declared.call.Call.TheVariants as call
 use Rattle.mx_types.specs.declared.reply.Reply.TheVariants as reply
-use Rattle.mx_history.specs.Answers.{answer}
+use Rattle.mx_history.specs.Answers.{Answer, answer, next_ticket, only}
+use Rattle.std.specs.Option.{IsSome}
 use Rattle.mx_journal.specs.Core.{Core}
-use Rattle.mx_journal.proofs.Calling.{answers_with, called_none, called_refused, called_with}
+use Rattle.mx_journal.proofs.Calling.{added_again, added_full, added_next, added_spent, added_without_room, answers_alone, answers_with, called_none, called_refused, called_with, no_ticket}
 use Rattle.mx_journal.proofs.control.Control.add.Goals as goal
 
 pub enter-requires-clause-may : goal.enter-requires-clause-may
@@ -40,7 +40,7 @@ push_reserved-requires g c =
 
 pub invariant_of-self : goal.invariant_of-self
 invariant_of-self g c =
-    let room : c.has_room.result ≡ true = search rules in
+    let room : c.has_room.result ≡ true = c.if-not-has_room.false in
     let j = c.self.inside.journal.items in
     let t : Ticket = record { 0 = c.next.result } in
     let next : c.next.result ≡ max c.self.inside.first (beyond j) = rw (← c.self.view_is) at c.next.ensures in
@@ -65,31 +65,79 @@ returns-clause-own g c own =
 
 pub returns-then-is_some-clause-called : goal.returns-then-is_some-clause-called
 returns-then-is_some-clause-called g c =
-    called_none g.L.Log.events g.L.Log.name g.L.Log.may_refuse c.args.who (call.Add c.args.handle) c.args.self.now c.args.log.now reply.AddedAlready (grind (arith, common_steps)) refl refl
+    let x = c.args.self.now in
+    let d = call.Add c.args.handle in
+    let row = c.row_of_handle.ensures.ticket c.self.inside.journal.items c.self.invariant.tabled.table in
+    let is : answer x.opening x.journal d ≡ only reply.AddedAlready = rw (← c.self.view_is) (added_again (record { history = c.self.inside.history; first = c.self.inside.first; from = c.self.inside.from }) c.self.inside.journal.items c.args.handle c.row_of_handle.result (sym c.is_some.ensures ∙ c.if-is_some.true) row) in
+    called_none g.L.Log.events g.L.Log.name g.L.Log.may_refuse c.args.who d x c.args.log.now reply.AddedAlready
+    (answers_alone x.opening c.args.who d x.journal reply.AddedAlready is) refl refl
 
 pub returns-then-is_full-clause-called : goal.returns-then-is_full-clause-called
 returns-then-is_full-clause-called g c =
-    called_none g.L.Log.events g.L.Log.name g.L.Log.may_refuse c.args.who (call.Add c.args.handle) c.args.self.now c.args.log.now reply.TableFull (grind (arith, common_steps)) refl refl
+    let x = c.args.self.now in
+    let d = call.Add c.args.handle in
+    let row = c.row_of_handle.ensures.ticket c.self.inside.journal.items c.self.invariant.tabled.table in
+    let new = no_ticket _ c.row_of_handle.result (sym c.is_some.ensures ∙ c.if-is_some.false) row in
+    let full = sym (c.is_full.ensures c.self.inside.journal.items c.self.invariant.tabled.table) ∙ c.if-is_full.true in
+    let is : answer x.opening x.journal d ≡ only reply.TableFull = rw (← c.self.view_is) (added_full (record { history = c.self.inside.history; first = c.self.inside.first; from = c.self.inside.from }) c.self.inside.journal.items c.args.handle new full) in
+    called_none g.L.Log.events g.L.Log.name g.L.Log.may_refuse c.args.who d x c.args.log.now reply.TableFull
+    (answers_alone x.opening c.args.who d x.journal reply.TableFull is) refl refl
 
 pub returns-then-ticket-gt-GREATEST_TICKET-clause-called : goal.returns-then-ticket-gt-GREATEST_TICKET-clause-called
 returns-then-ticket-gt-GREATEST_TICKET-clause-called g c =
-    called_none g.L.Log.events g.L.Log.name g.L.Log.may_refuse c.args.who (call.Add c.args.handle) c.args.self.now c.args.log.now reply.TicketsSpent (grind (arith, common_steps)) refl refl
+    let x = c.args.self.now in
+    let d = call.Add c.args.handle in
+    let row = c.row_of_handle.ensures.ticket c.self.inside.journal.items c.self.invariant.tabled.table in
+    let new = no_ticket _ c.row_of_handle.result (sym c.is_some.ensures ∙ c.if-is_some.false) row in
+    let few = sym (c.is_full.ensures c.self.inside.journal.items c.self.invariant.tabled.table) ∙ c.if-is_full.false in
+    let next : c.next.result ≡ max c.self.inside.first (beyond c.self.inside.journal.items) = rw (← c.self.view_is) at c.next.ensures in
+    let is : answer x.opening x.journal d ≡ only reply.TicketsSpent = rw (← c.self.view_is) (added_spent (record { history = c.self.inside.history; first = c.self.inside.first; from = c.self.inside.from }) c.self.inside.journal.items c.args.handle new few (omega (arith, next))) in
+    called_none g.L.Log.events g.L.Log.name g.L.Log.may_refuse c.args.who d x c.args.log.now reply.TicketsSpent
+    (answers_alone x.opening c.args.who d x.journal reply.TicketsSpent is) refl refl
 
 pub returns-then-not-has_room-clause-called : goal.returns-then-not-has_room-clause-called
 returns-then-not-has_room-clause-called g c =
-    called_none g.L.Log.events g.L.Log.name g.L.Log.may_refuse c.args.who (call.Add c.args.handle) c.args.self.now c.args.log.now reply.HistoryFull (grind (arith, common_steps)) refl refl
+    let x = c.args.self.now in
+    let d = call.Add c.args.handle in
+    let row = c.row_of_handle.ensures.ticket c.self.inside.journal.items c.self.invariant.tabled.table in
+    let new = no_ticket _ c.row_of_handle.result (sym c.is_some.ensures ∙ c.if-is_some.false) row in
+    let few = sym (c.is_full.ensures c.self.inside.journal.items c.self.invariant.tabled.table) ∙ c.if-is_full.false in
+    let next : c.next.result ≡ max c.self.inside.first (beyond c.self.inside.journal.items) = rw (← c.self.view_is) at c.next.ensures in
+    let full = rw (← c.self.view_is) at (sym c.has_room.ensures ∙ c.if-not-has_room.true) in
+    let is : answer x.opening x.journal d ≡ only reply.HistoryFull = rw (← c.self.view_is) (added_without_room (record { history = c.self.inside.history; first = c.self.inside.first; from = c.self.inside.from }) c.self.inside.journal.items c.args.handle new few (omega (arith, next)) full) in
+    called_none g.L.Log.events g.L.Log.name g.L.Log.may_refuse c.args.who d x c.args.log.now reply.HistoryFull
+    (answers_alone x.opening c.args.who d x.journal reply.HistoryFull is) refl refl
 
 pub returns-then-is_err-clause-called : goal.returns-then-is_err-clause-called
 returns-then-is_err-clause-called g c =
-    called_refused g.L.Log.events g.L.Log.name g.L.Log.may_refuse c.args.who (call.Add c.args.handle) c.args.self.now c.args.log.now c.append.new.self (grind (arith, common_steps)) (search rules) c.append.ensures.same (search rules)
+    let x = c.args.self.now in
+    let d = call.Add c.args.handle in
+    let row = c.row_of_handle.ensures.ticket c.self.inside.journal.items c.self.invariant.tabled.table in
+    let new = no_ticket _ c.row_of_handle.result (sym c.is_some.ensures ∙ c.if-is_some.false) row in
+    let few = sym (c.is_full.ensures c.self.inside.journal.items c.self.invariant.tabled.table) ∙ c.if-is_full.false in
+    let next : c.next.result ≡ max c.self.inside.first (beyond c.self.inside.journal.items) = rw (← c.self.view_is) at c.next.ensures in
+    let room = rw (← c.self.view_is) at (sym c.has_room.ensures ∙ c.if-not-has_room.false) in
+    let taken : answer x.opening x.journal d ≡ (reply.Added (next_ticket x.opening x.journal), Some (what.Added c.args.handle (next_ticket x.opening x.journal))) =
+    rw (← c.self.view_is) (added_next (record { history = c.self.inside.history; first = c.self.inside.first; from = c.self.inside.from }) c.self.inside.journal.items c.args.handle new few (omega (arith, next)) room) in
+    called_refused g.L.Log.events g.L.Log.name g.L.Log.may_refuse c.args.who d x c.args.log.now c.append.new.self (subst (λ (a : Answer). IsSome a.1) (sym taken) refl) (search rules) c.append.ensures.same (search rules)
 
 pub returns-clause-called : goal.returns-clause-called
 returns-clause-called g c =
-    let j = c.self.inside.journal.items in
+    let x = c.args.self.now in
+    let d = call.Add c.args.handle in
     let t : Ticket = record { 0 = c.next.result } in
-    let is : answer c.args.self.now.opening c.args.self.now.journal (call.Add c.args.handle) ≡ (reply.Added t, Some (what.Added c.args.handle t)) = grind (arith, common_steps) in
-    called_with g.L.Log.events g.L.Log.name g.L.Log.may_refuse c.args.who (call.Add c.args.handle) c.args.self.now _ c.args.log.now c.append.new.self (what.Added c.args.handle t) (reply.Added t)
-    (answers_with c.args.self.now.opening c.args.who (call.Add c.args.handle) c.args.self.now.journal c.enter.new.journal.items (what.Added c.args.handle t) (reply.Added t) is (rw (← c.self.view_is) c.enter.ensures.items))
+    let row = c.row_of_handle.ensures.ticket c.self.inside.journal.items c.self.invariant.tabled.table in
+    let new = no_ticket _ c.row_of_handle.result (sym c.is_some.ensures ∙ c.if-is_some.false) row in
+    let few = sym (c.is_full.ensures c.self.inside.journal.items c.self.invariant.tabled.table) ∙ c.if-is_full.false in
+    let next : c.next.result ≡ max c.self.inside.first (beyond c.self.inside.journal.items) = rw (← c.self.view_is) at c.next.ensures in
+    let room = rw (← c.self.view_is) at (sym c.has_room.ensures ∙ c.if-not-has_room.false) in
+    let taken : answer x.opening x.journal d ≡ (reply.Added (next_ticket x.opening x.journal), Some (what.Added c.args.handle (next_ticket x.opening x.journal))) =
+    rw (← c.self.view_is) (added_next (record { history = c.self.inside.history; first = c.self.inside.first; from = c.self.inside.from }) c.self.inside.journal.items c.args.handle new few (omega (arith, next)) room) in
+    let given : next_ticket x.opening x.journal ≡ t = (λ i. record { 0 = sym c.next.ensures i }) in
+    let is : answer x.opening x.journal d ≡ (reply.Added t, Some (what.Added c.args.handle t)) =
+    taken ∙ ap (λ (u : Ticket). (reply.Added u, Some (what.Added c.args.handle u))) given in
+    called_with g.L.Log.events g.L.Log.name g.L.Log.may_refuse c.args.who d x _ c.args.log.now c.append.new.self (what.Added c.args.handle t) (reply.Added t)
+    (answers_with x.opening c.args.who d x.journal c.enter.new.journal.items (what.Added c.args.handle t) (reply.Added t) is (rw (← c.self.view_is) c.enter.ensures.items))
     refl refl (rw (← c.self.view_is) c.enter.ensures.items) (search rules) c.append.ensures.same (ap (λ (x : Core _ _). x.out) c.self.view_is) (ap (λ (x : Core _ _). x.opening) c.self.view_is)
 
 pub returns-clause-queue : goal.returns-clause-queue

@@ -13,7 +13,7 @@ use Rattle.mx_journal.proofs.control.Control.append_pausing.Goals as goal
 
 pub invariant_of-self : goal.invariant_of-self
 invariant_of-self g c =
-    let room : c.has_room.result ≡ true = search rules in
+    let room : c.has_room.result ≡ true = c.if-not-has_room.false in
     let none = pausing_adds_none c.args.event.what c.requires.kind in
     let m : may_follow c.self.inside.journal.items c.args.event.what ≡ true = rw (← c.self.view_is) at c.requires.may in
     record {
@@ -33,21 +33,21 @@ enter-requires-clause-room g c = search rules
 pub returns-then-not-has_room-clause-called : goal.returns-then-not-has_room-clause-called
 returns-then-not-has_room-clause-called g c call is =
     let core = c.args.self.now in
-    let full : has_room core.opening.history core.journal 1 ≡ false = sym c.has_room.ensures ∙ search rules in
+    let full : has_room core.opening.history core.journal 1 ≡ false = sym c.has_room.ensures ∙ c.if-not-has_room.true in
     called_none g.L.Log.events g.L.Log.name g.L.Log.may_refuse c.args.event.who call core c.args.log.now reply.HistoryFull
     (answers_alone core.opening c.args.event.who call core.journal reply.HistoryFull (is ∙ ap (λ b. answer_with_room b c.args.event.what) full)) refl refl
 
 pub returns-then-is_err-clause-called : goal.returns-then-is_err-clause-called
 returns-then-is_err-clause-called g c call is =
     let core = c.args.self.now in
-    let room : has_room core.opening.history core.journal 1 ≡ true = sym c.has_room.ensures ∙ search rules in
+    let room : has_room core.opening.history core.journal 1 ≡ true = sym c.has_room.ensures ∙ c.if-not-has_room.false in
     called_refused g.L.Log.events g.L.Log.name g.L.Log.may_refuse c.args.event.who call core c.args.log.now c.append.new.self
     (subst (λ (a : Answer). IsSome a.1) (sym (is ∙ ap (λ b. answer_with_room b c.args.event.what) room)) refl) (search rules) c.append.ensures.same (search rules)
 
 pub returns-clause-called : goal.returns-clause-called
 returns-clause-called g c call is =
     let core = c.args.self.now in
-    let room : has_room core.opening.history core.journal 1 ≡ true = sym c.has_room.ensures ∙ search rules in
+    let room : has_room core.opening.history core.journal 1 ≡ true = sym c.has_room.ensures ∙ c.if-not-has_room.false in
     let told : answer core.opening core.journal call ≡ (reply.Changed, Some c.args.event.what) = is ∙ ap (λ b. answer_with_room b c.args.event.what) room in
     called_with g.L.Log.events g.L.Log.name g.L.Log.may_refuse c.args.event.who call core _ c.args.log.now c.append.new.self c.args.event.what reply.Changed
     (answers_with core.opening c.args.event.who call core.journal c.enter.new.journal.items c.args.event.what reply.Changed told (rw (← c.self.view_is) c.enter.ensures.items))

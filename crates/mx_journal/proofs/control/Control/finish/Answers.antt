@@ -19,7 +19,7 @@ pub push_reserved-requires : goal.push_reserved-requires
 push_reserved-requires g c =
     let s = c.self.invariant.kept.sound in
     let j = c.self.inside.journal.items in
-    let yes : c.runs.result ≡ true = search rules in
+    let yes : c.runs.result ≡ true = c.if-not-runs.false in
     let may : has_ticket c.ticket-ticket.result (running j) ≡ true =
     sym (rw (← c.self.view_is, ← c.ticket-ticket.ensures) at c.runs.ensures) ∙ yes in
     let short : length c.self.inside.endings.items < most_handles =
@@ -29,7 +29,7 @@ push_reserved-requires g c =
 pub invariant_of-self-2 : goal.invariant_of-self-2
 invariant_of-self-2 g c =
     let j = c.self.inside.journal.items in
-    let yes : c.runs.result ≡ true = search rules in
+    let yes : c.runs.result ≡ true = c.if-not-runs.false in
     let may : has_ticket c.ticket-ticket.result (running j) ≡ true =
     sym (rw (← c.self.view_is, ← c.ticket-ticket.ensures) at c.runs.ensures) ∙ yes in
     record {
@@ -83,7 +83,7 @@ pub returns-then-not-runs-clause-called : goal.returns-then-not-runs-clause-call
 returns-then-not-runs-clause-called g c =
     let core = c.args.self.now in
     let t = c.args.claim.ticket in
-    let gone : has_ticket t (running core.journal) ≡ false = sym c.runs.ensures ∙ search rules in
+    let gone : has_ticket t (running core.journal) ≡ false = sym c.runs.ensures ∙ c.if-not-runs.true in
     let is = end_stale core.opening core.journal t (g.O.Ending.code_of c.args.ending) (g.O.Ending.size_of c.args.ending) gone in
     called_spent g.L.Log.events g.L.Log.name g.L.Log.may_refuse c.args.who (call.Finish t (g.O.Ending.code_of c.args.ending) (g.O.Ending.size_of c.args.ending)) core _ c.args.log.now reply.Stale
     (answers_alone core.opening c.args.who (call.Finish t (g.O.Ending.code_of c.args.ending) (g.O.Ending.size_of c.args.ending)) core.journal reply.Stale is) refl (search rules)
@@ -92,7 +92,7 @@ pub returns-then-is_err-clause-called : goal.returns-then-is_err-clause-called
 returns-then-is_err-clause-called g c =
     let core = c.args.self.now in
     let t = c.args.claim.ticket in
-    let may : has_ticket t (running core.journal) ≡ true = sym c.runs.ensures ∙ search rules in
+    let may : has_ticket t (running core.journal) ≡ true = sym c.runs.ensures ∙ c.if-not-runs.false in
     let is = end_recorded core.opening core.journal t (g.O.Ending.code_of c.args.ending) (g.O.Ending.size_of c.args.ending) may in
     called_refused g.L.Log.events g.L.Log.name g.L.Log.may_refuse c.args.who (call.Finish t (g.O.Ending.code_of c.args.ending) (g.O.Ending.size_of c.args.ending)) core c.args.log.now c.append.new.self
     (subst (λ (a : Answer). IsSome a.1) (sym is) refl) (search rules) c.append.ensures.same (search rules)
@@ -101,7 +101,7 @@ pub returns-clause-called : goal.returns-clause-called
 returns-clause-called g c =
     let core = c.args.self.now in
     let t = c.args.claim.ticket in
-    let may : has_ticket t (running core.journal) ≡ true = sym c.runs.ensures ∙ search rules in
+    let may : has_ticket t (running core.journal) ≡ true = sym c.runs.ensures ∙ c.if-not-runs.false in
     let e = what.Done c.ticket-ticket.result c.code.result c.size.result in
     let is : answer core.opening core.journal (call.Finish t (g.O.Ending.code_of c.args.ending) (g.O.Ending.size_of c.args.ending)) ≡ (reply.Recorded, Some e) =
     rw (c.ticket-ticket.ensures, c.code.ensures, c.size.ensures) (end_recorded core.opening core.journal t (g.O.Ending.code_of c.args.ending) (g.O.Ending.size_of c.args.ending) may) in

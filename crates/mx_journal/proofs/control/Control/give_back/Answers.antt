@@ -1,4 +1,4 @@
-use Rattle.std.proofs.Common.{◌≡◌, ◌<◌, ◌∙◌, ap, sym, rules, true, arith, length}
+use Rattle.std.proofs.Common.{◌≡◌, ◌<◌, ◌∙◌, ap, sym, true, arith, length}
 use Rattle.std.specs.Prelude.{slice_get, Some}
 use Rattle.mx_types.specs.Limits.{most_handles}
 use Rattle.mx_types.specs.declared.names.Ticket.{Ticket}
@@ -12,7 +12,7 @@ set-requires g c =
     let j = c.self.inside.journal.items in
     let queue = c.self.inside.queue.items in
     let t = c.ticket-ticket.result in
-    let yes : c.is_claimed-is_claimed.result ≡ true = search rules in
+    let yes : c.is_claimed-is_claimed.result ≡ true = c.if-not-is_claimed.false in
     let h : has_ticket t (claimed j queue) ≡ true = sym (rw (← c.self.view_is, ← c.ticket-ticket.ensures) at c.is_claimed-is_claimed.ensures) ∙ yes in
     within g.Q.Work.origin _ j t c.self.inside.origins queue c.self.invariant.origins c.self.invariant.kept.sound.kept.legal h
 
@@ -21,7 +21,7 @@ insert_ticket-requires g c =
     let j = c.self.inside.journal.items in
     let queue = c.self.inside.queue.items in
     let t = c.ticket-ticket.result in
-    let yes : c.is_claimed-is_claimed.result ≡ true = search rules in
+    let yes : c.is_claimed-is_claimed.result ≡ true = c.if-not-is_claimed.false in
     let h : has_ticket t (claimed j queue) ≡ true = sym (rw (← c.self.view_is, ← c.ticket-ticket.ensures) at c.is_claimed-is_claimed.ensures) ∙ yes in
     let short : length queue < most_handles =
     queue_short g.O.Ending.code_of g.O.Ending.size_of c.self.inside.history j t c.args.work queue c.self.inside.endings.items _ _ c.self.invariant.kept h in
@@ -32,7 +32,7 @@ invariant_of-self-2 g c =
     let j = c.self.inside.journal.items in
     let queue = c.self.inside.queue.items in
     let t = c.ticket-ticket.result in
-    let yes : c.is_claimed-is_claimed.result ≡ true = search rules in
+    let yes : c.is_claimed-is_claimed.result ≡ true = c.if-not-is_claimed.false in
     let h : has_ticket t (claimed j queue) ≡ true = sym (rw (← c.self.view_is, ← c.ticket-ticket.ensures) at c.is_claimed-is_claimed.ensures) ∙ yes in
     let placed = insert_in_place t c.args.work queue c.self.invariant.kept.sound.ordered in
     record {
@@ -64,7 +64,7 @@ returns-clause-own g c own =
     let j = c.self.inside.journal.items in
     let queue = c.self.inside.queue.items in
     let t = c.ticket-ticket.result in
-    let yes : c.is_claimed-is_claimed.result ≡ true = search rules in
+    let yes : c.is_claimed-is_claimed.result ≡ true = c.if-not-is_claimed.false in
     let h : has_ticket t (claimed j queue) ≡ true = sym (rw (← c.self.view_is, ← c.ticket-ticket.ensures) at c.is_claimed-is_claimed.ensures) ∙ yes in
     let s = c.self.invariant.kept.sound in
     rw c.set.ensures

@@ -13,7 +13,7 @@ use Rattle.mx_journal.proofs.control.Control.wakeup.Goals as goal
 
 pub invariant_of-self : goal.invariant_of-self
 invariant_of-self g c =
-    let room : c.has_room.result ≡ true = search rules in
+    let room : c.has_room.result ≡ true = c.if-not-has_room.false in
     record {
       tabled = c.enter.ensures.tabled;
       kept = rw c.enter.ensures.items
@@ -28,21 +28,21 @@ invariant_of-self g c =
 pub returns-then-not-has_room-clause-called : goal.returns-then-not-has_room-clause-called
 returns-then-not-has_room-clause-called g c =
     let core = c.args.self.now in
-    let full : has_room core.opening.history core.journal 1 ≡ false = sym c.has_room.ensures ∙ search rules in
+    let full : has_room core.opening.history core.journal 1 ≡ false = sym c.has_room.ensures ∙ c.if-not-has_room.true in
     called_none g.L.Log.events g.L.Log.name g.L.Log.may_refuse c.args.who call.Wakeup core c.args.log.now reply.Failure
     (answers_alone core.opening c.args.who call.Wakeup core.journal reply.Failure (wakeup_refused core.opening core.journal full)) refl refl
 
 pub returns-then-is_err-clause-called : goal.returns-then-is_err-clause-called
 returns-then-is_err-clause-called g c =
     let core = c.args.self.now in
-    let room : has_room core.opening.history core.journal 1 ≡ true = sym c.has_room.ensures ∙ search rules in
+    let room : has_room core.opening.history core.journal 1 ≡ true = sym c.has_room.ensures ∙ c.if-not-has_room.false in
     called_refused g.L.Log.events g.L.Log.name g.L.Log.may_refuse c.args.who call.Wakeup core c.args.log.now c.append.new.self
     (subst (λ (a : Answer). IsSome a.1) (sym (wakeup_taken core.opening core.journal room)) refl) (search rules) c.append.ensures.same (search rules)
 
 pub returns-clause-called : goal.returns-clause-called
 returns-clause-called g c =
     let core = c.args.self.now in
-    let room : has_room core.opening.history core.journal 1 ≡ true = sym c.has_room.ensures ∙ search rules in
+    let room : has_room core.opening.history core.journal 1 ≡ true = sym c.has_room.ensures ∙ c.if-not-has_room.false in
     called_with g.L.Log.events g.L.Log.name g.L.Log.may_refuse c.args.who call.Wakeup core _ c.args.log.now c.append.new.self what.Wake reply.Ok
     (answers_with core.opening c.args.who call.Wakeup core.journal c.enter.new.journal.items what.Wake reply.Ok (wakeup_taken core.opening core.journal room) (rw (← c.self.view_is) c.enter.ensures.items))
     refl refl (rw (← c.self.view_is) c.enter.ensures.items) (search rules) c.append.ensures.same (ap (λ (x : Core _ _). x.out) c.self.view_is) (ap (λ (x : Core _ _). x.opening) c.self.view_is)
