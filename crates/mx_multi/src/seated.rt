@@ -1,5 +1,5 @@
 //! A seat with its multi handle: what programs call.
-ghost use Rattle.std.specs.Prelude.{◌⊎◌, ◌≡◌, ◌++◌, ◌∷◌, [], true, length, take, Some, IfNone, IfSome, IfOk, OnErr, OnOk, MatchBool, MatchResult, MatchOption};
+ghost use Rattle.std.specs.Prelude.{◌⊎◌, ◌≡◌, ◌++◌, ◌∷◌, [], false, true, length, take, Some, IfNone, IfSome, IfOk, OnErr, OnOk, MatchBool, MatchResult, MatchOption};
 ghost use Rattle.std.specs.Bool.{OnFalse};
 ghost use Rattle.mx_types.specs.declared.call.Call.{Call};
 ghost use Rattle.mx_types.specs.declared.reply.Reply.{Reply};
@@ -19,7 +19,7 @@ use mx_board::Progress;
 use mx_journal::{
     AddReply, FinishReply, GiveBackReply, InfoReply, PauseReply, RemoveReply, WakeupReply,
 };
-use mx_lock::{Addition, Finishing, Pausing, Reading, Removal, TiedClaim, Waking};
+use mx_lock::{Addition, Deed, Finishing, Pausing, Reading, Removal, TiedClaim, Waking};
 use mx_types::{Call, Ending, HandleId, Look, Reply, State, Ticket, Work};
 use std::marker::Model;
 use std::sync::Wait;
@@ -83,6 +83,60 @@ impl<'m, K, Q: Work + Drop, O: Ending + Drop> Seated<'m, K, Q, O> {
     }
 }
 
+impl<'m, K, Q: Work + Drop, O: Ending + Drop> Seated<'m, K, Q, O> {
+    // A call under the lock, of which nothing has to come back.
+    fn ask<D: Deed<Q, O> + Drop, R: Wait>(
+        &mut self,
+        rt: &R,
+        deed: D,
+    ) -> Result<D::Reply, WrongSeat<()>>
+        requires claim { D.own deed self.old.of.engine.ties }
+        ensures stands { MatchResult result (λ r. Stands self.old self.new (D.call deed) (D.reply r)) (λ _. self.new ≡ self.old) }
+        ensures tells { IfOk result (λ r. Tells (D.tie deed r) self.new.ties) }
+        ensures left { IfOk result (λ r. LeavesState O.code_of O.size_of self.old self.new (D.reply r)) }
+        ensures confirmed { OnOk result (self.new.confirmed ≡ length self.new.seen) }
+        ensures right { OnErr result (FindsOther O.code_of O.size_of self.old) }
+    {
+        match self.multi.act(rt, &mut self.seat, deed) {
+            Ok(reply) => Ok(reply),
+            Err(_) => Err(WrongSeat(())),
+        }
+    }
+
+    // The reply of such a call, which is all that is kept of its answer.
+    fn answered<D: Deed<Q, O> + Drop, R: Wait>(&mut self, rt: &R, deed: D) -> Option<Reply>
+    where
+        D::Reply: Drop,
+        requires claim { D.own deed self.old.of.engine.ties }
+        ensures { MatchOption result (self.new ≡ self.old) (λ r. Stands self.old self.new (D.call deed) r) }
+    {
+        match self.ask(rt, deed) {
+            Ok(reply) => Some(D::as_reply(&reply)),
+            Err(_) => None,
+        }
+    }
+}
+
+// What pauses a handle's transfer.
+fn pausing(handle: HandleId) -> Pausing
+    ensures { result ≡ record { handle = handle; pauses = true } }
+{
+    Pausing {
+        handle,
+        pauses: true,
+    }
+}
+
+// What resumes it.
+fn resuming(handle: HandleId) -> Pausing
+    ensures { result ≡ record { handle = handle; pauses = false } }
+{
+    Pausing {
+        handle,
+        pauses: false,
+    }
+}
+
 impl<'m, Q: Work + Drop, O: Ending + Drop> Seated<'m, Application, Q, O> {
     /// Adds a handle with its work (curl_multi_add_handle(3)). The seat is then told that the ticket's addition is of the work's
     /// request.
@@ -134,10 +188,7 @@ impl<'m, Q: Work + Drop, O: Ending + Drop> Seated<'m, Application, Q, O> {
         ensures confirmed { OnOk result (self.new.confirmed ≡ length self.new.seen) }
         ensures right { OnErr result (FindsOther O.code_of O.size_of self.old) }
     {
-        match self.multi.act(rt, &mut self.seat, Removal(handle)) {
-            Ok(reply) => Ok(reply),
-            Err(_) => Err(WrongSeat(())),
-        }
+        self.ask(rt, Removal(handle))
     }
 
     /// Pauses a handle's transfer.
@@ -152,14 +203,7 @@ impl<'m, Q: Work + Drop, O: Ending + Drop> Seated<'m, Application, Q, O> {
         ensures confirmed { OnOk result (self.new.confirmed ≡ length self.new.seen) }
         ensures right { OnErr result (FindsOther O.code_of O.size_of self.old) }
     {
-        let deed = Pausing {
-            handle,
-            pauses: true,
-        };
-        match self.multi.act(rt, &mut self.seat, deed) {
-            Ok(reply) => Ok(reply),
-            Err(_) => Err(WrongSeat(())),
-        }
+        self.ask(rt, pausing(handle))
     }
 
     /// Resumes a handle's transfer.
@@ -177,14 +221,7 @@ impl<'m, Q: Work + Drop, O: Ending + Drop> Seated<'m, Application, Q, O> {
         ensures confirmed { OnOk result (self.new.confirmed ≡ length self.new.seen) }
         ensures right { OnErr result (FindsOther O.code_of O.size_of self.old) }
     {
-        let deed = Pausing {
-            handle,
-            pauses: false,
-        };
-        match self.multi.act(rt, &mut self.seat, deed) {
-            Ok(reply) => Ok(reply),
-            Err(_) => Err(WrongSeat(())),
-        }
+        self.ask(rt, resuming(handle))
     }
 
     /// Reads the first message (curl_multi_info_read(3)). The seat is then told that the addition under its ticket is of the ending's
@@ -200,10 +237,7 @@ impl<'m, Q: Work + Drop, O: Ending + Drop> Seated<'m, Application, Q, O> {
         ensures confirmed { OnOk result (self.new.confirmed ≡ length self.new.seen) }
         ensures right { OnErr result (FindsOther O.code_of O.size_of self.old) }
     {
-        match self.multi.act(rt, &mut self.seat, Reading) {
-            Ok(reply) => Ok(reply),
-            Err(_) => Err(WrongSeat(())),
-        }
+        self.ask(rt, Reading)
     }
 
     /// Lets polls return (curl_multi_wakeup(3)).
@@ -217,10 +251,7 @@ impl<'m, Q: Work + Drop, O: Ending + Drop> Seated<'m, Application, Q, O> {
         ensures confirmed { OnOk result (self.new.confirmed ≡ length self.new.seen) }
         ensures right { OnErr result (FindsOther O.code_of O.size_of self.old) }
     {
-        match self.multi.act(rt, &mut self.seat, Waking) {
-            Ok(reply) => Ok(reply),
-            Err(_) => Err(WrongSeat(())),
-        }
+        self.ask(rt, Waking)
     }
 
     /// Waits until there is a wake-up or an end at or after what the seat had seen at its last poll (curl_multi_poll(3)). It sleeps until
@@ -371,26 +402,11 @@ impl<'m, Q: Work + Drop, O: Ending + Drop> Seated<'m, Application, Q, O> {
         ensures { MatchOption result (self.new ≡ self.old) (λ r. Stands self.old self.new call r) }
     {
         match call {
-            Call::Remove(handle) => match self.remove(rt, handle) {
-                Ok(reply) => Some(reply.reply()),
-                Err(_) => None,
-            },
-            Call::Pause(handle) => match self.pause(rt, handle) {
-                Ok(reply) => Some(reply.reply()),
-                Err(_) => None,
-            },
-            Call::Unpause(handle) => match self.unpause(rt, handle) {
-                Ok(reply) => Some(reply.reply()),
-                Err(_) => None,
-            },
-            Call::InfoRead => match self.info_read(rt) {
-                Ok(reply) => Some(reply.reply()),
-                Err(_) => None,
-            },
-            Call::Wakeup => match self.wakeup(rt) {
-                Ok(reply) => Some(reply.reply()),
-                Err(_) => None,
-            },
+            Call::Remove(handle) => self.answered(rt, Removal(handle)),
+            Call::Pause(handle) => self.answered(rt, pausing(handle)),
+            Call::Unpause(handle) => self.answered(rt, resuming(handle)),
+            Call::InfoRead => self.answered(rt, Reading),
+            Call::Wakeup => self.answered(rt, Waking),
             Call::Poll => match self.poll(rt) {
                 Ok(()) => Some(Reply::Woken),
                 Err(_) => None,
