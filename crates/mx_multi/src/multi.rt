@@ -9,7 +9,9 @@ ghost use Rattle.mx_lock.specs.Lock.{IsKeyOf};
 ghost use Rattle.mx_lock.specs.Ties.{AreOfAdditions, Tells};
 ghost use Rattle.mx_multi.specs.Seats.{IsAhead, Stands, Sees, FindsNoneReady, FindsOther, FoundState, LeavesState};
 
+use crate::meet::see;
 use crate::open::Limits;
+use crate::retire::finds;
 use crate::seat::{Seat, SeatOf, note_receipt};
 use mx_board::{BoardReader, JournalMark, ProgressTable, are_of_one_journal};
 use mx_lock::{Deed, Engine, Key, Lock, TieMark, lets_polls_return};
@@ -178,10 +180,9 @@ impl<Q: Work + Drop, O: Ending + Drop> Multi<Q, O> {
             Err(_found) => return false,
         };
         let found = taken.engine();
-        if fits(found, &two.reader) {
+        if finds(found, two) {
             let _cut = found.len();
-            taken.refresh(&mut two.reader);
-            taken.engine().tell(&mut two.ties);
+            see(&mut taken, two);
             self.lock
                 .leave(rt, &mut one.key, taken, &mut one.reader, &mut one.ties);
             return true;
@@ -216,13 +217,10 @@ impl<Q: Work + Drop, O: Ending + Drop> Multi<Q, O> {
     // rule multi-sleeping-poll
     // Waits until there was a wake-up or an end since the count `heard`.
     pub(crate) fn wait_after<R: Wait>(&self, rt: &R, heard: u64) {
-        let mut changes = self.changes.lock(rt);
-        for _ in rt.forever() {
-            if *changes != heard {
-                return;
-            }
-            changes = self.changed.wait(rt, changes);
-        }
+        let changes = self.changes.lock(rt);
+        let _changes = self
+            .changed
+            .wait_while(rt, changes, |changes| *changes == heard);
     }
 
     // Waits until there was a wake-up or an end since the count `heard`, or so many milliseconds.

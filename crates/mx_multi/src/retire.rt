@@ -1,5 +1,5 @@
 //! Retiring old history: the multi handle goes on as it was, with room in its history.
-ghost use Rattle.std.specs.Prelude.{◌≡◌, ◌≤◌, ◌+◌, ◌++◌, ◌∷◌, [], false, length, true, vec_capacity, vec_len, IfErr, IfOk, MatchBool, MatchOption, MatchResult};
+ghost use Rattle.std.specs.Prelude.{◌⊎◌, ◌≡◌, ◌≤◌, ◌+◌, ◌++◌, ◌∷◌, [], false, length, true, vec_capacity, vec_len, IfErr, IfOk, MatchBool, MatchOption, MatchResult};
 ghost use Rattle.std.specs.List.{All};
 ghost use Rattle.std.specs.VecDeque.{deque_len};
 ghost use Rattle.mx_append_log.specs.Log.{AreOfOneList};
@@ -78,7 +78,7 @@ pub(crate) fn finds<K, Q: Work + Drop, O: Ending + Drop>(
 }
 
 // Whether that holds of each of the seats.
-pub(crate) fn all_find<K, Q: Work + Drop, O: Ending + Drop>(
+fn all_find<K, Q: Work + Drop, O: Ending + Drop>(
     found: &Engine<Q, O>,
     seats: &[SeatOf<K, Q, O>],
 ) -> bool
@@ -91,6 +91,21 @@ pub(crate) fn all_find<K, Q: Work + Drop, O: Ending + Drop>(
         }
     }
     true
+}
+
+// Whether that holds of each of the seats, and of each of the workers' seats.
+pub(crate) fn both_find<Q: Work + Drop, O: Ending + Drop>(
+    found: &Engine<Q, O>,
+    seats: &[Seat<Q, O>],
+    workers: &[WorkerSeat<Q, O>],
+) -> bool
+    requires { All (λ s. s.of.engine ≡ (content found.now).engine) seats.now × All (λ s. s.of.engine ≡ (content found.now).engine) workers.now }
+    ensures { MatchBool result ((AllFind found.now.core.journal seats.now × AllToldOf found.now.ties.entries seats.now) × (AllFind found.now.core.journal workers.now × AllToldOf found.now.ties.entries workers.now)) (OneFindsOther found.now.core.journal seats.now ⊎ OneFindsOther found.now.core.journal workers.now) }
+{
+    if !all_find(found, seats) {
+        return false;
+    }
+    all_find(found, workers)
 }
 
 impl<Q: Work + Drop, O: Ending + Drop> OwnedMulti<Q, O> {
@@ -213,7 +228,7 @@ impl<Q: Work + Drop, O: Ending + Drop> Multi<Q, O> {
         requires own { All (λ s. s.of ≡ self.now) seats.now × All (λ s. s.of ≡ self.now) workers.now }
         ensures { MatchOption result (MayRetire engine.now self.now.limits seats.now workers.now) (λ why. Hinders engine.now self.now.limits seats.now workers.now why) }
     {
-        if !all_find(engine, seats) || !all_find(engine, workers) {
+        if !both_find(engine, seats, workers) {
             return Some(Refusal::WrongSeat);
         }
         if seats.len() + 1 < usize::from(self.limits.seats)

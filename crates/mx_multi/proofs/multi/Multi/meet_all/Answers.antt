@@ -1,5 +1,5 @@
-use Rattle.std.proofs.Common.{rules, arith, ◌≡◌, ◌∙◌, ℕ, zero, suc, ◌<◌, List, ◌∷◌, length, ap, subst, sym}
-use Rattle.std.specs.Prelude.{slice_index_or}
+use Rattle.std.proofs.Common.{arith, ◌≡◌, ◌∙◌, ℕ, zero, suc, ◌<◌, List, ◌∷◌, length, ap, subst, sym}
+use Rattle.std.specs.Prelude.{slice_index_or, Result, Ok, Err, MatchResult, OnErr}
 use Rattle.std.specs.List.{All}
 use Rattle.std.proofs.lemmas.List.Elements.{All-head, All-tail}
 use Rattle.mx_types.specs.declared.event.Event.{Event}
@@ -41,6 +41,24 @@ module _ {Q O : Type 0} where
   as_they_were : (s t : SeatView Q O) (all ss ts : List (SeatView Q O)) → all ≡ s ∷ ss → t ≡ s → ts ≡ ss → t ∷ ts ≡ all
   as_they_were s t all ss ts e one rest = ap (λ (x : SeatView Q O). x ∷ ts) one ∙ ap (λ (l : List (SeatView Q O)). s ∷ l) rest ∙ sym e
 
+  -- as a meeting through one of the seats ends, so does that of all
+  by_first : {W : Type 0} (r : Result ℕ W) (s t : SeatView Q O) (all ss ts workers met : List (SeatView Q O)) → all ≡ s ∷ ss
+      → MatchResult r (λ n. SeesAll t.seen s t × AllSee t.seen ss ts × AllSee t.seen workers met × (n ≡ length t.seen)) (λ _. (t ≡ s) × (ts ≡ ss) × (met ≡ workers))
+      → MatchResult r (λ n. Meets all (t ∷ ts) workers met n) (λ _. (t ∷ ts ≡ all) × (met ≡ workers))
+  by_first (Ok n) s t all ss ts workers met e h = meets_first s t all ss ts workers met n e h.0 h.1 h.2 h.3
+  by_first (Err w) s t all ss ts workers met e h = (as_they_were s t all ss ts e h.0 h.1, h.2)
+
+  -- and through one of the workers' seats
+  by_worker : {W : Type 0} (r : Result ℕ W) (s t : SeatView Q O) (all ss ts seats met : List (SeatView Q O)) → all ≡ s ∷ ss
+      → MatchResult r (λ n. SeesAll t.seen s t × AllSee t.seen seats met × AllSee t.seen ss ts × (n ≡ length t.seen)) (λ _. (t ≡ s) × (met ≡ seats) × (ts ≡ ss))
+      → MatchResult r (λ n. Meets seats met all (t ∷ ts) n) (λ _. (met ≡ seats) × (t ∷ ts ≡ all))
+  by_worker (Ok n) s t all ss ts seats met e h = meets_worker s t all ss ts seats met n e h.0 h.1 h.2 h.3
+  by_worker (Err w) s t all ss ts seats met e h = (h.1, as_they_were s t all ss ts e h.0 h.2)
+
+on_err : {T W A B : Type 0} (r : Result T W) → (A → B) → OnErr r A → OnErr r B
+on_err (Ok x) f h = h
+on_err (Err w) f h = f h
+
 pub meet_by-requires : goal.meet_by-requires
 meet_by-requires g c =
     let own : SeatView g.row.Q.Denot g.row.O.Denot → Type 0 = λ s. s.of ≡ c.args.self.now in
@@ -59,8 +77,8 @@ pub returns-in-Some-clause-right : goal.returns-in-Some-clause-right
 returns-in-Some-clause-right g c =
     let m = c.args.self.now in
     let workers = c.args.workers.now in
-    subst (λ (ss : List (SeatView g.row.Q.Denot g.row.O.Denot)). HasWrongSeat g.O.Ending.code_of g.O.Ending.size_of m ss workers) (sym c.in-Some.ensures.cases.0)
-    (wrong_of_seats g.O.Ending.code_of g.O.Ending.size_of m c.in-Some.one.now c.in-Some.rest.now workers c.if-meet_by.ensures.right)
+    on_err c.meet_by.result (λ h. subst (λ (ss : List (SeatView g.row.Q.Denot g.row.O.Denot)). HasWrongSeat g.O.Ending.code_of g.O.Ending.size_of m ss workers) (sym c.in-Some.ensures.cases.0)
+    (wrong_of_seats g.O.Ending.code_of g.O.Ending.size_of m c.in-Some.one.now c.in-Some.rest.now workers h)) c.meet_by.ensures.right
 
 pub returns-clause-right : goal.returns-clause-right
 returns-clause-right g c =
@@ -68,23 +86,11 @@ returns-clause-right g c =
     let seats = c.args.seats.now in
     let one = c.in-Some-split_first_mut.one.now in
     let rest = c.in-Some-split_first_mut.rest.now in
-    subst (λ (ws : List (SeatView g.row.Q.Denot g.row.O.Denot)). HasWrongSeat g.O.Ending.code_of g.O.Ending.size_of m seats ws) (sym c.in-Some-split_first_mut.ensures.cases.0)
-    (wrong_of_workers g.O.Ending.code_of g.O.Ending.size_of m one seats rest c.if-meet_by-2.ensures.right)
-
-pub returns-then-meet_by-clause-meets : goal.returns-then-meet_by-clause-meets
-returns-then-meet_by-clause-meets g c =
-    let met = c.if-meet_by.ensures.meets in
-    meets_first _ _ _ _ _ _ _ _ c.in-Some.ensures.cases.0 met.0 met.1 met.2 (search rules)
+    on_err c.meet_by-2.result (λ h. subst (λ (ws : List (SeatView g.row.Q.Denot g.row.O.Denot)). HasWrongSeat g.O.Ending.code_of g.O.Ending.size_of m seats ws) (sym c.in-Some-split_first_mut.ensures.cases.0)
+    (wrong_of_workers g.O.Ending.code_of g.O.Ending.size_of m one seats rest h)) c.meet_by-2.ensures.right
 
 pub returns-in-Some-clause-meets : goal.returns-in-Some-clause-meets
-returns-in-Some-clause-meets g c =
-    let kept = c.if-meet_by.ensures.meets in (as_they_were _ _ _ _ _ c.in-Some.ensures.cases.0 kept.0 kept.1, kept.2)
-
-pub returns-then-meet_by-2-clause-meets : goal.returns-then-meet_by-2-clause-meets
-returns-then-meet_by-2-clause-meets g c =
-    let met = c.if-meet_by-2.ensures.meets in
-    meets_worker _ _ _ _ _ _ _ _ c.in-Some-split_first_mut.ensures.cases.0 met.0 met.1 met.2 (search rules)
+returns-in-Some-clause-meets g c = by_first c.meet_by.result _ _ _ _ _ _ _ c.in-Some.ensures.cases.0 c.meet_by.ensures.meets
 
 pub returns-clause-meets : goal.returns-clause-meets
-returns-clause-meets g c =
-    let kept = c.if-meet_by-2.ensures.meets in (kept.1, as_they_were _ _ _ _ _ c.in-Some-split_first_mut.ensures.cases.0 kept.0 kept.2)
+returns-clause-meets g c = by_worker c.meet_by-2.result _ _ _ _ _ _ _ c.in-Some-split_first_mut.ensures.cases.0 c.meet_by-2.ensures.meets

@@ -1,4 +1,4 @@
-use Rattle.std.proofs.Common.{◌≡◌, ◌∙◌, ap, refl, sym, subst, inl}
+use Rattle.std.proofs.Common.{◌≡◌, ◌∙◌, ap, length, refl, sym, subst, inl}
 use Rattle.crossbeam_channel.specs.Claims.{view}
 use Rattle.mx_lock.specs.Lock.{IsKeyOf}
 use Rattle.mx_board.specs.Board.{ReaderState}
@@ -6,24 +6,24 @@ use Rattle.mx_lock.specs.Engine.{EngineState, IsLeft}
 use Rattle.mx_multi.specs.Meeting.{AllSee}
 use Rattle.mx_multi.specs.Retiring.{AllFind}
 use Rattle.mx_multi.specs.Seats.{FindsOther, MultiView, SeatView}
-use Rattle.mx_multi.proofs.Standing.{list_kept, list_released, seat_after, seat_released, received_same, received_released, lock_sees, same_of, engine_kept, engine_released, sees_from, claims_after, left_same, no_other, legal_as, finds_other, other_from}
+use Rattle.mx_multi.proofs.Standing.{list_kept, list_released, seat_after, seat_released, received_same, received_released, lock_sees, same_of, engine_kept, engine_released, sees_from, claims_after, left_same, no_other, legal_as, length_as, finds_other, other_from}
 use Rattle.mx_multi.proofs.multi.Multi.meet_by.Goals as goal
 
-pub see_each-requires-clause-find : goal.see_each-requires-clause-find
-see_each-requires-clause-find g c =
-    subst (λ (z : EngineState g.row.Q.Denot g.row.O.Denot). AllFind z.core.journal c.args.seats.now) c.engine-found.ensures c.if-all_find.ensures.0
+pub see_both-requires-clause-find : goal.see_both-requires-clause-find
+see_both-requires-clause-find g c =
+    let h = c.if-both_find.ensures in
+    subst (λ (z : EngineState g.row.Q.Denot g.row.O.Denot). AllFind z.core.journal c.args.seats.now × AllFind z.core.journal c.args.workers.now) c.engine-found.ensures (h.0.0, h.1.0)
 
-pub see_each-requires-then-all_find-2-clause-find : goal.see_each-requires-then-all_find-2-clause-find
-see_each-requires-then-all_find-2-clause-find g c =
-    subst (λ (z : EngineState g.row.Q.Denot g.row.O.Denot). AllFind z.core.journal c.args.workers.now) (c.engine-found.ensures ∙ sym c.see_each.ensures.same) c.if-all_find-2.ensures.0
+pub see_both-requires-clause-legal : goal.see_both-requires-clause-legal
+see_both-requires-clause-legal g c = legal_as _ _ c.engine-found.ensures c.len-cut.ensures.legal
 
-pub invariant_of-one-then-all_find-2 : goal.invariant_of-one-then-all_find-2
-invariant_of-one-then-all_find-2 g c =
+pub invariant_of-one-then-both_find : goal.invariant_of-one-then-both_find
+invariant_of-one-then-both_find g c =
     let k : IsKeyOf c.self.inside.lock c.leave.new.key = c.leave.ensures.kept in
     let took = c.in-Ok.ensures.entered.0 in
     let x = c.in-Ok.taken in
-    let y = c.see_each-then-all_find-2.new.taken in
-    let same : y ≡ x = c.see_each-then-all_find-2.ensures.same ∙ c.see_each.ensures.same in
+    let y = c.see_both.new.taken in
+    let same : y ≡ x = c.see_both.ensures.same in
     let left : IsLeft x y = left_same x y same (legal_as _ _ c.engine-found.ensures c.len-cut.ensures.legal) in (
       seat_after _ _ c.one.inside.reader x c.one.invariant.0 took _ _ y c.leave.ensures.gave c.leave.ensures.reader left.book,
       k.2,
@@ -44,17 +44,15 @@ invariant_of-one-2 g c =
       list_released _ _ c.one.inside.reader x c.one.invariant.0 took _ _ c.put_back.ensures.gave c.one.invariant.3,
     )
 
-pub returns-then-all_find-2 : goal.returns-then-all_find-2
-returns-then-all_find-2 g c =
+pub returns-then-both_find : goal.returns-then-both_find
+returns-then-both_find g c =
     let k : IsKeyOf c.self.inside.lock c.leave.new.key = c.leave.ensures.kept in
     let took = c.in-Ok.ensures.entered.0 in
     let x = c.in-Ok.taken in
-    let y = c.see_each-then-all_find-2.new.taken in
-    let first : c.see_each.new.taken ≡ x = c.see_each.ensures.same in
-    let same : y ≡ x = c.see_each-then-all_find-2.ensures.same ∙ first in
+    let y = c.see_both.new.taken in
+    let same : y ≡ x = c.see_both.ensures.same in
     let left : IsLeft x y = left_same x y same (legal_as _ _ c.engine-found.ensures c.len-cut.ensures.legal) in
     let found : c.leave.new.reader.seen ≡ x.core.journal = ap (λ (t : ReaderState). t.seen) c.leave.ensures.reader ∙ ap (λ (z : EngineState g.row.Q.Denot g.row.O.Denot). z.core.journal) same in
-    let found_first : c.leave.new.reader.seen ≡ c.see_each.new.taken.core.journal = found ∙ sym (ap (λ (z : EngineState g.row.Q.Denot g.row.O.Denot). z.core.journal) first) in
     record {
       meets = (
         record {
@@ -64,8 +62,9 @@ returns-then-all_find-2 g c =
           claims = claims_after _ _ c.one.inside.reader x c.one.invariant.0 took _ _ y c.leave.ensures.gave c.leave.ensures.reader (no_other x y same) ∙ ap (λ (s : SeatView g.row.Q.Denot g.row.O.Denot). s.claims) c.one.view_is;
           given = ap (λ (s : SeatView g.row.Q.Denot g.row.O.Denot). s.given) c.one.view_is;
         },
-        subst (λ j. AllSee j c.args.seats.now c.see_each.new.seats) (sym found) c.see_each.ensures.see,
-        subst (λ j. AllSee j c.args.workers.now c.see_each-then-all_find-2.new.seats) (sym found_first) c.see_each-then-all_find-2.ensures.see,
+        subst (λ j. AllSee j c.args.seats.now c.see_both.new.seats) (sym found) c.see_both.ensures.see.0,
+        subst (λ j. AllSee j c.args.workers.now c.see_both.new.workers) (sym found) c.see_both.ensures.see.1,
+        length_as _ _ _ c.engine-found.ensures c.len-cut.ensures.length ∙ sym (ap length found),
       );
       right = tt;
     }
