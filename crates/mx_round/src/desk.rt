@@ -1,12 +1,13 @@
 //! A worker's desk: what it holds, and what it does with it.
-ghost use Rattle.std.specs.Prelude.{◌≡◌, ◌<◌, ◌≤◌, ◌+◌, ◌↔◌, ◌||◌, ◌&&◌, not, length, map, [], None, true, false, IsTrue, fold, min};
+ghost use Rattle.std.specs.Prelude.{◌≡◌, ◌<◌, ◌≤◌, ◌+◌, ◌↔◌, ◌||◌, ◌&&◌, not, length, map, [], None, Some, true, false, IsTrue, fold, min};
 ghost use Rattle.mx_types.specs.Limits.{most_transfers};
+ghost use Rattle.mx_types.specs.declared.reply.Look.TheVariants as look;
 ghost use Rattle.mx_request.specs.Request.{request_origin};
 ghost use Rattle.mx_exchange.specs.Exchanges.{WantsLink};
 ghost use Rattle.mx_chain.specs.Steps.{IfEnded, IfGoing, Steps, how_of};
 ghost use Rattle.mx_gate.specs.Said.{is_stop};
 ghost use Rattle.mx_turn.specs.Workers.{Return, gives_back, in_hand, does, holds, IsOver};
-ghost use Rattle.mx_turn.specs.Turn.{Each, Claims, Retries, LooksAt, GivesBack, GoesThrough, Stops, WorkerTurn, longest_wait, prepared, time_left, wait_of};
+ghost use Rattle.mx_turn.specs.Turn.{Each, Claims, Retries, LooksAt, GivesBack, GoesThrough, Stops, WorkerTurn, is_go, longest_wait, prepared, time_left, wait_of};
 ghost use Rattle.mx_round.specs.Desks.{Advances, HandsIn, IsReadied, Polls, Relieves, beside};
 
 use crate::engine::{Engine, Finished, Held, LONGEST_WAIT, Right, Tied};
@@ -95,6 +96,21 @@ fn wants_link<L: Link>(transfer: &Transfer<L>) -> bool
     transfer.wants().is_some()
 }
 
+// Whether a look found that a transfer is gone.
+fn is_gone(seen: Option<Look>) -> bool
+    ensures { IsTrue result ↔ (seen ≡ Some look.Gone) }
+{
+    matches!(seen, Some(Look::Gone))
+}
+
+// rule turn-paused
+// Whether a look found that a transfer may go on.
+fn may_go(seen: Option<Look>) -> bool
+    ensures { result ≡ is_go seen }
+{
+    matches!(seen, Some(Look::Go))
+}
+
 // rule turn-wait-for-link
 // Whether a transfer that waits could go on at once: one that may go on, and wants a link that may be opened.
 fn could_go_on(goes: bool, delayed: bool, wants: bool) -> bool
@@ -141,7 +157,17 @@ impl<L: Link, C: Right, E: Engine<L, C>> Desk<L, C, E> {
     pub fn into_engine(self) -> E
         ensures { (E.did result ≡ self.worker.did) × (E.start result ≡ self.start) }
     {
-        self.engine
+        let Desk {
+            engine,
+            rack,
+            links,
+            solo,
+            ..
+        } = self;
+        drop(rack);
+        drop(links);
+        drop(solo);
+        engine
     }
 
     // rule turn-over
@@ -283,7 +309,10 @@ impl<L: Link, C: Right, E: Engine<L, C>> Desk<L, C, E> {
                 self.hold_on(right, transfer, could_go_on(goes, delayed, wants));
             }
             Stepped::Asks => self.hold_on(right, transfer, goes),
-            Stepped::Ended(outcome) => self.record(rt, Finished::new(right, outcome)),
+            Stepped::Ended(outcome) => {
+                drop(transfer);
+                self.record(rt, Finished::new(right, outcome));
+            }
         }
     }
 
@@ -296,6 +325,7 @@ impl<L: Link, C: Right, E: Engine<L, C>> Desk<L, C, E> {
     {
         let mut place = Some(held);
         self.engine.give_back(rt, &mut place);
+        drop(place);
     }
 
     // rule turn-gone
@@ -313,12 +343,11 @@ impl<L: Link, C: Right, E: Engine<L, C>> Desk<L, C, E> {
         ensures looks { LooksAt L.history L.token_of now held.held (beside self.old.worker (G.said gate.old)) (beside self.new.worker (G.said gate.new)) }
         ensures same { self.new ≡ record self.old { worker = self.new.worker } }
     {
-        match self.engine.look(held.ticket()) {
-            Some(Look::Gone) => self.give_back(rt, held),
-            Some(Look::Go) => self.advance(rt, gate, now, held, true),
-            Some(Look::Paused) => self.advance(rt, gate, now, held, false),
-            None => self.advance(rt, gate, now, held, false),
+        let seen = self.engine.look(held.ticket());
+        if is_gone(seen) {
+            return self.give_back(rt, held);
         }
+        self.advance(rt, gate, now, held, may_go(seen));
     }
 
     // rule turn-stop

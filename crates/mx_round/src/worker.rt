@@ -39,14 +39,55 @@ impl<L: Link, C: Right, E: Engine<L, C>> Model for Worker<L, C, E> {
     ghost invariant = { λ w. (w.spare_held ≡ record { items = []; of = w.desk.of }) × (w.spare_ends ≡ record { items = []; of = w.desk.of }) };
 }
 
-// What a worker needs memory for.
+// The queues that a worker needs memory for.
 #[derive(Drop)]
-struct Tools<L: Link, C: Right, E: Engine<L, C>> {
+struct Queues<L: Link, C: Right, E: Engine<L, C>> {
     rack: Rack<L, C, E>,
-    links: Links<L>,
-    solo: Solo,
     spare_held: Queue<Held<L, C>, E>,
     spare_ends: Queue<Finished<C>, E>,
+}
+
+// All that a worker needs memory for.
+#[derive(Drop)]
+struct Tools<L: Link, C: Right, E: Engine<L, C>> {
+    queues: Queues<L, C, E>,
+    links: Links<L>,
+    solo: Solo,
+}
+
+fn make_queues<L: Link, C: Right, E: Engine<L, C>, R: AllocGlobal>(
+    rt: &R,
+    engine: &E,
+) -> Option<Queues<L, C, E>>
+    ensures rack { IfSome result (λ q. q.rack ≡ record { held = []; set_aside = []; of = E.of engine.now }) }
+    ensures held { IfSome result (λ q. q.spare_held ≡ record { items = []; of = E.of engine.now }) }
+    ensures ends { IfSome result (λ q. q.spare_ends ≡ record { items = []; of = E.of engine.now }) }
+{
+    let Ok(rack) = Rack::new(rt.alloc(), engine) else {
+        return None;
+    };
+    let Ok((spare_held, spare_ends)) = Queue::pair(rt.alloc(), engine) else {
+        drop(rack);
+        return None;
+    };
+    Some(Queues {
+        rack,
+        spare_held,
+        spare_ends,
+    })
+}
+
+fn make_links<L: Link, R: RandomSource + AllocGlobal>(rt: &R, limit: u8) -> Option<(Links<L>, Solo)>
+    ensures { IfSome result (λ r. r.0 ≡ record { links = []; limit = limit }) }
+{
+    let Ok(links) = Links::new(rt.alloc(), limit) else {
+        return None;
+    };
+    let Ok(solo) = Solo::new(rt, Doorbell::spinning()) else {
+        drop(links);
+        return None;
+    };
+    Some((links, solo))
 }
 
 fn make_tools<L: Link, C: Right, E: Engine<L, C>, R: RandomSource + AllocGlobal>(
@@ -54,32 +95,22 @@ fn make_tools<L: Link, C: Right, E: Engine<L, C>, R: RandomSource + AllocGlobal>
     engine: &E,
     limit: u8,
 ) -> Option<Tools<L, C, E>>
-    ensures rack { IfSome result (λ t. t.rack ≡ record { held = []; set_aside = []; of = E.of engine.now }) }
+    ensures rack { IfSome result (λ t. t.queues.rack ≡ record { held = []; set_aside = []; of = E.of engine.now }) }
     ensures links { IfSome result (λ t. t.links ≡ record { links = []; limit = limit }) }
-    ensures held { IfSome result (λ t. t.spare_held ≡ record { items = []; of = E.of engine.now }) }
-    ensures ends { IfSome result (λ t. t.spare_ends ≡ record { items = []; of = E.of engine.now }) }
+    ensures held { IfSome result (λ t. t.queues.spare_held ≡ record { items = []; of = E.of engine.now }) }
+    ensures ends { IfSome result (λ t. t.queues.spare_ends ≡ record { items = []; of = E.of engine.now }) }
 {
-    let Ok(rack) = Rack::new(rt.alloc(), engine) else {
+    let Some(queues) = make_queues(rt, engine) else {
         return None;
     };
-    let Ok(links) = Links::new(rt.alloc(), limit) else {
-        return None;
-    };
-    let Ok(solo) = Solo::new(rt, Doorbell::spinning()) else {
-        return None;
-    };
-    let Ok(spare_held) = Queue::new(rt.alloc(), engine) else {
-        return None;
-    };
-    let Ok(spare_ends) = Queue::new(rt.alloc(), engine) else {
+    let Some((links, solo)) = make_links(rt, limit) else {
+        drop(queues);
         return None;
     };
     Some(Tools {
-        rack,
+        queues,
         links,
         solo,
-        spare_held,
-        spare_ends,
     })
 }
 
@@ -95,10 +126,20 @@ impl<L: Link, C: Right, E: Engine<L, C>> Worker<L, C, E> {
         let Some(tools) = make_tools(rt, &engine, limit) else {
             return Err(engine);
         };
+        let Tools {
+            queues,
+            links,
+            solo,
+        } = tools;
+        let Queues {
+            rack,
+            spare_held,
+            spare_ends,
+        } = queues;
         Ok(Worker {
-            desk: Desk::new(engine, tools.rack, tools.links, tools.solo),
-            spare_held: tools.spare_held,
-            spare_ends: tools.spare_ends,
+            desk: Desk::new(engine, rack, links, solo),
+            spare_held,
+            spare_ends,
         })
     }
 
@@ -106,7 +147,14 @@ impl<L: Link, C: Right, E: Engine<L, C>> Worker<L, C, E> {
     pub fn into_engine(self) -> E
         ensures { (E.did result ≡ self.worker.did) × (E.start result ≡ self.start) }
     {
-        self.desk.into_engine()
+        let Worker {
+            desk,
+            spare_held,
+            spare_ends,
+        } = self;
+        drop(spare_held);
+        drop(spare_ends);
+        desk.into_engine()
     }
 
     /// Whether it was told to stop, and has nothing in flight.
