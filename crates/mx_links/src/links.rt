@@ -16,10 +16,17 @@ use std::marker::Model;
 
 /// A worker's idle links, each with the endpoint that it goes to, and the limit of their number. Contracts see them as a cache's, the
 /// oldest first.
-#[derive(Drop)]
 pub struct Links<L: Link> {
     alloc: Global,
     idle: IdleCache<L>,
+}
+
+// Written out, and not derived: a crate that drops links cites its proof.
+impl<L: Link> Drop for Links<L> {
+    fn drop(self) {
+        let Links { alloc: _, idle } = self;
+        drop(idle);
+    }
 }
 
 impl<L: Link> Model for Links<L> {

@@ -10,9 +10,16 @@ use std::marker::Model;
 
 /// A transfer that has not ended, as it waits for a worker. It is boxed, since it goes through the multi handle and from list to list of a
 /// worker. Contracts see the transfer.
-#[derive(Drop)]
 pub struct Queued<L: Link> {
     transfer: Box<Transfer<L>>,
+}
+
+// Written out, and not derived: a crate that drops queued work cites its proof.
+impl<L: Link> Drop for Queued<L> {
+    fn drop(self) {
+        let Queued { transfer } = self;
+        drop(transfer);
+    }
 }
 
 impl<L: Link> Model for Queued<L> {
@@ -72,7 +79,8 @@ impl<L: Link> Queued<L> {
     pub fn into_request(self) -> Request
         ensures { result ≡ self.chain.request }
     {
-        Box::into_inner(self.transfer).into_request()
+        let Queued { transfer } = self;
+        Box::into_inner(transfer).into_request()
     }
 
     /// A transfer that a worker has claimed and polled, to be given back. It has not ended.
@@ -88,6 +96,7 @@ impl<L: Link> Queued<L> {
         ensures same { result.value ≡ self }
         ensures running { result.value.chain.code ≡ None }
     {
-        self.transfer
+        let Queued { transfer: claimed } = self;
+        claimed
     }
 }

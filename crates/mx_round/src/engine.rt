@@ -39,10 +39,18 @@ pub trait Right: Tied + Drop {
 // `Held` and `Finished`.
 /// A claimed transfer, which has not ended, and the right to it, which is of its request. Contracts see the ticket, the slot, the state of
 /// the transfer, and of which list of ties the right is. The transfer is boxed, since it goes from list to list in each turn.
-#[derive(Drop)]
 pub struct Held<L: Link, C: Right> {
     pub(crate) right: C,
     pub(crate) transfer: Box<Transfer<L>>,
+}
+
+// Written out, and not derived: a crate that drops one cites its proof.
+impl<L: Link, C: Right> Drop for Held<L, C> {
+    fn drop(self) {
+        let Held { right, transfer } = self;
+        drop(right);
+        drop(transfer);
+    }
 }
 
 impl<L: Link, C: Right> Model for Held<L, C> {
@@ -77,7 +85,8 @@ impl<L: Link, C: Right> Held<L, C> {
         ensures running { result.1.value.chain.code ≡ None }
         ensures origin { request_origin result.1.value.chain.request ≡ C.origin_of result.0 }
     {
-        (self.right, self.transfer)
+        let Held { right, transfer } = self;
+        (right, transfer)
     }
 
     /// The ticket of the addition whose transfer it holds.
@@ -137,10 +146,18 @@ impl<L: Link, C: Right> Held<L, C> {
 // rule worker-own-claim
 /// The right to a claimed transfer, and the outcome that ends it, which are of one request. Contracts see the ticket, the outcome, and of
 /// which list of ties the right is.
-#[derive(Drop)]
 pub struct Finished<C: Right> {
     pub(crate) right: C,
     pub(crate) outcome: Outcome,
+}
+
+// Written out, and not derived: a crate that drops one cites its proof.
+impl<C: Right> Drop for Finished<C> {
+    fn drop(self) {
+        let Finished { right, outcome } = self;
+        drop(right);
+        drop(outcome);
+    }
 }
 
 impl<C: Right> Model for Finished<C> {
@@ -173,7 +190,8 @@ impl<C: Right> Finished<C> {
         ensures parts { self ≡ record { end = record { ticket = C.ticket_of result.0; outcome = result.1 }; of = C.of result.0 } }
         ensures origin { request_origin result.1.request ≡ C.origin_of result.0 }
     {
-        (self.right, self.outcome)
+        let Finished { right, outcome } = self;
+        (right, outcome)
     }
 }
 

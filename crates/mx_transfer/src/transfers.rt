@@ -16,7 +16,6 @@ use std::alloc::Global;
 use std::marker::Model;
 
 /// A request, its hops, and what it waits for: its link and its deadline.
-#[derive(Drop)]
 pub struct Transfer<L: Link> {
     chain: Chain<L>,
     link_source: Source,
@@ -25,6 +24,21 @@ pub struct Transfer<L: Link> {
     waker: Option<Waker>,
     // The last poll asked for another.
     has_asked: bool,
+}
+
+// Written out, and not derived: a crate that drops transfers then cites the proof of this function, and proves none for each part of one.
+impl<L: Link> Drop for Transfer<L> {
+    fn drop(self) {
+        let Transfer {
+            chain,
+            link_source: _,
+            time_source: _,
+            waker,
+            has_asked: _,
+        } = self;
+        drop(chain);
+        drop(waker);
+    }
 }
 
 impl<L: Link> Model for Transfer<L> {
@@ -91,7 +105,15 @@ impl<L: Link> Transfer<L> {
         requires { self.chain.code ≡ None }
         ensures { result ≡ self.chain.request }
     {
-        self.chain.into_request()
+        let Transfer {
+            chain,
+            link_source: _,
+            time_source: _,
+            waker,
+            has_asked: _,
+        } = self;
+        drop(waker);
+        chain.into_request()
     }
 
     /// The link that it wants, where it wants one.
