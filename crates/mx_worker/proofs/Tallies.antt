@@ -29,7 +29,7 @@ use Rattle.mx_turn.proofs.Accounts.{accounted}
 use Rattle.mx_round.specs.Desks.{EndView, HandsIn, HasRun, HeldView}
 use Rattle.mx_lock.specs.Ties.{TiedClaimed}
 use Rattle.mx_turn.specs.Laws.{claimed_by, recorded_by, stale_by, given_back_by, unseated_by}
-use Rattle.mx_worker.specs.Work.{AreCounted, AreHeld, FoundOther, IsBackOwn, IsDone, IsUncounted, WorkerRan, answered_by, back_of, code_of, finish_call, finish_of, held_count, noted_by_deed, return_of, size_of}
+use Rattle.mx_worker.specs.Work.{AreCounted, AreHeld, FoundOther, IsDone, IsUncounted, WorkerRan, answered_by, code_of, end_of, finish_call, finish_of, handed_back, held_count, noted_by_deed, return_of, size_of}
 
 -- what a deed more adds to a list that is picked out of the deeds
 picks_more : {D X : Type 0} (by : D → Option X) (ds : List D) (d : D) (old is start : List X) → old ≡ start ++ filter_map by ds → is ≡ old ++ filter_map by (d ∷ []) → is ≡ start ++ filter_map by (ds ++ d ∷ [])
@@ -267,7 +267,8 @@ held_own (Some _) None b k are own e = absurd are
 held_own None (Some _) b k are own e = absurd are
 
 -- what comes back of an end is of one request
-pub back_own : {W : Type 0} (claim right : TiedClaimed) (o : OutcomeValue) (answer : Result (FinishReply TiedClaimed OutcomeValue) W) → IfOk answer (IsHandedBack claim o) → claim ≡ right → request_origin o.request ≡ right.origin → IsBackOwn answer
+pub back_own : {W : Type 0} (claim right : TiedClaimed) (o : OutcomeValue) (answer : Result (FinishReply TiedClaimed OutcomeValue) W) → IfOk answer (IsHandedBack claim o) → claim ≡ right → request_origin o.request ≡ right.origin
+    → IfSome (handed_back answer) (λ r. request_origin r.1.request ≡ r.0.origin)
 back_own claim right o (Ok finish.Recorded) handed own of = tt
 back_own claim right o (Ok (finish.Stale _)) handed own of = tt
 back_own claim right o (Ok (finish.OutOfMemory c x)) handed own of =
@@ -276,7 +277,7 @@ back_own claim right o (Err _) handed own of = tt
 
 -- an end comes back where memory was refused for it, and only there
 pub hands_in_so : {L W : Type 0} (was is : List (Deed L)) (noted e : EndView) (claim right : TiedClaimed) (o : OutcomeValue) (answer : Result (FinishReply TiedClaimed OutcomeValue) W) (back : Option EndView)
-    → is ≡ was ++ finishes noted.end.ticket noted.end.outcome (finish_of answer) ∷ [] → noted ≡ e → back ≡ back_of answer → IfOk answer (IsHandedBack claim o)
+    → is ≡ was ++ finishes noted.end.ticket noted.end.outcome (finish_of answer) ∷ [] → noted ≡ e → back ≡ option_map end_of (handed_back answer) → IfOk answer (IsHandedBack claim o)
     → e ≡ record { end = record { ticket = right.ticket; outcome = o }; of = right.of } → claim ≡ right → HandsIn was is e back
 hands_in_so {L} {W} was is noted e claim right o answer back did noted_is b handed e_is own = by answer (did ∙ ap (λ (x : EndView). was ++ finishes x.end.ticket x.end.outcome (finish_of answer) ∷ []) noted_is) b handed where
   taken : (f : Finish) → (f ≡ lacking → ⊥) → is ≡ was ++ finishes e.end.ticket e.end.outcome f ∷ [] → back ≡ None → HandsIn was is e back
@@ -287,7 +288,7 @@ hands_in_so {L} {W} was is noted e claim right o answer back did noted_is b hand
   none (inl (inr x)) = absurd cc
   none (inr x) = absurd cc
 
-  by : (a : Result (FinishReply TiedClaimed OutcomeValue) W) → is ≡ was ++ finishes e.end.ticket e.end.outcome (finish_of a) ∷ [] → back ≡ back_of a → IfOk a (IsHandedBack claim o) → HandsIn was is e back
+  by : (a : Result (FinishReply TiedClaimed OutcomeValue) W) → is ≡ was ++ finishes e.end.ticket e.end.outcome (finish_of a) ∷ [] → back ≡ option_map end_of (handed_back a) → IfOk a (IsHandedBack claim o) → HandsIn was is e back
   by (Ok finish.Recorded) d n _ = taken recorded (λ x. cc) d n
   by (Ok (finish.Stale _)) d n _ = taken stale (λ x. cc) d n
   by (Ok (finish.OutOfMemory c x)) d n h = record {

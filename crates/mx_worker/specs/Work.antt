@@ -7,7 +7,6 @@ use Rattle.mx_types.specs.declared.call.Call.TheVariants as call
 use Rattle.mx_types.specs.declared.call.Receipt.{Receipt}
 use Rattle.mx_types.specs.declared.reply.Reply.{Reply}
 use Rattle.mx_types.specs.declared.reply.Reply.TheVariants as reply
-use Rattle.mx_request.specs.Request.{request_origin}
 use Rattle.mx_body.specs.Parts.{joined}
 use Rattle.mx_link.specs.declared.answers.Answer.{Answer}
 use Rattle.mx_chain.specs.Outcomes.{OutcomeValue}
@@ -112,15 +111,14 @@ finish_of (Ok (finish.Stale _)) = stale
 finish_of (Ok (finish.OutOfMemory _ _)) = lacking
 finish_of (Err _) = unseated
 
--- the end that comes back with it
-abbrev pub back_of : {W : Type 0} → Result (FinishReply TiedClaimed OutcomeValue) W → Option EndView
-back_of (Ok (finish.OutOfMemory c o)) = Some (record { end = record { ticket = c.ticket; outcome = o }; of = c.of })
-back_of _ = None
+-- the claim and the outcome that come back with it
+abbrev pub handed_back : {C O W : Type 0} → Result (FinishReply C O) W → Option (C × O)
+handed_back (Ok (finish.OutOfMemory c o)) = Some (c, o)
+handed_back _ = None
 
--- what comes back with it is of one request
-abbrev pub IsBackOwn : {W : Type 0} → Result (FinishReply TiedClaimed OutcomeValue) W → Type 0
-IsBackOwn (Ok (finish.OutOfMemory c o)) = request_origin o.request ≡ c.origin
-IsBackOwn _ = Unit {0}
+-- the end that these are
+abbrev pub end_of : TiedClaimed × OutcomeValue → EndView
+end_of (c, o) = record { end = record { ticket = c.ticket; outcome = o }; of = c.of }
 
 -- what became of a transfer that was given back, by the answer to its call
 abbrev pub return_of : {Q W : Type 0} → Result (GiveBackReply Q) W → Return

@@ -1,16 +1,12 @@
 //! What a worker did, and what was counted of it.
 ghost use Rattle.std.specs.Prelude.{◌≡◌, ◌∷◌, ◌++◌, []};
 ghost use Rattle.mx_turn.specs.Workers.{finishes, gives_back};
-ghost use Rattle.mx_worker.specs.Work.{AreCounted, IsBackOwn, IsUncounted, back_of, finish_of, return_of};
+ghost use Rattle.mx_worker.specs.Work.{AreCounted, IsUncounted, finish_of, handed_back, return_of};
 
 use crate::claims::WorkerClaim;
 use mx_journal::{FinishReply, GiveBackReply};
 use mx_link::Link;
-use mx_lock::TiedClaim;
-use mx_multi::WrongSeat;
-use mx_queue::Queued;
 use mx_round::{Done, Finished, Held};
-use mx_transfer::Outcome;
 use mx_types::History;
 use std::marker::Model;
 use std::snapshot::Snapshot;
@@ -63,18 +59,15 @@ impl<L: Link> Log<L> {
     }
 
     // rule worker-counts
-    /// Notes what the call answered by which this end was handed in. One that was refused memory comes back.
-    pub fn note_end(
+    /// Notes what the call answered by which this end was handed in. Where memory was refused, the claim and the outcome come back. It is
+    /// generic over both, so that what is dropped is dropped as one value.
+    pub fn note_end<C: Drop, O: Drop, W: Drop>(
         &mut self,
-        answer: Result<
-            FinishReply<TiedClaim<Queued<L>>, Outcome>,
-            WrongSeat<(TiedClaim<Queued<L>>, Outcome)>,
-        >,
+        answer: Result<FinishReply<C, O>, W>,
         end: Snapshot<Finished<WorkerClaim<L>>>,
-    ) -> Option<Finished<WorkerClaim<L>>>
-        requires { IsBackOwn answer }
+    ) -> Option<(C, O)>
         ensures did { self.new.did ≡ self.old.did ++ finishes end.value.end.ticket end.value.end.outcome (finish_of answer) ∷ [] }
-        ensures back { result ≡ back_of answer }
+        ensures back { result ≡ handed_back answer }
     {
         match answer {
             Ok(FinishReply::Recorded) => {
@@ -90,7 +83,7 @@ impl<L: Link> Log<L> {
             }
             Ok(FinishReply::OutOfMemory(claim, outcome)) => {
                 self.did.note(Done::lacking(end));
-                Some(Finished::new(WorkerClaim::new(claim), outcome))
+                Some((claim, outcome))
             }
             Err(refused) => {
                 self.did.note(Done::unseated(end));
@@ -100,10 +93,10 @@ impl<L: Link> Log<L> {
         }
     }
 
-    /// Notes what the call answered by which this transfer was given back. One that doesn't go back to the queue is dropped.
-    pub fn note_return(
+    /// Notes what the call answered by which this transfer was given back. What doesn't go back to the queue is dropped, as one value.
+    pub fn note_return<Q: Drop, W: Drop>(
         &mut self,
-        answer: Result<GiveBackReply<Queued<L>>, WrongSeat<(TiedClaim<Queued<L>>, Queued<L>)>>,
+        answer: Result<GiveBackReply<Q>, W>,
         given: Snapshot<Held<L, WorkerClaim<L>>>,
     )
         ensures { self.new.did ≡ self.old.did ++ gives_back given.value.held (return_of answer) ∷ [] }

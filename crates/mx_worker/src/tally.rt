@@ -3,7 +3,7 @@ ghost use Rattle.std.specs.Prelude.{◌≡◌, ◌∷◌, ◌++◌, [], option_m
 ghost use Rattle.mx_turn.specs.Workers.{Return, claims, looks, notes, gives_back};
 ghost use Rattle.mx_request.specs.Request.{request_origin};
 ghost use Rattle.mx_round.specs.Desks.{HandsIn};
-ghost use Rattle.mx_worker.specs.Work.{AreCounted, AreHeld, IsDone};
+ghost use Rattle.mx_worker.specs.Work.{AreCounted, AreHeld, IsDone, end_of};
 
 use crate::claims::WorkerClaim;
 use crate::log::Log;
@@ -21,11 +21,19 @@ use std::snapshot::Snapshot;
 use std::sync::Wait;
 
 /// The seat of a running worker, beside the seat as the worker began, and what was done with it since. Only the calls here touch it.
-#[derive(Drop)]
 pub(crate) struct Tally<'m, L: Link> {
     start: Snapshot<Seated<'m, AtWork, Queued<L>, Outcome>>,
     seat: Seated<'m, AtWork, Queued<L>, Outcome>,
     log: Log<L>,
+}
+
+impl<'m, L: Link> Drop for Tally<'m, L> {
+    fn drop(self) {
+        let Tally { start, seat, log } = self;
+        drop(start);
+        drop(seat);
+        drop(log);
+    }
 }
 
 impl<'m, L: Link> Model for Tally<'m, L> {
@@ -56,6 +64,19 @@ fn held_of<L: Link>(
     }
 }
 
+// An end that came back.
+fn finished_of<L: Link>(
+    back: Option<(TiedClaim<Queued<L>>, Outcome)>,
+) -> Option<Finished<WorkerClaim<L>>>
+    requires { IfSome back (λ r. request_origin r.1.request ≡ r.0.origin) }
+    ensures { result ≡ option_map end_of back }
+{
+    match back {
+        Some((claim, outcome)) => Some(Finished::new(WorkerClaim::new(claim), outcome)),
+        None => None,
+    }
+}
+
 impl<'m, L: Link> Tally<'m, L> {
     pub fn new(seat: Seated<'m, AtWork, Queued<L>, Outcome>) -> Tally<'m, L>
         ensures { result ≡ record { start = seat.entry; seat = seat.entry; did = [] } }
@@ -75,9 +96,12 @@ impl<'m, L: Link> Tally<'m, L> {
         ensures counted { AreCounted self.entry.did result.recorded result.stale result.given_back }
         ensures refused { result.refused ≡ refused }
     {
-        let (recorded, stale, given_back) = self.log.counts();
+        let Tally { start, seat, log } = self;
+        let (recorded, stale, given_back) = log.counts();
+        drop(log);
+        drop(start);
         WorkerEnd {
-            seat: self.seat,
+            seat,
             recorded,
             stale,
             given_back,
@@ -98,7 +122,7 @@ impl<'m, L: Link> Tally<'m, L> {
         let end = Snapshot::of(&finished);
         let (right, outcome) = finished.into_parts();
         let answer = self.seat.finish(rt, right.into_claim(), outcome);
-        self.log.note_end(answer, end)
+        finished_of(self.log.note_end(answer, end))
     }
 
     // Gives a transfer back. One that doesn't go back to the queue is dropped.
