@@ -130,6 +130,7 @@ fn join_all<R: Threads, G: Drop>(
     while let Some(handle) = handles.pop() {
         worked.push_reserved(handle.join(rt));
     }
+    drop(handles);
     worked
 }
 
@@ -185,6 +186,7 @@ fn run_all<
             let stands = stand(rt, crew, common, started, count);
             let told = application(stands);
             crew.dismiss();
+            drop(posts);
             (told, worked_if(stands, join_all(rt, handles, worked)))
         },
     )
@@ -199,7 +201,10 @@ fn rooms<G: Drop>(
     ensures room { IfOk result (λ r. (count ≤ vec_capacity r.0) × (count ≤ vec_capacity r.1)) }
 {
     let handles = Vec::with_capacity(alloc, count)?;
-    let worked = Vec::with_capacity(alloc, count)?;
+    let Ok(worked) = Vec::with_capacity(alloc, count) else {
+        drop(handles);
+        return Err(CrewError::OutOfMemory);
+    };
     Ok((handles, worked))
 }
 
@@ -237,6 +242,10 @@ pub fn run_beside<
             let common = Common::new();
             run_all(rt, crew, &common, posts, handles, worked, application)
         }
-        Err(error) => (application(Err(error)), Err(error)),
+        Err(error) => {
+            let told = application(Err(error));
+            drop(posts);
+            (told, Err(error))
+        }
     }
 }

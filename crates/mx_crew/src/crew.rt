@@ -22,11 +22,24 @@ use std::time::Instant;
 pub type HostGate<'r, R> = PacedGate<NamedGate<'r, R, SystemLookup<R>>>;
 
 /// What wakes workers, and what stops them; no clause says that it does.
-#[derive(Drop)]
 pub struct Crew {
     bells: Vec<Bell>,
     file_limits: Vec<FileLimit>,
     stop: Arc<AtomicBool>,
+}
+
+// Written out, and not derived: a crate that drops a crew cites its proof.
+impl Drop for Crew {
+    fn drop(self) {
+        let Crew {
+            bells,
+            file_limits,
+            stop,
+        } = self;
+        drop(bells);
+        drop(file_limits);
+        drop(stop);
+    }
 }
 
 // Why there is no gate, by the code that says so.
@@ -42,10 +55,11 @@ fn no_gate(code: Code) -> CrewError
 impl Crew {
     /// A crew without workers.
     pub fn new(alloc: Global) -> Result<Crew, OutOfMemory> {
+        let stop = Arc::new(alloc, AtomicBool::new(false))?;
         Ok(Crew {
             bells: Vec::new(alloc),
             file_limits: Vec::new(alloc),
-            stop: Arc::new(alloc, AtomicBool::new(false))?,
+            stop,
         })
     }
 
@@ -223,8 +237,21 @@ fn served<
         + 'static,
 >(rt: &R, start: Instant) -> Result<Resolver<SystemLookup<R>, NameBell>, CrewError> {
     let resolver = Resolver::new(rt.alloc(), SystemLookup::new(*rt), start)?;
-    serve(rt, resolver.share()?)?;
-    Ok(resolver)
+    match share(rt, &resolver) {
+        Ok(()) => Ok(resolver),
+        Err(error) => {
+            drop(resolver);
+            Err(error)
+        }
+    }
+}
+
+// Starts the thread of a resolver, which it shares with that thread.
+fn share<
+    L: Lookup + Send + Sync + Drop + 'static,
+    R: Clock + AllocGlobal + Threads + Wait + Copy + Send + Drop + 'static,
+>(rt: &R, resolver: &Resolver<L, NameBell>) -> Result<(), CrewError> {
+    serve(rt, resolver.share()?)
 }
 
 // Starts a thread that begins the lookups that are wanted.
@@ -234,7 +261,10 @@ fn serve<
 >(rt: &R, resolver: Resolver<L, NameBell>) -> Result<(), CrewError> {
     let there = *rt;
     match thread::spawn(rt, move || resolver.serve(&there)) {
-        Ok(_) => Ok(()),
+        Ok(thread) => {
+            drop(thread);
+            Ok(())
+        }
         Err(_) => Err(CrewError::NoThread),
     }
 }

@@ -36,12 +36,13 @@ pub fn open_one<L: Link, R: Wait + AllocGlobal>(
         Err(OpenError::OutOfMemory) => return Err(OutOfMemory),
         Err(OpenError::BadLimits) => unreachable!(),
     };
-    match seats.pop() {
-        Some(seat) => Ok(Opened {
-            multi,
-            seat,
-            workers,
-        }),
-        None => unreachable!(),
-    }
+    let Some(seat) = seats.pop() else {
+        unreachable!()
+    };
+    drop(seats);
+    Ok(Opened {
+        multi,
+        seat,
+        workers,
+    })
 }

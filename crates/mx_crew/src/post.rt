@@ -61,6 +61,8 @@ pub fn posts<'m, L: Link, G: Gate<Link = L> + Drop>(
     };
     let (mut seats, mut gates) = (seats, gates);
     fill(multi, &mut seats, &mut gates, &mut posts);
+    drop(seats);
+    drop(gates);
     Ok(posts)
 }
 
@@ -78,6 +80,7 @@ fn fill<'m, L: Link, G: Gate<Link = L> + Drop>(
 {
     while let Some(gate) = gates.pop() {
         let Some(seat) = seats.pop() else {
+            drop(gate);
             return;
         };
         posts.push_reserved(Post {
@@ -89,10 +92,18 @@ fn fill<'m, L: Link, G: Gate<Link = L> + Drop>(
 
 // What a worker did. Its seat is dropped.
 fn counts_of<L: Link>(end: WorkerEnd<'_, L>) -> Counts {
+    let WorkerEnd {
+        seat,
+        recorded,
+        stale,
+        given_back,
+        ..
+    } = end;
+    drop(seat);
     Counts {
-        recorded: end.recorded,
-        stale: end.stale,
-        given_back: end.given_back,
+        recorded,
+        stale,
+        given_back,
     }
 }
 
