@@ -2,9 +2,9 @@
 //! `mx_journal::definitions` read off that log.
 
 use crate::caller::{Caller, Said, Step};
-use crate::sample::{SEAT, Wrong, verdict};
-use mx_journal::{Log, definitions};
-use mx_types::{Code, Event, HandleId, Look, OutOfMemory, State, Ticket};
+use crate::sample::{End, Job, SEAT, Wrong, verdict};
+use mx_journal::{Control, Log, definitions};
+use mx_types::{Code, Event, HandleId, OutOfMemory, State, Ticket};
 use std::alloc::Global;
 use std::test::Fail;
 
@@ -26,79 +26,137 @@ static SCRIPT: [(Step, Said); 14] = [
     (Step::Remove(7), Said::Removed),
 ];
 
-/// How many run, how many calls the seat made, whether a reader at 5 is woken, the states of handles 7 and 9, and the looks of the
-/// first three tickets.
-type Answers = ((usize, usize, bool), [State; 2], [Look; 3]);
-
-// What the core answers.
-fn answered(caller: &Caller) -> Answers {
-    let control = &caller.control;
-    (
-        (
-            control.running() as usize,
-            control.made(SEAT) as usize,
-            control.poll_ready(5),
-        ),
-        [control.state(HandleId(7)), control.state(HandleId(9))],
-        [
-            control.look(Ticket(0)),
-            control.look(Ticket(1)),
-            control.look(Ticket(2)),
-        ],
-    )
-}
-
-// What the executable definitions read off a log.
-fn read_off(alloc: Global, events: &[Event]) -> Result<Answers, OutOfMemory> {
+// Whether as many run as are read off the log, the seat has made as many calls, and a reader at 5 is woken just where one is there.
+fn numbers_agree(
+    alloc: Global,
+    control: &Control<Job, End>,
+    events: &[Event],
+) -> Result<bool, OutOfMemory> {
     let running = definitions::running(alloc, events)?.len();
-    Ok((
-        (
-            running,
-            definitions::made(events, SEAT),
-            definitions::is_ready(5, events),
-        ),
-        [
-            definitions::state_of(alloc, events, HandleId(7))?,
-            definitions::state_of(alloc, events, HandleId(9))?,
-        ],
-        [
-            definitions::look_of(alloc, events, Ticket(0))?,
-            definitions::look_of(alloc, events, Ticket(1))?,
-            definitions::look_of(alloc, events, Ticket(2))?,
-        ],
-    ))
+    Ok(
+        control.running() as usize == running
+            && control.made(SEAT) as usize == definitions::made(events, SEAT)
+            && control.poll_ready(5) == definitions::is_ready(5, events),
+    )
 }
 
-// Whether the core lists the handles that the executable definitions find added, and the tickets of the messages that they find waiting.
-fn lists_agree(alloc: Global, caller: &Caller, events: &[Event]) -> Result<bool, OutOfMemory> {
+// Whether the states of handles 7 and 9 are those that are read off the log.
+fn states_agree(
+    alloc: Global,
+    control: &Control<Job, End>,
+    events: &[Event],
+) -> Result<bool, OutOfMemory> {
+    for handle in [HandleId(7), HandleId(9)] {
+        if control.state(handle) != definitions::state_of(alloc, events, handle)? {
+            return Ok(false);
+        }
+    }
+    Ok(true)
+}
+
+// Whether the looks of the first three tickets are those that are read off the log.
+fn looks_agree(
+    alloc: Global,
+    control: &Control<Job, End>,
+    events: &[Event],
+) -> Result<bool, OutOfMemory> {
+    for ticket in 0..3 {
+        let told = definitions::look_of(alloc, events, Ticket(ticket))?;
+        if control.look(Ticket(ticket)) != told {
+            return Ok(false);
+        }
+    }
+    Ok(true)
+}
+
+fn are_handles(handles: &[HandleId], added: &[(HandleId, Ticket)]) -> bool {
+    if handles.len() != added.len() {
+        return false;
+    }
+    for (handle, addition) in handles.iter().zip(added) {
+        if *handle != addition.0 {
+            return false;
+        }
+    }
+    true
+}
+
+fn are_tickets(tickets: &[Ticket], waiting: &[(Ticket, Code, u32)]) -> bool {
+    if tickets.len() != waiting.len() {
+        return false;
+    }
+    for (ticket, message) in tickets.iter().zip(waiting) {
+        if *ticket != message.0 {
+            return false;
+        }
+    }
+    true
+}
+
+// Whether the core lists the handles that the executable definitions find added.
+fn handles_agree(
+    alloc: Global,
+    control: &Control<Job, End>,
+    events: &[Event],
+) -> Result<bool, OutOfMemory> {
     let added = definitions::added(alloc, events)?;
+    Ok(are_handles(control.handles().as_slice(), added.as_slice()))
+}
+
+// Whether the core lists the tickets of the messages that the executable definitions find waiting.
+fn messages_agree(
+    alloc: Global,
+    control: &Control<Job, End>,
+    events: &[Event],
+) -> Result<bool, OutOfMemory> {
     let waiting = definitions::waiting(alloc, events)?;
-    let mut handles = Vec::new(alloc);
-    for addition in &added {
-        handles.push(addition.0)?;
-    }
-    let mut tickets = Vec::new(alloc);
-    for message in &waiting {
-        tickets.push(message.0)?;
-    }
-    Ok(
-        caller.control.handles().as_slice() == handles.as_slice()
-            && caller.control.waiting() == tickets.as_slice(),
-    )
+    Ok(are_tickets(control.waiting(), waiting.as_slice()))
 }
 
 // Whether the core answers what the executable definitions read off its log.
-fn agrees(alloc: Global, caller: &Caller) -> Result<bool, OutOfMemory> {
-    let events = caller.log.list.events();
+fn agrees(
+    alloc: Global,
+    control: &Control<Job, End>,
+    events: &[Event],
+) -> Result<bool, OutOfMemory> {
     Ok(
         definitions::is_legal(alloc, events)?
-            && answered(caller) == read_off(alloc, events)?
-            && lists_agree(alloc, caller, events)?,
+            && numbers_agree(alloc, control, events)?
+            && states_agree(alloc, control, events)?
+            && looks_agree(alloc, control, events)?
+            && handles_agree(alloc, control, events)?
+            && messages_agree(alloc, control, events)?,
     )
+}
+
+// Whether these are added, claims are out or not, and there are so many events.
+fn is_as_before(caller: &Caller, handles: &[HandleId], is_out: bool, events: usize) -> bool {
+    caller.control.handles().as_slice() == handles
+        && caller.control.claim_out() == is_out
+        && caller.log.list.events().len() == events
 }
 
 // Makes a call after so many events, once more where it was refused memory, and nothing changed then: what it answers, and whether it was
 // refused.
+fn make_again(
+    alloc: Global,
+    caller: &mut Caller,
+    step: Step,
+    handles: &[HandleId],
+    events: usize,
+) -> Result<(Said, bool), OutOfMemory> {
+    let is_out = caller.control.claim_out();
+    let said = caller.makes(alloc, step)?;
+    if said != Said::OutOfMemory {
+        return Ok((said, false));
+    }
+    if !is_as_before(caller, handles, is_out, events) {
+        return Ok((Said::Else, true));
+    }
+    Ok((caller.makes(alloc, step)?, true))
+}
+
+// The same, of handles that are added now.
 fn make(
     alloc: Global,
     caller: &mut Caller,
@@ -106,18 +164,7 @@ fn make(
     events: usize,
 ) -> Result<(Said, bool), OutOfMemory> {
     let before = caller.control.handles();
-    let is_out = caller.control.claim_out();
-    let said = caller.makes(alloc, step)?;
-    if said != Said::OutOfMemory {
-        return Ok((said, false));
-    }
-    if caller.control.handles().as_slice() != before.as_slice()
-        || caller.control.claim_out() != is_out
-        || caller.log.list.events().len() != events
-    {
-        return Ok((Said::Else, true));
-    }
-    Ok((caller.makes(alloc, step)?, true))
+    make_again(alloc, caller, step, before.as_slice(), events)
 }
 
 // Whether a call, the one with this number, answers what it is to answer, and the core then what is read off its log. It is refused memory
@@ -139,7 +186,7 @@ fn plays_call(
     if matches!(step, Step::Add(..)) {
         let _claimed = caller.makes(alloc, Step::Claim)?;
     }
-    agrees(alloc, caller)
+    agrees(alloc, &caller.control, caller.log.list.events())
 }
 
 // The first call that answers otherwise.
@@ -185,5 +232,5 @@ fn first_wrong(alloc: Global) -> Result<Option<Wrong>, OutOfMemory> {
 #[test]
 fn a_refused_log_changes_nothing(rt: HostRuntime) -> Result<(), Fail> {
     let wrong = first_wrong(rt.alloc())?;
-    verdict(rt.alloc(), wrong)
+    verdict(wrong)
 }

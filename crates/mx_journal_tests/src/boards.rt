@@ -1,159 +1,259 @@
 //! What readers of a board see, by worked examples, on one thread and on three.
-ghost use Rattle.std.specs.Prelude.{◌≡◌, ◌<◌, true, IfOk, IfSome, length};
-ghost use Rattle.mx_history.specs.History.{is_legal};
+ghost use Rattle.std.specs.Prelude.{◌≡◌};
+ghost use Rattle.std.specs.Option.{ForSome};
 
-use crate::board_desk::Desk;
-use mx_board::{BoardReader, BoardWriter, Found, board_of};
+use crate::board_desk::{Desk, board_again};
+use mx_board::{BoardReader, BoardWriter, Found};
 use mx_history::definitions;
 use mx_types::{Code, Event, HandleId, Look, OutOfMemory, State, Ticket, What, Who};
 use std::alloc::Global;
 use std::sync::Wait;
 use std::sync::atomic::{AtomicBool, Ordering};
-use std::thread::{Threads, join};
+use std::thread::{Threads, for_each_mut};
 
-// Readers for two seats, which are all that a board has places for.
-fn two_readers(desk: &mut Desk) -> Option<(BoardReader, BoardReader)>
-    ensures same { desk.new ≡ desk.old }
-    ensures book { IfSome result (λ r. (r.0.book ≡ desk.old.book) × (r.1.book ≡ desk.old.book)) }
-{
-    let one = desk.reader(Who::Seat(0))?;
-    let two = desk.reader(Who::Seat(1))?;
-    Some((one, two))
+/// What a reader answers.
+#[derive(Clone, Copy)]
+enum Told {
+    Handles(&'static [HandleId]),
+    /// How many events it has seen, how many of these are confirmed, and how many its maker made.
+    Seen(u32, u64, u32),
+    Running(Option<u32>),
+    State(HandleId, State),
+    Look(Ticket, Look),
+    Find(HandleId, Option<Found>),
 }
 
-// Two seats add a handle each, and are informed of it. It answers whether they were.
-fn add_two<R: Wait>(
-    rt: &R,
-    alloc: Global,
+// Whether the reader answers this.
+fn is_told(reader: &mut BoardReader, told: Told) -> bool
+    ensures { reader.new.book ≡ reader.old.book }
+{
+    match told {
+        Told::Handles(list) => match reader.handles() {
+            Some(handles) => handles.as_slice() == list,
+            None => false,
+        },
+        Told::Seen(cut, confirmed, made) => {
+            reader.cut() == cut && reader.confirmed() == confirmed && reader.made() == made
+        }
+        Told::Running(count) => reader.running() == count,
+        Told::State(handle, state) => reader.state(handle) == Some(state),
+        Told::Look(ticket, look) => reader.look(ticket) == Some(look),
+        Told::Find(handle, found) => reader.find(handle) == Some(found),
+    }
+}
+
+// Whether the reader answers nothing.
+fn is_silent(reader: BoardReader) -> bool {
+    let mut reader = reader;
+    reader.running().is_none()
+}
+
+/// What is done at a desk, and with the first of its readers, or the second.
+#[derive(Clone, Copy)]
+enum Step {
+    /// There is no place for a reader more.
+    Full,
+    /// An event is told.
+    Tell(Event),
+    InformFirst,
+    InformSecond,
+    /// The first reader answers this.
+    First(Told),
+    Second(Told),
+}
+
+/// A desk with its readers.
+#[derive(Drop)]
+struct Readers {
     desk: Desk,
-    a: &mut BoardReader,
-    b: &mut BoardReader,
-) -> Result<(Desk, [bool; 2]), OutOfMemory>
-    requires a { a.old.book ≡ desk.book }
-    requires b { b.old.book ≡ desk.book }
-{
-    let first = What::Added(HandleId(1), Ticket(0));
-    let mut desk = desk.tell(rt, alloc, Who::Seat(0), first)?;
-    let is_a_informed = desk.inform(a);
-    let second = What::Added(HandleId(2), Ticket(1));
-    let mut desk = desk.tell(rt, alloc, Who::Seat(1), second)?;
-    let is_b_informed = desk.inform(b);
-    Ok((desk, [is_a_informed, is_b_informed]))
+    first: BoardReader,
+    second: Option<BoardReader>,
+    ghost own: { (first.book ≡ desk.book) × ForSome second (λ r. r.book ≡ desk.book) },
 }
 
-// What the first seat's reader answers of both handles, and of one that isn't added, and how much it has then seen.
-fn are_told(a: &mut BoardReader) -> bool {
-    let Some(handles) = a.handles() else {
-        return false;
-    };
-    let seen = (a.cut(), a.confirmed(), a.made());
-    let running = a.running();
-    let states = [a.state(HandleId(2)), a.state(HandleId(9))];
-    let looks = [a.look(Ticket(1)), a.look(Ticket(2))];
-    let found = [a.find(HandleId(2)), a.find(HandleId(9))];
-    let second = Found {
-        ticket: Ticket(1),
-        slot: 1,
-    };
-    handles.as_slice() == [HandleId(1), HandleId(2)].as_slice()
-        && (seen, running) == ((2, 1, 1), Some(2))
-        && states == [Some(State::Running(Ticket(1))), Some(State::NotAdded)]
-        && looks == [Some(Look::Go), Some(Look::Gone)]
-        && found == [Some(Some(second)), Some(None)]
+impl Readers {
+    // A reader for the first seat, and one for the second, if there is to be one.
+    fn at(desk: Desk, are_two: bool) -> Option<Readers> {
+        let mut desk = desk;
+        let first = desk.reader(Who::Seat(0))?;
+        let second = if are_two {
+            desk.reader(Who::Seat(1))
+        } else {
+            None
+        };
+        Some(Readers {
+            desk,
+            first,
+            second,
+        })
+    }
+
+    // Whether the second reader is there, and is informed.
+    fn inform_second(&mut self) -> bool {
+        match &mut self.second {
+            Some(reader) => self.desk.inform(reader),
+            None => false,
+        }
+    }
+
+    // Whether the second reader is there, and answers this.
+    fn is_told_second(&mut self, told: Told) -> bool {
+        match &mut self.second {
+            Some(reader) => is_told(reader, told),
+            None => false,
+        }
+    }
+
+    // Takes a step: whether it is as it should be.
+    fn take<R: Wait>(&mut self, rt: &R, alloc: Global, step: Step) -> Result<bool, OutOfMemory> {
+        match step {
+            Step::Full => Ok(self.desk.reader(Who::Seat(2)).is_none()),
+            Step::Tell(event) => {
+                self.desk.tell(rt, alloc, event)?;
+                Ok(true)
+            }
+            Step::InformFirst => Ok(self.desk.inform(&mut self.first)),
+            Step::InformSecond => Ok(self.inform_second()),
+            Step::First(told) => Ok(is_told(&mut self.first, told)),
+            Step::Second(told) => Ok(self.is_told_second(told)),
+        }
+    }
+
+    // Takes all steps: whether each is as it should be.
+    fn take_all<R: Wait>(
+        &mut self,
+        rt: &R,
+        alloc: Global,
+        steps: &[Step],
+    ) -> Result<bool, OutOfMemory> {
+        for step in steps {
+            if !self.take(rt, alloc, *step)? {
+                return Ok(false);
+            }
+        }
+        Ok(true)
+    }
+
+    // Closes the board: how many events were published last. None where a reader answers then.
+    fn close<R: Wait>(self, rt: &R) -> Option<u32> {
+        let Readers {
+            desk,
+            first,
+            second,
+        } = self;
+        let closed = desk.close(rt);
+        let is_silent_first = is_silent(first);
+        let is_silent_second = match second {
+            Some(reader) => is_silent(reader),
+            None => true,
+        };
+        (is_silent_first && is_silent_second).then_some(closed)
+    }
 }
 
-// Two seats add a handle each, there being no place for a third, and ask. A read that finds nothing new leaves all confirmed.
-fn add_and_ask<R: Wait>(
+// Takes all steps, and closes the board, which has published so many events then.
+fn play_at<R: Wait>(
     rt: &R,
     alloc: Global,
-    mut desk: Desk,
-    a: &mut BoardReader,
-    b: &mut BoardReader,
-) -> Result<bool, OutOfMemory>
-    requires a { a.old.book ≡ desk.book }
-    requires b { b.old.book ≡ desk.book }
-{
-    let is_full = desk.reader(Who::Seat(2)).is_none();
-    let (desk, informed) = add_two(rt, alloc, desk, a, b)?;
-    let are_told = are_told(a);
-    let told = (b.running(), b.cut(), b.confirmed());
-    let closed = desk.close(rt).len();
-    Ok(
-        is_full
-            && are_told
-            && informed == [true, true]
-            && (told, closed, b.running()) == ((Some(2), 2, 2), 2, None),
-    )
+    readers: Readers,
+    steps: &[Step],
+    events: u32,
+) -> Result<bool, OutOfMemory> {
+    let mut readers = readers;
+    let played = readers.take_all(rt, alloc, steps);
+    let closed = readers.close(rt);
+    Ok(played? && closed == Some(events))
 }
+
+// The same of a new desk, with one reader or two: whether all is as it should be, and whether memory was refused.
+fn play<R: Wait>(
+    rt: &R,
+    alloc: Global,
+    are_two: bool,
+    steps: &[Step],
+    events: u32,
+) -> Result<(bool, bool), OutOfMemory> {
+    let (desk, is_refused) = Desk::new(rt, alloc)?;
+    match Readers::at(desk, are_two) {
+        Some(readers) => Ok((play_at(rt, alloc, readers, steps, events)?, is_refused)),
+        None => Ok((false, is_refused)),
+    }
+}
+
+/// Two seats add a handle each, there being no place for a third reader, and their readers are informed. Then each reader answers both
+/// handles, and the first one what it knows of them, and of what isn't added. A read that finds nothing new leaves all confirmed.
+static TWO_SEATS: [Step; 16] = [
+    Step::Full,
+    Step::Tell(Event {
+        who: Who::Seat(0),
+        what: What::Added(HandleId(1), Ticket(0)),
+    }),
+    Step::InformFirst,
+    Step::Tell(Event {
+        who: Who::Seat(1),
+        what: What::Added(HandleId(2), Ticket(1)),
+    }),
+    Step::InformSecond,
+    Step::First(Told::Handles(&[HandleId(1), HandleId(2)])),
+    Step::First(Told::Seen(2, 1, 1)),
+    Step::First(Told::Running(Some(2))),
+    Step::First(Told::State(HandleId(2), State::Running(Ticket(1)))),
+    Step::First(Told::State(HandleId(9), State::NotAdded)),
+    Step::First(Told::Look(Ticket(1), Look::Go)),
+    Step::First(Told::Look(Ticket(2), Look::Gone)),
+    Step::First(Told::Find(
+        HandleId(2),
+        Some(Found {
+            ticket: Ticket(1),
+            slot: 1,
+        }),
+    )),
+    Step::First(Told::Find(HandleId(9), None)),
+    Step::Second(Told::Running(Some(2))),
+    Step::Second(Told::Seen(2, 2, 1)),
+];
 
 /// Two seats add a handle each, and see both: whether all is as it should be, and whether memory was refused.
 pub fn two_seats<R: Wait>(rt: &R, alloc: Global) -> Result<(bool, bool), OutOfMemory> {
-    let (mut desk, is_refused) = Desk::new(rt, alloc)?;
-    let Some((mut a, mut b)) = two_readers(&mut desk) else {
-        return Ok((false, is_refused));
-    };
-    let is_so = add_and_ask(rt, alloc, desk, &mut a, &mut b)?;
-    Ok((is_so, is_refused))
+    play(rt, alloc, true, &TWO_SEATS, 2)
 }
 
-// A seat adds a handle. It answers what the reader answers before it is informed of that and after, and whether it was.
-fn add_one<R: Wait>(
-    rt: &R,
-    alloc: Global,
-    desk: Desk,
-    a: &mut BoardReader,
-) -> Result<([(Option<u32>, u32); 2], bool), OutOfMemory>
-    requires { a.old.book ≡ desk.book }
-{
-    let what = What::Added(HandleId(1), Ticket(0));
-    let mut desk = desk.tell(rt, alloc, Who::Seat(0), what)?;
-    let before = (a.running(), a.cut());
-    let is_informed = desk.inform(a);
-    let after = (a.running(), a.cut());
-    desk.close(rt);
-    Ok(([before, after], is_informed))
-}
+/// A seat adds a handle: what its reader answers before it is informed of that and after.
+static OWN_EVENT: [Step; 6] = [
+    Step::Tell(Event {
+        who: Who::Seat(0),
+        what: What::Added(HandleId(1), Ticket(0)),
+    }),
+    Step::First(Told::Running(None)),
+    Step::First(Told::Seen(0, 0, 0)),
+    Step::InformFirst,
+    Step::First(Told::Running(Some(1))),
+    Step::First(Told::Seen(1, 1, 1)),
+];
 
 /// A reader waits for the event of its own seat: whether all is as it should be, and whether memory was refused.
 pub fn own_event<R: Wait>(rt: &R, alloc: Global) -> Result<(bool, bool), OutOfMemory> {
-    let (mut desk, is_refused) = Desk::new(rt, alloc)?;
-    let Some(mut a) = desk.reader(Who::Seat(0)) else {
-        return Ok((false, is_refused));
-    };
-    let told = add_one(rt, alloc, desk, &mut a)?;
-    Ok((told == ([(None, 0), (Some(1), 1)], true), is_refused))
+    play(rt, alloc, false, &OWN_EVENT, 1)
 }
 
-// Adds so many handles, each under its own ticket.
-fn add_each<R: Wait>(rt: &R, alloc: Global, desk: Desk, handles: u32) -> Result<Desk, OutOfMemory> {
-    let mut desk = desk;
-    for n in 0..handles {
-        desk = desk.tell(
-            rt,
-            alloc,
-            Who::Worker(0),
-            What::Added(HandleId(n), Ticket(n)),
-        )?;
+/// How many handles are added while two readers read.
+const ADDED: u32 = 60;
+
+// Adds that many handles, each under its own ticket.
+fn add_each<R: Wait>(rt: &R, alloc: Global, desk: &mut Desk) -> Result<(), OutOfMemory> {
+    for n in 0..ADDED {
+        let event = Event {
+            who: Who::Worker(0),
+            what: What::Added(HandleId(n), Ticket(n)),
+        };
+        desk.tell(rt, alloc, event)?;
     }
-    Ok(desk)
-}
-
-// The same, and signals the readers that it has ended.
-fn add_all<R: Wait>(
-    rt: &R,
-    alloc: Global,
-    desk: Desk,
-    handles: u32,
-    ended: &AtomicBool,
-) -> Result<Desk, OutOfMemory> {
-    let desk = add_each(rt, alloc, desk, handles);
-    ended.store(true, Ordering::SeqCst);
-    desk
+    Ok(())
 }
 
 // Reads until so many handles are added. Whether each read showed as many handles as the reader had then seen events, and no fewer than the
 // one before.
-fn read_all(mut reader: BoardReader, handles: u32, ended: &AtomicBool) -> bool {
+fn read_all(reader: &mut BoardReader, ended: &AtomicBool) -> bool {
     let mut before = 0;
     for _ in 0..200000000 {
         let last = ended.load(Ordering::SeqCst);
@@ -163,46 +263,100 @@ fn read_all(mut reader: BoardReader, handles: u32, ended: &AtomicBool) -> bool {
         if running != reader.cut() || running < before {
             return false;
         }
-        if running >= handles || last {
-            return running == handles;
+        if running >= ADDED || last {
+            return running == ADDED;
         }
         before = running;
     }
     false
 }
 
-// Two readers read while a third thread adds: whether each agreed, and how many were added.
-fn read_beside<R: Threads + Wait + Sync>(
-    rt: &R,
-    alloc: Global,
-    desk: Desk,
-    readers: (BoardReader, BoardReader),
-) -> Result<((bool, bool), u32), OutOfMemory> {
-    let (one, two) = readers;
-    let ended = AtomicBool::new(false);
-    let (desk, agree) = join(
-        rt,
-        || add_all(rt, alloc, desk, 60, &ended),
-        || join(
-            rt,
-            || read_all(one, 60, &ended),
-            || read_all(two, 60, &ended),
-        ),
-    );
-    Ok((agree, desk?.close(rt).len()))
+/// What a thread does: it adds, or it reads.
+#[derive(Drop)]
+enum Role {
+    Adds(Desk),
+    Reads(BoardReader),
+}
+
+/// A thread's part, and whether it came as it should.
+#[derive(Drop)]
+struct Part {
+    role: Role,
+    told: Result<bool, OutOfMemory>,
+}
+
+impl Part {
+    // Plays it; the adder signals the readers that it has ended.
+    fn play<R: Wait>(&mut self, rt: &R, alloc: Global, ended: &AtomicBool) {
+        self.told = match &mut self.role {
+            Role::Adds(desk) => {
+                let added = add_each(rt, alloc, desk);
+                ended.store(true, Ordering::SeqCst);
+                match added {
+                    Ok(()) => Ok(true),
+                    Err(OutOfMemory) => Err(OutOfMemory),
+                }
+            }
+            Role::Reads(reader) => Ok(read_all(reader, ended)),
+        };
+    }
+
+    // Ends it, and closes the board: whether it came as it should.
+    fn end<R: Wait>(self, rt: &R) -> Result<bool, OutOfMemory> {
+        let Part { role, told } = self;
+        match role {
+            Role::Adds(desk) => {
+                let closed = desk.close(rt);
+                Ok(told? && closed == ADDED)
+            }
+            Role::Reads(reader) => {
+                drop(reader);
+                told
+            }
+        }
+    }
+}
+
+// The parts of three threads: one adds, and two read.
+fn parts_of<R: Wait>(rt: &R, alloc: Global) -> Result<Vec<Part>, OutOfMemory> {
+    let (mut desk, _) = Desk::new(rt, alloc)?;
+    let mut parts = Vec::with_capacity(alloc, 3)?;
+    for n in 0..2 {
+        if let Some(reader) = desk.reader(Who::Seat(n)) {
+            parts.push(Part {
+                role: Role::Reads(reader),
+                told: Ok(false),
+            })?;
+        }
+    }
+    parts.push(Part {
+        role: Role::Adds(desk),
+        told: Ok(false),
+    })?;
+    Ok(parts)
 }
 
 /// Two threads read what a third adds: whether all is as it should be.
 pub fn three_threads<R: Threads + Wait + Sync>(rt: &R, alloc: Global) -> Result<bool, OutOfMemory> {
-    let (mut desk, _) = Desk::new(rt, alloc)?;
-    let Some(readers) = two_readers(&mut desk) else {
-        return Ok(false);
-    };
-    Ok(read_beside(rt, alloc, desk, readers)? == ((true, true), 60))
+    let mut parts = parts_of(rt, alloc)?;
+    let ended = AtomicBool::new(false);
+    for_each_mut(
+        rt,
+        parts.as_mut_slice(),
+        3,
+        &|_: usize, part: &mut Part| { part.play(rt, alloc, &ended) },
+    );
+    let mut is_so = parts.len() == 3;
+    for _ in 0..3 {
+        if let Some(part) = parts.pop() {
+            is_so = part.end(rt)? && is_so;
+        }
+    }
+    Ok(is_so)
 }
 
 // A seat's addition, which ended, and another's, whose ticket isn't the next number.
-const KEPT: [Event; 3] = [
+static KEPT: [Event; 3] = [
     Event {
         who: Who::Seat(0),
         what: What::Added(HandleId(1), Ticket(4)),
@@ -217,32 +371,35 @@ const KEPT: [Event; 3] = [
     },
 ];
 
-// Whether a new reader has seen all of it, confirmed, and with it the events of its maker.
-fn is_seen(reader: &mut BoardReader) -> bool {
-    let seen = (reader.cut(), reader.confirmed(), reader.made());
-    let states = [reader.state(HandleId(1)), reader.state(HandleId(2))];
-    (seen, reader.running()) == ((3, 3, 1), Some(1))
-        && states
-            == [
-                Some(State::Done(Ticket(4), Code::Ok)),
-                Some(State::Running(Ticket(7))),
-            ]
+/// A new reader has seen all of it, confirmed, and with it the events of its maker.
+static KEPT_IS_SEEN: [Told; 4] = [
+    Told::Seen(3, 3, 1),
+    Told::State(HandleId(1), State::Done(Ticket(4), Code::Ok)),
+    Told::State(HandleId(2), State::Running(Ticket(7))),
+    Told::Running(Some(1)),
+];
+
+// Whether the reader answers all of these.
+fn are_told(reader: &mut BoardReader, all: &[Told]) -> bool {
+    for told in all {
+        if !is_told(reader, *told) {
+            return false;
+        }
+    }
+    true
 }
 
-// A board of legal events, made again where memory was refused; and whether it was.
-fn make<R: Wait>(
-    rt: &R,
-    alloc: Global,
-    events: &[Event],
-) -> Result<(BoardWriter, bool), OutOfMemory>
-    requires legal { is_legal events.now ≡ true }
-    requires few { length events.now < 4294967295 }
-    ensures { IfOk result (λ r. (r.0.events ≡ events.now) × (r.0.published ≡ events.now)) }
+// Whether a new reader of this board answers so, and the table is that of these events.
+fn read_kept<R: Wait>(rt: &R, mut board: BoardWriter) -> bool
+    requires { board.published ≡ board.events }
 {
-    match board_of(rt, alloc, 1, events) {
-        Ok(board) => Ok((board, false)),
-        Err(OutOfMemory) => Ok((board_of(rt, alloc, 1, events)?, true)),
-    }
+    let Some(mut reader) = board.reader(Who::Seat(1)) else {
+        return false;
+    };
+    let are_told = are_told(&mut reader, &KEPT_IS_SEEN);
+    drop(reader);
+    let published = board.close(rt);
+    are_told && published.len() == 3 && published.beyond() == 8
 }
 
 /// A history that was kept is read as it is: whether all is as it should be, and whether memory was refused.
@@ -250,14 +407,6 @@ pub fn kept<R: Wait>(rt: &R, alloc: Global) -> Result<(bool, bool), OutOfMemory>
     if !definitions::is_legal(alloc, &KEPT)? {
         return Ok((false, false));
     }
-    let (mut board, is_refused) = make(rt, alloc, &KEPT)?;
-    let Some(mut reader) = board.reader(Who::Seat(1)) else {
-        return Ok((false, is_refused));
-    };
-    let is_seen = is_seen(&mut reader);
-    let published = board.close(rt);
-    Ok((
-        is_seen && (published.len(), published.beyond()) == (3, 8),
-        is_refused,
-    ))
+    let (board, is_refused) = board_again(rt, alloc, &KEPT)?;
+    Ok((read_kept(rt, board), is_refused))
 }

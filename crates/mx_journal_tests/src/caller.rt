@@ -226,11 +226,18 @@ impl Caller {
     // What is kept is what the executable definition finds in the log, and is the journal then.
     fn retire_to(&mut self, alloc: Global, whats: &[What]) -> Result<Said, OutOfMemory> {
         let kept = self.control.kept(alloc)?;
-        let told = definitions::retire(alloc, self.log.list.events())?;
-        let are_told = kept.as_slice() == told.as_slice() && have(kept.as_slice(), whats);
+        self.retire_kept(alloc, kept.as_slice(), whats)
+    }
+
+    fn retire_kept(
+        &mut self,
+        alloc: Global,
+        kept: &[Event],
+        whats: &[What],
+    ) -> Result<Said, OutOfMemory> {
+        let are_told = are_retired(alloc, self.log.list.events(), kept)? && have(kept, whats);
         let said = self.retire();
-        let journal = journal(alloc, &self.control)?;
-        if are_told && journal.as_slice() == kept.as_slice() {
+        if are_told && is_journal(&self.control, kept) {
             return Ok(said);
         }
         Ok(Said::Else)
@@ -282,16 +289,32 @@ impl Caller {
 
 // Whether this is what happened in the events.
 fn have(events: &[Event], whats: &[What]) -> bool {
-    events.len() == whats.len() && events.iter().zip(whats).all(|(e, what)| e.what == *what)
-}
-
-// The events of the journal.
-fn journal(alloc: Global, control: &Control<Job, End>) -> Result<Vec<Event>, OutOfMemory> {
-    let mut list = Vec::new(alloc);
-    for at in 0..control.len() {
-        if let Some(event) = control.event(at) {
-            list.push(event)?;
+    if events.len() != whats.len() {
+        return false;
+    }
+    for (event, what) in events.iter().zip(whats) {
+        if event.what != *what {
+            return false;
         }
     }
-    Ok(list)
+    true
+}
+
+// Whether these are the events that the executable definition keeps of a log.
+fn are_retired(alloc: Global, log: &[Event], kept: &[Event]) -> Result<bool, OutOfMemory> {
+    let told = definitions::retire(alloc, log)?;
+    Ok(told.as_slice() == kept)
+}
+
+// Whether these are the events of the journal.
+fn is_journal(control: &Control<Job, End>, events: &[Event]) -> bool {
+    if control.len() as usize != events.len() {
+        return false;
+    }
+    for (at, event) in events.iter().enumerate() {
+        if control.event(at as u32) != Some(*event) {
+            return false;
+        }
+    }
+    true
 }

@@ -62,7 +62,6 @@ const WHOLE: &[Event] = &[ADDED, PAUSED, RESUMED, DONE, READ, REMOVED, AGAIN];
 const THREE: &[Event] = &[ADDED, EIGHT, DONE, READ, REMOVED, NINE];
 
 /// What is said of a list.
-#[derive(Clone, Copy, PartialEq, Eq)]
 enum Fact {
     /// Whether it is a history of a multi handle.
     Legal(bool),
@@ -75,108 +74,123 @@ enum Fact {
     Room(u32, bool),
     /// The state of handle 7.
     Seven(State),
-    /// The slot of ticket 0, how many have slots, and the first two of these.
-    Slots(Option<u8>, usize, Option<(Ticket, u8)>, Option<(Ticket, u8)>),
+    /// The slot of ticket 0, and the tickets that have slots, with these.
+    Slots(Option<u8>, &'static [(Ticket, u8)]),
 }
 
 /// A name, a list, how many events of it are looked at, and what is said of these.
-type Row = (&'static str, &'static [Event], usize, Fact);
+struct Row(&'static str, &'static [Event], usize, Fact);
 
 const MESSAGE: Option<(Ticket, Code, u32)> = Some((Ticket(0), Code::Ok, 3));
 
 static ROWS: [Row; 21] = [
-    ("a_whole_history", WHOLE, 7, Fact::Legal(true)),
-    ("added_twice", &[ADDED, AGAIN], 2, Fact::Legal(false)),
-    (
+    Row("a_whole_history", WHOLE, 7, Fact::Legal(true)),
+    Row("added_twice", &[ADDED, AGAIN], 2, Fact::Legal(false)),
+    Row(
         "a_ticket_twice",
         &[ADDED, NUMBERED_AGAIN],
         2,
         Fact::Legal(false),
     ),
-    ("resumed_unpaused", &[ADDED, RESUMED], 2, Fact::Legal(false)),
-    (
+    Row("resumed_unpaused", &[ADDED, RESUMED], 2, Fact::Legal(false)),
+    Row(
         "paused_twice",
         &[ADDED, PAUSED, PAUSED],
         3,
         Fact::Legal(false),
     ),
-    ("read_before_the_end", &[ADDED, READ], 2, Fact::Legal(false)),
-    ("two_ends", &[ADDED, DONE, DONE], 3, Fact::Legal(false)),
-    (
+    Row("read_before_the_end", &[ADDED, READ], 2, Fact::Legal(false)),
+    Row("two_ends", &[ADDED, DONE, DONE], 3, Fact::Legal(false)),
+    Row(
         "an_end_behind_a_removal",
         &[ADDED, REMOVED, DONE],
         3,
         Fact::Legal(false),
     ),
-    ("beyond_all_tickets", WHOLE, 7, Fact::Beyond(2)),
-    ("a_message", &[ADDED, DONE], 2, Fact::First(MESSAGE, None)),
-    (
+    Row("beyond_all_tickets", WHOLE, 7, Fact::Beyond(2)),
+    Row("a_message", &[ADDED, DONE], 2, Fact::First(MESSAGE, None)),
+    Row(
         "a_message_of_what_is_removed",
         &[ADDED, DONE, REMOVED],
         3,
         Fact::First(None, None),
     ),
-    (
+    Row(
         "a_pause",
         &[ADDED, PAUSED],
         2,
         Fact::First(None, Some(Ticket(0))),
     ),
-    (
+    Row(
         "a_pause_behind_the_end",
         &[ADDED, PAUSED, DONE],
         3,
         Fact::First(MESSAGE, None),
     ),
-    ("due_of_two_additions", THREE, 2, Fact::Due(6)),
-    ("due_behind_an_end", THREE, 3, Fact::Due(5)),
-    ("due_behind_a_reading", THREE, 4, Fact::Due(4)),
-    ("due_behind_a_removal", THREE, 5, Fact::Due(3)),
-    ("room_for_what_is_due", THREE, 6, Fact::Room(0, true)),
-    ("no_room_for_one_more", THREE, 6, Fact::Room(1, false)),
-    (
+    Row("due_of_two_additions", THREE, 2, Fact::Due(6)),
+    Row("due_behind_an_end", THREE, 3, Fact::Due(5)),
+    Row("due_behind_a_reading", THREE, 4, Fact::Due(4)),
+    Row("due_behind_a_removal", THREE, 5, Fact::Due(3)),
+    Row("room_for_what_is_due", THREE, 6, Fact::Room(0, true)),
+    Row("no_room_for_one_more", THREE, 6, Fact::Room(1, false)),
+    Row(
         "before_its_removal",
         THREE,
         4,
         Fact::Seven(State::Read(Ticket(0), Code::Ok)),
     ),
     // rule core-slots
-    (
+    Row(
         "the_lowest_slot_first",
         THREE,
         6,
-        Fact::Slots(None, 2, Some((Ticket(1), 1)), Some((Ticket(2), 0))),
+        Fact::Slots(None, &[(Ticket(1), 1), (Ticket(2), 0)]),
     ),
 ];
 
-// What is said, of the kind of this fact.
-fn told(alloc: Global, events: &[Event], fact: Fact) -> Result<Fact, OutOfMemory> {
-    Ok(match fact {
-        Fact::Legal(_) => Fact::Legal(definitions::is_legal(alloc, events)?),
-        Fact::Beyond(_) => Fact::Beyond(definitions::beyond(events)),
-        Fact::First(..) => Fact::First(
-            definitions::waiting(alloc, events)?.first().copied(),
-            definitions::paused(alloc, events)?.first().copied(),
-        ),
-        Fact::Due(_) => Fact::Due(definitions::due(alloc, events)?),
-        Fact::Room(more, _) => { Fact::Room(more, definitions::has_room(alloc, 12, events, more)?) }
-        Fact::Seven(_) => Fact::Seven(definitions::state_of(alloc, events, HandleId(7))?),
-        Fact::Slots(..) => {
-            let slots = definitions::slots(alloc, events)?;
-            Fact::Slots(
-                definitions::slot_of(alloc, events, Ticket(0))?,
-                slots.len(),
-                slots.get(0).copied(),
-                slots.get(1).copied(),
-            )
+// Whether the first message that waits and the first ticket that is paused are these.
+fn are_first(
+    alloc: Global,
+    events: &[Event],
+    message: &Option<(Ticket, Code, u32)>,
+    ticket: &Option<Ticket>,
+) -> Result<bool, OutOfMemory> {
+    let waiting = definitions::waiting(alloc, events)?.first().copied();
+    let paused = definitions::paused(alloc, events)?.first().copied();
+    Ok(waiting == *message && paused == *ticket)
+}
+
+// Whether the slots are these.
+fn are_slots(
+    alloc: Global,
+    events: &[Event],
+    first: Option<u8>,
+    slots: &[(Ticket, u8)],
+) -> Result<bool, OutOfMemory> {
+    let told = definitions::slots(alloc, events)?;
+    let are_told = told.as_slice() == slots;
+    drop(told);
+    Ok(are_told && definitions::slot_of(alloc, events, Ticket(0))? == first)
+}
+
+// Whether this is said.
+fn is_said(alloc: Global, events: &[Event], fact: &Fact) -> Result<bool, OutOfMemory> {
+    match fact {
+        Fact::Legal(is_legal) => Ok(definitions::is_legal(alloc, events)? == *is_legal),
+        Fact::Beyond(ticket) => Ok(definitions::beyond(events) == *ticket),
+        Fact::First(message, ticket) => are_first(alloc, events, message, ticket),
+        Fact::Due(due) => Ok(definitions::due(alloc, events)? == *due),
+        Fact::Room(more, is_there) => {
+            Ok(definitions::has_room(alloc, 12, events, *more)? == *is_there)
         }
-    })
+        Fact::Seven(state) => Ok(definitions::state_of(alloc, events, HandleId(7))? == *state),
+        Fact::Slots(first, slots) => are_slots(alloc, events, *first, *slots),
+    }
 }
 
 fn first_wrong(alloc: Global) -> Result<Option<Wrong>, OutOfMemory> {
-    for (name, list, count, fact) in &ROWS {
-        let events = list.get(..*count).unwrap_or(&[]);
-        if told(alloc, events, *fact)? != *fact {
+    for Row(name, list, count, fact) in &ROWS {
+        if !is_said(alloc, list.get(..*count).unwrap_or(&[]), fact)? {
             return Ok(Some(Wrong { row: name, step: 0 }));
         }
     }
@@ -188,5 +202,5 @@ fn first_wrong(alloc: Global) -> Result<Option<Wrong>, OutOfMemory> {
 #[test]
 fn the_definitions_tell_histories(rt: HostRuntime) -> Result<(), Fail> {
     let wrong = first_wrong(rt.alloc())?;
-    verdict(rt.alloc(), wrong)
+    verdict(wrong)
 }

@@ -9,25 +9,38 @@ use std::sync::Wait;
 use std::test::Fail;
 use std::thread::Threads;
 
+/// A board on one thread, or the words of a table: each row is made again where memory was refused.
+static ROWS: [&str; 4] = [
+    // rule board-published
+    "two_seats_add_a_handle_each",
+    // rule board-own-events
+    // rule board-catch-up
+    "a_reader_waits_for_its_own_event",
+    "a_kept_history_is_read_as_it_stands",
+    // rule board-progress-word
+    "a_word_is_the_greatest_that_was_noted",
+];
+
+// Whether the row of this number is answered as it says, and whether memory was refused.
+fn is_so<R: Wait>(rt: &R, alloc: Global, number: usize) -> Result<(bool, bool), OutOfMemory> {
+    match number {
+        0 => two_seats(rt, alloc),
+        1 => own_event(rt, alloc),
+        2 => kept(rt, alloc),
+        _ => greatest(alloc),
+    }
+}
+
 // The first row that isn't answered as it says, and whether memory was refused.
 fn first_wrong<R: Wait>(
     rt: &R,
     alloc: Global,
 ) -> Result<(Option<&'static str>, bool), OutOfMemory> {
-    let rows = [
-        // rule board-published
-        ("two_seats_add_a_handle_each", two_seats(rt, alloc)?),
-        // rule board-own-events
-        // rule board-catch-up
-        ("a_reader_waits_for_its_own_event", own_event(rt, alloc)?),
-        ("a_kept_history_is_read_as_it_stands", kept(rt, alloc)?),
-        // rule board-progress-word
-        ("a_word_is_the_greatest_that_was_noted", greatest(alloc)?),
-    ];
     let mut refused = false;
-    for (row, (is_so, is_refused)) in rows {
+    for (number, row) in ROWS.iter().enumerate() {
+        let (is_so, is_refused) = is_so(rt, alloc, number)?;
         if !is_so {
-            return Ok((Some(row), false));
+            return Ok((Some(*row), false));
         }
         refused = refused || is_refused;
     }
@@ -39,17 +52,11 @@ fn first_wrong_beside<R: Threads + Wait + Sync>(
     rt: &R,
     alloc: Global,
 ) -> Result<Option<&'static str>, OutOfMemory> {
-    let rows = [
-        (
-            "two_threads_read_what_a_third_adds",
-            three_threads(rt, alloc)?,
-        ),
-        ("notes_of_two_threads", two_threads(rt, alloc)?),
-    ];
-    for (row, is_so) in rows {
-        if !is_so {
-            return Ok(Some(row));
-        }
+    if !three_threads(rt, alloc)? {
+        return Ok(Some("two_threads_read_what_a_third_adds"));
+    }
+    if !two_threads(rt, alloc)? {
+        return Ok(Some("notes_of_two_threads"));
     }
     Ok(None)
 }

@@ -406,5 +406,5 @@ fn first_wrong(alloc: Global) -> Result<Option<Wrong>, OutOfMemory> {
 #[test]
 fn calls_answer_as_their_rows_say(rt: HostRuntime) -> Result<(), Fail> {
     let wrong = first_wrong(rt.alloc())?;
-    verdict(rt.alloc(), wrong)
+    verdict(wrong)
 }

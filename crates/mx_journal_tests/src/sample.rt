@@ -106,9 +106,9 @@ pub struct Wrong {
 }
 
 /// The end of a test: it fails with the row and the step.
-pub fn verdict(alloc: Global, wrong: Option<Wrong>) -> Result<(), Fail> {
-    let Some(Wrong { row, step }) = wrong else {
-        return Ok(());
-    };
-    Err(format!(in alloc; "{row}: step {step}")?.into())
+pub fn verdict(wrong: Option<Wrong>) -> Result<(), Fail> {
+    match wrong {
+        Some(Wrong { row, step }) => Err(Fail::new(format_args!("{row}: step {step}"))),
+        None => Ok(()),
+    }
 }
