@@ -100,7 +100,7 @@ impl<'a> Worker<'a> {
             let Some(claim) = self.hand.take() else {
                 return;
             };
-            let _given = self.seat.give_back(rt, claim, Job);
+            drop(self.seat.give_back(rt, claim, Job));
         }
     }
 }

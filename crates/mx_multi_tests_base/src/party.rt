@@ -106,6 +106,14 @@ impl<'a> Place<'a> {
         Ok(woke)
     }
 
+    // Makes a call, whatever it answers.
+    fn any<R: Wait>(&mut self, rt: &R, call: Call) -> Result<(), Stop>
+        ensures { self.new.client.of ≡ self.old.client.of }
+    {
+        self.call(rt, call)?;
+        Ok(())
+    }
+
     // Makes a call. A poll comes after a wake-up of its own seat, so that it needs no other thread.
     fn turn<R: Wait>(&mut self, rt: &R, call: Call) -> Result<(), Stop>
         ensures { self.new.client.of ≡ self.old.client.of }
@@ -174,7 +182,6 @@ pub struct Party<'a> {
     pub notes: Notes,
     pub chance: Chance,
     pub task: Task,
-    pub hold: Arc<Hold>,
     pub stop: Option<Stop>,
     pub ghost own: { (two.client.of ≡ one.client.of) × (worker.seat.of ≡ one.client.of) },
 }
@@ -199,6 +206,7 @@ impl<'a> Party<'a> {
         ensures { self.new.one.client.of ≡ self.old.one.client.of }
     {
         let Some(claim) = self.worker.hand.claims().last() else {
+            drop(end);
             return Ok(());
         };
         let call = Call::Finish(claim.ticket(), end.code, end.size);
@@ -237,54 +245,62 @@ impl<'a> Party<'a> {
         Ok(())
     }
 
-    fn act<R: Wait>(&mut self, rt: &R, act: Act) -> Result<(), Stop>
+    // Ends the last of the claimed transfers, and keeps the lock until another thread releases it.
+    fn finish_held<R: Wait>(
+        &mut self,
+        rt: &R,
+        hold: &Arc<Hold>,
+        code: Code,
+        size: u32,
+    ) -> Result<(), Stop>
+        ensures { self.new.one.client.of ≡ self.old.one.client.of }
+    {
+        match hold.clone() {
+            Ok(hold) => self.finish(rt, End::held(code, size, hold)),
+            Err(_) => Err(Stop::Memory),
+        }
+    }
+
+    fn act<R: Wait>(&mut self, rt: &R, hold: &Arc<Hold>, act: Act) -> Result<(), Stop>
         ensures { self.new.one.client.of ≡ self.old.one.client.of }
     {
         match act {
             Act::Make(call, said, cut) => self.one.say(rt, call, said, Some(cut)),
             Act::Say(call, said) => self.one.say(rt, call, said, None),
-            Act::Any(call) => {
-                self.one.call(rt, call)?;
-                Ok(())
-            }
+            Act::Any(call) => self.one.any(rt, call),
             Act::Claim => self.claim(rt),
-            Act::FinishHeld(code, size) => {
-                let Ok(hold) = self.hold.clone() else {
-                    return Err(Stop::Memory);
-                };
-                self.finish(rt, End::held(code, size, hold))
-            }
+            Act::FinishHeld(code, size) => self.finish_held(rt, hold, code, size),
             Act::AwaitHold => {
-                if self.hold.has_begun() {
+                if hold.has_begun() {
                     return Ok(());
                 }
                 Err(Stop::Wrong)
             }
             Act::Release => {
-                self.hold.end();
+                hold.end();
                 Ok(())
             }
             Act::Turns(resumes, count) => self.one.take_turns(rt, resumes, count),
         }
     }
 
-    fn act_all<R: Wait>(&mut self, rt: &R, acts: &[Act]) -> Result<(), Stop>
+    fn act_all<R: Wait>(&mut self, rt: &R, hold: &Arc<Hold>, acts: &[Act]) -> Result<(), Stop>
         ensures { self.new.one.client.of ≡ self.old.one.client.of }
     {
         for act in acts {
-            self.act(rt, *act)?;
+            self.act(rt, hold, *act)?;
         }
         Ok(())
     }
 
     /// Does its task, or as much of it as until it stops. At the end it gives all claimed work back.
-    pub fn run<R: Wait>(&mut self, rt: &R)
+    pub fn run<R: Wait>(&mut self, rt: &R, hold: &Arc<Hold>)
         ensures { self.new.one.client.of ≡ self.old.one.client.of }
     {
         let done = match self.task {
             Task::Nothing => Ok(()),
             Task::Chance(_, turns) => self.play(rt, turns),
-            Task::Acts(acts) => self.act_all(rt, acts),
+            Task::Acts(acts) => self.act_all(rt, hold, acts),
         };
         self.stop = done.err();
         self.worker.give_all_back(rt);

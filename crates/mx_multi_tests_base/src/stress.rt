@@ -1,5 +1,5 @@
 //! Seats of one multi handle on many threads, and the same calls on one.
-ghost use Rattle.std.specs.Prelude.{◌≡◌, ◌<◌, ℕ, length, slice_index_or, IfOk, IfSome};
+ghost use Rattle.std.specs.Prelude.{◌≡◌, ◌<◌, ℕ, length, slice_index_or, IfSome};
 ghost use Rattle.std.specs.List.{All};
 
 use crate::client::{Client, Worker};
@@ -31,6 +31,22 @@ fn notes_of(alloc: Global, who: Who) -> Notes {
         alloc,
         who,
         entries: Vec::new(alloc),
+    }
+}
+
+// The task of a worker's number.
+fn task_of(tasks: &[Task], number: u8) -> Task {
+    match tasks.get(usize::from(number)) {
+        Some(task) => *task,
+        None => Task::Nothing,
+    }
+}
+
+// The numbers by chance of a worker's number.
+fn chance_of(tasks: &[Task], number: u8) -> Chance {
+    match task_of(tasks, number) {
+        Task::Chance(seed, _) => Chance::new(seed.wrapping_add(u64::from(number))),
+        _ => Chance::new(0),
     }
 }
 
@@ -66,31 +82,40 @@ impl<'a> Pool<'a> {
         })
     }
 
+    // The last two seats, the last but one first.
+    fn take_places(&mut self, alloc: Global) -> Option<(Place<'a>, Place<'a>)>
+        ensures same { self.new.multi ≡ self.old.multi }
+        ensures own { IfSome result (λ p. (p.0.client.of ≡ self.old.multi.now) × (p.1.client.of ≡ self.old.multi.now)) }
+    {
+        let two = self.take_place(alloc)?;
+        match self.take_place(alloc) {
+            Some(one) => Some((one, two)),
+            None => {
+                drop(two);
+                None
+            }
+        }
+    }
+
     // The last two seats with the last worker's seat, which do the task of that worker's number. None where there are not so many.
-    fn take_party(&mut self, alloc: Global, tasks: &[Task], hold: Arc<Hold>) -> Option<Party<'a>>
+    fn take_party(&mut self, alloc: Global, tasks: &[Task]) -> Option<Party<'a>>
         ensures same { self.new.multi ≡ self.old.multi }
         ensures own { IfSome result (λ p. p.one.client.of ≡ self.old.multi.now) }
     {
-        let two = self.take_place(alloc)?;
-        let one = self.take_place(alloc)?;
-        let worker = self.take_worker(alloc)?;
-        let number = (self.workers.len() % 16) as u8;
-        let task = tasks
-            .get(usize::from(number))
-            .copied()
-            .unwrap_or(Task::Nothing);
-        let seed = match task {
-            Task::Chance(seed, _) => seed.wrapping_add(u64::from(number)),
-            _ => 0,
+        let (one, two) = self.take_places(alloc)?;
+        let Some(worker) = self.take_worker(alloc) else {
+            drop(one);
+            drop(two);
+            return None;
         };
+        let number = (self.workers.len() % 16) as u8;
         Some(Party {
             one,
             two,
             worker,
             notes: notes_of(alloc, Who::Worker(number)),
-            chance: Chance::new(seed),
-            task,
-            hold,
+            chance: chance_of(tasks, number),
+            task: task_of(tasks, number),
             stop: None,
         })
     }
@@ -109,24 +134,23 @@ impl<'a> Pool<'a> {
         requires { worker.seat.of ≡ self.old.multi.now }
         ensures { self.new.multi ≡ self.old.multi }
     {
-        self.workers.push(worker.seat.into_seat())?;
+        let Worker { seat, hand } = worker;
+        drop(hand);
+        self.workers.push(seat.into_seat())?;
         Ok(())
     }
 
     // Adds the seats of a thread after the others.
-    fn put_party(&mut self, party: Party) -> Result<(), OutOfMemory>
-        requires { party.one.client.of ≡ self.old.multi.now }
+    fn put_seats(&mut self, one: Client, two: Client, worker: Worker) -> Result<(), OutOfMemory>
+        requires own { (one.of ≡ self.old.multi.now) × (two.of ≡ self.old.multi.now) × (worker.seat.of ≡ self.old.multi.now) }
         ensures { self.new.multi ≡ self.old.multi }
     {
-        let Party {
-            one,
-            two,
-            worker,
-            ..
-        } = party;
-        self.put(one.client)?;
-        self.put(two.client)?;
-        self.put_worker(worker)
+        let first = self.put(one);
+        let second = self.put(two);
+        let third = self.put_worker(worker);
+        first?;
+        second?;
+        third
     }
 }
 
@@ -154,7 +178,7 @@ fn keep_party<'a>(
 }
 
 // Each party does its task, in a thread of its own.
-fn run_parties<R: Threads + Wait + Sync>(rt: &R, parties: &mut [Party])
+fn run_parties<R: Threads + Wait + Sync>(rt: &R, parties: &mut [Party], hold: &Arc<Hold>)
     ensures count { length parties.new ≡ length parties.old }
     ensures each { (k : ℕ) (d : Party) → k < length parties.old → (slice_index_or parties.new k d).one.client.of ≡ (slice_index_or parties.old k d).one.client.of }
 {
@@ -164,35 +188,39 @@ fn run_parties<R: Threads + Wait + Sync>(rt: &R, parties: &mut [Party])
         THREADS,
         &|_: usize, party: &mut Party|
             ensures { party.new.one.client.of ≡ party.old.one.client.of }
-        { party.run(rt) },
+        { party.run(rt, hold) },
     );
 }
 
 impl<'a> Parties<'a> {
-    // A party for each task.
-    fn of(
+    // None yet.
+    fn new(alloc: Global, multi: &'a Handle) -> Parties<'a>
+        ensures { result.multi.now ≡ multi.now }
+    {
+        Parties {
+            multi,
+            list: Vec::new(alloc),
+        }
+    }
+
+    // A party for each task, as far as there are seats.
+    fn fill(
+        &mut self,
         alloc: Global,
         pool: &mut Pool<'a>,
         tasks: &[Task],
-        hold: &Arc<Hold>,
-    ) -> Result<Parties<'a>, OutOfMemory>
-        ensures same { pool.new.multi ≡ pool.old.multi }
-        ensures own { IfOk result (λ p. p.multi.now ≡ pool.old.multi.now) }
+    ) -> Result<(), OutOfMemory>
+        requires { self.old.multi.now ≡ pool.old.multi.now }
+        ensures same { self.new.multi ≡ self.old.multi }
+        ensures pool { pool.new.multi ≡ pool.old.multi }
     {
-        let mut parties = Parties {
-            multi: pool.multi,
-            list: Vec::new(alloc),
-        };
         for _ in 0..tasks.len() {
-            let Ok(hold) = hold.clone() else {
-                return Err(OutOfMemory);
-            };
-            let Some(party) = pool.take_party(alloc, tasks, hold) else {
-                return Ok(parties);
-            };
-            parties.keep(party)?;
+            match pool.take_party(alloc, tasks) {
+                Some(party) => self.keep(party)?,
+                None => return Ok(()),
+            }
         }
-        Ok(parties)
+        Ok(())
     }
 
     // Adds a party after the others.
@@ -203,10 +231,10 @@ impl<'a> Parties<'a> {
         keep_party(self.multi, party, &mut self.list)
     }
 
-    fn run<R: Threads + Wait + Sync>(&mut self, rt: &R)
+    fn run<R: Threads + Wait + Sync>(&mut self, rt: &R, hold: &Arc<Hold>)
         ensures { self.new.multi ≡ self.old.multi }
     {
-        run_parties(rt, self.list.as_mut_slice());
+        run_parties(rt, self.list.as_mut_slice(), hold);
     }
 
     // The last of them.
@@ -217,47 +245,72 @@ impl<'a> Parties<'a> {
         let party = self.list.pop()?;
         Some(party)
     }
+
+    // Takes all parties apart, or those up to one that stopped.
+    fn take_all_apart(&mut self, pool: &mut Pool, all: &mut Vec<Entry>) -> Result<(), Stop>
+        requires { self.old.multi.now ≡ pool.old.multi.now }
+        ensures same { self.new.multi ≡ self.old.multi }
+        ensures pool { pool.new.multi ≡ pool.old.multi }
+    {
+        for _ in 0..self.list.len() {
+            match self.take() {
+                Some(party) => take_apart(pool, party, all)?,
+                None => return Ok(()),
+            }
+        }
+        Ok(())
+    }
 }
 
-// Moves the answers to the makers of a party after the others'.
-fn take_entries(party: &mut Party, all: &mut Vec<Entry>) -> Result<(), OutOfMemory>
-    ensures { party.new.one.client.of ≡ party.old.one.client.of }
-{
-    all.append(&mut party.one.notes.entries)?;
-    all.append(&mut party.two.notes.entries)?;
-    all.append(&mut party.notes.entries)?;
+// Moves the answers to a maker after the others'.
+fn take_entries(notes: Notes, all: &mut Vec<Entry>) -> Result<(), OutOfMemory> {
+    let mut notes = notes;
+    all.append(&mut notes.entries)?;
     Ok(())
 }
 
-// The same, and puts their seats back.
+// Moves the answers to the makers of a party after the others', and puts their seats back.
 fn take_apart(pool: &mut Pool, party: Party, all: &mut Vec<Entry>) -> Result<(), Stop>
     requires { party.one.client.of ≡ pool.old.multi.now }
     ensures { pool.new.multi ≡ pool.old.multi }
 {
-    let mut party = party;
-    let stop = party.stop;
-    take_entries(&mut party, all)?;
-    pool.put_party(party)?;
+    let Party {
+        one,
+        two,
+        worker,
+        notes,
+        stop,
+        ..
+    } = party;
+    let first = take_entries(one.notes, all);
+    let second = take_entries(two.notes, all);
+    let third = take_entries(notes, all);
+    pool.put_seats(one.client, two.client, worker)?;
+    first?;
+    second?;
+    third?;
     match stop {
         Some(stop) => Err(stop),
         None => Ok(()),
     }
 }
 
-// Takes all parties apart, or those up to one that stopped: what was answered.
-fn take_all_apart(alloc: Global, pool: &mut Pool, parties: Parties) -> Result<Vec<Entry>, Stop>
-    requires { parties.multi.now ≡ pool.old.multi.now }
+// Each thread does its task at seats of the pool. What was answered is noted after the others.
+fn run_noted<'a, R: Threads + Wait + Sync>(
+    rt: &R,
+    alloc: Global,
+    pool: &mut Pool<'a>,
+    parties: &mut Parties<'a>,
+    tasks: &[Task],
+    hold: &Arc<Hold>,
+    all: &mut Vec<Entry>,
+) -> Result<(), Stop>
+    requires { parties.old.multi.now ≡ pool.old.multi.now }
     ensures { pool.new.multi ≡ pool.old.multi }
 {
-    let mut parties = parties;
-    let mut all = Vec::new(alloc);
-    for _ in 0..parties.list.len() {
-        let Some(party) = parties.take() else {
-            return Ok(all);
-        };
-        take_apart(pool, party, &mut all)?;
-    }
-    Ok(all)
+    parties.fill(alloc, pool, tasks)?;
+    parties.run(rt, hold);
+    parties.take_all_apart(pool, all)
 }
 
 /// Each thread does its task at seats of the pool: what was answered, each maker's in its own order. All claimed work was given back then.
@@ -271,9 +324,14 @@ pub fn run<R: Threads + Wait + Sync>(
 ) -> Result<Vec<Entry>, Stop>
     ensures { pool.new.multi ≡ pool.old.multi }
 {
-    let mut parties = Parties::of(alloc, pool, tasks, hold)?;
-    parties.run(rt);
-    take_all_apart(alloc, pool, parties)
+    let mut all = Vec::new(alloc);
+    let mut parties = Parties::new(alloc, pool.multi);
+    let noted = run_noted(rt, alloc, pool, &mut parties, tasks, hold, &mut all);
+    drop(parties);
+    match noted {
+        Ok(()) => Ok(all),
+        Err(stop) => Err(stop),
+    }
 }
 
 // The key by which calls are ordered.

@@ -67,7 +67,7 @@ party_field x = struct_send (shape (Party.the_type x)) (
         notes_field,
         (
           search (sendable, crosses) depth 40 fits 20000,
-          (task_field, (search (sendable, crosses) depth 40 fits 20000, (search (sendable, crosses) depth 40 fits 20000, tt))),
+          (task_field, (search (sendable, crosses) depth 40 fits 20000, tt)),
         ),
       ),
     ),
