@@ -1,9 +1,9 @@
 //! Fields that are refused, and each character in a name and a value.
 
-use crate::row::{GET, Row, Seen};
+use crate::row::{GET, Row, Rows, Seen};
 use crate::settings::{Given, with_field};
 use mx_request::{Request, RequestError};
-use mx_types::Method;
+use mx_types::{Method, Settings};
 use std::alloc::{AllocError, Global};
 
 /// A field that is refused.
@@ -72,8 +72,8 @@ static ALONE: [Row; 11] = [
 ];
 
 /// Fields that are refused.
-pub(crate) fn alone() -> &'static [Row] {
-    &ALONE
+pub(crate) fn alone() -> Rows {
+    Rows::Any(&ALONE)
 }
 
 // rule request-refusals
@@ -136,40 +136,43 @@ static WITH_BODY: [Row; 11] = [
 ];
 
 /// The same, with a body that is too large.
-pub(crate) fn with_body() -> &'static [Row] {
-    &WITH_BODY
+pub(crate) fn with_body() -> Rows {
+    Rows::Any(&WITH_BODY)
 }
 
-/// Three letters with this character in place of the one at the place.
-fn placed(alloc: Global, c: char, place: usize) -> Result<String, AllocError> {
-    let mut text = String::new(alloc);
+/// Adds three letters with this character in place of the one at the place.
+fn add_placed(text: &mut String, c: char, place: usize) -> Result<(), AllocError> {
     for i in 0..3 {
         text.push(if i == place { c } else { 'a' })?;
     }
+    Ok(())
+}
+
+/// The text of them.
+fn placed(alloc: Global, c: char, place: usize) -> Result<String, AllocError> {
+    let mut text = String::new(alloc);
+    add_placed(&mut text, c, place)?;
     Ok(text)
 }
 
 /// How often the byte is among the bytes.
 fn count_of(bytes: &[u8], byte: u8) -> usize {
-    bytes.iter().filter(|b| **b == byte).count()
+    let mut count = 0usize;
+    for other in bytes {
+        if *other == byte {
+            count = count.saturating_add(1);
+        }
+    }
+    count
 }
 
-/// How many LF and CR a request with the field has, or what it is refused for.
-fn line_ends(
-    alloc: Global,
-    name: &str,
-    value: &str,
-) -> Result<Result<(usize, usize), RequestError>, AllocError> {
-    let settings = with_field(alloc, name, value)?;
-    Ok(
-        match Request::build(alloc, Method::Get, "http://example.com/", settings) {
-            Ok(request) => Ok((
-                count_of(request.bytes(), b'\n'),
-                count_of(request.bytes(), b'\r'),
-            )),
-            Err(refused) => Err(refused),
-        },
-    )
+/// How many LF and CR a request with these settings has, or what it is refused for.
+fn line_ends(alloc: Global, settings: Settings) -> Result<(usize, usize), RequestError> {
+    let request = Request::build(alloc, Method::Get, "http://example.com/", settings)?;
+    let bytes = request.bytes();
+    let ends = (count_of(bytes, b'\n'), count_of(bytes, b'\r'));
+    drop(request);
+    Ok(ends)
 }
 
 /// Whether a field is refused exactly where it isn't allowed, and a request that is built has no line beside its own.
@@ -184,7 +187,8 @@ fn is_field_right(
     } else {
         Err(RequestError::BadField)
     };
-    Ok(line_ends(alloc, name, value)? == expected)
+    let settings = with_field(alloc, name, value)?;
+    Ok(line_ends(alloc, settings) == expected)
 }
 
 /// Whether a name and a value with the character are allowed.
@@ -197,13 +201,20 @@ fn are_allowed(c: char, place: usize) -> (bool, bool) {
     (is_token, !is_control && (!is_blank || place == 1))
 }
 
+/// Whether a field of this name, and one of this value, are right.
+fn is_text_right(alloc: Global, text: &str, allowed: (bool, bool)) -> Result<bool, AllocError> {
+    let (as_name, as_value) = allowed;
+    let is_name_right = is_field_right(alloc, text, "v", as_name)?;
+    let is_value_right = is_field_right(alloc, "X", text, as_value)?;
+    Ok(is_name_right && is_value_right)
+}
+
 /// Whether names and values are right that have the character at that place of three.
 fn is_right_at(alloc: Global, c: char, place: usize) -> Result<bool, AllocError> {
     let text = placed(alloc, c, place)?;
-    let (as_name, as_value) = are_allowed(c, place);
-    let is_name_right = is_field_right(alloc, text.as_str(), "v", as_name)?;
-    let is_value_right = is_field_right(alloc, "X", text.as_str(), as_value)?;
-    Ok(is_name_right && is_value_right)
+    let is_right = is_text_right(alloc, text.as_str(), are_allowed(c, place));
+    drop(text);
+    is_right
 }
 
 /// Whether they are at the first, the middle and the last place.
@@ -216,6 +227,19 @@ fn is_character_right(alloc: Global, c: char) -> Result<bool, AllocError> {
     Ok(true)
 }
 
+/// Characters of two, three and four bytes.
+static LONG: [char; 3] = ['\u{7ff}', '\u{ffff}', '\u{10ffff}'];
+
+/// The first of them that isn't right in a name or in a value.
+fn wrong_long(alloc: Global) -> Result<Option<char>, AllocError> {
+    for c in &LONG {
+        if !is_character_right(alloc, *c)? {
+            return Ok(Some(*c));
+        }
+    }
+    Ok(None)
+}
+
 /// The first character that isn't right in a name or in a value.
 ///
 /// The characters up to 255 have each byte below 128, the bytes 128 to 191 and two more; the others begin with bytes up to 244. No other
@@ -226,10 +250,5 @@ pub(crate) fn wrong_character(alloc: Global) -> Result<Option<char>, AllocError>
             return Ok(Some(char::from(byte)));
         }
     }
-    for c in ['\u{7ff}', '\u{ffff}', '\u{10ffff}'] {
-        if !is_character_right(alloc, c)? {
-            return Ok(Some(c));
-        }
-    }
-    Ok(None)
+    wrong_long(alloc)
 }

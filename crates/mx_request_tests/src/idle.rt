@@ -14,7 +14,7 @@ enum Idle {
     /// Takes a link of a host.
     Take(&'static str, Option<u32>),
     /// Counts the links.
-    Len(usize),
+    Len(u32),
 }
 
 /// A script: its name, the most links that are kept, and the calls.
@@ -57,7 +57,7 @@ static SCRIPTS: [Script; 3] = [
 ];
 
 /// Limits beyond memory.
-const BEYOND: [(&str, usize); 2] = [
+static BEYOND: [(&str, usize); 2] = [
     ("limit_of_2_to_the_56", 1 << 56),
     ("greatest_limit", usize::MAX),
 ];
@@ -68,7 +68,7 @@ pub(crate) fn endpoint(alloc: Global, host: &str) -> Result<Endpoint, AllocError
 }
 
 /// Puts a link.
-fn put(
+pub(crate) fn put(
     alloc: Global,
     cache: &mut IdleCache<u32>,
     host: &str,
@@ -78,35 +78,55 @@ fn put(
     Ok(cache.put(there, link))
 }
 
-/// Puts so many links: whether none is given back.
+/// Puts so many links: the first that is given back.
 fn put_all(
     alloc: Global,
     cache: &mut IdleCache<u32>,
     host: &str,
     count: u32,
-) -> Result<bool, AllocError> {
+) -> Result<Option<u32>, AllocError> {
     for link in 0..count {
-        if put(alloc, cache, host, link)?.is_some() {
-            return Ok(false);
+        let back = put(alloc, cache, host, link)?;
+        if back.is_some() {
+            return Ok(back);
         }
     }
-    Ok(true)
+    Ok(None)
 }
 
 /// Takes a link.
-fn take(alloc: Global, cache: &mut IdleCache<u32>, host: &str) -> Result<Option<u32>, AllocError> {
+pub(crate) fn take(
+    alloc: Global,
+    cache: &mut IdleCache<u32>,
+    host: &str,
+) -> Result<Option<u32>, AllocError> {
     let there = endpoint(alloc, host)?;
-    Ok(cache.take(&there))
+    let link = cache.take(&there);
+    drop(there);
+    Ok(link)
 }
 
-/// Makes a call: whether it answers so.
-fn call(alloc: Global, cache: &mut IdleCache<u32>, call: Idle) -> Result<bool, AllocError> {
-    Ok(match call {
-        Idle::Put(host, link, back) => put(alloc, cache, host, link)? == back,
-        Idle::PutAll(host, count) => put_all(alloc, cache, host, count)?,
-        Idle::Take(host, link) => take(alloc, cache, host)? == link,
-        Idle::Len(len) => cache.len() == len,
-    })
+/// Puts or takes a link, or counts them: which link is given back or taken, or how many there are.
+fn answer(
+    alloc: Global,
+    cache: &mut IdleCache<u32>,
+    call: Idle,
+) -> Result<Option<u32>, AllocError> {
+    match call {
+        Idle::Put(host, link, _) => put(alloc, cache, host, link),
+        Idle::PutAll(host, count) => put_all(alloc, cache, host, count),
+        Idle::Take(host, _) => take(alloc, cache, host),
+        Idle::Len(_) => Ok(u32::try_from(cache.len()).ok()),
+    }
+}
+
+/// What a call is to answer.
+fn expected(call: Idle) -> Option<u32> {
+    match call {
+        Idle::Put(_, _, link) | Idle::Take(_, link) => link,
+        Idle::PutAll(..) => None,
+        Idle::Len(len) => Some(len),
+    }
 }
 
 /// Makes these calls: whether each answers so.
@@ -117,7 +137,8 @@ fn call_each(
 ) -> Result<bool, AllocError> {
     let mut is_right = true;
     for one in calls {
-        is_right = call(alloc, cache, *one)? && is_right;
+        let answer = answer(alloc, cache, *one)?;
+        is_right = is_right && answer == expected(*one);
     }
     Ok(is_right)
 }
@@ -125,25 +146,36 @@ fn call_each(
 /// Whether a script goes as it should.
 fn goes(alloc: Global, script: &Script) -> Result<bool, AllocError> {
     match IdleCache::with_limit(alloc, script.1) {
-        Ok(cache) => {
-            let mut cache = cache;
-            call_each(alloc, &mut cache, script.2)
+        Ok(mut cache) => {
+            let goes = call_each(alloc, &mut cache, script.2);
+            drop(cache);
+            goes
         }
         Err(_) => Err(AllocError),
     }
 }
 
-/// The name of the first script that doesn't, or of the first limit beyond memory that is taken.
+/// The name of the first script that doesn't.
 pub(crate) fn wrong_idle(alloc: Global) -> Result<Option<&'static str>, AllocError> {
     for script in &SCRIPTS {
         if !goes(alloc, script)? {
             return Ok(Some(script.0));
         }
     }
-    for (name, limit) in BEYOND {
-        if IdleCache::<u32>::with_limit(alloc, limit).is_ok() {
-            return Ok(Some(name));
+    Ok(None)
+}
+
+/// Whether a cache of that limit is made.
+fn is_made(alloc: Global, limit: usize) -> bool {
+    IdleCache::<u32>::with_limit(alloc, limit).is_ok()
+}
+
+/// The name of the first limit beyond memory that is taken.
+pub(crate) fn wrong_limit(alloc: Global) -> Option<&'static str> {
+    for (name, limit) in &BEYOND {
+        if is_made(alloc, *limit) {
+            return Some(*name);
         }
     }
-    Ok(None)
+    None
 }

@@ -1,18 +1,11 @@
 //! Requests that follow others: the bytes that they have to give by RFC 9110, sections 10.2.2 and 15.4, and which Locations are refused.
 
-use crate::row::{GET, Hop, Row, Seen};
+use crate::row::{FROM, GET, Hop, Led, Row, Rows, Seen};
 use crate::settings::Given;
 use mx_request::{RequestError, is_redirect};
 use mx_types::Method;
-use std::alloc::{AllocError, Global};
 
-/// A GET at the endpoint 127.0.0.1:8080.
-const FROM: Row = Row {
-    url: "http://127.0.0.1:8080/a/b?c#d",
-    ..GET
-};
-
-/// The same with the body `hi`.
+/// A GET with the body `hi`.
 const WITH_HI: Row = Row {
     given: Given::Hi,
     ..FROM
@@ -40,452 +33,427 @@ const OPTIONS_C_HI: &str =
     "OPTIONS /c HTTP/1.1\r\nHost: 127.0.0.1:8080\r\nAccept: */*\r\nContent-Length: 2\r\n\r\nhi";
 
 // rule redirect-method
-static GET_MADE: [Row; 18] = [
-    Row {
-        name: "get_at_301",
-        hops: &[Hop(301, b"/c", Seen::Sent(GET_C_HI))],
-        ..WITH_HI
-    },
-    Row {
-        name: "head_at_301",
-        method: Method::Head,
-        hops: &[Hop(301, b"/c", Seen::Sent(HEAD_C_HI))],
-        ..WITH_HI
-    },
-    Row {
-        name: "post_at_301",
-        method: Method::Post,
-        hops: &[Hop(301, b"/c", Seen::Sent(GET_C))],
-        ..WITH_HI
-    },
-    Row {
-        name: "put_at_301",
-        method: Method::Put,
-        hops: &[Hop(301, b"/c", Seen::Sent(PUT_C_HI))],
-        ..WITH_HI
-    },
-    Row {
-        name: "delete_at_301",
-        method: Method::Delete,
-        hops: &[Hop(301, b"/c", Seen::Sent(DELETE_C_HI))],
-        ..WITH_HI
-    },
-    Row {
-        name: "options_at_301",
-        method: Method::Options,
-        hops: &[Hop(301, b"/c", Seen::Sent(OPTIONS_C_HI))],
-        ..WITH_HI
-    },
-    Row {
-        name: "get_at_302",
-        hops: &[Hop(302, b"/c", Seen::Sent(GET_C_HI))],
-        ..WITH_HI
-    },
-    Row {
-        name: "head_at_302",
-        method: Method::Head,
-        hops: &[Hop(302, b"/c", Seen::Sent(HEAD_C_HI))],
-        ..WITH_HI
-    },
-    Row {
-        name: "post_at_302",
-        method: Method::Post,
-        hops: &[Hop(302, b"/c", Seen::Sent(GET_C))],
-        ..WITH_HI
-    },
-    Row {
-        name: "put_at_302",
-        method: Method::Put,
-        hops: &[Hop(302, b"/c", Seen::Sent(PUT_C_HI))],
-        ..WITH_HI
-    },
-    Row {
-        name: "delete_at_302",
-        method: Method::Delete,
-        hops: &[Hop(302, b"/c", Seen::Sent(DELETE_C_HI))],
-        ..WITH_HI
-    },
-    Row {
-        name: "options_at_302",
-        method: Method::Options,
-        hops: &[Hop(302, b"/c", Seen::Sent(OPTIONS_C_HI))],
-        ..WITH_HI
-    },
-    Row {
-        name: "get_at_303",
-        hops: &[Hop(303, b"/c", Seen::Sent(GET_C))],
-        ..WITH_HI
-    },
-    Row {
-        name: "head_at_303",
-        method: Method::Head,
-        hops: &[Hop(303, b"/c", Seen::Sent(HEAD_C_HI))],
-        ..WITH_HI
-    },
-    Row {
-        name: "post_at_303",
-        method: Method::Post,
-        hops: &[Hop(303, b"/c", Seen::Sent(GET_C))],
-        ..WITH_HI
-    },
-    Row {
-        name: "put_at_303",
-        method: Method::Put,
-        hops: &[Hop(303, b"/c", Seen::Sent(GET_C))],
-        ..WITH_HI
-    },
-    Row {
-        name: "delete_at_303",
-        method: Method::Delete,
-        hops: &[Hop(303, b"/c", Seen::Sent(GET_C))],
-        ..WITH_HI
-    },
-    Row {
-        name: "options_at_303",
-        method: Method::Options,
-        hops: &[Hop(303, b"/c", Seen::Sent(GET_C))],
-        ..WITH_HI
-    },
+static GET_MADE: [Led; 18] = [
+    (
+        "get_at_301",
+        Method::Get,
+        Hop(301, b"/c", Seen::Sent(GET_C_HI)),
+    ),
+    (
+        "head_at_301",
+        Method::Head,
+        Hop(301, b"/c", Seen::Sent(HEAD_C_HI)),
+    ),
+    (
+        "post_at_301",
+        Method::Post,
+        Hop(301, b"/c", Seen::Sent(GET_C)),
+    ),
+    (
+        "put_at_301",
+        Method::Put,
+        Hop(301, b"/c", Seen::Sent(PUT_C_HI)),
+    ),
+    (
+        "delete_at_301",
+        Method::Delete,
+        Hop(301, b"/c", Seen::Sent(DELETE_C_HI)),
+    ),
+    (
+        "options_at_301",
+        Method::Options,
+        Hop(301, b"/c", Seen::Sent(OPTIONS_C_HI)),
+    ),
+    (
+        "get_at_302",
+        Method::Get,
+        Hop(302, b"/c", Seen::Sent(GET_C_HI)),
+    ),
+    (
+        "head_at_302",
+        Method::Head,
+        Hop(302, b"/c", Seen::Sent(HEAD_C_HI)),
+    ),
+    (
+        "post_at_302",
+        Method::Post,
+        Hop(302, b"/c", Seen::Sent(GET_C)),
+    ),
+    (
+        "put_at_302",
+        Method::Put,
+        Hop(302, b"/c", Seen::Sent(PUT_C_HI)),
+    ),
+    (
+        "delete_at_302",
+        Method::Delete,
+        Hop(302, b"/c", Seen::Sent(DELETE_C_HI)),
+    ),
+    (
+        "options_at_302",
+        Method::Options,
+        Hop(302, b"/c", Seen::Sent(OPTIONS_C_HI)),
+    ),
+    (
+        "get_at_303",
+        Method::Get,
+        Hop(303, b"/c", Seen::Sent(GET_C)),
+    ),
+    (
+        "head_at_303",
+        Method::Head,
+        Hop(303, b"/c", Seen::Sent(HEAD_C_HI)),
+    ),
+    (
+        "post_at_303",
+        Method::Post,
+        Hop(303, b"/c", Seen::Sent(GET_C)),
+    ),
+    (
+        "put_at_303",
+        Method::Put,
+        Hop(303, b"/c", Seen::Sent(GET_C)),
+    ),
+    (
+        "delete_at_303",
+        Method::Delete,
+        Hop(303, b"/c", Seen::Sent(GET_C)),
+    ),
+    (
+        "options_at_303",
+        Method::Options,
+        Hop(303, b"/c", Seen::Sent(GET_C)),
+    ),
 ];
 
 /// Each method at 301, 302 and 303, with a body.
-pub(crate) fn at_301_to_303() -> &'static [Row] {
-    &GET_MADE
+pub(crate) fn at_301_to_303() -> Rows {
+    Rows::Led(Given::Hi, &GET_MADE)
 }
 
 // rule redirect-method
-static KEPT: [Row; 12] = [
-    Row {
-        name: "get_at_307",
-        hops: &[Hop(307, b"/c", Seen::Sent(GET_C_HI))],
-        ..WITH_HI
-    },
-    Row {
-        name: "head_at_307",
-        method: Method::Head,
-        hops: &[Hop(307, b"/c", Seen::Sent(HEAD_C_HI))],
-        ..WITH_HI
-    },
-    Row {
-        name: "post_at_307",
-        method: Method::Post,
-        hops: &[Hop(307, b"/c", Seen::Sent(POST_C_HI))],
-        ..WITH_HI
-    },
-    Row {
-        name: "put_at_307",
-        method: Method::Put,
-        hops: &[Hop(307, b"/c", Seen::Sent(PUT_C_HI))],
-        ..WITH_HI
-    },
-    Row {
-        name: "delete_at_307",
-        method: Method::Delete,
-        hops: &[Hop(307, b"/c", Seen::Sent(DELETE_C_HI))],
-        ..WITH_HI
-    },
-    Row {
-        name: "options_at_307",
-        method: Method::Options,
-        hops: &[Hop(307, b"/c", Seen::Sent(OPTIONS_C_HI))],
-        ..WITH_HI
-    },
-    Row {
-        name: "get_at_308",
-        hops: &[Hop(308, b"/c", Seen::Sent(GET_C_HI))],
-        ..WITH_HI
-    },
-    Row {
-        name: "head_at_308",
-        method: Method::Head,
-        hops: &[Hop(308, b"/c", Seen::Sent(HEAD_C_HI))],
-        ..WITH_HI
-    },
-    Row {
-        name: "post_at_308",
-        method: Method::Post,
-        hops: &[Hop(308, b"/c", Seen::Sent(POST_C_HI))],
-        ..WITH_HI
-    },
-    Row {
-        name: "put_at_308",
-        method: Method::Put,
-        hops: &[Hop(308, b"/c", Seen::Sent(PUT_C_HI))],
-        ..WITH_HI
-    },
-    Row {
-        name: "delete_at_308",
-        method: Method::Delete,
-        hops: &[Hop(308, b"/c", Seen::Sent(DELETE_C_HI))],
-        ..WITH_HI
-    },
-    Row {
-        name: "options_at_308",
-        method: Method::Options,
-        hops: &[Hop(308, b"/c", Seen::Sent(OPTIONS_C_HI))],
-        ..WITH_HI
-    },
+static KEPT: [Led; 12] = [
+    (
+        "get_at_307",
+        Method::Get,
+        Hop(307, b"/c", Seen::Sent(GET_C_HI)),
+    ),
+    (
+        "head_at_307",
+        Method::Head,
+        Hop(307, b"/c", Seen::Sent(HEAD_C_HI)),
+    ),
+    (
+        "post_at_307",
+        Method::Post,
+        Hop(307, b"/c", Seen::Sent(POST_C_HI)),
+    ),
+    (
+        "put_at_307",
+        Method::Put,
+        Hop(307, b"/c", Seen::Sent(PUT_C_HI)),
+    ),
+    (
+        "delete_at_307",
+        Method::Delete,
+        Hop(307, b"/c", Seen::Sent(DELETE_C_HI)),
+    ),
+    (
+        "options_at_307",
+        Method::Options,
+        Hop(307, b"/c", Seen::Sent(OPTIONS_C_HI)),
+    ),
+    (
+        "get_at_308",
+        Method::Get,
+        Hop(308, b"/c", Seen::Sent(GET_C_HI)),
+    ),
+    (
+        "head_at_308",
+        Method::Head,
+        Hop(308, b"/c", Seen::Sent(HEAD_C_HI)),
+    ),
+    (
+        "post_at_308",
+        Method::Post,
+        Hop(308, b"/c", Seen::Sent(POST_C_HI)),
+    ),
+    (
+        "put_at_308",
+        Method::Put,
+        Hop(308, b"/c", Seen::Sent(PUT_C_HI)),
+    ),
+    (
+        "delete_at_308",
+        Method::Delete,
+        Hop(308, b"/c", Seen::Sent(DELETE_C_HI)),
+    ),
+    (
+        "options_at_308",
+        Method::Options,
+        Hop(308, b"/c", Seen::Sent(OPTIONS_C_HI)),
+    ),
 ];
 
 /// Each method at 307 and 308, with a body.
-pub(crate) fn at_307_and_308() -> &'static [Row] {
-    &KEPT
+pub(crate) fn at_307_and_308() -> Rows {
+    Rows::Led(Given::Hi, &KEPT)
 }
 
 // rule redirect-next-url
-static LOCATIONS: [Row; 22] = [
-    Row {
-        name: "location_path",
-        hops: &[Hop(302, b"/x", Seen::Get("/x", "127.0.0.1:8080"))],
-        ..FROM
-    },
-    Row {
-        name: "location_segment",
-        hops: &[Hop(302, b"x", Seen::Get("/a/x", "127.0.0.1:8080"))],
-        ..FROM
-    },
-    Row {
-        name: "location_segment_above",
-        hops: &[Hop(302, b"../x", Seen::Get("/x", "127.0.0.1:8080"))],
-        ..FROM
-    },
-    Row {
-        name: "location_dot",
-        hops: &[Hop(302, b"./", Seen::Get("/a/", "127.0.0.1:8080"))],
-        ..FROM
-    },
-    Row {
-        name: "location_query",
-        hops: &[Hop(302, b"?q", Seen::Get("/a/b?q", "127.0.0.1:8080"))],
-        ..FROM
-    },
-    Row {
-        name: "location_empty_query",
-        hops: &[Hop(302, b"?", Seen::Get("/a/b?", "127.0.0.1:8080"))],
-        ..FROM
-    },
-    Row {
-        name: "location_fragment",
-        hops: &[Hop(302, b"#f", Seen::Get("/a/b?c", "127.0.0.1:8080"))],
-        ..FROM
-    },
-    Row {
-        name: "location_nothing",
-        hops: &[Hop(302, b"", Seen::Get("/a/b?c", "127.0.0.1:8080"))],
-        ..FROM
-    },
-    Row {
-        name: "location_path_with_query_and_fragment",
-        hops: &[Hop(302, b"/x?y#f", Seen::Get("/x?y", "127.0.0.1:8080"))],
-        ..FROM
-    },
-    Row {
-        name: "location_scheme_and_segment",
-        hops: &[Hop(302, b"http:x", Seen::Get("/a/x", "127.0.0.1:8080"))],
-        ..FROM
-    },
-    Row {
-        name: "location_host_and_slash",
-        hops: &[Hop(302, b"//host/", Seen::Get("/", "host"))],
-        ..FROM
-    },
-    Row {
-        name: "location_host",
-        hops: &[Hop(302, b"//host", Seen::Get("/", "host"))],
-        ..FROM
-    },
-    Row {
-        name: "location_host_and_port",
-        hops: &[Hop(302, b"//host:8081/y", Seen::Get("/y", "host:8081"))],
-        ..FROM
-    },
-    Row {
-        name: "location_host_in_brackets",
-        hops: &[Hop(302, b"//[::1]:81/", Seen::Get("/", "[::1]:81"))],
-        ..FROM
-    },
-    Row {
-        name: "location_url_in_capitals_with_port_80",
-        hops: &[Hop(
+static LOCATIONS: [Led; 22] = [
+    (
+        "location_path",
+        Method::Get,
+        Hop(302, b"/x", Seen::Get("/x", "127.0.0.1:8080")),
+    ),
+    (
+        "location_segment",
+        Method::Get,
+        Hop(302, b"x", Seen::Get("/a/x", "127.0.0.1:8080")),
+    ),
+    (
+        "location_segment_above",
+        Method::Get,
+        Hop(302, b"../x", Seen::Get("/x", "127.0.0.1:8080")),
+    ),
+    (
+        "location_dot",
+        Method::Get,
+        Hop(302, b"./", Seen::Get("/a/", "127.0.0.1:8080")),
+    ),
+    (
+        "location_query",
+        Method::Get,
+        Hop(302, b"?q", Seen::Get("/a/b?q", "127.0.0.1:8080")),
+    ),
+    (
+        "location_empty_query",
+        Method::Get,
+        Hop(302, b"?", Seen::Get("/a/b?", "127.0.0.1:8080")),
+    ),
+    (
+        "location_fragment",
+        Method::Get,
+        Hop(302, b"#f", Seen::Get("/a/b?c", "127.0.0.1:8080")),
+    ),
+    (
+        "location_nothing",
+        Method::Get,
+        Hop(302, b"", Seen::Get("/a/b?c", "127.0.0.1:8080")),
+    ),
+    (
+        "location_path_with_query_and_fragment",
+        Method::Get,
+        Hop(302, b"/x?y#f", Seen::Get("/x?y", "127.0.0.1:8080")),
+    ),
+    (
+        "location_scheme_and_segment",
+        Method::Get,
+        Hop(302, b"http:x", Seen::Get("/a/x", "127.0.0.1:8080")),
+    ),
+    (
+        "location_host_and_slash",
+        Method::Get,
+        Hop(302, b"//host/", Seen::Get("/", "host")),
+    ),
+    (
+        "location_host",
+        Method::Get,
+        Hop(302, b"//host", Seen::Get("/", "host")),
+    ),
+    (
+        "location_host_and_port",
+        Method::Get,
+        Hop(302, b"//host:8081/y", Seen::Get("/y", "host:8081")),
+    ),
+    (
+        "location_host_in_brackets",
+        Method::Get,
+        Hop(302, b"//[::1]:81/", Seen::Get("/", "[::1]:81")),
+    ),
+    (
+        "location_url_in_capitals_with_port_80",
+        Method::Get,
+        Hop(
             302,
             b"HTTP://EXAMPLE.com:80/z",
             Seen::Get("/z", "example.com"),
-        )],
-        ..FROM
-    },
-    Row {
-        name: "location_backslashes",
-        hops: &[Hop(302, b"\\\\host\\p", Seen::Get("/p", "host"))],
-        ..FROM
-    },
-    Row {
-        name: "location_blanks",
-        hops: &[Hop(302, b" /x y ", Seen::Get("/x%20y", "127.0.0.1:8080"))],
-        ..FROM
-    },
-    Row {
-        name: "location_tab",
-        hops: &[Hop(302, b"/a\tb", Seen::Get("/ab", "127.0.0.1:8080"))],
-        ..FROM
-    },
+        ),
+    ),
+    (
+        "location_backslashes",
+        Method::Get,
+        Hop(302, b"\\\\host\\p", Seen::Get("/p", "host")),
+    ),
+    (
+        "location_blanks",
+        Method::Get,
+        Hop(302, b" /x y ", Seen::Get("/x%20y", "127.0.0.1:8080")),
+    ),
+    (
+        "location_tab",
+        Method::Get,
+        Hop(302, b"/a\tb", Seen::Get("/ab", "127.0.0.1:8080")),
+    ),
     // a line end in a Location adds no line
-    Row {
-        name: "location_line_end",
-        hops: &[Hop(
+    (
+        "location_line_end",
+        Method::Get,
+        Hop(
             302,
             b"/a HTTP/1.1\r\nX: y",
             Seen::Get("/a%20HTTP/1.1X:%20y", "127.0.0.1:8080"),
-        )],
-        ..FROM
-    },
-    Row {
-        name: "location_bytes_above_127",
-        hops: &[Hop(
+        ),
+    ),
+    (
+        "location_bytes_above_127",
+        Method::Get,
+        Hop(
             302,
             b"/\xc3\xbc?\xc3\xbc",
             Seen::Get("/%C3%BC?%C3%BC", "127.0.0.1:8080"),
-        )],
-        ..FROM
-    },
-    Row {
-        name: "location_host_of_bytes_above_127",
-        hops: &[Hop(
+        ),
+    ),
+    (
+        "location_host_of_bytes_above_127",
+        Method::Get,
+        Hop(
             302,
             b"//b\xc3\xbccher.example/",
             Seen::Get("/", "xn--bcher-kva.example"),
-        )],
-        ..FROM
-    },
-    Row {
-        name: "location_greatest_character",
-        hops: &[Hop(
+        ),
+    ),
+    (
+        "location_greatest_character",
+        Method::Get,
+        Hop(
             302,
             b"/\xf4\x8f\xbf\xbf",
             Seen::Get("/%F4%8F%BF%BF", "127.0.0.1:8080"),
-        )],
-        ..FROM
-    },
+        ),
+    ),
 ];
 
 /// Forms of Locations, with the target and the value of Host that they lead to.
-pub(crate) fn locations() -> &'static [Row] {
-    &LOCATIONS
+pub(crate) fn locations() -> Rows {
+    Rows::Led(Given::Nothing, &LOCATIONS)
 }
 
-static REFUSED: [Row; 18] = [
-    Row {
-        name: "refused_location_https",
-        hops: &[Hop(301, b"https://x/", Seen::Refused(RequestError::Scheme))],
-        ..FROM
-    },
-    Row {
-        name: "refused_location_https_with_a_user",
-        hops: &[Hop(301, b"https://u@x/", Seen::Refused(RequestError::Scheme))],
-        ..FROM
-    },
-    Row {
-        name: "refused_location_ftp",
-        hops: &[Hop(301, b"ftp://x/", Seen::Refused(RequestError::Scheme))],
-        ..FROM
-    },
-    Row {
-        name: "refused_location_mailto",
-        hops: &[Hop(301, b"mailto:a@x", Seen::Refused(RequestError::Scheme))],
-        ..FROM
-    },
-    Row {
-        name: "refused_location_http_with_a_user",
-        hops: &[Hop(301, b"http://u@x/", Seen::Refused(RequestError::UserInfo))],
-        ..FROM
-    },
-    Row {
-        name: "refused_location_http_with_a_password",
-        hops: &[Hop(301, b"http://:p@x/", Seen::Refused(RequestError::UserInfo))],
-        ..FROM
-    },
-    Row {
-        name: "refused_location_user_and_password",
-        hops: &[Hop(301, b"//u:p@x/", Seen::Refused(RequestError::UserInfo))],
-        ..FROM
-    },
-    Row {
-        name: "refused_location_open_bracket",
-        hops: &[Hop(301, b"http://[", Seen::Refused(RequestError::Malformed))],
-        ..FROM
-    },
-    Row {
-        name: "refused_location_https_and_open_bracket",
-        hops: &[Hop(301, b"https://[", Seen::Refused(RequestError::Malformed))],
-        ..FROM
-    },
+static REFUSED: [Led; 18] = [
+    (
+        "refused_location_https",
+        Method::Get,
+        Hop(301, b"https://x/", Seen::Refused(RequestError::Scheme)),
+    ),
+    (
+        "refused_location_https_with_a_user",
+        Method::Get,
+        Hop(301, b"https://u@x/", Seen::Refused(RequestError::Scheme)),
+    ),
+    (
+        "refused_location_ftp",
+        Method::Get,
+        Hop(301, b"ftp://x/", Seen::Refused(RequestError::Scheme)),
+    ),
+    (
+        "refused_location_mailto",
+        Method::Get,
+        Hop(301, b"mailto:a@x", Seen::Refused(RequestError::Scheme)),
+    ),
+    (
+        "refused_location_http_with_a_user",
+        Method::Get,
+        Hop(301, b"http://u@x/", Seen::Refused(RequestError::UserInfo)),
+    ),
+    (
+        "refused_location_http_with_a_password",
+        Method::Get,
+        Hop(301, b"http://:p@x/", Seen::Refused(RequestError::UserInfo)),
+    ),
+    (
+        "refused_location_user_and_password",
+        Method::Get,
+        Hop(301, b"//u:p@x/", Seen::Refused(RequestError::UserInfo)),
+    ),
+    (
+        "refused_location_open_bracket",
+        Method::Get,
+        Hop(301, b"http://[", Seen::Refused(RequestError::Malformed)),
+    ),
+    (
+        "refused_location_https_and_open_bracket",
+        Method::Get,
+        Hop(301, b"https://[", Seen::Refused(RequestError::Malformed)),
+    ),
     // a URL of this scheme has a host
-    Row {
-        name: "refused_location_ftp_without_a_host",
-        hops: &[Hop(301, b"ftp:", Seen::Refused(RequestError::Malformed))],
-        ..FROM
-    },
-    Row {
-        name: "refused_location_https_port_65536",
-        hops: &[Hop(
+    (
+        "refused_location_ftp_without_a_host",
+        Method::Get,
+        Hop(301, b"ftp:", Seen::Refused(RequestError::Malformed)),
+    ),
+    (
+        "refused_location_https_port_65536",
+        Method::Get,
+        Hop(
             301,
             b"https://h:65536/",
             Seen::Refused(RequestError::Malformed),
-        )],
-        ..FROM
-    },
-    Row {
-        name: "refused_location_user_and_port_65536",
-        hops: &[Hop(
+        ),
+    ),
+    (
+        "refused_location_user_and_port_65536",
+        Method::Get,
+        Hop(
             301,
             b"http://u@h:65536/",
             Seen::Refused(RequestError::Malformed),
-        )],
-        ..FROM
-    },
-    Row {
-        name: "refused_location_host_with_a_blank",
-        hops: &[Hop(301, b"//a b/", Seen::Refused(RequestError::Malformed))],
-        ..FROM
-    },
+        ),
+    ),
+    (
+        "refused_location_host_with_a_blank",
+        Method::Get,
+        Hop(301, b"//a b/", Seen::Refused(RequestError::Malformed)),
+    ),
     // not UTF-8: no byte of it, one that is cut off, one that is too long, a surrogate
-    Row {
-        name: "refused_location_byte_of_no_utf_8",
-        hops: &[Hop(301, b"/\xff", Seen::Refused(RequestError::Malformed))],
-        ..FROM
-    },
-    Row {
-        name: "refused_location_utf_8_cut_off",
-        hops: &[Hop(301, b"/\xc3", Seen::Refused(RequestError::Malformed))],
-        ..FROM
-    },
-    Row {
-        name: "refused_location_utf_8_too_long",
-        hops: &[Hop(301, b"/\xc0\xaf", Seen::Refused(RequestError::Malformed))],
-        ..FROM
-    },
-    Row {
-        name: "refused_location_surrogate",
-        hops: &[Hop(
+    (
+        "refused_location_byte_of_no_utf_8",
+        Method::Get,
+        Hop(301, b"/\xff", Seen::Refused(RequestError::Malformed)),
+    ),
+    (
+        "refused_location_utf_8_cut_off",
+        Method::Get,
+        Hop(301, b"/\xc3", Seen::Refused(RequestError::Malformed)),
+    ),
+    (
+        "refused_location_utf_8_too_long",
+        Method::Get,
+        Hop(301, b"/\xc0\xaf", Seen::Refused(RequestError::Malformed)),
+    ),
+    (
+        "refused_location_surrogate",
+        Method::Get,
+        Hop(
             301,
             b"/\xed\xa0\x80",
             Seen::Refused(RequestError::Malformed),
-        )],
-        ..FROM
-    },
-    Row {
-        name: "refused_location_https_with_a_user_and_a_byte_of_no_utf_8",
-        hops: &[Hop(
+        ),
+    ),
+    (
+        "refused_location_https_with_a_user_and_a_byte_of_no_utf_8",
+        Method::Get,
+        Hop(
             301,
             b"https://u@x/\xff",
             Seen::Refused(RequestError::Malformed),
-        )],
-        ..FROM
-    },
+        ),
+    ),
 ];
 
 /// Locations that are refused.
-pub(crate) fn refused_locations() -> &'static [Row] {
-    &REFUSED
+pub(crate) fn refused_locations() -> Rows {
+    Rows::Led(Given::Nothing, &REFUSED)
 }
 
 static CHAINS: [Row; 3] = [
@@ -582,17 +550,19 @@ static CHAINS: [Row; 3] = [
 ];
 
 /// Chains of requests.
-pub(crate) fn chains() -> &'static [Row] {
-    &CHAINS
+pub(crate) fn chains() -> Rows {
+    Rows::Any(&CHAINS)
 }
 
-/// Whether the statuses below 1,000 that send on are these.
-pub(crate) fn statuses_send_on(alloc: Global) -> Result<bool, AllocError> {
-    let mut found = Vec::new(alloc);
+/// The statuses that send on.
+static SEND_ON: [u16; 5] = [301, 302, 303, 307, 308];
+
+/// What is said where other statuses below 1,000 send on.
+pub(crate) fn wrong_statuses() -> Option<&'static str> {
     for status in 0..1_000u16 {
-        if is_redirect(status) {
-            found.push(status)?;
+        if is_redirect(status) != SEND_ON.contains(&status) {
+            return Some("statuses that send on");
         }
     }
-    Ok(found.as_slice() == [301, 302, 303, 307, 308].as_slice())
+    None
 }

@@ -44,23 +44,21 @@ static REFUSALS: [(RequestError, u32, Code, &str); 6] = [
     ),
 ];
 
-/// Whether a refusal has that number, that code and that message.
-fn tells(
-    alloc: Global,
-    refusal: RequestError,
-    number: u32,
-    code: Code,
-    message: &str,
-) -> Result<bool, AllocError> {
+/// Whether a refusal has that message.
+fn tells(alloc: Global, refusal: RequestError, message: &str) -> Result<bool, AllocError> {
     let text = refusal.to_string(alloc)?;
-    Ok(refusal.number() == number && refusal.code() == code && text.as_str() == message)
+    let is_so = text.as_str() == message;
+    drop(text);
+    Ok(is_so)
 }
 
 /// The message of the first refusal that has others.
 pub(crate) fn wrong_refusal(alloc: Global) -> Result<Option<&'static str>, AllocError> {
     for row in &REFUSALS {
-        if !tells(alloc, row.0, row.1, row.2, row.3)? {
-            return Ok(Some(row.3));
+        let (refusal, number, code, message) = *row;
+        let is_told = tells(alloc, refusal, message)?;
+        if !is_told || refusal.number() != number || refusal.code() != code {
+            return Ok(Some(message));
         }
     }
     Ok(None)
@@ -198,13 +196,19 @@ static LOCATIONS: [Text; 9] = [
     },
 ];
 
-/// A text.
-fn longer(alloc: Global, text: &Text) -> Result<String, AllocError> {
-    let mut long = String::from_str(alloc, text.front)?;
+/// Adds a text.
+fn add(long: &mut String, text: &Text) -> Result<(), AllocError> {
+    long.push_str(text.front)?;
     for _ in 0..text.count {
         long.push(text.unit)?;
     }
-    long.push_str(text.end)?;
+    long.push_str(text.end)
+}
+
+/// A text.
+fn longer(alloc: Global, text: &Text) -> Result<String, AllocError> {
+    let mut long = String::new(alloc);
+    add(&mut long, text)?;
     Ok(long)
 }
 
@@ -216,6 +220,15 @@ fn refusal_of(alloc: Global, text: &str, request: Option<&Request>) -> Option<Re
     }
 }
 
+/// Whether a text has that length, and is refused for that.
+fn is_right(alloc: Global, text: &Text, request: Option<&Request>) -> Result<bool, AllocError> {
+    let long = longer(alloc, text)?;
+    let refused = refusal_of(alloc, long.as_str(), request);
+    let len = long.len();
+    drop(long);
+    Ok(len == text.len && refused == text.refused)
+}
+
 /// The name of the first text that has another length, or is refused for something else.
 fn first_wrong(
     alloc: Global,
@@ -223,9 +236,7 @@ fn first_wrong(
     request: Option<&Request>,
 ) -> Result<Option<&'static str>, AllocError> {
     for text in texts {
-        let long = longer(alloc, text)?;
-        let refused = refusal_of(alloc, long.as_str(), request);
-        if long.len() != text.len || refused != text.refused {
+        if !is_right(alloc, text, request)? {
             return Ok(Some(text.name));
         }
     }
@@ -241,7 +252,11 @@ pub(crate) fn wrong_url(alloc: Global) -> Result<Option<&'static str>, AllocErro
 pub(crate) fn wrong_location(alloc: Global) -> Result<Option<&'static str>, AllocError> {
     let url = "http://127.0.0.1:8080/a/b?c#d";
     match Request::build(alloc, Method::Get, url, Settings::new(alloc)) {
-        Ok(request) => first_wrong(alloc, &LOCATIONS, Some(&request)),
+        Ok(request) => {
+            let wrong = first_wrong(alloc, &LOCATIONS, Some(&request));
+            drop(request);
+            wrong
+        }
         Err(_) => Ok(Some("the request before the Locations")),
     }
 }

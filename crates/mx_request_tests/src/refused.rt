@@ -1,7 +1,7 @@
 //! Calls that may be refused memory. One that was is made again, and has then to answer as if it had been the first; only then does the
 //! test fail, by a text of its own. What a test needs for itself is refused as any allocation is. Without a refusal it passes.
 
-use crate::idle::endpoint;
+use crate::idle::{put, take};
 use crate::row::{GET, Row, Seen, is_right};
 use crate::settings::{Given, settings_of};
 use mx_cache::IdleCache;
@@ -73,6 +73,21 @@ static ROWS: [Row; 8] = [
     },
 ];
 
+/// Why a part stops before its end.
+#[derive(Clone, Copy)]
+enum Stop {
+    /// Memory was refused to what the test needs for itself.
+    Memory,
+    /// A call answered this.
+    Other(&'static str),
+}
+
+impl From<AllocError> for Stop {
+    fn from(_refused: AllocError) -> Stop {
+        Stop::Memory
+    }
+}
+
 /// How a call went.
 #[derive(Clone, Copy, PartialEq, Eq)]
 enum Went {
@@ -85,17 +100,31 @@ enum Went {
 }
 
 // How an answer compares with what is to be seen.
+fn judge_answer(
+    alloc: Global,
+    answer: &Result<Request, RequestError>,
+    given: Given,
+    seen: &Seen,
+) -> Went {
+    if is_right(alloc, answer, given, seen) {
+        return Went::Right;
+    }
+    match answer {
+        Err(RequestError::OutOfMemory) => Went::Refused,
+        _ => Went::Wrong,
+    }
+}
+
+// The same, of an answer that is dropped then.
 fn compare(
     alloc: Global,
     answer: Result<Request, RequestError>,
     given: Given,
     seen: &Seen,
 ) -> Went {
-    match answer {
-        Err(RequestError::OutOfMemory) => Went::Refused,
-        answer if is_right(alloc, &answer, given, seen) => Went::Right,
-        _ => Went::Wrong,
-    }
+    let went = judge_answer(alloc, &answer, given, seen);
+    drop(answer);
+    went
 }
 
 // Builds a row's request.
@@ -106,23 +135,31 @@ fn build(alloc: Global, row: &Row) -> Result<Went, AllocError> {
 }
 
 // Whether memory was refused at one of the calls, each of which is made again then. It fails where one went wrong.
-fn judge(went: Went, again: Went) -> Result<bool, Fail> {
+fn judge(went: Went, again: Went) -> Result<bool, Stop> {
     match (went, again) {
         (Went::Right, _) => Ok(false),
         (Went::Refused, Went::Right) => Ok(true),
-        (Went::Refused, _) => Err("another answer when it was made again".into()),
-        (Went::Wrong, _) => Err("another answer".into()),
+        (Went::Refused, _) => Err(Stop::Other("another answer when it was made again")),
+        (Went::Wrong, _) => Err(Stop::Other("another answer")),
     }
 }
 
+// Builds a row's request, again where that didn't go right.
+fn build_row_again(alloc: Global, row: &Row) -> Result<bool, Stop> {
+    let went = build(alloc, row)?;
+    if went == Went::Right {
+        return Ok(false);
+    }
+    let again = build(alloc, row)?;
+    judge(went, again)
+}
+
 // Builds the requests of these rows, again where memory was refused.
-fn build_again(alloc: Global, rows: &[Row]) -> Result<bool, Fail> {
+fn build_again(alloc: Global, rows: &[Row]) -> Result<bool, Stop> {
     let mut is_refused = false;
     for row in rows {
-        let went = build(alloc, row)?;
-        if went != Went::Right {
-            is_refused = judge(went, build(alloc, row)?)?;
-        }
+        let refused = build_row_again(alloc, row)?;
+        is_refused = is_refused || refused;
     }
     Ok(is_refused)
 }
@@ -138,44 +175,61 @@ fn follow(alloc: Global, request: &Request) -> Went {
     compare(alloc, answer, Given::All, &FOLLOWS)
 }
 
-// How it went, and where it failed how a second try went.
-fn follow_twice(alloc: Global, request: &Request) -> (Went, Went) {
+// Follows a request, again where that didn't go right.
+fn follow_twice(alloc: Global, request: &Request) -> Result<bool, Stop> {
     let went = follow(alloc, request);
     if went == Went::Right {
-        return (went, went);
+        return Ok(false);
     }
-    (went, follow(alloc, request))
+    judge(went, follow(alloc, request))
+}
+
+// The request that is followed.
+fn followed(alloc: Global) -> Result<Request, Stop> {
+    let settings = settings_of(alloc, Given::All)?;
+    match Request::build(alloc, Method::Post, "http://h/p", settings) {
+        Ok(request) => Ok(request),
+        Err(RequestError::OutOfMemory) => Err(Stop::Memory),
+        Err(_) => Err(Stop::Other("a request that is refused")),
+    }
 }
 
 // Follows a request, again where memory was refused.
-fn follow_again(alloc: Global) -> Result<bool, Fail> {
-    let settings = settings_of(alloc, Given::All)?;
-    let request = Request::build(alloc, Method::Post, "http://h/p", settings)?;
-    let (went, again) = follow_twice(alloc, &request);
+fn follow_again(alloc: Global) -> Result<bool, Stop> {
+    let request = followed(alloc)?;
+    let is_refused = follow_twice(alloc, &request);
     drop(request);
-    judge(went, again)
+    is_refused
 }
 
 // Copies an endpoint.
 fn copy(alloc: Global, endpoint: &Endpoint) -> Went {
     match endpoint.copy(alloc) {
         Err(OutOfMemory) => Went::Refused,
-        Ok(copy) if copy == *endpoint => Went::Right,
-        Ok(_) => Went::Wrong,
+        Ok(copy) => {
+            let is_same = copy == *endpoint;
+            drop(copy);
+            if is_same { Went::Right } else { Went::Wrong }
+        }
     }
 }
 
-// Copies an endpoint, again where memory was refused.
-fn copy_again(alloc: Global) -> Result<bool, Fail> {
-    let endpoint = Endpoint {
-        host: String::from_str(alloc, "[::1]")?,
-        port: 81,
-    };
-    let went = copy(alloc, &endpoint);
+// Copies an endpoint, again where that didn't go right.
+fn copy_twice(alloc: Global, endpoint: &Endpoint) -> Result<bool, Stop> {
+    let went = copy(alloc, endpoint);
     if went == Went::Right {
         return Ok(false);
     }
-    judge(went, copy(alloc, &endpoint))
+    judge(went, copy(alloc, endpoint))
+}
+
+// Copies an endpoint, again where memory was refused.
+fn copy_again(alloc: Global) -> Result<bool, Stop> {
+    let host = String::from_str(alloc, "[::1]")?;
+    let endpoint = Endpoint { host, port: 81 };
+    let is_refused = copy_twice(alloc, &endpoint);
+    drop(endpoint);
+    is_refused
 }
 
 // Makes a cache of two links, again where memory was refused; and whether it was.
@@ -190,37 +244,42 @@ fn cache(alloc: Global) -> Result<(IdleCache<u32>, bool), AllocError> {
 }
 
 // Puts three links of two endpoints, and takes two: whether the first comes back, and the third is taken.
-fn put_three(cache: &mut IdleCache<u32>, endpoints: [Endpoint; 3], there: &Endpoint) -> bool {
-    let [a, b, c] = endpoints;
-    let back = [cache.put(a, 1), cache.put(b, 2), cache.put(c, 3)];
-    let taken = [cache.take(there), cache.take(there)];
-    back == [None, None, Some(1)] && taken == [Some(3), None] && cache.len() == 1
+fn put_three(alloc: Global, cache: &mut IdleCache<u32>) -> Result<bool, AllocError> {
+    let back = [
+        put(alloc, cache, "a", 1)?,
+        put(alloc, cache, "b", 2)?,
+        put(alloc, cache, "a", 3)?,
+    ];
+    let taken = [take(alloc, cache, "a")?, take(alloc, cache, "a")?];
+    Ok(back == [None, None, Some(1)] && taken == [Some(3), None] && cache.len() == 1)
 }
 
 // Fills a cache that is made again where memory was refused.
-fn fill_again(alloc: Global) -> Result<bool, Fail> {
-    let there = endpoint(alloc, "a")?;
-    let endpoints = [
-        endpoint(alloc, "a")?,
-        endpoint(alloc, "b")?,
-        endpoint(alloc, "a")?,
-    ];
+fn fill_again(alloc: Global) -> Result<bool, Stop> {
     let (mut cache, is_refused) = cache(alloc)?;
-    if put_three(&mut cache, endpoints, &there) {
+    let are_right = put_three(alloc, &mut cache);
+    drop(cache);
+    if are_right? {
         return Ok(is_refused);
     }
-    Err("another link".into())
+    Err(Stop::Other("another link"))
 }
 
-#[test]
-fn calls_are_made_again(rt: HostRuntime) -> Result<(), Fail> {
-    let alloc = rt.alloc();
+// Whether memory was refused at one of the calls.
+fn call_again(alloc: Global) -> Result<bool, Stop> {
     let is_copied_again = copy_again(alloc)?;
     let is_filled_again = fill_again(alloc)?;
     let is_followed_again = follow_again(alloc)?;
     let is_built_again = build_again(alloc, &ROWS)?;
-    if is_copied_again || is_filled_again || is_followed_again || is_built_again {
-        return Err(AGAIN.into());
+    Ok(is_copied_again || is_filled_again || is_followed_again || is_built_again)
+}
+
+#[test]
+fn calls_are_made_again(rt: HostRuntime) -> Result<(), Fail> {
+    match call_again(rt.alloc()) {
+        Ok(false) => Ok(()),
+        Ok(true) => Err(AGAIN.into()),
+        Err(Stop::Memory) => Err(AllocError.into()),
+        Err(Stop::Other(said)) => Err(said.into()),
     }
-    Ok(())
 }

@@ -48,33 +48,57 @@ pub(crate) const GET: Row = Row {
     hops: &[],
 };
 
-/// The bytes of a GET without settings.
-fn get_of(alloc: Global, target: &str, host: &str) -> Result<String, AllocError> {
-    let mut bytes = String::from_str(alloc, "GET ")?;
-    bytes.push_str(target)?;
-    bytes.push_str(" HTTP/1.1\r\nHost: ")?;
-    bytes.push_str(host)?;
-    bytes.push_str("\r\nAccept: */*\r\n\r\n")?;
-    Ok(bytes)
-}
+/// A GET at the endpoint 127.0.0.1:8080.
+pub(crate) const FROM: Row = Row {
+    url: "http://127.0.0.1:8080/a/b?c#d",
+    ..GET
+};
 
-/// Whether a request has these bytes, which begin with its method.
-fn has_bytes(request: &Request, sent: &str) -> bool {
-    request.bytes() == sent.as_bytes() && sent.starts_with(request.method().as_str())
-}
-
-/// Whether a request has the bytes of that GET.
-fn is_get(alloc: Global, request: &Request, target: &str, host: &str) -> bool {
-    match get_of(alloc, target, host) {
-        Ok(sent) => has_bytes(request, sent.as_str()),
-        Err(AllocError) => false,
+/// Whether these texts, one after another, are the bytes.
+fn are_parts(bytes: &[u8], parts: &[&str]) -> bool {
+    let mut rest = bytes;
+    for part in parts {
+        match rest.strip_prefix(part.as_bytes()) {
+            Some(behind) => rest = behind,
+            None => return false,
+        }
     }
+    rest.is_empty()
+}
+
+/// Whether a request has the bytes of these texts, which begin with its method.
+fn has_bytes(request: &Request, sent: &[&str]) -> bool {
+    let bytes = request.bytes();
+    are_parts(bytes, sent) && bytes.starts_with(request.method().as_str().as_bytes())
+}
+
+/// Whether a request has the bytes of a GET without settings.
+fn is_get(request: &Request, target: &str, host: &str) -> bool {
+    has_bytes(
+        request,
+        &[
+            "GET ",
+            target,
+            " HTTP/1.1\r\nHost: ",
+            host,
+            "\r\nAccept: */*\r\n\r\n",
+        ],
+    )
 }
 
 /// Whether a copy of an endpoint equals it, and has that host and that port.
+fn is_copy(copy: &Endpoint, endpoint: &Endpoint, host: &str, port: u16) -> bool {
+    *copy == *endpoint && copy.host.as_str() == host && copy.port == port
+}
+
+/// Whether an endpoint is copied so.
 fn is_copied(alloc: Global, endpoint: &Endpoint, host: &str, port: u16) -> bool {
     match endpoint.copy(alloc) {
-        Ok(copy) => copy == *endpoint && copy.host.as_str() == host && copy.port == port,
+        Ok(copy) => {
+            let is_copy = is_copy(&copy, endpoint, host, port);
+            drop(copy);
+            is_copy
+        }
         Err(_) => false,
     }
 }
@@ -90,8 +114,8 @@ fn is_no_other(alloc: Global, endpoint: &Endpoint, host: &str) -> bool {
 /// Whether that is seen of a request.
 fn is_seen(alloc: Global, request: &Request, seen: &Seen) -> bool {
     match *seen {
-        Seen::Sent(sent) => has_bytes(request, sent),
-        Seen::Get(target, host) => is_get(alloc, request, target, host),
+        Seen::Sent(sent) => has_bytes(request, &[sent]),
+        Seen::Get(target, host) => is_get(request, target, host),
         Seen::Endpoint(host, port) => {
             is_copied(alloc, request.endpoint(), host, port)
                 && is_no_other(alloc, request.endpoint(), host)
@@ -131,45 +155,102 @@ fn follow(alloc: Global, request: &Request, hop: &Hop) -> Option<Result<Request,
     }
 }
 
-/// Follows a request: whether the expected is seen, and the request that follows, if there is one.
-fn take_hop(alloc: Global, request: &Request, given: Given, hop: &Hop) -> (bool, Option<Request>) {
+/// Puts the request that follows, if there is one, in place of the one before.
+fn go_on(request: &mut Request, answer: Result<Request, RequestError>) {
+    if let Ok(next) = answer {
+        *request = next;
+    }
+}
+
+/// Follows a request, and goes on with the one that follows: whether the expected is seen.
+fn take_hop(alloc: Global, request: &mut Request, given: Given, hop: &Hop) -> bool {
     match follow(alloc, request, hop) {
-        Some(answer) => (is_right(alloc, &answer, given, &hop.2), answer.ok()),
-        None => (false, None),
+        Some(answer) => {
+            let is_right = is_right(alloc, &answer, given, &hop.2);
+            go_on(request, answer);
+            is_right
+        }
+        None => false,
     }
 }
 
 /// Whether what follows a request is as it should be, at each of these hops.
-fn goes_on(alloc: Global, request: Request, row: &Row) -> bool {
-    let mut request = request;
+fn takes_all(alloc: Global, request: &mut Request, given: Given, hops: &[Hop]) -> bool {
     let mut is_all_right = true;
-    for hop in row.hops {
-        let (is_right, next) = take_hop(alloc, &request, row.given, hop);
-        is_all_right = is_all_right && is_right;
-        if let Some(next) = next {
-            request = next;
-        }
+    for hop in hops {
+        is_all_right = take_hop(alloc, request, given, hop) && is_all_right;
     }
     is_all_right
 }
 
-/// Whether a row goes as it should.
-fn goes(alloc: Global, row: &Row) -> Result<bool, AllocError> {
+/// Whether an answer is as it should be, and what follows it. Nothing follows one that is refused.
+fn follows(
+    alloc: Global,
+    answer: &mut Result<Request, RequestError>,
+    row: &Row,
+    hops: &[Hop],
+) -> bool {
+    let is_right = is_right(alloc, answer, row.given, &row.seen);
+    match answer {
+        Ok(request) => takes_all(alloc, request, row.given, hops) && is_right,
+        Err(_) => hops.is_empty() && is_right,
+    }
+}
+
+/// Whether a row goes as it should, with these hops.
+fn goes(alloc: Global, row: &Row, hops: &[Hop]) -> Result<bool, AllocError> {
     let settings = settings_of(alloc, row.given)?;
-    let answer = Request::build(alloc, row.method, row.url, settings);
-    let is_right = is_right(alloc, &answer, row.given, &row.seen);
-    Ok(match answer {
-        Ok(request) => goes_on(alloc, request, row) && is_right,
-        Err(_) => row.hops.is_empty() && is_right,
-    })
+    let mut answer = Request::build(alloc, row.method, row.url, settings);
+    let goes = follows(alloc, &mut answer, row, hops);
+    drop(answer);
+    Ok(goes)
 }
 
 /// The name of the first of these rows that doesn't.
-pub(crate) fn first_wrong(alloc: Global, rows: &[Row]) -> Result<Option<&'static str>, AllocError> {
+fn first_wrong_row(alloc: Global, rows: &[Row]) -> Result<Option<&'static str>, AllocError> {
     for row in rows {
-        if !goes(alloc, row)? {
+        if !goes(alloc, row, row.hops)? {
             return Ok(Some(row.name));
         }
     }
     Ok(None)
+}
+
+/// A name, the method of a request, and one hop.
+pub(crate) type Led = (&'static str, Method, Hop);
+
+/// The name of the first of these that doesn't go as it should, where requests at that endpoint are built with these settings.
+fn first_wrong_led(
+    alloc: Global,
+    given: Given,
+    rows: &[Led],
+) -> Result<Option<&'static str>, AllocError> {
+    for one in rows {
+        let (name, method, hop) = *one;
+        let row = Row {
+            method,
+            given,
+            ..FROM
+        };
+        if !goes(alloc, &row, &[hop])? {
+            return Ok(Some(name));
+        }
+    }
+    Ok(None)
+}
+
+/// Rows of one kind. Those of one hop have no slice within them, which makes a shorter proof.
+#[derive(Clone, Copy)]
+pub(crate) enum Rows {
+    Any(&'static [Row]),
+    /// Requests as `FROM` with these settings, each with its method, and one hop of each.
+    Led(Given, &'static [Led]),
+}
+
+/// The name of the first of these rows that doesn't go as it should.
+pub(crate) fn first_wrong(alloc: Global, rows: Rows) -> Result<Option<&'static str>, AllocError> {
+    match rows {
+        Rows::Any(rows) => first_wrong_row(alloc, rows),
+        Rows::Led(given, rows) => first_wrong_led(alloc, given, rows),
+    }
 }

@@ -36,7 +36,7 @@ pub(crate) enum Given {
 const LARGE: usize = 1_048_577;
 
 /// The fields of a chain. Two names of them are private, in any letter case, and each of these is there twice.
-const CHAIN: [(&str, &str); 7] = [
+static CHAIN: [(&str, &str); 7] = [
     ("Cookie", "a=1"),
     ("X-A", "1"),
     ("AUTHORIZATION", "Basic eDp5"),
@@ -46,47 +46,60 @@ const CHAIN: [(&str, &str); 7] = [
     ("Proxy-Authorization", "3"),
 ];
 
-fn field(alloc: Global, name: &str, value: &str) -> Result<(String, String), AllocError> {
+/// A text, and then so many letters.
+fn long(alloc: Global, front: &str, len: usize) -> Result<String, AllocError> {
+    let mut long = String::from_str(alloc, front)?;
+    add_letters(&mut long, len)?;
+    Ok(long)
+}
+
+fn add_letters(text: &mut String, len: usize) -> Result<(), AllocError> {
+    for _ in 0..len {
+        text.push('v')?;
+    }
+    Ok(())
+}
+
+/// A field, with so many letters behind its value.
+fn field(
+    alloc: Global,
+    name: &str,
+    value: &str,
+    len: usize,
+) -> Result<(String, String), AllocError> {
     let name = String::from_str(alloc, name)?;
-    let value = String::from_str(alloc, value)?;
+    let value = long(alloc, value, len)?;
     Ok((name, value))
 }
 
-/// Just this field.
-fn one_field(alloc: Global, name: &str, value: &str) -> Result<Fields, AllocError> {
-    Ok(vec![in alloc; field(alloc, name, value)?]?)
+/// Adds that field.
+fn add_field(
+    alloc: Global,
+    fields: &mut Fields,
+    name: &str,
+    value: &str,
+    len: usize,
+) -> Result<(), AllocError> {
+    let field = field(alloc, name, value, len)?;
+    fields.push(field)?;
+    Ok(())
 }
 
-/// So many fields.
-fn fields_by(alloc: Global, count: usize) -> Result<Fields, AllocError> {
-    let mut fields = Vec::new(alloc);
+/// Adds so many fields.
+fn add_many(alloc: Global, fields: &mut Fields, count: usize) -> Result<(), AllocError> {
     for _ in 0..count {
-        fields.push(field(alloc, "X", "")?)?;
+        add_field(alloc, fields, "X", "", 0)?;
     }
-    Ok(fields)
+    Ok(())
 }
 
-/// The fields of a chain.
-fn chain_fields(alloc: Global) -> Result<Fields, AllocError> {
-    let mut fields = Vec::new(alloc);
+/// Adds the fields of a chain.
+fn add_chain(alloc: Global, fields: &mut Fields) -> Result<(), AllocError> {
     for row in &CHAIN {
-        fields.push(field(alloc, row.0, row.1)?)?;
+        let (name, value) = *row;
+        add_field(alloc, fields, name, value, 0)?;
     }
-    Ok(fields)
-}
-
-/// So many times this byte.
-fn filled(alloc: Global, byte: u8, len: usize) -> Result<Vec<u8>, AllocError> {
-    vec![in alloc; byte; len]
-}
-
-/// A text of so many letters.
-fn long(alloc: Global, len: usize) -> Result<String, AllocError> {
-    let mut long = String::new(alloc);
-    for _ in 0..len {
-        long.push('v')?;
-    }
-    Ok(long)
+    Ok(())
 }
 
 /// How many milliseconds a request may take that is built so, and how many redirects it follows.
@@ -98,57 +111,88 @@ pub(crate) fn kept_of(given: Given) -> (u32, u8) {
     }
 }
 
-/// The user agent.
-fn agent_of(alloc: Global, given: Given) -> Result<Option<String>, AllocError> {
+/// The text of the user agent, and how many letters are behind it.
+fn agent_of(given: Given) -> Option<(&'static str, usize)> {
     match given {
-        Given::All | Given::Chain => Ok(Some(String::from_str(alloc, "mx/1")?)),
-        Given::Faults => Ok(Some(String::from_str(alloc, " ")?)),
-        Given::Agent(len) => Ok(Some(long(alloc, len)?)),
-        _ => Ok(None),
+        Given::All | Given::Chain => Some(("mx/1", 0)),
+        Given::Faults => Some((" ", 0)),
+        Given::Agent(len) => Some(("", len)),
+        _ => None,
     }
 }
 
-/// The fields.
-fn fields_of(alloc: Global, given: Given) -> Result<Fields, AllocError> {
+/// Sets the user agent.
+fn set_agent(alloc: Global, settings: &mut Settings, given: Given) -> Result<(), AllocError> {
+    if let Some((text, len)) = agent_of(given) {
+        settings.user_agent = Some(long(alloc, text, len)?);
+    }
+    Ok(())
+}
+
+/// Adds the fields.
+fn add_fields(alloc: Global, fields: &mut Fields, given: Given) -> Result<(), AllocError> {
     match given {
-        Given::All => one_field(alloc, "X-A", "1"),
+        Given::All => add_field(alloc, fields, "X-A", "1", 0),
         Given::Field(name, value) | Given::FieldAndBody(name, value) => {
-            one_field(alloc, name, value)
+            add_field(alloc, fields, name, value, 0)
         }
-        Given::Fields(count) => fields_by(alloc, count),
-        Given::Value(len) => one_field(alloc, "X", long(alloc, len)?.as_str()),
-        Given::Chain => chain_fields(alloc),
-        _ => Ok(Vec::new(alloc)),
+        Given::Fields(count) => add_many(alloc, fields, count),
+        Given::Value(len) => add_field(alloc, fields, "X", "", len),
+        Given::Chain => add_chain(alloc, fields),
+        _ => Ok(()),
     }
 }
 
-/// The body.
-fn body_of(alloc: Global, given: Given) -> Result<Option<Vec<u8>>, AllocError> {
+/// How many times `b` is the body; none where it is `hi`.
+fn body_len(given: Given) -> Option<usize> {
     match given {
-        Given::All | Given::Hi => Ok(Some(Vec::from_slice(alloc, b"hi")?)),
-        Given::FieldAndBody(..) | Given::Faults => Ok(Some(filled(alloc, b'b', LARGE)?)),
-        Given::Body(len) => Ok(Some(filled(alloc, b'b', len)?)),
-        _ => Ok(None),
+        Given::FieldAndBody(..) | Given::Faults => Some(LARGE),
+        Given::Body(len) => Some(len),
+        _ => None,
     }
+}
+
+/// The body of those that have one.
+fn body(alloc: Global, given: Given) -> Result<Vec<u8>, AllocError> {
+    match body_len(given) {
+        Some(len) => vec![in alloc; b'b'; len],
+        None => Vec::from_slice(alloc, b"hi"),
+    }
+}
+
+/// Whether there is a body.
+fn has_body(given: Given) -> bool {
+    body_len(given).is_some() || matches!(given, Given::All | Given::Hi)
+}
+
+/// Sets the body.
+fn set_body(alloc: Global, settings: &mut Settings, given: Given) -> Result<(), AllocError> {
+    if has_body(given) {
+        settings.body = Some(body(alloc, given)?);
+    }
+    Ok(())
+}
+
+/// Sets these parts.
+fn set_all(alloc: Global, settings: &mut Settings, given: Given) -> Result<(), AllocError> {
+    let (timeout_ms, max_redirects) = kept_of(given);
+    settings.timeout_ms = timeout_ms;
+    settings.max_redirects = max_redirects;
+    set_agent(alloc, settings, given)?;
+    add_fields(alloc, &mut settings.fields, given)?;
+    set_body(alloc, settings, given)
 }
 
 /// Settings of these parts.
 pub(crate) fn settings_of(alloc: Global, given: Given) -> Result<Settings, AllocError> {
-    let (timeout_ms, max_redirects) = kept_of(given);
-    let user_agent = agent_of(alloc, given)?;
-    let fields = fields_of(alloc, given)?;
-    Ok(Settings {
-        user_agent,
-        fields,
-        body: body_of(alloc, given)?,
-        timeout_ms,
-        max_redirects,
-    })
+    let mut settings = Settings::new(alloc);
+    set_all(alloc, &mut settings, given)?;
+    Ok(settings)
 }
 
 /// Settings with just this field.
 pub(crate) fn with_field(alloc: Global, name: &str, value: &str) -> Result<Settings, AllocError> {
     let mut settings = Settings::new(alloc);
-    settings.fields = one_field(alloc, name, value)?;
+    add_field(alloc, &mut settings.fields, name, value, 0)?;
     Ok(settings)
 }

@@ -1,6 +1,6 @@
 //! URLs and settings, with the bytes that they have to give, and those that are refused.
 
-use crate::row::{GET, Row, Seen};
+use crate::row::{GET, Row, Rows, Seen};
 use crate::settings::Given;
 use mx_request::RequestError;
 use mx_types::Method;
@@ -70,8 +70,8 @@ static SENT: [Row; 8] = [
 ];
 
 /// Requests and their bytes.
-pub(crate) fn sent() -> &'static [Row] {
-    &SENT
+pub(crate) fn sent() -> Rows {
+    Rows::Any(&SENT)
 }
 
 static HOSTILE: [Row; 13] = [
@@ -158,8 +158,8 @@ static HOSTILE: [Row; 13] = [
 ];
 
 /// Endpoints, hosts and targets.
-pub(crate) fn hostile() -> &'static [Row] {
-    &HOSTILE
+pub(crate) fn hostile() -> Rows {
+    Rows::Any(&HOSTILE)
 }
 
 /// Whatever else is wrong.
@@ -234,8 +234,8 @@ static REFUSED: [Row; 10] = [
 ];
 
 /// URLs that are refused, whatever else is wrong.
-pub(crate) fn refused() -> &'static [Row] {
-    &REFUSED
+pub(crate) fn refused() -> Rows {
+    Rows::Any(&REFUSED)
 }
 
 /// A POST to a short URL.
@@ -301,6 +301,6 @@ static LIMITS: [Row; 8] = [
 ];
 
 /// Bodies, fields and values at their limits.
-pub(crate) fn limits() -> &'static [Row] {
-    &LIMITS
+pub(crate) fn limits() -> Rows {
+    Rows::Any(&LIMITS)
 }
