@@ -2,7 +2,7 @@
 //! bytes.
 
 use crate::heads::front;
-use crate::pieces::{agrees, decoder, feed};
+use crate::pieces::{agrees_behind, decoder, feed};
 use mx_body::{Decoder, Stand};
 use mx_head::{HeadStep, read_head};
 use mx_types::Method;
@@ -19,17 +19,22 @@ fn says_of(decoder: &Decoder, head: &[u8]) -> bool {
     }
 }
 
-/// Feeds a piece, and compares with `decode_whole` over all bytes fed.
-fn agrees_behind(decoder: &mut Decoder, piece: &[u8], alloc: Global) -> bool {
-    feed(decoder, piece).is_some() && agrees(decoder, Method::Get, decoder.wire(), alloc, false)
+/// Feeds these pieces, and compares after each.
+fn agrees_behind_each(alloc: Global, decoder: &mut Decoder, pieces: &[&[u8]]) -> bool {
+    for piece in pieces {
+        if !agrees_behind(alloc, decoder, Method::Get, *piece) {
+            return false;
+        }
+    }
+    true
 }
 
 /// Feeds an interim head, and then a response in two pieces.
 fn agrees_in_two(alloc: Global, front: &[u8], back: &[u8]) -> bool {
     let mut decoder = decoder(alloc, Method::Get);
-    agrees_behind(&mut decoder, INTERIM, alloc)
-        && agrees_behind(&mut decoder, front, alloc)
-        && agrees_behind(&mut decoder, back, alloc)
+    let agrees = agrees_behind_each(alloc, &mut decoder, &[INTERIM, front, back]);
+    drop(decoder);
+    agrees
 }
 
 /// Whether it does so wherever the response is cut.
@@ -54,13 +59,20 @@ fn feed_until_known(decoder: &mut Decoder, bytes: &[u8]) -> usize {
 }
 
 /// Feeds an interim head or nothing, and then a head one byte at a time: it is known with the byte with which `read_head` knows it.
-fn is_known_in_time(alloc: Global, before: &[u8], head: &[u8]) -> bool {
-    let mut decoder = decoder(alloc, Method::Get);
-    let stand = feed(&mut decoder, before);
-    let fed = feed_until_known(&mut decoder, head);
+fn knows_in_time(decoder: &mut Decoder, before: &[u8], head: &[u8]) -> bool {
+    let stand = feed(decoder, before);
+    let fed = feed_until_known(decoder, head);
     stand == Some(Stand::More)
         && read_head(front(head, fed.saturating_sub(1))) == HeadStep::More
-        && says_of(&decoder, front(head, fed))
+        && says_of(decoder, front(head, fed))
+}
+
+/// Whether a new decoder knows it so.
+fn is_known_in_time(alloc: Global, before: &[u8], head: &[u8]) -> bool {
+    let mut decoder = decoder(alloc, Method::Get);
+    let is_known = knows_in_time(&mut decoder, before, head);
+    drop(decoder);
+    is_known
 }
 
 /// Whether it is known so at the front, and after an interim head.

@@ -11,13 +11,16 @@ use std::alloc::Global;
 const MOST_BYTES: usize = 67_108_864;
 
 /// A body that goes on to the end of that many bytes.
-const OPEN_BODY: Response = Response {
+static OPEN_BODY: Response = Response {
     parts: &[(19, 67_108_864)],
     ..OPEN
 };
 
+/// A body that hasn't ended.
+static SHORT_BODY: Response = SHORT;
+
 /// One byte more decides that it can't be.
-const ONE_BYTE_MORE: Response = Response {
+static ONE_BYTE_MORE: Response = Response {
     decided: Some(MOST_BYTES + 1),
     ..LARGE
 };
@@ -33,14 +36,19 @@ pub(crate) enum Told {
     OneByteMore,
 }
 
+/// The response that has that result.
+fn response_of(told: Told) -> &'static Response {
+    match told {
+        Told::Open => &OPEN_BODY,
+        Told::Short => &SHORT_BODY,
+        Told::OneByteMore => &ONE_BYTE_MORE,
+    }
+}
+
 /// Whether it has that result, before its end and with it.
 pub(crate) fn is_told_anyhow(alloc: Global, told: Told, bytes: &[u8]) -> bool {
-    let row = match told {
-        Told::Open => OPEN_BODY,
-        Told::Short => SHORT,
-        Told::OneByteMore => ONE_BYTE_MORE,
-    };
-    is_told(alloc, &row, bytes, true) && is_told(alloc, &row, bytes, false)
+    let row = response_of(told);
+    is_told(alloc, row, bytes, true) && is_told(alloc, row, bytes, false)
 }
 
 static LIMITS: [Row; 4] = [

@@ -29,8 +29,24 @@ fn place_in_response(decoder: &Decoder) -> Option<Place> {
     Some((place.start as usize, place.end as usize))
 }
 
-/// Whether a decoder that is fed the bytes in pieces of that length has that location, at that place.
-fn has_location(
+/// Feeds the bytes in pieces of that length; false where memory is refused.
+fn feed_all(decoder: &mut Decoder, bytes: &[u8], len: usize) -> bool {
+    for piece in bytes.chunks(len.max(1)) {
+        if feed(decoder, piece).is_none() {
+            return false;
+        }
+    }
+    true
+}
+
+/// Whether a decoder has that location, at that place.
+fn has_location(decoder: &Decoder, place: Option<Place>, value: &[u8]) -> bool {
+    let (start, end) = place.unwrap_or((0, 0));
+    place_in_response(decoder) == place && decoder.wire().get(start..end) == Some(value)
+}
+
+/// Whether a new decoder that is fed the bytes in pieces of that length has it.
+fn has_location_by(
     alloc: Global,
     bytes: &[u8],
     len: usize,
@@ -38,13 +54,9 @@ fn has_location(
     value: &[u8],
 ) -> bool {
     let mut decoder = decoder(alloc, Method::Get);
-    for piece in bytes.chunks(len.max(1)) {
-        if feed(&mut decoder, piece).is_none() {
-            return false;
-        }
-    }
-    let (start, end) = place.unwrap_or((0, 0));
-    place_in_response(&decoder) == place && decoder.wire().get(start..end) == Some(value)
+    let is_right = feed_all(&mut decoder, bytes, len) && has_location(&decoder, place, value);
+    drop(decoder);
+    is_right
 }
 
 /// Whether it has, in pieces of each length.
@@ -54,9 +66,9 @@ pub(crate) fn is_located_behind(
     place: Option<Place>,
     value: &[u8],
 ) -> bool {
-    has_location(alloc, bytes, 1, place, value)
-        && has_location(alloc, bytes, 7, place, value)
-        && has_location(alloc, bytes, 600, place, value)
+    has_location_by(alloc, bytes, 1, place, value)
+        && has_location_by(alloc, bytes, 7, place, value)
+        && has_location_by(alloc, bytes, 600, place, value)
 }
 
 /// Whether the head at the front has that location, too.

@@ -144,19 +144,49 @@ pub(crate) fn agrees(
     }
 }
 
+/// The same of all bytes fed.
+fn agrees_now(alloc: Global, decoder: &Decoder, method: Method, ended: bool) -> bool {
+    agrees(decoder, method, decoder.wire(), alloc, ended)
+}
+
+/// Feeds a piece, and compares then.
+pub(crate) fn agrees_behind(
+    alloc: Global,
+    decoder: &mut Decoder,
+    method: Method,
+    piece: &[u8],
+) -> bool {
+    feed(decoder, piece).is_some() && agrees_now(alloc, decoder, method, false)
+}
+
+/// Feeds the end, and compares then.
+fn agrees_at_end(alloc: Global, decoder: &mut Decoder, method: Method) -> bool {
+    let decided = decoder.stand() != Stand::More;
+    end(decoder).is_some() && agrees_now(alloc, decoder, method, !decided)
+}
+
 /// Feeds the bytes in pieces of that length and compares after each, until it is decided; then at the end.
-fn agrees_in_pieces(alloc: Global, method: Method, bytes: &[u8], len: usize) -> bool {
-    let mut decoder = decoder(alloc, method);
+fn agrees_at_each(
+    alloc: Global,
+    decoder: &mut Decoder,
+    method: Method,
+    bytes: &[u8],
+    len: usize,
+) -> bool {
     for piece in bytes.chunks(len.max(1)) {
-        if feed(&mut decoder, piece).is_none() {
-            return false;
-        }
-        if !agrees(&decoder, method, decoder.wire(), alloc, false) {
+        if !agrees_behind(alloc, decoder, method, piece) {
             return false;
         }
     }
-    let decided = decoder.stand() != Stand::More;
-    end(&mut decoder).is_some() && agrees(&decoder, method, decoder.wire(), alloc, !decided)
+    agrees_at_end(alloc, decoder, method)
+}
+
+/// Whether a new decoder does so.
+fn agrees_in_pieces(alloc: Global, method: Method, bytes: &[u8], len: usize) -> bool {
+    let mut decoder = decoder(alloc, method);
+    let agrees = agrees_at_each(alloc, &mut decoder, method, bytes, len);
+    drop(decoder);
+    agrees
 }
 
 /// Whether they agree on the bytes as the answer to two methods, in pieces of each length.
@@ -172,10 +202,17 @@ pub(crate) fn agrees_in_all_pieces(alloc: Global, bytes: &[u8]) -> bool {
 }
 
 /// Whether a response of that status and that length is whole, in pieces of that length.
+fn is_complete(decoder: &mut Decoder, bytes: &[u8], piece: usize, status: u16, len: usize) -> bool {
+    let last = feed_pieces(decoder, bytes, piece);
+    last == Some(Stand::Complete) && decoder.status() == status && decoder.len() == len
+}
+
+/// Whether it is to a new decoder.
 fn completes_in(alloc: Global, bytes: &[u8], piece: usize, status: u16, len: usize) -> bool {
     let mut decoder = decoder(alloc, Method::Get);
-    let last = feed_pieces(&mut decoder, bytes, piece);
-    last == Some(Stand::Complete) && decoder.status() == status && decoder.len() == len
+    let is_complete = is_complete(&mut decoder, bytes, piece, status, len);
+    drop(decoder);
+    is_complete
 }
 
 /// Whether it is in pieces of each of these lengths.
@@ -195,11 +232,17 @@ pub(crate) fn completes(
 }
 
 /// Whether a decoder that is fed all but the last byte, and then that one, refuses that one so.
+fn refuses_last(decoder: &mut Decoder, bytes: &[u8], code: Code) -> bool {
+    let (front, last) = bytes.split_at(bytes.len().saturating_sub(1));
+    feed(decoder, front) == Some(Stand::More) && feed(decoder, last) == Some(Stand::Fault(code))
+}
+
+/// Whether a new decoder does so.
 pub(crate) fn is_refused_at_last(alloc: Global, bytes: &[u8], code: Code) -> bool {
     let mut decoder = decoder(alloc, Method::Get);
-    let (front, last) = bytes.split_at(bytes.len().saturating_sub(1));
-    feed(&mut decoder, front) == Some(Stand::More)
-        && feed(&mut decoder, last) == Some(Stand::Fault(code))
+    let is_refused = refuses_last(&mut decoder, bytes, code);
+    drop(decoder);
+    is_refused
 }
 
 /// The head of `CHUNKED` alone.
@@ -302,37 +345,47 @@ fn feed_again(decoder: &mut Decoder, piece: &[u8], count: u32) -> Option<Stand> 
     stand
 }
 
+/// Feeds a piece as often as it says: whether it is answered so.
+fn feed_as(alloc: Global, decoder: &mut Decoder, feed: &Feed) -> Result<bool, AllocError> {
+    let piece = bytes_of(alloc, &feed.0)?;
+    let last = feed_again(decoder, &piece, feed.1);
+    drop(piece);
+    Ok(last == Some(feed.2))
+}
+
 /// Feeds these pieces: whether each is answered so.
 fn feed_script(alloc: Global, decoder: &mut Decoder, feeds: &[Feed]) -> Result<bool, AllocError> {
     let mut is_right = true;
     for feed in feeds {
-        let piece = bytes_of(alloc, &feed.0)?;
-        let last = feed_again(decoder, &piece, feed.1);
-        is_right = is_right && last == Some(feed.2);
+        is_right = feed_as(alloc, decoder, feed)? && is_right;
     }
     Ok(is_right)
 }
 
-/// Whether a decoder has that many bytes, and room for no more.
-fn is_full(decoder: Decoder, len: usize) -> bool {
+/// How many bytes a decoder has, and room for how many. It is dropped.
+fn room_of(decoder: Decoder) -> (usize, usize) {
     let wire = decoder.into_wire();
-    wire.len() == len && wire.capacity() == len
+    let room = (wire.len(), wire.capacity());
+    drop(wire);
+    room
 }
 
-/// Whether a decoder's response has that length, and it has that room.
-fn has_room(decoder: Decoder, len: Option<usize>, room: Option<usize>) -> bool {
-    let is_long = len.is_none() || len == Some(decoder.len());
-    match room {
-        Some(room) => is_full(decoder, room) && is_long,
-        None => is_long,
+/// Whether there are that many bytes and room for no more, where that is asked for.
+fn is_full(room: (usize, usize), len: Option<usize>) -> bool {
+    match len {
+        Some(len) => room == (len, len),
+        None => true,
     }
 }
 
 /// Whether a script goes as it should.
 fn goes(alloc: Global, script: &Script) -> Result<bool, AllocError> {
     let mut decoder = decoder(alloc, Method::Get);
-    let is_right = feed_script(alloc, &mut decoder, script.1)?;
-    Ok(has_room(decoder, script.2, script.3) && is_right)
+    let is_right = feed_script(alloc, &mut decoder, script.1);
+    let len = decoder.len();
+    let room = room_of(decoder);
+    let is_long = script.2.is_none() || script.2 == Some(len);
+    Ok(is_right? && is_long && is_full(room, script.3))
 }
 
 /// The name of the first script that doesn't.

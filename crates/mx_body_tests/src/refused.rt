@@ -32,35 +32,6 @@ fn decode(alloc: Global, row: &Response, bytes: &[u8]) -> (bool, bool) {
     (true, is_verdict(&second, row, bytes.len(), true))
 }
 
-// Decodes these responses so: whether memory was refused, and the name of the first whose verdict is wrong.
-fn decode_rows(
-    alloc: Global,
-    rows: &[Response],
-) -> Result<(bool, Option<&'static str>), AllocError> {
-    let mut is_refused = false;
-    for row in rows {
-        let bytes = row.bytes(alloc)?;
-        let (lacked, is_right) = decode(alloc, row, &bytes);
-        is_refused = is_refused || lacked;
-        if !is_right {
-            return Ok((is_refused, Some(row.name)));
-        }
-    }
-    Ok((is_refused, None))
-}
-
-// rule body-out-of-memory
-#[test]
-fn whole_responses_are_decoded_again(rt: HostRuntime) -> Result<(), Fail> {
-    let mut is_refused = false;
-    for rows in responses() {
-        let (lacked, wrong) = decode_rows(rt.alloc(), rows)?;
-        assert_eq!(rt; wrong, None);
-        is_refused = is_refused || lacked;
-    }
-    end_with(is_refused)
-}
-
 /// A call of a decoder.
 #[derive(Clone, Copy)]
 enum Call<'a> {
@@ -99,12 +70,19 @@ fn feed_all(decoder: &mut Decoder, row: &Response, bytes: &[u8], len: usize) -> 
     (is_refused || lacked, is_right)
 }
 
+// Feeds them to a new decoder.
+fn feed_by(alloc: Global, row: &Response, bytes: &[u8], len: usize) -> (bool, bool) {
+    let mut decoder = decoder(alloc, row.method);
+    let fed = feed_all(&mut decoder, row, bytes, len);
+    drop(decoder);
+    fed
+}
+
 // Feeds them to new decoders, in pieces of each length.
 fn feed_new(alloc: Global, row: &Response, bytes: &[u8]) -> (bool, bool) {
     let mut is_refused = false;
     for len in [1, 7, 600] {
-        let mut decoder = decoder(alloc, row.method);
-        let (lacked, is_right) = feed_all(&mut decoder, row, bytes, len);
+        let (lacked, is_right) = feed_by(alloc, row, bytes, len);
         is_refused = is_refused || lacked;
         if !is_right {
             return (is_refused, false);
@@ -113,12 +91,32 @@ fn feed_new(alloc: Global, row: &Response, bytes: &[u8]) -> (bool, bool) {
     (is_refused, true)
 }
 
-// Feeds these responses so: whether memory was refused, and the name of the first with another answer.
-fn feed_rows(alloc: Global, rows: &[Response]) -> Result<(bool, Option<&'static str>), AllocError> {
+/// How responses are decoded.
+#[derive(Clone, Copy)]
+enum Way {
+    Whole,
+    InPieces,
+}
+
+// Decodes a response so: whether memory was refused, and whether its verdict is as expected.
+fn decode_by(alloc: Global, way: Way, row: &Response) -> Result<(bool, bool), AllocError> {
+    let bytes = row.bytes(alloc)?;
+    let decoded = match way {
+        Way::Whole => decode(alloc, row, &bytes),
+        Way::InPieces => feed_new(alloc, row, &bytes),
+    };
+    drop(bytes);
+    Ok(decoded)
+}
+
+/// Whether memory was refused, and the name of the first response whose verdict is wrong.
+type Decoded = (bool, Option<&'static str>);
+
+// Decodes these responses so.
+fn decode_rows(alloc: Global, way: Way, rows: &[Response]) -> Result<Decoded, AllocError> {
     let mut is_refused = false;
     for row in rows {
-        let bytes = row.bytes(alloc)?;
-        let (lacked, is_right) = feed_new(alloc, row, &bytes);
+        let (lacked, is_right) = decode_by(alloc, way, row)?;
         is_refused = is_refused || lacked;
         if !is_right {
             return Ok((is_refused, Some(row.name)));
@@ -127,15 +125,32 @@ fn feed_rows(alloc: Global, rows: &[Response]) -> Result<(bool, Option<&'static 
     Ok((is_refused, None))
 }
 
+// Decodes all responses so.
+fn decode_all(alloc: Global, way: Way) -> Result<Decoded, AllocError> {
+    let mut is_refused = false;
+    for rows in responses() {
+        let (lacked, wrong) = decode_rows(alloc, way, rows)?;
+        is_refused = is_refused || lacked;
+        if wrong.is_some() {
+            return Ok((is_refused, wrong));
+        }
+    }
+    Ok((is_refused, None))
+}
+
+// rule body-out-of-memory
+#[test]
+fn whole_responses_are_decoded_again(rt: HostRuntime) -> Result<(), Fail> {
+    let (is_refused, wrong) = decode_all(rt.alloc(), Way::Whole)?;
+    assert_eq!(rt; wrong, None);
+    end_with(is_refused)
+}
+
 // rule body-out-of-memory
 #[test]
 fn pieces_are_fed_again(rt: HostRuntime) -> Result<(), Fail> {
-    let mut is_refused = false;
-    for rows in responses() {
-        let (lacked, wrong) = feed_rows(rt.alloc(), rows)?;
-        assert_eq!(rt; wrong, None);
-        is_refused = is_refused || lacked;
-    }
+    let (is_refused, wrong) = decode_all(rt.alloc(), Way::InPieces)?;
+    assert_eq!(rt; wrong, None);
     end_with(is_refused)
 }
 

@@ -78,66 +78,68 @@ pub(crate) enum Seen {
 /// A row's name, its bytes, and what is seen of them.
 pub(crate) type Row = (&'static str, Bytes, Seen);
 
-/// The front, and the unit so often.
-fn repeated(alloc: Global, front: &[u8], unit: &[u8], count: usize) -> Result<Vec<u8>, AllocError> {
-    let mut bytes = Vec::from_slice(alloc, front)?;
-    for _ in 0..count {
-        bytes.extend_from_slice(unit)?;
-    }
-    Ok(bytes)
-}
-
-/// The front, the unit so often, and the end.
-fn often(
-    alloc: Global,
+/// Adds the front, the unit so often, and the end.
+fn add_often(
+    bytes: &mut Vec<u8>,
     front: &[u8],
     unit: &[u8],
     count: usize,
     end: &[u8],
-) -> Result<Vec<u8>, AllocError> {
-    let mut bytes = repeated(alloc, front, unit, count)?;
-    bytes.extend_from_slice(end)?;
-    Ok(bytes)
-}
-
-/// The front, and then as many bytes that there are `len` in all.
-fn filled(alloc: Global, front: &[u8], len: usize) -> Result<Vec<u8>, AllocError> {
-    let block = [b'x'; 65536];
-    let mut bytes = Vec::with_capacity(alloc, len)?;
+) -> Result<(), AllocError> {
     bytes.extend_from_slice(front)?;
-    for _ in 0..1025 {
+    for _ in 0..count {
+        bytes.extend_from_slice(unit)?;
+    }
+    bytes.extend_from_slice(end)
+}
+
+/// 4,096 times `x`.
+const BLOCK: [u8; 4096] = [b'x'; 4096];
+
+/// Adds the front, and then as many bytes that there are `len` in all.
+fn add_filled(bytes: &mut Vec<u8>, front: &[u8], len: usize) -> Result<(), AllocError> {
+    bytes.reserve(len)?;
+    bytes.extend_from_slice(front)?;
+    let block = BLOCK;
+    for _ in 0..16_400 {
         let left = len.saturating_sub(bytes.len());
-        bytes.extend_from_slice(&block[..left.min(65536)])?;
+        bytes.extend_from_slice(&block[..left.min(4096)])?;
     }
-    Ok(bytes)
+    Ok(())
 }
 
-/// The front, and so many chunks of 65,536 bytes.
-fn chunks(alloc: Global, front: &[u8], count: usize) -> Result<Vec<u8>, AllocError> {
-    let chunk = often(alloc, b"10000\r\n", b"0123456789abcdef", 4096, b"\r\n")?;
-    repeated(alloc, front, &chunk, count)
+/// Adds the front, and so many chunks of 65,536 bytes.
+fn add_chunks(bytes: &mut Vec<u8>, front: &[u8], count: usize) -> Result<(), AllocError> {
+    bytes.extend_from_slice(front)?;
+    for _ in 0..count {
+        add_often(bytes, b"10000\r\n", b"0123456789abcdef", 4096, b"\r\n")?;
+    }
+    Ok(())
 }
 
-/// A status line, so many short field lines, and one that is as long as the head of that length needs.
-fn with_long_field(alloc: Global, count: usize, len: usize) -> Result<Vec<u8>, AllocError> {
-    let mut bytes = repeated(alloc, b"HTTP/1.1 200 OK\r\n", b"A: b\r\n", count)?;
-    bytes.extend_from_slice(b"B: ")?;
-    for _ in 0..len.saturating_sub(bytes.len().saturating_add(4)) {
-        bytes.push(b'c')?;
+/// Adds a status line, so many short field lines, and one that is as long as the head of that length needs.
+fn add_long_field(bytes: &mut Vec<u8>, count: usize, len: usize) -> Result<(), AllocError> {
+    add_often(bytes, b"HTTP/1.1 200 OK\r\n", b"A: b\r\n", count, b"B: ")?;
+    let letters = len.saturating_sub(bytes.len().saturating_add(4));
+    add_often(bytes, b"", b"c", letters, b"\r\n\r\n")
+}
+
+/// Adds all bytes of a row.
+fn add_bytes(all: &mut Vec<u8>, bytes: &Bytes) -> Result<(), AllocError> {
+    match *bytes {
+        Bytes::Of(bytes) => all.extend_from_slice(bytes),
+        Bytes::Often(front, unit, count, end) => add_often(all, front, unit, count, end),
+        Bytes::Filled(front, len) => add_filled(all, front, len),
+        Bytes::Chunks(front, count) => add_chunks(all, front, count),
+        Bytes::LongField(count, len) => add_long_field(all, count, len),
     }
-    bytes.extend_from_slice(b"\r\n\r\n")?;
-    Ok(bytes)
 }
 
 /// All bytes of a row.
 pub(crate) fn bytes_of(alloc: Global, bytes: &Bytes) -> Result<Vec<u8>, AllocError> {
-    match *bytes {
-        Bytes::Of(bytes) => Vec::from_slice(alloc, bytes),
-        Bytes::Often(front, unit, count, end) => often(alloc, front, unit, count, end),
-        Bytes::Filled(front, len) => filled(alloc, front, len),
-        Bytes::Chunks(front, count) => chunks(alloc, front, count),
-        Bytes::LongField(count, len) => with_long_field(alloc, count, len),
-    }
+    let mut all = Vec::new(alloc);
+    add_bytes(&mut all, bytes)?;
+    Ok(all)
 }
 
 /// Whether a row has as many bytes as it says.
@@ -177,11 +179,18 @@ fn is_seen(alloc: Global, seen: &Seen, bytes: &[u8]) -> bool {
     }
 }
 
+/// Whether a row's bytes are as long as it says, and what is seen of them is so.
+fn is_right(alloc: Global, row: &Row) -> Result<bool, AllocError> {
+    let bytes = bytes_of(alloc, &row.1)?;
+    let is_right = is_as_long(&row.1, bytes.len()) && is_seen(alloc, &row.2, &bytes);
+    drop(bytes);
+    Ok(is_right)
+}
+
 /// The name of the first of these rows of which something else is seen.
 pub(crate) fn first_wrong(alloc: Global, rows: &[Row]) -> Result<Option<&'static str>, AllocError> {
     for row in rows {
-        let bytes = bytes_of(alloc, &row.1)?;
-        if !is_as_long(&row.1, bytes.len()) || !is_seen(alloc, &row.2, &bytes) {
+        if !is_right(alloc, row)? {
             return Ok(Some(row.0));
         }
     }

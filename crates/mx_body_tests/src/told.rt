@@ -69,7 +69,9 @@ pub(crate) fn is_verdict(
 /// Whether it is, where these bytes of the row are decoded.
 pub(crate) fn is_told(alloc: Global, row: &Response, bytes: &[u8], ended: bool) -> bool {
     let verdict = decode_whole(alloc, row.method, bytes, ended);
-    is_verdict(&verdict, row, bytes.len(), ended)
+    let is_told = is_verdict(&verdict, row, bytes.len(), ended);
+    drop(verdict);
+    is_told
 }
 
 /// Whether it is for each front of a row, and for all of it with its end.
@@ -125,7 +127,9 @@ fn takes_three(
 /// Whether a new decoder does so.
 fn is_taken(alloc: Global, row: &Response, bytes: &[u8], first: usize, second: usize) -> bool {
     let mut decoder = decoder(alloc, row.method);
-    takes_three(&mut decoder, row, bytes, first, second)
+    let is_taken = takes_three(&mut decoder, row, bytes, first, second);
+    drop(decoder);
+    is_taken
 }
 
 /// A response of more bytes is cut in two, and not in three.

@@ -36,6 +36,14 @@ fn passes(alloc: Global, trial: Trial, row: &Response, bytes: &[u8]) -> bool {
     }
 }
 
+/// Whether a response passes it with all of its bytes.
+fn passes_with(alloc: Global, trial: Trial, row: &Response) -> Result<bool, AllocError> {
+    let bytes = row.bytes(alloc)?;
+    let passes = passes(alloc, trial, row, &bytes);
+    drop(bytes);
+    Ok(passes)
+}
+
 /// Trials by the row of a response, and their names.
 static TOLD: [(Trial, &str); 3] = [
     // rule body-to-the-end
@@ -63,8 +71,7 @@ fn first_wrong(
     rows: &[Response],
 ) -> Result<Option<&'static str>, AllocError> {
     for row in rows {
-        let bytes = row.bytes(alloc)?;
-        if !passes(alloc, trial, row, &bytes) {
+        if !passes_with(alloc, trial, row)? {
             return Ok(Some(row.name));
         }
     }
