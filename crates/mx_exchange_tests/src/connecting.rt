@@ -109,24 +109,34 @@ fn take_polls<L: Link>(task: &MockTask, transfer: &mut Transfer<L>) -> Polls {
 }
 
 /// A GET of the root.
-const ROOT: Row<'static> = Row {
+static ROOT: Row<'static> = Row {
     url: "http://127.0.0.1/",
     ..GET
 };
 
-/// Hands over a link whose connection takes so many checks, and then stands or is refused, and polls.
-fn connect(alloc: Global, task: &MockTask, waits: u32, is_refused: bool) -> Result<Polls, Stop> {
+/// A link whose connection takes so many checks, and then stands or is refused.
+fn slow_link(waits: u32, is_refused: bool) -> StreamLink<SlowStream> {
+    let stream = SlowStream {
+        waits,
+        is_refused,
+        given: 0,
+        results: History::new(),
+    };
+    StreamLink::over(stream, 9)
+}
+
+/// Hands over a link, where one is wanted.
+fn attach<L: Link>(transfer: &mut Transfer<L>, link: L) {
+    if transfer.wants().is_some() {
+        transfer.attach(link, false);
+    }
+}
+
+/// Hands over a link, and polls.
+fn connect_over<L: Link>(alloc: Global, task: &MockTask, link: L) -> Result<Polls, Stop> {
     let request = request_of(alloc, Method::Get, &ROOT)?;
     let mut transfer = Transfer::new(alloc, request);
-    if transfer.wants().is_some() {
-        let stream = SlowStream {
-            waits,
-            is_refused,
-            given: 0,
-            results: History::new(),
-        };
-        transfer.attach(StreamLink::over(stream, 9), false);
-    }
+    attach(&mut transfer, link);
     let polls = take_polls(task, &mut transfer);
     drop(transfer);
     Ok(polls)
@@ -150,15 +160,27 @@ const FAILS: Polls = Polls {
     ..STANDS
 };
 
+/// Fails with this name unless just this is seen of a connection that takes so many checks, and then stands or is refused.
+fn connect(
+    alloc: Global,
+    task: &MockTask,
+    name: &'static str,
+    link: StreamLink<SlowStream>,
+    polls: &Polls,
+) -> Result<(), Stop> {
+    let seen = connect_over(alloc, task, link)?;
+    if seen == *polls {
+        return Ok(());
+    }
+    Err(Stop::Part(name))
+}
+
 fn connect_all(alloc: Global, task: &MockTask) -> Result<(), Stop> {
-    if connect(alloc, task, 2, false)? != STANDS {
-        return Err(Stop::Part("a_connection_takes_its_polls"));
-    }
+    let name = "a_connection_takes_its_polls";
+    connect(alloc, task, name, slow_link(2, false), &STANDS)?;
     // rule exchange-connect
-    if connect(alloc, task, 1, true)? != FAILS {
-        return Err(Stop::Part("a_connection_that_fails_is_code_7"));
-    }
-    Ok(())
+    let name = "a_connection_that_fails_is_code_7";
+    connect(alloc, task, name, slow_link(1, true), &FAILS)
 }
 
 #[test]

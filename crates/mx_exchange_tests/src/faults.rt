@@ -13,7 +13,7 @@ use std::alloc::Global;
 use std::test::Fail;
 
 /// A GET whose request has 56 bytes.
-const SHORT: Row<'static> = Row {
+static SHORT: Row<'static> = Row {
     url: "http://127.0.0.1:8080/a?b",
     ..GET
 };
@@ -123,16 +123,28 @@ fn ends_by(
     )
 }
 
+/// It ends so where so many bytes are read, and then perhaps something else is answered.
+fn ends_at(
+    alloc: Global,
+    task: &MockTask,
+    name: &'static str,
+    at: usize,
+    last: Option<ScriptRead<'static>>,
+    ends: Ends<'_>,
+) -> Result<(), Stop> {
+    let reads = one_by_one(alloc, at, last)?;
+    let ended = ends_by(alloc, task, name, reads.as_slice(), ends);
+    drop(reads);
+    ended
+}
+
 /// It ends so where the first, the second and so on up to the last of these reads answers something else.
 fn ends_at_each(alloc: Global, task: &MockTask, row: &ReadRow) -> Result<(), Stop> {
     let (first, last) = row.at;
     let (code, status) = row.ends;
     for at in first..=last {
         let ends = Ends::Failed(code, status, &CHUNKED[..at.min(72)]);
-        let reads = one_by_one(alloc, at, Some(row.answer))?;
-        let ended = ends_by(alloc, task, row.name, reads.as_slice(), ends);
-        drop(reads);
-        ended?;
+        ends_at(alloc, task, row.name, at, Some(row.answer), ends)?;
     }
     Ok(())
 }
@@ -144,51 +156,61 @@ fn fails_at_write(alloc: Global, at: usize) -> Result<Vec<Write>, OutOfMemory> {
     Ok(writes)
 }
 
-/// Over a fresh link that writes so a transfer fails; and over one that was in use it wants a fresh one first.
-fn fails_over(alloc: Global, task: &MockTask, writes: Vec<Write>) -> Result<(), Stop> {
-    let ends = Ends::Failed(Code::SendError, 0, b"");
-    let fresh = Fresh(&[Bytes(CHUNKED)], &writes);
-    let reused = Reused(&[WouldBlock], &writes);
+/// Over a fresh link that writes so a transfer fails.
+fn fails_over_fresh(alloc: Global, task: &MockTask, writes: &[Write]) -> Result<(), Stop> {
     let name = "a_fault_at_a_write";
-    let one = sees(alloc, task, name, &[fresh, Poll], &[], ends);
+    let calls = [Fresh(&[Bytes(CHUNKED)], writes), Poll];
+    let ends = Ends::Failed(Code::SendError, 0, b"");
+    sees(alloc, task, name, &calls, &[], ends)
+}
+
+/// Over a link that was in use it wants a fresh one first.
+fn fails_over_reused(alloc: Global, task: &MockTask, writes: &[Write]) -> Result<(), Stop> {
     let name = "a_fault_at_a_write_of_a_reused_link";
-    let calls = [reused, Poll, fresh, Poll];
-    let two = sees(alloc, task, name, &calls, &[LOST], ends);
-    drop(writes);
-    one?;
-    two
+    let fresh = Fresh(&[Bytes(CHUNKED)], writes);
+    let calls = [Reused(&[WouldBlock], writes), Poll, fresh, Poll];
+    let ends = Ends::Failed(Code::SendError, 0, b"");
+    sees(alloc, task, name, &calls, &[LOST], ends)
 }
 
-// rule exchange-retry
-fn a_fault_at_each_write(alloc: Global, task: &MockTask) -> Result<(), Stop> {
-    for at in 0..56 {
-        let writes = fails_at_write(alloc, at)?;
-        fails_over(alloc, task, writes)?;
-    }
-    Ok(())
-}
-
-/// The request has no 57th byte.
-fn a_fault_behind_the_last_write(alloc: Global, task: &MockTask) -> Result<(), Stop> {
-    let writes = fails_at_write(alloc, 56)?;
-    let calls = [Fresh(&[Bytes(CHUNKED)], &writes), Poll];
+/// Over a fresh link whose fault is behind the last write it ends well.
+fn ends_over(alloc: Global, task: &MockTask, writes: &[Write]) -> Result<(), Stop> {
     let name = "a_fault_behind_the_last_write";
-    let ended = sees(alloc, task, name, &calls, &[], Ends::Hello(CHUNKED, 1));
+    let calls = [Fresh(&[Bytes(CHUNKED)], writes), Poll];
+    sees(alloc, task, name, &calls, &[], Ends::Hello(CHUNKED, 1))
+}
+
+/// The request has 56 bytes.
+fn ends_by_writes(alloc: Global, task: &MockTask, at: usize, writes: &[Write]) -> Result<(), Stop> {
+    if at >= 56 {
+        return ends_over(alloc, task, writes);
+    }
+    fails_over_fresh(alloc, task, writes)?;
+    fails_over_reused(alloc, task, writes)
+}
+
+fn a_fault_at_a_write(alloc: Global, task: &MockTask, at: usize) -> Result<(), Stop> {
+    let writes = fails_at_write(alloc, at)?;
+    let ended = ends_by_writes(alloc, task, at, writes.as_slice());
     drop(writes);
     ended
 }
 
+// rule exchange-retry
+fn a_fault_at_each_write(alloc: Global, task: &MockTask) -> Result<(), Stop> {
+    for at in 0..=56 {
+        a_fault_at_a_write(alloc, task, at)?;
+    }
+    Ok(())
+}
+
 fn play_all(alloc: Global, task: &MockTask) -> Result<(), Stop> {
-    let reads = one_by_one(alloc, 72, None)?;
     let ends = Ends::Hello(CHUNKED, 1);
-    let ended = ends_by(alloc, task, "a_byte_at_a_time", reads.as_slice(), ends);
-    drop(reads);
-    ended?;
+    ends_at(alloc, task, "a_byte_at_a_time", 72, None, ends)?;
     for row in &READS {
         ends_at_each(alloc, task, row)?;
     }
-    a_fault_at_each_write(alloc, task)?;
-    a_fault_behind_the_last_write(alloc, task)
+    a_fault_at_each_write(alloc, task)
 }
 
 #[test]

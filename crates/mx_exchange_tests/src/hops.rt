@@ -61,7 +61,7 @@ pub(crate) const TWICE: Row<'static> = Row {
     ..GET
 };
 
-static HOP_ENDS: [Row<'static>; 6] = [
+static HOP_DEADLINES: [Row<'static>; 1] = [
     // rule redirect-deadline
     Row {
         name: "one_deadline_is_for_all_hops",
@@ -91,6 +91,9 @@ static HOP_ENDS: [Row<'static>; 6] = [
         ends: Ends::Failed(Code::OperationTimedout, 0, b""),
         ..TWICE
     },
+];
+
+static HOP_RETRIES: [Row<'static>; 2] = [
     Row {
         name: "each_hop_is_tried_again_once",
         calls: &[
@@ -131,6 +134,9 @@ static HOP_ENDS: [Row<'static>; 6] = [
         ends: Ends::Failed(Code::GotNothing, 0, b""),
         ..TWICE
     },
+];
+
+static HOP_ENDS: [Row<'static>; 2] = [
     Row {
         name: "a_fault_of_the_last_hop_ends_it",
         calls: &[GIVES_FOUND, Poll, Fresh(&[Bytes(HEAD), Fault], &[]), Poll],
@@ -144,6 +150,9 @@ static HOP_ENDS: [Row<'static>; 6] = [
         ends: Ends::Bodiless(Code::CouldntResolveHost, 0, b""),
         ..TWICE
     },
+];
+
+static HOP_LIMITS: [Row<'static>; 1] = [
     // rule redirect-limit
     // it is followed as often as may be
     Row {
@@ -252,6 +261,12 @@ static HOP_LINKS: [Row<'static>; 3] = [
 ];
 
 /// Transfers of several hops: how they end, and which links are handed out.
-pub(crate) fn rows() -> [&'static [Row<'static>]; 2] {
-    [&HOP_ENDS, &HOP_LINKS]
+pub(crate) fn rows() -> [&'static [Row<'static>]; 5] {
+    [
+        &HOP_DEADLINES,
+        &HOP_RETRIES,
+        &HOP_ENDS,
+        &HOP_LIMITS,
+        &HOP_LINKS,
+    ]
 }

@@ -2,6 +2,7 @@
 
 use crate::interrupted::interrupted;
 use mx_link::{Connect, Link, Read, ScriptLink, ScriptRead, Write};
+use mx_types::OutOfMemory;
 use std::alloc::{AllocGlobal, Global};
 use std::test::Fail;
 
@@ -162,15 +163,23 @@ pub(crate) fn first_wrong<L: Link>(link: &mut L, steps: &[Step<'_>]) -> Option<u
     None
 }
 
+/// The same, of a link that is dropped then.
+fn first_wrong_over<L: Link>(link: L, steps: &[Step<'_>]) -> Option<usize> {
+    let mut link = link;
+    let wrong = first_wrong(&mut link, steps);
+    drop(link);
+    wrong
+}
+
 /// The same, of a new link.
-fn first_wrong_of(alloc: Global, row: &Row) -> Result<Option<usize>, Fail> {
-    Ok(match row.link {
+fn first_wrong_of(alloc: Global, row: &Row) -> Result<Option<usize>, OutOfMemory> {
+    match row.link {
         Made::Script(reads, writes) => {
-            let mut link = ScriptLink::new(alloc, reads, writes)?;
-            first_wrong(&mut link, row.steps)
+            let link = ScriptLink::new(alloc, reads, writes)?;
+            Ok(first_wrong_over(link, row.steps))
         }
-        Made::Interrupted(count) => first_wrong(&mut interrupted(count), row.steps),
-    })
+        Made::Interrupted(count) => Ok(first_wrong_over(interrupted(count), row.steps)),
+    }
 }
 
 /// Fails with the first row that isn't so, and names it.

@@ -108,7 +108,7 @@ const GET_ROOT: &[u8] = b"GET / HTTP/1.1\r\nHost: 127.0.0.1:8081\r\nAccept: */*\
 const GET_D_COOKIE: &[u8] =
     b"GET /d HTTP/1.1\r\nHost: 127.0.0.1:8080\r\nAccept: */*\r\ncookie: a=1\r\n\r\n";
 
-static REDIRECTS: [Row<'static>; 3] = [
+static REDIRECTS: [Row<'static>; 2] = [
     // rule redirect-condition
     Row {
         name: "a_redirect_is_followed",
@@ -150,43 +150,44 @@ static REDIRECTS: [Row<'static>; 3] = [
         ],
         ..ON
     },
-    Row {
-        name: "a_cookie_goes_to_the_first_endpoint_alone",
-        cookie: Some("a=1"),
-        max_redirects: 2,
-        calls: &[
-            Fresh(&[Bytes(AWAY)], &[]),
-            Poll,
-            Fresh(&[Bytes(BACK)], &[]),
-            Poll,
-            GIVES_COUNTED,
-            Poll,
-        ],
-        waits: &[FOLLOWED_AWAY, FOLLOWED_BACK],
-        hops: 3,
-        chain: &[
-            Hop {
-                sent: GET_A_COOKIE,
-                reply: AWAY,
-                heads: AWAY,
-                status: 302,
-            },
-            Hop {
-                sent: GET_ROOT,
-                reply: BACK,
-                heads: BACK,
-                status: 308,
-            },
-            Hop {
-                sent: GET_D_COOKIE,
-                reply: COUNTED,
-                heads: HEAD,
-                status: 200,
-            },
-        ],
-        ..ON
-    },
 ];
+
+static COOKIES: [Row<'static>; 1] = [Row {
+    name: "a_cookie_goes_to_the_first_endpoint_alone",
+    cookie: Some("a=1"),
+    max_redirects: 2,
+    calls: &[
+        Fresh(&[Bytes(AWAY)], &[]),
+        Poll,
+        Fresh(&[Bytes(BACK)], &[]),
+        Poll,
+        GIVES_COUNTED,
+        Poll,
+    ],
+    waits: &[FOLLOWED_AWAY, FOLLOWED_BACK],
+    hops: 3,
+    chain: &[
+        Hop {
+            sent: GET_A_COOKIE,
+            reply: AWAY,
+            heads: AWAY,
+            status: 302,
+        },
+        Hop {
+            sent: GET_ROOT,
+            reply: BACK,
+            heads: BACK,
+            status: 308,
+        },
+        Hop {
+            sent: GET_D_COOKIE,
+            reply: COUNTED,
+            heads: HEAD,
+            status: 200,
+        },
+    ],
+    ..ON
+}];
 
 /// The heads of `HINTED_AND_MOVED`, 95 bytes.
 const HINTED_HEADS: &[u8] =
@@ -264,7 +265,7 @@ const EMPTY: &[u8] =
 const HINTED: &[u8] =
     b"HTTP/1.1 103 Early Hints\r\nLocation: /b\r\n\r\nHTTP/1.1 302 Found\r\nContent-Length: 0\r\n\r\n";
 
-static NOT_FOLLOWED: [Row<'static>; 4] = [
+static NOT_FOLLOWED: [Row<'static>; 2] = [
     // rule redirect-condition
     Row {
         name: "without_a_limit_none_is_followed",
@@ -279,6 +280,21 @@ static NOT_FOLLOWED: [Row<'static>; 4] = [
         }],
         ..AT_ONCE
     },
+    Row {
+        name: "a_location_of_an_interim_head_is_no_redirect",
+        calls: &[Fresh(&[Bytes(HINTED)], &[]), Poll],
+        ends: Ends::Bodiless(Code::Ok, 302, HINTED),
+        chain: &[Hop {
+            sent: GET_A,
+            reply: HINTED,
+            heads: HINTED,
+            status: 302,
+        }],
+        ..AT_ONCE
+    },
+];
+
+static NO_LOCATIONS: [Row<'static>; 2] = [
     Row {
         name: "no_location_is_no_redirect",
         calls: &[Fresh(&[Bytes(UNLOCATED)], &[]), Poll],
@@ -304,18 +320,6 @@ static NOT_FOLLOWED: [Row<'static>; 4] = [
         }],
         ..AT_ONCE
     },
-    Row {
-        name: "a_location_of_an_interim_head_is_no_redirect",
-        calls: &[Fresh(&[Bytes(HINTED)], &[]), Poll],
-        ends: Ends::Bodiless(Code::Ok, 302, HINTED),
-        chain: &[Hop {
-            sent: GET_A,
-            reply: HINTED,
-            heads: HINTED,
-            status: 302,
-        }],
-        ..AT_ONCE
-    },
 ];
 
 const TO_HTTPS: &[u8] = b"HTTP/1.1 302 Found\r\nLocation: https://x/\r\nContent-Length: 0\r\n\r\n";
@@ -326,7 +330,7 @@ const TO_BRACKET: &[u8] = b"HTTP/1.1 302 Found\r\nLocation: http://[\r\nContent-
 
 const TO_BYTE_255: &[u8] = b"HTTP/1.1 302 Found\r\nLocation: /\xff\r\nContent-Length: 0\r\n\r\n";
 
-static REFUSED_LOCATIONS: [Row<'static>; 4] = [
+static REFUSED_LOCATIONS: [Row<'static>; 2] = [
     Row {
         name: "a_location_of_another_scheme_is_refused",
         calls: &[Fresh(&[Bytes(TO_HTTPS)], &[]), Poll],
@@ -351,6 +355,9 @@ static REFUSED_LOCATIONS: [Row<'static>; 4] = [
         }],
         ..AT_ONCE
     },
+];
+
+static MALFORMED_LOCATIONS: [Row<'static>; 2] = [
     Row {
         name: "a_location_with_a_bad_host_is_refused",
         calls: &[Fresh(&[Bytes(TO_BRACKET)], &[]), Poll],
@@ -384,7 +391,7 @@ const WITH_HI: Row<'static> = Row {
 };
 
 /// The status decides the method (RFC 9110, section 15.4).
-static REWRITTEN: [Row<'static>; 5] = [
+static REWRITTEN: [Row<'static>; 3] = [
     Row {
         name: "a_post_is_a_get_behind_303",
         methods: &[Method::Post],
@@ -407,27 +414,6 @@ static REWRITTEN: [Row<'static>; 5] = [
         ..WITH_HI
     },
     Row {
-        name: "a_post_stays_one_behind_307",
-        methods: &[Method::Post],
-        calls: &[Fresh(&[Bytes(TEMPORARY)], &[]), Poll, GIVES_COUNTED, Poll],
-        waits: &[FOLLOWED_307],
-        chain: &[
-            Hop {
-                sent: POST_A,
-                reply: TEMPORARY,
-                heads: TEMPORARY,
-                status: 307,
-            },
-            Hop {
-                sent: POST_C,
-                reply: COUNTED,
-                heads: HEAD,
-                status: 200,
-            },
-        ],
-        ..WITH_HI
-    },
-    Row {
         name: "a_post_is_a_get_behind_301",
         methods: &[Method::Post],
         calls: &[Fresh(&[Bytes(MOVED)], &[]), Poll, GIVES_COUNTED, Poll],
@@ -441,27 +427,6 @@ static REWRITTEN: [Row<'static>; 5] = [
             },
             Hop {
                 sent: GET_C,
-                reply: COUNTED,
-                heads: HEAD,
-                status: 200,
-            },
-        ],
-        ..WITH_HI
-    },
-    Row {
-        name: "a_put_stays_one_behind_301",
-        methods: &[Method::Put],
-        calls: &[Fresh(&[Bytes(MOVED)], &[]), Poll, GIVES_COUNTED, Poll],
-        waits: &[FOLLOWED_301],
-        chain: &[
-            Hop {
-                sent: PUT_A,
-                reply: MOVED,
-                heads: MOVED,
-                status: 301,
-            },
-            Hop {
-                sent: PUT_C,
                 reply: COUNTED,
                 heads: HEAD,
                 status: 200,
@@ -492,14 +457,63 @@ static REWRITTEN: [Row<'static>; 5] = [
     },
 ];
 
+static KEPT_METHODS: [Row<'static>; 2] = [
+    Row {
+        name: "a_post_stays_one_behind_307",
+        methods: &[Method::Post],
+        calls: &[Fresh(&[Bytes(TEMPORARY)], &[]), Poll, GIVES_COUNTED, Poll],
+        waits: &[FOLLOWED_307],
+        chain: &[
+            Hop {
+                sent: POST_A,
+                reply: TEMPORARY,
+                heads: TEMPORARY,
+                status: 307,
+            },
+            Hop {
+                sent: POST_C,
+                reply: COUNTED,
+                heads: HEAD,
+                status: 200,
+            },
+        ],
+        ..WITH_HI
+    },
+    Row {
+        name: "a_put_stays_one_behind_301",
+        methods: &[Method::Put],
+        calls: &[Fresh(&[Bytes(MOVED)], &[]), Poll, GIVES_COUNTED, Poll],
+        waits: &[FOLLOWED_301],
+        chain: &[
+            Hop {
+                sent: PUT_A,
+                reply: MOVED,
+                heads: MOVED,
+                status: 301,
+            },
+            Hop {
+                sent: PUT_C,
+                reply: COUNTED,
+                heads: HEAD,
+                status: 200,
+            },
+        ],
+        ..WITH_HI
+    },
+];
+
 /// Redirects that are followed, and one too many; those with bodies; responses that lead nowhere; those with a Location that is refused; and requests with a
 /// body.
-pub(crate) fn rows() -> [&'static [Row<'static>]; 5] {
+pub(crate) fn rows() -> [&'static [Row<'static>]; 9] {
     [
         &REDIRECTS,
+        &COOKIES,
         &BODIES,
         &NOT_FOLLOWED,
+        &NO_LOCATIONS,
         &REFUSED_LOCATIONS,
+        &MALFORMED_LOCATIONS,
         &REWRITTEN,
+        &KEPT_METHODS,
     ]
 }

@@ -146,25 +146,49 @@ fn check_wait(waiting: Waiting, row: &Row<'_>, seen: &mut Seen) -> Result<(), St
     holds(is_next, "a poll that answered `Pending`")
 }
 
+/// Sets the body.
+fn set_body(alloc: Global, settings: &mut Settings, bytes: &[u8]) -> Result<(), OutOfMemory> {
+    settings.body = Some(Vec::from_slice(alloc, bytes)?);
+    Ok(())
+}
+
+/// A field `cookie`.
+fn cookie(alloc: Global, value: &str) -> Result<(String, String), OutOfMemory> {
+    let name = String::from_str(alloc, "cookie")?;
+    let value = String::from_str(alloc, value)?;
+    Ok((name, value))
+}
+
+/// Adds that field.
+fn add_cookie(alloc: Global, settings: &mut Settings, value: &str) -> Result<(), OutOfMemory> {
+    let field = cookie(alloc, value)?;
+    settings.fields.push(field)?;
+    Ok(())
+}
+
 /// Adds the body, and a field `cookie`.
 fn fill(alloc: Global, settings: &mut Settings, row: &Row<'_>) -> Result<(), OutOfMemory> {
+    settings.timeout_ms = row.timeout_ms;
+    settings.max_redirects = row.max_redirects;
     if let Some(bytes) = row.body {
-        settings.body = Some(Vec::from_slice(alloc, bytes)?);
+        set_body(alloc, settings, bytes)?;
     }
-    if let Some(value) = row.cookie {
-        let name = String::from_str(alloc, "cookie")?;
-        let value = String::from_str(alloc, value)?;
-        settings.fields.push((name, value))?;
+    match row.cookie {
+        Some(value) => add_cookie(alloc, settings, value),
+        None => Ok(()),
     }
-    Ok(())
+}
+
+/// The settings of a row.
+fn settings_of(alloc: Global, row: &Row<'_>) -> Result<Settings, OutOfMemory> {
+    let mut settings = Settings::new(alloc);
+    fill(alloc, &mut settings, row)?;
+    Ok(settings)
 }
 
 /// The request of a row.
 pub(crate) fn request_of(alloc: Global, method: Method, row: &Row<'_>) -> Result<Request, Stop> {
-    let mut settings = Settings::new(alloc);
-    settings.timeout_ms = row.timeout_ms;
-    settings.max_redirects = row.max_redirects;
-    fill(alloc, &mut settings, row)?;
+    let settings = settings_of(alloc, row)?;
     match Request::build(alloc, method, row.url, settings) {
         Ok(request) => Ok(request),
         Err(RequestError::OutOfMemory) => Err(Stop::Memory),
@@ -265,15 +289,26 @@ fn check_poll(
     heads_alone: bool,
     seen: &mut Seen,
 ) -> Result<(), Stop> {
-    let Some(outcome) = poll(task, transfer) else {
-        return check_wait(waits(task, transfer), row, seen);
-    };
-    let links = take_links(transfer);
-    let ended = check_end(alloc, &outcome, links.given, row, heads_alone);
-    drop(outcome);
-    seen.is_ended = true;
-    ended?;
-    check_links(links, row, seen)
+    match poll(task, transfer) {
+        None => check_wait(waits(task, transfer), row, seen),
+        Some(outcome) => {
+            let links = take_links(transfer);
+            let ended = check_end(alloc, &outcome, links.given, row, heads_alone);
+            drop(outcome);
+            seen.is_ended = true;
+            ended?;
+            check_links(links, row, seen)
+        }
+    }
+}
+
+/// Says that no link can be had; fails where none is wanted.
+fn fail_link(transfer: &mut Transfer<ScriptLink>) -> Result<(), Stop> {
+    let fits = transfer.wants().is_some();
+    if fits {
+        transfer.fail_link(Code::CouldntResolveHost);
+    }
+    holds(fits, "a link that isn't wanted")
 }
 
 /// Makes the call; fails where it can't be made now.
@@ -289,13 +324,7 @@ fn make(
     match call {
         Call::Fresh(reads, writes) => attach_script(alloc, transfer, reads, writes, false),
         Call::Reused(reads, writes) => attach_script(alloc, transfer, reads, writes, true),
-        Call::NoLink => {
-            let fits = transfer.wants().is_some();
-            if fits {
-                transfer.fail_link(Code::CouldntResolveHost);
-            }
-            holds(fits, "a link that isn't wanted")
-        }
+        Call::NoLink => fail_link(transfer),
         Call::Prepare(now, is_paused) => {
             transfer.prepare(now, is_paused);
             Ok(())
@@ -306,6 +335,33 @@ fn make(
 }
 
 /// Makes all calls of the row. Nothing is asked of the transfer once it has ended.
+fn make_each(
+    alloc: Global,
+    task: &MockTask,
+    transfer: &mut Transfer<ScriptLink>,
+    row: &Row<'_>,
+    heads_alone: bool,
+    seen: &mut Seen,
+) -> Result<(), Stop> {
+    for call in row.calls {
+        if !seen.is_ended {
+            make(alloc, task, transfer, *call, row, heads_alone, seen)?;
+        }
+    }
+    Ok(())
+}
+
+/// Fails unless all that the row says was seen.
+fn check_seen(row: &Row<'_>, seen: &Seen) -> Result<(), Stop> {
+    let has_waited = seen.waits == row.waits.len();
+    let has_links = row.links.is_empty() || seen.links == row.links.len();
+    let is_ended = !matches!(row.ends, Ends::Never);
+    holds(has_waited, "a poll that answered `Pending`")?;
+    holds(has_links, "its links")?;
+    holds(seen.is_ended == is_ended, "whether it has ended")
+}
+
+/// Makes all calls of the row, and fails unless all that it says was seen.
 fn make_all(
     alloc: Global,
     task: &MockTask,
@@ -318,17 +374,8 @@ fn make_all(
         links: 0,
         is_ended: false,
     };
-    for call in row.calls {
-        if !seen.is_ended {
-            make(alloc, task, transfer, *call, row, heads_alone, &mut seen)?;
-        }
-    }
-    let has_waited = seen.waits == row.waits.len();
-    let has_links = row.links.is_empty() || seen.links == row.links.len();
-    let is_ended = !matches!(row.ends, Ends::Never);
-    holds(has_waited, "a poll that answered `Pending`")?;
-    holds(has_links, "its links")?;
-    holds(seen.is_ended == is_ended, "whether it has ended")
+    make_each(alloc, task, transfer, row, heads_alone, &mut seen)?;
+    check_seen(row, &seen)
 }
 
 /// A transfer that keeps all bytes of its hops, or their heads alone.
@@ -358,15 +405,20 @@ fn play(
     made
 }
 
+/// Names the row and the method where a part differs.
+fn named(played: Result<(), Stop>, name: &'static str, method: Method) -> Result<(), Stop> {
+    match played {
+        Err(Stop::Part(part)) => Err(Stop::Row(name, method, part)),
+        played => played,
+    }
+}
+
 /// Fails unless just this is seen of a new transfer over the calls of the row, up to its end, whether it keeps all bytes of its hops or not.
 pub(crate) fn is_so(alloc: Global, task: &MockTask, row: &Row<'_>) -> Result<(), Stop> {
     for method in row.methods {
-        for heads_alone in &[false, true] {
-            match play(alloc, task, *method, row, *heads_alone) {
-                Ok(()) => {}
-                Err(Stop::Part(part)) => return Err(Stop::Row(row.name, *method, part)),
-                Err(stop) => return Err(stop),
-            }
+        for heads_alone in [false, true] {
+            let played = play(alloc, task, *method, row, heads_alone);
+            named(played, row.name, *method)?;
         }
     }
     Ok(())

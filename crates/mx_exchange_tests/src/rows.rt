@@ -150,7 +150,7 @@ pub(crate) fn end_of(ends: Ends<'_>) -> Option<End<'_>> {
     })
 }
 
-/// Naming a long table makes a proof longer by its rows, so each part of it is short, and one function names a few of them.
+/// The proof of a function that names a table grows with the square of its rows, so the tables are short, and a function names a few.
 fn play_all(alloc: Global, task: &MockTask) -> Result<(), Stop> {
     are_so(alloc, task, &table::rows())?;
     are_so(alloc, task, &hops::rows())?;

@@ -108,14 +108,31 @@ const TIMED: Row<'static> = Row {
     ..GET
 };
 
-/// What comes over one link, and whether that is kept then (RFC 9112, section 9.3).
-static RESPONSES: [Row<'static>; 9] = [
+/// What comes over one link.
+static RESPONSES: [Row<'static>; 3] = [
     Row {
         name: "interim_heads_are_passed_over",
         calls: &[Fresh(&[Bytes(INTERIM)], &[]), Poll],
         ends: Ends::Hello(INTERIM, 1),
         ..GET
     },
+    Row {
+        name: "the_end_of_the_link_ends_a_body",
+        calls: &[Fresh(&[Bytes(UNFRAMED), End], &[]), Poll],
+        ends: Ends::Hello(UNFRAMED, 0),
+        ..GET
+    },
+    Row {
+        name: "a_head_has_no_body",
+        methods: &[Method::Head],
+        calls: &[Fresh(&[Bytes(HEAD)], &[]), Poll],
+        ends: Ends::Bodiless(Code::Ok, 200, HEAD),
+        ..GET
+    },
+];
+
+/// Whether a link is kept then (RFC 9112, section 9.3).
+static KEPT_LINKS: [Row<'static>; 4] = [
     // rule exchange-kept-link
     Row {
         name: "a_link_with_bytes_left_over_is_not_kept",
@@ -141,19 +158,9 @@ static RESPONSES: [Row<'static>; 9] = [
         ends: Ends::Hello(OLD_STAYS, 1),
         ..GET
     },
-    Row {
-        name: "the_end_of_the_link_ends_a_body",
-        calls: &[Fresh(&[Bytes(UNFRAMED), End], &[]), Poll],
-        ends: Ends::Hello(UNFRAMED, 0),
-        ..GET
-    },
-    Row {
-        name: "a_head_has_no_body",
-        methods: &[Method::Head],
-        calls: &[Fresh(&[Bytes(HEAD)], &[]), Poll],
-        ends: Ends::Bodiless(Code::Ok, 200, HEAD),
-        ..GET
-    },
+];
+
+static FAILURES: [Row<'static>; 2] = [
     Row {
         name: "a_fault_after_the_head",
         calls: &[Fresh(&[Bytes(HEAD), Fault], &[]), Poll],
@@ -169,7 +176,7 @@ static RESPONSES: [Row<'static>; 9] = [
 ];
 
 /// Only GET and HEAD are sent again, no other method even if it is idempotent (RFC 9110, section 9.2.2).
-static REUSED_LINKS: [Row<'static>; 8] = [
+static SENT_AGAIN: [Row<'static>; 3] = [
     Row {
         name: "a_get_is_sent_again_over_a_fresh_link",
         calls: &[ENDS, Poll, FRESH, Poll],
@@ -183,16 +190,19 @@ static REUSED_LINKS: [Row<'static>; 8] = [
         ..AGAIN
     },
     Row {
+        name: "a_failed_write_is_tried_again",
+        calls: &[FAILS, Poll, FRESH, Poll],
+        ..AGAIN
+    },
+];
+
+static SENT_ONCE: [Row<'static>; 2] = [
+    Row {
         name: "a_post_is_not_sent_again",
         methods: &[Method::Post],
         calls: &[ENDS, Poll],
         ends: Ends::Failed(Code::GotNothing, 0, b""),
         ..GET
-    },
-    Row {
-        name: "a_failed_write_is_tried_again",
-        calls: &[FAILS, Poll, FRESH, Poll],
-        ..AGAIN
     },
     Row {
         name: "other_methods_are_not_tried_again",
@@ -201,6 +211,10 @@ static REUSED_LINKS: [Row<'static>; 8] = [
         ends: Ends::Failed(Code::SendError, 0, b""),
         ..GET
     },
+];
+
+/// Links that were in use before, and serve nothing.
+static PROBES: [Row<'static>; 3] = [
     // rule exchange-probe
     Row {
         name: "what_a_probe_reads_is_in_no_wire",
@@ -223,7 +237,7 @@ static REUSED_LINKS: [Row<'static>; 8] = [
 ];
 
 /// Polls that answer `Pending`.
-static POLLS: [Row<'static>; 6] = [
+static POLLS: [Row<'static>; 3] = [
     // rule exchange-call-sizes
     Row {
         name: "one_byte_written_then_all",
@@ -249,6 +263,9 @@ static POLLS: [Row<'static>; 6] = [
         waits: &[ASKS],
         ..GET
     },
+];
+
+static DEADLINES: [Row<'static>; 3] = [
     // rule exchange-pause
     Row {
         name: "a_deadline_counts_while_paused",
@@ -282,6 +299,15 @@ static POLLS: [Row<'static>; 6] = [
 ];
 
 /// Transfers of one hop.
-pub(crate) fn rows() -> [&'static [Row<'static>]; 3] {
-    [&RESPONSES, &REUSED_LINKS, &POLLS]
+pub(crate) fn rows() -> [&'static [Row<'static>]; 8] {
+    [
+        &RESPONSES,
+        &KEPT_LINKS,
+        &FAILURES,
+        &SENT_AGAIN,
+        &SENT_ONCE,
+        &PROBES,
+        &POLLS,
+        &DEADLINES,
+    ]
 }
