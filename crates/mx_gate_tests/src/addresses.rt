@@ -1,21 +1,13 @@
 //! Addresses of hosts over a network of the tests' own, and the codes of what fails.
-ghost use Rattle.std.specs.Prelude.{◌≤◌};
-
-use crate::outside::{Outside, endpoint, v4, v6};
+use crate::outside::{At, Outside, address, endpoint, set, v4};
 use mx_gate::{addresses_of, connect_code, meets_file_limit};
 use mx_names::{lookup_code, unbracketed};
+use mx_request::Endpoint;
 use mx_types::{Code, History};
-use std::alloc::Global;
+use std::alloc::{AllocError, Global};
 use std::io::{Error, ErrorKind};
 use std::net::SocketAddr;
 use std::test::Fail;
-
-/// An address of these bytes, or one of the block for documentation with this last number.
-#[derive(Clone, Copy)]
-enum At {
-    V4([u8; 4]),
-    V6(u16),
-}
 
 /// What lookups give: these addresses, four at most, or this error.
 #[derive(Clone, Copy)]
@@ -110,24 +102,6 @@ static ROWS: [Row; 8] = [
     },
 ];
 
-fn address(at: At, port: u16) -> SocketAddr {
-    match at {
-        At::V4(bytes) => v4(bytes, port),
-        At::V6(last) => v6(last, port),
-    }
-}
-
-/// Sets the addresses from the first on: how many.
-fn set(all: &mut [SocketAddr; 4], given: &[At]) -> usize
-    ensures { result ≤ 4 }
-{
-    let count = given.len().min(4);
-    for i in 0..count {
-        all[i] = address(given[i], 0);
-    }
-    count
-}
-
 fn are(found: &[SocketAddr], all: &[At], port: u16) -> bool {
     if found.len() != all.len() {
         return false;
@@ -140,22 +114,58 @@ fn are(found: &[SocketAddr], all: &[At], port: u16) -> bool {
     true
 }
 
-/// Whether a host has what its row says.
-fn is_so(alloc: Global, row: &Row) -> Result<bool, Fail> {
-    let there = endpoint(alloc, row.host, row.port)?;
+/// What an endpoint has over a network whose lookups give these addresses, or fail so.
+fn found(
+    alloc: Global,
+    all: &[SocketAddr],
+    refusal: Option<ErrorKind>,
+    there: &Endpoint,
+) -> Result<Vec<SocketAddr>, Code> {
+    let mut outside = Outside::new(alloc, all);
+    outside.refusal = refusal;
+    let found = addresses_of(&outside, there, &mut History::new());
+    drop(outside);
+    found
+}
+
+/// Whether that is what the row says.
+fn is_found(found: &Result<Vec<SocketAddr>, Code>, row: &Row) -> bool {
+    match (found, row.has) {
+        (Ok(found), Has::All(all)) => are(found.as_slice(), all, row.port),
+        (Err(code), Has::Code(other)) => *code == other,
+        _ => false,
+    }
+}
+
+/// Whether an endpoint has what the row says.
+fn is_right(alloc: Global, row: &Row, there: &Endpoint) -> bool {
     let mut all = [v4([0; 4], 0); 4];
     let (count, refusal) = match row.gives {
         Gives::All(given) => (set(&mut all, given), None),
         Gives::Fails(kind) => (0, Some(kind)),
     };
-    let mut outside = Outside::new(alloc, &all[..count]);
-    outside.refusal = refusal;
-    let found = addresses_of(&outside, &there, &mut History::new());
-    Ok(match (&found, row.has) {
-        (Ok(found), Has::All(all)) => are(found.as_slice(), all, row.port),
-        (Err(code), Has::Code(other)) => *code == other,
-        _ => false,
-    })
+    let found = found(alloc, &all[..count], refusal, there);
+    let is_found = is_found(&found, row);
+    drop(found);
+    is_found
+}
+
+/// Whether a host has what its row says.
+fn is_so(alloc: Global, row: &Row) -> Result<bool, AllocError> {
+    let there = endpoint(alloc, row.host, row.port)?;
+    let is_so = is_right(alloc, row, &there);
+    drop(there);
+    Ok(is_so)
+}
+
+/// The first row whose host has something else.
+fn wrong_row(alloc: Global) -> Result<Option<&'static str>, AllocError> {
+    for row in &ROWS {
+        if !is_so(alloc, row)? {
+            return Ok(Some(row.name));
+        }
+    }
+    Ok(None)
 }
 
 /// A host, and the same without its brackets.
@@ -199,29 +209,49 @@ static FILE_LIMITS: [(&'static str, i32, bool); 4] = [
     ("ECONNREFUSED", 111, false),
 ];
 
-/// The first row that fails.
-fn first_wrong(
-    hosts: &[(&'static str, &'static str)],
-    codes: &[(&'static str, ErrorKind, Code, Code)],
-    limits: &[(&'static str, i32, bool)],
-) -> Option<&'static str> {
-    for row in hosts {
+/// The first host with another text within its brackets.
+fn wrong_host() -> Option<&'static str> {
+    for row in &HOSTS {
         if unbracketed(row.0) != row.1 {
             return Some(row.0);
         }
     }
-    for row in codes {
-        let error = Error::from(row.1);
-        if lookup_code(&error) != row.2 || connect_code(&error) != row.3 {
+    None
+}
+
+/// Whether an error has these codes.
+fn has_codes(kind: ErrorKind, lookup: Code, connect: Code) -> bool {
+    let error = Error::from(kind);
+    let has_codes = lookup_code(&error) == lookup && connect_code(&error) == connect;
+    drop(error);
+    has_codes
+}
+
+/// The first error with other codes.
+fn wrong_code() -> Option<&'static str> {
+    for row in &CODES {
+        if !has_codes(row.1, row.2, row.3) {
             return Some(row.0);
         }
     }
-    for row in limits {
-        if meets_file_limit(&Error::from_raw_os_error(row.1)) != row.2 {
+    None
+}
+
+/// Whether this error says that too many files are open.
+fn is_file_limit(error: Error) -> bool {
+    let is_limit = meets_file_limit(&error);
+    drop(error);
+    is_limit
+}
+
+/// The first error that says otherwise of the limit of files.
+fn wrong_limit() -> Option<&'static str> {
+    for row in &FILE_LIMITS {
+        if is_file_limit(Error::from_raw_os_error(row.1)) != row.2 {
             return Some(row.0);
         }
     }
-    if meets_file_limit(&Error::from(ErrorKind::OutOfMemory)) {
+    if is_file_limit(Error::from(ErrorKind::OutOfMemory)) {
         return Some("out of memory is no limit of files");
     }
     None
@@ -229,13 +259,12 @@ fn first_wrong(
 
 #[test]
 fn addresses_and_codes(rt: HostRuntime) -> Result<(), Fail> {
-    for row in &ROWS {
-        if !is_so(rt.alloc(), row)? {
-            return Err(row.name.into());
-        }
-    }
-    match first_wrong(&HOSTS, &CODES, &FILE_LIMITS) {
-        None => Ok(()),
-        Some(name) => Err(name.into()),
-    }
+    let wrong = [
+        wrong_row(rt.alloc())?,
+        wrong_host(),
+        wrong_code(),
+        wrong_limit(),
+    ];
+    assert_eq!(rt; wrong, [None; 4]);
+    Ok(())
 }

@@ -2,6 +2,7 @@
 
 use crate::gates::{RIGHT, Seen, Task, Work, at_gate, joined, listening, one_server};
 use crate::outside::{Outside, endpoint, v4};
+use mx_request::Endpoint;
 use mx_types::Code;
 use std::alloc::AllocGlobal;
 use std::net::{Net, TcpListener, TcpStream};
@@ -115,18 +116,24 @@ static ROWS: [Row; 7] = [
     },
 ];
 
+/// What is done at a gate.
+fn work_of(doing: Doing, there: &Endpoint) -> Work<'_> {
+    match doing {
+        Doing::Sends => Work::Link(there, Task::Send),
+        Doing::Fails => Work::Link(there, Task::Fail),
+        Doing::Tokens => Work::Tokens(there),
+    }
+}
+
 /// What is seen at a new gate over this network.
 fn at<
     R: Clock + Wait + Threads + AllocGlobal + Copy + Send + Drop + 'static,
     N: Net + Clock + AllocGlobal,
 >(rt: &R, net: &N, port: u16, row: &Row) -> Result<Seen, Fail> {
     let there = endpoint(rt.alloc(), row.host, row.port.unwrap_or(port))?;
-    let work = match row.doing {
-        Doing::Sends => Work::Link(&there, Task::Send),
-        Doing::Fails => Work::Link(&there, Task::Fail),
-        Doing::Tokens => Work::Tokens(&there),
-    };
-    at_gate(rt, net, work)
+    let seen = at_gate(rt, net, work_of(row.doing, &there));
+    drop(there);
+    seen
 }
 
 /// What is seen where the listener is at this port.
@@ -155,6 +162,58 @@ fn at_port<
     seen
 }
 
+/// The same where a listener accepts nothing.
+fn beside_listener<
+    R: Net<Listener = TcpListener, Stream = TcpStream>
+        + Clock
+        + Wait
+        + Threads
+        + AllocGlobal
+        + Copy
+        + Send
+        + Drop
+        + 'static,
+>(rt: &R, row: &Row) -> Result<Seen, Fail> {
+    let (listener, port) = listening(rt, "127.0.0.1:0")?;
+    let seen = at_port(rt, port, row);
+    drop(listener);
+    seen
+}
+
+/// The same where nobody listens any more.
+fn beside_nobody<
+    R: Net<Listener = TcpListener, Stream = TcpStream>
+        + Clock
+        + Wait
+        + Threads
+        + AllocGlobal
+        + Copy
+        + Send
+        + Drop
+        + 'static,
+>(rt: &R, row: &Row) -> Result<Seen, Fail> {
+    let (listener, port) = listening(rt, "127.0.0.1:0")?;
+    drop(listener);
+    at_port(rt, port, row)
+}
+
+/// The same, and whether a server has served.
+fn beside_server<
+    R: Net<Listener = TcpListener, Stream = TcpStream>
+        + Clock
+        + Wait
+        + Threads
+        + AllocGlobal
+        + Copy
+        + Send
+        + Drop
+        + 'static,
+>(rt: &R, row: &Row) -> Result<(Seen, bool), Fail> {
+    let (port, server) = one_server(rt, "127.0.0.1:0")?;
+    let seen = at_port(rt, port, row);
+    joined(rt, seen, server)
+}
+
 /// The same, and whether the listener has served what it is to serve.
 fn beside<
     R: Net<Listener = TcpListener, Stream = TcpStream>
@@ -167,31 +226,27 @@ fn beside<
         + Drop
         + 'static,
 >(rt: &R, row: &Row) -> Result<(Seen, bool), Fail> {
-    if let There::Server = row.there {
-        let (port, server) = one_server(rt, "127.0.0.1:0")?;
-        let seen = at_port(rt, port, row);
-        return joined(rt, seen, server);
+    match row.there {
+        There::Server => beside_server(rt, row),
+        There::Listener => Ok((beside_listener(rt, row)?, true)),
+        There::Nobody => Ok((beside_nobody(rt, row)?, true)),
     }
-    let (listener, port) = listening(rt, "127.0.0.1:0")?;
-    if let There::Listener = row.there {
-        let seen = at_port(rt, port, row);
-        drop(listener);
-        return Ok((seen?, true));
+}
+
+/// Whether this is what comes.
+fn has_come(seen: Seen, comes: Comes) -> bool {
+    match comes {
+        Comes::Right => seen == RIGHT,
+        Comes::Refused => seen == RIGHT || seen == Err(Code::CouldntConnect),
+        Comes::Code(code) => seen == Err(code),
     }
-    drop(listener);
-    Ok((at_port(rt, port, row)?, true))
 }
 
 #[test]
 fn connections(rt: HostRuntime) -> Result<(), Fail> {
     for row in &ROWS {
         let (seen, is_served) = beside(&rt, row)?;
-        let has_come = match row.comes {
-            Comes::Right => seen == RIGHT,
-            Comes::Refused => seen == RIGHT || seen == Err(Code::CouldntConnect),
-            Comes::Code(code) => seen == Err(code),
-        };
-        if !is_served || !has_come {
+        if !is_served || !has_come(seen, row.comes) {
             return Err(row.name.into());
         }
     }

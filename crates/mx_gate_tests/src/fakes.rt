@@ -1,15 +1,14 @@
 //! Lookups of a few hosts, what tests see of them, and answers as numbers.
 
 use crate::hosts::addresses;
-use crate::outside::{v4, v6};
+use crate::outside::{At, set, v4};
 use mx_names::{Addresses, Answer, Lookup};
 use mx_types::Code;
-use std::alloc::{AllocGlobal, Global};
-use std::net::{IpAddr, Ipv6Addr, SocketAddr};
+use std::alloc::{AllocError, AllocGlobal, Global};
+use std::net::{IpAddr, SocketAddr};
 use std::rt::Clock;
 use std::sync::Arc;
 use std::sync::atomic::{AtomicBool, AtomicU64, Ordering};
-use std::test::Fail;
 use std::thread;
 use std::time::Duration;
 
@@ -20,59 +19,79 @@ pub(crate) struct Fake {
     pub alloc: Global,
 }
 
+/// The hosts that it knows, and their addresses.
+static HOSTS: [(&'static str, &'static [At]); 8] = [
+    (
+        "both",
+        &[
+            At::V6(1),
+            At::V4([192, 0, 2, 2]),
+            At::V6(3),
+            At::V4([192, 0, 2, 4]),
+        ],
+    ),
+    ("four", &[At::V4([192, 0, 2, 5])]),
+    ("six", &[At::V6(6)]),
+    ("good", &[At::V4([127, 0, 0, 1])]),
+    ("late", &[At::V4([127, 0, 0, 1])]),
+    ("hang", &[At::V4([127, 0, 0, 1])]),
+    ("two", &[At::V4([127, 0, 0, 2]), At::V4([127, 0, 0, 1])]),
+    ("localhost", &[At::LocalV6, At::V4([127, 0, 0, 1])]),
+];
+
+/// The addresses of a host; none where it isn't known.
+fn known(host: &str) -> &'static [At] {
+    for row in &HOSTS {
+        let (name, all) = *row;
+        if name == host {
+            return all;
+        }
+    }
+    &[]
+}
+
 impl Lookup for Fake {
     ghost gives = { λ host outcome. Unit {0} };
 
     fn look_up(&self, host: &str) -> Result<Addresses, Code> {
-        match host {
-            "both" => addresses(
-                self.alloc,
-                &[
-                    v6(1, 0),
-                    v4([192, 0, 2, 2], 0),
-                    v6(3, 0),
-                    v4([192, 0, 2, 4], 0),
-                ],
-            ),
-            "four" => addresses(self.alloc, &[v4([192, 0, 2, 5], 0)]),
-            "six" => addresses(self.alloc, &[v6(6, 0)]),
-            "good" | "late" | "hang" => addresses(self.alloc, &[v4([127, 0, 0, 1], 0)]),
-            "two" => addresses(self.alloc, &[v4([127, 0, 0, 2], 0), v4([127, 0, 0, 1], 0)]),
-            "localhost" => {
-                let there = SocketAddr::from((Ipv6Addr::LOCALHOST, 0));
-                addresses(self.alloc, &[there, v4([127, 0, 0, 1], 0)])
-            }
-            "huge" => Err(Code::OutOfMemory),
-            _ => Err(Code::CouldntResolveHost),
+        if host == "huge" {
+            return Err(Code::OutOfMemory);
         }
+        let mut all = [v4([0; 4], 0); 4];
+        let count = set(&mut all, known(host));
+        addresses(self.alloc, &all[..count])
     }
 }
 
 /// What a test sees of its lookups: how many began, how often the bell was rung, and whether those that hang are released.
 #[derive(Drop)]
 pub(crate) struct Seen {
-    pub begun: Arc<AtomicU64>,
-    pub rings: Arc<AtomicU64>,
-    pub free: Arc<AtomicBool>,
+    pub begun: AtomicU64,
+    pub rings: AtomicU64,
+    pub free: AtomicBool,
 }
 
 impl Seen {
-    pub(crate) fn new(alloc: Global) -> Result<Seen, Fail> {
-        Ok(Seen {
-            begun: Arc::new(alloc, AtomicU64::new(0))?,
-            rings: Arc::new(alloc, AtomicU64::new(0))?,
-            free: Arc::new(alloc, AtomicBool::new(false))?,
-        })
+    pub(crate) fn new(alloc: Global) -> Result<Arc<Seen>, AllocError> {
+        let begun = AtomicU64::new(0);
+        let rings = AtomicU64::new(0);
+        let free = AtomicBool::new(false);
+        Ok(Arc::new(alloc, Seen { begun, rings, free })?)
     }
+}
 
-    pub(crate) fn lookup<R: AllocGlobal + Copy>(&self, rt: &R) -> Result<Hanging<R>, Fail> {
-        Ok(Hanging {
-            rt: *rt,
-            fake: Fake { alloc: rt.alloc() },
-            begun: Arc::try_clone(&self.begun)?,
-            free: Arc::try_clone(&self.free)?,
-        })
-    }
+/// A lookup of which this is seen.
+pub(crate) fn lookup<R: AllocGlobal + Copy>(
+    rt: &R,
+    seen: &Arc<Seen>,
+) -> Result<Hanging<R>, AllocError> {
+    let seen = Arc::try_clone(seen)?;
+    let fake = Fake { alloc: rt.alloc() };
+    Ok(Hanging {
+        rt: *rt,
+        fake,
+        seen,
+    })
 }
 
 /// A lookup in which hosts that begin with `hang` hang until they are released, or for ten seconds, and `late` takes 50 milliseconds.
@@ -80,46 +99,61 @@ impl Seen {
 pub(crate) struct Hanging<R> {
     rt: R,
     fake: Fake,
-    begun: Arc<AtomicU64>,
-    free: Arc<AtomicBool>,
+    seen: Arc<Seen>,
+}
+
+/// Waits as the lookup of that host does.
+fn hang<R: Clock>(rt: &R, seen: &Seen, host: &str) {
+    seen.begun.fetch_add(1, Ordering::SeqCst);
+    if host == "late" {
+        thread::sleep(rt, Duration::from_millis(50));
+    }
+    if !host.starts_with("hang") {
+        return;
+    }
+    for _ in 0..10_000u32 {
+        if seen.free.load(Ordering::SeqCst) {
+            return;
+        }
+        thread::sleep(rt, Duration::from_millis(1));
+    }
 }
 
 impl<R: Clock> Lookup for Hanging<R> {
     ghost gives = { λ host outcome. Unit {0} };
 
     fn look_up(&self, host: &str) -> Result<Addresses, Code> {
-        self.begun.fetch_add(1, Ordering::SeqCst);
-        if host == "late" {
-            thread::sleep(&self.rt, Duration::from_millis(50));
-        }
-        for _ in 0..10_000u32 {
-            if !host.starts_with("hang") || self.free.load(Ordering::SeqCst) {
-                break;
-            }
-            thread::sleep(&self.rt, Duration::from_millis(1));
-        }
+        hang(&self.rt, &self.seen, host);
         self.fake.look_up(host)
     }
 }
 
-/// An answer as numbers: the last number of each address, and 100 more where it is an IPv6 address; the number of its code after 0; none
-/// where nothing is known.
-pub(crate) fn numbers(alloc: Global, answer: &Answer) -> Result<Vec<u64>, Fail> {
-    let mut all = Vec::new(alloc);
-    match answer {
-        Answer::Known(addresses) => {
-            for address in addresses.as_slice() {
-                all.push(match address.ip() {
-                    IpAddr::V4(ip) => u64::from(ip.octets()[3]),
-                    IpAddr::V6(ip) => 100 + u64::from(ip.octets()[15]),
-                })?;
-            }
-        }
-        Answer::Failed(code) => {
-            all.push(0)?;
-            all.push(u64::from(code.number()))?;
-        }
-        Answer::NotYet => {}
+/// An address as a number: its last number, and 100 more where it is an IPv6 address.
+fn number_of(address: &SocketAddr) -> u64 {
+    match address.ip() {
+        IpAddr::V4(ip) => u64::from(ip.octets()[3]),
+        IpAddr::V6(ip) => 100 + u64::from(ip.octets()[15]),
     }
-    Ok(all)
+}
+
+/// Whether these are the addresses as numbers.
+fn are(addresses: &[SocketAddr], numbers: &[u64]) -> bool {
+    if addresses.len() != numbers.len() {
+        return false;
+    }
+    for at in 0..numbers.len() {
+        if number_of(&addresses[at]) != numbers[at] {
+            return false;
+        }
+    }
+    true
+}
+
+/// Whether an answer is this in numbers: those of its addresses; the number of its code after 0; none where nothing is known.
+pub(crate) fn says(answer: &Answer, numbers: &[u64]) -> bool {
+    match answer {
+        Answer::Known(addresses) => are(addresses.as_slice(), numbers),
+        Answer::Failed(code) => numbers == [0, u64::from(code.number())].as_slice(),
+        Answer::NotYet => numbers.is_empty(),
+    }
 }

@@ -208,19 +208,29 @@ pub(crate) fn listening<R: Net<Listener = TcpListener, Stream = TcpStream>>(
     Ok((listener, port))
 }
 
+/// Reads four bytes and sends them back.
+fn send_back(stream: &mut TcpStream) -> bool {
+    let mut four = [0; 4];
+    stream.read_exact(&mut four).is_ok() && stream.write_all(&four).is_ok()
+}
+
+/// Serves one connection.
+fn serve_one(listener: &TcpListener) -> bool {
+    let Ok((mut stream, _)) = listener.accept() else {
+        return false;
+    };
+    let is_served = send_back(&mut stream);
+    drop(stream);
+    is_served
+}
+
 /// A thread that serves one connection, and its port: it reads four bytes and sends them back.
 pub(crate) fn one_server<R: Net<Listener = TcpListener, Stream = TcpStream> + Threads>(
     rt: &R,
     address: &str,
 ) -> Result<(u16, JoinHandle<bool>), Fail> {
     let (listener, port) = listening(rt, address)?;
-    let server = thread::spawn(rt, move || {
-        let Ok((mut stream, _)) = listener.accept() else {
-            return false;
-        };
-        let mut four = [0; 4];
-        stream.read_exact(&mut four).is_ok() && stream.write_all(&four).is_ok()
-    })?;
+    let server = thread::spawn(rt, move || serve_one(&listener))?;
     Ok((port, server))
 }
 

@@ -29,7 +29,16 @@ pub(crate) fn tells_moments<G: Gate>(outside: &Outside<'_>, gate: &mut G) -> boo
     [begun, later, fallen, broken, gate.now()] == [0, 500, 500, 500, 1000]
 }
 
-/// A gate that began at 1000, and a new one with its start, give the same moments.
+/// Two gates that began at 1000 give the same moments.
+fn tell_the_same<G: Gate, H: Gate>(outside: &Outside<'_>, one: &mut G, two: &mut H) -> bool {
+    outside.milliseconds.store(1400, Ordering::SeqCst);
+    let early = (one.now(), two.now());
+    outside.milliseconds.store(2500, Ordering::SeqCst);
+    let late = (one.now(), two.now());
+    early == (400, 400) && late == (1500, 1500)
+}
+
+/// A gate that began at 1000, and a new one with its start, do so.
 pub(crate) fn tells_beside<G: Gate>(
     outside: &Outside<'_>,
     start: Instant,
@@ -38,11 +47,9 @@ pub(crate) fn tells_beside<G: Gate>(
     outside.milliseconds.store(1400, Ordering::SeqCst);
     let stop = flag(outside.alloc)?;
     let mut two = given(SocketGate::starting_at(outside, stop, start))?;
-    let early = (one.now(), two.now());
-    outside.milliseconds.store(2500, Ordering::SeqCst);
-    let late = (one.now(), two.now());
+    let is_so = tell_the_same(outside, one, &mut two);
     drop(two);
-    Ok(early == (400, 400) && late == (1500, 1500))
+    Ok(is_so)
 }
 
 /// What is done with a clock.
@@ -63,6 +70,14 @@ static ROWS: [(&'static str, Doing); 3] = [
     ("a_gate_without_a_clock_is_refused", Doing::Broken),
 ];
 
+/// Whether no gate is made while the clock is broken.
+fn is_refused(outside: &Outside<'_>) -> Result<bool, Fail> {
+    let stop = flag(outside.alloc)?;
+    outside.is_clock_broken.store(true, Ordering::SeqCst);
+    let refused = SocketGate::new(outside, stop).err();
+    Ok(refused == Some(Code::CouldntConnect))
+}
+
 fn is_so<R: Clock + Wait + Threads + AllocGlobal + Copy + Send + Drop + 'static>(
     rt: &R,
     outside: &Outside<'_>,
@@ -72,11 +87,7 @@ fn is_so<R: Clock + Wait + Threads + AllocGlobal + Copy + Send + Drop + 'static>
     match doing {
         Doing::Moments => Ok(at_gate(rt, outside, Work::Moments(outside))? == RIGHT),
         Doing::Beside => Ok(at_gate(rt, outside, Work::Beside(outside))? == RIGHT),
-        Doing::Broken => {
-            let stop = flag(outside.alloc)?;
-            outside.is_clock_broken.store(true, Ordering::SeqCst);
-            Ok(SocketGate::new(outside, stop).err() == Some(Code::CouldntConnect))
-        }
+        Doing::Broken => is_refused(outside),
     }
 }
 

@@ -1,6 +1,6 @@
 //! Gates that wait for no name, over lookups of the tests' own and the system's.
 
-use crate::fakes::Seen;
+use crate::fakes::{Seen, lookup};
 use crate::gates::{RIGHT, Task, at_link, flag, given, joined, one_server};
 use crate::outside::endpoint;
 use mx_gate::{Gate, SocketGate};
@@ -11,8 +11,8 @@ use mx_types::Code;
 use std::alloc::AllocGlobal;
 use std::net::{Net, TcpListener, TcpStream};
 use std::rt::Clock;
-use std::sync::Wait;
 use std::sync::atomic::{AtomicBool, Ordering};
+use std::sync::{Arc, Wait};
 use std::test::Fail;
 use std::thread::Threads;
 use std::time::{Duration, Instant};
@@ -34,8 +34,12 @@ fn gate<'r, R: Net + Clock + AllocGlobal + Wait, L: Lookup + Send + Sync + Drop 
     resolver: &Resolver<L, NameBell>,
     start: Instant,
 ) -> Result<NamedGate<'r, R, L>, Fail> {
-    let gate = given(SocketGate::starting_at(rt, flag(rt.alloc())?, start))?;
-    Ok(NamedGate::new(rt, gate, resolver)?)
+    let stop = flag(rt.alloc())?;
+    let gate = given(SocketGate::starting_at(rt, stop, start))?;
+    match NamedGate::new(rt, gate, resolver) {
+        Ok(gate) => Ok(gate),
+        Err(error) => Err(error.into()),
+    }
 }
 
 /// Whether a link to the endpoint can be opened, once it can; each wait lasts until the bell rings, and at most so long.
@@ -148,12 +152,12 @@ fn first_unserved<
         + 'static,
 >(
     rt: &R,
-    seen: &Seen,
+    seen: &Arc<Seen>,
     hosts: &[&'static str],
     address: &str,
 ) -> Result<Option<&'static str>, Fail> {
     for host in hosts {
-        if !is_served(rt, seen.lookup(rt)?, *host, address)? {
+        if !is_served(rt, lookup(rt, seen)?, *host, address)? {
             return Ok(Some(*host));
         }
     }
@@ -167,21 +171,25 @@ static IPV6_HOSTS: [&'static str; 2] = ["localhost", "[::1]"];
 /// Whether a host without addresses is refused, after one lookup.
 fn is_refused<R: Net + Clock + AllocGlobal + Threads + Wait + Copy + Send + Sync + Drop + 'static>(
     rt: &R,
-    seen: &Seen,
+    seen: &Arc<Seen>,
 ) -> Result<bool, Fail> {
     let none = endpoint(rt.alloc(), "none", 80)?;
-    let refused = looks_up(rt, seen.lookup(rt)?, Work::Refused(&none))?;
+    let refused = looks_up(rt, lookup(rt, seen)?, Work::Refused(&none))?;
     Ok(refused && seen.begun.load(Ordering::SeqCst) == 1)
 }
 
 /// Whether a host that hangs delays no other.
 fn is_beside<R: Net + Clock + AllocGlobal + Threads + Wait + Copy + Send + Sync + Drop + 'static>(
     rt: &R,
-    seen: &Seen,
+    seen: &Arc<Seen>,
 ) -> Result<bool, Fail> {
     let hang = endpoint(rt.alloc(), "hang", 80)?;
     let good = endpoint(rt.alloc(), "good", 80)?;
-    looks_up(rt, seen.lookup(rt)?, Work::Beside(&hang, &good, &seen.free))
+    looks_up(
+        rt,
+        lookup(rt, seen)?,
+        Work::Beside(&hang, &good, &seen.free),
+    )
 }
 
 /// The first host that isn't reached once it is known. The bell ends the wait for each, so three waits of ten seconds are enough.
@@ -196,7 +204,7 @@ fn first_unreached<
         + Sync
         + Drop
         + 'static,
->(rt: &R, seen: &Seen) -> Result<Option<&'static str>, Fail> {
+>(rt: &R, seen: &Arc<Seen>) -> Result<Option<&'static str>, Fail> {
     let start = Instant::now(rt)?;
     let unserved = first_unserved(rt, seen, &HOSTS, "127.0.0.1:0")?;
     let in_time = start.elapsed(rt)? < Duration::from_secs(9);
@@ -207,6 +215,22 @@ fn first_unreached<
         return Ok(Some("how many lookups began"));
     }
     Ok(unserved)
+}
+
+/// Whether a host is served that the system looks up.
+fn is_served_by_system<
+    R: Net<Listener = TcpListener, Stream = TcpStream>
+        + Clock
+        + AllocGlobal
+        + Threads
+        + Wait
+        + Copy
+        + Send
+        + Sync
+        + Drop
+        + 'static,
+>(rt: &R) -> Result<bool, Fail> {
+    is_served(rt, SystemLookup::new(*rt), "localhost", "127.0.0.1:0")
 }
 
 /// What a row tries.
@@ -244,15 +268,11 @@ fn first_wrong<
         + Sync
         + Drop
         + 'static,
->(rt: &R, seen: &Seen, trial: Trial) -> Result<Option<&'static str>, Fail> {
+>(rt: &R, seen: &Arc<Seen>, trial: Trial) -> Result<Option<&'static str>, Fail> {
     let (is_so, host) = match trial {
         Trial::Refused => (is_refused(rt, seen)?, "none"),
         Trial::Beside => (is_beside(rt, seen)?, "good"),
-        Trial::Served => {
-            let lookup = SystemLookup::new(*rt);
-            let host = "localhost";
-            (is_served(rt, lookup, host, "127.0.0.1:0")?, host)
-        }
+        Trial::Served => (is_served_by_system(rt)?, "localhost"),
         Trial::Reached => return first_unreached(rt, seen),
         Trial::ReachedByIpv6 => {
             if TcpListener::bind(rt, "[::1]:0").is_err() {

@@ -1,11 +1,13 @@
 //! What is known of hosts: a row is the calls of a table of names, and what each answers.
 
-use crate::fakes::{Fake, numbers};
+use crate::fakes::{Fake, says};
 use mx_names::{Finding, Names, spelled};
+use mx_types::OutOfMemory;
 use std::alloc::Global;
 use std::test::Fail;
 
 /// A call of a table, and what it is to answer.
+#[derive(Clone, Copy)]
 enum Step {
     /// Of a host, since a moment, now: the answer as numbers.
     Ask(&'static str, u64, u64, &'static [u64]),
@@ -25,39 +27,72 @@ fn begin(
     host: &str,
     since: u64,
     now: u64,
-) -> Result<bool, Fail> {
+) -> Result<bool, OutOfMemory> {
     match spelled(host) {
         Some(_) => Ok(false),
-        None => Ok(names.begin(alloc, host, since, now)?),
+        None => names.begin(alloc, host, since, now),
     }
 }
 
+/// Whether a lookup of the host of this number begins.
+fn begin_numbered(
+    alloc: Global,
+    names: &mut Names<Fake>,
+    number: u64,
+) -> Result<bool, OutOfMemory> {
+    let host = format!(in alloc; "host{number}")?;
+    let begins = begin(alloc, names, host.as_str(), 0, 0);
+    drop(host);
+    begins
+}
+
 /// Of how many of so many hosts a lookup begins.
-fn begin_many(alloc: Global, names: &mut Names<Fake>, count: u64) -> Result<u64, Fail> {
+fn begin_many(alloc: Global, names: &mut Names<Fake>, count: u64) -> Result<u64, OutOfMemory> {
     let mut begun = 0u64;
     for number in 0..count {
-        let host = format!(in alloc; "host{number}")?;
-        if begin(alloc, names, host.as_str(), 0, 0)? {
+        if begin_numbered(alloc, names, number)? {
             begun = begun.saturating_add(1);
         }
     }
     Ok(begun)
 }
 
-fn is_as_said(alloc: Global, names: &mut Names<Fake>, step: &Step) -> Result<bool, Fail> {
-    match step {
-        Step::Ask(host, since, now, answer) => {
-            let told = names.ask(alloc, host, *since, *now)?;
-            Ok(numbers(alloc, &told)?.as_slice() == *answer)
+/// Whether this is what is known of a host, as numbers.
+fn is_known(
+    alloc: Global,
+    names: &Names<Fake>,
+    host: &str,
+    moments: (u64, u64),
+    numbers: &[u64],
+) -> Result<bool, OutOfMemory> {
+    let answer = names.ask(alloc, host, moments.0, moments.1)?;
+    let is_so = says(&answer, numbers);
+    drop(answer);
+    Ok(is_so)
+}
+
+/// Whether what the lookup of a host gives is learnt.
+fn learn(
+    alloc: Global,
+    names: &mut Names<Fake>,
+    host: &str,
+    now: u64,
+) -> Result<bool, OutOfMemory> {
+    let host = String::from_str(alloc, host)?;
+    let finding = Finding::by(&Fake { alloc }, alloc, host);
+    Ok(names.learn(finding, now))
+}
+
+fn is_as_said(alloc: Global, names: &mut Names<Fake>, step: &Step) -> Result<bool, OutOfMemory> {
+    match *step {
+        Step::Ask(host, since, now, numbers) => {
+            is_known(alloc, names, host, (since, now), numbers)
         }
         Step::Begin(host, since, now, begins) => {
-            Ok(begin(alloc, names, host, *since, *now)? == *begins)
+            Ok(begin(alloc, names, host, since, now)? == begins)
         }
-        Step::BeginMany(count, begun) => Ok(begin_many(alloc, names, *count)? == *begun),
-        Step::Learn(host, now, learns) => {
-            let finding = Finding::by(&Fake { alloc }, alloc, String::from_str(alloc, host)?);
-            Ok(names.learn(finding, *now) == *learns)
-        }
+        Step::BeginMany(count, begun) => Ok(begin_many(alloc, names, count)? == begun),
+        Step::Learn(host, now, learns) => Ok(learn(alloc, names, host, now)? == learns),
         Step::Forget(host) => {
             names.forget(host);
             Ok(true)
@@ -66,11 +101,32 @@ fn is_as_said(alloc: Global, names: &mut Names<Fake>, step: &Step) -> Result<boo
 }
 
 /// The first step that fails.
-fn first_wrong(alloc: Global, steps: &[Step]) -> Result<Option<usize>, Fail> {
-    let mut names = Names::new(alloc);
-    for (place, step) in steps.iter().enumerate() {
-        if !is_as_said(alloc, &mut names, step)? {
+fn first_wrong(
+    alloc: Global,
+    names: &mut Names<Fake>,
+    steps: &[Step],
+) -> Result<Option<usize>, OutOfMemory> {
+    for place in 0..steps.len() {
+        if !is_as_said(alloc, names, &steps[place])? {
             return Ok(Some(place));
+        }
+    }
+    Ok(None)
+}
+
+/// The same, of a new table.
+fn first_wrong_of(alloc: Global, steps: &[Step]) -> Result<Option<usize>, OutOfMemory> {
+    let mut names = Names::new(alloc);
+    let wrong = first_wrong(alloc, &mut names, steps);
+    drop(names);
+    wrong
+}
+
+/// The first row of which a step fails, and that step.
+fn wrong_row(alloc: Global) -> Result<Option<(&'static str, usize)>, OutOfMemory> {
+    for row in &ROWS {
+        if let Some(place) = first_wrong_of(alloc, row.steps)? {
+            return Ok(Some((row.name, place)));
         }
     }
     Ok(None)
@@ -146,9 +202,7 @@ static ROWS: [Row; 4] = [
 
 #[test]
 fn hosts_that_are_known(rt: HostRuntime) -> Result<(), Fail> {
-    for row in &ROWS {
-        let wrong = first_wrong(rt.alloc(), row.steps)?;
-        assert!(rt; wrong.is_none(), "{}: step {wrong:?}", row.name);
-    }
+    let wrong = wrong_row(rt.alloc())?;
+    assert_eq!(rt; wrong, None);
     Ok(())
 }

@@ -1,15 +1,16 @@
 //! A network and a clock that answer what a test wants.
+ghost use Rattle.std.specs.Prelude.{◌≤◌};
+
 use mx_request::Endpoint;
-use std::alloc::{Alloc, Global};
+use std::alloc::{Alloc, AllocError, Global};
 use std::io;
 use std::net::{Ipv4Addr, Ipv6Addr, Net, SocketAddr, TcpListener, TcpStream};
 use std::rt::Clock;
 use std::sync::atomic::{AtomicBool, AtomicU64, Ordering};
-use std::test::Fail;
 use std::time::Duration;
 
 /// The endpoint of a host and a port.
-pub(crate) fn endpoint(alloc: Global, host: &str, port: u16) -> Result<Endpoint, Fail> {
+pub(crate) fn endpoint(alloc: Global, host: &str, port: u16) -> Result<Endpoint, AllocError> {
     let host = String::from_str(alloc, host)?;
     Ok(Endpoint { host, port })
 }
@@ -22,6 +23,33 @@ pub(crate) fn v4(bytes: [u8; 4], port: u16) -> SocketAddr {
 /// An address of the block for documentation (RFC 3849) with this last number.
 pub(crate) fn v6(last: u16, port: u16) -> SocketAddr {
     SocketAddr::from((Ipv6Addr::new(0x2001, 0xdb8, 0, 0, 0, 0, 0, last), port))
+}
+
+/// An address of these bytes, or one of the block for documentation with this last number, or `::1`.
+#[derive(Clone, Copy)]
+pub(crate) enum At {
+    V4([u8; 4]),
+    V6(u16),
+    LocalV6,
+}
+
+pub(crate) fn address(at: At, port: u16) -> SocketAddr {
+    match at {
+        At::V4(bytes) => v4(bytes, port),
+        At::V6(last) => v6(last, port),
+        At::LocalV6 => SocketAddr::from((Ipv6Addr::LOCALHOST, port)),
+    }
+}
+
+/// Sets the addresses from the first on: how many.
+pub(crate) fn set(all: &mut [SocketAddr; 4], given: &[At]) -> usize
+    ensures { result ≤ 4 }
+{
+    let count = given.len().min(4);
+    for i in 0..count {
+        all[i] = address(given[i], 0);
+    }
+    count
 }
 
 /// A runtime whose lookups give these addresses, or fail, and whose clock shows what the test sets.

@@ -1,11 +1,13 @@
 //! A gate that opens a few links to an endpoint at a time: a row is the calls of it over a gate from a script, and what each answers.
 
 use crate::outside::endpoint;
+use crate::scripted::{plan_link, plan_moment};
 use mx_gate::{Gate, ScriptGate, Turn};
 use mx_link::ScriptLink;
 use mx_paced_gate::PacedGate;
-use std::alloc::Global;
-use std::test::Fail;
+use mx_request::Endpoint;
+use mx_types::OutOfMemory;
+use std::alloc::{AllocError, Global};
 
 /// A call of the gate, with what it is to answer.
 #[derive(Clone, Copy)]
@@ -18,15 +20,15 @@ enum Step {
     Turn(u32),
 }
 
-pub struct Row {
-    pub name: &'static str,
+struct Row {
+    name: &'static str,
     steps: &'static [Step],
     /// How long the last turn of the gate within was to wait.
     waited: Option<u32>,
 }
 
 // rule gate-pace
-pub static ROWS: [Row; 5] = [
+static ROWS: [Row; 5] = [
     Row {
         name: "four_links_to_an_endpoint",
         steps: &[
@@ -91,80 +93,107 @@ pub static ROWS: [Row; 5] = [
     },
 ];
 
-// Plans what the gate within is to answer for this step.
-fn plan(alloc: Global, gate: &mut ScriptGate<ScriptLink>, step: Step) -> Result<(), Fail> {
-    match step {
-        Step::Now(moment) => gate.plan_moment(moment)?,
-        Step::Opens(_, count) => {
-            for _ in 0..count {
-                let link = ScriptLink::new(alloc, &[], &[])?;
-                gate.plan_opening(Ok(link))?;
-            }
-        }
-        _ => {}
+// Plans that so many links are opened.
+fn plan_links(
+    alloc: Global,
+    gate: &mut ScriptGate<ScriptLink>,
+    count: u32,
+) -> Result<(), OutOfMemory> {
+    for _ in 0..count {
+        plan_link(alloc, gate)?;
     }
     Ok(())
 }
 
-// Whether the gate can open a link to this host.
-fn can(
+// Plans what the gate within is to answer for these steps.
+fn plan(
     alloc: Global,
-    gate: &mut PacedGate<ScriptGate<ScriptLink>>,
-    host: &str,
-) -> Result<bool, Fail> {
-    let there = endpoint(alloc, host, 80)?;
-    Ok(gate.can_open(&there))
+    gate: &mut ScriptGate<ScriptLink>,
+    steps: &[Step],
+) -> Result<(), OutOfMemory> {
+    for step in steps {
+        match *step {
+            Step::Now(moment) => plan_moment(gate, moment)?,
+            Step::Opens(_, count) => plan_links(alloc, gate, count)?,
+            _ => {}
+        }
+    }
+    Ok(())
 }
 
-// Whether it can, and does.
-fn opens(
+// A gate within, which answers so.
+fn within(alloc: Global, steps: &[Step]) -> Result<ScriptGate<ScriptLink>, OutOfMemory> {
+    let mut gate: ScriptGate<ScriptLink> = ScriptGate::new(alloc, u32::MAX);
+    plan(alloc, &mut gate, steps)?;
+    Ok(gate)
+}
+
+// Whether the gate can open a link to the endpoint, and does.
+fn opens_to<G: Gate>(gate: &mut G, there: &Endpoint) -> bool {
+    gate.can_open(there) && gate.open(there).is_ok()
+}
+
+// Whether it can open a link to this host, and does where that is asked for.
+fn can<G: Gate>(
     alloc: Global,
-    gate: &mut PacedGate<ScriptGate<ScriptLink>>,
+    gate: &mut G,
     host: &str,
-) -> Result<bool, Fail> {
+    is_opened: bool,
+) -> Result<bool, AllocError> {
     let there = endpoint(alloc, host, 80)?;
-    Ok(gate.can_open(&there) && gate.open(&there).is_ok())
+    let can = if is_opened {
+        opens_to(gate, &there)
+    } else {
+        gate.can_open(&there)
+    };
+    drop(there);
+    Ok(can)
+}
+
+// Whether it can open so many, and does.
+fn opens<G: Gate>(alloc: Global, gate: &mut G, host: &str, count: u32) -> Result<bool, AllocError> {
+    let mut all = true;
+    for _ in 0..count {
+        all = can(alloc, gate, host, true)? && all;
+    }
+    Ok(all)
 }
 
 // Takes the step: whether it answers so.
-fn is_so(
-    alloc: Global,
-    gate: &mut PacedGate<ScriptGate<ScriptLink>>,
-    step: Step,
-) -> Result<bool, Fail> {
-    Ok(match step {
-        Step::Now(moment) => gate.now() == moment,
-        Step::Can(host, answer) => can(alloc, gate, host)? == answer,
-        Step::Opens(host, count) => {
-            let mut all = true;
-            for _ in 0..count {
-                all = opens(alloc, gate, host)? && all;
-            }
-            all
-        }
-        Step::Turn(wait_ms) => gate.turn(wait_ms) == Turn::Continue,
-    })
+fn is_so<G: Gate>(alloc: Global, gate: &mut G, step: Step) -> Result<bool, AllocError> {
+    match step {
+        Step::Now(moment) => Ok(gate.now() == moment),
+        Step::Can(host, answer) => Ok(can(alloc, gate, host, false)? == answer),
+        Step::Opens(host, count) => opens(alloc, gate, host, count),
+        Step::Turn(wait_ms) => Ok(gate.turn(wait_ms) == Turn::Continue),
+    }
+}
+
+// Takes all steps: whether each answers so.
+fn are_so<G: Gate>(alloc: Global, gate: &mut G, steps: &[Step]) -> Result<bool, AllocError> {
+    let mut all = true;
+    for step in steps {
+        all = is_so(alloc, gate, *step)? && all;
+    }
+    Ok(all)
 }
 
 // Whether each step answers so, and the gate within waited so long.
-fn is_right(alloc: Global, row: &Row) -> Result<bool, Fail> {
-    let mut within: ScriptGate<ScriptLink> = ScriptGate::new(alloc, u32::MAX);
-    for step in row.steps {
-        plan(alloc, &mut within, *step)?;
-    }
-    let mut gate = PacedGate::new(within);
-    let mut all = true;
-    for step in row.steps {
-        all = is_so(alloc, &mut gate, *step)? && all;
-    }
-    Ok(gate.into_inner().last_wait() == row.waited && all)
+fn is_right(alloc: Global, row: &Row) -> Result<bool, OutOfMemory> {
+    let mut gate = PacedGate::new(within(alloc, row.steps)?);
+    let are_so = are_so(alloc, &mut gate, row.steps);
+    let within = gate.into_inner();
+    let waited = within.last_wait();
+    drop(within);
+    Ok(are_so? && waited == row.waited)
 }
 
-pub fn are_so(alloc: Global, rows: &[Row]) -> Result<(), Fail> {
-    for row in rows {
+/// The first row that isn't so.
+pub(crate) fn wrong_row(alloc: Global) -> Result<Option<&'static str>, OutOfMemory> {
+    for row in &ROWS {
         if !is_right(alloc, row)? {
-            return Err(row.name.into());
+            return Ok(Some(row.name));
         }
     }
-    Ok(())
+    Ok(None)
 }

@@ -55,27 +55,13 @@ fn wait_for<R: Clock + Wait>(rt: &R, told: &AtomicBool) {
     }
 }
 
-/// Sends to one connection.
-fn send<R: Clock + Wait>(rt: &R, mut stream: TcpStream, told: &Told, peer: Peer) -> bool {
-    let is_begun = match peer {
-        Peer::SendsTwice => stream.write_all(b"ab").is_ok(),
-        _ => true,
-    };
-    wait_for(rt, &told.go);
-    let rest: &[u8] = match peer {
-        Peer::SendsTwice => b"cd",
-        _ => b"ab",
-    };
-    let is_sent = stream.write_all(rest).is_ok();
-    if matches!(peer, Peer::SendsAndCloses) {
-        drop(stream);
-        told.sent.store(true, Ordering::SeqCst);
-    } else {
-        told.sent.store(true, Ordering::SeqCst);
-        thread::sleep(rt, Duration::from_millis(100));
-        drop(stream);
+/// What a peer sends at once, and what once the test has it go on.
+fn sent_by(peer: Peer) -> (&'static [u8], &'static [u8]) {
+    match peer {
+        Peer::SendsLate | Peer::SendsAndCloses => (b"", b"ab"),
+        Peer::SendsTwice => (b"ab", b"cd"),
+        Peer::Reads | Peer::Resets => (b"", b""),
     }
-    is_begun && is_sent
 }
 
 /// Reads to the end: how many bytes came.
@@ -92,7 +78,28 @@ fn read_all(stream: &mut TcpStream) -> u64 {
     all
 }
 
-/// Accepts one connection, and is its peer: how many bytes it read, or nothing where it failed.
+/// Does what the peer does over a connection: how many bytes it read, or nothing where it failed.
+fn serve<R: Clock + Wait>(rt: &R, stream: &mut TcpStream, told: &Told, peer: Peer) -> Option<u64> {
+    let (first, rest) = sent_by(peer);
+    let is_begun = stream.write_all(first).is_ok();
+    wait_for(rt, &told.go);
+    if matches!(peer, Peer::Reads) {
+        return Some(read_all(stream));
+    }
+    (stream.write_all(rest).is_ok() && is_begun).then_some(0)
+}
+
+/// Closes the connection, of a peer that closes later a while after the test is told that it has sent.
+fn close<R: Clock>(rt: &R, stream: TcpStream, told: &Told, peer: Peer) {
+    if matches!(peer, Peer::SendsLate | Peer::SendsTwice) {
+        told.sent.store(true, Ordering::SeqCst);
+        thread::sleep(rt, Duration::from_millis(100));
+    }
+    drop(stream);
+    told.sent.store(true, Ordering::SeqCst);
+}
+
+/// Accepts one connection, and is its peer.
 fn be_peer<R: Clock + Wait>(
     rt: &R,
     listener: &TcpListener,
@@ -102,17 +109,33 @@ fn be_peer<R: Clock + Wait>(
     let Ok((mut stream, _)) = listener.accept() else {
         return None;
     };
-    match peer {
-        Peer::Reads => {
-            wait_for(rt, &told.go);
-            Some(read_all(&mut stream))
-        }
-        Peer::Resets => {
-            wait_for(rt, &told.go);
-            Some(0)
-        }
-        _ => send(rt, stream, told, peer).then_some(0),
-    }
+    let served = serve(rt, &mut stream, told, peer);
+    close(rt, stream, told, peer);
+    served
+}
+
+/// Whether the connection is made, and the first two bytes are read where some come at once.
+fn begins<G: Gate>(gate: &mut G, link: &mut G::Link, comes_at_once: bool) -> bool {
+    let connected = connect(gate, link) == Connect::Done;
+    let is_read = !comes_at_once || reads_two(gate, link, b"ab------");
+    connected && is_read
+}
+
+/// Whether two bytes are read, into a buffer that is then this.
+fn reads_two<G: Gate>(gate: &mut G, link: &mut G::Link, bytes: &[u8; 8]) -> bool {
+    read(gate, link) == (Read::Bytes(2), *bytes)
+}
+
+/// Whether a read finds nothing.
+fn finds_nothing<L: Link>(link: &mut L) -> bool {
+    let mut buffer = [0; 8];
+    link.try_read(&mut buffer) == Read::WouldBlock
+}
+
+/// Has the peer go on, and waits until it has sent.
+fn go_on<R: Clock + Wait>(rt: &R, told: &Told) {
+    told.go.store(true, Ordering::SeqCst);
+    wait_for(rt, &told.sent);
 }
 
 /// Reads the first two bytes, where some come at once. Then it finds nothing to read, before a turn not even bytes that came; after the
@@ -124,26 +147,19 @@ fn reads_after_a_turn<R: Clock + Wait, G: Gate>(
     told: &Told,
     comes_at_once: bool,
 ) -> bool {
-    let connected = connect(gate, link);
-    let is_begun = !comes_at_once || read(gate, link) == (Read::Bytes(2), *b"ab------");
+    let is_begun = begins(gate, link, comes_at_once);
     gate.turn(0);
-    let mut buffer = [0; 8];
-    let early = link.try_read(&mut buffer);
-    told.go.store(true, Ordering::SeqCst);
-    wait_for(rt, &told.sent);
-    let before = link.try_read(&mut buffer);
-    let after = read(gate, link);
-    let (last, _) = read(gate, link);
+    let early = finds_nothing(link);
+    go_on(rt, told);
+    let before = finds_nothing(link);
     let bytes = if comes_at_once {
-        *b"cd------"
+        b"cd------"
     } else {
-        *b"ab------"
+        b"ab------"
     };
-    is_begun
-        && connected == Connect::Done
-        && (early, before) == (Read::WouldBlock, Read::WouldBlock)
-        && after == (Read::Bytes(2), bytes)
-        && last == Read::End
+    let after = reads_two(gate, link, bytes);
+    let (last, _) = read(gate, link);
+    is_begun && early && before && after && last == Read::End
 }
 
 /// Takes one turn when bytes and the end have come, and reads both.
@@ -154,8 +170,7 @@ fn reads_to_the_end<R: Clock + Wait, G: Gate>(
     told: &Told,
 ) -> bool {
     let connected = connect(gate, link);
-    told.go.store(true, Ordering::SeqCst);
-    wait_for(rt, &told.sent);
+    go_on(rt, told);
     thread::sleep(rt, Duration::from_millis(20));
     gate.turn(1000);
     let mut buffer = [b'-'; 8];

@@ -3,6 +3,7 @@
 use crate::peers::write;
 use mx_gate::{ReadyLink, Signals};
 use mx_link::{Link, Read, ScriptLink, ScriptRead, Write};
+use mx_types::OutOfMemory;
 use std::alloc::Global;
 use std::sync::Arc;
 use std::test::Fail;
@@ -186,15 +187,36 @@ fn first_wrong<L: Link>(
     None
 }
 
-/// The same, of a new link.
-fn first_wrong_of(alloc: Global, row: &Row) -> Result<Option<usize>, Fail> {
-    let signals = Arc::new(alloc, Signals::new(alloc)?)?;
+/// A link over the row's script that is told by these signals.
+fn link(
+    alloc: Global,
+    row: &Row,
+    signals: &Arc<Signals>,
+) -> Result<ReadyLink<ScriptLink>, OutOfMemory> {
     let script = ScriptLink::new(alloc, row.reads, row.writes)?;
-    let mut link = ReadyLink::over(script, Arc::try_clone(&signals)?);
-    let wrong = first_wrong(&mut link, &signals, row.steps);
+    let signals = Arc::try_clone(signals)?;
+    Ok(ReadyLink::over(script, signals))
+}
+
+/// The same, of such a link.
+fn first_wrong_by(
+    alloc: Global,
+    row: &Row,
+    signals: &Arc<Signals>,
+) -> Result<Option<usize>, OutOfMemory> {
+    let mut link = link(alloc, row, signals)?;
+    let wrong = first_wrong(&mut link, signals, row.steps);
     drop(link);
-    drop(signals);
     Ok(wrong)
+}
+
+/// The same, by new signals.
+fn first_wrong_of(alloc: Global, row: &Row) -> Result<Option<usize>, OutOfMemory> {
+    let signals = Signals::new(alloc)?;
+    let signals = Arc::new(alloc, signals)?;
+    let wrong = first_wrong_by(alloc, row, &signals);
+    drop(signals);
+    wrong
 }
 
 /// Fails with the first row that isn't so, and names it.

@@ -51,14 +51,24 @@ fn open<G: Gate>(gate: &mut G, there: &Endpoint) -> Result<(Connect, bool), Fail
     Ok((connected, is_refused))
 }
 
-// The same, of a new gate, to this port.
-fn open_to<R: Net + Clock + AllocGlobal>(rt: &R, port: u16) -> Result<(Connect, bool), Fail> {
-    let there = endpoint(rt.alloc(), "127.0.0.1", port)?;
+// The same, of a new gate.
+fn open_by<R: Net + Clock + AllocGlobal>(
+    rt: &R,
+    there: &Endpoint,
+) -> Result<(Connect, bool), Fail> {
     let (mut gate, at_gate) = gate(rt)?;
-    let opened = open(&mut gate, &there);
+    let opened = open(&mut gate, there);
     drop(gate);
     let (connected, at_link) = opened?;
     Ok((connected, at_gate || at_link))
+}
+
+// The same, to this port.
+fn open_to<R: Net + Clock + AllocGlobal>(rt: &R, port: u16) -> Result<(Connect, bool), Fail> {
+    let there = endpoint(rt.alloc(), "127.0.0.1", port)?;
+    let opened = open_by(rt, &there);
+    drop(there);
+    opened
 }
 
 /// Nobody accepts the connection, which is made all the same.

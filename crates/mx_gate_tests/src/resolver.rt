@@ -1,10 +1,11 @@
 //! A resolver, whose lookups are on threads.
 
-use crate::fakes::{Hanging, Seen, numbers};
+use crate::fakes::{Hanging, Seen, lookup, says};
 use mx_names::{Resolver, Ring};
-use std::alloc::AllocGlobal;
+use mx_types::OutOfMemory;
+use std::alloc::{AllocError, AllocGlobal};
 use std::rt::Clock;
-use std::sync::atomic::{AtomicU64, Ordering};
+use std::sync::atomic::Ordering;
 use std::sync::{Arc, Wait};
 use std::test::Fail;
 use std::thread;
@@ -13,29 +14,76 @@ use std::time::{Duration, Instant};
 
 /// A bell that counts.
 #[derive(Drop)]
-struct Count(Arc<AtomicU64>);
+struct Count(Arc<Seen>);
 
 impl Ring for Count {
     fn ring(&self) {
-        self.0.fetch_add(1, Ordering::SeqCst);
+        self.0.rings.fetch_add(1, Ordering::SeqCst);
     }
 }
 
-/// Whether this is what is known of the host, in numbers, once something is; or nothing is known after ten seconds.
+/// Whether this is what is known of the host, in numbers; None where nothing is.
+fn tells<R: Threads + Clock + Wait + AllocGlobal + Copy + Send + Sync + Drop + 'static>(
+    rt: &R,
+    resolver: &Resolver<Hanging<R>, Count>,
+    host: &str,
+    expected: &[u64],
+) -> Option<bool> {
+    let answer = resolver.ask(rt, host, 0, 0);
+    let told = if says(&answer, &[]) {
+        None
+    } else {
+        Some(says(&answer, expected))
+    };
+    drop(answer);
+    told
+}
+
+/// The same once something is known; false where nothing is after ten seconds.
 fn is_told<R: Threads + Clock + Wait + AllocGlobal + Copy + Send + Sync + Drop + 'static>(
     rt: &R,
     resolver: &Resolver<Hanging<R>, Count>,
     host: &str,
     expected: &[u64],
-) -> Result<bool, Fail> {
+) -> bool {
     for _ in 0..10_000u32 {
-        let answer = numbers(rt.alloc(), &resolver.ask(rt, host, 0, 0))?;
-        if !answer.is_empty() {
-            return Ok(answer.as_slice() == expected);
+        if let Some(is_so) = tells(rt, resolver, host, expected) {
+            return is_so;
         }
         thread::sleep(rt, Duration::from_millis(1));
     }
-    Ok(false)
+    false
+}
+
+/// The first of these hosts of which something else is known.
+fn first_untold<R: Threads + Clock + Wait + AllocGlobal + Copy + Send + Sync + Drop + 'static>(
+    rt: &R,
+    resolver: &Resolver<Hanging<R>, Count>,
+) -> Option<&'static str> {
+    for row in &TOLD {
+        let (host, expected) = *row;
+        if !is_told(rt, resolver, host, expected) {
+            return Some(host);
+        }
+    }
+    None
+}
+
+/// Three hosts that don't hang, and what is known of them.
+static TOLD: [(&'static str, &'static [u64]); 3] = [
+    ("both", &[2, 4, 101, 103]),
+    ("none", &[0, 6]),
+    ("[2001:db8::7]", &[107]),
+];
+
+/// Asks of a host, whatever is known of it.
+fn ask<R: Threads + Clock + Wait + AllocGlobal + Copy + Send + Sync + Drop + 'static>(
+    rt: &R,
+    resolver: &Resolver<Hanging<R>, Count>,
+    host: &str,
+) {
+    let answer = resolver.ask(rt, host, 0, 0);
+    drop(answer);
 }
 
 /// Asks once of so many hosts that hang.
@@ -43,10 +91,11 @@ fn ask_of_hanging<R: Threads + Clock + Wait + AllocGlobal + Copy + Send + Sync +
     rt: &R,
     resolver: &Resolver<Hanging<R>, Count>,
     count: u64,
-) -> Result<(), Fail> {
+) -> Result<(), AllocError> {
     for number in 0..count {
         let host = format!(in rt.alloc(); "hang{number}")?;
-        let _ = resolver.ask(rt, host.as_str(), 0, 0);
+        ask(rt, resolver, host.as_str());
+        drop(host);
     }
     Ok(())
 }
@@ -67,17 +116,12 @@ fn first_wrong<R: Threads + Clock + Wait + AllocGlobal + Copy + Send + Sync + Dr
     rt: &R,
     seen: &Seen,
     resolver: &Resolver<Hanging<R>, Count>,
-) -> Result<Option<&'static str>, Fail> {
+) -> Result<Option<&'static str>, AllocError> {
     ask_of_hanging(rt, resolver, 63)?;
     ask_of_hanging(rt, resolver, 63)?;
-    if !is_told(rt, resolver, "both", &[2, 4, 101, 103])? {
-        return Ok(Some("both"));
-    }
-    if !is_told(rt, resolver, "none", &[0, 6])? {
-        return Ok(Some("none"));
-    }
-    if !is_told(rt, resolver, "[2001:db8::7]", &[107])? {
-        return Ok(Some("[2001:db8::7]"));
+    let untold = first_untold(rt, resolver);
+    if untold.is_some() {
+        return Ok(untold);
     }
     if begun(rt, seen, 65) != 65 {
         return Ok(Some("how many lookups began"));
@@ -88,20 +132,40 @@ fn first_wrong<R: Threads + Clock + Wait + AllocGlobal + Copy + Send + Sync + Dr
     Ok(None)
 }
 
+/// A bell is added to a resolver.
+fn add_bell<R: Clock + Wait>(
+    rt: &R,
+    seen: &Arc<Seen>,
+    resolver: &Resolver<Hanging<R>, Count>,
+) -> Result<(), OutOfMemory> {
+    let seen = Arc::try_clone(seen)?;
+    resolver.add_bell(rt, Count(seen))
+}
+
+/// The same, of a resolver without a bell. Those that hang are released then.
+fn first_wrong_with_bell<
+    R: Threads + Clock + Wait + AllocGlobal + Copy + Send + Sync + Drop + 'static,
+>(
+    rt: &R,
+    seen: &Arc<Seen>,
+    resolver: &Resolver<Hanging<R>, Count>,
+) -> Result<Option<&'static str>, OutOfMemory> {
+    add_bell(rt, seen, resolver)?;
+    let wrong = first_wrong(rt, seen, resolver);
+    seen.free.store(true, Ordering::SeqCst);
+    Ok(wrong?)
+}
+
 /// The same, of a new resolver.
 fn first_wrong_of_new<
     R: Threads + Clock + Wait + AllocGlobal + Copy + Send + Sync + Drop + 'static,
->(rt: &R, seen: &Seen) -> Result<Option<&'static str>, Fail> {
-    let bell = Count(Arc::try_clone(&seen.rings)?);
-    let resolver = Resolver::new(rt.alloc(), seen.lookup(rt)?, Instant::now(rt)?)?;
-    let wrong = match resolver.add_bell(rt, bell) {
-        Ok(()) => first_wrong(rt, seen, &resolver),
-        Err(error) => Err(error.into()),
-    };
-    // those that hang are released
-    seen.free.store(true, Ordering::SeqCst);
+>(rt: &R, seen: &Arc<Seen>) -> Result<Option<&'static str>, Fail> {
+    let start = Instant::now(rt)?;
+    let lookup = lookup(rt, seen)?;
+    let resolver = Resolver::new(rt.alloc(), lookup, start)?;
+    let wrong = first_wrong_with_bell(rt, seen, &resolver);
     drop(resolver);
-    wrong
+    Ok(wrong?)
 }
 
 // rule name-spelled-address

@@ -5,7 +5,7 @@ use crate::{paced, ready};
 use mx_gate::{Gate, ScriptGate, Turn};
 use mx_link::{Link, ScriptLink};
 use mx_request::Endpoint;
-use mx_types::Code;
+use mx_types::{Code, OutOfMemory};
 use std::alloc::Global;
 use std::test::Fail;
 
@@ -104,38 +104,64 @@ static ROWS: [Row; 4] = [
 
 /// The token of a link that is opened, and dropped.
 fn opened(gate: &mut ScriptGate<ScriptLink>, there: &Endpoint) -> Result<u64, Code> {
-    Ok(gate.open(there)?.token())
+    let link = gate.open(there)?;
+    let token = link.token();
+    drop(link);
+    Ok(token)
 }
 
-/// Takes the step: whether it answers so.
-fn is_so(
+/// Plans that a link is opened.
+pub(crate) fn plan_link(
     alloc: Global,
     gate: &mut ScriptGate<ScriptLink>,
-    there: &Endpoint,
-    step: Step,
-) -> Result<bool, Fail> {
-    Ok(match step {
-        Step::PlanLink => {
-            let link = ScriptLink::new(alloc, &[], &[])?;
-            gate.plan_opening(Ok(link))?;
-            true
-        }
-        Step::PlanUnknownHost => {
-            gate.plan_opening(Err(Code::CouldntResolveHost))?;
-            true
-        }
-        Step::PlanNoMemory => {
-            gate.plan_opening(Err(Code::OutOfMemory))?;
-            true
-        }
-        Step::PlanMoment(moment) => {
-            gate.plan_moment(moment)?;
-            true
-        }
-        Step::PlanLack(lacks) => {
-            gate.plan_lack(lacks)?;
-            true
-        }
+) -> Result<(), OutOfMemory> {
+    let link = ScriptLink::new(alloc, &[], &[])?;
+    gate.plan_opening(Ok(link))?;
+    Ok(())
+}
+
+/// Plans that none is, as its host is not known.
+fn plan_unknown_host(gate: &mut ScriptGate<ScriptLink>) -> Result<(), OutOfMemory> {
+    gate.plan_opening(Err(Code::CouldntResolveHost))?;
+    Ok(())
+}
+
+/// Plans that none is, as memory is refused.
+fn plan_no_memory(gate: &mut ScriptGate<ScriptLink>) -> Result<(), OutOfMemory> {
+    gate.plan_opening(Err(Code::OutOfMemory))?;
+    Ok(())
+}
+
+/// Plans that moment.
+pub(crate) fn plan_moment(
+    gate: &mut ScriptGate<ScriptLink>,
+    moment: u64,
+) -> Result<(), OutOfMemory> {
+    gate.plan_moment(moment)?;
+    Ok(())
+}
+
+/// Plans whether too many files are open.
+fn plan_lack(gate: &mut ScriptGate<ScriptLink>, lacks: bool) -> Result<(), OutOfMemory> {
+    gate.plan_lack(lacks)?;
+    Ok(())
+}
+
+/// Plans what the step says.
+fn plan(alloc: Global, gate: &mut ScriptGate<ScriptLink>, step: Step) -> Result<(), OutOfMemory> {
+    match step {
+        Step::PlanLink => plan_link(alloc, gate),
+        Step::PlanUnknownHost => plan_unknown_host(gate),
+        Step::PlanNoMemory => plan_no_memory(gate),
+        Step::PlanMoment(moment) => plan_moment(gate, moment),
+        Step::PlanLack(lacks) => plan_lack(gate, lacks),
+        _ => Ok(()),
+    }
+}
+
+/// Whether a call answers so.
+fn answers(gate: &mut ScriptGate<ScriptLink>, there: &Endpoint, step: Step) -> bool {
+    match step {
         Step::Left(count) => gate.openings_left() == count,
         Step::Opens => opened(gate, there) == Ok(0),
         Step::Refuses(code) => opened(gate, there) == Err(code),
@@ -143,7 +169,8 @@ fn is_so(
         Step::Now(moment) => gate.now() == moment,
         Step::Turn(wait_ms, turn) => gate.turn(wait_ms) == turn,
         Step::Waited(wait_ms) => gate.last_wait() == wait_ms,
-    })
+        _ => true,
+    }
 }
 
 /// The place of the first step that answers otherwise, counted from 0.
@@ -152,9 +179,10 @@ fn first_wrong(
     gate: &mut ScriptGate<ScriptLink>,
     there: &Endpoint,
     steps: &[Step],
-) -> Result<Option<usize>, Fail> {
+) -> Result<Option<usize>, OutOfMemory> {
     for place in 0..steps.len() {
-        if !is_so(alloc, gate, there, steps[place])? {
+        plan(alloc, gate, steps[place])?;
+        if !answers(gate, there, steps[place]) {
             return Ok(Some(place));
         }
     }
@@ -162,22 +190,39 @@ fn first_wrong(
 }
 
 /// The same, of a new gate.
-fn first_wrong_of(alloc: Global, there: &Endpoint, row: &Row) -> Result<Option<usize>, Fail> {
+fn first_wrong_of(
+    alloc: Global,
+    there: &Endpoint,
+    row: &Row,
+) -> Result<Option<usize>, OutOfMemory> {
     let mut gate: ScriptGate<ScriptLink> = ScriptGate::new(alloc, row.turns);
     let wrong = first_wrong(alloc, &mut gate, there, row.steps);
     drop(gate);
     wrong
 }
 
+/// The first row of which a step answers otherwise.
+fn wrong_row(alloc: Global, there: &Endpoint) -> Result<Option<&'static str>, OutOfMemory> {
+    for row in &ROWS {
+        if first_wrong_of(alloc, there, row)?.is_some() {
+            return Ok(Some(row.name));
+        }
+    }
+    Ok(None)
+}
+
+/// The same, for an endpoint.
+fn wrong_row_there(alloc: Global) -> Result<Option<&'static str>, OutOfMemory> {
+    let there = endpoint(alloc, "example.com", 80)?;
+    let wrong = wrong_row(alloc, &there);
+    drop(there);
+    wrong
+}
+
 #[test]
 fn gates_and_links_from_scripts(rt: HostRuntime) -> Result<(), Fail> {
     ready::are_so(rt.alloc(), &ready::ROWS)?;
-    paced::are_so(rt.alloc(), &paced::ROWS)?;
-    let there = endpoint(rt.alloc(), "example.com", 80)?;
-    for row in &ROWS {
-        if first_wrong_of(rt.alloc(), &there, row)?.is_some() {
-            return Err(row.name.into());
-        }
-    }
+    let wrong = [paced::wrong_row(rt.alloc())?, wrong_row_there(rt.alloc())?];
+    assert_eq!(rt; wrong, [None; 2]);
     Ok(())
 }
