@@ -1,27 +1,19 @@
 -- What is added under numbers, and how many there are.
-use Rattle.std.proofs.Common.{◌≡◌, ◌∙◌, refl, ap, sym, subst, ℕ, ◌+◌, ◌-◌, ◌<◌, ◌≤◌, suc, zero, List, [], ◌∷◌, ◌++◌, map, length, Bool, true, false, inl, inr, cond, unwrap_or, arith}
-use Rattle.std.specs.Prelude.{◌⊎◌, All, MatchResult, Option, Some, None, Result, Ok, Err, count_by, is_some, slice_get, slice_set}
-use Rattle.std.proofs.lemmas.Bool.{eqb-true}
+use Rattle.std.proofs.Common.{◌≡◌, ◌∙◌, refl, ap, sym, subst, ℕ, ◌+◌, ◌-◌, ◌<◌, ◌≤◌, suc, zero, List, [], ◌∷◌, map, length, Bool, true, false, cond, unwrap_or, arith}
+use Rattle.std.specs.Prelude.{◌==◌, All, Option, Some, None, count_by, is_some, slice_get, slice_set}
+use Rattle.std.proofs.lemmas.Bool.{and_parts, eqb-true, not-true}
 use Rattle.std.proofs.lemmas.List.Elements.{All-cons, All-head, All-nil, All-set, All-tail, All-weaker}
 use Rattle.std.proofs.lemmas.List.Sums.{sum_by-cons}
 use mathlib.Core.List.{IsPrefix}
-use Rattle.mx_types.specs.declared.call.Call.{Call}
-use Rattle.mx_types.specs.declared.call.Call.TheVariants as call
-use Rattle.mx_types.specs.declared.names.HandleId.{HandleId}
 use Rattle.mx_types.specs.declared.names.Ticket.{Ticket}
 use Rattle.mx_types.specs.declared.origin.Origin.{Origin}
-use Rattle.mx_types.specs.declared.reply.Reply.{Reply}
-use Rattle.mx_types.specs.declared.reply.Reply.TheVariants as reply
 use Rattle.mx_request.specs.Request.{IsRequest, RequestValue, request_origin}
 use Rattle.mx_request.specs.Laws.{OriginIsWholeRequest}
-use Rattle.mx_chain.specs.Outcomes.{OutcomeValue}
 use Rattle.mx_lock.specs.Ties.{Has, tie}
 use Rattle.mx_lock.proofs.Tying.{has_more}
-use Rattle.mx_multi.specs.Seats.{SeatView, Stands}
-use Rattle.mx_append_log.proofs.Prefixes.{prefix_self, prefix_trans}
-use Rattle.mx_message.specs.Message.{IsNextMessage, Unread, Waited}
-use Rattle.mx_desk.specs.Additions.{AdditionView, IsTold, IsToldAt, awaits, awaits_at}
+use Rattle.mx_desk.specs.Additions.{AdditionView, AreAtFirst, IsTold, IsToldAt, awaits, awaits_at, is_at}
 use Rattle.mx_desk.specs.Desks.{IsDesk, asked_at}
+use Rattle.mx_desk.specs.Ties.{AreLater, SeatTies, ties_at}
 
 -- one where a request is added
 weight : Option RequestValue → ℕ
@@ -64,12 +56,18 @@ inside (a ∷ xs) zero o is = omega arith
 inside (a ∷ xs) (suc i) o is = let h = inside xs i o is in omega (arith, h)
 
 -- what is under a number whose end is awaited
-pub awaited : (xs : List (Option AdditionView)) (i : ℕ) (t : Ticket) → awaits_at xs i t ≡ true
-    → (a : AdditionView) × (slice_get xs i ≡ Some (Some a)) × (a.ticket.0 ≡ t.0)
-awaited [] i t is = let bad : false ≡ true = is in absurd (cc)
-awaited (None ∷ xs) zero t is = let bad : false ≡ true = is in absurd (cc)
-awaited (Some a ∷ xs) zero t is = (a, refl, eqb-true a.ticket.0 t.0 is)
-awaited (a ∷ xs) (suc i) t is = awaited xs i t is
+pub is_there : (b : Bool) (a : AdditionView) → is_at b a ≡ true → a.beside ≡ b
+is_there true a is = is
+is_there false a is = not-true a.beside is
+
+awaited : (xs : List (Option AdditionView)) (i : ℕ) (t : Ticket) (b : Bool) → awaits_at xs i t b ≡ true
+    → (a : AdditionView) × (slice_get xs i ≡ Some (Some a)) × (a.ticket.0 ≡ t.0) × (a.beside ≡ b)
+awaited [] i t b is = let bad : false ≡ true = is in absurd (cc)
+awaited (None ∷ xs) zero t b is = let bad : false ≡ true = is in absurd (cc)
+awaited (Some a ∷ xs) zero t b is =
+    let parts = and_parts (a.ticket.0 == t.0) (is_at b a) is in
+    (a, refl, eqb-true a.ticket.0 t.0 parts.0, is_there b a parts.1)
+awaited (a ∷ xs) (suc i) t b is = awaited xs i t b is
 
 -- where none is added, none is under any number
 pub none_is_added : (os : List (Option RequestValue)) (i : ℕ) (r : RequestValue) → count_by is_some os ≡ 0 → slice_get os i ≡ Some (Some r) → ⊥
@@ -77,12 +75,19 @@ none_is_added [] i r none is = absurd (cc)
 none_is_added (o ∷ os) zero r none is = let same : o ≡ Some r = cc in omega (arith, front o os, ap weight same, weighs_one r, none)
 none_is_added (o ∷ os) (suc i) r none is = none_is_added os i r (omega (arith, front o os, none)) is
 
--- of what a seat was told it stays told
-told_at_more : (xs ys : List Origin) → IsPrefix xs ys → (o : Option AdditionView) → IsToldAt xs o → IsToldAt ys o
-told_at_more xs ys more None is = tt
-told_at_more xs ys more (Some a) is = record { request = is.request; told = has_more xs ys a.ticket (request_origin a.request) more is.told }
+-- of what the seats were told they stay told
+later_at : (x y : SeatTies) → AreLater x y → (b : Bool) → IsPrefix (ties_at x b) (ties_at y b)
+later_at x y more true = more.beside
+later_at x y more false = more.first
 
-all_at : (ties : List Origin) (xs : List (Option AdditionView)) (i : ℕ) (o : Option AdditionView) → All (IsToldAt ties) xs → slice_get xs i ≡ Some o → IsToldAt ties o
+told_at_more : (x y : SeatTies) → AreLater x y → (o : Option AdditionView) → IsToldAt x o → IsToldAt y o
+told_at_more x y more None is = tt
+told_at_more x y more (Some a) is = record {
+  request = is.request;
+  told = has_more (ties_at x a.beside) (ties_at y a.beside) a.ticket (request_origin a.request) (later_at x y more a.beside) is.told;
+}
+
+all_at : (ties : SeatTies) (xs : List (Option AdditionView)) (i : ℕ) (o : Option AdditionView) → All (IsToldAt ties) xs → slice_get xs i ≡ Some o → IsToldAt ties o
 all_at ties [] i o all is = absurd (cc)
 all_at ties (a ∷ xs) zero o all is = let same : a ≡ o = cc in subst (IsToldAt ties) same (All-head (IsToldAt ties) a xs all)
 all_at ties (a ∷ xs) (suc i) o all is = all_at ties xs i o (All-tail (IsToldAt ties) a xs all) is
@@ -92,24 +97,24 @@ one_origin : (ties : List Origin) (t u : Ticket) (a b : Origin) → t.0 ≡ u.0 
 one_origin ties t u a b same h k = ap (λ (o : Option Origin). unwrap_or o a) (sym h ∙ ap (slice_get ties) same ∙ k)
 
 -- a request that has ended is the one that was added where its end was awaited
-pub asked_same : OriginIsWholeRequest → (ties : List Origin) (xs : List (Option AdditionView)) (i : ℕ) (t : Ticket) (r : RequestValue) → IsRequest r
-    → Has ties (tie t (request_origin r)) → All (IsToldAt ties) xs → awaits_at xs i t ≡ true → slice_get (map asked_at xs) i ≡ Some (Some r)
-asked_same law ties xs i t r is told all at =
-    let w = awaited xs i t at in
-    let told_here = all_at ties xs i (Some w.0) all w.1 in
+pub asked_same : OriginIsWholeRequest → (ties : SeatTies) (xs : List (Option AdditionView)) (i : ℕ) (t : Ticket) (b : Bool) (r : RequestValue) → IsRequest r
+    → Has (ties_at ties b) (tie t (request_origin r)) → All (IsToldAt ties) xs → awaits_at xs i t b ≡ true → slice_get (map asked_at xs) i ≡ Some (Some r)
+asked_same law ties xs i t b r is told all at =
+    let w = awaited xs i t b at in
+    let told_here = subst (λ l. IsTold l w.0) (ap (ties_at ties) w.3) (all_at ties xs i (Some w.0) all w.1) in
     asked_there xs i (Some w.0) w.1
-    ∙ ap (λ q. Some (Some q)) (law w.0.request r told_here.request is (one_origin ties w.0.ticket t (request_origin w.0.request) (request_origin r) w.2 told_here.told told))
+    ∙ ap (λ q. Some (Some q)) (law w.0.request r told_here.request is (one_origin (ties_at ties b) w.0.ticket t (request_origin w.0.request) (request_origin r) w.2 told_here.told told))
 
--- a desk whose seat was told more
-pub desk_on : (ties more : List Origin) (xs : List (Option AdditionView)) (w n : ℕ) → IsPrefix ties more → IsDesk ties xs w n → IsDesk more xs w n
-desk_on ties more xs w n prefix is = record {
-  told = All-weaker (IsToldAt ties) (IsToldAt more) (told_at_more ties more prefix) xs is.told;
+-- a desk whose seats were told more
+pub desk_on : (ties more : SeatTies) (xs : List (Option AdditionView)) (w n : ℕ) → AreLater ties more → IsDesk ties xs w n → IsDesk more xs w n
+desk_on ties more xs w n later is = record {
+  told = All-weaker (IsToldAt ties) (IsToldAt more) (told_at_more ties more later) xs is.told;
   waiting = is.waiting;
   within = is.within;
 }
 
 -- with one more
-pub desk_adds : (ties : List Origin) (xs : List (Option AdditionView)) (w n i : ℕ) (a : AdditionView) → slice_get xs i ≡ Some None → IsTold ties a
+pub desk_adds : (ties : SeatTies) (xs : List (Option AdditionView)) (w n i : ℕ) (a : AdditionView) → slice_get xs i ≡ Some None → IsTold (ties_at ties a.beside) a
     → count_by is_some (map asked_at xs) < w → IsDesk ties xs w n → IsDesk ties (slice_set xs i (Some a)) w (n + 1)
 desk_adds ties xs w n i a free told room is = record {
   told = All-set (IsToldAt ties) xs i (Some a) told is.told;
@@ -125,15 +130,15 @@ desk_adds ties xs w n i a free told room is = record {
 }
 
 -- with one less
-pub one_is_added : (ties : List Origin) (xs : List (Option AdditionView)) (w n i : ℕ) (t : Ticket) → awaits_at xs i t ≡ true → IsDesk ties xs w n → 1 ≤ n
-one_is_added ties xs w n i t at is =
-    let a = awaited xs i t at in
+pub one_is_added : (ties : SeatTies) (xs : List (Option AdditionView)) (w n i : ℕ) (t : Ticket) (b : Bool) → awaits_at xs i t b ≡ true → IsDesk ties xs w n → 1 ≤ n
+one_is_added ties xs w n i t b at is =
+    let a = awaited xs i t b at in
     omega (arith, is.waiting, counted (map asked_at xs) i (Some a.0.request) None (asked_there xs i (Some a.0) a.1), weighs_none, weighs_one a.0.request)
 
-pub desk_frees : (ties : List Origin) (xs : List (Option AdditionView)) (w n i : ℕ) (t : Ticket) → awaits_at xs i t ≡ true
+pub desk_frees : (ties : SeatTies) (xs : List (Option AdditionView)) (w n i : ℕ) (t : Ticket) (b : Bool) → awaits_at xs i t b ≡ true
     → IsDesk ties xs w n → IsDesk ties (slice_set xs i None) w (n - 1)
-desk_frees ties xs w n i t at is =
-    let a = awaited xs i t at in
+desk_frees ties xs w n i t b at is =
+    let a = awaited xs i t b at in
     record {
       told = All-set (IsToldAt ties) xs i None tt is.told;
       waiting = omega (
@@ -148,7 +153,7 @@ desk_frees ties xs w n i t at is =
     }
 
 -- of none
-all_none_told : (ties : List Origin) (o : Option AdditionView) → o ≡ None → IsToldAt ties o
+all_none_told : (ties : SeatTies) (o : Option AdditionView) → o ≡ None → IsToldAt ties o
 all_none_told ties o is = subst (IsToldAt ties) (sym is) tt
 
 none_counted : (xs : List (Option AdditionView)) → All (λ o. o ≡ None) xs → count_by is_some (map asked_at xs) ≡ 0
@@ -165,33 +170,24 @@ pub asked_length : (xs : List (Option AdditionView)) → length (map asked_at xs
 asked_length [] = refl
 asked_length (a ∷ xs) = ap suc (asked_length xs)
 
-pub desk_none : (ties : List Origin) (xs : List (Option AdditionView)) (w : ℕ) → All (λ o. o ≡ None) xs → IsDesk ties xs w 0
+pub desk_none : (ties : SeatTies) (xs : List (Option AdditionView)) (w : ℕ) → All (λ o. o ≡ None) xs → IsDesk ties xs w 0
 desk_none ties xs w all = record {
   told = All-weaker (λ o. o ≡ None) (IsToldAt ties) (all_none_told ties) xs all;
   waiting = sym (none_counted xs all);
   within = omega arith;
 }
 
--- a seat that was answered, or was not, has been told no less
-pub told_on : {Q A W : Type 0} (s t : SeatView Q OutcomeValue) (c : Call) (reply_of : A → Reply) (answer : Result A W) (P : W → Type 0)
-    → MatchResult answer (λ r. Stands s t c (reply_of r)) (λ w. (t ≡ s) × P w) → IsPrefix s.ties t.ties
-told_on s t c reply_of (Ok r) P h = h.ties
-told_on s t c reply_of (Err w) P h = subst (λ (u : SeatView _ OutcomeValue). IsPrefix s.ties u.ties) (sym h.0) (prefix_self s.ties)
+-- a desk with another seat beside its first one, where nothing is added at the one that was there
+first_told : (old new : SeatTies) (a : AdditionView) → new.first ≡ old.first → a.beside ≡ false → IsTold (ties_at old a.beside) a → IsTold (ties_at new a.beside) a
+first_told old new a same at is = subst (λ l. IsTold l a) (ap (ties_at old) at ∙ sym same ∙ sym (ap (ties_at new) at)) is
 
-pub told_or_same : {Q A W : Type 0} (s t : SeatView Q OutcomeValue) (c : Call) (reply_of : A → Reply) (answer : Result A W)
-    → MatchResult answer (λ r. Stands s t c (reply_of r)) (λ _. t ≡ s) → IsPrefix s.ties t.ties
-told_or_same s t c reply_of (Ok r) h = h.ties
-told_or_same s t c reply_of (Err w) h = subst (λ (u : SeatView _ OutcomeValue). IsPrefix s.ties u.ties) (sym h) (prefix_self s.ties)
+all_first_told : (old new : SeatTies) → new.first ≡ old.first → (xs : List (Option AdditionView)) → AreAtFirst xs → All (IsToldAt old) xs → All (IsToldAt new) xs
+all_first_told old new same [] at is = All-nil (IsToldAt new)
+all_first_told old new same (None ∷ xs) at is =
+    All-cons (IsToldAt new) None xs tt (all_first_told old new same xs (λ i a h. at (suc i) a h) (All-tail (IsToldAt old) None xs is))
+all_first_told old new same (Some a ∷ xs) at is =
+    All-cons (IsToldAt new) (Some a) xs (first_told old new a same (at zero a refl) (All-head (IsToldAt old) (Some a) xs is))
+    (all_first_told old new same xs (λ i b h. at (suc i) b h) (All-tail (IsToldAt old) (Some a) xs is))
 
--- nor has one that waited for a message, whether one was read
-pub told_waited : {Q : Type 0} (s t : SeatView Q OutcomeValue) → Waited s t → IsPrefix s.ties t.ties
-told_waited s t w = w.later.ties
-
-pub told_unread : {Q : Type 0} (s t : SeatView Q OutcomeValue) → Unread s t → IsPrefix s.ties t.ties
-told_unread {Q} s t u = decide u.last where
-  decide : (t ≡ u.at) ⊎ Stands u.at t call.InfoRead reply.OutOfMemory → IsPrefix s.ties t.ties
-  decide (inl e) = subst (λ (v : SeatView Q OutcomeValue). IsPrefix s.ties v.ties) (sym e) u.waited.later.ties
-  decide (inr h) = prefix_trans s.ties u.at.ties t.ties u.waited.later.ties h.ties
-
-pub told_read : {Q : Type 0} (s t : SeatView Q OutcomeValue) (h : HandleId) (ticket : Ticket) (o : OutcomeValue) (left : ℕ) → IsNextMessage s t h ticket o left → IsPrefix s.ties t.ties
-told_read s t h ticket o left m = prefix_trans s.ties m.at.ties t.ties m.waited.later.ties m.stands.ties
+pub desk_with : (old new : SeatTies) (xs : List (Option AdditionView)) (w n : ℕ) → new.first ≡ old.first → AreAtFirst xs → IsDesk old xs w n → IsDesk new xs w n
+desk_with old new xs w n same at is = record { told = all_first_told old new same xs at is.told; waiting = is.waiting; within = is.within }

@@ -1,12 +1,12 @@
 -- What is added at a desk, and what it ended with.
 use Rattle.std.specs.Prelude.{◌≡◌, ℕ, ◌<◌, ◌≤◌, List, All, Option, Some, None, count_by, is_some, length, map, option_map, slice_get, slice_set}
-use Rattle.mx_types.specs.declared.origin.Origin.{Origin}
 use Rattle.mx_request.specs.Request.{RequestValue}
 use Rattle.mx_desk.specs.Additions.{AdditionView, IsToldAt}
+use Rattle.mx_desk.specs.Ties.{SeatTies}
 
--- the requests of additions, as its seat was told; the request that is added under each number; and how many may be added at a time
+-- the requests of additions, as each of its seats was told; the request that is added under each number; and how many may be added at a time
 pub record DeskValue : Type 0 where
-  pub ties : List Origin
+  pub ties : SeatTies
   pub asked : List (Option RequestValue)
   pub width : ℕ
 
@@ -14,8 +14,8 @@ pub record DeskValue : Type 0 where
 abbrev pub asked_at : Option AdditionView → Option RequestValue
 asked_at o = option_map (λ a. a.request) o
 
--- The seat was told of the additions, and so many requests are added, which are no more than may be.
-pub record IsDesk (ties : List Origin) (additions : List (Option AdditionView)) (width count : ℕ) : Type 0 where
+-- The seats were told of the additions that were made at them, and so many requests are added, which are no more than may be.
+pub record IsDesk (ties : SeatTies) (additions : List (Option AdditionView)) (width count : ℕ) : Type 0 where
   pub told : All (IsToldAt ties) additions
   pub waiting : count ≡ count_by is_some (map asked_at additions)
   pub within : count ≤ width

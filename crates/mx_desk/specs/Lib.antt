@@ -1,2 +1,3 @@
 pub mod Additions
 pub mod Desks
+pub mod Ties

@@ -1,19 +1,18 @@
-//! The requests that were added at a seat, and what they ended with.
-ghost use Rattle.std.specs.Prelude.{◌≡◌, true, count_by, is_some, None, Ok, Some, IfErr, IfOk, IfSome, MatchOption, OnOk, slice_get, ◌↔◌, IsTrue, OnErr};
-ghost use mathlib.Core.List.{IsPrefix};
+//! The requests that were added at a seat, or at two, and what they ended with.
+ghost use Rattle.std.specs.Prelude.{◌≡◌, false, count_by, is_some, None, Some, IfErr, IfOk, IfSome, MatchOption, OnOk, slice_get, ◌↔◌, IsTrue, OnErr};
 ghost use Rattle.mx_request.specs.Request.{request_origin};
 ghost use Rattle.mx_lock.specs.Ties.{Has, tie};
-ghost use Rattle.mx_desk.specs.Additions.{IsTold, awaits_at};
+ghost use Rattle.mx_desk.specs.Additions.{AreAtFirst, awaits_at};
 ghost use Rattle.mx_desk.specs.Desks.{HasRoom, IsNewDesk};
+ghost use Rattle.mx_desk.specs.Ties.{ties_at};
 ghost use Rattle.mx_desk.specs.declared.error.DeskError.TheVariants as desk_error;
 
 use crate::addition::Addition;
 use crate::error::DeskError;
+use crate::seats::{Seats, Told};
 use mx_chain::Outcome;
-use mx_journal::{AddReply, RemoveReply};
 use mx_link::Link;
-use mx_message::next_message_within;
-use mx_multi::{Application, Progress, Seated, WrongSeat};
+use mx_multi::{Application, Seated};
 use mx_queue::Queued;
 use mx_request::Request;
 use mx_request::laws::origin_is_whole_request;
@@ -21,7 +20,6 @@ use mx_types::{HandleId, OutOfMemory, Ticket};
 use std::alloc::{AllocGlobal, Global};
 use std::marker::Model;
 use std::rt::Clock;
-use std::snapshot::Snapshot;
 use std::sync::Wait;
 
 /// A request that has ended: the number under which it was added, the ticket of its addition, and what its transfer ended with.
@@ -32,48 +30,12 @@ pub struct Ended {
     pub outcome: Outcome,
 }
 
-// The ticket of an addition that was made; None where the multi handle takes no more: its history is full, its tickets are spent, or the
-// handle is added already. It is generic over the work, so that what is handed back is dropped as one value.
-fn added<Q: Drop>(answer: Result<AddReply<Q>, WrongSeat<Q>>) -> Result<Option<Ticket>, DeskError>
-    ensures ticket { IfOk result (λ o. IfSome o (λ t. answer ≡ Ok (AddReply.Added t))) }
-    ensures why { IfErr result (λ e. e ≡ desk_error.OutOfMemory) }
-{
-    match answer {
-        Ok(AddReply::Added(ticket)) => Ok(Some(ticket)),
-        Ok(AddReply::OutOfMemory(_)) => Err(DeskError::OutOfMemory),
-        _ => Ok(None),
-    }
-}
-
-// Adds a transfer of the request under this handle, if the multi handle takes one more.
-fn add_transfer<L: Link, R: Wait + AllocGlobal>(
-    rt: &R,
-    seat: &mut Seated<'_, Application, Queued<L>, Outcome>,
-    handle: HandleId,
-    request: Request,
-) -> Result<Option<Addition>, DeskError>
-    ensures request { IfOk result (λ o. IfSome o (λ a. a.request ≡ request)) }
-    ensures told { IfOk result (λ o. IfSome o (IsTold seat.new.ties)) }
-    ensures why { IfErr result (λ e. e ≡ desk_error.OutOfMemory) }
-    ensures later { IsPrefix seat.old.ties seat.new.ties }
-{
-    request.know();
-    let asked = Snapshot::of(&request);
-    let Ok(work) = Queued::keeping_heads(rt.alloc(), request) else {
-        return Err(DeskError::OutOfMemory);
-    };
-    match added(seat.add(rt, handle, work))? {
-        Some(ticket) => Ok(Some(Addition::new(ticket, asked))),
-        None => Ok(None),
-    }
-}
-
-// Whether the end of this ticket's addition is awaited under that number.
-fn awaits(additions: &[Option<Addition>], at: usize, ticket: Ticket) -> bool
-    ensures { result ≡ awaits_at additions.now at ticket }
+// Whether the end of this ticket's addition, which was made at that seat, is awaited under that number.
+fn awaits(additions: &[Option<Addition>], at: usize, ticket: Ticket, is_beside: bool) -> bool
+    ensures { result ≡ awaits_at additions.now at ticket is_beside }
 {
     match additions.get(at) {
-        Some(Some(addition)) => addition.is_of(ticket),
+        Some(Some(addition)) => addition.is_of(ticket, is_beside),
         _ => false,
     }
 }
@@ -91,82 +53,68 @@ fn free_handle(additions: &[Option<Addition>], at: usize) -> Option<HandleId>
     }
 }
 
-// Removes a handle. One that can't be removed is added still, so that the next addition under it is refused.
-fn remove<L: Link, R: Wait>(
-    rt: &R,
-    seat: &mut Seated<'_, Application, Queued<L>, Outcome>,
-    handle: HandleId,
-) -> Result<(), DeskError>
-    ensures later { IsPrefix seat.old.ties seat.new.ties }
+// Whether an addition was made at the seat beside the first one.
+fn is_any_beside(additions: &[Option<Addition>]) -> bool
+    ensures { result ≡ false → AreAtFirst additions.now }
 {
-    match seat.remove(rt, handle) {
-        Ok(RemoveReply::OutOfMemory) => Err(DeskError::OutOfMemory),
-        _ => Ok(()),
+    for addition in additions {
+        if let Some(addition) = addition {
+            if addition.is_beside() {
+                return true;
+            }
+        }
     }
-}
-
-// How many bytes the transfer of a handle has received, as far as that is known.
-fn came<L: Link>(seat: &mut Seated<'_, Application, Queued<L>, Outcome>, at: usize) -> u64
-    ensures ties { seat.new.ties ≡ seat.old.ties }
-{
-    let Ok(handle) = u32::try_from(at) else {
-        return 0;
-    };
-    match seat.progress(HandleId(handle)) {
-        Some(Progress::Bytes(_, bytes)) => u64::from(bytes),
-        _ => 0,
-    }
+    false
 }
 
 // How many bytes all added transfers have received, as far as that is known.
-fn all_that_came<L: Link>(
-    seat: &mut Seated<'_, Application, Queued<L>, Outcome>,
-    additions: &[Option<Addition>],
-) -> u64
-    ensures ties { seat.new.ties ≡ seat.old.ties }
+fn all_that_came<L: Link>(seats: &mut Seats<'_, '_, L>, additions: &[Option<Addition>]) -> u64
+    ensures ties { seats.new ≡ seats.old }
 {
     let mut sum = 0u64;
     for (at, addition) in additions.iter().enumerate() {
-        if addition.is_some() {
-            sum = sum.saturating_add(came(seat, at));
+        if let Some(addition) = addition {
+            sum = sum.saturating_add(seats.came(addition.is_beside(), at));
         }
     }
     sum
 }
 
-/// An application's seat, and the requests that it has added, each under a number of the caller's own, which is the number of its handle.
-/// Contracts see the request that is added under each number, how many may be added at a time, and the requests of additions that the seat
-/// was told.
+/// An application's seat, perhaps with one at another multi handle beside it, and the requests that were added at them, each under a number
+/// of the caller's own, which is the number of its handle. Contracts see the request that is added under each number, how many may be added
+/// at a time, and the requests of additions that each seat was told.
 #[derive(Drop)]
-pub struct Desk<'m, L: Link> {
-    seat: Seated<'m, Application, Queued<L>, Outcome>,
+pub struct Desk<'e, 'm, L: Link> {
+    seats: Seats<'e, 'm, L>,
     additions: Vec<Option<Addition>>,
     waiting: usize,
+    // How many of these were added at the seat beside the first one.
+    beside: usize,
     width: usize,
     is_full: bool,
 }
 
-impl<'m, L: Link> Model for Desk<'m, L> {
+impl<'e, 'm, L: Link> Model for Desk<'e, 'm, L> {
     ghost use Rattle.std.specs.Prelude.{map};
     ghost use Rattle.mx_desk.specs.Desks.{DeskValue, IsDesk, asked_at};
 
     ghost Value = { DeskValue };
 
-    ghost view = { λ d. record { ties = d.seat.ties; asked = map asked_at d.additions.items; width = d.width } };
+    ghost view = { λ d. record { ties = d.seats; asked = map asked_at d.additions.items; width = d.width } };
 
-    ghost invariant = { λ d. IsDesk d.seat.ties d.additions.items d.width d.waiting };
+    ghost invariant = { λ d. IsDesk d.seats d.additions.items d.width d.waiting };
 }
 
-impl<'m, L: Link> Desk<'m, L> {
+impl<'e, 'm, L: Link> Desk<'e, 'm, L> {
     ghost use Rattle.mx_desk.specs.Desks.{Adds, Ends, Stays};
 
     /// Nothing is added. There are so many numbers, from 0 on, and at most `width` requests are added at a time. An error drops the seat.
     pub fn new(
         alloc: Global,
-        seat: Seated<'m, Application, Queued<L>, Outcome>,
+        seat: Seated<'e, Application, Queued<L>, Outcome>,
         count: usize,
         width: usize,
-    ) -> Result<Desk<'m, L>, OutOfMemory>
+    ) -> Result<Desk<'e, 'm, L>, OutOfMemory>
         ensures { IfOk result (IsNewDesk count width) }
     {
         let mut additions = Vec::with_capacity(alloc, count)?;
@@ -175,11 +123,44 @@ impl<'m, L: Link> Desk<'m, L> {
             additions.push(None)?;
         }
         Ok(Desk {
-            seat,
+            seats: Seats::new(seat),
             additions,
             waiting: 0,
+            beside: 0,
             width,
             is_full: false,
+        })
+    }
+
+    // rule save-long-runs
+    /// The desk with this seat beside its first one, or with none, in place of the one that is there: what is added is as it was. Requests
+    /// are added at the new seat then; with none no more is added, as the multi handle of the first seat took no more. None comes back, and
+    /// the desk is dropped, where a request is still added at the seat that is there.
+    pub fn with_beside<'n>(
+        self,
+        seat: Option<Seated<'n, Application, Queued<L>, Outcome>>,
+    ) -> Option<Desk<'e, 'n, L>>
+        ensures { IfSome result (Stays self.entry) }
+    {
+        let Desk {
+            seats,
+            additions,
+            waiting,
+            beside: _,
+            width,
+            is_full: _,
+        } = self;
+        if is_any_beside(additions.as_slice()) {
+            return None;
+        }
+        let is_full = seat.is_none();
+        Some(Desk {
+            seats: seats.with(seat),
+            additions,
+            waiting,
+            beside: 0,
+            width,
+            is_full,
         })
     }
 
@@ -188,6 +169,15 @@ impl<'m, L: Link> Desk<'m, L> {
         ensures { IsTrue result ↔ (count_by is_some self.now.asked ≡ 0) }
     {
         self.waiting == 0
+    }
+
+    /// Whether nothing is added at the seat that came last. No clause says so.
+    pub fn is_idle(&self) -> bool {
+        if self.seats.are_two() {
+            self.beside == 0
+        } else {
+            self.is_empty()
+        }
     }
 
     /// Whether one more request may be added.
@@ -208,18 +198,18 @@ impl<'m, L: Link> Desk<'m, L> {
     pub fn arrived(&mut self) -> u64
         ensures { Stays self.old self.new }
     {
-        all_that_came(&mut self.seat, self.additions.as_slice())
+        all_that_came(&mut self.seats, self.additions.as_slice())
     }
 
-    /// Whether an addition was refused, for another reason than memory: the multi handle takes no more.
+    /// Whether an addition was refused at the seat that came last, for another reason than memory: its multi handle takes no more.
     pub fn is_full(&self) -> bool {
         self.is_full
     }
 
     // rule save-requests
-    /// Adds a request under a number, under which nothing is added. Its ticket comes back; None where the multi handle takes no more, since
-    /// its history has no room, or there is no such number, or something is added under it. Then, and after an error, which is `OutOfMemory`,
-    /// what is added is as it was.
+    /// Adds a request under a number, under which nothing is added, at the seat that came last. Its ticket comes back; None where the multi
+    /// handle takes no more, since its history has no room, or there is no such number, or something is added under it. Then, and after an
+    /// error, which is `OutOfMemory`, what is added is as it was.
     pub fn add<R: Wait + AllocGlobal>(
         &mut self,
         rt: &R,
@@ -236,27 +226,36 @@ impl<'m, L: Link> Desk<'m, L> {
             self.is_full = true;
             return Ok(None);
         };
-        let Some(addition) = add_transfer(rt, &mut self.seat, handle, request)? else {
+        let Some(addition) = self.seats.add(rt, handle, request)? else {
             self.is_full = true;
             return Ok(None);
         };
         let ticket = addition.ticket();
+        self.beside = self
+            .beside
+            .saturating_add(usize::from(addition.is_beside()));
         self.additions[at] = Some(addition);
         self.waiting += 1;
         Ok(Some(ticket))
     }
 
     // rule save-requests
-    // Takes out an addition whose end came: nothing is added under its number then.
-    fn take(&mut self, at: usize, ticket: Ticket, outcome: &Outcome) -> Result<(), DeskError>
-        requires told { Has self.old.ties (tie ticket (request_origin outcome.now.request)) }
-        ensures ended { OnOk result (Ends self.old self.new at outcome.now.request) }
+    // Takes out an addition whose end came at that seat: nothing is added under its number then.
+    fn take(&mut self, at: usize, told: &Told) -> Result<(), DeskError>
+        requires told { Has (ties_at self.old.ties told.now.is_beside) (tie told.now.message.ticket (request_origin told.now.message.outcome.request)) }
+        ensures ended { OnOk result (Ends self.old self.new at told.now.message.outcome.request) }
         ensures ties { self.new.ties ≡ self.old.ties }
     {
-        outcome.request().know();
+        told.message.outcome.request().know();
         origin_is_whole_request();
-        if awaits(self.additions.as_slice(), at, ticket) {
+        if awaits(
+            self.additions.as_slice(),
+            at,
+            told.message.ticket,
+            told.is_beside,
+        ) {
             self.additions[at] = None;
+            self.beside = self.beside.saturating_sub(usize::from(told.is_beside));
             self.waiting -= 1;
             return Ok(());
         }
@@ -264,7 +263,8 @@ impl<'m, L: Link> Desk<'m, L> {
     }
 
     /// Reads the next message, for which it waits as long as that, at most: the request has ended that was added under its number, and its
-    /// handle is removed. Where none came it answers None. After an error it isn't known what is added.
+    /// handle is removed. Where none came it answers None. After an error it isn't known what is added. Where requests are added at both
+    /// seats it waits for less, so that a message of neither waits for long.
     ///
     /// A removal that is refused memory is an error. No clause says that the handle is removed.
     pub fn next<R: Wait + AllocGlobal + Clock>(
@@ -274,22 +274,27 @@ impl<'m, L: Link> Desk<'m, L> {
     ) -> Result<Option<Ended>, DeskError>
         ensures ended { IfOk result (λ o. MatchOption o (Stays self.old self.new) (λ e. Ends self.old self.new e.at e.outcome.request)) }
     {
-        let Some(message) = next_message_within(rt, &mut self.seat, milliseconds)? else {
+        let first_waits = self.waiting > self.beside;
+        let beside_waits = self.beside > 0;
+        let Some(told) = self
+            .seats
+            .next(rt, first_waits, beside_waits, milliseconds)?
+        else {
             return Ok(None);
         };
-        let at = message.handle.0 as usize;
-        if let Err(error) = self.take(at, message.ticket, &message.outcome) {
-            drop(message);
+        let at = told.message.handle.0 as usize;
+        if let Err(error) = self.take(at, &told) {
+            drop(told);
             return Err(error);
         }
-        if let Err(error) = remove(rt, &mut self.seat, message.handle) {
-            drop(message);
+        if let Err(error) = self.seats.remove(rt, told.is_beside, told.message.handle) {
+            drop(told);
             return Err(error);
         }
         Ok(Some(Ended {
             at,
-            ticket: message.ticket,
-            outcome: message.outcome,
+            ticket: told.message.ticket,
+            outcome: told.message.outcome,
         }))
     }
 }

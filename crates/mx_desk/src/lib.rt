@@ -1,9 +1,10 @@
-//! A desk: an application's seat, the requests that it has added under numbers of its own, and what each of them ended with.
+//! A desk: an application's seat, or two, the requests that were added there under numbers of its own, and what each of them ended with.
 #![tactic(auto)]
 
 mod addition;
 mod desk;
 mod error;
+mod seats;
 
 pub use crate::desk::{Desk, Ended};
 pub use crate::error::DeskError;

@@ -2,4 +2,4 @@ use Rattle.std.proofs.Common.{◌≡◌}
 use Rattle.mx_desk.proofs.desk.all_that_came.Given as goal
 
 abbrev pub invariant-loop-at : goal.invariant-loop-at
-invariant-loop-at g l = l.seat.ties ≡ l.fn.seat.ties
+invariant-loop-at g l = l.seats ≡ l.fn.seats

@@ -2,14 +2,15 @@ use Rattle.std.proofs.Common.{◌≡◌, ◌∙◌, ap, arith, map, subst, sym}
 use Rattle.std.specs.Prelude.{IfSome, None, Some, slice_get, slice_set}
 use Rattle.mx_desk.specs.Additions.{IsTold}
 use Rattle.mx_desk.specs.Desks.{HasRoom, asked_at}
+use Rattle.mx_desk.specs.Ties.{ties_at}
 use Rattle.mx_desk.proofs.Desks.{asked_set, asked_there, desk_adds, desk_on, inside}
 use Rattle.mx_desk.proofs.desk.Desk.add.Goals as goal
 
 pub invariant_of-self-in_err-addition : goal.invariant_of-self-in_err-addition
-invariant_of-self-in_err-addition g c = desk_on c.self.inside.seat.ties c.add_transfer.new.seat.ties c.self.inside.additions.items c.self.inside.width c.self.inside.waiting c.add_transfer.ensures.later c.self.invariant
+invariant_of-self-in_err-addition g c = desk_on c.self.inside.seats c.add.new.self c.self.inside.additions.items c.self.inside.width c.self.inside.waiting c.add.ensures.later c.self.invariant
 
 pub invariant_of-self-in_default-2 : goal.invariant_of-self-in_default-2
-invariant_of-self-in_default-2 g c = desk_on c.self.inside.seat.ties c.add_transfer.new.seat.ties c.self.inside.additions.items c.self.inside.width c.self.inside.waiting c.add_transfer.ensures.later c.self.invariant
+invariant_of-self-in_default-2 g c = desk_on c.self.inside.seats c.add.new.self c.self.inside.additions.items c.self.inside.width c.self.inside.waiting c.add.ensures.later c.self.invariant
 
 pub index_mut-requires : goal.index_mut-requires
 index_mut-requires g c =
@@ -18,13 +19,13 @@ index_mut-requires g c =
 
 pub invariant_of-self-2 : goal.invariant_of-self-2
 invariant_of-self-2 g c =
-    let ties = c.add_transfer.new.seat.ties in
+    let ties = c.add.new.self in
     let items = c.self.inside.additions.items in
     let free = subst (λ l. slice_get l c.args.at ≡ Some None) c.as_slice.ensures.value c.in-Some.ensures in
-    let told = subst (λ o. IfSome o (IsTold ties)) c.in-Some-2.is c.in_ok-addition.ensures.told in
+    let told = subst (λ o. IfSome o (λ a. IsTold (ties_at ties a.beside) a)) c.in-Some-2.is c.in_ok-addition.ensures.told in
     let room = subst (λ d. HasRoom d) (sym c.self.view_is) c.requires.room in
     desk_adds ties items c.self.inside.width c.self.inside.waiting c.args.at c.in-Some-2.addition free told room
-    (desk_on c.self.inside.seat.ties ties items c.self.inside.width c.self.inside.waiting c.add_transfer.ensures.later c.self.invariant)
+    (desk_on c.self.inside.seats ties items c.self.inside.width c.self.inside.waiting c.add.ensures.later c.self.invariant)
 
 pub returns-clause-added : goal.returns-clause-added
 returns-clause-added g c =

@@ -3,7 +3,7 @@ use Rattle.mx_desk.proofs.Desks.{asked_length, desk_none, none_asked}
 use Rattle.mx_desk.proofs.desk.Desk.new.Goals as goal
 
 pub invariant_of-result : goal.invariant_of-result
-invariant_of-result g c = desk_none c.args.seat.ties c.loop-made.additions.items c.args.width c.loop-made.invariant.none
+invariant_of-result g c = desk_none c.new.result c.loop-made.additions.items c.args.width c.loop-made.invariant.none
 
 pub returns : goal.returns
 returns g c = record {

@@ -1,5 +1,5 @@
-use Rattle.mx_desk.proofs.Desks.{told_on}
-use Rattle.mx_desk.proofs.desk.add_transfer.Goals as goal
+use Rattle.mx_desk.proofs.Ties.{told_on}
+use Rattle.mx_desk.proofs.seats.add_transfer.Goals as goal
 
 pub returns-in_err-ticket-clause-later : goal.returns-in_err-ticket-clause-later
 returns-in_err-ticket-clause-later g c = told_on c.args.seat.now c.add.new.self _ _ c.add.result _ c.add.ensures.stands

@@ -1,0 +1,243 @@
+//! The seats of a desk: the first one, and perhaps one of another multi handle beside it.
+ghost use Rattle.std.specs.Prelude.{◌≡◌, IfErr, IfOk, IfSome, Ok, Some};
+ghost use mathlib.Core.List.{IsPrefix};
+ghost use Rattle.mx_request.specs.Request.{request_origin};
+ghost use Rattle.mx_lock.specs.Ties.{Has, tie};
+ghost use Rattle.mx_desk.specs.Additions.{IsTold};
+ghost use Rattle.mx_desk.specs.Ties.{AreLater, ties_at};
+ghost use Rattle.mx_desk.specs.declared.error.DeskError.TheVariants as desk_error;
+
+use crate::addition::Addition;
+use crate::error::DeskError;
+use mx_chain::Outcome;
+use mx_journal::{AddReply, RemoveReply};
+use mx_link::Link;
+use mx_message::{Message, NoMessage, next_message_within};
+use mx_multi::{Application, Progress, Seated, WrongSeat};
+use mx_queue::Queued;
+use mx_request::Request;
+use mx_types::{HandleId, Ticket};
+use std::alloc::AllocGlobal;
+use std::marker::Model;
+use std::rt::Clock;
+use std::snapshot::Snapshot;
+use std::sync::Wait;
+
+/// The longest that a message is waited for at one seat, in milliseconds, while one may come at the other.
+const SLICE_MS: u32 = 20;
+
+/// A message, and whether the seat beside the first one has read it.
+#[derive(Drop)]
+pub(crate) struct Told {
+    pub message: Message,
+    pub is_beside: bool,
+}
+
+// The ticket of an addition that was made; None where the multi handle takes no more: its history is full, its tickets are spent, or the
+// handle is added already. It is generic over the work, so that what is handed back is dropped as one value.
+fn added<Q: Drop>(answer: Result<AddReply<Q>, WrongSeat<Q>>) -> Result<Option<Ticket>, DeskError>
+    ensures ticket { IfOk result (λ o. IfSome o (λ t. answer ≡ Ok (AddReply.Added t))) }
+    ensures why { IfErr result (λ e. e ≡ desk_error.OutOfMemory) }
+{
+    match answer {
+        Ok(AddReply::Added(ticket)) => Ok(Some(ticket)),
+        Ok(AddReply::OutOfMemory(_)) => Err(DeskError::OutOfMemory),
+        _ => Ok(None),
+    }
+}
+
+// Adds a transfer of the request under this handle, if the multi handle takes one more.
+fn add_transfer<L: Link, R: Wait + AllocGlobal>(
+    rt: &R,
+    seat: &mut Seated<'_, Application, Queued<L>, Outcome>,
+    is_beside: bool,
+    handle: HandleId,
+    request: Request,
+) -> Result<Option<Addition>, DeskError>
+    ensures request { IfOk result (λ o. IfSome o (λ a. a.request ≡ request)) }
+    ensures told { IfOk result (λ o. IfSome o (IsTold seat.new.ties)) }
+    ensures place { IfOk result (λ o. IfSome o (λ a. a.beside ≡ is_beside)) }
+    ensures why { IfErr result (λ e. e ≡ desk_error.OutOfMemory) }
+    ensures later { IsPrefix seat.old.ties seat.new.ties }
+{
+    request.know();
+    let asked = Snapshot::of(&request);
+    let Ok(work) = Queued::keeping_heads(rt.alloc(), request) else {
+        return Err(DeskError::OutOfMemory);
+    };
+    match added(seat.add(rt, handle, work))? {
+        Some(ticket) => Ok(Some(Addition::new(ticket, is_beside, asked))),
+        None => Ok(None),
+    }
+}
+
+// Removes a handle. One that can't be removed is added still, so that the next addition under it is refused.
+fn remove_at<L: Link, R: Wait>(
+    rt: &R,
+    seat: &mut Seated<'_, Application, Queued<L>, Outcome>,
+    handle: HandleId,
+) -> Result<(), DeskError>
+    ensures later { IsPrefix seat.old.ties seat.new.ties }
+{
+    match seat.remove(rt, handle) {
+        Ok(RemoveReply::OutOfMemory) => Err(DeskError::OutOfMemory),
+        _ => Ok(()),
+    }
+}
+
+// How many bytes the transfer of a handle has received, as far as that is known.
+fn came_at<L: Link>(seat: &mut Seated<'_, Application, Queued<L>, Outcome>, handle: HandleId) -> u64
+    ensures ties { seat.new.ties ≡ seat.old.ties }
+{
+    match seat.progress(handle) {
+        Some(Progress::Bytes(_, bytes)) => u64::from(bytes),
+        _ => 0,
+    }
+}
+
+// Reads the next message of a seat, for which it waits as long as that, at most.
+fn read<L: Link, R: Wait + Clock>(
+    rt: &R,
+    seat: &mut Seated<'_, Application, Queued<L>, Outcome>,
+    is_beside: bool,
+    milliseconds: u32,
+) -> Result<Option<Told>, NoMessage>
+    ensures later { IsPrefix seat.old.ties seat.new.ties }
+    ensures place { IfOk result (λ o. IfSome o (λ t. t.is_beside ≡ is_beside)) }
+    ensures told { IfOk result (λ o. IfSome o (λ t. Has seat.new.ties (tie t.message.ticket (request_origin t.message.outcome.request)))) }
+{
+    match next_message_within(rt, seat, milliseconds)? {
+        Some(message) => Ok(Some(Told { message, is_beside })),
+        None => Ok(None),
+    }
+}
+
+// Reads the next message of two seats: it looks at the first one, and waits at the other for a while.
+fn read_both<L: Link, R: Wait + Clock>(
+    rt: &R,
+    first: &mut Seated<'_, Application, Queued<L>, Outcome>,
+    beside: &mut Seated<'_, Application, Queued<L>, Outcome>,
+    milliseconds: u32,
+) -> Result<Option<Told>, NoMessage>
+    ensures first { IsPrefix first.old.ties first.new.ties }
+    ensures beside { IsPrefix beside.old.ties beside.new.ties }
+    ensures told { IfOk result (λ o. IfSome o (λ t. Has (ties_at (record { first = first.new.ties; beside = beside.new.ties }) t.is_beside)
+        (tie t.message.ticket (request_origin t.message.outcome.request)))) }
+{
+    if let Some(told) = read(rt, first, false, 0)? {
+        return Ok(Some(told));
+    }
+    read(rt, beside, true, milliseconds.min(SLICE_MS))
+}
+
+/// An application's seat, and perhaps one at another multi handle beside it. Contracts see the requests of additions that each was told.
+#[derive(Drop)]
+pub(crate) struct Seats<'e, 'm, L: Link> {
+    first: Seated<'e, Application, Queued<L>, Outcome>,
+    beside: Option<Seated<'m, Application, Queued<L>, Outcome>>,
+}
+
+impl<'e, 'm, L: Link> Model for Seats<'e, 'm, L> {
+    ghost use Rattle.mx_desk.specs.Ties.{SeatTies, ties_beside};
+
+    ghost Value = { SeatTies };
+
+    ghost view = { λ s. record { first = s.first.ties; beside = ties_beside s.beside } };
+}
+
+impl<'e, 'm, L: Link> Seats<'e, 'm, L> {
+    /// One seat.
+    pub fn new(first: Seated<'e, Application, Queued<L>, Outcome>) -> Seats<'e, 'm, L> {
+        Seats {
+            first,
+            beside: None,
+        }
+    }
+
+    /// The first seat with this one beside it, or with none, in place of the one that is there, which is dropped.
+    pub fn with<'n>(
+        self,
+        beside: Option<Seated<'n, Application, Queued<L>, Outcome>>,
+    ) -> Seats<'e, 'n, L>
+        ensures { result.first ≡ self.entry.first }
+    {
+        Seats {
+            first: self.first,
+            beside,
+        }
+    }
+
+    /// Whether there are two.
+    pub fn are_two(&self) -> bool {
+        self.beside.is_some()
+    }
+
+    /// Adds a transfer of the request under this handle at the seat that came last, if its multi handle takes one more.
+    pub fn add<R: Wait + AllocGlobal>(
+        &mut self,
+        rt: &R,
+        handle: HandleId,
+        request: Request,
+    ) -> Result<Option<Addition>, DeskError>
+        ensures request { IfOk result (λ o. IfSome o (λ a. a.request ≡ request)) }
+        ensures told { IfOk result (λ o. IfSome o (λ a. IsTold (ties_at self.new a.beside) a)) }
+        ensures why { IfErr result (λ e. e ≡ desk_error.OutOfMemory) }
+        ensures later { AreLater self.old self.new }
+    {
+        match &mut self.beside {
+            Some(seat) => add_transfer(rt, seat, true, handle, request),
+            None => add_transfer(rt, &mut self.first, false, handle, request),
+        }
+    }
+
+    /// Reads the next message of the seats, for which it waits as long as that, at most, or a while: where both may be told one it looks at
+    /// the first one, and waits at the other.
+    pub fn next<R: Wait + Clock>(
+        &mut self,
+        rt: &R,
+        first_waits: bool,
+        beside_waits: bool,
+        milliseconds: u32,
+    ) -> Result<Option<Told>, NoMessage>
+        ensures told { IfOk result (λ o. IfSome o (λ t. Has (ties_at self.new t.is_beside) (tie t.message.ticket (request_origin t.message.outcome.request)))) }
+        ensures later { AreLater self.old self.new }
+    {
+        match &mut self.beside {
+            Some(seat) if beside_waits => {
+                if first_waits {
+                    return read_both(rt, &mut self.first, seat, milliseconds);
+                }
+                read(rt, seat, true, milliseconds)
+            }
+            _ => read(rt, &mut self.first, false, milliseconds),
+        }
+    }
+
+    /// Removes a handle at the seat at which it was added.
+    pub fn remove<R: Wait>(
+        &mut self,
+        rt: &R,
+        is_beside: bool,
+        handle: HandleId,
+    ) -> Result<(), DeskError>
+        ensures later { AreLater self.old self.new }
+    {
+        match &mut self.beside {
+            Some(seat) if is_beside => remove_at(rt, seat, handle),
+            _ => remove_at(rt, &mut self.first, handle),
+        }
+    }
+
+    /// How many bytes the transfer has received that was added at one of the seats, under this number, as far as that is known.
+    pub fn came(&mut self, is_beside: bool, at: usize) -> u64
+        ensures ties { self.new ≡ self.old }
+    {
+        let Ok(handle) = u32::try_from(at) else {
+            return 0;
+        };
+        match &mut self.beside {
+            Some(seat) if is_beside => came_at(seat, HandleId(handle)),
+            _ => came_at(&mut self.first, HandleId(handle)),
+        }
+    }
+}
