@@ -1,1 +1,1 @@
-mod Asked
+pub mod Asked

@@ -18,10 +18,12 @@ abbrev pub AreAsked : Asking → List Slot → List (Option RequestValue) → Ty
 AreAsked asking slots asked = (i : ℕ) (job : Job) (ticket : Ticket) → slice_get slots i ≡ Some (slot.Added job ticket)
     → (request : RequestValue) × (slice_get asked i ≡ Some (Some request)) × Asks asking job.url.items request
 
--- rule save-long-runs: Where a history is full, the run goes on with another multi handle, at the same gates, once all that was added has
--- ended.
+-- rule save-long-runs: Where a history is full, the run goes on with another multi handle: at the same gates once all that was added has
+-- ended, and else, after half a second, at gates of its own beside the full one.
 --
--- no transfer is added; and where all URLs have ended, all were read and none has a slot
+-- where all URLs have ended no transfer is added, all were read and none has a slot; and none is added where a history is full and the desk
+-- isn't left early
 abbrev pub HasTurned : {W : Type 0} → WorkValue W → Turned → Type 0
 HasTurned w how.AllEnded = HasNoneAdded w.book.slots × (w.is_read ≡ true) × (count_by is_taken w.book.slots ≡ 0)
 HasTurned w how.HistoryFull = HasNoneAdded w.book.slots
+HasTurned w how.Held = Unit {0}

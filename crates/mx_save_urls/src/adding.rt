@@ -45,7 +45,7 @@ pub fn stop_of(error: DeskError) -> Stop
 // Adds the transfer of the URL in that slot. Where the multi handle takes no more the URL waits.
 fn add<'a, L: Link, F: Folder, W: Write, Rd: Read + Drop, R: Wait + AllocGlobal>(
     rt: &R,
-    desk: &mut Desk<'_, L>,
+    desk: &mut Desk<'_, '_, L>,
     work: &mut Work<'a, F, W, Rd>,
     at: usize,
     request: Request,
@@ -75,7 +75,7 @@ fn add<'a, L: Link, F: Folder, W: Write, Rd: Read + Drop, R: Wait + AllocGlobal>
 // Reads a URL, and adds its transfer, if it is to be fetched.
 fn read<'a, L: Link, F: Folder, W: Write, Rd: Read + Drop, R: Wait + AllocGlobal, V: Watch>(
     rt: &R,
-    desk: &mut Desk<'_, L>,
+    desk: &mut Desk<'_, '_, L>,
     work: &mut Work<'a, F, W, Rd>,
     watch: &mut V,
     now: u64,
@@ -106,7 +106,7 @@ fn read<'a, L: Link, F: Folder, W: Write, Rd: Read + Drop, R: Wait + AllocGlobal
 /// Begins a transfer, if there is room for one: that of a URL that has waited long enough, else of the next one that is read.
 pub fn begin<'a, L: Link, F: Folder, W: Write, Rd: Read + Drop, R: Wait + AllocGlobal, V: Watch>(
     rt: &R,
-    desk: &mut Desk<'_, L>,
+    desk: &mut Desk<'_, '_, L>,
     work: &mut Work<'a, F, W, Rd>,
     watch: &mut V,
     now: u64,

@@ -2,10 +2,14 @@
 #![tactic(auto)]
 
 mod adding;
+mod fetch;
+mod run;
 mod timer;
 mod turns;
 mod watch;
 
+pub use crate::fetch::Fetch;
+pub use crate::run::Run;
 pub use crate::timer::Timer;
-pub use crate::turns::{Turned, fetch};
+pub use crate::turns::Turned;
 pub use crate::watch::{Nobody, Standing, Watch};

@@ -25,20 +25,23 @@ const LONGEST_WAIT_MS: u32 = 60_000;
 /// The same, where a list has nothing now.
 const LIST_WAIT_MS: u32 = 20;
 
-/// How a run left its desk: nothing is added there.
+/// How a run left its desk.
 #[derive(Clone, Copy)]
 pub enum Turned {
-    /// All URLs were read and have ended.
+    /// All URLs were read and have ended: nothing is added there.
     AllEnded,
-    /// The history of the multi handle has no room for the next URL, which waits.
+    /// The history of the multi handle has no room for the next URL, which waits, and nothing is added there.
     HistoryFull,
+    /// The history has no room for the next URL, which waits, while a transfer may still be added there.
+    Held,
 }
 
-// What was seen of a run: how many URLs had ended, and when its standing is shown next.
+// What was seen of a run: how many URLs had ended, when its standing is shown next, and since when the history has had no room.
 #[derive(Clone, Copy)]
 struct Seen {
     ended: u64,
     next: u64,
+    full: Option<u64>,
 }
 
 // Reports the last end, if a URL has ended since so many had; at most one may have. Returns how many have ended.
@@ -58,7 +61,7 @@ fn report<'a, F: Folder, W: Write, Rd: Read + Drop, V: Watch>(
 
 // Reports the end of a URL that has ended since, and shows the run's standing, where it is time.
 fn look<'a, L: Link, F: Folder, W: Write, Rd: Read + Drop, V: Watch>(
-    desk: &mut Desk<'_, L>,
+    desk: &mut Desk<'_, '_, L>,
     work: &Work<'a, F, W, Rd>,
     watch: &mut V,
     seen: Seen,
@@ -81,7 +84,23 @@ fn look<'a, L: Link, F: Folder, W: Write, Rd: Read + Drop, V: Watch>(
         }
         _ => watch.show_again(),
     }
-    Seen { ended, next }
+    let full = if desk.is_full() {
+        Some(seen.full.unwrap_or(now))
+    } else {
+        None
+    };
+    Seen { ended, next, full }
+}
+
+// How many milliseconds are left until a run leaves a desk that takes no more, though something is added there, where it may.
+fn left_ms(patience: Option<u32>, is_full: bool, since: Option<u64>, now: u64) -> u32 {
+    match patience {
+        Some(most) if is_full => {
+            let passed = now.saturating_sub(since.unwrap_or(now));
+            most.saturating_sub(u32::try_from(passed).unwrap_or(u32::MAX))
+        }
+        _ => u32::MAX,
+    }
 }
 
 // How long a message may be waited for, where a transfer was begun or not: not at all where the next one may be begun now; and else until the
@@ -134,7 +153,7 @@ fn await_one<
     V: Watch,
 >(
     rt: &R,
-    desk: &mut Desk<'_, L>,
+    desk: &mut Desk<'_, '_, L>,
     work: &mut Work<'a, F, W, Rd>,
     watch: &mut V,
     timer: Timer,
@@ -159,10 +178,11 @@ fn await_one<
     }
 }
 
-// Why the run leaves its desk, if it does.
+// Why the run leaves its desk, if it does, where so many milliseconds are left until it leaves one that takes no more.
 fn how_turned<'a, L: Link, F: Folder, W: Write, Rd: Read + Drop>(
-    desk: &Desk<'_, L>,
+    desk: &Desk<'_, '_, L>,
     work: &Work<'a, F, W, Rd>,
+    left: u32,
 ) -> Option<Turned>
     requires all { AreAsked work.now.book.asking work.now.book.slots desk.now.asked }
     ensures { IfSome result (HasTurned work.now) }
@@ -174,14 +194,19 @@ fn how_turned<'a, L: Link, F: Folder, W: Write, Rd: Read + Drop>(
         if desk.is_full() {
             return Some(Turned::HistoryFull);
         }
+        return None;
+    }
+    if desk.is_full() && (left == 0 || desk.is_idle()) {
+        return Some(Turned::Held);
     }
     None
 }
 
 // rule save-stalled-lists, unproved: A list that has nothing now, or none but refused URLs, delays no transfer, no retry and no report.
 //
-// Begins transfers and waits for their ends, until nothing is left to do at the desk. The workers are woken where none can be added at once.
-fn take_turns<
+// Begins transfers and waits for their ends, until nothing is left to do at the desk, or it is left early. The workers are woken where none
+// can be added at once.
+pub(crate) fn take_turns<
     'a,
     L: Link,
     F: Folder,
@@ -192,14 +217,16 @@ fn take_turns<
 >(
     rt: &R,
     crew: &Crew,
-    desk: &mut Desk<'_, L>,
+    desk: &mut Desk<'_, '_, L>,
     work: &mut Work<'a, F, W, Rd>,
     watch: &mut V,
     timer: Timer,
+    patience: Option<u32>,
 ) -> Result<Turned, Stop>
     requires going { work.old.book.is_stopped ≡ false }
     requires all { AreAsked work.old.book.asking work.old.book.slots desk.old.asked }
     ensures turned { IfOk result (HasTurned work.new) }
+    ensures all { OnOk result (AreAsked work.new.book.asking work.new.book.slots desk.new.asked) }
     ensures going { OnOk result (work.new.book.is_stopped ≡ false) }
     ensures run { IsSameWork work.old work.new }
 {
@@ -207,6 +234,7 @@ fn take_turns<
     let mut seen = Seen {
         ended: work.tally().ended,
         next: 0,
+        full: None,
     };
     for _ in rt.forever() {
         let now = timer.now(rt)?;
@@ -222,43 +250,13 @@ fn take_turns<
             crew.ring();
             to_wake = false;
         }
-        if let Some(turned) = how_turned(desk, work) {
+        let left = left_ms(patience, desk.is_full(), seen.full, now);
+        if let Some(turned) = how_turned(desk, work, left) {
             return Ok(turned);
         }
         let may_add = desk.has_room() && !desk.is_full();
         let milliseconds = wait_ms(begun, watch.period(), may_add, work.next_moment(), now);
-        await_one(rt, desk, work, watch, timer, milliseconds)?;
+        await_one(rt, desk, work, watch, timer, milliseconds.min(left))?;
     }
     unreachable!()
-}
-
-/// Fetches the URLs of a run at a desk, where nothing is added yet, with the workers of a crew. It goes on until all have ended, or the
-/// history of the multi handle is full. Who watches gets each end, and the run's standing. It may wait.
-///
-/// No clause says how long it waits, that it wakes the workers, or in which order it begins transfers and ends URLs.
-pub fn fetch<
-    'a,
-    L: Link,
-    F: Folder,
-    W: Write,
-    Rd: Read + Drop,
-    R: Wait + AllocGlobal + Clock,
-    V: Watch,
->(
-    rt: &R,
-    crew: &Crew,
-    desk: Desk<'_, L>,
-    work: Work<'a, F, W, Rd>,
-    watch: V,
-    timer: Timer,
-) -> (Work<'a, F, W, Rd>, V, Result<Turned, Stop>)
-    requires going { work.book.is_stopped ≡ false }
-    requires none { HasNoneAdded work.book.slots }
-    ensures turned { IfOk result.2 (HasTurned result.0) }
-    ensures going { OnOk result.2 (result.0.book.is_stopped ≡ false) }
-    ensures run { IsSameWork work.entry result.0 }
-{
-    let (mut desk, mut work, mut watch) = (desk, work, watch);
-    let turned = take_turns(rt, crew, &mut desk, &mut work, &mut watch, timer);
-    (work, watch, turned)
 }

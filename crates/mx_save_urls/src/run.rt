@@ -1,0 +1,60 @@
+//! A run, which goes from desk to desk.
+ghost use Rattle.std.specs.Prelude.{◌≡◌, false};
+ghost use Rattle.mx_save_work.specs.Works.{IsSameWork};
+ghost use Rattle.mx_save_work.proofs.Works.{same_work, work_then};
+ghost use Rattle.mx_save_urls.specs.Asked.{AreAsked, HasTurned};
+
+use crate::fetch::Fetch;
+use crate::timer::Timer;
+use crate::turns::{Turned, take_turns};
+use crate::watch::Watch;
+use mx_crew::Crew;
+use mx_desk::Desk;
+use mx_folder::Folder;
+use mx_link::Link;
+use mx_save_jobs::Stop;
+use mx_save_work::Work;
+use std::alloc::AllocGlobal;
+use std::io::{Read, Write};
+use std::rt::Clock;
+use std::sync::Wait;
+
+/// A run: its URLs, who watches it, and its clock.
+#[derive(Drop)]
+pub struct Run<'a, F: Folder, W: Write, Rd: Read + Drop, V> {
+    pub work: Work<'a, F, W, Rd>,
+    pub watch: V,
+    pub timer: Timer,
+}
+
+impl<'a, F: Folder, W: Write, Rd: Read + Drop, V: Watch> Fetch for Run<'a, F, W, Rd, V> {
+    ghost is_asked = { λ r asked. (r.work.book.is_stopped ≡ false) × AreAsked r.work.book.asking r.work.book.slots asked };
+
+    ghost has_turned = { λ r how. (r.work.book.is_stopped ≡ false) × HasTurned r.work how };
+
+    ghost is_same = { λ r s. IsSameWork r.work s.work };
+
+    fn fetch<L: Link, R: Wait + AllocGlobal + Clock>(
+        &mut self,
+        rt: &R,
+        crew: &Crew,
+        desk: &mut Desk<'_, '_, L>,
+        patience: Option<u32>,
+    ) -> Result<Turned, Stop> {
+        take_turns(
+            rt,
+            crew,
+            desk,
+            &mut self.work,
+            &mut self.watch,
+            self.timer,
+            patience,
+        )
+    }
+
+    ghost same = { λ r. same_work r.work };
+
+    ghost then = { λ r s t h k. work_then r.work s.work t.work h k };
+
+    ghost none = { λ r h asked. (h.0, λ i job ticket is. absurd (h.1 i job ticket is)) };
+}
