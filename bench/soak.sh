@@ -6,6 +6,8 @@
 #     bench/soak.sh urls [N]          one run of N URLs, 1,000,000, with its resident memory and its descriptors once a minute
 #     bench/soak.sh kills [N]         N runs, 200, each killed at a random moment, over one folder, and then one that takes them up
 #     bench/soak.sh memory [A B C]    runs under `ulimit -v`, from A, 10,000, to B, 60,000, in steps of C, 100, KiB; with 1, 2 and 4 workers
+#     bench/soak.sh held [N S]        one run of N URLs, 20,000, of which one, after four fifths, isn't answered in S seconds, 30, its
+#                                     timeout: how many others were reported before it, and when the last of them was
 #
 # It needs nginx and python3, and installs nothing. PROGRAM names another program than the one that ./run starts. Files lie below TMPDIR.
 set -eu
@@ -82,6 +84,7 @@ http {{
       if ($fate = short) {{ rewrite ^ /short last; }}
       return 200 "the body of $name";
     }}
+    location ~ ^/(q[0-9]+)$ {{ return 200 "the body of $1"; }}
     location = /hang {{ proxy_pass http://127.0.0.1:{other}; }}
     location = /short {{ proxy_pass http://127.0.0.1:{other}; }}
   }}
@@ -198,13 +201,34 @@ def memory(base, least, most, step):
             subprocess.run(["rm", "-rf", into], check=True)
     print(f"{sum(ended.values())} runs: " + ", ".join(f"{number} ended with {status}" for status, number in sorted(ended.items(), key=str)))
 
+def held(base, count, seconds):
+    paths, into = [f"q{number}" for number in range(count)], f"{WORK}/held.d"
+    paths[count * 4 // 5] = "hang"
+    with open(f"{WORK}/urls", "w") as file:
+        file.writelines(f"{base}{path}\n" for path in paths)
+    begun, moments = time.monotonic(), []
+    words = [PROGRAM, "save", "--input", f"{WORK}/urls", "--into", into, "--timeout-ms", str(1000 * seconds), "--no-progress"]
+    child = subprocess.Popen(words, stdin=subprocess.DEVNULL, stdout=subprocess.PIPE)
+    lines = []
+    for line in child.stdout:
+        lines.append(line)
+        moments.append(time.monotonic() - begun)
+    status = child.wait()
+    told = {line.rsplit(b" ", 1)[1].strip().decode()[len(base):]: number for number, line in enumerate(lines)}
+    files, parts = files_of(into)
+    if len(lines) != count or set(told) != set(paths) or status != 28 or files != count - 1 or parts:
+        say_wrong(f"status {status}, {len(lines)} lines, {files} files, {parts} parts")
+    before = told.get("hang", 0)
+    print(f"{before} of {count - 1} others reported before the one that hangs for {seconds} s, the last of them after "
+          f"{moments[before - 1]:.1f} s; all after {moments[-1]:.1f} s")
+
 words = sys.argv[1:]
-usual = {"urls": [1000000], "kills": [200], "memory": [10000, 60000, 100]}
+usual = {"urls": [1000000], "kills": [200], "memory": [10000, 60000, 100], "held": [20000, 30]}
 if words[0] not in usual or not all(it.isdigit() for it in words[1:]):
-    sys.exit("bench/soak.sh urls|kills|memory [NUMBER..]; --help says more")
+    sys.exit("bench/soak.sh urls|kills|memory|held [NUMBER..]; --help says more")
 server, base = serve()
 try:
-    {"urls": urls, "kills": kills, "memory": memory}[words[0]](base, *([int(it) for it in words[1:]] or usual[words[0]]))
+    {"urls": urls, "kills": kills, "memory": memory, "held": held}[words[0]](base, *([int(it) for it in words[1:]] or usual[words[0]]))
 finally:
     server.terminate()
     server.wait()
