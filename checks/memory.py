@@ -4,9 +4,10 @@ import os
 import resource
 import subprocess
 import sys
+import time
 
 from saving import files_in, folder, parts_in
-from servers import PROGRAM, WORK, Server, Wrong, body_of, counted, keeping, want
+from servers import PROGRAM, WORK, Server, Wrong, body_of, counted, keeping, read_request, want
 
 KIB = 1 << 10
 STACK = 192 * KIB        # of each thread
@@ -38,8 +39,16 @@ def taking(connection, _):
     connection.sendall(counted(b"taken"))
 
 
+def holding(connection, _):
+    """Answers a request of /slow after two seconds, and others at once."""
+    while (path := read_request(connection)) is not None:
+        if path == "/slow":
+            time.sleep(2)
+        connection.sendall(counted(body_of(path)))
+
+
 def case_little_stack():
-    with Server(keeping) as server, Server(taking) as taker:
+    with Server(keeping) as server, Server(taking) as taker, Server(holding) as holder:
         urls = [server.url(path) for path in PATHS]
         lines = "".join(f"{url}\n" for url in urls).encode()
         with open(os.path.join(WORK, "urls"), "wb") as file:
@@ -66,6 +75,8 @@ def case_little_stack():
             (["save", "--into", folder()] + urls, b"", 0),
             (["save", "--workers", "4", "--progress", "--into", folder(), "--input", "-"], lines, 0),
             (["save", "--json", "--fsync", "--into", folder(), "--input", os.path.join(WORK, "urls")], b"", 0),
+            # with a second multi handle beside one whose history is full
+            (["save", "--history", "16", "--into", folder()] + [holder.url(path) for path in ["/slow"] + PATHS], b"", 0),
             (["save", "--into", folder(), "--data", "@" + os.path.join(WORK, "data"), taker.url("/t")], b"", 0),
         ]
         for words, stdin, status in rows:

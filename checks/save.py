@@ -1041,6 +1041,68 @@ def case_short_history():
         want_files(into, {path[1:]: body_of(path) for path in paths})
 
 
+# rule save-long-runs
+def case_slow_urls_at_a_full_history():
+    released = threading.Event()
+
+    def serve(connection, _):
+        while (path := read_request(connection)) is not None:
+            if path.startswith("/slow"):
+                released.wait(100)
+            connection.sendall(counted(body_of(path)))
+
+    with Server(serve) as server:
+        # while they hang so many others are reported, at as many further multi handles as these take; and then they are, and the rest
+        rows = [(["--history", "16"], 1, 80), (["--history", "16", "--workers", "4", "--at-once", "4"], 3, 80),
+                (["--history", "4", "--workers", "1"], 1, 80), (["--history", "16"], 1, 20)]
+        for words, slow, count in rows:
+            released.clear()
+            into, paths = folder(), [f"/slow{number}" for number in range(slow)] + [f"/q{number}" for number in range(80)]
+            child = start(words + ["--into", into] + [server.url(path) for path in paths], stdout=subprocess.PIPE)
+            ends = [threading.Timer(30, released.set), threading.Timer(300, child.kill)]
+            for end in ends:
+                end.start()
+            told = b"".join(child.stdout.readline() for _ in range(count))
+            in_time = not released.is_set()
+            released.set()
+            lines = parse(told + child.stdout.read())
+            status = child.wait()
+            for end in ends:
+                end.cancel()
+            want(in_time, f"{words}: the others wait for those that hang")
+            want(not any("/slow" in line[5] for line in lines[:count]), f"{words}: {lines[:count]}")
+            want(sorted(lines) == sorted(saved(server, path, path[1:], body_of(path)) for path in paths) and status == 0,
+                 f"{words}: {status}, {len(lines)} lines")
+            want_files(into, {path[1:]: body_of(path) for path in paths})
+        # one is never answered; a second multi handle has as many threads and gates as the first one
+        released.clear()
+        into, paths = folder(), [f"/q{number}" for number in range(80)]
+        run = Saved(["--history", "16", "--timeout-ms", "5000", server.url("/slow")] + [server.url(path) for path in paths], into)
+        released.set()
+        want_lines(run, [saved(server, path, path[1:], body_of(path)) for path in paths] + [failed(28, 0, server.url("/slow"))], 28)
+        want(run.lines[-1][1] == 28, "the others wait for the one that hangs")
+        want(run.threads <= 8 and run.descriptors <= 64, f"{run.threads} threads, {run.descriptors} descriptors")
+
+
+# rule save-long-runs
+def case_slow_urls_and_few_descriptors():
+    # where a second multi handle could have too few descriptors for its connections none is opened, and none of them is missed
+    def serve(connection, _):
+        while (path := read_request(connection)) is not None:
+            if path == "/slow":
+                time.sleep(2)
+            connection.sendall(counted(body_of(path)))
+
+    with Server(serve) as server:
+        paths = ["/slow"] + [f"/q{number}" for number in range(80)]
+        for most in range(18, 50, 3):
+            into = folder()
+            run = Saved(["--history", "16", "--workers", "1", "--at-once", "4"] + [server.url(path) for path in paths], into,
+                        first=lambda: resource.setrlimit(resource.RLIMIT_NOFILE, (most, most)))
+            want_lines(run, [saved(server, path, path[1:], body_of(path)) for path in paths], 0)
+            want_files(into, {path[1:]: body_of(path) for path in paths})
+
+
 def case_what_the_system_refuses():
     # the first new thread, poll or reading of a clock, and all others
     rows = [("thread", "a thread can't be started"), ("poll", "the system gives no poll of sockets"),

@@ -1,5 +1,5 @@
 //! A run, from its URLs to their ends.
-ghost use Rattle.std.specs.Prelude.{◌≡◌, [], false, OnOk, vec_len};
+ghost use Rattle.std.specs.Prelude.{◌≡◌, [], false, Ok, OnOk};
 ghost use Rattle.mx_save_jobs.specs.Books.{HasNoneAdded};
 ghost use Rattle.mx_save_work.specs.Feeds.{left};
 ghost use Rattle.mx_save_work.specs.Works.{IsSameWork};
@@ -8,71 +8,39 @@ ghost use Rattle.mx_save_urls.specs.declared.turns.Turned.TheVariants as how;
 ghost use Rattle.mx_save_run.specs.Plans.{IsPlan};
 ghost use Rattle.mx_save_run.specs.Runs.{IsOneRun, SavesAll};
 
-use crate::epoch::{run_epoch, stop_of};
 use crate::plan::{MOST_PENDING, Plan};
+use crate::spares::{SocketSpares, made};
 use mx_crew::{Crew, Runtime};
 use mx_folder::Folder;
-use mx_gate::Gate;
-use mx_link::Link;
 use mx_save::Ledger;
+use mx_save_handles::{First, run_on, stop_of};
 use mx_save_jobs::{Asking, Book, Lines, Stop, WholeBody, free_slots};
-use mx_save_urls::{Timer, Turned, Watch};
+use mx_save_urls::{Run, Timer, Turned, Watch};
 use mx_save_work::{Feed, Work};
-use std::alloc::AllocGlobal;
+use std::alloc::{AllocFailed, AllocGlobal};
 use std::io::{Read, Write};
 use std::net::{Net, TcpListener, TcpStream};
-use std::random::RandomSource;
-use std::rt::Clock;
-use std::sync::Wait;
-use std::thread::Threads;
 use std::time::Instant;
 
-// rule save-long-runs
-// Fetches at one multi handle after another, until all URLs have ended.
-fn run_epochs<
-    'a,
-    L: Link + Send,
-    R: Threads + Wait + Clock + RandomSource + AllocGlobal + Sync,
-    G: Gate<Link = L> + Send + Drop,
-    F: Folder,
-    W: Write + Drop,
-    Rd: Read + Drop,
-    V: Watch + Drop,
->(
-    rt: &R,
-    crew: &Crew,
-    gates: Vec<G>,
-    work: Work<'a, F, W, Rd>,
-    watch: V,
-    plan: Plan,
-    timer: Timer,
-) -> (Work<'a, F, W, Rd>, V, Result<(), Stop>)
-    requires plan { IsPlan plan }
-    requires gates { vec_len gates ≡ plan.options.workers }
-    requires going { work.book.is_stopped ≡ false }
-    requires none { HasNoneAdded work.book.slots }
-    ensures ended { OnOk result.2 (HasTurned result.0 how.AllEnded) }
-    ensures going { OnOk result.2 (result.0.book.is_stopped ≡ false) }
-    ensures run { IsSameWork work.entry result.0 }
+// How a run ended, where it turned so at its last multi handle.
+fn end_of(turned: Result<Turned, Stop>) -> Result<(), Stop>
+    ensures { OnOk result (turned ≡ Ok how.AllEnded) }
 {
-    let (mut gates, mut work, mut watch) = (gates, work, watch);
-    for _ in rt.forever() {
-        crew.summon();
-        let (back, watching, turned) = run_epoch(rt, crew, gates, work, watch, plan, timer);
-        match turned {
-            Ok((Turned::AllEnded, _)) => return (back, watching, Ok(())),
-            Ok((Turned::HistoryFull, free)) => {
-                gates = free;
-                work = back;
-                watch = watching;
-            }
-            Err(stop) => return (back, watching, Err(stop)),
-        }
+    match turned {
+        Ok(Turned::AllEnded) => Ok(()),
+        Ok(_) => Err(Stop::NoMessage),
+        Err(stop) => Err(stop),
     }
-    unreachable!()
 }
 
-// Fetches with workers over sockets.
+// Reports that a connection couldn't be begun since too many files were open, where one couldn't.
+fn report_file_limit<G, V: Watch>(watch: &mut V, crew: &Crew, spares: &SocketSpares<G>) {
+    if crew.met_file_limit() || spares.met_file_limit() {
+        watch.meet_file_limit();
+    }
+}
+
+// Fetches with workers over sockets. `may_fill` says whether the history of a multi handle may be full before all URLs have ended.
 fn run_over_sockets<
     'a,
     R: Runtime + Net<Listener = TcpListener, Stream = TcpStream>,
@@ -82,31 +50,70 @@ fn run_over_sockets<
     V: Watch + Drop,
 >(
     rt: &R,
-    work: Work<'a, F, W, Rd>,
-    watch: V,
+    run: Box<Run<'a, F, W, Rd, V>>,
     plan: Plan,
-    start: Instant,
-) -> (Work<'a, F, W, Rd>, V, Result<(), Stop>)
+    may_fill: bool,
+) -> (Box<Run<'a, F, W, Rd, V>>, Result<(), Stop>)
     requires plan { IsPlan plan }
-    requires going { work.book.is_stopped ≡ false }
-    requires none { HasNoneAdded work.book.slots }
-    ensures ended { OnOk result.2 (HasTurned result.0 how.AllEnded) }
-    ensures going { OnOk result.2 (result.0.book.is_stopped ≡ false) }
-    ensures run { IsSameWork work.entry result.0 }
+    requires going { run.value.work.book.is_stopped ≡ false }
+    requires none { HasNoneAdded run.value.work.book.slots }
+    ensures ended { OnOk result.1 (HasTurned result.0.value.work how.AllEnded) }
+    ensures going { OnOk result.1 (result.0.value.work.book.is_stopped ≡ false) }
+    ensures run { IsSameWork run.entry.value.work result.0.value.work }
 {
     let Ok(mut crew) = Crew::new(rt.alloc()) else {
-        return (work, watch, Err(Stop::OutOfMemory));
+        return (run, Err(Stop::OutOfMemory));
     };
+    let start = run.timer.start();
     match crew.gates(rt, start, plan.options.workers) {
         Ok(gates) => {
-            let timer = Timer::new(start);
-            let (work, mut watch, ended) = run_epochs(rt, &crew, gates, work, watch, plan, timer);
-            if crew.met_file_limit() {
-                watch.meet_file_limit();
-            }
-            (work, watch, ended)
+            let first = First {
+                errand: run,
+                spares: SocketSpares::new(made(rt, start, plan, may_fill)),
+                room: plan.room(),
+                turned: Err(Stop::NoMessage),
+            };
+            let last = run_on(rt, &crew, gates, first);
+            let First {
+                errand: mut run,
+                spares,
+                room: _,
+                turned,
+            } = last;
+            report_file_limit(&mut run.watch, &crew, &spares);
+            (run, end_of(turned))
         }
-        Err(error) => (work, watch, Err(stop_of(error))),
+        Err(error) => (run, Err(stop_of(error))),
+    }
+}
+
+// The same with the run in a box while it fetches, since it is moved through many frames of the stack.
+fn run_boxed<
+    'a,
+    R: Runtime + Net<Listener = TcpListener, Stream = TcpStream>,
+    F: Folder,
+    W: Write + Drop,
+    Rd: Read + Drop,
+    V: Watch + Drop,
+>(
+    rt: &R,
+    run: Run<'a, F, W, Rd, V>,
+    plan: Plan,
+    may_fill: bool,
+) -> (Run<'a, F, W, Rd, V>, Result<(), Stop>)
+    requires plan { IsPlan plan }
+    requires going { run.work.book.is_stopped ≡ false }
+    requires none { HasNoneAdded run.work.book.slots }
+    ensures ended { OnOk result.1 (HasTurned result.0.work how.AllEnded) }
+    ensures going { OnOk result.1 (result.0.work.book.is_stopped ≡ false) }
+    ensures run { IsSameWork run.entry.work result.0.work }
+{
+    match Box::new(rt.alloc(), run) {
+        Ok(run) => {
+            let (run, stopped) = run_over_sockets(rt, run, plan, may_fill);
+            (Box::into_inner(run), stopped)
+        }
+        Err(AllocFailed { value: run }) => (run, Err(Stop::OutOfMemory)),
     }
 }
 
@@ -121,9 +128,11 @@ pub struct Ended<F: Folder, W: Write, V> {
 
 // rule save-each-once
 /// Workers over sockets fetch the URLs. It saves what is to be saved of each into the ledger's folder, and prints what each ended with. At
-/// most `at_once` transfers run at a time. Where the history of a multi handle is full the run waits until all that were added have ended,
-/// and goes on with a new one. Who watches gets each end, the run's standing, and a report where a connection couldn't be begun since too
-/// many files were open. It may wait.
+/// most `at_once` transfers run at a time. Where the history of a multi handle is full the run goes on with a new one, once all that were
+/// added have ended. Where that takes more than half a second it opens one beside it, if it can have gates for its workers, and descriptors
+/// for what these open. It opens no third one: where the history of the second is full, too, the run waits until all have ended that were
+/// added there. Who watches gets each end, the run's standing, and a report where a connection couldn't be begun since too many files were
+/// open. It may wait.
 ///
 /// It stops before all URLs have ended where memory is refused, where the output can't be written, where the list of URLs can't be read, or
 /// where the system has no clock, no poll or no thread for it. No clause says that the cause it names is the right one, or which URLs were
@@ -149,6 +158,7 @@ pub fn save_all<
     ensures all { OnOk result.stopped (SavesAll asking (left Rd.remaining feed.entry) result.ledger result.lines) }
     ensures run { IsOneRun ledger lines result.ledger result.lines }
 {
+    let may_fill = plan.may_fill(feed.rest(), asking.retries);
     let (start, slots) = match (Instant::now(rt), free_slots(rt.alloc(), MOST_PENDING)) {
         (Ok(start), Ok(slots)) => (start, slots),
         (Err(_), _) => {
@@ -170,7 +180,17 @@ pub fn save_all<
     };
     let book = Book::new(rt.alloc(), asking, ledger, lines, slots);
     let work = Work::new(rt.alloc(), book, feed);
-    let (work, watch, stopped) = run_over_sockets(rt, work, watch, plan, start);
+    let run = Run {
+        work,
+        watch,
+        timer: Timer::new(start),
+    };
+    let (run, stopped) = run_boxed(rt, run, plan, may_fill);
+    let Run {
+        work,
+        watch,
+        timer: _,
+    } = run;
     let (ledger, lines) = work.end().end();
     Ended {
         ledger,
