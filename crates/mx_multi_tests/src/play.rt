@@ -79,29 +79,39 @@ pub struct Play {
     refused: bool,
 }
 
-// Whether this was answered. The text of an answer is tried once more where memory was refused.
-fn is_said(alloc: Global, reply: &Option<Reply>, said: Said) -> Result<bool, OutOfMemory> {
-    let Some(reply) = reply else {
-        return Ok(false);
-    };
-    Ok(match (reply, said) {
-        (Reply::Added(ticket), Said::Added(given)) => *ticket == given,
-        (
+// Whether an answer has this text.
+fn is_text(alloc: Global, reply: &Reply, text: &str) -> Result<bool, OutOfMemory> {
+    let told = text_of(alloc, reply)?;
+    Ok(told.as_str() == text)
+}
+
+// Whether an answer is this. Its text is tried once more where memory was refused.
+fn is_reply(alloc: Global, reply: &Reply, said: Said) -> Result<bool, OutOfMemory> {
+    match said {
+        Said::Text(text) => match is_text(alloc, reply, text) {
+            Ok(is_so) => Ok(is_so),
+            Err(_) => is_text(alloc, reply, text),
+        },
+        Said::Added(given) => Ok(matches!(reply, Reply::Added(ticket) if *ticket == given)),
+        Said::Message(of, read) => match reply {
             Reply::Message {
                 handle,
                 ticket,
                 code: Code::Ok,
                 size: 5,
                 left: 0,
-            },
-            Said::Message(of, read),
-        ) => *handle == of && *ticket == read,
-        (_, Said::Text(text)) => match text_of(alloc, reply) {
-            Ok(told) => told.as_str() == text,
-            Err(_) => text_of(alloc, reply)?.as_str() == text,
+            } => Ok(*handle == of && *ticket == read),
+            _ => Ok(false),
         },
-        _ => false,
-    })
+    }
+}
+
+// Whether this was answered.
+fn is_said(alloc: Global, reply: Option<Reply>, said: Said) -> Result<bool, OutOfMemory> {
+    match reply {
+        Some(reply) => is_reply(alloc, &reply, said),
+        None => Ok(false),
+    }
 }
 
 // A seat's call, once more where it was refused memory; and whether it was.
@@ -129,29 +139,24 @@ fn ask<R: Wait>(
     whole: &mut Whole,
     step: &Step,
 ) -> Result<(bool, bool), OutOfMemory> {
-    let (reply, is_refused, said, seen, cut) = match *step {
+    match *step {
         Step::Make(number, call, said, cut) => {
             let (reply, is_refused) = make(rt, whole, number, call);
-            (reply, is_refused, said, whole.cut(number), cut)
+            let is_so = is_said(alloc, reply, said)?;
+            Ok((is_so && whole.cut(number) == Some(cut), is_refused))
         }
         Step::Finish(code, size, cut) => {
             let (reply, is_refused) = finish(rt, whole, code, size);
-            (
-                reply,
-                is_refused,
-                Said::Text("recorded"),
-                whole.worker_cut(),
-                cut,
-            )
+            let is_so = is_said(alloc, reply, Said::Text("recorded"))?;
+            Ok((is_so && whole.worker_cut() == Some(cut), is_refused))
         }
         Step::Look(ticket, said, cut) => {
             let look = whole.look(ticket).map(Reply::Look);
-            (look, false, said, whole.worker_cut(), cut)
+            let is_so = is_said(alloc, look, said)?;
+            Ok((is_so && whole.worker_cut() == Some(cut), false))
         }
-        _ => return Ok((false, false)),
-    };
-    let is_so = is_said(alloc, &reply, said)? && seen == Some(cut);
-    Ok((is_so, is_refused))
+        _ => Ok((false, false)),
+    }
 }
 
 // A call that is refused no memory, except for this crate's own: whether it is as it should be.
@@ -252,30 +257,51 @@ impl Play {
         Ok(place?.is_some())
     }
 
-    // Threads do their tasks: how many calls were answered. None where one was answered otherwise than it should be, or than by one thread.
+    // How many calls were answered. None where one was answered otherwise than by one thread.
+    fn compare(
+        &mut self,
+        alloc: Global,
+        entries: Vec<Entry>,
+    ) -> Result<Option<usize>, OutOfMemory> {
+        let mut entries = entries;
+        let differs = self.differs(alloc, &mut entries);
+        let count = entries.len();
+        drop(entries);
+        Ok((!differs?).then_some(count))
+    }
+
+    // Threads do their tasks, and release this: how many calls were answered. None where one was answered otherwise than it should be, or
+    // than by one thread.
+    fn beside_held<R: Threads + Wait + Sync>(
+        &mut self,
+        rt: &R,
+        alloc: Global,
+        tasks: &[Task],
+        hold: &Arc<Hold>,
+    ) -> Result<Option<usize>, OutOfMemory> {
+        let Some(whole) = self.place.take() else {
+            return Ok(None);
+        };
+        let (whole, told) = whole.beside(rt, alloc, tasks, hold);
+        self.put(rt, whole);
+        match told {
+            Ok(entries) if hold.was_in_time() => self.compare(alloc, entries),
+            Err(Stop::Memory) => Err(OutOfMemory),
+            _ => Ok(None),
+        }
+    }
+
+    // The same, of a signal of their own.
     fn beside<R: Threads + Wait + Sync>(
         &mut self,
         rt: &R,
         alloc: Global,
         tasks: &[Task],
     ) -> Result<Option<usize>, OutOfMemory> {
-        let Ok(hold) = Arc::new(alloc, Hold::new()) else {
-            return Err(OutOfMemory);
-        };
-        let Some(whole) = self.place.take() else {
-            return Ok(None);
-        };
-        let (whole, told) = whole.beside(rt, alloc, tasks, &hold);
-        self.put(rt, whole);
-        let mut entries = match told {
-            Ok(entries) => entries,
-            Err(Stop::Memory) => return Err(OutOfMemory),
-            Err(_) => return Ok(None),
-        };
-        if !hold.was_in_time() || self.differs(alloc, &mut entries)? {
-            return Ok(None);
+        match Arc::new(alloc, Hold::new()) {
+            Ok(hold) => self.beside_held(rt, alloc, tasks, &hold),
+            Err(_) => Err(OutOfMemory),
         }
-        Ok(Some(entries.len()))
     }
 
     // The same, so many times: whether all calls were answered as they should be.
@@ -450,9 +476,9 @@ fn play_both<R: Threads + Wait + Sync + Clock>(
 }
 
 // The end of a test: it fails with the script and the step, and else, where a call was refused memory, by a text of its own.
-fn end(alloc: Global, wrong: Option<Wrong>, refused: bool) -> Result<(), Fail> {
+fn end(wrong: Option<Wrong>, refused: bool) -> Result<(), Fail> {
     if let Some(Wrong { row, step }) = wrong {
-        return Err(format!(in alloc; "{row}: step {step}")?.into());
+        return Err(Fail::new(format_args!("{row}: step {step}")));
     }
     if refused {
         return Err("memory was refused, and the call answered when it was made again".into());
@@ -473,5 +499,5 @@ pub fn try_rows<R: Threads + Wait + Sync + Clock>(
 ) -> Result<(), Fail> {
     let mut refused = false;
     let wrong = play_both(rt, alloc, rows, made, tries_limits, &mut refused)?;
-    end(alloc, wrong, refused)
+    end(wrong, refused)
 }
