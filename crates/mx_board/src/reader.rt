@@ -26,7 +26,6 @@ use std::marker::Model;
 /// reader hasn't seen: after its own event a maker catches up before it reads.
 ///
 /// No clause says when None comes, or that an answer is of a newer version than the one that the reader has seen.
-#[derive(Drop)]
 pub struct BoardReader {
     place: Option<VersionReader>,
     mark: JournalMark,
@@ -35,6 +34,22 @@ pub struct BoardReader {
     who: Who,
     made: u32,
     cut: u32,
+}
+
+// Written out, and not derived: a crate that drops a reader cites its proof.
+impl Drop for BoardReader {
+    fn drop(self) {
+        let BoardReader {
+            place,
+            mark,
+            unconfirmed: _,
+            who: _,
+            made: _,
+            cut: _,
+        } = self;
+        drop(place);
+        drop(mark);
+    }
 }
 
 impl Model for BoardReader {

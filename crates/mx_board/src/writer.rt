@@ -26,12 +26,24 @@ use std::sync::Wait;
 /// appended, those that are published, and which journal it is.
 ///
 /// One that is dropped keeps its memory: `close` frees it.
-#[derive(Drop)]
 pub struct BoardWriter {
     writer: ManuallyDrop<VersionWriter>,
     journal: AppendLog<Event>,
     /// An event was refused after its operation was queued, which doesn't happen: no further one is taken.
     broken: bool,
+}
+
+// Written out, and not derived: a crate that drops a board cites its proof.
+impl Drop for BoardWriter {
+    fn drop(self) {
+        let BoardWriter {
+            writer,
+            journal,
+            broken: _,
+        } = self;
+        drop(writer);
+        drop(journal);
+    }
 }
 
 impl Model for BoardWriter {
@@ -199,30 +211,30 @@ impl Log for BoardWriter {
     }
 }
 
-// Publishes what waits, where something does.
-fn published<R: Wait>(board: BoardWriter, rt: &R) -> (BoardWriter, ())
-    requires { is_legal board.events ≡ true }
-    ensures { result.0 ≡ record { events = board.events; published = board.events; book = board.book } }
-{
-    if board.broken || !board.writer.has_pending_operations() {
-        return (board, ());
-    }
-    let BoardWriter {
-        writer,
-        journal,
-        broken,
-    } = board;
-    let events = Snapshot::of(&journal);
-    let writer = publish_all(rt, ManuallyDrop::into_inner(writer), &events);
-    let board = BoardWriter {
-        writer: hold(writer),
-        journal,
-        broken,
-    };
-    (board, ())
-}
-
 impl BoardWriter {
+    // Publishes what waits, where something does.
+    fn published<R: Wait>(self, rt: &R) -> (BoardWriter, ())
+        requires { is_legal self.events ≡ true }
+        ensures { result.0 ≡ record { events = self.events; published = self.events; book = self.book } }
+    {
+        if self.broken || !self.writer.has_pending_operations() {
+            return (self, ());
+        }
+        let BoardWriter {
+            writer,
+            journal,
+            broken,
+        } = self;
+        let events = Snapshot::of(&journal);
+        let writer = publish_all(rt, ManuallyDrop::into_inner(writer), &events);
+        let board = BoardWriter {
+            writer: hold(writer),
+            journal,
+            broken,
+        };
+        (board, ())
+    }
+
     // rule board-published
     /// Publishes what was appended: it waits for the readers that still read the copy that it changes. Where nothing waits
     /// to be published, it does nothing.
@@ -230,7 +242,7 @@ impl BoardWriter {
         requires { is_legal self.old.events ≡ true }
         ensures { self.new ≡ record { events = self.old.events; published = self.old.events; book = self.old.book } }
     {
-        replace_with(self, rt, published::<R>)
+        replace_with(self, rt, BoardWriter::published::<R>)
     }
 
     /// The published version: the table of the published events.
@@ -252,7 +264,12 @@ impl BoardWriter {
     pub fn close<R: Wait>(self, rt: &R) -> Table
         ensures { IsTableOf self.published result }
     {
-        let BoardWriter { writer, .. } = self;
+        let BoardWriter {
+            writer,
+            journal,
+            broken: _,
+        } = self;
+        drop(journal);
         let version = ManuallyDrop::into_inner(writer).take(rt);
         Box::into_inner(version).into_table()
     }
