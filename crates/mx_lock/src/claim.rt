@@ -13,11 +13,19 @@ use std::snapshot::Snapshot;
 // rule multi-claims
 /// The right to finish or to give back one addition's work. The addition under its ticket is of its request: the list of ties that it
 /// names says so.
-#[derive(Drop)]
 pub struct TiedClaim<Q: Work> {
     claim: Claim<Q>,
     /// For contracts alone: it has no size.
     mark: TieMark,
+}
+
+// Written out, and not derived: a crate that drops a claim cites its proof.
+impl<Q: Work> Drop for TiedClaim<Q> {
+    fn drop(self) {
+        let TiedClaim { claim, mark } = self;
+        drop(claim);
+        drop(mark);
+    }
 }
 
 impl<Q: Work> Model for TiedClaim<Q> {
@@ -47,7 +55,8 @@ impl<Q: Work> TiedClaim<Q> {
         ensures of { result.1.book ≡ self.of }
         ensures known { origin_of result.0.ticket result.1.entries ≡ Some result.0.origin }
     {
-        (self.claim, self.mark)
+        let TiedClaim { claim, mark } = self;
+        (claim, mark)
     }
 
     /// The handle that was added.

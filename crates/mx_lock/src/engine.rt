@@ -1,16 +1,18 @@
 //! What the lock keeps: the control state, and the board that is published of it.
-ghost use Rattle.std.specs.Prelude.{◌≡◌, [], length, nat_lt, true, IfOk, IfSome};
+ghost use Rattle.std.specs.Prelude.{◌≡◌, [], false, length, nat_lt, true, IfOk, IfSome};
 ghost use mathlib.Core.List.{IsPrefix};
 ghost use Rattle.mx_append_log.specs.Log.{DecidesBeginning};
 ghost use Rattle.mx_journal.specs.Core.{retired};
 ghost use Rattle.mx_journal.specs.History.{is_legal, is_maker, made_by, retire};
 ghost use Rattle.mx_journal.specs.Answers.{is_ready};
+ghost use Rattle.mx_journal.specs.Receipts.{is_poll};
 ghost use Rattle.mx_journal.specs.Table.{IsTableOf};
 ghost use Rattle.mx_board.specs.Board.{caught_up, mark_of};
-ghost use Rattle.mx_lock.specs.Engine.{IsLocked};
-ghost use Rattle.mx_lock.specs.Ties.{AreOfAdditions, IsTied};
+ghost use Rattle.mx_lock.specs.Engine.{IsLocked, Leaves};
+ghost use Rattle.mx_lock.specs.Ties.{AreOfAdditions, IsTied, Tells};
 ghost use Rattle.mx_types.specs.Limits.{IsHistory};
 
+use crate::deeds::Deed;
 use crate::ties::{TieLog, TieMark};
 use mx_board::{BoardReader, BoardWriter, JournalMark};
 use mx_journal::{Control, Table};
@@ -22,11 +24,20 @@ use std::snapshot::Snapshot;
 use std::sync::Wait;
 
 /// What a call changes: the control state, the board, which is its log, and the ties of additions.
-#[derive(Drop)]
 pub struct Parts<Q: Work + Drop, O: Ending + Drop> {
     pub core: Control<Q, O>,
     pub log: BoardWriter,
     pub ties: TieLog,
+}
+
+// Written out, and not derived: a crate that drops an engine's parts cites its proof.
+impl<Q: Work + Drop, O: Ending + Drop> Drop for Parts<Q, O> {
+    fn drop(self) {
+        let Parts { core, log, ties } = self;
+        drop(core);
+        drop(log);
+        drop(ties);
+    }
 }
 
 impl<Q: Work + Drop, O: Ending + Drop> Parts<Q, O> {
@@ -41,9 +52,16 @@ impl<Q: Work + Drop, O: Ending + Drop> Parts<Q, O> {
 
 /// The control state, and the board. The published version is always that of the control state's journal. Beside the journal it has the
 /// request of each addition, for contracts alone. All of it is boxed, so that an engine is cheap to move.
-#[derive(Drop)]
 pub struct Engine<Q: Work + Drop, O: Ending + Drop> {
     pub(crate) parts: Box<Parts<Q, O>>,
+}
+
+// Written out, and not derived: a crate that drops an engine cites its proof.
+impl<Q: Work + Drop, O: Ending + Drop> Drop for Engine<Q, O> {
+    fn drop(self) {
+        let Engine { parts } = self;
+        drop(parts);
+    }
 }
 
 impl<Q: Work + Drop, O: Ending + Drop> Model for Engine<Q, O> {
@@ -120,8 +138,28 @@ impl<Q: Work + Drop, O: Ending + Drop> Engine<Q, O> {
         Engine { parts }
     }
 
+    // Makes a call for a maker, and publishes what it left.
+    pub(crate) fn run<D: Deed<Q, O>, R: Wait>(
+        self,
+        rt: &R,
+        deed: D,
+        who: Who,
+    ) -> (Engine<Q, O>, D::Reply)
+        requires maker { is_maker who ≡ true }
+        requires own { D.own deed self.ties.book }
+        ensures leaves { Leaves who (D.call deed) self (D.reply result.1) result.0 }
+        ensures back { D.back deed result.1 }
+        ensures tells { Tells (D.tie deed result.1) result.0.ties.entries }
+        ensures quiet { is_poll (D.call deed) ≡ false }
+    {
+        let Engine { mut parts } = self;
+        let reply = deed.make(rt, who, &mut parts);
+        let engine = Engine::publish(rt, parts);
+        (engine, reply)
+    }
+
     // Publishes what a call has left.
-    pub(crate) fn publish<R: Wait>(rt: &R, parts: Box<Parts<Q, O>>) -> Engine<Q, O>
+    fn publish<R: Wait>(rt: &R, parts: Box<Parts<Q, O>>) -> Engine<Q, O>
         requires { (parts.value.log.events ≡ parts.value.core.journal) × IsTied O.origin parts.value.core parts.value.ties.entries }
         ensures is { result ≡ record { core = parts.value.core; published = parts.value.core.journal; book = parts.value.log.book; ties = parts.value.ties } }
         ensures legal { is_legal result.core.journal ≡ true }

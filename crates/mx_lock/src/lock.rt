@@ -24,10 +24,18 @@ use std::sync::Wait;
 pub type Key<Q, O> = Pass<Engine<Q, O>, KeyView>;
 
 /// The engine's place. Contracts see which lock it is.
-#[derive(Drop)]
 pub struct Lock<Q: Work + Drop, O: Ending + Drop> {
     into: RuledSender<Engine<Q, O>, KeyView, LockRule>,
     from: RuledReceiver<Engine<Q, O>, KeyView, LockRule>,
+}
+
+// Written out, and not derived: a crate that drops a lock cites its proof.
+impl<Q: Work + Drop, O: Ending + Drop> Drop for Lock<Q, O> {
+    fn drop(self) {
+        let Lock { into, from } = self;
+        drop(into);
+        drop(from);
+    }
 }
 
 impl<Q: Work + Drop, O: Ending + Drop> Model for Lock<Q, O> {
@@ -45,10 +53,18 @@ impl<Q: Work + Drop, O: Ending + Drop> Model for Lock<Q, O> {
 }
 
 /// A lock without an engine yet, with its only key: all memory that a lock takes. Contracts see which lock it is.
-#[derive(Drop)]
 pub struct EmptyLock<Q: Work + Drop, O: Ending + Drop> {
     lock: Lock<Q, O>,
     key: Key<Q, O>,
+}
+
+// Written out, and not derived: a crate that drops one cites its proof.
+impl<Q: Work + Drop, O: Ending + Drop> Drop for EmptyLock<Q, O> {
+    fn drop(self) {
+        let EmptyLock { lock, key } = self;
+        drop(lock);
+        drop(key);
+    }
 }
 
 impl<Q: Work + Drop, O: Ending + Drop> Model for EmptyLock<Q, O> {

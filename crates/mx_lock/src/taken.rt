@@ -67,9 +67,7 @@ impl<Q: Work + Drop, O: Ending + Drop> Taken<Q, O> {
         ensures quiet { is_poll (D.call deed) ≡ false }
     {
         let Taken { engine } = self;
-        let Engine { mut parts } = engine;
-        let reply = deed.make(rt, who, &mut parts);
-        let engine = Engine::publish(rt, parts);
+        let (engine, reply) = engine.run(rt, deed, who);
         (Taken { engine }, reply)
     }
 

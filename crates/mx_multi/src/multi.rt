@@ -34,7 +34,6 @@ pub struct HandleList {
 }
 
 /// A multi handle that threads share, each through a seat of its own. Who opened it has it as an `OwnedMulti`, which lends it.
-#[derive(Drop)]
 pub struct Multi<Q: Work + Drop, O: Ending + Drop> {
     pub(crate) lock: Lock<Q, O>,
     /// The journal with which it began, which distinguishes journals.
@@ -51,6 +50,29 @@ pub struct Multi<Q: Work + Drop, O: Ending + Drop> {
     /// How many wake-ups and ends there were, for those that wait.
     pub(crate) changes: Mutex<u64>,
     pub(crate) changed: Condvar,
+}
+
+// Written out, and not derived: a crate that drops a multi handle cites its proof.
+impl<Q: Work + Drop, O: Ending + Drop> Drop for Multi<Q, O> {
+    fn drop(self) {
+        let Multi {
+            lock,
+            start,
+            ties,
+            words,
+            limits: _,
+            first: _,
+            from: _,
+            changes,
+            changed,
+        } = self;
+        drop(lock);
+        drop(start);
+        drop(ties);
+        drop(words);
+        drop(changes);
+        drop(changed);
+    }
 }
 
 impl<Q: Work + Drop, O: Ending + Drop> Model for Multi<Q, O> {

@@ -1,5 +1,5 @@
 //! Retiring old history: the multi handle goes on as it was, with room in its history.
-ghost use Rattle.std.specs.Prelude.{◌⊎◌, ◌≡◌, ◌≤◌, ◌+◌, ◌++◌, ◌∷◌, [], false, length, true, vec_capacity, vec_len, IfErr, IfOk, MatchBool, MatchOption, MatchResult};
+ghost use Rattle.std.specs.Prelude.{◌⊎◌, ◌≡◌, ◌≤◌, ◌+◌, [], false, length, true, vec_capacity, vec_len, IfOk, MatchBool, MatchOption, MatchResult};
 ghost use Rattle.std.specs.List.{All};
 ghost use Rattle.std.specs.VecDeque.{deque_len};
 ghost use Rattle.mx_append_log.specs.Log.{AreOfOneList};
@@ -10,7 +10,7 @@ ghost use Rattle.mx_multi.specs.Opening.{AreRooms};
 ghost use Rattle.mx_multi.specs.Retiring.{refusal_number, AllFind, AllToldOf, Hinders, IsRefused, IsRetiredTo, MatchRetiring, MayRetire, OneFindsOther};
 ghost use Rattle.mx_multi.specs.Seats.{Finds};
 
-use crate::founding::{Rooms, found, rooms_by};
+use crate::founding::{Rooms, rooms_by};
 use crate::multi::{Multi, fits};
 use crate::owned::OwnedMulti;
 use crate::seat::{Seat, SeatOf, WorkerSeat};
@@ -141,7 +141,7 @@ impl<Q: Work + Drop, O: Ending + Drop> OwnedMulti<Q, O> {
         let Some(last) = seats.pop() else {
             return Retiring::Refused(Refusal::SeatsMissing, (self, seats, workers));
         };
-        match self.shared().retire_by(rt, alloc, last, &seats, &workers) {
+        match last.retire_by(rt, alloc, self.shared(), &seats, &workers) {
             Ok(retired) => {
                 // By calls, which are less to prove than drops at the end of the block.
                 drop(seats);
@@ -158,42 +158,8 @@ impl<Q: Work + Drop, O: Ending + Drop> OwnedMulti<Q, O> {
 }
 
 impl<Q: Work + Drop, O: Ending + Drop> Multi<Q, O> {
-    // Retires through one seat beside the others. A refusal hands that back.
-    fn retire_by<R: Wait>(
-        &self,
-        rt: &R,
-        alloc: Global,
-        last: Seat<Q, O>,
-        seats: &[Seat<Q, O>],
-        workers: &[WorkerSeat<Q, O>],
-    ) -> Result<Handle<Q, O>, (Refusal, Seat<Q, O>)>
-        requires own { (last.of ≡ self.now) × All (λ s. s.of ≡ self.now) seats.now × All (λ s. s.of ≡ self.now) workers.now }
-        ensures retired { IfOk result (λ r. IsRetiredTo O.code_of O.size_of self.now (seats.now ++ last ∷ []) workers.now r.0 r.1.items r.2.items) }
-        ensures last { IfErr result (λ r. r.1 ≡ last) }
-        ensures refused { IfErr result (λ r. IsRefused O.code_of O.size_of self.now (seats.now ++ last ∷ []) workers.now r.0) }
-    {
-        let mut last = last;
-        let taken = match self.lock.enter(rt, &mut last.key, &last.reader) {
-            Ok(taken) => taken,
-            Err(_found) => return Err((Refusal::WrongSeat, last)),
-        };
-        let engine = taken.engine();
-        let _known = engine.know();
-        last.ties.are_of_one_list(&engine.tie_mark());
-        match self.prepare(rt, alloc, engine, seats, workers) {
-            Ok((rooms, log)) => {
-                let retired = taken.retire(rt, log);
-                Ok(found(rt, rooms, retired, self.limits))
-            }
-            Err(why) => {
-                self.lock.put_back(rt, &mut last.key, taken);
-                Err((why, last))
-            }
-        }
-    }
-
     // What blocks retiring, with one seat beside these; else all growths for it.
-    fn prepare<R: Wait>(
+    pub(crate) fn prepare<R: Wait>(
         &self,
         rt: &R,
         alloc: Global,

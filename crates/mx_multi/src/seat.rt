@@ -1,15 +1,22 @@
 //! A caller's seat at a multi handle.
-ghost use Rattle.std.specs.Prelude.{◌≡◌, ◌++◌, ◌∷◌, [], length};
+ghost use Rattle.std.specs.Prelude.{◌≡◌, ◌++◌, ◌∷◌, [], length, IfErr, IfOk};
+ghost use Rattle.std.specs.List.{All};
 ghost use Rattle.mx_types.specs.declared.call.Call.{Call};
 ghost use Rattle.mx_types.specs.declared.reply.Reply.{Reply};
+ghost use Rattle.mx_multi.specs.Retiring.{IsRefused, IsRetiredTo};
 ghost use Rattle.mx_multi.specs.Seats.{HasReceipts, given_with};
 
+use crate::founding::found;
+use crate::multi::Multi;
 use crate::open::Limits;
+use crate::retire::{Handle, Refusal};
 use mx_board::{BoardReader, NoteSeat};
 use mx_journal::GiveBackReply;
 use mx_lock::{Key, TieMark};
 use mx_types::{AddedHandles, Call, Ending, History, Receipt, Reply, Ticket, Work};
+use std::alloc::Global;
 use std::marker::{Model, PhantomData};
+use std::sync::Wait;
 
 /// The role of an application's thread: it adds, removes, pauses and reads.
 pub struct Application;
@@ -34,7 +41,6 @@ pub struct HistoryUse {
 /// it is, the events that it has seen and how many of them are confirmed, how many they were at its last poll, the tickets
 /// that it has claimed and those that it has given back, the progress words that it has noted and read, of which requests additions
 /// are, as it was told under the lock, and the receipts of all its calls that were answered.
-#[derive(Drop)]
 pub struct SeatOf<K, Q: Work + Drop, O: Ending + Drop> {
     pub(crate) role: PhantomData<K>,
     pub(crate) key: Key<Q, O>,
@@ -51,6 +57,29 @@ pub struct SeatOf<K, Q: Work + Drop, O: Ending + Drop> {
     pub(crate) mine: History<Receipt>,
     /// The tickets that it has given back, for contracts alone: it has no size.
     pub(crate) given: History<Ticket>,
+}
+
+// Written out, and not derived: a crate that drops a seat cites its proof.
+impl<K, Q: Work + Drop, O: Ending + Drop> Drop for SeatOf<K, Q, O> {
+    fn drop(self) {
+        let SeatOf {
+            role: _,
+            key,
+            reader,
+            polled: _,
+            notes,
+            limits: _,
+            ties,
+            mine,
+            given,
+        } = self;
+        drop(key);
+        drop(reader);
+        drop(notes);
+        drop(ties);
+        drop(mine);
+        drop(given);
+    }
 }
 
 impl<K, Q: Work + Drop, O: Ending + Drop> Model for SeatOf<K, Q, O> {
@@ -89,6 +118,83 @@ impl<K, Q: Work + Drop, O: Ending + Drop> SeatOf<K, Q, O> {
     {
         // For the prover alone: what holds of a seat is used.
         let _ = &self.reader;
+    }
+}
+
+impl<Q: Work + Drop, O: Ending + Drop> SeatOf<Application, Q, O> {
+    // Retires its multi handle through this seat beside the others. A refusal hands it back. It is taken apart first: once the engine is
+    // retired, its key isn't that of a seat, and can only be dropped by itself.
+    pub(crate) fn retire_by<R: Wait>(
+        self,
+        rt: &R,
+        alloc: Global,
+        multi: &Multi<Q, O>,
+        seats: &[Seat<Q, O>],
+        workers: &[WorkerSeat<Q, O>],
+    ) -> Result<Handle<Q, O>, (Refusal, Seat<Q, O>)>
+        requires own { (self.of ≡ multi.now) × All (λ s. s.of ≡ multi.now) seats.now × All (λ s. s.of ≡ multi.now) workers.now }
+        ensures retired { IfOk result (λ r. IsRetiredTo O.code_of O.size_of multi.now (seats.now ++ self ∷ []) workers.now r.0 r.1.items r.2.items) }
+        ensures last { IfErr result (λ r. r.1 ≡ self) }
+        ensures refused { IfErr result (λ r. IsRefused O.code_of O.size_of multi.now (seats.now ++ self ∷ []) workers.now r.0) }
+    {
+        let SeatOf {
+            role,
+            mut key,
+            reader,
+            polled,
+            notes,
+            limits,
+            ties,
+            mine,
+            given,
+        } = self;
+        let taken = match multi.lock.enter(rt, &mut key, &reader) {
+            Ok(taken) => taken,
+            Err(_found) => {
+                let last = SeatOf {
+                    role,
+                    key,
+                    reader,
+                    polled,
+                    notes,
+                    limits,
+                    ties,
+                    mine,
+                    given,
+                };
+                return Err((Refusal::WrongSeat, last));
+            }
+        };
+        let engine = taken.engine();
+        let _known = engine.know();
+        ties.are_of_one_list(&engine.tie_mark());
+        match multi.prepare(rt, alloc, engine, seats, workers) {
+            Ok((rooms, log)) => {
+                let retired = taken.retire(rt, log);
+                drop(key);
+                drop(reader);
+                drop(notes);
+                drop(ties);
+                drop(mine);
+                drop(given);
+                Ok(found(rt, rooms, retired, multi.limits))
+            }
+            Err(why) => {
+                multi.lock.put_back(rt, &mut key, taken);
+                let last = SeatOf {
+                    role,
+                    key,
+                    reader,
+                    polled,
+                    notes,
+                    limits,
+                    ties,
+                    mine,
+                    given,
+                };
+                Err((why, last))
+            }
+        }
     }
 }
 

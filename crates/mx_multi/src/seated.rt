@@ -26,10 +26,17 @@ use std::sync::Wait;
 use std::time::Clock;
 
 /// A seat with the multi handle that gave it: so each call is one that the seat may make. Contracts see what they see of the seat.
-#[derive(Drop)]
 pub struct Seated<'m, K, Q: Work + Drop, O: Ending + Drop> {
     multi: &'m Multi<Q, O>,
     seat: SeatOf<K, Q, O>,
+}
+
+// Written out, and not derived: a crate that drops a seat cites its proof.
+impl<'m, K, Q: Work + Drop, O: Ending + Drop> Drop for Seated<'m, K, Q, O> {
+    fn drop(self) {
+        let Seated { multi: _, seat } = self;
+        drop(seat);
+    }
 }
 
 impl<'m, K, Q: Work + Drop, O: Ending + Drop> Model for Seated<'m, K, Q, O> {
@@ -65,7 +72,8 @@ impl<'m, K, Q: Work + Drop, O: Ending + Drop> Seated<'m, K, Q, O> {
     pub fn into_seat(self) -> SeatOf<K, Q, O>
         ensures { result ≡ self.entry }
     {
-        self.seat
+        let Seated { multi: _, seat } = self;
+        seat
     }
 
     /// How many events the seat has seen.
