@@ -29,7 +29,6 @@ pub enum Stepped {
 }
 
 /// A request, and its hops: one exchange after another, as redirects lead on.
-#[derive(Drop)]
 pub struct Chain<L: Link> {
     alloc: Global,
     about: Snapshot<Request>,
@@ -45,6 +44,29 @@ pub struct Chain<L: Link> {
     is_linked: bool,
     // Where the link goes that was attached last, once the transfer has ended.
     home: Option<Endpoint>,
+}
+
+// Written out, and not derived: a crate that drops a chain cites its proof.
+impl<L: Link> Drop for Chain<L> {
+    fn drop(self) {
+        let Chain {
+            alloc: _,
+            about,
+            most: _,
+            hops,
+            exchange,
+            code: _,
+            earlier: _,
+            idle,
+            is_linked: _,
+            home,
+        } = self;
+        drop(about);
+        drop(hops);
+        drop(exchange);
+        drop(idle);
+        drop(home);
+    }
 }
 
 // A copy of an endpoint, where there is one and memory isn't refused.
@@ -156,10 +178,12 @@ impl<L: Link> Chain<L> {
             exchange,
             code: _,
             earlier: _,
-            idle: _,
+            idle,
             is_linked: _,
-            home: _,
+            home,
         } = self;
+        drop(idle);
+        drop(home);
         match hops.into_first() {
             Some(request) => {
                 drop(exchange);

@@ -20,11 +20,23 @@ use std::marker::Model;
 
 // rule redirect-outcome
 /// What a transfer ended with: its hops, of which each but the last was followed, and its code. The response is the last hop's.
-#[derive(Drop)]
 pub struct Outcome {
     earlier: Hops,
     last: Hop,
     code: Code,
+}
+
+// Written out, and not derived: a crate that drops an outcome cites its proof.
+impl Drop for Outcome {
+    fn drop(self) {
+        let Outcome {
+            earlier,
+            last,
+            code: _,
+        } = self;
+        drop(earlier);
+        drop(last);
+    }
 }
 
 impl Model for Outcome {

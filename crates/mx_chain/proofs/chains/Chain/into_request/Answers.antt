@@ -7,7 +7,7 @@ returns-in-Some g c =
     let leads = c.self.invariant.chain.leads (rw (← c.self.view_is) at c.requires) in
     rw (← c.self.view_is) (request_of_first _ _ _ _ _ leads c.in-Some.ensures)
 
-pub returns : goal.returns
-returns g c =
+pub returns-in-None : goal.returns-in-None
+returns-in-None g c =
     let leads = c.self.invariant.chain.leads (rw (← c.self.view_is) at c.requires) in
     rw (← c.self.view_is) (c.into_request.ensures ∙ request_of_none _ _ _ _ leads c.in-None.ensures)
