@@ -3,9 +3,16 @@ use mx_gate::Bell;
 use mx_names::Ring;
 
 /// The bell of a gate, for a resolver to ring.
-#[derive(Drop)]
 pub struct NameBell {
     bell: Bell,
+}
+
+// Written out, and not derived: a crate that drops a bell cites its proof.
+impl Drop for NameBell {
+    fn drop(self) {
+        let NameBell { bell } = self;
+        drop(bell);
+    }
 }
 
 impl NameBell {

@@ -81,7 +81,6 @@ impl<L: Lookup> Told<L> {
 ///
 /// Its `now` and `turn` have the bound `Wait` since the other methods of `Gate` need it. They take no lock, but `turn` blocks as that of
 /// the gate within.
-#[derive(Drop)]
 pub struct NamedGate<'r, R, L: Lookup> {
     rt: &'r R,
     gate: SocketGate<'r, R>,
@@ -89,6 +88,25 @@ pub struct NamedGate<'r, R, L: Lookup> {
     waiting: Waiting,
     told: Option<Told<L>>,
     said: History<Said>,
+}
+
+// Written out, and not derived: a crate that drops a gate cites its proof.
+impl<'r, R, L: Lookup + Drop> Drop for NamedGate<'r, R, L> {
+    fn drop(self) {
+        let NamedGate {
+            rt: _,
+            gate,
+            resolver,
+            waiting,
+            told,
+            said,
+        } = self;
+        drop(gate);
+        drop(resolver);
+        drop(waiting);
+        drop(told);
+        drop(said);
+    }
 }
 
 impl<'r, R, L: Lookup> Model for NamedGate<'r, R, L> {

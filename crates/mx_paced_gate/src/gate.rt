@@ -16,12 +16,26 @@ use std::marker::Model;
 /// gate within, and all that was said.
 ///
 /// Its answers are those of the gate within, but for the links that it puts off.
-#[derive(Drop)]
 pub struct PacedGate<G> {
     gate: G,
     pace: Pace,
     has_put_off: bool,
     said: History<Said>,
+}
+
+// Written out, and not derived: a crate that drops a gate cites its proof.
+impl<G: Drop> Drop for PacedGate<G> {
+    fn drop(self) {
+        let PacedGate {
+            gate,
+            pace,
+            has_put_off: _,
+            said,
+        } = self;
+        drop(gate);
+        drop(pace);
+        drop(said);
+    }
 }
 
 impl<G> Model for PacedGate<G> {
@@ -52,7 +66,15 @@ impl<G: Gate> PacedGate<G> {
     pub fn into_inner(self) -> G
         ensures { result ≡ self.gate }
     {
-        self.gate
+        let PacedGate {
+            gate,
+            pace,
+            has_put_off: _,
+            said,
+        } = self;
+        drop(pace);
+        drop(said);
+        gate
     }
 
     // Whether a link can be opened now, by the pace and by the gate within, which is asked where the pace allows it.
