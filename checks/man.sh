@@ -171,7 +171,7 @@ for name, limits in {
     ),
     "LISTS OF URLS": (("more than {} bytes", "mx_url_list/src/entry.rt", "MOST_LINE"),),
     "NAMES OF FILES": (("at most {} bytes", "mx_file_name/src/names.rt", "MOST_LEN"),),
-    "RETRIES": (("At most {} URLs", "mx_save_run/src/plan.rt", "MOST_PENDING"),),
+    "RETRIES": (("At most {} URLs", "mx_save_urls/src/plan.rt", "MOST_PENDING"),),
 }.items():
     there = " ".join(section(name).split())
     for words, path, limit in limits:

@@ -1,15 +1,15 @@
 //! A run of a crew, beside an application.
 ghost use Rattle.std.specs.Prelude.{◌≡◌, ◌≤◌, ◌+◌, IfErr, IfOk, MatchResult, OnErr, OnOk, Result, Ok, Err, vec_capacity, vec_len};
-ghost use Rattle.mx_crew.specs.declared.error.CrewError.{CrewError as WhyNone};
+ghost use Rattle.mx_run_io.specs.declared.stop.Stop.{Stop as WhyNone};
 ghost use Rattle.std.specs.Thread.{IsSync};
-ghost use Rattle.mx_crew.specs.declared.error.CrewError.TheVariants as crew_error;
+ghost use Rattle.mx_run_io.specs.declared.stop.Stop.TheVariants as stop;
 
 use crate::crew::Crew;
-use crate::error::CrewError;
 use crate::gate::{Common, RunGate};
 use crate::post::{Post, Worked, work};
 use mx_gate::Gate;
 use mx_link::Link;
+use mx_run_io::Stop;
 use std::alloc::{AllocGlobal, Global};
 use std::random::RandomSource;
 use std::sync::Wait;
@@ -20,19 +20,19 @@ use std::{io, thread};
 fn keep<G: Drop, E: Drop>(
     handles: &mut Vec<JoinHandle<Worked<G>>>,
     started: Result<JoinHandle<Worked<G>>, E>,
-) -> Result<(), CrewError>
+) -> Result<(), Stop>
     requires { vec_len handles.old + 1 ≤ vec_capacity handles.old }
     ensures kept { OnOk result (vec_len handles.new ≡ vec_len handles.old + 1) }
     ensures most { vec_len handles.new ≤ vec_len handles.old + 1 }
     ensures room { vec_capacity handles.new ≡ vec_capacity handles.old }
-    ensures cause { IfErr result (λ e. e ≡ crew_error.NoThread) }
+    ensures cause { IfErr result (λ e. e ≡ stop.NoThread) }
 {
     match started {
         Ok(handle) => {
             handles.push_reserved(handle);
             Ok(())
         }
-        Err(_) => Err(CrewError::NoThread),
+        Err(_) => Err(Stop::NoThread),
     }
 }
 
@@ -51,7 +51,7 @@ fn start_one<
     common: &'s Common,
     post: Post<'m, L, G>,
     handles: &mut Vec<JoinHandle<Worked<G>>>,
-) -> Result<(), CrewError>
+) -> Result<(), Stop>
     requires runtime { IsSync R.row }
     requires room { vec_len handles.old + 1 ≤ vec_capacity handles.old }
     ensures kept { OnOk result (vec_len handles.new ≡ vec_len handles.old + 1) }
@@ -83,7 +83,7 @@ fn start_all<
     common: &'s Common,
     posts: &mut Vec<Post<'m, L, G>>,
     handles: &mut Vec<JoinHandle<Worked<G>>>,
-) -> Result<(), CrewError>
+) -> Result<(), Stop>
     requires runtime { IsSync R.row }
     requires none { vec_len handles.old ≡ 0 }
     requires room { vec_len posts.old ≤ vec_capacity handles.old }
@@ -101,9 +101,9 @@ fn stand<R: Wait>(
     rt: &R,
     crew: &Crew,
     common: &Common,
-    started: Result<(), CrewError>,
+    started: Result<(), Stop>,
     count: usize,
-) -> Result<(), CrewError>
+) -> Result<(), Stop>
     ensures { OnOk result (started ≡ Ok tt) }
 {
     let stands = match started {
@@ -136,9 +136,9 @@ fn join_all<R: Threads, G: Drop>(
 
 // What the workers did, where there is a crew.
 fn worked_if<G: Drop>(
-    stands: Result<(), CrewError>,
+    stands: Result<(), Stop>,
     worked: Vec<Worked<G>>,
-) -> Result<Vec<Worked<G>>, CrewError>
+) -> Result<Vec<Worked<G>>, Stop>
     ensures { MatchResult result (λ w. (stands ≡ Ok tt) × (w ≡ worked)) (λ e. stands ≡ Err e) }
 {
     match stands {
@@ -156,7 +156,7 @@ fn run_all<
     R: Threads + Wait + RandomSource + AllocGlobal + Sync,
     G: Gate<Link = L> + Send + Drop,
     T: Drop,
-    F: FnOnce(Result<(), CrewError>) -> T + Drop,
+    F: FnOnce(Result<(), Stop>) -> T + Drop,
 >(
     rt: &'m R,
     crew: &'m Crew,
@@ -165,7 +165,7 @@ fn run_all<
     handles: Vec<JoinHandle<Worked<G>>>,
     worked: Vec<Worked<G>>,
     application: F,
-) -> (T, Result<Vec<Worked<G>>, CrewError>)
+) -> (T, Result<Vec<Worked<G>>, Stop>)
     requires application { (stands : Result Unit WhyNone) → F.pre application stands }
     requires none { (vec_len handles ≡ 0) × (vec_len worked ≡ 0) }
     requires room { (vec_len posts ≤ vec_capacity handles) × (vec_len posts ≤ vec_capacity worked) }
@@ -174,7 +174,7 @@ fn run_all<
     thread::scope(
         thread::scope_env(),
         rt,
-        move |scope| -> (T, Result<Vec<Worked<G>>, CrewError>)
+        move |scope| -> (T, Result<Vec<Worked<G>>, Stop>)
             requires { IsSync R.row × ((stands : Result Unit WhyNone) → F.pre application stands) × (vec_len handles ≡ 0) × (vec_len worked ≡ 0)
                 × (vec_len posts ≤ vec_capacity handles) × (vec_len posts ≤ vec_capacity worked) }
             ensures told { MatchResult result.1 (λ worked. F.post application (Ok tt) result.0 × (vec_len worked ≡ vec_len posts.entry)) (λ e. F.post application (Err e) result.0) }
@@ -196,14 +196,14 @@ fn run_all<
 fn rooms<G: Drop>(
     alloc: Global,
     count: usize,
-) -> Result<(Vec<JoinHandle<Worked<G>>>, Vec<Worked<G>>), CrewError>
+) -> Result<(Vec<JoinHandle<Worked<G>>>, Vec<Worked<G>>), Stop>
     ensures none { IfOk result (λ r. (vec_len r.0 ≡ 0) × (vec_len r.1 ≡ 0)) }
     ensures room { IfOk result (λ r. (count ≤ vec_capacity r.0) × (count ≤ vec_capacity r.1)) }
 {
     let handles = Vec::with_capacity(alloc, count)?;
     let Ok(worked) = Vec::with_capacity(alloc, count) else {
         drop(handles);
-        return Err(CrewError::OutOfMemory);
+        return Err(Stop::OutOfMemory);
     };
     Ok((handles, worked))
 }
@@ -227,13 +227,13 @@ pub fn run_beside<
     R: Threads + Wait + RandomSource + AllocGlobal + Sync,
     G: Gate<Link = L> + Send + Drop,
     T: Drop,
-    F: FnOnce(Result<(), CrewError>) -> T + Drop,
+    F: FnOnce(Result<(), Stop>) -> T + Drop,
 >(
     rt: &'m R,
     crew: &'m Crew,
     posts: Vec<Post<'m, L, G>>,
     application: F,
-) -> (T, Result<Vec<Worked<G>>, CrewError>)
+) -> (T, Result<Vec<Worked<G>>, Stop>)
     requires { (stands : Result Unit WhyNone) → F.pre application stands }
     ensures told { MatchResult result.1 (λ worked. F.post application (Ok tt) result.0 × (vec_len worked ≡ vec_len posts.entry)) (λ e. F.post application (Err e) result.0) }
 {

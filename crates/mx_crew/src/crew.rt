@@ -1,13 +1,12 @@
 //! What wakes workers, and what stops them.
 ghost use Rattle.std.specs.Prelude.{◌≡◌, ◌↔◌, IfOk, OnOk, vec_len};
 ghost use Rattle.mx_types.specs.declared.code.Code.TheVariants as codes;
-ghost use Rattle.mx_crew.specs.declared.error.CrewError.TheVariants as crew_error;
+ghost use Rattle.mx_run_io.specs.declared.stop.Stop.TheVariants as stop;
 
-use crate::error::CrewError;
 use mx_gate::{Bell, FileLimit, SocketGate};
-use mx_named_gate::{NameBell, NamedGate};
+use mx_named_gate::{NameBell, NamedGate, PacedGate};
 use mx_names::{Lookup, Resolver, SystemLookup};
-use mx_paced_gate::PacedGate;
+use mx_run_io::Stop;
 use mx_types::{Code, OutOfMemory};
 use std::alloc::{AllocError, AllocGlobal, Global};
 use std::net::{Net, TcpListener, TcpStream};
@@ -43,12 +42,12 @@ impl Drop for Crew {
 }
 
 // Why there is no gate, by the code that says so.
-fn no_gate(code: Code) -> CrewError
-    ensures { (result ≡ crew_error.OutOfMemory) ↔ (code ≡ codes.OutOfMemory) }
+fn no_gate(code: Code) -> Stop
+    ensures { (result ≡ stop.OutOfMemory) ↔ (code ≡ codes.OutOfMemory) }
 {
     match code {
-        Code::OutOfMemory => CrewError::OutOfMemory,
-        _ => CrewError::NoPoll,
+        Code::OutOfMemory => Stop::OutOfMemory,
+        _ => Stop::NoPoll,
     }
 }
 
@@ -107,7 +106,7 @@ impl Crew {
         &mut self,
         rt: &'r R,
         start: Instant,
-    ) -> Result<SocketGate<'r, R>, CrewError> {
+    ) -> Result<SocketGate<'r, R>, Stop> {
         match SocketGate::starting_at(rt, self.stop()?, start) {
             Ok(gate) => self.register(gate),
             Err(code) => Err(no_gate(code)),
@@ -118,7 +117,7 @@ impl Crew {
     fn register<'r, R: Net + Clock + AllocGlobal>(
         &mut self,
         gate: SocketGate<'r, R>,
-    ) -> Result<SocketGate<'r, R>, CrewError> {
+    ) -> Result<SocketGate<'r, R>, Stop> {
         match self.know(&gate) {
             Ok(()) => Ok(gate),
             Err(error) => {
@@ -137,16 +136,13 @@ impl Crew {
         rt: &'r R,
         start: Instant,
         resolver: &Resolver<SystemLookup<R>, NameBell>,
-    ) -> Result<HostGate<'r, R>, CrewError> {
+    ) -> Result<HostGate<'r, R>, Stop> {
         let gate = self.socket_gate(rt, start)?;
         Ok(PacedGate::new(NamedGate::new(rt, gate, resolver)?))
     }
 
     // Keeps the waker of the worker at this gate, and the flag that says whether too many files were open for it.
-    fn know<R: Net + Clock + AllocGlobal>(
-        &mut self,
-        gate: &SocketGate<'_, R>,
-    ) -> Result<(), CrewError> {
+    fn know<R: Net + Clock + AllocGlobal>(&mut self, gate: &SocketGate<'_, R>) -> Result<(), Stop> {
         self.bells.push(gate.bell()?)?;
         self.file_limits.push(gate.file_limit()?)?;
         Ok(())
@@ -168,7 +164,7 @@ impl Crew {
             + Sync
             + Drop
             + 'static,
-    >(&mut self, rt: &'r R, start: Instant, count: u8) -> Result<Vec<HostGate<'r, R>>, CrewError>
+    >(&mut self, rt: &'r R, start: Instant, count: u8) -> Result<Vec<HostGate<'r, R>>, Stop>
         ensures { IfOk result (λ gates. vec_len gates ≡ count) }
     {
         let resolver = served(rt, start)?;
@@ -187,7 +183,7 @@ impl Crew {
         start: Instant,
         resolver: &Resolver<SystemLookup<R>, NameBell>,
         count: u8,
-    ) -> Result<Vec<HostGate<'r, R>>, CrewError>
+    ) -> Result<Vec<HostGate<'r, R>>, Stop>
         ensures { IfOk result (λ gates. vec_len gates ≡ count) }
     {
         let mut gates = Vec::with_capacity(rt.alloc(), usize::from(count))?;
@@ -211,7 +207,7 @@ impl Crew {
         resolver: &Resolver<SystemLookup<R>, NameBell>,
         gates: &mut Vec<HostGate<'r, R>>,
         count: u8,
-    ) -> Result<(), CrewError>
+    ) -> Result<(), Stop>
         requires { vec_len gates.old ≡ 0 }
         ensures { OnOk result (vec_len gates.new ≡ count) }
     {
@@ -235,7 +231,7 @@ fn served<
         + Sync
         + Drop
         + 'static,
->(rt: &R, start: Instant) -> Result<Resolver<SystemLookup<R>, NameBell>, CrewError> {
+>(rt: &R, start: Instant) -> Result<Resolver<SystemLookup<R>, NameBell>, Stop> {
     let resolver = Resolver::new(rt.alloc(), SystemLookup::new(*rt), start)?;
     match share(rt, &resolver) {
         Ok(()) => Ok(resolver),
@@ -250,7 +246,7 @@ fn served<
 fn share<
     L: Lookup + Send + Sync + Drop + 'static,
     R: Clock + AllocGlobal + Threads + Wait + Copy + Send + Drop + 'static,
->(rt: &R, resolver: &Resolver<L, NameBell>) -> Result<(), CrewError> {
+>(rt: &R, resolver: &Resolver<L, NameBell>) -> Result<(), Stop> {
     serve(rt, resolver.share()?)
 }
 
@@ -258,13 +254,13 @@ fn share<
 fn serve<
     L: Lookup + Send + Sync + Drop + 'static,
     R: Clock + AllocGlobal + Threads + Wait + Copy + Send + Drop + 'static,
->(rt: &R, resolver: Resolver<L, NameBell>) -> Result<(), CrewError> {
+>(rt: &R, resolver: Resolver<L, NameBell>) -> Result<(), Stop> {
     let there = *rt;
     match thread::spawn(rt, move || resolver.serve(&there)) {
         Ok(thread) => {
             drop(thread);
             Ok(())
         }
-        Err(_) => Err(CrewError::NoThread),
+        Err(_) => Err(Stop::NoThread),
     }
 }

@@ -3,7 +3,6 @@
 
 mod beside;
 mod crew;
-mod error;
 mod gate;
 mod opening;
 mod post;
@@ -13,7 +12,7 @@ mod starts;
 
 pub use crate::beside::run_beside;
 pub use crate::crew::{Crew, HostGate};
-pub use crate::error::CrewError;
 pub use crate::opening::{Opened, open_one};
 pub use crate::post::{Counts, NoPosts, Post, Worked, posts};
 pub use crate::runtime::Runtime;
+pub use mx_run_io::Stop;

@@ -1,6 +1,6 @@
 //! Whether the workers of a run have started.
 
-use crate::error::CrewError;
+use mx_run_io::Stop;
 use std::sync::Wait;
 use std::sync::atomic::{AtomicU64, Ordering};
 
@@ -30,14 +30,14 @@ impl Starts {
     }
 
     /// Waits until one of so many workers has started. `OutOfMemory` comes where the starts of all were refused.
-    pub fn await_one<R: Wait>(&self, rt: &R, count: usize) -> Result<(), CrewError> {
+    pub fn await_one<R: Wait>(&self, rt: &R, count: usize) -> Result<(), Stop> {
         for _ in rt.forever() {
             let told = self.told.load(Ordering::SeqCst);
             if told % REFUSED > 0 || count == 0 {
                 return Ok(());
             }
             if told / REFUSED >= count as u64 {
-                return Err(CrewError::OutOfMemory);
+                return Err(Stop::OutOfMemory);
             }
             self.told.park(rt, (told & 0xffff_ffff) as u32);
         }

@@ -5,17 +5,17 @@ ghost use Rattle.mx_lock.specs.Ties.{Has, tie};
 ghost use Rattle.mx_desk.specs.Additions.{AreAtFirst, awaits_at};
 ghost use Rattle.mx_desk.specs.Desks.{HasRoom, IsNewDesk};
 ghost use Rattle.mx_desk.specs.Ties.{ties_at};
-ghost use Rattle.mx_desk.specs.declared.error.DeskError.TheVariants as desk_error;
+ghost use Rattle.mx_run_io.specs.declared.stop.Stop.TheVariants as stop;
 
 use crate::addition::Addition;
-use crate::error::DeskError;
 use crate::seats::{Seats, Told};
 use mx_chain::Outcome;
 use mx_link::Link;
 use mx_multi::{Application, Seated};
-use mx_queue::Queued;
 use mx_request::Request;
 use mx_request::laws::origin_is_whole_request;
+use mx_run_io::Stop;
+use mx_transfer::Queued;
 use mx_types::{HandleId, OutOfMemory, Ticket};
 use std::alloc::{AllocGlobal, Global};
 use std::marker::Model;
@@ -215,11 +215,11 @@ impl<'e, 'm, L: Link> Desk<'e, 'm, L> {
         rt: &R,
         at: usize,
         request: Request,
-    ) -> Result<Option<Ticket>, DeskError>
+    ) -> Result<Option<Ticket>, Stop>
         requires room { HasRoom self.old }
         ensures added { IfOk result (λ o. MatchOption o (Stays self.old self.new) (λ _. Adds self.old self.new at request)) }
         ensures kept { OnErr result (Stays self.old self.new) }
-        ensures why { IfErr result (λ e. e ≡ desk_error.OutOfMemory) }
+        ensures why { IfErr result (λ e. e ≡ stop.OutOfMemory) }
     {
         let Some(handle) = free_handle(self.additions.as_slice(), at) else {
             drop(request);
@@ -241,7 +241,7 @@ impl<'e, 'm, L: Link> Desk<'e, 'm, L> {
 
     // rule save-requests
     // Takes out an addition whose end came at that seat: nothing is added under its number then.
-    fn take(&mut self, at: usize, told: &Told) -> Result<(), DeskError>
+    fn take(&mut self, at: usize, told: &Told) -> Result<(), Stop>
         requires told { Has (ties_at self.old.ties told.now.is_beside) (tie told.now.message.ticket (request_origin told.now.message.outcome.request)) }
         ensures ended { OnOk result (Ends self.old self.new at told.now.message.outcome.request) }
         ensures ties { self.new.ties ≡ self.old.ties }
@@ -259,7 +259,7 @@ impl<'e, 'm, L: Link> Desk<'e, 'm, L> {
             self.waiting -= 1;
             return Ok(());
         }
-        Err(DeskError::NoMessage)
+        Err(Stop::NoMessage)
     }
 
     /// Reads the next message, for which it waits as long as that, at most: the request has ended that was added under its number, and its
@@ -271,16 +271,15 @@ impl<'e, 'm, L: Link> Desk<'e, 'm, L> {
         &mut self,
         rt: &R,
         milliseconds: u32,
-    ) -> Result<Option<Ended>, DeskError>
+    ) -> Result<Option<Ended>, Stop>
         ensures ended { IfOk result (λ o. MatchOption o (Stays self.old self.new) (λ e. Ends self.old self.new e.at e.outcome.request)) }
     {
         let first_waits = self.waiting > self.beside;
         let beside_waits = self.beside > 0;
-        let Some(told) = self
-            .seats
-            .next(rt, first_waits, beside_waits, milliseconds)?
-        else {
-            return Ok(None);
+        let told = match self.seats.next(rt, first_waits, beside_waits, milliseconds) {
+            Ok(Some(told)) => told,
+            Ok(None) => return Ok(None),
+            Err(_) => return Err(Stop::NoMessage),
         };
         let at = told.message.handle.0 as usize;
         if let Err(error) = self.take(at, &told) {

@@ -3,8 +3,7 @@
 
 mod addition;
 mod desk;
-mod error;
 mod seats;
 
 pub use crate::desk::{Desk, Ended};
-pub use crate::error::DeskError;
+pub use mx_run_io::Stop;

@@ -5,17 +5,17 @@ ghost use Rattle.mx_request.specs.Request.{request_origin};
 ghost use Rattle.mx_lock.specs.Ties.{Has, tie};
 ghost use Rattle.mx_desk.specs.Additions.{IsTold};
 ghost use Rattle.mx_desk.specs.Ties.{AreLater, ties_at};
-ghost use Rattle.mx_desk.specs.declared.error.DeskError.TheVariants as desk_error;
+ghost use Rattle.mx_run_io.specs.declared.stop.Stop.TheVariants as stop;
 
 use crate::addition::Addition;
-use crate::error::DeskError;
 use mx_chain::Outcome;
 use mx_journal::{AddReply, RemoveReply};
 use mx_link::Link;
 use mx_message::{Message, NoMessage, next_message_within};
 use mx_multi::{Application, Progress, Seated, WrongSeat};
-use mx_queue::Queued;
 use mx_request::Request;
+use mx_run_io::Stop;
+use mx_transfer::Queued;
 use mx_types::{HandleId, Ticket};
 use std::alloc::AllocGlobal;
 use std::marker::Model;
@@ -35,13 +35,13 @@ pub(crate) struct Told {
 
 // The ticket of an addition that was made; None where the multi handle takes no more: its history is full, its tickets are spent, or the
 // handle is added already. It is generic over the work, so that what is handed back is dropped as one value.
-fn added<Q: Drop>(answer: Result<AddReply<Q>, WrongSeat<Q>>) -> Result<Option<Ticket>, DeskError>
+fn added<Q: Drop>(answer: Result<AddReply<Q>, WrongSeat<Q>>) -> Result<Option<Ticket>, Stop>
     ensures ticket { IfOk result (λ o. IfSome o (λ t. answer ≡ Ok (AddReply.Added t))) }
-    ensures why { IfErr result (λ e. e ≡ desk_error.OutOfMemory) }
+    ensures why { IfErr result (λ e. e ≡ stop.OutOfMemory) }
 {
     match answer {
         Ok(AddReply::Added(ticket)) => Ok(Some(ticket)),
-        Ok(AddReply::OutOfMemory(_)) => Err(DeskError::OutOfMemory),
+        Ok(AddReply::OutOfMemory(_)) => Err(Stop::OutOfMemory),
         _ => Ok(None),
     }
 }
@@ -53,17 +53,17 @@ fn add_transfer<L: Link, R: Wait + AllocGlobal>(
     is_beside: bool,
     handle: HandleId,
     request: Request,
-) -> Result<Option<Addition>, DeskError>
+) -> Result<Option<Addition>, Stop>
     ensures request { IfOk result (λ o. IfSome o (λ a. a.request ≡ request)) }
     ensures told { IfOk result (λ o. IfSome o (IsTold seat.new.ties)) }
     ensures place { IfOk result (λ o. IfSome o (λ a. a.beside ≡ is_beside)) }
-    ensures why { IfErr result (λ e. e ≡ desk_error.OutOfMemory) }
+    ensures why { IfErr result (λ e. e ≡ stop.OutOfMemory) }
     ensures later { IsPrefix seat.old.ties seat.new.ties }
 {
     request.know();
     let asked = Snapshot::of(&request);
     let Ok(work) = Queued::keeping_heads(rt.alloc(), request) else {
-        return Err(DeskError::OutOfMemory);
+        return Err(Stop::OutOfMemory);
     };
     match added(seat.add(rt, handle, work))? {
         Some(ticket) => Ok(Some(Addition::new(ticket, is_beside, asked))),
@@ -76,11 +76,11 @@ fn remove_at<L: Link, R: Wait>(
     rt: &R,
     seat: &mut Seated<'_, Application, Queued<L>, Outcome>,
     handle: HandleId,
-) -> Result<(), DeskError>
+) -> Result<(), Stop>
     ensures later { IsPrefix seat.old.ties seat.new.ties }
 {
     match seat.remove(rt, handle) {
-        Ok(RemoveReply::OutOfMemory) => Err(DeskError::OutOfMemory),
+        Ok(RemoveReply::OutOfMemory) => Err(Stop::OutOfMemory),
         _ => Ok(()),
     }
 }
@@ -178,10 +178,10 @@ impl<'e, 'm, L: Link> Seats<'e, 'm, L> {
         rt: &R,
         handle: HandleId,
         request: Request,
-    ) -> Result<Option<Addition>, DeskError>
+    ) -> Result<Option<Addition>, Stop>
         ensures request { IfOk result (λ o. IfSome o (λ a. a.request ≡ request)) }
         ensures told { IfOk result (λ o. IfSome o (λ a. IsTold (ties_at self.new a.beside) a)) }
-        ensures why { IfErr result (λ e. e ≡ desk_error.OutOfMemory) }
+        ensures why { IfErr result (λ e. e ≡ stop.OutOfMemory) }
         ensures later { AreLater self.old self.new }
     {
         match &mut self.beside {
@@ -214,12 +214,7 @@ impl<'e, 'm, L: Link> Seats<'e, 'm, L> {
     }
 
     /// Removes a handle at the seat at which it was added.
-    pub fn remove<R: Wait>(
-        &mut self,
-        rt: &R,
-        is_beside: bool,
-        handle: HandleId,
-    ) -> Result<(), DeskError>
+    pub fn remove<R: Wait>(&mut self, rt: &R, is_beside: bool, handle: HandleId) -> Result<(), Stop>
         ensures later { AreLater self.old self.new }
     {
         match &mut self.beside {

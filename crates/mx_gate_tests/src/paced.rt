@@ -4,7 +4,7 @@ use crate::outside::endpoint;
 use crate::scripted::{plan_link, plan_moment};
 use mx_gate::{Gate, ScriptGate, Turn};
 use mx_link::ScriptLink;
-use mx_paced_gate::PacedGate;
+use mx_named_gate::PacedGate;
 use mx_request::Endpoint;
 use mx_types::OutOfMemory;
 use std::alloc::{AllocError, Global};

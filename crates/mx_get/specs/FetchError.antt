@@ -1,7 +1,7 @@
 -- Why `get` has no ends to print, or could not print them.
 use Rattle.std.specs.Prelude.{ℕ, Bool, true, false}
-use Rattle.mx_crew.specs.declared.error.CrewError.{CrewError}
-use Rattle.mx_crew.specs.declared.error.CrewError.TheVariants as crew
+use Rattle.mx_run_io.specs.declared.stop.Stop.{Stop}
+use Rattle.mx_run_io.specs.declared.stop.Stop.TheVariants as stop
 use Rattle.mx_get.specs.declared.error.FetchError.{FetchError}
 use Rattle.mx_get.specs.declared.error.FetchError.TheVariants as cause
 
@@ -12,9 +12,8 @@ fetch_number cause.OutOfMemory = 2
 fetch_number cause.NoClock = 3
 fetch_number cause.NoPoll = 4
 fetch_number cause.NoThread = 5
-fetch_number cause.NotAdded = 6
-fetch_number cause.NoMessage = 7
-fetch_number cause.Unwritten = 8
+fetch_number cause.NoMessage = 6
+fetch_number cause.Unwritten = 7
 
 -- What a run that has begun can lack: the cause is neither too many URLs nor the output.
 abbrev pub is_of_run : FetchError → Bool
@@ -22,8 +21,10 @@ is_of_run cause.TooManyUrls = false
 is_of_run cause.Unwritten = false
 is_of_run _ = true
 
--- why there is no crew, as the cause of a run
-abbrev pub cause_of_crew : CrewError → FetchError
-cause_of_crew crew.OutOfMemory = cause.OutOfMemory
-cause_of_crew crew.NoPoll = cause.NoPoll
-cause_of_crew crew.NoThread = cause.NoThread
+-- why a run stopped, as its cause: one of `get` reads no list, and prints nothing before its end
+abbrev pub cause_of_stop : Stop → FetchError
+cause_of_stop stop.OutOfMemory = cause.OutOfMemory
+cause_of_stop stop.NoClock = cause.NoClock
+cause_of_stop stop.NoPoll = cause.NoPoll
+cause_of_stop stop.NoThread = cause.NoThread
+cause_of_stop _ = cause.NoMessage

@@ -1,7 +1,9 @@
-pub mod Additions
+-- What `run_get_explained` promises, in the order to read it.
 pub mod Asked
-pub mod Desks
+pub mod Causes
+pub mod Explained
+pub mod Explains
 pub mod FetchError
-pub mod Opened
+pub mod Getting
 pub mod Places
 pub mod Run

@@ -1,11 +1,7 @@
 //! Why a run of `get` has no ends to print, or couldn't print them.
 ghost use Rattle.std.specs.Prelude.{◌≡◌};
-ghost use Rattle.mx_get.specs.declared.error.FetchError.TheVariants as fetch_error;
 
-use mx_crew::CrewError;
-use mx_message::NoMessage;
-use mx_types::OutOfMemory;
-use std::alloc::{AllocError, AllocFailed};
+use mx_run_io::Stop;
 use thiserror::Error;
 
 /// Why a run of `get` has no ends to print, or couldn't print them.
@@ -26,10 +22,6 @@ pub enum FetchError {
     /// A worker's thread couldn't be started.
     #[error("a thread can't be started")]
     NoThread,
-    /// The multi handle refused a transfer, for another reason than memory. It is opened with room for as many as a run may have, so this
-    /// shouldn't come; but no contract says so.
-    #[error("a transfer can't be added")]
-    NotAdded,
     /// No message of a transfer that was added was read, as memory was refused; or one came that is of another addition.
     #[error("no message came of a transfer that was added")]
     NoMessage,
@@ -51,56 +43,24 @@ impl FetchError {
             FetchError::NoClock => 3,
             FetchError::NoPoll => 4,
             FetchError::NoThread => 5,
-            FetchError::NotAdded => 6,
-            FetchError::NoMessage => 7,
-            FetchError::Unwritten => 8,
+            FetchError::NoMessage => 6,
+            FetchError::Unwritten => 7,
         }
     }
 }
 
-impl From<AllocError> for FetchError {
-    ghost from_gives = { λ _ e. e ≡ fetch_error.OutOfMemory };
+impl From<Stop> for FetchError {
+    ghost use Rattle.mx_get.specs.FetchError.{cause_of_stop};
 
-    fn from(_error: AllocError) -> FetchError {
-        FetchError::OutOfMemory
-    }
-}
+    ghost from_gives = { λ stop e. e ≡ cause_of_stop stop };
 
-/// The value that couldn't be stored is dropped.
-impl<T: Drop> From<AllocFailed<T>> for FetchError {
-    ghost from_gives = { λ _ e. e ≡ fetch_error.OutOfMemory };
-
-    fn from(_refused: AllocFailed<T>) -> FetchError {
-        FetchError::OutOfMemory
-    }
-}
-
-impl From<OutOfMemory> for FetchError {
-    ghost from_gives = { λ _ e. e ≡ fetch_error.OutOfMemory };
-
-    fn from(_error: OutOfMemory) -> FetchError {
-        FetchError::OutOfMemory
-    }
-}
-
-impl From<NoMessage> for FetchError {
-    ghost from_gives = { λ _ e. e ≡ fetch_error.NoMessage };
-
-    fn from(_error: NoMessage) -> FetchError {
-        FetchError::NoMessage
-    }
-}
-
-impl From<CrewError> for FetchError {
-    ghost use Rattle.mx_get.specs.FetchError.{cause_of_crew};
-
-    ghost from_gives = { λ error e. e ≡ cause_of_crew error };
-
-    fn from(error: CrewError) -> FetchError {
-        match error {
-            CrewError::OutOfMemory => FetchError::OutOfMemory,
-            CrewError::NoPoll => FetchError::NoPoll,
-            CrewError::NoThread => FetchError::NoThread,
+    fn from(stop: Stop) -> FetchError {
+        match stop {
+            Stop::OutOfMemory => FetchError::OutOfMemory,
+            Stop::NoClock => FetchError::NoClock,
+            Stop::NoPoll => FetchError::NoPoll,
+            Stop::NoThread => FetchError::NoThread,
+            Stop::Unwritten | Stop::Unread | Stop::NoMessage => FetchError::NoMessage,
         }
     }
 }

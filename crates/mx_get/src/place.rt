@@ -1,33 +1,33 @@
 //! The places of URLs, and the ends that are known there.
 ghost use Rattle.std.specs.Prelude.{◌≡◌, ◌<◌, true, false, map, count_by, slice_set, vec_len, IfOk, IfErr, All};
 ghost use Rattle.mx_get.specs.Asked.{asked_of, IsEnd};
-ghost use Rattle.mx_get.specs.FetchError.{is_of_run};
-ghost use Rattle.mx_get.specs.Places.{asked_at, awaits_at, is_awaiting, noted_at};
+ghost use Rattle.mx_get.specs.Places.{asked_at, is_awaiting, is_awaiting_at, noted_at};
 ghost use Rattle.mx_get.specs.declared.place.Place.TheVariants as place;
+ghost use Rattle.mx_run_io.specs.declared.stop.Stop.TheVariants as stop;
 
-use crate::addition::Addition;
 use crate::end::End;
-use crate::error::FetchError;
+use mx_request::Request;
 use mx_run_get::Fetched;
+use mx_run_io::Stop;
 use mx_transfer::Outcome;
-use mx_types::Ticket;
 use std::alloc::Global;
+use std::snapshot::Snapshot;
 
 /// What is at the place of a URL.
 #[derive(Drop)]
 pub enum Place {
-    /// The addition whose end is awaited.
-    Awaited(Addition),
+    /// The end of its transfer is awaited. Contracts see the request.
+    Awaited(Snapshot<Request>),
     /// What the URL ended with.
     Known(End),
 }
 
-/// Whether the end of this ticket's addition is awaited at that place.
-pub fn awaits(places: &[Place], at: usize, ticket: Ticket) -> bool
-    ensures { result ≡ awaits_at places.now at ticket }
+// Whether an end is awaited at that place.
+fn is_awaited(places: &[Place], at: usize) -> bool
+    ensures { result ≡ is_awaiting_at places.now at }
 {
     match places.get(at) {
-        Some(Place::Awaited(addition)) => addition.is_of(ticket),
+        Some(Place::Awaited(_)) => true,
         _ => false,
     }
 }
@@ -40,20 +40,13 @@ fn keep_at(places: &mut Vec<Place>, at: usize, end: End)
     places[at] = Place::Known(end);
 }
 
-/// Keeps at a place what the transfer of an addition ended with, where the end of this ticket's addition is awaited there. The answer is
-/// whether it is.
-pub fn ended_at(
-    alloc: Global,
-    places: &mut Vec<Place>,
-    at: usize,
-    ticket: Ticket,
-    outcome: Outcome,
-) -> bool
-    ensures awaited { result ≡ awaits_at places.old.items at ticket }
+/// Keeps at a place what its transfer ended with, where the end is awaited there. The answer is whether it is.
+pub fn ended_at(alloc: Global, places: &mut Vec<Place>, at: usize, outcome: Outcome) -> bool
+    ensures awaited { result ≡ is_awaiting_at places.old.items at }
     ensures noted { result ≡ true → places.new.items ≡ noted_at places.old.items at outcome }
     ensures other { result ≡ false → places.new.items ≡ places.old.items }
 {
-    if awaits(places.as_slice(), at, ticket) {
+    if is_awaited(places.as_slice(), at) {
         keep_at(places, at, End::ended(alloc, outcome));
         return true;
     }
@@ -61,13 +54,13 @@ pub fn ended_at(
     false
 }
 
-/// The ends, which are all known.
+/// The ends, which are all known. `OutOfMemory` is the only error.
 #[tactic(auto, using(crate::proofs::Places::ends_reversed))]
-pub fn ends_at(alloc: Global, places: Vec<Place>) -> Result<Vec<Fetched>, FetchError>
+pub fn ends_at(alloc: Global, places: Vec<Place>) -> Result<Vec<Fetched>, Stop>
     requires known { count_by is_awaiting places.items ≡ 0 }
     ensures asked { IfOk result (λ ends. map asked_of ends.items ≡ map asked_at places.items) }
     ensures outcomes { IfOk result (λ ends. All IsEnd ends.items) }
-    ensures cause { IfErr result (λ e. is_of_run e ≡ true) }
+    ensures why { IfErr result (λ e. e ≡ stop.OutOfMemory) }
 {
     let mut places = places;
     let mut ends = Vec::with_capacity(alloc, places.len())?;

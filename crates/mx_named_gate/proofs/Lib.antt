@@ -1,2 +1,4 @@
+pub mod Bursts
 mod NamedLemmas
+pub mod PacedSends
 pub mod Sends

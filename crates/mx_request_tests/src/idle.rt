@@ -1,7 +1,7 @@
 //! Idle links, by scripts of calls.
 
-use mx_cache::IdleCache;
 use mx_request::Endpoint;
+use mx_turn::IdleCache;
 use std::alloc::{AllocError, Global};
 
 /// A call of a cache, and what it answers.

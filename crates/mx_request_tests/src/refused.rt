@@ -4,8 +4,8 @@
 use crate::idle::{put, take};
 use crate::row::{GET, Row, Seen, is_right};
 use crate::settings::{Given, settings_of};
-use mx_cache::IdleCache;
 use mx_request::{Endpoint, Request, RequestError};
+use mx_turn::IdleCache;
 use mx_types::{Method, OutOfMemory};
 use std::alloc::{AllocError, Global};
 use std::test::Fail;

@@ -11,7 +11,7 @@ use crate::rack::Rack;
 use futures::task::{Doorbell, Solo};
 use mx_gate::Gate;
 use mx_link::Link;
-use mx_links::Links;
+use mx_turn::Links;
 use std::alloc::AllocGlobal;
 use std::marker::Model;
 use std::random::RandomSource;

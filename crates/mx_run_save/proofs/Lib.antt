@@ -1,5 +1,6 @@
-mod FirstCode
 mod Fields
-mod Printed
+mod FirstCode
 mod Lines
 mod Objects
+pub mod Order
+mod Printed

@@ -1,7 +1,9 @@
 pub mod Codes
 pub mod Decisions
-pub mod Words
 pub mod Ends
-pub mod Texts
-pub mod Status
 pub mod Laws
+pub mod Rules
+pub mod Status
+pub mod Texts
+pub mod Waits
+pub mod Words

@@ -1,4 +1,5 @@
-//! What `mxfetch save` prints, a line for each URL; after which ends a body is saved; and the exit status.
+//! What `mxfetch save` prints, a line for each URL; after which ends a body is saved, or the URL is tried again, and after how long; and the
+//! exit status.
 #![tactic(auto)]
 
 mod code;
@@ -7,11 +8,15 @@ mod end;
 pub mod laws;
 mod line;
 mod object;
+mod retry_rules;
 mod status;
+mod waiting;
 
 pub use crate::code::SaveCode;
 pub use crate::decision::{Decision, verdict_of};
 pub use crate::end::{End, FramingWord, Transferred, Verdict};
 pub use crate::line::print_line;
 pub use crate::object::{JsonError, print_json};
+pub use crate::retry_rules::{delay_ms, is_retried};
 pub use crate::status::ExitStatus;
+pub use crate::waiting::{Wait, Waiting};

@@ -8,7 +8,7 @@ use Rattle.mx_exchange.specs.Hops.{HasContent}
 use Rattle.mx_chain.specs.Hops.{is_ok}
 use Rattle.mx_chain.specs.Outcomes.{OutcomeValue, IsOutcome}
 use Rattle.mx_save.specs.Bodies.{content_of}
-use Rattle.mx_save_jobs.specs.Bodies.{IsWholeBody, parts_of}
+use Rattle.mx_save_jobs.specs.Bodies.{IsWholeBody}
 
 joins : (x : List ℕ) (ps : List Part) → content_of (map (λ p. slice_range x p.start p.end) ps) ≡ joined x ps
 joins x [] = refl

@@ -1,23 +1,22 @@
 -- A book, one URL further, and one end further.
 use Rattle.std.proofs.Common.{◌≡◌, ◌≢◌, ◌∙◌, refl, ap, sym, subst, ℕ, ◌+◌, ◌<◌, ◌≤◌, ◌^◌, suc, zero, List, [], ◌∷◌, ◌++◌, map, length, length-append, Bool, true, false, cond, inl, inr, arith}
-use Rattle.std.specs.Prelude.{◌⊎◌, Option, Some, None, IfSome, IsSome, SomeIff, Result, Ok, Err, IfOk, IsUtf8, MatchResult, OnOk, count_by, slice_get, slice_set}
+use Rattle.std.specs.Prelude.{◌⊎◌, Option, Some, None, IfSome, IsSome, SomeIff, Result, Ok, Err, IsUtf8, MatchResult, OnOk, count_by, slice_get, slice_set}
 use Rattle.std.specs.List.{Contains, AllByRecursion}
 use Rattle.std.proofs.lemmas.List.Elements.{Contains-append_left, Contains-push}
 use Rattle.std.proofs.lemmas.List.Sums.{sum_by_push}
-use Rattle.mx_request.specs.Request.{IsRequest, RequestValue, request_of}
+use Rattle.mx_request.specs.Request.{RequestValue, request_of}
 use Rattle.mx_request.specs.declared.error.RequestError.{RequestError}
 use Rattle.mx_request.specs.declared.error.RequestError.TheVariants as refusal
 use Rattle.mx_body.specs.Parts.{joined}
-use Rattle.mx_chain.specs.Outcomes.{IsOutcome, OutcomeValue}
+use Rattle.mx_chain.specs.Outcomes.{OutcomeValue}
 use Rattle.mx_file_name.specs.Names.{base_name, count_of, names_of, numbered}
 use Rattle.mx_file_name.specs.Laws.{NamesAreDistinct}
 use Rattle.mx_file_name.proofs.Apart.{distinct}
 use Rattle.mx_save.specs.Ledgers.{IsFresh}
 use Rattle.mx_run_save.specs.Decisions.{IsDecision}
 use Rattle.mx_run_save.specs.declared.decision.Decision.TheVariants as decision
-use Rattle.mx_run_save.specs.declared.code.SaveCode.{SaveCode}
 use Rattle.mx_run_save.specs.declared.end.Transferred.{Transferred}
-use Rattle.mx_run_save.specs.Ends.{EndValue, IsEnd, done_end, failed_end, saved_end}
+use Rattle.mx_run_save.specs.Ends.{EndValue, IsEnd, saved_end}
 use Rattle.mx_run_save.specs.declared.end.Verdict.{Verdict}
 use Rattle.mx_run_save.specs.declared.end.Verdict.TheVariants as verdict
 use Rattle.mx_save_jobs.specs.Bodies.{IsWholeBody}
@@ -27,9 +26,9 @@ use Rattle.mx_save_jobs.specs.declared.finish.NotEnded.TheVariants as not_ended
 use Rattle.mx_save_jobs.specs.declared.job.Job.{Job}
 use Rattle.mx_save_jobs.specs.declared.job.Slot.{Slot}
 use Rattle.mx_save_jobs.specs.declared.job.Slot.TheVariants as slot
-use Rattle.mx_save_jobs.specs.Jobs.{Asks, BookValue, CanAsk, GrowsBy, GrowsFor, HandsBack, HasEnded, HoldsOf, IsBook, IsPending, IsSavedEnd, IsTold, Pends, Saves, State, is_saved, is_taken, is_told_saved, job_at, job_of, state_of}
+use Rattle.mx_save_jobs.specs.Jobs.{Asks, BookValue, CanAsk, GrowsBy, GrowsFor, HandsBack, HasEnded, HoldsOf, IsBook, IsTold, Pends, Saves, State, is_saved, is_taken, is_told_saved, job_at, job_of, state_of}
 use Rattle.mx_save_jobs.specs.Lines.{ToldValue}
-use Rattle.mx_save_jobs.specs.Books.{HaveEnded, IsJobFor}
+use Rattle.mx_save_jobs.specs.Books.{HaveEnded}
 use Rattle.mx_save_jobs.proofs.Names.{all_given_more, fresh_on, given_more, given_new, given_on, is_fresh, is_new, saved_on}
 use Rattle.mx_save_jobs.proofs.Slots.{as_many, cases, fresh_count, fresh_none, inside, none, one_less, one_more, stays, there}
 
@@ -436,13 +435,6 @@ saved_holds asking saves old url file name t o e is named whole asked decided st
       status = status;
       size = size;
     })
-
--- what is reported of a body that wasn't saved holds
-pub failed_holds : (asking : Asking) (saves : Saves) (e : EndValue) (text : List ℕ) → e.verdict ≡ verdict.Failed → e.error ≡ Some text → HoldsOf asking saves e e.verdict
-failed_holds asking saves e text failed said = subst (HoldsOf asking saves e) (sym failed) (subst IsSome (sym said) refl)
-
-pub failed_grows : (name : List ℕ) (v : Verdict) (old new : Saves) → v ≡ verdict.Failed → new ≡ old → GrowsFor name v old new
-failed_grows name v old new failed same = inl (ap is_saved failed, same)
 
 set_length : (slots : List Slot) (i : ℕ) (v : Slot) → length (slice_set slots i v) ≡ length slots
 set_length [] i v = refl

@@ -1,5 +1,5 @@
 -- Names of a run.
-use Rattle.std.proofs.Common.{◌≡◌, ◌≢◌, ◌∙◌, refl, ap, sym, subst, ℕ, ◌+◌, ◌<◌, ◌^◌, suc, zero, List, [], ◌∷◌, ◌++◌, map, length, arith, append_assoc, append-nil, length-append, inl, inr}
+use Rattle.std.proofs.Common.{◌≡◌, ◌≢◌, ◌∙◌, ap, sym, subst, ℕ, ◌<◌, ◌^◌, suc, zero, List, [], ◌∷◌, ◌++◌, map, length, arith, append_assoc, append-nil, inl, inr}
 use Rattle.std.specs.Prelude.{◌⊎◌, slice_index_or}
 use Rattle.std.specs.List.{Contains, AllByRecursion}
 use Rattle.std.proofs.lemmas.List.Elements.{Contains-append_left, Contains-push}

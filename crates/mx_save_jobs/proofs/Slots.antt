@@ -1,6 +1,6 @@
 -- The slots of URLs that have no end yet.
-use Rattle.std.proofs.Common.{◌≡◌, ◌≢◌, ◌∙◌, refl, ap, sym, ℕ, ◌+◌, ◌<◌, suc, zero, List, [], ◌∷◌, ◌++◌, length, Bool, true, false, inl, inr, cond, arith}
-use Rattle.std.specs.Prelude.{◌⊎◌, Option, Some, None, count_by, slice_get, slice_set}
+use Rattle.std.proofs.Common.{◌≡◌, ◌≢◌, ◌∙◌, refl, ap, sym, ℕ, ◌+◌, suc, zero, List, [], ◌∷◌, inl, inr, cond, arith}
+use Rattle.std.specs.Prelude.{◌⊎◌, Some, None, count_by, slice_get, slice_set}
 use Rattle.std.specs.List.{AllByRecursion}
 use Rattle.std.proofs.lemmas.List.Sums.{sum_by-cons}
 use Rattle.mx_save_jobs.specs.declared.job.Job.{Job}

@@ -44,14 +44,12 @@ flushed_on contents l out are well keeps flushed = record {
 }
 
 -- one end more was reported, and flushed
-pub told_on : {W : Type 0} (contents : W → Option (List ℕ)) (l : LinesValue W) (mid out : Output W) (t : ToldValue) (status : ExitStatus) (ts : List ToldValue) → AreLines contents l
-    → has_failed_write l.output ≢ true → Wrote contents l.output mid (line_of l.json t.end) → Keeps (contents (writer_of mid)) (contents (writer_of out)) → is_pending out ≡ false
+pub told_on : {W : Type 0} (contents : W → Option (List ℕ)) (l : LinesValue W) (out : Output W) (t : ToldValue) (status : ExitStatus) (ts : List ToldValue) → AreLines contents l
+    → has_failed_write l.output ≢ true → Wrote contents l.output out (line_of l.json t.end) → is_pending out ≡ false
     → first_of status ≡ after_note (first_of l.status) (note_of t) → ts ≡ l.told ++ t ∷ [] → AreLines contents (record l { status = status; output = out; told = ts })
-told_on contents l mid out t status ts are well wrote keeps flushed noted more =
-    let start = contents (writer_of l.start) in
-    let all = written_more start (contents (writer_of l.output)) (contents (writer_of mid)) l.json l.told t (are.written well) wrote in
+told_on contents l out t status ts are well wrote flushed noted more =
     subst (λ x. AreLines contents (record l { status = status; output = out; told = x })) (sym more) (record {
-      written = λ still. Appends-kept start (contents (writer_of mid)) (contents (writer_of out)) (text_of l.json (l.told ++ t ∷ [])) all keeps;
+      written = λ still. written_more (contents (writer_of l.start)) (contents (writer_of l.output)) (contents (writer_of out)) l.json l.told t (are.written well) wrote;
       flushed = λ still. flushed;
       status = noted ∙ ap (λ f. after_note f (note_of t)) are.status ∙ sym (noted_more None l.told t);
     })

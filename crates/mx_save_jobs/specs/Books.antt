@@ -1,9 +1,9 @@
 -- What the calls of a book do.
-use Rattle.std.specs.Prelude.{◌≡◌, ℕ, ◌==◌, ◌<◌, Bool, true, false, List, [], ◌∷◌, ◌++◌, length, count_by, Option, Some, None, slice_get, slice_set}
+use Rattle.std.specs.Prelude.{◌≡◌, ℕ, ◌==◌, ◌<◌, Bool, true, false, List, [], length, count_by, Some, slice_get, slice_set}
 use Rattle.std.specs.Option.{option_map_or}
 use Rattle.std.specs.List.{AllByRecursion}
 use Rattle.mx_types.specs.declared.names.Ticket.{Ticket}
-use Rattle.mx_request.specs.Request.{RequestValue, IsRequest}
+use Rattle.mx_request.specs.Request.{RequestValue}
 use Rattle.mx_chain.specs.Outcomes.{OutcomeValue}
 use Rattle.mx_save.specs.Ledgers.{LedgerValue}
 use Rattle.mx_save_jobs.specs.declared.asking.Asking.{Asking}
@@ -11,7 +11,7 @@ use Rattle.mx_save_jobs.specs.declared.job.Job.{Job}
 use Rattle.mx_save_jobs.specs.declared.job.Slot.{Slot}
 use Rattle.mx_save_jobs.specs.declared.job.Slot.TheVariants as slot
 use Rattle.mx_save_jobs.specs.Lines.{LinesValue, ToldValue}
-use Rattle.mx_save_jobs.specs.Jobs.{Asks, BookValue, HasEnded, IsTold, Saves, is_told_saved, job_at, job_of}
+use Rattle.mx_save_jobs.specs.Jobs.{Asks, BookValue, HasEnded, IsTold, Saves, is_told_saved, job_at}
 
 -- no URL was read yet
 pub record IsFreshBook {W : Type 0} (a : Asking) (l : LedgerValue OutcomeValue) (ls : LinesValue W) (ss : List Slot) (b : BookValue W) : Type 0 where

@@ -1,8 +1,7 @@
 -- The URLs of a run, and what each ended with.
-use Rattle.std.specs.Prelude.{IsUtf8, ◌≡◌, ◌⊎◌, ℕ, ◌+◌, ◌<◌, ◌≤◌, Bool, true, false, List, [], ◌∷◌, ◌++◌, length, map, count_by, Option, Some, None, IsSome, Ok, slice_get, ⊤}
+use Rattle.std.specs.Prelude.{IsUtf8, ◌≡◌, ◌⊎◌, ℕ, ◌+◌, ◌<◌, ◌≤◌, Bool, true, false, List, ◌∷◌, length, map, count_by, Option, Some, None, IsSome, Ok, slice_get, ⊤}
 use Rattle.std.specs.Option.{option_map_or}
 use Rattle.std.specs.List.{Contains, AllByRecursion}
-use Rattle.mx_types.specs.declared.code.Code.TheVariants as code
 use Rattle.mx_request.specs.Request.{RequestValue, request_of}
 use Rattle.mx_body.specs.Parts.{joined}
 use Rattle.mx_chain.specs.Outcomes.{OutcomeValue, IsOutcome}

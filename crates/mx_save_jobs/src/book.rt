@@ -1,5 +1,5 @@
 //! The URLs of a run, from their reading to their ends.
-ghost use Rattle.std.specs.Prelude.{◌≡◌, ◌≢◌, ◌+◌, ◌<◌, ◌^◌, All, ◌++◌, ◌∷◌, [], true, false, if◌then◌else◌, count_by, IfErr, IfOk, OnErr, OnOk, Some, IsSome, IsNone, IfSome, MatchOption, length, slice_get, slice_set};
+ghost use Rattle.std.specs.Prelude.{◌≡◌, ◌≢◌, ◌+◌, ◌<◌, ◌^◌, All, ◌++◌, ◌∷◌, [], true, false, if◌then◌else◌, count_by, IfErr, IfOk, OnErr, OnOk, Some, IsSome, IfSome, MatchOption, MatchResult, Ok, Err, length, slice_get, slice_set};
 ghost use Rattle.mx_types.specs.Code.{code_number};
 ghost use Rattle.mx_request.specs.Request.{IsRequest};
 ghost use Rattle.mx_run_save.specs.Ends.{skipped_end};
@@ -13,14 +13,13 @@ use crate::body::WholeBody;
 use crate::finish::{NotEnded, finish};
 use crate::job::{Job, Slot};
 use crate::lines::Lines;
-use crate::stop::Stop;
 use crate::tally::Tally;
 use mx_chain::Outcome;
 use mx_file_name::Names;
 use mx_folder::{Folder, Kind};
 use mx_request::{Request, RequestError};
-use mx_retry::{delay_ms, is_retried};
-use mx_run_save::{End, SaveCode, Transferred};
+use mx_run_io::Stop;
+use mx_run_save::{End, SaveCode, Transferred, delay_ms, is_retried};
 use mx_save::Ledger;
 use mx_types::{Code, History, OutOfMemory, Ticket};
 use mx_words::code_words;
@@ -184,18 +183,12 @@ impl<F: Folder, W: Write> Book<F, W> {
         ensures run { IsSameRun self.old self.new }
     {
         match build(self.alloc, &self.asking, url.as_slice()) {
-            Ok(request) => {
-                self.stand(at, url)?;
-                Ok(Some(request))
-            }
+            Ok(request) => with(self.stand(at, url), Some(request)),
             Err(RequestError::OutOfMemory) => {
                 self.is_stopped = true;
                 Err(Stop::OutOfMemory)
             }
-            Err(error) => {
-                self.refuse(url, error.code())?;
-                Ok(None)
-            }
+            Err(error) => with(self.refuse(url, error.code()), None),
         }
     }
 
@@ -299,12 +292,7 @@ impl<F: Folder, W: Write> Book<F, W> {
     // How many milliseconds the URL in that slot waits, where it ended with that code and status and is to be tried again.
     fn delay(&self, at: usize, code: Code, status: u16) -> Option<u64> {
         let job = self.slots.get(at)?.job()?;
-        if job.tries <= u32::from(self.asking.retries)
-            && is_retried(self.asking.method, code, status)
-        {
-            return Some(delay_ms(job.tries.max(1)));
-        }
-        None
+        delay_of(&self.asking, job.tries, code, status)
     }
 
     // rule file-descriptors, unproved: A URL for whose body no file can be opened, since too many are open, is tried again as one is whose
@@ -406,6 +394,24 @@ impl<F: Folder, W: Write> Book<F, W> {
         ensures ended { self.is_stopped ≡ false → count_by is_taken self.slots ≡ 0 → HaveEnded self.asking self.urls self.ledger.entries self.lines.told }
     {
         (self.ledger, self.lines)
+    }
+}
+
+// How many milliseconds a URL waits after so many tries, if it is to be tried again.
+fn delay_of(asking: &Asking, tries: u32, code: Code, status: u16) -> Option<u64> {
+    if tries <= u32::from(asking.retries) && is_retried(asking.method, code, status) {
+        return Some(delay_ms(tries.max(1)));
+    }
+    None
+}
+
+// The value, where that went well. Else it is dropped.
+fn with<T: Drop>(done: Result<(), Stop>, value: T) -> Result<T, Stop>
+    ensures { MatchResult done (λ _. result ≡ Ok value) (λ stop. result ≡ Err stop) }
+{
+    match done {
+        Ok(()) => Ok(value),
+        Err(stop) => Err(stop),
     }
 }
 

@@ -1,5 +1,6 @@
 //! What a URL ends with, once its transfer has ended.
-ghost use Rattle.std.specs.Prelude.{◌≡◌, ◌≢◌, IfErr, IfOk, OnErr, Some, length};
+ghost use Rattle.std.specs.Prelude.{◌≡◌, ◌≢◌, ◌∷◌, IfErr, IfOk, IsSome, OnErr, OnOk, Some, length};
+ghost use Rattle.mx_types.specs.declared.code.Code.TheVariants as code;
 ghost use Rattle.mx_body.specs.Parts.{joined};
 ghost use Rattle.mx_save.specs.Ledgers.{IsFresh};
 ghost use Rattle.mx_save.specs.Words.{unsaved_text};
@@ -7,6 +8,7 @@ ghost use Rattle.mx_run_save.specs.Codes.{save_number};
 ghost use Rattle.mx_run_save.specs.Decisions.{IsDecision};
 ghost use Rattle.mx_run_save.specs.declared.decision.Decision.TheVariants as decision;
 ghost use Rattle.mx_run_save.specs.declared.end.Verdict.TheVariants as verdict;
+ghost use Rattle.mx_save_jobs.specs.Bodies.{IsWholeBody};
 ghost use Rattle.mx_save_jobs.specs.Jobs.{Asks, GrowsFor, HandsBack, HoldsOf};
 ghost use Rattle.mx_save_jobs.specs.declared.finish.NotEnded.TheVariants as not_ended;
 
@@ -85,6 +87,47 @@ fn unsaved_end(
     Ok(End::failed(url, code_of(unsaved.error), told, Some(words)))
 }
 
+// Saves the body of an outcome whose response is whole.
+fn save_whole<F: Folder>(
+    ledger: &mut Ledger<F, WholeBody>,
+    name: &FileName,
+    outcome: Outcome,
+) -> Result<(), Unsaved>
+    requires fresh { IsFresh name.now ledger.old.entries }
+    requires code { outcome.code ≢ code.Ok → ⊥ }
+    ensures saved { OnOk result (ledger.new.entries ≡ (name.now, outcome) ∷ ledger.old.entries) }
+    ensures whole { IsWholeBody outcome }
+    ensures kept { OnErr result (ledger.new.entries ≡ ledger.old.entries) }
+    ensures run { (ledger.new.start ≡ ledger.old.start) × (ledger.new.flush ≡ ledger.old.flush) }
+{
+    let Ok(body) = WholeBody::of(outcome) else {
+        unreachable!();
+    };
+    body.know();
+    let saved = ledger.save(name, &body);
+    drop(body);
+    saved
+}
+
+// Ends a URL whose body wasn't saved. Where no file could be opened for it and the URL may be tried again, that comes back.
+fn fail(
+    alloc: Global,
+    job: Job,
+    told: Transferred,
+    unsaved: Unsaved,
+    may_retry: bool,
+) -> Result<End, NotEnded>
+    ensures url { IfOk result (λ end. end.url ≡ job.url.items) }
+    ensures failed { IfOk result (λ end. end.verdict ≡ verdict.Failed) }
+    ensures said { IfOk result (λ end. IsSome end.error) }
+    ensures back { IfErr result (HandsBack job) }
+{
+    if may_retry && unsaved.is_file_limit() {
+        return Err(NotEnded::Unopened(job));
+    }
+    Ok(unsaved_end(alloc, job.url, told, &unsaved)?)
+}
+
 // rule save-bodies
 // Saves the body of an outcome. Where no file could be opened for it and the URL may be tried again, that comes back.
 fn save<F: Folder>(
@@ -106,34 +149,47 @@ fn save<F: Folder>(
     ensures run { (ledger.new.start ≡ ledger.old.start) × (ledger.new.flush ≡ ledger.old.flush) }
 {
     let told = transferred(&outcome, job.tries);
-    let file = match String::from_str(alloc, job.name.as_str()) {
-        Ok(file) => file,
-        Err(_) => {
-            drop(outcome);
-            return Err(NotEnded::OutOfMemory);
-        }
+    let Ok(file) = String::from_str(alloc, job.name.as_str()) else {
+        drop(outcome);
+        drop(job);
+        return Err(NotEnded::OutOfMemory);
     };
     let _asked = asking.method;
-    let Ok(body) = WholeBody::of(outcome) else {
-        unreachable!();
-    };
-    body.know();
-    match ledger.save(&job.name, &body) {
-        Ok(()) => {
-            drop(body);
-            Ok(End::saved(job.url, file, told))
-        }
+    match save_whole(ledger, &job.name, outcome) {
+        Ok(()) => Ok(End::saved(job.url, file, told)),
         Err(unsaved) => {
-            drop(body);
-            if may_retry && unsaved.is_file_limit() {
-                return Err(NotEnded::Unopened(job));
-            }
-            Ok(unsaved_end(alloc, job.url, told, &unsaved)?)
+            drop(file);
+            fail(alloc, job, told, unsaved, may_retry)
         }
     }
 }
 
+// The end of a URL whose response is whole, and has nothing to save.
+fn done(job: Job, outcome: Outcome) -> End
+    ensures url { result.url ≡ job.url.items }
+    ensures done { result.verdict ≡ verdict.Done }
+    ensures status { result.status ≡ outcome.status }
+{
+    let told = transferred(&outcome, job.tries);
+    drop(outcome);
+    End::done(job.url, told)
+}
+
 // rule save-failures
+// The end of a URL of which nothing is saved, with this code.
+fn failed(alloc: Global, job: Job, outcome: Outcome, code: SaveCode) -> Result<End, AllocError>
+    requires code { save_number code ≢ 0 }
+    ensures url { IfOk result (λ end. end.url ≡ job.url.items) }
+    ensures failed { IfOk result (λ end. end.verdict ≡ verdict.Failed) }
+    ensures said { IfOk result (λ end. IsSome end.error) }
+{
+    let told = transferred(&outcome, job.tries);
+    let words = failure_words(alloc, &outcome);
+    drop(outcome);
+    let words = words?;
+    Ok(End::failed(job.url, code, told, Some(words)))
+}
+
 // Ends a URL whose transfer ended so: its body is saved if it should be. Where no file could be opened for that and the URL may be tried
 // again, it comes back.
 pub(crate) fn finish<F: Folder>(
@@ -158,17 +214,7 @@ pub(crate) fn finish<F: Folder>(
     let status = outcome.status();
     match verdict_of(outcome.code(), method, status, asking.content_on_error) {
         Decision::Save => save(alloc, asking, ledger, job, outcome, may_retry),
-        Decision::Done => {
-            let told = transferred(&outcome, job.tries);
-            drop(outcome);
-            Ok(End::done(job.url, told))
-        }
-        Decision::Fail(code) => {
-            let told = transferred(&outcome, job.tries);
-            let words = failure_words(alloc, &outcome);
-            drop(outcome);
-            let words = words?;
-            Ok(End::failed(job.url, code, told, Some(words)))
-        }
+        Decision::Done => Ok(done(job, outcome)),
+        Decision::Fail(code) => Ok(failed(alloc, job, outcome, code)?),
     }
 }

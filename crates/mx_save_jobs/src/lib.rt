@@ -8,7 +8,6 @@ mod finish;
 mod framing;
 mod job;
 mod lines;
-mod stop;
 mod tally;
 mod words;
 
@@ -17,5 +16,4 @@ pub use crate::body::WholeBody;
 pub use crate::book::{Book, free_slots};
 pub use crate::job::{Job, Slot};
 pub use crate::lines::{Lines, Told};
-pub use crate::stop::Stop;
 pub use crate::tally::Tally;

@@ -5,9 +5,8 @@ ghost use Rattle.mx_run_save.specs.Ends.{IsEnd};
 ghost use Rattle.mx_run_save.specs.Status.{after_notes, status_of};
 ghost use Rattle.mx_save_jobs.specs.Lines.{note_of, line_of, AreLines, IsFreshLines};
 
-use crate::stop::Stop;
 use crate::tally::Tally;
-use mx_run_io::Output;
+use mx_run_io::{Output, Stop};
 use mx_run_save::{End, ExitStatus, JsonError, print_json, print_line};
 use mx_types::History;
 use std::alloc::Global;
@@ -77,6 +76,24 @@ fn print_end<W: Write>(
     }
 }
 
+// The same, and flushes.
+fn print_flushed<W: Write>(
+    alloc: Global,
+    output: &mut Output<W>,
+    json: bool,
+    end: &End,
+) -> Result<(), Stop>
+    ensures bytes { OnOk result (Wrote W.contents output.old output.new (line_of json end.now)) }
+    ensures flushed { OnOk result (is_pending output.new ≡ false) }
+    ensures left { OnErr result ((output.new ≡ output.old) ⊎ (has_failed_write output.new ≡ true)) }
+{
+    print_end(alloc, output, json, end)?;
+    match output.flush() {
+        Ok(()) => Ok(()),
+        Err(_) => Err(Stop::Unwritten),
+    }
+}
+
 impl<W: Write> Lines<W> {
     /// Nothing was printed yet. What was written into the output before was flushed.
     pub fn new(alloc: Global, output: Output<W>, json: bool) -> Lines<W>
@@ -118,10 +135,7 @@ impl<W: Write> Lines<W> {
     {
         end.know();
         self.ready()?;
-        print_end(self.alloc, &mut self.output, self.json, &end)?;
-        let Ok(()) = self.output.flush() else {
-            return Err(Stop::Unwritten);
-        };
+        print_flushed(self.alloc, &mut self.output, self.json, &end)?;
         self.status.note(place, end.code());
         self.told.note(Told {
             place,

@@ -1,8 +1,6 @@
 //! What is said of a URL that failed.
-ghost use Rattle.std.specs.Prelude.{◌≡◌, ◌≢◌, IfOk, string_bytes};
-ghost use Rattle.mx_types.specs.declared.code.Code.TheVariants as codes;
+ghost use Rattle.std.specs.Prelude.{◌≡◌, IfOk, string_bytes};
 ghost use Rattle.mx_run_get.specs.Failures.{IsWhy};
-ghost use Rattle.mx_words.specs.Words.{told_text};
 ghost use Rattle.mx_save_jobs.specs.Said.{IsSaid, IsToldOf};
 
 use mx_chain::Outcome;

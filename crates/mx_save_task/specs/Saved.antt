@@ -7,7 +7,7 @@ use Rattle.mx_command.specs.declared.save.Save.{Save}
 use Rattle.mx_save_jobs.specs.Bodies.{parts_of}
 use Rattle.mx_save_jobs.specs.Lines.{LinesValue}
 use Rattle.mx_save_jobs.specs.declared.asking.Asking.{Asking}
-use Rattle.mx_save_run.specs.Runs.{SavesAll}
+use Rattle.mx_save_urls.specs.Runs.{SavesAll}
 
 -- the URLs of a run, where it is known what its list has: those of the command line, and then those of the list
 abbrev pub urls_of : Save → Option (List (List ℕ)) → Option (List (List ℕ))

@@ -2,8 +2,8 @@
 use Rattle.std.specs.Prelude.{ℕ, List, map, None}
 use Rattle.mx_run_save.specs.Status.{after_notes, status_of}
 use Rattle.mx_save_jobs.specs.Lines.{ToldValue, note_of}
-use Rattle.mx_save_jobs.specs.declared.stop.Stop.{Stop}
-use Rattle.mx_save_jobs.specs.declared.stop.Stop.TheVariants as stop
+use Rattle.mx_run_io.specs.declared.stop.Stop.{Stop}
+use Rattle.mx_run_io.specs.declared.stop.Stop.TheVariants as stop
 
 -- of a run that stopped: 121 where the output can't be written, 26 where the list can't be read, else 27
 abbrev pub stop_number : Stop → ℕ

@@ -1,7 +1,7 @@
 //! The run of what is asked for.
 ghost use Rattle.std.specs.Prelude.{◌≡◌, ◌≢◌, [], IfErr, OnOk, IsErr};
 ghost use Rattle.mx_command.specs.Saving.{AreSaveNumbers};
-ghost use Rattle.mx_save_work.specs.Feeds.{list_left};
+ghost use Rattle.mx_save_urls.specs.Feeds.{list_left};
 ghost use Rattle.mx_save_task.specs.Saved.{SavesIn, urls_of};
 ghost use Rattle.mx_save_task.specs.Status.{codes_number, stop_number};
 
@@ -13,12 +13,10 @@ use crate::unbegun::{end_unbegun, tell_out_of_memory};
 use mx_command::Save;
 use mx_crew::Runtime;
 use mx_folder::{Folder, FolderError};
-use mx_run_io::Output;
+use mx_run_io::{Output, Stop};
 use mx_save::Ledger;
-use mx_save_jobs::{Asking, Lines, Stop};
-use mx_save_run::{Ended, Plan, save_all};
-use mx_save_urls::Watch;
-use mx_save_work::Feed;
+use mx_save_jobs::{Asking, Lines};
+use mx_save_urls::{Ended, Feed, Plan, Watch, save_all};
 use mx_url_list::UrlList;
 use std::fs::File;
 use std::io;

@@ -3,8 +3,7 @@ ghost use Rattle.std.specs.Prelude.{◌≡◌, ◌≢◌, IfErr, IsErr, OnOk, Ok
 ghost use Rattle.mx_save_task.specs.Status.{stop_number};
 
 use mx_folder::FolderError;
-use mx_run_io::UNWRITTEN;
-use mx_save_jobs::Stop;
+use mx_run_io::{Stop, UNWRITTEN};
 
 /// The exit status where the folder can't be made, or flushed.
 pub const UNMADE: u8 = 23;

@@ -10,7 +10,7 @@ use Rattle.mx_save_jobs.specs.declared.asking.Asking.{Asking}
 use Rattle.mx_save_jobs.specs.declared.job.Job.{Job}
 use Rattle.mx_save_jobs.specs.declared.job.Slot.{Slot}
 use Rattle.mx_save_jobs.specs.declared.job.Slot.TheVariants as slot
-use Rattle.mx_save_work.specs.Works.{AddsNone}
+use Rattle.mx_save_urls.specs.Works.{AddsNone}
 use Rattle.mx_save_urls.specs.Asked.{AreAsked}
 
 -- lists, of which one element has changed
@@ -111,8 +111,3 @@ ended_for asking slots asked at t request awaits added all =
       there = job_there slots at (slot.Added w.0 w.1) w.2;
       asked = subst (λ r. Asks asking w.0.url.items r) same a.2;
     }
-
--- where it went well, what follows from what is known then
-pub on_ok : {A E P R : Type 0} (r : Result A E) → (P → R) → OnOk r P → OnOk r R
-on_ok (Ok a) f p = f p
-on_ok (Err e) f p = tt

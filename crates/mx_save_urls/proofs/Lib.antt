@@ -1,1 +1,4 @@
 pub mod Asked
+mod Feeds
+mod Runs
+pub mod Works

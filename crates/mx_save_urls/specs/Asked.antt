@@ -8,9 +8,9 @@ use Rattle.mx_save_jobs.specs.declared.asking.Asking.{Asking}
 use Rattle.mx_save_jobs.specs.declared.job.Job.{Job}
 use Rattle.mx_save_jobs.specs.declared.job.Slot.{Slot}
 use Rattle.mx_save_jobs.specs.declared.job.Slot.TheVariants as slot
-use Rattle.mx_save_work.specs.Works.{WorkValue}
-use Rattle.mx_save_urls.specs.declared.turns.Turned.{Turned}
-use Rattle.mx_save_urls.specs.declared.turns.Turned.TheVariants as how
+use Rattle.mx_save_urls.specs.Works.{WorkValue}
+use Rattle.mx_fetch.specs.declared.turned.Turned.{Turned}
+use Rattle.mx_fetch.specs.declared.turned.Turned.TheVariants as how
 
 -- rule save-requests
 -- Of each URL whose transfer is added, its request is added under the number of its slot.

@@ -1,1 +1,6 @@
 pub mod Asked
+pub mod Feeds
+pub mod Plans
+pub mod Runs
+pub mod Texts
+pub mod Works

@@ -1,19 +1,19 @@
 //! A URL's transfer, from the URL to the desk.
 ghost use Rattle.std.specs.Prelude.{◌≡◌, false, IfErr, OnOk};
 ghost use Rattle.mx_save_jobs.specs.Books.{IsJobFor};
-ghost use Rattle.mx_save_work.specs.Works.{IsSameWork};
+ghost use Rattle.mx_save_urls.specs.Works.{IsSameWork};
 ghost use Rattle.mx_desk.specs.Desks.{HasRoom};
-ghost use Rattle.mx_desk.specs.declared.error.DeskError.TheVariants as desk_error;
-ghost use Rattle.mx_save_jobs.specs.declared.stop.Stop.TheVariants as stop;
+ghost use Rattle.mx_run_io.specs.declared.stop.Stop.TheVariants as stop;
 ghost use Rattle.mx_save_urls.specs.Asked.{AreAsked};
 
+use crate::feed::Ahead;
 use crate::watch::Watch;
-use mx_desk::{Desk, DeskError};
+use crate::work::Work;
+use mx_desk::Desk;
 use mx_folder::Folder;
 use mx_link::Link;
 use mx_request::Request;
-use mx_save_jobs::Stop;
-use mx_save_work::{Ahead, Work};
+use mx_run_io::Stop;
 use std::alloc::AllocGlobal;
 use std::io::{Read, Write};
 use std::sync::Wait;
@@ -29,16 +29,6 @@ pub enum Begun {
     NotYet,
     /// None is, and none can be added now.
     Nothing,
-}
-
-/// Why a run stops, where its desk can't go on.
-pub fn stop_of(error: DeskError) -> Stop
-    ensures { error ≡ desk_error.OutOfMemory → result ≡ stop.OutOfMemory }
-{
-    match error {
-        DeskError::OutOfMemory => Stop::OutOfMemory,
-        DeskError::NoMessage => Stop::NoMessage,
-    }
 }
 
 // rule save-waiting
@@ -68,7 +58,7 @@ fn add<'a, L: Link, F: Folder, W: Write, Rd: Read + Drop, R: Wait + AllocGlobal>
             work.wait(at, now)?;
             Ok(Begun::Nothing)
         }
-        Err(error) => Err(stop_of(error)),
+        Err(stop) => Err(stop),
     }
 }
 

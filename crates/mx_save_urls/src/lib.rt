@@ -1,15 +1,20 @@
-//! The URLs of a run at a desk: each is added as there is room, and what each ended with is saved and printed.
+//! A run that saves: its URLs are read, added at a desk as there is room, and tried again, and what each ended with is saved and printed.
 #![tactic(auto)]
 
 mod adding;
-mod fetch;
+mod feed;
+mod plan;
 mod run;
+mod saving;
 mod timer;
 mod turns;
 mod watch;
+mod work;
 
-pub use crate::fetch::Fetch;
+pub use crate::feed::{Ahead, Feed};
+pub use crate::plan::{MOST_PENDING, Plan};
 pub use crate::run::Run;
+pub use crate::saving::{Ended, save_all};
 pub use crate::timer::Timer;
-pub use crate::turns::Turned;
 pub use crate::watch::{Nobody, Standing, Watch};
+pub use crate::work::Work;

@@ -1,19 +1,19 @@
 //! A run, which goes from desk to desk.
 ghost use Rattle.std.specs.Prelude.{◌≡◌, false};
-ghost use Rattle.mx_save_work.specs.Works.{IsSameWork};
-ghost use Rattle.mx_save_work.proofs.Works.{same_work, work_then};
+ghost use Rattle.std.proofs.Common.{◌∙◌, refl};
+ghost use Rattle.mx_save_urls.specs.Works.{IsSameWork};
 ghost use Rattle.mx_save_urls.specs.Asked.{AreAsked, HasTurned};
 
-use crate::fetch::Fetch;
 use crate::timer::Timer;
-use crate::turns::{Turned, take_turns};
+use crate::turns::take_turns;
 use crate::watch::Watch;
+use crate::work::Work;
 use mx_crew::Crew;
 use mx_desk::Desk;
+use mx_fetch::{Fetch, Turned};
 use mx_folder::Folder;
 use mx_link::Link;
-use mx_save_jobs::Stop;
-use mx_save_work::Work;
+use mx_run_io::Stop;
 use std::alloc::AllocGlobal;
 use std::io::{Read, Write};
 use std::rt::Clock;
@@ -52,9 +52,21 @@ impl<'a, F: Folder, W: Write, Rd: Read + Drop, V: Watch> Fetch for Run<'a, F, W,
         )
     }
 
-    ghost same = { λ r. same_work r.work };
+    ghost same = { λ r. record {
+      book = record { asking = refl; output = refl; json = refl; folder = refl; flush = refl };
+      first = refl;
+    } };
 
-    ghost then = { λ r s t h k. work_then r.work s.work t.work h k };
+    ghost then = { λ r s t h k. record {
+      book = record {
+        asking = k.book.asking ∙ h.book.asking;
+        output = k.book.output ∙ h.book.output;
+        json = k.book.json ∙ h.book.json;
+        folder = k.book.folder ∙ h.book.folder;
+        flush = k.book.flush ∙ h.book.flush;
+      };
+      first = k.first ∙ h.first;
+    } };
 
     ghost none = { λ r h asked. (h.0, λ i job ticket is. absurd (h.1 i job ticket is)) };
 }

@@ -1,5 +1,5 @@
 //! The moments of a run.
-use mx_save_jobs::Stop;
+use mx_run_io::Stop;
 use std::rt::Clock;
 use std::time::Instant;
 

@@ -1,19 +1,20 @@
 //! The turns of a run.
 ghost use Rattle.std.specs.Prelude.{◌≡◌, false, IfOk, IfSome, OnOk};
 ghost use Rattle.mx_save_jobs.specs.Books.{HasNoneAdded, IsClosed, IsJobFor};
-ghost use Rattle.mx_save_work.specs.Works.{IsSameWork};
+ghost use Rattle.mx_save_urls.specs.Works.{IsSameWork};
 ghost use Rattle.mx_desk.specs.Desks.{Stays};
 ghost use Rattle.mx_save_urls.specs.Asked.{AreAsked, HasTurned};
 
-use crate::adding::{Begun, begin, stop_of};
+use crate::adding::{Begun, begin};
 use crate::timer::Timer;
 use crate::watch::{Standing, Watch};
+use crate::work::Work;
 use mx_crew::Crew;
 use mx_desk::{Desk, Ended};
+use mx_fetch::Turned;
 use mx_folder::Folder;
 use mx_link::Link;
-use mx_save_jobs::Stop;
-use mx_save_work::Work;
+use mx_run_io::Stop;
 use std::alloc::AllocGlobal;
 use std::io::{Read, Write};
 use std::rt::Clock;
@@ -24,17 +25,6 @@ const LONGEST_WAIT_MS: u32 = 60_000;
 
 /// The same, where a list has nothing now.
 const LIST_WAIT_MS: u32 = 20;
-
-/// How a run left its desk.
-#[derive(Clone, Copy)]
-pub enum Turned {
-    /// All URLs were read and have ended: nothing is added there.
-    AllEnded,
-    /// The history of the multi handle has no room for the next URL, which waits, and nothing is added there.
-    HistoryFull,
-    /// The history has no room for the next URL, which waits, while a transfer may still be added there.
-    Held,
-}
 
 // What was seen of a run: how many URLs had ended, when its standing is shown next, and since when the history has had no room.
 #[derive(Clone, Copy)]
@@ -174,7 +164,7 @@ fn await_one<
             }
             Err(Stop::NoMessage)
         }
-        Err(error) => Err(stop_of(error)),
+        Err(stop) => Err(stop),
     }
 }
 

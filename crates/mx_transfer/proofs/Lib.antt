@@ -1,2 +1,3 @@
-pub mod Wakers
+pub mod QueuedSends
 pub mod Sends
+pub mod Wakers

@@ -1,3 +1,6 @@
 pub mod Accounts
-pub mod Within
 mod Looks
+pub mod Newest
+mod Supplying
+pub mod Takes
+pub mod Within

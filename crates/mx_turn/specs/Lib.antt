@@ -1,3 +1,6 @@
-pub mod Workers
-pub mod Turn
+pub mod Idle
+pub mod IdleLaws
 pub mod Laws
+pub mod Supplies
+pub mod Turn
+pub mod Workers

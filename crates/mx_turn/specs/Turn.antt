@@ -8,7 +8,7 @@ use Rattle.mx_types.specs.declared.reply.Look.{Look}
 use Rattle.mx_types.specs.declared.reply.Look.TheVariants as look
 use Rattle.mx_request.specs.Endpoint.{HostAndPort}
 use Rattle.mx_link.specs.declared.answers.Answer.{Answer}
-use Rattle.mx_cache.specs.Idle.{Idle, kept, HasNone, TakesNewest}
+use Rattle.mx_turn.specs.Idle.{Idle, kept, HasNone, TakesNewest}
 use Rattle.mx_exchange.specs.Exchanges.{WantsLink, IsDue, attached}
 use Rattle.mx_chain.specs.Chains.{ChainState, received_of, home_of}
 use Rattle.mx_chain.specs.Outcomes.{OutcomeValue}

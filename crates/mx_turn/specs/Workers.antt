@@ -2,7 +2,7 @@
 use Rattle.std.specs.Prelude.{◌≡◌, ℕ, ◌+◌, Bool, true, false, List, [], ◌∷◌, ◌++◌, length, Option}
 use Rattle.mx_types.specs.declared.names.Ticket.{Ticket}
 use Rattle.mx_types.specs.declared.reply.Look.{Look}
-use Rattle.mx_cache.specs.Idle.{Idle}
+use Rattle.mx_turn.specs.Idle.{Idle}
 use Rattle.mx_chain.specs.Chains.{ChainState}
 use Rattle.mx_chain.specs.Outcomes.{OutcomeValue}
 use Rattle.mx_gate.specs.Said.{Said}

@@ -1,5 +1,11 @@
-//! What a worker does in one turn, as one list of cases, and the laws of every run of turns. The definition is in specs/Turn.antt, and its
-//! terms are in specs/Workers.antt.
+//! A worker's idle links, and what it does in one turn, as one list of cases, with the laws of every run of turns. That definition is in
+//! specs/Turn.antt, and its terms are in specs/Workers.antt.
 #![tactic(auto)]
 
+mod idle;
+pub mod idle_laws;
 pub mod laws;
+mod links;
+
+pub use crate::idle::IdleCache;
+pub use crate::links::Links;

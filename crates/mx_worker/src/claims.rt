@@ -3,8 +3,8 @@ ghost use Rattle.std.specs.Prelude.{◌≡◌};
 
 use mx_link::Link;
 use mx_lock::TiedClaim;
-use mx_queue::Queued;
 use mx_round::{Right, Tied};
+use mx_transfer::Queued;
 use mx_types::Ticket;
 use std::marker::Model;
 

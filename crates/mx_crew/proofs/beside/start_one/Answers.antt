@@ -2,7 +2,7 @@ use denote.Param.Send.{sendable}
 use Rattle.std.proofs.Crossing.{crosses}
 use Rattle.mx_chain.proofs.Sends.{outcome_send}
 use Rattle.mx_multi.proofs.Sends.{at_work_send, seated_send}
-use Rattle.mx_queue.proofs.Sends.{queued_send}
+use Rattle.mx_transfer.proofs.QueuedSends.{queued_send}
 use Rattle.mx_crew.proofs.Sends.{run_gate_send}
 use Rattle.mx_crew.proofs.beside.start_one.Goals as goal
 

@@ -1,7 +1,8 @@
 use Rattle.std.proofs.Common.{◌∙◌, subst, sym}
 use Rattle.std.specs.Prelude.{MatchOption}
 use Rattle.mx_desk.specs.Desks.{Ends, Stays}
-use Rattle.mx_save_urls.proofs.Asked.{asked_less, ended_for, on_ok}
+use Rattle.mx_save_urls.proofs.Asked.{asked_less, ended_for}
+use Rattle.mx_save_urls.proofs.Works.{on_ok}
 use Rattle.mx_save_urls.proofs.turns.await_one.Goals as goal
 
 pub close-requires-clause-asked : goal.close-requires-clause-asked

@@ -1,5 +1,5 @@
 use Rattle.std.proofs.Common.{◌≡◌, false}
-use Rattle.mx_save_work.specs.Works.{IsSameWork}
+use Rattle.mx_save_urls.specs.Works.{IsSameWork}
 use Rattle.mx_save_urls.specs.Asked.{AreAsked}
 use Rattle.mx_save_urls.proofs.turns.take_turns.Given as goal
 

@@ -1,4 +1,4 @@
-use Rattle.std.proofs.Common.{◌≡◌, ◌∙◌, ap, sym, refl, subst, map}
+use Rattle.std.proofs.Common.{◌∙◌, ap, sym, refl, subst, map}
 use Rattle.std.specs.Prelude.{slice_set}
 use Rattle.mx_save_jobs.specs.Jobs.{IsBook}
 use Rattle.mx_save_jobs.specs.declared.job.Slot.TheVariants as slot

@@ -1,5 +1,0 @@
-use Rattle.mx_get.proofs.Places.{told_on}
-use Rattle.mx_get.proofs.collect.add_transfer.Goals as goal
-
-pub returns-in_err-ticket-clause-later : goal.returns-in_err-ticket-clause-later
-returns-in_err-ticket-clause-later g c = told_on c.args.seat.now c.add.new.self _ _ c.add.result _ c.add.ensures.stands

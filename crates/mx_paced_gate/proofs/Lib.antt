@@ -1,2 +1,0 @@
-pub mod Bursts
-pub mod Sends

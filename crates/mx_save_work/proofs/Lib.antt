@@ -1,2 +1,0 @@
-mod Feeds
-pub mod Works

@@ -1,3 +1,0 @@
-pub mod Feeds
-pub mod Texts
-pub mod Works

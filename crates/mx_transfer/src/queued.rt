@@ -1,0 +1,102 @@
+//! A transfer that waits for a worker.
+ghost use Rattle.std.specs.Prelude.{◌≡◌, None, true, false, IfOk, IfErr};
+
+use crate::transfers::Transfer;
+use mx_link::Link;
+use mx_request::Request;
+use mx_types::Work;
+use std::alloc::{AllocFailed, Global};
+use std::marker::Model;
+
+/// A transfer that has not ended, as it waits for a worker. It is boxed, since it goes through the multi handle and from list to list of a
+/// worker. Contracts see the transfer.
+pub struct Queued<L: Link> {
+    transfer: Box<Transfer<L>>,
+}
+
+// Written out, and not derived: a crate that drops queued work cites its proof.
+impl<L: Link> Drop for Queued<L> {
+    fn drop(self) {
+        let Queued { transfer } = self;
+        drop(transfer);
+    }
+}
+
+impl<L: Link> Model for Queued<L> {
+    ghost use Rattle.std.specs.Prelude.{◌≡◌, None};
+    ghost use Rattle.mx_transfer.specs.Transfers.{TransferState};
+
+    ghost Value = { TransferState L };
+
+    ghost view = { λ q. q.transfer.value };
+
+    ghost invariant = { λ q. q.transfer.value.chain.code ≡ None };
+}
+
+impl<L: Link> Work for Queued<L> {
+    ghost use Rattle.mx_request.specs.Request.{request_origin};
+
+    ghost origin = { λ q. request_origin q.chain.request };
+}
+
+impl<L: Link> Queued<L> {
+    /// A transfer of the request, which has not started, and keeps all bytes of the hops that it follows. What its polls grow comes from
+    /// `alloc`, as the transfer itself does. Where that memory is refused, the request comes back.
+    pub fn new(alloc: Global, request: Request) -> Result<Queued<L>, AllocFailed<Request>>
+        ensures request { IfOk result (λ q. q.chain.request ≡ request) }
+        ensures whole { IfOk result (λ q. q.chain.heads_alone ≡ false) }
+        ensures unstarted { IfOk result (λ q. (q.chain.now.is_started ≡ false) × (q.chain.code ≡ None) × (q.chain.now.deadline ≡ None)) }
+        ensures refused { IfErr result (λ e. e.value ≡ request) }
+    {
+        Queued::boxed(alloc, Transfer::new(alloc, request))
+    }
+
+    /// The same, which keeps of each hop that it follows its heads alone: the body is freed before the next hop begins.
+    pub fn keeping_heads(alloc: Global, request: Request) -> Result<Queued<L>, AllocFailed<Request>>
+        ensures request { IfOk result (λ q. q.chain.request ≡ request) }
+        ensures heads { IfOk result (λ q. q.chain.heads_alone ≡ true) }
+        ensures unstarted { IfOk result (λ q. (q.chain.now.is_started ≡ false) × (q.chain.code ≡ None) × (q.chain.now.deadline ≡ None)) }
+        ensures refused { IfErr result (λ e. e.value ≡ request) }
+    {
+        Queued::boxed(alloc, Transfer::keeping_heads(alloc, request))
+    }
+
+    // The transfer, which has not ended, in a box; or its request.
+    fn boxed(alloc: Global, transfer: Transfer<L>) -> Result<Queued<L>, AllocFailed<Request>>
+        requires { transfer.chain.code ≡ None }
+        ensures same { IfOk result (λ q. q ≡ transfer) }
+        ensures refused { IfErr result (λ e. e.value ≡ transfer.chain.request) }
+    {
+        match Box::new(alloc, transfer) {
+            Ok(transfer) => Ok(Queued { transfer }),
+            Err(refused) => Err(AllocFailed {
+                value: refused.value.into_request(),
+            }),
+        }
+    }
+
+    /// The request, by move. A link that serves it is dropped.
+    pub fn into_request(self) -> Request
+        ensures { result ≡ self.chain.request }
+    {
+        let Queued { transfer } = self;
+        Box::into_inner(transfer).into_request()
+    }
+
+    /// A transfer that a worker has claimed and polled, to be given back. It has not ended.
+    pub fn of(transfer: Box<Transfer<L>>) -> Queued<L>
+        requires { transfer.value.chain.code ≡ None }
+        ensures { result ≡ transfer.value }
+    {
+        Queued { transfer }
+    }
+
+    /// The transfer, by move, for a worker that polls it itself. It has not ended.
+    pub fn into_transfer(self) -> Box<Transfer<L>>
+        ensures same { result.value ≡ self }
+        ensures running { result.value.chain.code ≡ None }
+    {
+        let Queued { transfer: claimed } = self;
+        claimed
+    }
+}
