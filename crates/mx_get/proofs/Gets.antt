@@ -10,9 +10,9 @@ use Rattle.mx_request.specs.declared.error.RequestError.{RequestError}
 use Rattle.mx_request.specs.declared.error.RequestError.TheVariants as refusal
 use Rattle.mx_chain.specs.Outcomes.{OutcomeValue}
 use Rattle.mx_desk.proofs.Desks.{none_is_added}
-use Rattle.mx_run_get.specs.Asking.{asked_for}
+use Rattle.mx_get_text.specs.Asking.{asked_for}
 use Rattle.mx_run_io.specs.declared.options.Options.{Options}
-use Rattle.mx_run_get.specs.Fetched.{fetched_of}
+use Rattle.mx_get_text.specs.Fetched.{fetched_of}
 use Rattle.mx_get.specs.Getting.{AreAwaited, GettingValue, IsGetting, asked_next, wanted}
 use Rattle.mx_get.specs.Places.{asked_at, is_awaiting, is_awaiting_at, noted_at}
 use Rattle.mx_get.specs.declared.place.Place.{Place}

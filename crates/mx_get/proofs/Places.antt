@@ -6,8 +6,8 @@ use Rattle.std.proofs.lemmas.List.Sums.{sum_by-cons, sum_by_push}
 use Rattle.std.specs.declared.snapshot.Snapshot.{Snapshot}
 use Rattle.mx_request.specs.Request.{RequestValue}
 use Rattle.mx_chain.specs.Outcomes.{OutcomeValue}
-use Rattle.mx_run_get.specs.declared.fetched.Fetched.{Fetched}
-use Rattle.mx_run_get.specs.Fetched.{fetched_of}
+use Rattle.mx_get_text.specs.declared.fetched.Fetched.{Fetched}
+use Rattle.mx_get_text.specs.Fetched.{fetched_of}
 use Rattle.mx_get.proofs.Ends.{asked_kept}
 use Rattle.mx_get.specs.Asked.{IsEnd}
 use Rattle.mx_get.specs.Places.{asked_at, is_awaiting, is_awaiting_at, noted_at}

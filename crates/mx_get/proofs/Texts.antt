@@ -9,8 +9,8 @@ use Rattle.std.proofs.lemmas.Option.{slice_get-map}
 use Rattle.mx_types.specs.declared.code.Code.{Code}
 use Rattle.mx_reason.specs.declared.reason.Reason.{Reason}
 use Rattle.mx_chain.specs.Hops.{is_ok}
-use Rattle.mx_run_get.specs.declared.fetched.Fetched.{Fetched}
-use Rattle.mx_run_get.specs.Fetched.{code_of}
+use Rattle.mx_get_text.specs.declared.fetched.Fetched.{Fetched}
+use Rattle.mx_get_text.specs.Fetched.{code_of}
 use Rattle.mx_words.specs.Words.{told_text}
 use Rattle.mx_words.specs.Hints.{file_limit_hint}
 use Rattle.mx_words.specs.Lines.{IsFailureText, Writes, hint_line}

@@ -2,10 +2,10 @@
 use Rattle.std.specs.Prelude.{◌≡◌, ℕ, Bool, true, false, List, [], ◌∷◌, ◌++◌, Option, None}
 use Rattle.mx_reason.specs.declared.reason.Reason.{Reason}
 use Rattle.mx_chain.specs.Hops.{is_ok}
-use Rattle.mx_run_get.specs.declared.fetched.Fetched.{Fetched}
-use Rattle.mx_run_get.specs.declared.fetched.Fetched.TheVariants.{Refused, Ended, Failed}
-use Rattle.mx_run_get.specs.Fetched.{code_of}
-use Rattle.mx_run_get.specs.Failures.{IsWhy}
+use Rattle.mx_get_text.specs.declared.fetched.Fetched.{Fetched}
+use Rattle.mx_get_text.specs.declared.fetched.Fetched.TheVariants.{Refused, Ended, Failed}
+use Rattle.mx_get_text.specs.Fetched.{code_of}
+use Rattle.mx_get_text.specs.Failures.{IsWhy}
 use Rattle.mx_words.specs.Words.{told_text}
 use Rattle.mx_words.specs.Hints.{file_limit_hint}
 use Rattle.mx_words.specs.Lines.{IsFailureText, hint_line}

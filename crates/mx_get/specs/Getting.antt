@@ -4,7 +4,7 @@ use Rattle.mx_types.specs.declared.code.Code.{Code}
 use Rattle.mx_request.specs.Request.{RequestValue}
 use Rattle.mx_fetch.specs.declared.turned.Turned.{Turned}
 use Rattle.mx_fetch.specs.declared.turned.Turned.TheVariants as how
-use Rattle.mx_run_get.specs.Asking.{asked_for}
+use Rattle.mx_get_text.specs.Asking.{asked_for}
 use Rattle.mx_run_io.specs.declared.options.Options.{Options}
 use Rattle.mx_get.specs.Places.{asked_at, is_awaiting}
 use Rattle.mx_get.specs.declared.place.Place.{Place}

@@ -2,11 +2,11 @@
 ghost use Rattle.std.specs.Prelude.{◌≡◌, ◌<◌, true, IsErr, OnOk, Some, length, map, option_map, slice_get};
 ghost use Rattle.mx_run_io.specs.Ends.{has_failed_write, Wrote};
 ghost use Rattle.mx_chain.specs.Hops.{is_ok};
-ghost use Rattle.mx_run_get.specs.Fetched.{code_of};
+ghost use Rattle.mx_get_text.specs.Fetched.{code_of};
 ghost use Rattle.mx_words.specs.Lines.{Writes};
 ghost use Rattle.mx_get.specs.Explained.{IsWhyOf, IsEndText, AreEndTexts, IsRunText};
 
-use mx_run_get::Fetched;
+use mx_get_text::Fetched;
 use mx_run_io::{Output, WriteFailed};
 use mx_types::Code;
 use mx_words::{Told, print_failure, print_file_limit};

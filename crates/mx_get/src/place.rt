@@ -6,8 +6,8 @@ ghost use Rattle.mx_get.specs.declared.place.Place.TheVariants as place;
 ghost use Rattle.mx_run_io.specs.declared.stop.Stop.TheVariants as stop;
 
 use crate::end::End;
+use mx_get_text::Fetched;
 use mx_request::Request;
-use mx_run_get::Fetched;
 use mx_run_io::Stop;
 use mx_transfer::Outcome;
 use std::alloc::Global;

@@ -5,14 +5,14 @@ ghost use Rattle.mx_types.specs.declared.code.Code.TheVariants as codes;
 ghost use Rattle.mx_run_io.specs.Faults.{PrintsFault};
 ghost use Rattle.mx_run_io.specs.Options.{are_within};
 ghost use Rattle.mx_run_io.specs.Ends.{has_failed_write, is_pending, Wrote, EndsRun};
-ghost use Rattle.mx_run_get.specs.Texts.{texts_from, exit_status};
+ghost use Rattle.mx_get_text.specs.Texts.{texts_from, exit_status};
 ghost use Rattle.mx_get.specs.Run.{AnswersUrls, PrintsEnds};
 ghost use Rattle.mx_get.specs.declared.error.FetchError.TheVariants as fetch_error;
 
 use crate::error::FetchError;
 use crate::fetch::{MOST_URLS, fetch_all};
 use mx_crew::Runtime;
-use mx_run_get::{Fetched, print_get};
+use mx_get_text::{Fetched, print_get};
 use mx_run_io::{Options, Output, UNWRITTEN, end_with};
 use mx_types::Code;
 use std::io::Write;

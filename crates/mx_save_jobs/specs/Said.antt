@@ -3,7 +3,7 @@ use Rattle.std.specs.Prelude.{◌≡◌, ◌≢◌, ℕ, List, codes, Option}
 use Rattle.mx_types.specs.declared.code.Code.TheVariants as code
 use Rattle.mx_reason.specs.declared.reason.Reason.{Reason}
 use Rattle.mx_chain.specs.Outcomes.{OutcomeValue}
-use Rattle.mx_run_get.specs.Failures.{IsWhy}
+use Rattle.mx_get_text.specs.Failures.{IsWhy}
 use Rattle.mx_words.specs.Words.{told_text}
 
 -- the words of the code of a transfer that failed, and what its bytes show

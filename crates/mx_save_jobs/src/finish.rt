@@ -20,7 +20,7 @@ use crate::words::failure_words;
 use mx_chain::Outcome;
 use mx_file_name::FileName;
 use mx_folder::{Folder, FolderError};
-use mx_run_get::last_method;
+use mx_get_text::last_method;
 use mx_run_save::{Decision, End, SaveCode, Transferred, verdict_of};
 use mx_save::{Ledger, SaveError, Unsaved};
 use mx_types::Code;

@@ -1,10 +1,10 @@
 //! What is said of a URL that failed.
 ghost use Rattle.std.specs.Prelude.{◌≡◌, IfOk, string_bytes};
-ghost use Rattle.mx_run_get.specs.Failures.{IsWhy};
+ghost use Rattle.mx_get_text.specs.Failures.{IsWhy};
 ghost use Rattle.mx_save_jobs.specs.Said.{IsSaid, IsToldOf};
 
 use mx_chain::Outcome;
-use mx_run_get::why_of;
+use mx_get_text::why_of;
 use mx_types::Code;
 use mx_words::Told;
 use std::alloc::{AllocError, Global};
