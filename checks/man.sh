@@ -160,7 +160,7 @@ for name, limits in {
         ("at most {} interim responses", "mx_body/src/limits.rt", "MOST_INTERIM"),
         ("A URL has at most {} bytes", "mx_request/src/request.rt", "MOST_TEXT"),
         ("the body of a request {}.", "mx_request/src/request.rt", "MOST_BODY"),
-        ("takes {} URLs", "mx_get/src/fetch.rt", "MOST_URLS"),
+        ("takes {} URLs", "mx_run_get/src/fetch.rt", "MOST_URLS"),
         ("A worker has {} transfers at most", "mx_types/src/limits.rt", "MOST_TRANSFERS"),
         ("of its own, {} at a time", "mx_names/src/names.rt", "MOST_LOOKUPS"),
     ),

@@ -1,6 +1,6 @@
 //! What `get` prints of some URLs, each row with a server of its own.
 use crate::server::Server;
-use mx_get::{Runtime, run_get, run_get_explained};
+use mx_run_get::{Runtime, run_get, run_get_explained};
 use mx_run_io::{Options, Output};
 use std::alloc::Global;
 use std::net::{Net, TcpListener, TcpStream};

@@ -1,6 +1,6 @@
 //! How many requests are open at a time.
 use crate::open_requests::Counting;
-use mx_get::{Runtime, run_get};
+use mx_run_get::{Runtime, run_get};
 use mx_run_io::{Options, Output};
 use std::alloc::Global;
 use std::net::{Net, TcpListener, TcpStream};

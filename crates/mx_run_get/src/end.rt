@@ -1,0 +1,57 @@
+//! What a URL ended with, with its truth.
+ghost use Rattle.std.specs.Prelude.{◌≡◌};
+ghost use Rattle.mx_get_text.specs.Fetched.{fetched_of};
+ghost use Rattle.mx_get_text.specs.declared.fetched.Fetched.TheVariants as fetched;
+ghost use Rattle.mx_run_get.specs.Asked.{IsEnd};
+
+use mx_get_text::Fetched;
+use mx_transfer::Outcome;
+use mx_types::Code;
+use std::alloc::Global;
+use std::marker::Model;
+
+/// What a URL ended with. Contracts see it, and know that it is an outcome where a transfer ended.
+#[derive(Drop)]
+pub struct End {
+    fetched: Fetched,
+}
+
+impl Model for End {
+    ghost use Rattle.mx_get_text.specs.declared.fetched.Fetched.{Fetched};
+    ghost use Rattle.mx_run_get.specs.Asked.{IsEnd};
+
+    ghost Value = { Fetched };
+
+    ghost view = { λ e. e.fetched };
+
+    ghost invariant = { λ e. IsEnd e.fetched };
+}
+
+impl End {
+    /// The URL was refused.
+    pub fn refused(code: Code) -> End
+        ensures { result ≡ fetched.Refused code }
+    {
+        End {
+            fetched: Fetched::Refused(code),
+        }
+    }
+
+    /// A transfer of the URL's request ended. The bytes of a failed one are dropped.
+    pub fn ended(alloc: Global, outcome: Outcome) -> End
+        ensures { result ≡ fetched_of outcome }
+    {
+        outcome.know();
+        let _code = outcome.code();
+        End {
+            fetched: Fetched::of(alloc, outcome),
+        }
+    }
+
+    pub fn into_fetched(self) -> Fetched
+        ensures same { result ≡ self }
+        ensures end { IsEnd result }
+    {
+        self.fetched
+    }
+}
