@@ -128,7 +128,7 @@ for name, words, key, rows, arguments, _ in commands:
     add(words[f"MORE_{key}"])
 with open(f"{top}/man/sections.1", encoding="utf-8") as it:
     sections = it.read()
-keys = re.findall(r'\\"(\w+)\\":', source("mx_run_save/src/object.rt"))
+keys = re.findall(r'\\"(\w+)\\":', source("mx_save_rules/src/object.rt"))
 compare("the keys of an object of JSON", re.findall(r"(?m)^\.TP\n\\fB(\w+)\\fR$", sections), keys)
 
 
@@ -150,7 +150,7 @@ def constant(path, name):
 codes = set(map(int, re.findall(r"(?m)^code_number \S+ = (\d+)$", source("mx_types/specs/Code.antt"))))
 compare("the exit statuses in the help of get", sorted(numbers(main["MORE_GET"])), sorted(codes | {120, 121}))
 told = numbers("\n".join(words[f"MORE_{key}"] for _, words, key, *_ in commands))
-told |= set(map(int, re.findall(r"(?m)^save_number \S+ = (\d+)$", source("mx_run_save/specs/Codes.antt")))) | {132}
+told |= set(map(int, re.findall(r"(?m)^save_number \S+ = (\d+)$", source("mx_save_rules/specs/Codes.antt")))) | {132}
 compare("the exit statuses in man/sections.1", list(map(int, re.findall(r"(?m)^\.TP 6\n\\fB(\d+)\\fR$", section("EXIT STATUS")))), sorted(told))
 for name, limits in {
     "LIMITS": (

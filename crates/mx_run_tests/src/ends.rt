@@ -2,7 +2,7 @@
 use crate::fakes::Pipe;
 use crate::tally::Tally;
 use mx_run_io::Output;
-use mx_run_save::{
+use mx_save_rules::{
     Decision, End, ExitStatus, FramingWord, JsonError, SaveCode, Transferred, print_json,
     print_line, verdict_of,
 };

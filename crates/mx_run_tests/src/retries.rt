@@ -1,6 +1,6 @@
 //! What `save` tries again, and when.
 use crate::tally::Tally;
-use mx_run_save::{Wait, Waiting, delay_ms, is_retried};
+use mx_save_rules::{Wait, Waiting, delay_ms, is_retried};
 use mx_types::{Code, Method};
 use std::alloc::{AllocError, Global};
 

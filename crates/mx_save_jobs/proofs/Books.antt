@@ -13,12 +13,12 @@ use Rattle.mx_file_name.specs.Names.{base_name, count_of, names_of, numbered}
 use Rattle.mx_file_name.specs.Laws.{NamesAreDistinct}
 use Rattle.mx_file_name.proofs.Apart.{distinct}
 use Rattle.mx_save.specs.Ledgers.{IsFresh}
-use Rattle.mx_run_save.specs.Decisions.{IsDecision}
-use Rattle.mx_run_save.specs.declared.decision.Decision.TheVariants as decision
-use Rattle.mx_run_save.specs.declared.end.Transferred.{Transferred}
-use Rattle.mx_run_save.specs.Ends.{EndValue, IsEnd, saved_end}
-use Rattle.mx_run_save.specs.declared.end.Verdict.{Verdict}
-use Rattle.mx_run_save.specs.declared.end.Verdict.TheVariants as verdict
+use Rattle.mx_save_rules.specs.Decisions.{IsDecision}
+use Rattle.mx_save_rules.specs.declared.decision.Decision.TheVariants as decision
+use Rattle.mx_save_rules.specs.declared.end.Transferred.{Transferred}
+use Rattle.mx_save_rules.specs.Ends.{EndValue, IsEnd, saved_end}
+use Rattle.mx_save_rules.specs.declared.end.Verdict.{Verdict}
+use Rattle.mx_save_rules.specs.declared.end.Verdict.TheVariants as verdict
 use Rattle.mx_save_jobs.specs.Bodies.{IsWholeBody}
 use Rattle.mx_save_jobs.specs.declared.asking.Asking.{Asking}
 use Rattle.mx_save_jobs.specs.declared.finish.NotEnded.{NotEnded}

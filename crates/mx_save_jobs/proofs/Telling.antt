@@ -3,11 +3,11 @@ use Rattle.std.proofs.Common.{◌≡◌, ◌≢◌, ◌∙◌, refl, ap, sym, su
 use Rattle.std.specs.Prelude.{◌⊎◌, Option, None}
 use Rattle.std.specs.Io.KnownBytes.{Appends, Keeps}
 use Rattle.std.proofs.KnownBytes.{Appends-kept, Appends-trans}
-use Rattle.mx_run_save.specs.Status.{after_note, after_notes, first_of}
+use Rattle.mx_save_rules.specs.Status.{after_note, after_notes, first_of}
 use Rattle.mx_run_io.specs.Ends.{Wrote, has_failed_write, is_pending, writer_of}
 use Rattle.mx_run_io.specs.declared.output.Output.{Output}
-use Rattle.mx_run_save.specs.declared.status.ExitStatus.{ExitStatus}
-use Rattle.mx_run_save.specs.declared.status.PlacedCode.{PlacedCode}
+use Rattle.mx_save_rules.specs.declared.status.ExitStatus.{ExitStatus}
+use Rattle.mx_save_rules.specs.declared.status.PlacedCode.{PlacedCode}
 use Rattle.mx_save_jobs.specs.Lines.{AreLines, LinesValue, ToldValue, line_of, note_of, text_of}
 
 text_more : (json : Bool) (ts : List ToldValue) (t : ToldValue) → text_of json (ts ++ t ∷ []) ≡ text_of json ts ++ line_of json t.end

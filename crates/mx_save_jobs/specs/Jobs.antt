@@ -7,11 +7,11 @@ use Rattle.mx_body.specs.Parts.{joined}
 use Rattle.mx_chain.specs.Outcomes.{OutcomeValue, IsOutcome}
 use Rattle.mx_file_name.specs.Names.{base_name, names_of}
 use Rattle.mx_save.specs.Ledgers.{LedgerValue, IsFresh}
-use Rattle.mx_run_save.specs.Decisions.{IsDecision}
-use Rattle.mx_run_save.specs.declared.decision.Decision.TheVariants as decision
-use Rattle.mx_run_save.specs.Ends.{EndValue, IsEnd}
-use Rattle.mx_run_save.specs.declared.end.Verdict.{Verdict}
-use Rattle.mx_run_save.specs.declared.end.Verdict.TheVariants as verdict
+use Rattle.mx_save_rules.specs.Decisions.{IsDecision}
+use Rattle.mx_save_rules.specs.declared.decision.Decision.TheVariants as decision
+use Rattle.mx_save_rules.specs.Ends.{EndValue, IsEnd}
+use Rattle.mx_save_rules.specs.declared.end.Verdict.{Verdict}
+use Rattle.mx_save_rules.specs.declared.end.Verdict.TheVariants as verdict
 use Rattle.mx_save_jobs.specs.Bodies.{IsWholeBody}
 use Rattle.mx_save_jobs.specs.declared.asking.Asking.{Asking}
 use Rattle.mx_save_jobs.specs.declared.finish.NotEnded.{NotEnded}

@@ -2,12 +2,12 @@
 use Rattle.std.specs.Prelude.{◌≡◌, ◌≢◌, ℕ, Bool, true, false, if◌then◌else◌, List, [], ◌∷◌, ◌++◌, map, None, Option}
 use Rattle.mx_run_io.specs.Ends.{Wrote, has_failed_write, is_pending}
 use Rattle.mx_run_io.specs.declared.output.Output.{Output}
-use Rattle.mx_run_save.specs.Codes.{save_number}
-use Rattle.mx_run_save.specs.Ends.{EndValue}
-use Rattle.mx_run_save.specs.Status.{after_notes, first_of}
-use Rattle.mx_run_save.specs.Texts.{end_line, json_line}
-use Rattle.mx_run_save.specs.declared.status.ExitStatus.{ExitStatus}
-use Rattle.mx_run_save.specs.declared.status.PlacedCode.{PlacedCode}
+use Rattle.mx_save_rules.specs.Codes.{save_number}
+use Rattle.mx_save_rules.specs.Ends.{EndValue}
+use Rattle.mx_save_rules.specs.Status.{after_notes, first_of}
+use Rattle.mx_save_rules.specs.Texts.{end_line, json_line}
+use Rattle.mx_save_rules.specs.declared.status.ExitStatus.{ExitStatus}
+use Rattle.mx_save_rules.specs.declared.status.PlacedCode.{PlacedCode}
 
 -- an end that was printed, with the place of its URL
 pub record ToldValue : Type 0 where

@@ -2,7 +2,7 @@
 ghost use Rattle.std.specs.Prelude.{◌≡◌, ◌≢◌, ◌+◌, ◌<◌, ◌^◌, All, ◌++◌, ◌∷◌, [], true, false, if◌then◌else◌, count_by, IfErr, IfOk, OnErr, OnOk, Some, IsSome, IfSome, MatchOption, MatchResult, Ok, Err, length, slice_get, slice_set};
 ghost use Rattle.mx_types.specs.Code.{code_number};
 ghost use Rattle.mx_request.specs.Request.{IsRequest};
-ghost use Rattle.mx_run_save.specs.Ends.{skipped_end};
+ghost use Rattle.mx_save_rules.specs.Ends.{skipped_end};
 ghost use Rattle.mx_request.specs.declared.error.RequestError.TheVariants as refusal;
 ghost use Rattle.mx_save_jobs.specs.Jobs.{Asks, CanAsk, is_taken, job_at};
 ghost use Rattle.mx_save_jobs.specs.Books.{HasNoneAdded, HaveEnded, IsAdded, IsClosed, IsFreshBook, IsJobFor, IsPutBack, IsSameRun, StandsAt, WaitsAgain, awaits_at};
@@ -19,8 +19,8 @@ use mx_file_name::Names;
 use mx_folder::{Folder, Kind};
 use mx_request::{Request, RequestError};
 use mx_run_io::Stop;
-use mx_run_save::{End, SaveCode, Transferred, delay_ms, is_retried};
 use mx_save::Ledger;
+use mx_save_rules::{End, SaveCode, Transferred, delay_ms, is_retried};
 use mx_types::{Code, History, OutOfMemory, Ticket};
 use mx_words::code_words;
 use std::alloc::{AllocError, Global};

@@ -2,7 +2,7 @@
 
 use mx_body::MOST_INTERIM;
 use mx_head::{Framing, HeadStep, framing, read_head};
-use mx_run_save::FramingWord;
+use mx_save_rules::FramingWord;
 use mx_types::{Code, Method};
 
 fn word(found: Result<Framing, Code>) -> Option<FramingWord> {

@@ -1,13 +1,13 @@
 //! What is printed of URLs, as they end.
 ghost use Rattle.std.specs.Prelude.{◌≡◌, ◌≢◌, ◌⊎◌, ◌++◌, ◌∷◌, [], true, false, map, None, OnOk, OnErr};
 ghost use Rattle.mx_run_io.specs.Ends.{has_failed_write, is_pending, Wrote};
-ghost use Rattle.mx_run_save.specs.Ends.{IsEnd};
-ghost use Rattle.mx_run_save.specs.Status.{after_notes, status_of};
+ghost use Rattle.mx_save_rules.specs.Ends.{IsEnd};
+ghost use Rattle.mx_save_rules.specs.Status.{after_notes, status_of};
 ghost use Rattle.mx_save_jobs.specs.Lines.{note_of, line_of, AreLines, IsFreshLines};
 
 use crate::tally::Tally;
 use mx_run_io::{Output, Stop};
-use mx_run_save::{End, ExitStatus, JsonError, print_json, print_line};
+use mx_save_rules::{End, ExitStatus, JsonError, print_json, print_line};
 use mx_types::History;
 use std::alloc::Global;
 use std::io::Write;

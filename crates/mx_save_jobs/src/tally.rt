@@ -1,5 +1,5 @@
 //! The progress of a run.
-use mx_run_save::{End, Verdict};
+use mx_save_rules::{End, Verdict};
 
 /// How many URLs of a run have ended, how many of these failed, and how many bytes the bodies of the others have.
 #[derive(Clone, Copy)]

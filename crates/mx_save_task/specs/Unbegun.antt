@@ -1,8 +1,8 @@
 -- What is printed of a run that couldn't begin.
 use Rattle.std.specs.Prelude.{ℕ, List, ◌++◌, codes}
-use Rattle.mx_run_save.specs.Texts.{object_front, object_back}
-use Rattle.mx_run_save.specs.Words.{verdict_word}
-use Rattle.mx_run_save.specs.declared.end.Verdict.TheVariants as verdict
+use Rattle.mx_save_rules.specs.Texts.{object_front, object_back}
+use Rattle.mx_save_rules.specs.Words.{verdict_word}
+use Rattle.mx_save_rules.specs.declared.end.Verdict.TheVariants as verdict
 
 -- rule save-unbegun: A run that is out of memory before it asks for a URL prints nothing on standard output, and under --json one object, whose
 -- URL is null.

@@ -3,7 +3,7 @@ ghost use Rattle.std.specs.Prelude.{◌≡◌, ◌+◌, ◌-◌, ◌^◌, ◌<�
 ghost use Rattle.mx_save_task.specs.Screens.{progress_line};
 
 use mx_run_io::Output;
-use mx_run_save::{End, SaveCode};
+use mx_save_rules::{End, SaveCode};
 use mx_save_urls::{Standing, Watch};
 use mx_words::{print_failure, print_file_limit, print_words};
 use std::alloc::{AllocError, Global};

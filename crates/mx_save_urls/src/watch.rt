@@ -1,6 +1,6 @@
 //! Who watches a run.
-use mx_run_save::End;
 use mx_save_jobs::Tally;
+use mx_save_rules::End;
 
 /// The standing of a run.
 #[derive(Clone, Copy)]

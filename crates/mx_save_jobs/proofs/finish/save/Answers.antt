@@ -1,6 +1,6 @@
 use Rattle.std.proofs.Common.{◌≡◌, ◌∙◌}
-use Rattle.mx_run_save.specs.declared.decision.Decision.TheVariants as decision
-use Rattle.mx_run_save.specs.declared.code.SaveCode.TheVariants as code
+use Rattle.mx_save_rules.specs.declared.decision.Decision.TheVariants as decision
+use Rattle.mx_save_rules.specs.declared.code.SaveCode.TheVariants as code
 use Rattle.mx_save_jobs.proofs.Books.{saved_holds}
 use Rattle.mx_save_jobs.proofs.finish.save.Goals as goal
 

@@ -1,6 +1,6 @@
 use Rattle.std.proofs.Common.{◌≡◌}
 use Rattle.std.specs.Fmt.{digits}
-use Rattle.mx_run_save.specs.Texts.{object_front, object_back}
+use Rattle.mx_save_rules.specs.Texts.{object_front, object_back}
 use Rattle.mx_save_task.specs.Unbegun.{unbegun_line}
 use Rattle.mx_save_task.proofs.unbegun.print_unbegun.Goals as goal
 

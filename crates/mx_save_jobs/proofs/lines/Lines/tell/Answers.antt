@@ -1,7 +1,7 @@
 use Rattle.std.proofs.Common.{◌∙◌, ap, sym, ◌++◌, ◌∷◌, []}
 use Rattle.mx_run_io.specs.Ends.{has_failed_write}
-use Rattle.mx_run_save.specs.Codes.{save_number}
-use Rattle.mx_run_save.specs.Status.{after_note, first_of}
+use Rattle.mx_save_rules.specs.Codes.{save_number}
+use Rattle.mx_save_rules.specs.Status.{after_note, first_of}
 use Rattle.mx_save_jobs.proofs.Telling.{told_on}
 use Rattle.mx_save_jobs.proofs.lines.Lines.tell.Goals as goal
 

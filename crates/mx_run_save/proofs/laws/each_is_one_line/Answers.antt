@@ -1,5 +1,0 @@
-use Rattle.mx_run_save.proofs.Objects as proof
-use Rattle.mx_run_save.proofs.laws.each_is_one_line.Goals as goal
-
-pub returns : goal.returns
-returns c = proof.each_is_one_line
