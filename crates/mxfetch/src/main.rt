@@ -16,7 +16,7 @@ use mx_command::{Asked, Get, Task, hint_of, read_command};
 use mx_run_body::{MOST_READS, run_body_explained};
 use mx_run_get::{MOST_URLS, Runtime, run_get, run_get_explained};
 use mx_run_io::{Input, Output, UNWRITTEN, end_with};
-use mx_save_task::{REFUSED, Screen, refuse_save, run_save};
+use mx_run_save::{REFUSED, Screen, refuse_save, run_save};
 use mx_types::{Code, Method};
 use std::env::FillError;
 use std::io::{BufWriter, IsTerminal, Write};

@@ -2,8 +2,8 @@
 ghost use Rattle.std.specs.Prelude.{◌≡◌, ◌≢◌, [], IfErr, OnOk, IsErr};
 ghost use Rattle.mx_command.specs.Saving.{AreSaveNumbers};
 ghost use Rattle.mx_save_urls.specs.Feeds.{list_left};
-ghost use Rattle.mx_save_task.specs.Saved.{SavesIn, urls_of};
-ghost use Rattle.mx_save_task.specs.Status.{codes_number, stop_number};
+ghost use Rattle.mx_run_save.specs.Saved.{SavesIn, urls_of};
+ghost use Rattle.mx_run_save.specs.Status.{codes_number, stop_number};
 
 use crate::asked::asking_of;
 use crate::opened::{folder_of, list_of};

@@ -9,7 +9,7 @@ use Rattle.mx_request.specs.Fields.{is_field, is_field_value, are_fields}
 use Rattle.mx_request.specs.Request.{is_body_too_large, refusal_of}
 use Rattle.mx_request.specs.declared.error.RequestError.{RequestError}
 use Rattle.mx_request.specs.declared.error.RequestError.TheVariants as refusal
-use Rattle.mx_save_task.specs.Asked.{option_name, refused_option}
+use Rattle.mx_run_save.specs.Asked.{option_name, refused_option}
 
 -- by whether the fields may be sent without the user agent, and with it, and whether the body is too large
 

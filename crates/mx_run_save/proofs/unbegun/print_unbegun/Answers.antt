@@ -1,8 +1,8 @@
 use Rattle.std.proofs.Common.{◌≡◌}
 use Rattle.std.specs.Fmt.{digits}
 use Rattle.mx_save_rules.specs.Texts.{object_front, object_back}
-use Rattle.mx_save_task.specs.Unbegun.{unbegun_line}
-use Rattle.mx_save_task.proofs.unbegun.print_unbegun.Goals as goal
+use Rattle.mx_run_save.specs.Unbegun.{unbegun_line}
+use Rattle.mx_run_save.proofs.unbegun.print_unbegun.Goals as goal
 
 pub returns-clause-bytes : goal.returns-clause-bytes
 unfolding object_front object_back digits

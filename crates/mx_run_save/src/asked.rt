@@ -2,7 +2,7 @@
 ghost use Rattle.std.specs.Prelude.{◌≡◌, ◌≢◌, ◌⊎◌, IfErr, IfOk, None, Some, map, option_map, string_bytes};
 ghost use Rattle.mx_types.specs.Settings.{field_of};
 ghost use Rattle.mx_request.specs.Request.{refusal_of};
-ghost use Rattle.mx_save_task.specs.Asked.{IsAskedBy, IsBodyOf, IsOneTooMany, field_given, option_name, refused_option, settings_given};
+ghost use Rattle.mx_run_save.specs.Asked.{IsAskedBy, IsBodyOf, IsOneTooMany, field_given, option_name, refused_option, settings_given};
 
 use crate::status::{OUT_OF_MEMORY, REFUSED, UNREAD};
 use crate::unbegun::tell_out_of_memory;

@@ -1,6 +1,6 @@
 //! The exit status of a run that saves.
 ghost use Rattle.std.specs.Prelude.{◌≡◌, ◌≢◌, IfErr, IsErr, OnOk, Ok};
-ghost use Rattle.mx_save_task.specs.Status.{stop_number};
+ghost use Rattle.mx_run_save.specs.Status.{stop_number};
 
 use mx_folder::FolderError;
 use mx_run_io::{Stop, UNWRITTEN};

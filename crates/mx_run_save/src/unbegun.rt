@@ -1,7 +1,7 @@
 //! Runs that are out of memory before they ask for a URL.
 ghost use Rattle.std.specs.Prelude.{◌≡◌, ◌⊎◌, ◌↔◌, true, false, IsErr, OnOk};
 ghost use Rattle.mx_run_io.specs.Ends.{has_failed_write, Wrote};
-ghost use Rattle.mx_save_task.specs.Unbegun.{unbegun_line};
+ghost use Rattle.mx_run_save.specs.Unbegun.{unbegun_line};
 
 use crate::status::OUT_OF_MEMORY;
 use mx_run_io::{Output, UNWRITTEN, WriteFailed};

@@ -1,6 +1,6 @@
 //! What is written of a run on standard error: which URLs failed, and its standing.
 ghost use Rattle.std.specs.Prelude.{◌≡◌, ◌+◌, ◌-◌, ◌^◌, ◌<◌, ◌≤◌, IfOk, take};
-ghost use Rattle.mx_save_task.specs.Screens.{progress_line};
+ghost use Rattle.mx_run_save.specs.Screens.{progress_line};
 
 use mx_run_io::Output;
 use mx_save_rules::{End, SaveCode};

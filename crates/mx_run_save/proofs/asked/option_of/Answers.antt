@@ -1,8 +1,8 @@
 use Rattle.std.proofs.Common.{Some, sym, ap, ◌∙◌}
 use Rattle.mx_request.specs.Request.{refusal_of}
-use Rattle.mx_save_task.specs.Asked.{option_name}
-use Rattle.mx_save_task.proofs.Refused.{named}
-use Rattle.mx_save_task.proofs.asked.option_of.Goals as goal
+use Rattle.mx_run_save.specs.Asked.{option_name}
+use Rattle.mx_run_save.proofs.Refused.{named}
+use Rattle.mx_run_save.proofs.asked.option_of.Goals as goal
 
 pub returns : goal.returns
 returns c =
