@@ -4,9 +4,9 @@ use Rattle.mx_chain.specs.Outcomes.{OutcomeValue}
 use Rattle.mx_folder.specs.declared.steps.Step.{Step}
 use Rattle.mx_save.specs.Ledgers.{LedgerValue, IsLedger}
 use Rattle.mx_command.specs.declared.save.Save.{Save}
-use Rattle.mx_save_jobs.specs.Bodies.{parts_of}
-use Rattle.mx_save_jobs.specs.Lines.{LinesValue}
-use Rattle.mx_save_jobs.specs.declared.asking.Asking.{Asking}
+use Rattle.mx_save_book.specs.Bodies.{parts_of}
+use Rattle.mx_save_book.specs.Lines.{LinesValue}
+use Rattle.mx_save_book.specs.declared.asking.Asking.{Asking}
 use Rattle.mx_save_urls.specs.Runs.{SavesAll}
 
 -- the URLs of a run, where it is known what its list has: those of the command line, and then those of the list

@@ -1,7 +1,7 @@
 -- The exit status of a run that saves.
 use Rattle.std.specs.Prelude.{ℕ, List, map, None}
 use Rattle.mx_save_rules.specs.Status.{after_notes, status_of}
-use Rattle.mx_save_jobs.specs.Lines.{ToldValue, note_of}
+use Rattle.mx_save_book.specs.Lines.{ToldValue, note_of}
 use Rattle.mx_run_io.specs.declared.stop.Stop.{Stop}
 use Rattle.mx_run_io.specs.declared.stop.Stop.TheVariants as stop
 

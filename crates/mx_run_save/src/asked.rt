@@ -9,7 +9,7 @@ use crate::unbegun::tell_out_of_memory;
 use crate::unread::read_file;
 use mx_command::{BodySource, Header, Save};
 use mx_request::RequestError;
-use mx_save_jobs::Asking;
+use mx_save_book::Asking;
 use mx_types::{OutOfMemory, Settings};
 use std::alloc::{AllocError, AllocGlobal, Global};
 use std::rt::Files;

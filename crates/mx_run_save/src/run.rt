@@ -15,7 +15,7 @@ use mx_crew::Runtime;
 use mx_folder::{Folder, FolderError};
 use mx_run_io::{Output, Stop};
 use mx_save::Ledger;
-use mx_save_jobs::{Asking, Lines};
+use mx_save_book::{Asking, Lines};
 use mx_save_urls::{Ended, Feed, Plan, Watch, save_all};
 use mx_url_list::UrlList;
 use std::fs::File;

@@ -7,7 +7,7 @@ use mx_crew::Runtime;
 use mx_folder::{FolderError, MemoryFolder};
 use mx_run_io::{Options, Output};
 use mx_run_save::{Saved, save_in};
-use mx_save_jobs::{Asking, Lines};
+use mx_save_book::{Asking, Lines};
 use mx_save_urls::Nobody;
 use mx_types::{LEAST_HISTORY, MOST_HISTORY, Method, OutOfMemory, Settings};
 use mx_url_list::UrlList;

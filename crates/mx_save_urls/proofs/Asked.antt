@@ -4,12 +4,12 @@ use Rattle.std.specs.Prelude.{◌⊎◌, Option, Some, None, Result, Ok, Err, On
 use Rattle.mx_types.specs.declared.names.Ticket.{Ticket}
 use Rattle.mx_request.specs.Request.{RequestValue}
 use Rattle.mx_desk.proofs.Desks.{none_is_added}
-use Rattle.mx_save_jobs.specs.Books.{HasNoneAdded, IsAdded, IsClosed, IsJobFor, awaits_at, is_unadded}
-use Rattle.mx_save_jobs.specs.Jobs.{Asks, job_at, job_of}
-use Rattle.mx_save_jobs.specs.declared.asking.Asking.{Asking}
-use Rattle.mx_save_jobs.specs.declared.job.Job.{Job}
-use Rattle.mx_save_jobs.specs.declared.job.Slot.{Slot}
-use Rattle.mx_save_jobs.specs.declared.job.Slot.TheVariants as slot
+use Rattle.mx_save_book.specs.Books.{HasNoneAdded, IsAdded, IsClosed, IsJobFor, awaits_at, is_unadded}
+use Rattle.mx_save_book.specs.Jobs.{Asks, job_at, job_of}
+use Rattle.mx_save_book.specs.declared.asking.Asking.{Asking}
+use Rattle.mx_save_book.specs.declared.job.Job.{Job}
+use Rattle.mx_save_book.specs.declared.job.Slot.{Slot}
+use Rattle.mx_save_book.specs.declared.job.Slot.TheVariants as slot
 use Rattle.mx_save_urls.specs.Works.{AddsNone}
 use Rattle.mx_save_urls.specs.Asked.{AreAsked}
 

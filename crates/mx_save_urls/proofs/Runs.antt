@@ -2,9 +2,9 @@
 use Rattle.std.proofs.Common.{◌≡◌, ◌∙◌, sym, suc, zero, List, [], ◌∷◌}
 use Rattle.std.specs.Prelude.{All}
 use Rattle.std.proofs.lemmas.List.Elements.{All-head, All-tail}
-use Rattle.mx_save_jobs.specs.Books.{HasNoneAdded}
-use Rattle.mx_save_jobs.specs.declared.job.Slot.{Slot}
-use Rattle.mx_save_jobs.specs.declared.job.Slot.TheVariants as slot
+use Rattle.mx_save_book.specs.Books.{HasNoneAdded}
+use Rattle.mx_save_book.specs.declared.job.Slot.{Slot}
+use Rattle.mx_save_book.specs.declared.job.Slot.TheVariants as slot
 
 -- where all slots are free, no transfer is added
 pub none_added : (slots : List Slot) → All (λ s. s ≡ slot.Free) slots → HasNoneAdded slots

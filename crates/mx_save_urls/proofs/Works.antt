@@ -2,11 +2,11 @@
 use Rattle.std.proofs.Common.{◌≡◌, ◌∙◌, refl, ap, sym, subst, ℕ, suc, zero, List, [], ◌∷◌, ◌++◌, Bool, true, false, inl, inr, append_assoc}
 use Rattle.std.specs.Prelude.{◌⊎◌, Option, Some, None, Result, Ok, Err, OnOk, MatchOption, if◌then◌else◌, slice_get, slice_set}
 use Rattle.mx_request.specs.Request.{RequestValue}
-use Rattle.mx_save_jobs.specs.Books.{IsJobFor, IsSameRun, StandsAt, is_unadded}
-use Rattle.mx_save_jobs.specs.Jobs.{Asks, BookValue, job_at, job_of}
-use Rattle.mx_save_jobs.specs.declared.asking.Asking.{Asking}
-use Rattle.mx_save_jobs.specs.declared.job.Slot.{Slot}
-use Rattle.mx_save_jobs.specs.declared.job.Slot.TheVariants as slot
+use Rattle.mx_save_book.specs.Books.{IsJobFor, IsSameRun, StandsAt, is_unadded}
+use Rattle.mx_save_book.specs.Jobs.{Asks, BookValue, job_at, job_of}
+use Rattle.mx_save_book.specs.declared.asking.Asking.{Asking}
+use Rattle.mx_save_book.specs.declared.job.Slot.{Slot}
+use Rattle.mx_save_book.specs.declared.job.Slot.TheVariants as slot
 use Rattle.mx_save_urls.specs.Feeds.{Gives, IsFed, IsUsedUp, Keeps}
 use Rattle.mx_save_urls.specs.Works.{AddsNone, IsSameWork, WorkValue}
 

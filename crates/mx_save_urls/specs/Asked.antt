@@ -2,12 +2,12 @@
 use Rattle.std.specs.Prelude.{◌≡◌, ℕ, true, List, Option, Some, count_by, slice_get}
 use Rattle.mx_types.specs.declared.names.Ticket.{Ticket}
 use Rattle.mx_request.specs.Request.{RequestValue}
-use Rattle.mx_save_jobs.specs.Books.{HasNoneAdded}
-use Rattle.mx_save_jobs.specs.Jobs.{Asks, is_taken}
-use Rattle.mx_save_jobs.specs.declared.asking.Asking.{Asking}
-use Rattle.mx_save_jobs.specs.declared.job.Job.{Job}
-use Rattle.mx_save_jobs.specs.declared.job.Slot.{Slot}
-use Rattle.mx_save_jobs.specs.declared.job.Slot.TheVariants as slot
+use Rattle.mx_save_book.specs.Books.{HasNoneAdded}
+use Rattle.mx_save_book.specs.Jobs.{Asks, is_taken}
+use Rattle.mx_save_book.specs.declared.asking.Asking.{Asking}
+use Rattle.mx_save_book.specs.declared.job.Job.{Job}
+use Rattle.mx_save_book.specs.declared.job.Slot.{Slot}
+use Rattle.mx_save_book.specs.declared.job.Slot.TheVariants as slot
 use Rattle.mx_save_urls.specs.Works.{WorkValue}
 use Rattle.mx_fetch.specs.declared.turned.Turned.{Turned}
 use Rattle.mx_fetch.specs.declared.turned.Turned.TheVariants as how

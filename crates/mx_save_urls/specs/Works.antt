@@ -1,11 +1,11 @@
 -- The work of a run.
 use Rattle.std.specs.Prelude.{◌≡◌, ℕ, Bool, List, Option, Some, slice_get}
 use Rattle.mx_types.specs.declared.names.Ticket.{Ticket}
-use Rattle.mx_save_jobs.specs.Books.{IsSameRun}
-use Rattle.mx_save_jobs.specs.Jobs.{BookValue}
-use Rattle.mx_save_jobs.specs.declared.job.Job.{Job}
-use Rattle.mx_save_jobs.specs.declared.job.Slot.{Slot}
-use Rattle.mx_save_jobs.specs.declared.job.Slot.TheVariants as slot
+use Rattle.mx_save_book.specs.Books.{IsSameRun}
+use Rattle.mx_save_book.specs.Jobs.{BookValue}
+use Rattle.mx_save_book.specs.declared.job.Job.{Job}
+use Rattle.mx_save_book.specs.declared.job.Slot.{Slot}
+use Rattle.mx_save_book.specs.declared.job.Slot.TheVariants as slot
 
 -- the book of the URLs; those that were there at first, and those that are left, where that is known; and whether all were read
 pub record WorkValue (W : Type 0) : Type 0 where

@@ -1,6 +1,6 @@
 //! A URL's transfer, from the URL to the desk.
 ghost use Rattle.std.specs.Prelude.{◌≡◌, false, IfErr, OnOk};
-ghost use Rattle.mx_save_jobs.specs.Books.{IsJobFor};
+ghost use Rattle.mx_save_book.specs.Books.{IsJobFor};
 ghost use Rattle.mx_save_urls.specs.Works.{IsSameWork};
 ghost use Rattle.mx_desk.specs.Desks.{HasRoom};
 ghost use Rattle.mx_run_io.specs.declared.stop.Stop.TheVariants as stop;

@@ -1,6 +1,6 @@
 //! A run, from its URLs to their ends.
 ghost use Rattle.std.specs.Prelude.{◌≡◌, [], false, Ok, OnOk};
-ghost use Rattle.mx_save_jobs.specs.Books.{HasNoneAdded};
+ghost use Rattle.mx_save_book.specs.Books.{HasNoneAdded};
 ghost use Rattle.mx_save_urls.specs.Feeds.{left};
 ghost use Rattle.mx_save_urls.specs.Works.{IsSameWork};
 ghost use Rattle.mx_save_urls.specs.Asked.{HasTurned};
@@ -19,7 +19,7 @@ use mx_fetch::{FetchEnd, fetch_over_sockets};
 use mx_folder::Folder;
 use mx_run_io::Stop;
 use mx_save::Ledger;
-use mx_save_jobs::{Asking, Book, Lines, WholeBody, free_slots};
+use mx_save_book::{Asking, Book, Lines, WholeBody, free_slots};
 use std::alloc::{AllocFailed, AllocGlobal};
 use std::io::{Read, Write};
 use std::net::{Net, TcpListener, TcpStream};

@@ -1,6 +1,6 @@
 //! The turns of a run.
 ghost use Rattle.std.specs.Prelude.{◌≡◌, false, IfOk, IfSome, OnOk};
-ghost use Rattle.mx_save_jobs.specs.Books.{HasNoneAdded, IsClosed, IsJobFor};
+ghost use Rattle.mx_save_book.specs.Books.{HasNoneAdded, IsClosed, IsJobFor};
 ghost use Rattle.mx_save_urls.specs.Works.{IsSameWork};
 ghost use Rattle.mx_desk.specs.Desks.{Stays};
 ghost use Rattle.mx_save_urls.specs.Asked.{AreAsked, HasTurned};

@@ -1,5 +1,5 @@
 //! Who watches a run.
-use mx_save_jobs::Tally;
+use mx_save_book::Tally;
 use mx_save_rules::End;
 
 /// The standing of a run.

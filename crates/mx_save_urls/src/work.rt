@@ -1,9 +1,9 @@
 //! The work of a run: its URLs, from their reading to their ends.
 ghost use Rattle.std.specs.Prelude.{◌≡◌, [], true, false, count_by, IfErr, IfOk, IfSome, IsSome, OnErr, OnOk, Some, slice_get};
 ghost use Rattle.mx_request.specs.Request.{IsRequest};
-ghost use Rattle.mx_save_jobs.specs.Books.{HasNoneAdded, IsAdded, IsClosed, IsJobFor, awaits_at};
-ghost use Rattle.mx_save_jobs.specs.Jobs.{is_taken, job_at};
-ghost use Rattle.mx_save_jobs.specs.declared.job.Slot.TheVariants as slot;
+ghost use Rattle.mx_save_book.specs.Books.{HasNoneAdded, IsAdded, IsClosed, IsJobFor, awaits_at};
+ghost use Rattle.mx_save_book.specs.Jobs.{is_taken, job_at};
+ghost use Rattle.mx_save_book.specs.declared.job.Slot.TheVariants as slot;
 ghost use Rattle.mx_run_io.specs.declared.stop.Stop.TheVariants as stop;
 ghost use Rattle.mx_save_urls.specs.Feeds.{left, IsFed};
 ghost use Rattle.mx_save_urls.specs.Works.{AddsNone, IsSameWork};
@@ -13,7 +13,7 @@ use mx_chain::Outcome;
 use mx_folder::Folder;
 use mx_request::Request;
 use mx_run_io::Stop;
-use mx_save_jobs::{Book, Tally};
+use mx_save_book::{Book, Tally};
 use mx_save_rules::{End, Wait, Waiting};
 use mx_types::Ticket;
 use std::alloc::Global;

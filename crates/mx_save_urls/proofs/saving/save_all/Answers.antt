@@ -1,5 +1,5 @@
 use Rattle.std.proofs.Common.{◌∙◌, ap, subst, sym}
-use Rattle.mx_save_jobs.specs.Books.{HasNoneAdded}
+use Rattle.mx_save_book.specs.Books.{HasNoneAdded}
 use Rattle.mx_save_urls.proofs.Runs.{none_added}
 use Rattle.mx_save_urls.proofs.saving.save_all.Goals as goal
 

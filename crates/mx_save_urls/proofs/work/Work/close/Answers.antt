@@ -1,5 +1,5 @@
 use Rattle.std.proofs.Common.{subst}
-use Rattle.mx_save_jobs.specs.Books.{IsClosed}
+use Rattle.mx_save_book.specs.Books.{IsClosed}
 use Rattle.mx_save_urls.proofs.Works.{on_ok}
 use Rattle.mx_save_urls.proofs.work.Work.close.Goals as goal
 

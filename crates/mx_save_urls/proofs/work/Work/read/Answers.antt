@@ -1,8 +1,8 @@
 use Rattle.std.proofs.Common.{◌∙◌, ap, sym, subst}
 use Rattle.std.specs.Prelude.{IfSome, slice_get}
 use Rattle.mx_request.specs.Request.{IsRequest}
-use Rattle.mx_save_jobs.specs.Books.{IsJobFor}
-use Rattle.mx_save_jobs.specs.Jobs.{Asks}
+use Rattle.mx_save_book.specs.Books.{IsJobFor}
+use Rattle.mx_save_book.specs.Jobs.{Asks}
 use Rattle.mx_save_urls.specs.Feeds.{Gives, left}
 use Rattle.mx_save_urls.specs.Works.{AddsNone}
 use Rattle.mx_save_urls.proofs.Works.{adds_standing, adds_then, fed_more, match_some, not_skipped, skipped_on, stands_for}

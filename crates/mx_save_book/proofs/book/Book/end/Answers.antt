@@ -1,0 +1,5 @@
+use Rattle.mx_save_book.proofs.Books.{ended_of}
+use Rattle.mx_save_book.proofs.book.Book.end.Goals as goal
+
+pub returns-clause-ended : goal.returns-clause-ended
+returns-clause-ended g c = ended_of _ _ _ _ c.self.view_is c.self.invariant

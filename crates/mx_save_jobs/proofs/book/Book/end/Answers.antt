@@ -1,5 +1,0 @@
-use Rattle.mx_save_jobs.proofs.Books.{ended_of}
-use Rattle.mx_save_jobs.proofs.book.Book.end.Goals as goal
-
-pub returns-clause-ended : goal.returns-clause-ended
-returns-clause-ended g c = ended_of _ _ _ _ c.self.view_is c.self.invariant

@@ -1,6 +1,0 @@
-use Rattle.mx_save_jobs.proofs.Books.{can_ask}
-use Rattle.mx_save_jobs.proofs.book.build.Goals as goal
-
-pub returns-in-Ok-clause-can : goal.returns-in-Ok-clause-can
-returns-in-Ok-clause-can c =
-    can_ask c.args.asking.now c.args.url.now c.in-Ok.text.now c.request.result c.in-Ok.ensures.cases.1 c.in-Ok.ensures.cases.0 c.request.ensures.answer
