@@ -11,9 +11,9 @@ use Rattle.mx_reason.specs.declared.reason.Reason.{Reason}
 use Rattle.mx_chain.specs.Hops.{is_ok}
 use Rattle.mx_get_text.specs.declared.fetched.Fetched.{Fetched}
 use Rattle.mx_get_text.specs.Fetched.{code_of}
-use Rattle.mx_words.specs.Words.{told_text}
-use Rattle.mx_words.specs.Hints.{file_limit_hint}
-use Rattle.mx_words.specs.Lines.{IsFailureText, Writes, hint_line}
+use Rattle.mx_failure_text.specs.Words.{told_text}
+use Rattle.mx_failure_text.specs.Hints.{file_limit_hint}
+use Rattle.mx_failure_text.specs.Lines.{IsFailureText, Writes, hint_line}
 use Rattle.mx_run_get.specs.Explained.{IsWhyOf, IsEndText, AreEndTexts, IsRunText}
 
 -- a URL that ended well, or failed

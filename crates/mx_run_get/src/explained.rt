@@ -3,13 +3,13 @@ ghost use Rattle.std.specs.Prelude.{◌≡◌, ◌<◌, true, IsErr, OnOk, Some,
 ghost use Rattle.mx_run_io.specs.Ends.{has_failed_write, Wrote};
 ghost use Rattle.mx_chain.specs.Hops.{is_ok};
 ghost use Rattle.mx_get_text.specs.Fetched.{code_of};
-ghost use Rattle.mx_words.specs.Lines.{Writes};
+ghost use Rattle.mx_failure_text.specs.Lines.{Writes};
 ghost use Rattle.mx_run_get.specs.Explained.{IsWhyOf, IsEndText, AreEndTexts, IsRunText};
 
+use mx_failure_text::{Told, print_failure, print_file_limit};
 use mx_get_text::Fetched;
 use mx_run_io::{Output, WriteFailed};
 use mx_types::Code;
-use mx_words::{Told, print_failure, print_file_limit};
 use std::io::Write;
 
 /// What is reported of a URL's end: its code, and why it failed, as far as the received bytes show.

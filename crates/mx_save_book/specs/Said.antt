@@ -4,7 +4,7 @@ use Rattle.mx_types.specs.declared.code.Code.TheVariants as code
 use Rattle.mx_reason.specs.declared.reason.Reason.{Reason}
 use Rattle.mx_chain.specs.Outcomes.{OutcomeValue}
 use Rattle.mx_get_text.specs.Failures.{IsWhy}
-use Rattle.mx_words.specs.Words.{told_text}
+use Rattle.mx_failure_text.specs.Words.{told_text}
 
 -- the words of the code of a transfer that failed, and what its bytes show
 abbrev pub IsToldOf : OutcomeValue → List ℕ → Type 0

@@ -4,9 +4,9 @@ ghost use Rattle.mx_get_text.specs.Failures.{IsWhy};
 ghost use Rattle.mx_save_book.specs.Said.{IsSaid, IsToldOf};
 
 use mx_chain::Outcome;
+use mx_failure_text::Told;
 use mx_get_text::why_of;
 use mx_types::Code;
-use mx_words::Told;
 use std::alloc::{AllocError, Global};
 
 // What is reported of a transfer that failed: its code, and what its bytes show.

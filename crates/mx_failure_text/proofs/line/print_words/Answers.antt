@@ -1,5 +1,5 @@
-use Rattle.mx_words.proofs.Printed.{words_printed}
-use Rattle.mx_words.proofs.line.print_words.Goals as goal
+use Rattle.mx_failure_text.proofs.Printed.{words_printed}
+use Rattle.mx_failure_text.proofs.line.print_words.Goals as goal
 
 pub returns-clause-bytes : goal.returns-clause-bytes
 returns-clause-bytes g c =

@@ -6,9 +6,9 @@ use Rattle.percent_encoding.specs.Percent.{percent_encode}
 use Rattle.mx_types.specs.Code.{code_number}
 use Rattle.mx_types.specs.declared.code.Code.{Code}
 use Rattle.mx_reason.specs.declared.reason.Reason.{Reason}
-use Rattle.mx_words.specs.declared.hint.Hint.{Hint}
-use Rattle.mx_words.specs.Words.{told_text}
-use Rattle.mx_words.specs.Hints.{hint_words, IsUrlHint, body_hint}
+use Rattle.mx_failure_text.specs.declared.hint.Hint.{Hint}
+use Rattle.mx_failure_text.specs.Words.{told_text}
+use Rattle.mx_failure_text.specs.Hints.{hint_words, IsUrlHint, body_hint}
 
 -- what is escaped beside the bytes above 127: the controls, 0 to 31 and 127, and the space, 32
 abbrev pub hidden : AsciiSet

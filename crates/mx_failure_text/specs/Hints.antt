@@ -7,8 +7,8 @@ use Rattle.mx_reason.specs.declared.reason.Reason.{Reason}
 use Rattle.mx_reason.specs.declared.reason.What.{What}
 use Rattle.mx_reason.specs.declared.reason.What.TheVariants as what
 use Rattle.mx_reason.specs.declared.reason.Fault.TheVariants as fault
-use Rattle.mx_words.specs.declared.hint.Hint.{Hint}
-use Rattle.mx_words.specs.declared.hint.Hint.TheVariants.{NoScheme, Https, NotRaw, FileLimit}
+use Rattle.mx_failure_text.specs.declared.hint.Hint.{Hint}
+use Rattle.mx_failure_text.specs.declared.hint.Hint.TheVariants.{NoScheme, Https, NotRaw, FileLimit}
 
 abbrev pub hint_words : Hint → List ℕ
 hint_words NoScheme = codes "a URL begins with http://"

@@ -3,9 +3,9 @@ ghost use Rattle.std.specs.Prelude.{◌≡◌, ◌≢◌, ◌++◌, ◌↔◌, t
 ghost use Rattle.percent_encoding.specs.Iter.{encoded_text};
 ghost use Rattle.mx_types.specs.Code.{code_number};
 ghost use Rattle.mx_run_io.specs.Ends.{has_failed_write, Wrote};
-ghost use Rattle.mx_words.specs.Words.{told_text};
-ghost use Rattle.mx_words.specs.Hints.{IsUrlHint, body_hint, file_limit_hint};
-ghost use Rattle.mx_words.specs.Lines.{shown, line_front, line_back, failure_line, hint_line, body_line, body_lines, IsFailureText, Writes};
+ghost use Rattle.mx_failure_text.specs.Words.{told_text};
+ghost use Rattle.mx_failure_text.specs.Hints.{IsUrlHint, body_hint, file_limit_hint};
+ghost use Rattle.mx_failure_text.specs.Lines.{shown, line_front, line_back, failure_line, hint_line, body_line, body_lines, IsFailureText, Writes};
 
 use crate::hint::{Hint, body_hint, file_limit_hint, url_hint};
 use crate::told::Told;

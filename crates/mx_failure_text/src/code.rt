@@ -1,6 +1,6 @@
 //! The words of a code.
 ghost use Rattle.std.specs.Prelude.{◌≡◌};
-ghost use Rattle.mx_words.specs.Words.{code_words, cut_words};
+ghost use Rattle.mx_failure_text.specs.Words.{code_words, cut_words};
 
 use mx_types::Code;
 

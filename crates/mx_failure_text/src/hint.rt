@@ -1,6 +1,6 @@
 //! Hints for common first mistakes.
 ghost use Rattle.std.specs.Prelude.{◌≡◌, ◌↔◌, IsTrue, Some};
-ghost use Rattle.mx_words.specs.Hints.{is_url_code, BeginsInAnyCase, IsUrlHint, hint_words, body_hint, file_limit_hint};
+ghost use Rattle.mx_failure_text.specs.Hints.{is_url_code, BeginsInAnyCase, IsUrlHint, hint_words, body_hint, file_limit_hint};
 
 use mx_reason::{Fault, Reason, What};
 use mx_types::Code;

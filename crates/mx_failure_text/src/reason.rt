@@ -1,6 +1,6 @@
 //! The words of a reason.
 ghost use Rattle.std.specs.Prelude.{◌≡◌, Some};
-ghost use Rattle.mx_words.specs.Words.{fault_words, cut_text};
+ghost use Rattle.mx_failure_text.specs.Words.{fault_words, cut_text};
 
 use mx_reason::{Cut, Fault};
 use std::fmt;

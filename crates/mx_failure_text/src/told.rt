@@ -1,6 +1,6 @@
 //! What is reported of a failure.
 ghost use Rattle.std.specs.Prelude.{◌≡◌, Some, None};
-ghost use Rattle.mx_words.specs.Words.{told_text};
+ghost use Rattle.mx_failure_text.specs.Words.{told_text};
 
 use crate::code::{code_words, cut_words};
 use crate::reason::{CutText, fault_words};

@@ -5,9 +5,9 @@ use Rattle.std.specs.Io.KnownBytes.{Appends}
 use Rattle.std.proofs.KnownBytes.{Appends-trans}
 use Rattle.mx_types.specs.declared.code.Code.{Code}
 use Rattle.mx_types.specs.Code.{code_number}
-use Rattle.mx_words.specs.declared.hint.Hint.{Hint}
-use Rattle.mx_words.specs.Hints.{IsUrlHint}
-use Rattle.mx_words.specs.Lines.{failure_line, hint_line, IsFailureText, Writes}
+use Rattle.mx_failure_text.specs.declared.hint.Hint.{Hint}
+use Rattle.mx_failure_text.specs.Hints.{IsUrlHint}
+use Rattle.mx_failure_text.specs.Lines.{failure_line, hint_line, IsFailureText, Writes}
 
 -- words are printed between a front and a back
 pub words_printed : {A E : Type 0} (r : Result A E) (words : Option (List ℕ)) (old a b new : Option (List ℕ)) (front back : List ℕ)
