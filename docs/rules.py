@@ -50,7 +50,7 @@ SECTIONS = (
     ("The shared multi handle", "multi", ""),
     ("Gates", "gate", ""),
     ("Workers", "worker", ""),
-    ("A worker's turn", "turn", "By mx_turn's definition, as `mx_round` takes it, and `run_worker` after it."),
+    ("A worker's turn", "turn", "By mx_turn's definition, as `mx_worker_turns` takes it, and `run_worker` after it."),
     ("The program", "program play get", ""),
     ("Saving URLs", "list save", ""),
 )

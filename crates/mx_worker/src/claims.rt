@@ -3,9 +3,9 @@ ghost use Rattle.std.specs.Prelude.{◌≡◌};
 
 use mx_link::Link;
 use mx_lock::TiedClaim;
-use mx_round::{Right, Tied};
 use mx_transfer::Queued;
 use mx_types::Ticket;
+use mx_worker_turns::{Right, Tied};
 use std::marker::Model;
 
 /// A claim of queued work. Contracts see it as the claim.

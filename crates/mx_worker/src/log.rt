@@ -6,8 +6,8 @@ ghost use Rattle.mx_worker.specs.Work.{AreCounted, IsUncounted, finish_of, hande
 use crate::claims::WorkerClaim;
 use mx_journal::{FinishReply, GiveBackReply};
 use mx_link::Link;
-use mx_round::{Done, Finished, Held};
 use mx_types::History;
+use mx_worker_turns::{Done, Finished, Held};
 use std::marker::Model;
 use std::snapshot::Snapshot;
 

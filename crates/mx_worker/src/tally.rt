@@ -2,7 +2,7 @@
 ghost use Rattle.std.specs.Prelude.{◌≡◌, ◌∷◌, ◌++◌, [], option_map, IfSome};
 ghost use Rattle.mx_turn.specs.Workers.{Return, claims, looks, notes, gives_back};
 ghost use Rattle.mx_request.specs.Request.{request_origin};
-ghost use Rattle.mx_round.specs.Desks.{HandsIn};
+ghost use Rattle.mx_worker_turns.specs.Desks.{HandsIn};
 ghost use Rattle.mx_worker.specs.Work.{AreCounted, AreHeld, IsDone, end_of};
 
 use crate::claims::WorkerClaim;
@@ -11,9 +11,9 @@ use crate::worker::WorkerEnd;
 use mx_link::Link;
 use mx_lock::TiedClaim;
 use mx_multi::{AtWork, Seated};
-use mx_round::{Done, Engine, Finished, Held, Tied};
 use mx_transfer::{Outcome, Queued};
 use mx_types::{Look, Ticket};
+use mx_worker_turns::{Done, Engine, Finished, Held, Tied};
 use std::marker::Model;
 use std::mem;
 use std::snapshot::Snapshot;

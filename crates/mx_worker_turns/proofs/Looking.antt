@@ -1,0 +1,83 @@
+-- Looking at a transfer, and polling it.
+use Rattle.std.proofs.Common.{◌≡◌, ◌≢◌, ◌↔◌, ◌||◌, ◌&&◌, not, ℕ, Bool, true, false, List, [], ◌∷◌, ◌++◌, refl, sym, ap, subst, ◌∙◌, append_assoc, append-nil, Option, Some}
+use Rattle.mx_types.specs.declared.names.Ticket.{Ticket}
+use Rattle.mx_types.specs.declared.reply.Look.{Look}
+use Rattle.mx_types.specs.declared.reply.Look.TheVariants as look
+use Rattle.mx_link.specs.declared.answers.Answer.{Answer}
+use Rattle.std.specs.Prelude.{IsTrue}
+use Rattle.mx_exchange.specs.Exchanges.{WantsLink}
+use Rattle.mx_turn.specs.Idle.{Idle}
+use Rattle.mx_chain.specs.Chains.{ChainState, received_of}
+use Rattle.mx_chain.specs.Outcomes.{OutcomeValue}
+use Rattle.mx_chain.specs.Steps.{How, waits}
+use Rattle.mx_gate.specs.Said.{Said}
+use Rattle.mx_turn.specs.Supplies.{Supplies}
+use Rattle.mx_turn.specs.Workers.{Held, Worker, does, holds, Finish, recorded, stale, lacking, unseated, Return, Deed, looks, notes, gives_back}
+use Rattle.mx_turn.specs.Turn.{handed_in, is_delayed, prepared, unlinked, Keeps, Settles, Supplied, LooksAt, lets_go, serves, is_go}
+use Rattle.mx_worker_turns.specs.Desks.{beside, IsReadied, Polls, Advances}
+
+-- the same in each part
+pub alike : {L : Type 0} (w v : Worker L) → w.held ≡ v.held → w.set_aside ≡ v.set_aside → w.idle ≡ v.idle → w.is_stopping ≡ v.is_stopping → w.can_go_on ≡ v.can_go_on → w.did ≡ v.did → w.said ≡ v.said → w ≡ v
+alike w v a b c d e f g = λ i. record { held = a i; set_aside = b i; idle = c i; is_stopping = d i; can_go_on = e i; did = f i; said = g i }
+
+-- what the gate said is kept beside it
+pub handed_beside : {L : Type 0} (f : Finish) (t : Ticket) (o : OutcomeValue) (w : Worker L) (said : List Said) → beside (handed_in t o f w) said ≡ handed_in t o f (beside w said)
+handed_beside recorded t o w said = refl
+handed_beside stale t o w said = refl
+handed_beside lacking t o w said = refl
+handed_beside unseated t o w said = refl
+
+-- one that waits is held on, and could go on at once, or couldn't
+pub settles_on : {L : Type 0} (h : Held L) (goes delayed wants could : Bool) (w v : Worker L) (said : List Said) → IsTrue wants ↔ WantsLink h.transfer.now → could ≡ (goes && (not delayed && wants))
+    → v ≡ holds (record w { can_go_on = w.can_go_on || could }) h → Settles h goes delayed (beside w said) (beside v said) waits
+settles_on h goes delayed wants could w v said is so e =
+    (wants, is, ap (λ (x : Worker _). beside x said) e ∙ ap (λ (b : Bool). beside (holds (record w { can_go_on = w.can_go_on || b }) h) said) so)
+
+module _ {L : Type 0} (history : L → List Answer) (token_of : L → ℕ) where
+  -- one that is paused
+  pub ready_paused : (now : ℕ) (goes : Bool) (t ready : ChainState L) (w : Worker L) → goes ≡ false → ready ≡ prepared now goes t → IsReadied history token_of (prepared now goes t) ready goes false w w
+  ready_paused now goes t ready w e r =
+      subst (λ (b : Bool). (ready ≡ prepared now b t → IsReadied history token_of (prepared now b t) ready b false w w)) (sym e)
+      (λ same. record { idle = w.idle; said = []; readies = (same, refl, refl); delays = refl; after = ap (λ (x : List Said). record w { said = x }) (sym (append-nil w.said)) }) r
+
+  -- one that was given a link, if it wants one
+  pub ready_on : (now : ℕ) (goes delayed : Bool) (t mid ready : ChainState L) (w : Worker L) (left : Idle L) (is : List Said) → goes ≡ true → mid ≡ prepared now goes t → Supplies history token_of mid ready w.idle left w.said is delayed
+      → IsReadied history token_of (prepared now goes t) ready goes delayed w (record w { idle = left; said = is })
+  ready_on now goes delayed t mid ready w left is e m s =
+      let at : Supplied history token_of (prepared now goes t) ready w.idle left s.said = subst (λ (x : ChainState L). Supplied history token_of x ready w.idle left s.said) m s.supplied in
+      subst (λ (b : Bool). (Supplied history token_of (prepared now b t) ready w.idle left s.said → IsReadied history token_of (prepared now b t) ready b delayed w (record w { idle = left; said = is }))) (sym e)
+      (λ given. record { idle = left; said = s.said; readies = given; delays = s.delays; after = ap (λ (x : List Said). record w { idle = left; said = x }) s.meanwhile }) at
+
+  -- one that was made ready, polled, and settled
+  pub advanced : (now : ℕ) (h : Held L) (goes delayed : Bool) (w mid polled v : Worker L) (ready left : ChainState L) (how : How) (said : List Said) → IsReadied history token_of (prepared now goes h.transfer) ready goes delayed w (beside mid said)
+      → Polls history (record h { transfer = ready }) left mid polled how → Settles (record h { transfer = left }) goes delayed (beside polled said) (beside v said) how → Advances history token_of now h goes w (beside v said)
+  advanced now h goes delayed w mid polled v ready left how said r p s = record {
+    ready = ready;
+    new = p.new;
+    idle = r.idle;
+    left = p.idle;
+    said = r.said;
+    how = how;
+    readies = r.readies;
+    steps = p.steps;
+    keeps = subst (λ (x : Worker L). Keeps p.new x.idle p.idle) r.after p.keeps;
+    settles = subst (λ (x : Worker L). Settles (record h { transfer = unlinked p.new }) goes (is_delayed r.said) (record x { idle = p.idle; did = x.did ++ notes h.ticket h.slot (received_of p.new) ∷ [] }) (beside v said) how) r.after
+        (subst (λ (x : Worker L). Settles (record h { transfer = unlinked p.new }) goes (is_delayed r.said) (beside x said) (beside v said) how) p.after
+        (subst (λ (t : ChainState L). Settles (record h { transfer = t }) goes (is_delayed r.said) (beside polled said) (beside v said) how) p.unlinks
+        (subst (λ (b : Bool). Settles (record h { transfer = left }) goes b (beside polled said) (beside v said) how) r.delays s)));
+  }
+
+  -- what was looked at, and given back, as it was gone
+  pub looks_gone : (now : ℕ) (h : Held L) (w v : Worker L) (d : List (Deed L)) (said : List Said) → d ≡ w.did ++ looks h.ticket (Some look.Gone) ∷ [] → (r : Return) × (v ≡ does (record w { did = d }) (gives_back h r))
+      → LooksAt history token_of now h (beside w said) (beside v said)
+  looks_gone now h w v d said e (r, is) =
+      lets_go r (ap (λ (x : Worker L). beside x said) is ∙ ap (λ (x : List (Deed L)). beside (does (record w { did = x }) (gives_back h r)) said) e)
+
+  -- what was looked at and polled
+  pub looks_on : (now : ℕ) (h : Held L) (seen : Option Look) (w v : Worker L) (d : List (Deed L)) → seen ≢ Some look.Gone → d ≡ w.did ++ looks h.ticket seen ∷ [] → Advances history token_of now h (is_go seen) (record w { did = d }) v
+      → LooksAt history token_of now h w v
+  looks_on now h seen w v d ne e a =
+      let more : d ++ notes h.ticket h.slot (received_of a.new) ∷ [] ≡ w.did ++ looks h.ticket seen ∷ notes h.ticket h.slot (received_of a.new) ∷ [] =
+      ap (λ (x : List (Deed L)). x ++ notes h.ticket h.slot (received_of a.new) ∷ []) e ∙ append_assoc w.did (looks h.ticket seen ∷ []) (notes h.ticket h.slot (received_of a.new) ∷ []) in
+      serves seen a.ready a.new a.idle a.left a.said a.how ne a.readies a.steps a.keeps
+      (subst (λ (x : List (Deed L)). Settles (record h { transfer = unlinked a.new }) (is_go seen) (is_delayed a.said) (record w { idle = a.left; did = x; said = w.said ++ a.said }) v a.how) more a.settles)

@@ -1,0 +1,191 @@
+//! A worker.
+ghost use Rattle.std.specs.Prelude.{◌≡◌, ◌↔◌, [], IsTrue, MatchResult, IfSome};
+ghost use Rattle.mx_turn.specs.Workers.{IsOver, starts};
+ghost use Rattle.mx_turn.specs.Turn.{WorkerTurn, Runs};
+ghost use Rattle.mx_worker_turns.specs.Desks.{beside};
+
+use crate::desk::Desk;
+use crate::engine::{Engine, Finished, Held, Right};
+use crate::queue::Queue;
+use crate::rack::Rack;
+use futures::task::{Doorbell, Solo};
+use mx_gate::Gate;
+use mx_link::Link;
+use mx_turn::Links;
+use std::alloc::AllocGlobal;
+use std::marker::Model;
+use std::random::RandomSource;
+use std::sync::Wait;
+
+/// A worker, at an engine. Contracts see what it has in flight, its idle links and what it did at the engine, of which list of ties its
+/// claims are, and how the engine began. What its gate said is kept beside it.
+///
+/// The spare queues are empty between its turns. A turn swaps what it holds into one of them, and goes through that.
+#[derive(Drop)]
+pub struct Worker<L: Link, C: Right, E: Engine<L, C>> {
+    desk: Desk<L, C, E>,
+    spare_held: Queue<Held<L, C>, E>,
+    spare_ends: Queue<Finished<C>, E>,
+}
+
+impl<L: Link, C: Right, E: Engine<L, C>> Model for Worker<L, C, E> {
+    ghost use Rattle.std.specs.Prelude.{◌≡◌, []};
+    ghost use Rattle.mx_worker_turns.specs.Desks.{DeskView};
+
+    ghost Value = { DeskView L E.Start };
+
+    ghost view = { λ w. w.desk };
+
+    ghost invariant = { λ w. (w.spare_held ≡ record { items = []; of = w.desk.of }) × (w.spare_ends ≡ record { items = []; of = w.desk.of }) };
+}
+
+// The queues that a worker needs memory for.
+#[derive(Drop)]
+struct Queues<L: Link, C: Right, E: Engine<L, C>> {
+    rack: Rack<L, C, E>,
+    spare_held: Queue<Held<L, C>, E>,
+    spare_ends: Queue<Finished<C>, E>,
+}
+
+// All that a worker needs memory for.
+#[derive(Drop)]
+struct Tools<L: Link, C: Right, E: Engine<L, C>> {
+    queues: Queues<L, C, E>,
+    links: Links<L>,
+    solo: Solo,
+}
+
+fn make_queues<L: Link, C: Right, E: Engine<L, C>, R: AllocGlobal>(
+    rt: &R,
+    engine: &E,
+) -> Option<Queues<L, C, E>>
+    ensures rack { IfSome result (λ q. q.rack ≡ record { held = []; set_aside = []; of = E.of engine.now }) }
+    ensures held { IfSome result (λ q. q.spare_held ≡ record { items = []; of = E.of engine.now }) }
+    ensures ends { IfSome result (λ q. q.spare_ends ≡ record { items = []; of = E.of engine.now }) }
+{
+    let Ok(rack) = Rack::new(rt.alloc(), engine) else {
+        return None;
+    };
+    let Ok((spare_held, spare_ends)) = Queue::pair(rt.alloc(), engine) else {
+        drop(rack);
+        return None;
+    };
+    Some(Queues {
+        rack,
+        spare_held,
+        spare_ends,
+    })
+}
+
+fn make_links<L: Link, R: RandomSource + AllocGlobal>(rt: &R, limit: u8) -> Option<(Links<L>, Solo)>
+    ensures { IfSome result (λ r. r.0 ≡ record { links = []; limit = limit }) }
+{
+    let Ok(links) = Links::new(rt.alloc(), limit) else {
+        return None;
+    };
+    let Ok(solo) = Solo::new(rt, Doorbell::spinning()) else {
+        drop(links);
+        return None;
+    };
+    Some((links, solo))
+}
+
+fn make_tools<L: Link, C: Right, E: Engine<L, C>, R: RandomSource + AllocGlobal>(
+    rt: &R,
+    engine: &E,
+    limit: u8,
+) -> Option<Tools<L, C, E>>
+    ensures rack { IfSome result (λ t. t.queues.rack ≡ record { held = []; set_aside = []; of = E.of engine.now }) }
+    ensures links { IfSome result (λ t. t.links ≡ record { links = []; limit = limit }) }
+    ensures held { IfSome result (λ t. t.queues.spare_held ≡ record { items = []; of = E.of engine.now }) }
+    ensures ends { IfSome result (λ t. t.queues.spare_ends ≡ record { items = []; of = E.of engine.now }) }
+{
+    let Some(queues) = make_queues(rt, engine) else {
+        return None;
+    };
+    let Some((links, solo)) = make_links(rt, limit) else {
+        drop(queues);
+        return None;
+    };
+    Some(Tools {
+        queues,
+        links,
+        solo,
+    })
+}
+
+impl<L: Link, C: Right, E: Engine<L, C>> Worker<L, C, E> {
+    /// A worker with nothing in flight, and with room for so many idle links. Where memory is refused, the engine comes back.
+    pub fn new<R: RandomSource + AllocGlobal>(
+        rt: &R,
+        engine: E,
+        limit: u8,
+    ) -> Result<Worker<L, C, E>, E>
+        ensures { MatchResult result (λ w. w ≡ record { worker = record (starts limit) { did = E.did engine }; of = E.of engine; start = E.start engine }) (λ back. back ≡ engine) }
+    {
+        let Some(tools) = make_tools(rt, &engine, limit) else {
+            return Err(engine);
+        };
+        let Tools {
+            queues,
+            links,
+            solo,
+        } = tools;
+        let Queues {
+            rack,
+            spare_held,
+            spare_ends,
+        } = queues;
+        Ok(Worker {
+            desk: Desk::new(engine, rack, links, solo),
+            spare_held,
+            spare_ends,
+        })
+    }
+
+    /// The engine. What the worker has in flight is dropped.
+    pub fn into_engine(self) -> E
+        ensures { (E.did result ≡ self.worker.did) × (E.start result ≡ self.start) }
+    {
+        let Worker {
+            desk,
+            spare_held,
+            spare_ends,
+        } = self;
+        drop(spare_held);
+        drop(spare_ends);
+        desk.into_engine()
+    }
+
+    /// Whether it was told to stop, and has nothing in flight.
+    pub fn is_over(&self) -> bool
+        ensures { IsTrue result ↔ IsOver self.now.worker }
+    {
+        self.desk.is_over()
+    }
+
+    /// One turn: it claims, tries the ends again that were refused memory, goes through its transfers, waits at the gate, and gives back
+    /// what has not started once it is told to stop.
+    pub fn turn<R: Wait, G: Gate<Link = L>>(&mut self, rt: &R, gate: &mut G)
+        ensures turn { WorkerTurn L.history L.token_of (beside self.old.worker (G.said gate.old)) (beside self.new.worker (G.said gate.new)) }
+        ensures same { self.new ≡ record self.old { worker = self.new.worker } }
+    {
+        self.desk
+            .turn(rt, gate, &mut self.spare_held, &mut self.spare_ends);
+    }
+
+    /// Turn after turn, until it was told to stop and has nothing in flight.
+    pub fn run<R: Wait, G: Gate<Link = L>>(&mut self, rt: &R, gate: &mut G)
+        ensures runs { Runs L.history L.token_of (beside self.old.worker (G.said gate.old)) (beside self.new.worker (G.said gate.new)) }
+        ensures over { IsOver self.new.worker }
+        ensures same { self.new ≡ record self.old { worker = self.new.worker } }
+    {
+        for _ in rt.forever() {
+            if self.is_over() {
+                return;
+            }
+            self.turn(rt, gate);
+        }
+        unreachable!()
+    }
+}
