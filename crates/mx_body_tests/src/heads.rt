@@ -3,7 +3,7 @@
 use crate::row::Bytes::{LongField, Of};
 use crate::row::{Row, Seen};
 use mx_head::{Framing, HeadStep, framing, keeps, read_head};
-use mx_responses::response::Response;
+use mx_responses_tests_base::response::Response;
 use mx_types::{Code, Method};
 
 /// The first bytes, as many of them as there are.

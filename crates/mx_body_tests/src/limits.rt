@@ -3,8 +3,8 @@
 use crate::row::Bytes::Filled;
 use crate::row::{Row, Seen};
 use crate::told::is_told;
-use mx_responses::bases::{LARGE, OPEN, SHORT};
-use mx_responses::response::Response;
+use mx_responses_tests_base::bases::{LARGE, OPEN, SHORT};
+use mx_responses_tests_base::response::Response;
 use std::alloc::Global;
 
 /// The most bytes of a whole response.

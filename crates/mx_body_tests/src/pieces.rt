@@ -5,7 +5,7 @@
 use crate::row::Bytes::{Of, Often};
 use crate::row::{Bytes, Row, Seen, bytes_of};
 use mx_body::{Decoder, Part, Stand, Verdict, decode_whole};
-use mx_responses::bytes::CHUNKED;
+use mx_responses_tests_base::bytes::CHUNKED;
 use mx_types::{Code, Method};
 use std::alloc::{AllocError, Global};
 

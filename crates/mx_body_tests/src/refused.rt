@@ -4,9 +4,9 @@
 use crate::pieces::{decoder, has_many_chunks, read};
 use crate::told::{is_verdict, says};
 use mx_body::{Decoder, Stand, decode_whole};
-use mx_responses::bytes::CHUNKED;
-use mx_responses::response::Response;
-use mx_responses::table::responses;
+use mx_responses_tests_base::bytes::CHUNKED;
+use mx_responses_tests_base::response::Response;
+use mx_responses_tests_base::table::responses;
 use mx_types::{Method, OutOfMemory};
 use std::alloc::{AllocError, Global};
 use std::test::Fail;

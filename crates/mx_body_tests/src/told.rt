@@ -3,7 +3,7 @@
 use crate::heads::front;
 use crate::pieces::{decoder, end, feed, read};
 use mx_body::{Decoder, Part, Stand, Verdict, decode_whole};
-use mx_responses::response::Response;
+use mx_responses_tests_base::response::Response;
 use mx_types::{Code, OutOfMemory};
 use std::alloc::Global;
 

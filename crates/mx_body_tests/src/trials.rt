@@ -4,8 +4,8 @@ use crate::cuts::{agrees_at_each_cut, is_known_anywhere};
 use crate::heads::{begins_with_interim, is_read_in_time};
 use crate::pieces::agrees_in_all_pieces;
 use crate::told::{is_taken_anyhow, is_taken_in_ones, is_whole_told};
-use mx_responses::response::Response;
-use mx_responses::table::responses;
+use mx_responses_tests_base::response::Response;
+use mx_responses_tests_base::table::responses;
 use std::alloc::{AllocError, Global};
 use std::test::Fail;
 

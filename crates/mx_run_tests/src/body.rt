@@ -4,7 +4,7 @@
 use crate::fakes::{Filler, Full, Pipe};
 use crate::long::{Long, add_long, bytes_of};
 use crate::tally::Tally;
-use mx_responses::bytes::{COUNTED, HEAD};
+use mx_responses_tests_base::bytes::{COUNTED, HEAD};
 use mx_run_body::{MOST_READS, run_body};
 use mx_run_io::{Input, Output};
 use mx_types::Method;

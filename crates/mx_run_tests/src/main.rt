@@ -30,7 +30,7 @@ use std::{fs, io};
 enum Table {
     /// In the file of its name.
     File,
-    /// In `mx_responses`.
+    /// In `mx_responses_tests_base`.
     Responses,
     Body,
     Play,
@@ -46,7 +46,7 @@ static TABLES: [(&str, Table); 11] = [
     ("scripts", Table::File),
     ("responses", Table::File),
     ("lists", Table::File),
-    ("mx_responses", Table::Responses),
+    ("mx_responses_tests_base", Table::Responses),
     ("body", Table::Body),
     ("play", Table::Play),
     ("get", Table::Get),

@@ -1,9 +1,9 @@
-//! `run_body` over the responses of `mx_responses`, whole, and with reads and writes that fail.
+//! `run_body` over the responses of `mx_responses_tests_base`, whole, and with reads and writes that fail.
 use crate::body::{prints, prints_of, run};
 use crate::fakes::{Full, Pieces};
 use crate::tally::Tally;
-use mx_responses::response::Response;
-use mx_responses::table::responses;
+use mx_responses_tests_base::response::Response;
+use mx_responses_tests_base::table::responses;
 use mx_types::Method;
 use std::alloc::{AllocError, Global};
 
