@@ -11,7 +11,7 @@ use Rattle.mx_request.specs.Request.{IsRequest, RequestValue, request_origin}
 use Rattle.mx_request.specs.Laws.{OriginIsWholeRequest}
 use Rattle.mx_lock.specs.Ties.{Has, tie}
 use Rattle.mx_lock.proofs.Tying.{has_more}
-use Rattle.mx_desk.specs.Additions.{AdditionView, AreAtFirst, IsTold, IsToldAt, awaits, awaits_at, is_at}
+use Rattle.mx_desk.specs.Additions.{AdditionView, AreAtFirst, IsTold, IsToldAt, awaits_at, is_at}
 use Rattle.mx_desk.specs.Desks.{IsDesk, asked_at}
 use Rattle.mx_desk.specs.Ties.{AreLater, SeatTies, ties_at}
 

@@ -1,12 +1,11 @@
 -- What seats were told of the requests of additions.
-use Rattle.std.proofs.Common.{◌≡◌, inl, inr, sym, subst, ℕ, List}
-use Rattle.std.specs.Prelude.{◌⊎◌, MatchResult, Option, Some, None, Result, Ok, Err, IfErr, IfOk, IfSome, MatchOption}
+use Rattle.std.proofs.Common.{◌≡◌, inl, inr, sym, subst, ℕ}
+use Rattle.std.specs.Prelude.{◌⊎◌, MatchResult, Result, Ok, Err}
 use mathlib.Core.List.{IsPrefix}
 use Rattle.mx_types.specs.declared.call.Call.{Call}
 use Rattle.mx_types.specs.declared.call.Call.TheVariants as call
 use Rattle.mx_types.specs.declared.names.HandleId.{HandleId}
 use Rattle.mx_types.specs.declared.names.Ticket.{Ticket}
-use Rattle.mx_types.specs.declared.origin.Origin.{Origin}
 use Rattle.mx_types.specs.declared.reply.Reply.{Reply}
 use Rattle.mx_types.specs.declared.reply.Reply.TheVariants as reply
 use Rattle.mx_chain.specs.Outcomes.{OutcomeValue}

@@ -1,10 +1,10 @@
 //! The requests that were added at a seat, or at two, and what they ended with.
-ghost use Rattle.std.specs.Prelude.{◌≡◌, false, count_by, is_some, None, Some, IfErr, IfOk, IfSome, MatchOption, OnOk, slice_get, ◌↔◌, IsTrue, OnErr};
+ghost use Rattle.std.specs.Prelude.{◌≡◌, ◌<◌, false, All, count_by, length, slice_set, is_some, None, Some, IfErr, IfOk, IfSome, MatchOption, OnOk, slice_get, ◌↔◌, IsTrue, OnErr};
 ghost use Rattle.mx_request.specs.Request.{request_origin};
 ghost use Rattle.mx_lock.specs.Ties.{Has, tie};
-ghost use Rattle.mx_desk.specs.Additions.{AreAtFirst, awaits_at};
+ghost use Rattle.mx_desk.specs.Additions.{AreAtFirst, IsTold, awaits_at};
 ghost use Rattle.mx_desk.specs.Desks.{HasRoom, IsNewDesk};
-ghost use Rattle.mx_desk.specs.Ties.{ties_at};
+ghost use Rattle.mx_desk.specs.Ties.{AreLater, ties_at};
 ghost use Rattle.mx_run_io.specs.declared.stop.Stop.TheVariants as stop;
 
 use crate::addition::Addition;
@@ -53,6 +53,19 @@ fn free_handle(additions: &[Option<Addition>], at: usize) -> Option<HandleId>
     }
 }
 
+// So many numbers, under which nothing is added.
+fn none_added(alloc: Global, count: usize) -> Result<Vec<Option<Addition>>, OutOfMemory>
+    ensures none { IfOk result (λ v. All (λ o. o ≡ None) v.items) }
+    ensures count { IfOk result (λ v. length v.items ≡ count) }
+{
+    let mut additions = Vec::with_capacity(alloc, count)?;
+    for made in 0..count {
+        let _ = made;
+        additions.push_reserved(None);
+    }
+    Ok(additions)
+}
+
 // Whether an addition was made at the seat beside the first one.
 fn is_any_beside(additions: &[Option<Addition>]) -> bool
     ensures { result ≡ false → AreAtFirst additions.now }
@@ -65,6 +78,38 @@ fn is_any_beside(additions: &[Option<Addition>]) -> bool
         }
     }
     false
+}
+
+// Puts an addition, or none, under one of the numbers, in place of what is there.
+fn put(additions: &mut Vec<Option<Addition>>, at: usize, addition: Option<Addition>)
+    requires { at < length additions.old.items }
+    ensures { additions.new.items ≡ slice_set additions.old.items at addition }
+{
+    additions[at] = addition;
+}
+
+// Adds a request under a number, under which nothing is added, at the seat that came last, if its multi handle takes one more. It owns no desk,
+// so its exits restore none.
+fn add_at<L: Link, R: Wait + AllocGlobal>(
+    rt: &R,
+    seats: &mut Seats<'_, '_, L>,
+    additions: &[Option<Addition>],
+    at: usize,
+    request: Request,
+) -> Result<Option<Addition>, Stop>
+    ensures free { IfOk result (λ o. IfSome o (λ _. slice_get additions.now at ≡ Some None)) }
+    ensures request { IfOk result (λ o. IfSome o (λ a. a.request ≡ request)) }
+    ensures told { IfOk result (λ o. IfSome o (λ a. IsTold (ties_at seats.new a.beside) a)) }
+    ensures why { IfErr result (λ e. e ≡ stop.OutOfMemory) }
+    ensures later { AreLater seats.old seats.new }
+{
+    match free_handle(additions, at) {
+        Some(handle) => seats.add(rt, handle, request),
+        None => {
+            drop(request);
+            Ok(None)
+        }
+    }
 }
 
 // How many bytes all added transfers have received, as far as that is known.
@@ -83,7 +128,6 @@ fn all_that_came<L: Link>(seats: &mut Seats<'_, '_, L>, additions: &[Option<Addi
 /// An application's seat, perhaps with one at another multi handle beside it, and the requests that were added at them, each under a number
 /// of the caller's own, which is the number of its handle. Contracts see the request that is added under each number, how many may be added
 /// at a time, and the requests of additions that each seat was told.
-#[derive(Drop)]
 pub struct Desk<'e, 'm, L: Link> {
     seats: Seats<'e, 'm, L>,
     additions: Vec<Option<Addition>>,
@@ -92,6 +136,22 @@ pub struct Desk<'e, 'm, L: Link> {
     beside: usize,
     width: usize,
     is_full: bool,
+}
+
+// Written out, and not derived: a crate that drops a desk cites its proof.
+impl<'e, 'm, L: Link> Drop for Desk<'e, 'm, L> {
+    fn drop(self) {
+        let Desk {
+            seats,
+            additions,
+            waiting: _,
+            beside: _,
+            width: _,
+            is_full: _,
+        } = self;
+        drop(seats);
+        drop(additions);
+    }
 }
 
 impl<'e, 'm, L: Link> Model for Desk<'e, 'm, L> {
@@ -117,19 +177,20 @@ impl<'e, 'm, L: Link> Desk<'e, 'm, L> {
     ) -> Result<Desk<'e, 'm, L>, OutOfMemory>
         ensures { IfOk result (IsNewDesk count width) }
     {
-        let mut additions = Vec::with_capacity(alloc, count)?;
-        for made in 0..count {
-            let _ = made;
-            additions.push(None)?;
+        match none_added(alloc, count) {
+            Ok(additions) => Ok(Desk {
+                seats: Seats::new(seat),
+                additions,
+                waiting: 0,
+                beside: 0,
+                width,
+                is_full: false,
+            }),
+            Err(error) => {
+                drop(seat);
+                Err(error)
+            }
         }
-        Ok(Desk {
-            seats: Seats::new(seat),
-            additions,
-            waiting: 0,
-            beside: 0,
-            width,
-            is_full: false,
-        })
     }
 
     // rule save-long-runs
@@ -151,6 +212,9 @@ impl<'e, 'm, L: Link> Desk<'e, 'm, L> {
             is_full: _,
         } = self;
         if is_any_beside(additions.as_slice()) {
+            drop(seats);
+            drop(additions);
+            drop(seat);
             return None;
         }
         let is_full = seat.is_none();
@@ -221,22 +285,23 @@ impl<'e, 'm, L: Link> Desk<'e, 'm, L> {
         ensures kept { OnErr result (Stays self.old self.new) }
         ensures why { IfErr result (λ e. e ≡ stop.OutOfMemory) }
     {
-        let Some(handle) = free_handle(self.additions.as_slice(), at) else {
-            drop(request);
-            self.is_full = true;
-            return Ok(None);
-        };
-        let Some(addition) = self.seats.add(rt, handle, request)? else {
-            self.is_full = true;
-            return Ok(None);
-        };
-        let ticket = addition.ticket();
-        self.beside = self
-            .beside
-            .saturating_add(usize::from(addition.is_beside()));
-        self.additions[at] = Some(addition);
-        self.waiting += 1;
-        Ok(Some(ticket))
+        let added = add_at(rt, &mut self.seats, self.additions.as_slice(), at, request);
+        match added {
+            Ok(Some(addition)) => {
+                let ticket = addition.ticket();
+                self.beside = self
+                    .beside
+                    .saturating_add(usize::from(addition.is_beside()));
+                put(&mut self.additions, at, Some(addition));
+                self.waiting += 1;
+                Ok(Some(ticket))
+            }
+            Ok(None) => {
+                self.is_full = true;
+                Ok(None)
+            }
+            Err(stop) => Err(stop),
+        }
     }
 
     // rule save-requests
@@ -254,12 +319,40 @@ impl<'e, 'm, L: Link> Desk<'e, 'm, L> {
             told.message.ticket,
             told.is_beside,
         ) {
-            self.additions[at] = None;
+            put(&mut self.additions, at, None);
             self.beside = self.beside.saturating_sub(usize::from(told.is_beside));
             self.waiting -= 1;
             return Ok(());
         }
         Err(Stop::NoMessage)
+    }
+
+    // Takes out an addition whose end came at that seat, and removes its handle there.
+    fn close<R: Wait>(&mut self, rt: &R, at: usize, told: &Told) -> Result<(), Stop>
+        requires told { Has (ties_at self.old.ties told.now.is_beside) (tie told.now.message.ticket (request_origin told.now.message.outcome.request)) }
+        ensures { OnOk result (Ends self.old self.new at told.now.message.outcome.request) }
+    {
+        self.take(at, told)?;
+        self.seats.remove(rt, told.is_beside, told.message.handle)
+    }
+
+    // The end of a request that was added.
+    fn end<R: Wait>(&mut self, rt: &R, told: Told) -> Result<Ended, Stop>
+        requires told { Has (ties_at self.old.ties told.is_beside) (tie told.message.ticket (request_origin told.message.outcome.request)) }
+        ensures { IfOk result (λ e. Ends self.old self.new e.at e.outcome.request) }
+    {
+        let at = told.message.handle.0 as usize;
+        match self.close(rt, at, &told) {
+            Ok(()) => Ok(Ended {
+                at,
+                ticket: told.message.ticket,
+                outcome: told.message.outcome,
+            }),
+            Err(stop) => {
+                drop(told);
+                Err(stop)
+            }
+        }
     }
 
     /// Reads the next message, for which it waits as long as that, at most: the request has ended that was added under its number, and its
@@ -276,24 +369,10 @@ impl<'e, 'm, L: Link> Desk<'e, 'm, L> {
     {
         let first_waits = self.waiting > self.beside;
         let beside_waits = self.beside > 0;
-        let told = match self.seats.next(rt, first_waits, beside_waits, milliseconds) {
-            Ok(Some(told)) => told,
-            Ok(None) => return Ok(None),
-            Err(_) => return Err(Stop::NoMessage),
-        };
-        let at = told.message.handle.0 as usize;
-        if let Err(error) = self.take(at, &told) {
-            drop(told);
-            return Err(error);
+        match self.seats.next(rt, first_waits, beside_waits, milliseconds) {
+            Ok(Some(told)) => Ok(Some(self.end(rt, told)?)),
+            Ok(None) => Ok(None),
+            Err(_) => Err(Stop::NoMessage),
         }
-        if let Err(error) = self.seats.remove(rt, told.is_beside, told.message.handle) {
-            drop(told);
-            return Err(error);
-        }
-        Ok(Some(Ended {
-            at,
-            ticket: told.message.ticket,
-            outcome: told.message.outcome,
-        }))
     }
 }

@@ -131,10 +131,18 @@ fn read_both<L: Link, R: Wait + Clock>(
 }
 
 /// An application's seat, and perhaps one at another multi handle beside it. Contracts see the requests of additions that each was told.
-#[derive(Drop)]
 pub(crate) struct Seats<'e, 'm, L: Link> {
     first: Seated<'e, Application, Queued<L>, Outcome>,
     beside: Option<Seated<'m, Application, Queued<L>, Outcome>>,
+}
+
+// Written out, and not derived: a crate that drops a desk cites its proof.
+impl<'e, 'm, L: Link> Drop for Seats<'e, 'm, L> {
+    fn drop(self) {
+        let Seats { first, beside } = self;
+        drop(first);
+        drop(beside);
+    }
 }
 
 impl<'e, 'm, L: Link> Model for Seats<'e, 'm, L> {
@@ -161,10 +169,12 @@ impl<'e, 'm, L: Link> Seats<'e, 'm, L> {
     ) -> Seats<'e, 'n, L>
         ensures { result.first ≡ self.entry.first }
     {
-        Seats {
-            first: self.first,
-            beside,
-        }
+        let Seats {
+            first,
+            beside: there,
+        } = self;
+        drop(there);
+        Seats { first, beside }
     }
 
     /// Whether there are two.

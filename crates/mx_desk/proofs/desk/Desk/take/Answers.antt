@@ -1,9 +1,9 @@
-use Rattle.std.proofs.Common.{◌≡◌, ◌∙◌, ap, map, subst, sym}
+use Rattle.std.proofs.Common.{◌≡◌, ◌∙◌, ◌-◌, ap, map, subst, sym}
 use Rattle.std.specs.Prelude.{None, Some, slice_get, slice_set}
 use Rattle.mx_request.specs.Request.{IsRequest, request_origin}
 use Rattle.mx_lock.specs.Ties.{Has, tie}
 use Rattle.mx_desk.specs.Additions.{awaits_at}
-use Rattle.mx_desk.specs.Desks.{asked_at}
+use Rattle.mx_desk.specs.Desks.{IsDesk, asked_at}
 use Rattle.mx_desk.specs.Ties.{ties_at}
 use Rattle.mx_desk.proofs.Desks.{asked_same, asked_set, desk_frees, one_is_added}
 use Rattle.mx_desk.proofs.desk.Desk.take.Goals as goal
@@ -16,7 +16,8 @@ overflow_sub-self g c =
 pub invariant_of-self : goal.invariant_of-self
 invariant_of-self g c =
     let is = sym (c.awaits.ensures ∙ ap (λ l. awaits_at l c.args.at c.args.told.now.message.ticket c.args.told.now.is_beside) c.as_slice.ensures.value) ∙ c.if-awaits.true in
-    desk_frees c.self.inside.seats c.self.inside.additions.items c.self.inside.width c.self.inside.waiting c.args.at c.args.told.now.message.ticket c.args.told.now.is_beside is c.self.invariant
+    subst (λ l. IsDesk c.self.inside.seats l c.self.inside.width (c.self.inside.waiting - 1)) (sym c.put.ensures)
+    (desk_frees c.self.inside.seats c.self.inside.additions.items c.self.inside.width c.self.inside.waiting c.args.at c.args.told.now.message.ticket c.args.told.now.is_beside is c.self.invariant)
 
 pub returns-then-awaits-clause-ended : goal.returns-then-awaits-clause-ended
 returns-then-awaits-clause-ended g c =
@@ -27,6 +28,6 @@ returns-then-awaits-clause-ended g c =
     record {
       added = subst (λ d. slice_get d.asked c.args.at ≡ Some (Some c.args.told.now.message.outcome.request)) c.self.view_is
           (asked_same c.origin_is_whole_request.ensures c.self.inside.seats items c.args.at c.args.told.now.message.ticket c.args.told.now.is_beside c.args.told.now.message.outcome.request request told c.self.invariant.told is);
-      asked = subst (λ d. map asked_at (slice_set items c.args.at None) ≡ slice_set d.asked c.args.at None) c.self.view_is (asked_set items c.args.at None);
+      asked = subst (λ d. map asked_at c.put.new.additions.items ≡ slice_set d.asked c.args.at None) c.self.view_is (ap (map asked_at) c.put.ensures ∙ asked_set items c.args.at None);
       width = ap (λ d. d.width) c.self.view_is;
     }
