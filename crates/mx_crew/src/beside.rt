@@ -5,8 +5,8 @@ ghost use Rattle.std.specs.Thread.{IsSync};
 ghost use Rattle.mx_run_io.specs.declared.stop.Stop.TheVariants as stop;
 
 use crate::crew::Crew;
-use crate::gate::{Common, RunGate};
-use crate::post::{Post, Worked, work};
+use crate::gate::Common;
+use crate::post::{Post, Worked};
 use mx_gate::Gate;
 use mx_link::Link;
 use mx_run_io::Stop;
@@ -16,10 +16,19 @@ use std::sync::Wait;
 use std::thread::{JoinHandle, Scope, Threads};
 use std::{io, thread};
 
+/// What a thread of a run does. What starts and joins threads is generic in it, and so knows nothing of seats and gates.
+pub(crate) trait Job {
+    /// What comes of it.
+    type Done;
+
+    /// Does it, with what the gates of a run have in common. It may wait.
+    fn work<R: Wait + RandomSource + AllocGlobal>(self, rt: &R, common: &Common) -> Self::Done;
+}
+
 // Keeps the handle of a thread that was started: there is room for it.
-fn keep<G: Drop, E: Drop>(
-    handles: &mut Vec<JoinHandle<Worked<G>>>,
-    started: Result<JoinHandle<Worked<G>>, E>,
+fn keep<D: Drop, E: Drop>(
+    handles: &mut Vec<JoinHandle<D>>,
+    started: Result<JoinHandle<D>, E>,
 ) -> Result<(), Stop>
     requires { vec_len handles.old + 1 ≤ vec_capacity handles.old }
     ensures kept { OnOk result (vec_len handles.new ≡ vec_len handles.old + 1) }
@@ -36,21 +45,20 @@ fn keep<G: Drop, E: Drop>(
     }
 }
 
-// Starts a worker at a post, on a thread of its own, and keeps its handle.
+// Starts a job on a thread of its own, and keeps its handle.
 fn start_one<
     's,
-    'm: 's,
     'r: 's,
     E,
-    L: Link + Send + 's,
     R: Threads + Wait + RandomSource + AllocGlobal + Sync + 's,
-    G: Gate<Link = L> + Send + Drop + 's,
+    J: Job<Done = D> + Send + Drop + 's,
+    D: Send + Drop + 's,
 >(
     scope: &Scope<'s, E>,
     rt: &'r R,
     common: &'s Common,
-    post: Post<'m, L, G>,
-    handles: &mut Vec<JoinHandle<Worked<G>>>,
+    job: J,
+    handles: &mut Vec<JoinHandle<D>>,
 ) -> Result<(), Stop>
     requires runtime { IsSync R.row }
     requires room { vec_len handles.old + 1 ≤ vec_capacity handles.old }
@@ -58,40 +66,37 @@ fn start_one<
     ensures most { vec_len handles.new ≤ vec_len handles.old + 1 }
     ensures room { vec_capacity handles.new ≡ vec_capacity handles.old }
 {
-    let Post { seat, gate } = post;
-    let gate = RunGate::new(common, gate);
     let started = scope.spawn(
-        move || -> Worked<G>
+        move || -> D
             requires { IsSync R.row }
-        { work(rt, seat, gate) },
+        { job.work(rt, common) },
     );
     keep(handles, started)
 }
 
-// Starts a worker at each post, until one can't be started. It owns neither posts nor handles, so its exits drop none.
+// Starts each job, until one can't be started. It owns neither jobs nor handles, so its exits drop none.
 fn start_all<
     's,
-    'm: 's,
     'r: 's,
     E,
-    L: Link + Send + 's,
     R: Threads + Wait + RandomSource + AllocGlobal + Sync + 's,
-    G: Gate<Link = L> + Send + Drop + 's,
+    J: Job<Done = D> + Send + Drop + 's,
+    D: Send + Drop + 's,
 >(
     scope: &Scope<'s, E>,
     rt: &'r R,
     common: &'s Common,
-    posts: &mut Vec<Post<'m, L, G>>,
-    handles: &mut Vec<JoinHandle<Worked<G>>>,
+    jobs: &mut Vec<J>,
+    handles: &mut Vec<JoinHandle<D>>,
 ) -> Result<(), Stop>
     requires runtime { IsSync R.row }
     requires none { vec_len handles.old ≡ 0 }
-    requires room { vec_len posts.old ≤ vec_capacity handles.old }
-    ensures started { OnOk result (vec_len handles.new ≡ vec_len posts.old) }
-    ensures most { vec_len handles.new ≤ vec_len posts.old }
+    requires room { vec_len jobs.old ≤ vec_capacity handles.old }
+    ensures started { OnOk result (vec_len handles.new ≡ vec_len jobs.old) }
+    ensures most { vec_len handles.new ≤ vec_len jobs.old }
 {
-    while let Some(post) = posts.pop() {
-        start_one(scope, rt, common, post, handles)?;
+    while let Some(job) = jobs.pop() {
+        start_one(scope, rt, common, job, handles)?;
     }
     Ok(())
 }
@@ -116,96 +121,91 @@ fn stand<R: Wait>(
     stands
 }
 
-// What each worker did, with its gate.
-fn join_all<R: Threads, G: Drop>(
-    rt: &R,
-    handles: Vec<JoinHandle<Worked<G>>>,
-    mut worked: Vec<Worked<G>>,
-) -> Vec<Worked<G>>
-    requires none { vec_len worked ≡ 0 }
-    requires room { vec_len handles ≤ vec_capacity worked }
+// What came of each job.
+fn join_all<R: Threads, D: Drop>(rt: &R, handles: Vec<JoinHandle<D>>, mut done: Vec<D>) -> Vec<D>
+    requires none { vec_len done ≡ 0 }
+    requires room { vec_len handles ≤ vec_capacity done }
     ensures { vec_len result ≡ vec_len handles }
 {
     let mut handles = handles;
     while let Some(handle) = handles.pop() {
-        worked.push_reserved(handle.join(rt));
+        done.push_reserved(handle.join(rt));
     }
     drop(handles);
-    worked
+    done
 }
 
-// What the workers did, where there is a crew.
-fn worked_if<G: Drop>(
-    stands: Result<(), Stop>,
-    worked: Vec<Worked<G>>,
-) -> Result<Vec<Worked<G>>, Stop>
-    ensures { MatchResult result (λ w. (stands ≡ Ok tt) × (w ≡ worked)) (λ e. stands ≡ Err e) }
+// What came of the jobs, where there is a crew.
+fn done_if<D: Drop>(stands: Result<(), Stop>, done: Vec<D>) -> Result<Vec<D>, Stop>
+    ensures { MatchResult result (λ d. (stands ≡ Ok tt) × (d ≡ done)) (λ e. stands ≡ Err e) }
 {
     match stands {
-        Ok(()) => Ok(worked),
-        Err(error) => Err(error),
+        Ok(()) => Ok(done),
+        Err(error) => {
+            drop(done);
+            Err(error)
+        }
     }
 }
 
-// Runs a worker at each post, on a thread of its own, while the application runs on this one, once one of them has started. There is room
-// for their handles and results.
+// Does each job, on a thread of its own, while the application runs on this one, once a worker has started. There is room for the threads'
+// handles and for what comes of the jobs.
 fn run_all<
     'm,
     's,
-    L: Link + Send,
     R: Threads + Wait + RandomSource + AllocGlobal + Sync,
-    G: Gate<Link = L> + Send + Drop,
+    J: Job<Done = D> + Send + Drop,
+    D: Send + Drop,
     T: Drop,
     F: FnOnce(Result<(), Stop>) -> T + Drop,
 >(
     rt: &'m R,
     crew: &'m Crew,
     common: &'s Common,
-    posts: Vec<Post<'m, L, G>>,
-    handles: Vec<JoinHandle<Worked<G>>>,
-    worked: Vec<Worked<G>>,
+    jobs: Vec<J>,
+    rooms: (Vec<JoinHandle<D>>, Vec<D>),
     application: F,
-) -> (T, Result<Vec<Worked<G>>, Stop>)
+) -> (T, Result<Vec<D>, Stop>)
     requires application { (stands : Result Unit WhyNone) → F.pre application stands }
-    requires none { (vec_len handles ≡ 0) × (vec_len worked ≡ 0) }
-    requires room { (vec_len posts ≤ vec_capacity handles) × (vec_len posts ≤ vec_capacity worked) }
-    ensures told { MatchResult result.1 (λ worked. F.post application (Ok tt) result.0 × (vec_len worked ≡ vec_len posts.entry)) (λ e. F.post application (Err e) result.0) }
+    requires none { (vec_len rooms.0 ≡ 0) × (vec_len rooms.1 ≡ 0) }
+    requires room { (vec_len jobs ≤ vec_capacity rooms.0) × (vec_len jobs ≤ vec_capacity rooms.1) }
+    ensures told { MatchResult result.1 (λ done. F.post application (Ok tt) result.0 × (vec_len done ≡ vec_len jobs)) (λ e. F.post application (Err e) result.0) }
 {
+    let (handles, done) = rooms;
     thread::scope(
         thread::scope_env(),
         rt,
-        move |scope| -> (T, Result<Vec<Worked<G>>, Stop>)
-            requires { IsSync R.row × ((stands : Result Unit WhyNone) → F.pre application stands) × (vec_len handles ≡ 0) × (vec_len worked ≡ 0)
-                × (vec_len posts ≤ vec_capacity handles) × (vec_len posts ≤ vec_capacity worked) }
-            ensures told { MatchResult result.1 (λ worked. F.post application (Ok tt) result.0 × (vec_len worked ≡ vec_len posts.entry)) (λ e. F.post application (Err e) result.0) }
+        move |scope| -> (T, Result<Vec<D>, Stop>)
+            requires { IsSync R.row × ((stands : Result Unit WhyNone) → F.pre application stands) × (vec_len handles ≡ 0) × (vec_len done ≡ 0)
+                × (vec_len jobs ≤ vec_capacity handles) × (vec_len jobs ≤ vec_capacity done) }
+            ensures told { MatchResult result.1 (λ done. F.post application (Ok tt) result.0 × (vec_len done ≡ vec_len jobs)) (λ e. F.post application (Err e) result.0) }
         {
-            let mut posts = posts;
+            let mut jobs = jobs;
             let mut handles = handles;
-            let count = posts.len();
-            let started = start_all(scope, rt, common, &mut posts, &mut handles);
+            let count = jobs.len();
+            let started = start_all(scope, rt, common, &mut jobs, &mut handles);
             let stands = stand(rt, crew, common, started, count);
             let told = application(stands);
             crew.dismiss();
-            drop(posts);
-            (told, worked_if(stands, join_all(rt, handles, worked)))
+            drop(jobs);
+            (told, done_if(stands, join_all(rt, handles, done)))
         },
     )
 }
 
-// Room for the threads' handles and results.
-fn rooms<G: Drop>(
-    alloc: Global,
-    count: usize,
-) -> Result<(Vec<JoinHandle<Worked<G>>>, Vec<Worked<G>>), Stop>
+// Room for threads' handles, and for what comes of their jobs.
+fn rooms<D: Drop>(alloc: Global, count: usize) -> Result<(Vec<JoinHandle<D>>, Vec<D>), Stop>
     ensures none { IfOk result (λ r. (vec_len r.0 ≡ 0) × (vec_len r.1 ≡ 0)) }
     ensures room { IfOk result (λ r. (count ≤ vec_capacity r.0) × (count ≤ vec_capacity r.1)) }
 {
     let handles = Vec::with_capacity(alloc, count)?;
-    let Ok(worked) = Vec::with_capacity(alloc, count) else {
-        drop(handles);
-        return Err(Stop::OutOfMemory);
-    };
-    Ok((handles, worked))
+    match Vec::with_capacity(alloc, count) {
+        Ok(done) => Ok((handles, done)),
+        Err(_) => {
+            drop(handles);
+            Err(Stop::OutOfMemory)
+        }
+    }
 }
 
 // rule worker-threads, unproved: Workers on threads run at the same time.
@@ -238,9 +238,9 @@ pub fn run_beside<
     ensures told { MatchResult result.1 (λ worked. F.post application (Ok tt) result.0 × (vec_len worked ≡ vec_len posts.entry)) (λ e. F.post application (Err e) result.0) }
 {
     match rooms(rt.alloc(), posts.len()) {
-        Ok((handles, worked)) => {
+        Ok(rooms) => {
             let common = Common::new();
-            run_all(rt, crew, &common, posts, handles, worked, application)
+            run_all(rt, crew, &common, posts, rooms, application)
         }
         Err(error) => {
             let told = application(Err(error));

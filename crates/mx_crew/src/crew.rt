@@ -1,5 +1,5 @@
 //! What wakes workers, and what stops them.
-ghost use Rattle.std.specs.Prelude.{◌≡◌, ◌↔◌, IfOk, OnOk, vec_len};
+ghost use Rattle.std.specs.Prelude.{◌≡◌, ◌≤◌, ◌↔◌, IfOk, OnOk, vec_capacity, vec_len};
 ghost use Rattle.mx_types.specs.declared.code.Code.TheVariants as codes;
 ghost use Rattle.mx_run_io.specs.declared.stop.Stop.TheVariants as stop;
 
@@ -130,13 +130,14 @@ impl Crew {
     // A gate that this crew wakes and stops, and whose names this resolver looks up.
     fn gate<
         'r,
-        R: Net<Listener = TcpListener, Stream = TcpStream> + Clock + AllocGlobal + Wait + Drop,
+        R: Net<Listener = TcpListener, Stream = TcpStream> + Clock + AllocGlobal + Wait,
+        L: Lookup,
     >(
         &mut self,
         rt: &'r R,
         start: Instant,
-        resolver: &Resolver<SystemLookup<R>, NameBell>,
-    ) -> Result<HostGate<'r, R>, Stop> {
+        resolver: &Resolver<L, NameBell>,
+    ) -> Result<PacedGate<NamedGate<'r, R, L>>, Stop> {
         let gate = self.socket_gate(rt, start)?;
         Ok(PacedGate::new(NamedGate::new(rt, gate, resolver)?))
     }
@@ -176,14 +177,15 @@ impl Crew {
     // So many gates, whose names this resolver looks up.
     fn named_gates<
         'r,
-        R: Net<Listener = TcpListener, Stream = TcpStream> + Clock + AllocGlobal + Wait + Drop,
+        R: Net<Listener = TcpListener, Stream = TcpStream> + Clock + AllocGlobal + Wait,
+        L: Lookup + Drop,
     >(
         &mut self,
         rt: &'r R,
         start: Instant,
-        resolver: &Resolver<SystemLookup<R>, NameBell>,
+        resolver: &Resolver<L, NameBell>,
         count: u8,
-    ) -> Result<Vec<HostGate<'r, R>>, Stop>
+    ) -> Result<Vec<PacedGate<NamedGate<'r, R, L>>>, Stop>
         ensures { IfOk result (λ gates. vec_len gates ≡ count) }
     {
         let mut gates = Vec::with_capacity(rt.alloc(), usize::from(count))?;
@@ -196,24 +198,26 @@ impl Crew {
         }
     }
 
-    // Makes so many gates. It owns none of them, so its exits drop none.
+    // Makes so many gates: there is room for them. It owns none of them, so its exits drop none.
     fn fill<
         'r,
-        R: Net<Listener = TcpListener, Stream = TcpStream> + Clock + AllocGlobal + Wait + Drop,
+        R: Net<Listener = TcpListener, Stream = TcpStream> + Clock + AllocGlobal + Wait,
+        L: Lookup,
     >(
         &mut self,
         rt: &'r R,
         start: Instant,
-        resolver: &Resolver<SystemLookup<R>, NameBell>,
-        gates: &mut Vec<HostGate<'r, R>>,
+        resolver: &Resolver<L, NameBell>,
+        gates: &mut Vec<PacedGate<NamedGate<'r, R, L>>>,
         count: u8,
     ) -> Result<(), Stop>
-        requires { vec_len gates.old ≡ 0 }
+        requires none { vec_len gates.old ≡ 0 }
+        requires room { count ≤ vec_capacity gates.old }
         ensures { OnOk result (vec_len gates.new ≡ count) }
     {
         for made in 0..count {
             let _ = made;
-            gates.push(self.gate(rt, start, resolver)?)?;
+            gates.push_reserved(self.gate(rt, start, resolver)?);
         }
         Ok(())
     }

@@ -1,7 +1,8 @@
 //! A worker's post.
 ghost use Rattle.std.specs.Prelude.{◌≡◌, ◌≤◌, All, IfErr, IfOk, min, vec_capacity, vec_len};
 
-use crate::gate::RunGate;
+use crate::beside::Job;
+use crate::gate::{Common, RunGate};
 use mx_gate::{Gate, Turn};
 use mx_link::Link;
 use mx_multi::{AtWork, Multi, Seated, WorkerSeat};
@@ -138,18 +139,19 @@ fn work_on<'m, L: Link, R: Wait + RandomSource + AllocGlobal, G: Gate<Link = L>>
     unreachable!()
 }
 
-// Works with a seat and a gate until the gate stops it, and says what it did: the gate comes back. Where memory for its start is refused,
-// it tries again after a while, and the gate tells so. It has no clause, since nobody has the seat afterwards: `run_worker` has them. Tests
-// show that it ends only where its gate stops it.
-pub(crate) fn work<'m, L: Link, R: Wait + RandomSource + AllocGlobal, G: Gate<Link = L> + Drop>(
-    rt: &R,
-    seat: Seated<'m, AtWork, Queued<L>, Outcome>,
-    gate: RunGate<'_, G>,
-) -> Worked<G> {
-    let mut gate = gate;
-    let counts = work_on(rt, seat, &mut gate);
-    Worked {
-        counts,
-        gate: gate.into_gate(),
+impl<'m, L: Link, G: Gate<Link = L> + Drop> Job for Post<'m, L, G> {
+    type Done = Worked<G>;
+
+    // Works until the gate stops it, and says what it did: the gate comes back. Where memory for its start is refused, it tries again after a
+    // while, and the gate tells so. It has no clause, since nobody has the seat afterwards: `run_worker` has them. Tests show that it ends only
+    // where its gate stops it.
+    fn work<R: Wait + RandomSource + AllocGlobal>(self, rt: &R, common: &Common) -> Worked<G> {
+        let Post { seat, gate } = self;
+        let mut gate = RunGate::new(common, gate);
+        let counts = work_on(rt, seat, &mut gate);
+        Worked {
+            counts,
+            gate: gate.into_gate(),
+        }
     }
 }

@@ -4,8 +4,8 @@ use Rattle.mx_crew.proofs.beside.join_all.Given as goal
 
 abbrev pub invariant-loop-handle : goal.invariant-loop-handle
 invariant-loop-handle g l = record {
-  joined : vec_len l.worked + vec_len l.handles ≡ vec_len l.fn.handles;
-  room : vec_len l.fn.handles ≤ vec_capacity l.worked;
+  joined : vec_len l.done + vec_len l.handles ≡ vec_len l.fn.handles;
+  room : vec_len l.fn.handles ≤ vec_capacity l.done;
 }
 
 abbrev pub decreases-loop-handle : goal.decreases-loop-handle
