@@ -1,6 +1,6 @@
 -- What is added at a desk of the URLs of a run, one step further.
-use Rattle.std.proofs.Common.{◌≡◌, ◌≢◌, ◌∙◌, refl, ap, sym, subst, ℕ, suc, zero, List, [], ◌∷◌, Bool, true, false, inl, inr, arith}
-use Rattle.std.specs.Prelude.{◌⊎◌, Option, Some, None, Result, Ok, Err, OnOk, count_by, is_some, slice_get, slice_set}
+use Rattle.std.proofs.Common.{◌≡◌, ◌≢◌, ◌∙◌, refl, ap, sym, subst, ℕ, suc, zero, List, [], ◌∷◌, true, false, inl, inr, arith}
+use Rattle.std.specs.Prelude.{◌⊎◌, Option, Some, None, count_by, is_some, slice_get, slice_set}
 use Rattle.mx_types.specs.declared.names.Ticket.{Ticket}
 use Rattle.mx_request.specs.Request.{RequestValue}
 use Rattle.mx_desk.proofs.Desks.{none_is_added}

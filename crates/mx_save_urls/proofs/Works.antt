@@ -2,13 +2,13 @@
 use Rattle.std.proofs.Common.{◌≡◌, ◌∙◌, refl, ap, sym, subst, ℕ, suc, zero, List, [], ◌∷◌, ◌++◌, Bool, true, false, inl, inr, append_assoc}
 use Rattle.std.specs.Prelude.{◌⊎◌, Option, Some, None, Result, Ok, Err, OnOk, MatchOption, if◌then◌else◌, slice_get, slice_set}
 use Rattle.mx_request.specs.Request.{RequestValue}
-use Rattle.mx_save_book.specs.Books.{IsJobFor, IsSameRun, StandsAt, is_unadded}
-use Rattle.mx_save_book.specs.Jobs.{Asks, BookValue, job_at, job_of}
+use Rattle.mx_save_book.specs.Books.{IsJobFor, StandsAt, is_unadded}
+use Rattle.mx_save_book.specs.Jobs.{Asks, job_at, job_of}
 use Rattle.mx_save_book.specs.declared.asking.Asking.{Asking}
 use Rattle.mx_save_book.specs.declared.job.Slot.{Slot}
 use Rattle.mx_save_book.specs.declared.job.Slot.TheVariants as slot
 use Rattle.mx_save_urls.specs.Feeds.{Gives, IsFed, IsUsedUp, Keeps}
-use Rattle.mx_save_urls.specs.Works.{AddsNone, IsSameWork, WorkValue}
+use Rattle.mx_save_urls.specs.Works.{AddsNone}
 
 -- what was read, and what is left
 pub fed_first : (given : Option (List (List ℕ))) (urls : List (List ℕ)) → urls ≡ [] → IsFed given urls given false

@@ -1,6 +1,7 @@
 //! A run, from its URLs to their ends.
-ghost use Rattle.std.specs.Prelude.{◌≡◌, [], false, Ok, OnOk};
+ghost use Rattle.std.specs.Prelude.{◌≡◌, [], false, All, IfOk, OnOk};
 ghost use Rattle.mx_save_book.specs.Books.{HasNoneAdded};
+ghost use Rattle.mx_save_book.specs.declared.job.Slot.TheVariants as slot;
 ghost use Rattle.mx_save_urls.specs.Feeds.{left};
 ghost use Rattle.mx_save_urls.specs.Works.{IsSameWork};
 ghost use Rattle.mx_save_urls.specs.Asked.{HasTurned};
@@ -19,10 +20,11 @@ use mx_fetch::{FetchEnd, fetch_over_sockets};
 use mx_folder::Folder;
 use mx_run_io::Stop;
 use mx_save::Ledger;
-use mx_save_book::{Asking, Book, Lines, WholeBody, free_slots};
+use mx_save_book::{Asking, Book, Lines, Slot, WholeBody, free_slots};
 use std::alloc::{AllocFailed, AllocGlobal};
 use std::io::{Read, Write};
 use std::net::{Net, TcpListener, TcpStream};
+use std::rt::Clock;
 use std::time::Instant;
 
 // Reports that a connection couldn't be begun since too many files were open, where one couldn't.
@@ -71,6 +73,16 @@ fn run_boxed<
     }
 }
 
+// The moment at which a run begins, and its slots.
+fn start_and_slots<R: AllocGlobal + Clock>(rt: &R) -> Result<(Instant, Vec<Slot>), Stop>
+    ensures { IfOk result (λ both. All (λ s. s ≡ slot.Free) both.1.items) }
+{
+    match Instant::now(rt) {
+        Ok(start) => Ok((start, free_slots(rt.alloc(), MOST_PENDING)?)),
+        Err(_) => Err(Stop::NoClock),
+    }
+}
+
 /// What a run left: what it saved, what it printed of its URLs, who watched it, and why it stopped before all had ended, if it did.
 #[derive(Drop)]
 pub struct Ended<F: Folder, W: Write, V> {
@@ -113,22 +125,16 @@ pub fn save_all<
     ensures run { IsOneRun ledger lines result.ledger result.lines }
 {
     let may_fill = plan.may_fill(feed.rest(), asking.retries);
-    let (start, slots) = match (Instant::now(rt), free_slots(rt.alloc(), MOST_PENDING)) {
-        (Ok(start), Ok(slots)) => (start, slots),
-        (Err(_), _) => {
+    let (start, slots) = match start_and_slots(rt) {
+        Ok(both) => both,
+        Err(stop) => {
+            drop(asking);
+            drop(feed);
             return Ended {
                 ledger,
                 lines,
                 watch,
-                stopped: Err(Stop::NoClock),
-            };
-        }
-        (_, Err(_)) => {
-            return Ended {
-                ledger,
-                lines,
-                watch,
-                stopped: Err(Stop::OutOfMemory),
+                stopped: Err(stop),
             };
         }
     };

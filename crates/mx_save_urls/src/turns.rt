@@ -1,6 +1,6 @@
 //! The turns of a run.
-ghost use Rattle.std.specs.Prelude.{◌≡◌, false, IfOk, IfSome, OnOk};
-ghost use Rattle.mx_save_book.specs.Books.{HasNoneAdded, IsClosed, IsJobFor};
+ghost use Rattle.std.specs.Prelude.{◌≡◌, false, true, IfOk, IfSome, OnOk};
+ghost use Rattle.mx_save_book.specs.Books.{IsClosed, IsJobFor, awaits_at};
 ghost use Rattle.mx_save_urls.specs.Works.{IsSameWork};
 ghost use Rattle.mx_desk.specs.Desks.{Stays};
 ghost use Rattle.mx_save_urls.specs.Asked.{AreAsked, HasTurned};
@@ -132,6 +132,28 @@ fn close<'a, F: Folder, W: Write, Rd: Read + Drop, R: Clock>(
     Ok(())
 }
 
+// Ends the URL of a message. `NoMessage` comes where its transfer isn't the one that is awaited under that number.
+fn end_one<'a, F: Folder, W: Write, Rd: Read + Drop, R: Clock, V: Watch>(
+    rt: &R,
+    work: &mut Work<'a, F, W, Rd>,
+    watch: &mut V,
+    ended: Ended,
+    timer: Timer,
+) -> Result<(), Stop>
+    requires going { work.old.book.is_stopped ≡ false }
+    requires asked { awaits_at work.old.book.slots ended.at ended.ticket ≡ true → IsJobFor work.old.book.asking work.old.book.slots ended.at ended.outcome.request }
+    ensures closed { OnOk result (IsClosed work.old.book.slots work.new.book.slots ended.at) }
+    ensures going { OnOk result (work.new.book.is_stopped ≡ false) }
+    ensures run { IsSameWork work.old work.new }
+{
+    watch.hide();
+    if work.awaits(ended.at, ended.ticket) {
+        return close(rt, work, ended, timer);
+    }
+    drop(ended);
+    Err(Stop::NoMessage)
+}
+
 // Waits for the next message for so many milliseconds at most, and ends its URL.
 fn await_one<
     'a,
@@ -157,13 +179,7 @@ fn await_one<
 {
     match desk.next(rt, milliseconds) {
         Ok(None) => Ok(()),
-        Ok(Some(ended)) => {
-            watch.hide();
-            if work.awaits(ended.at, ended.ticket) {
-                return close(rt, work, ended, timer);
-            }
-            Err(Stop::NoMessage)
-        }
+        Ok(Some(ended)) => end_one(rt, work, watch, ended, timer),
         Err(stop) => Err(stop),
     }
 }

@@ -1,7 +1,7 @@
 //! The work of a run: its URLs, from their reading to their ends.
-ghost use Rattle.std.specs.Prelude.{◌≡◌, [], true, false, count_by, IfErr, IfOk, IfSome, IsSome, OnErr, OnOk, Some, slice_get};
+ghost use Rattle.std.specs.Prelude.{◌≡◌, ◌++◌, ◌∷◌, [], true, false, count_by, IfErr, IfOk, IfSome, IsSome, OnErr, OnOk, Some, slice_get};
 ghost use Rattle.mx_request.specs.Request.{IsRequest};
-ghost use Rattle.mx_save_book.specs.Books.{HasNoneAdded, IsAdded, IsClosed, IsJobFor, awaits_at};
+ghost use Rattle.mx_save_book.specs.Books.{HasNoneAdded, IsAdded, IsClosed, IsJobFor, IsSameRun, awaits_at};
 ghost use Rattle.mx_save_book.specs.Jobs.{is_taken, job_at};
 ghost use Rattle.mx_save_book.specs.declared.job.Slot.TheVariants as slot;
 ghost use Rattle.mx_run_io.specs.declared.stop.Stop.TheVariants as stop;
@@ -43,6 +43,30 @@ impl<'a, F: Folder, W: Write, R: Read + Drop> Model for Work<'a, F, W, R> {
     ghost view = { λ w. record { book = w.book; first = left R.remaining w.first.value; left = left R.remaining w.feed; is_read = w.is_read } };
 
     ghost invariant = { λ w. w.book.is_stopped ≡ false → IsFed (left R.remaining w.first.value) w.book.urls (left R.remaining w.feed) w.is_read };
+}
+
+// Takes a URL in, which stands in this slot then, if it is to be asked for.
+fn take_in<F: Folder, W: Write>(
+    book: &mut Book<F, W>,
+    at: usize,
+    url: Vec<u8>,
+) -> Result<Option<Request>, Stop>
+    requires going { book.old.is_stopped ≡ false }
+    requires free { slice_get book.old.slots at ≡ Some slot.Free }
+    ensures urls { OnOk result (book.new.urls ≡ book.old.urls ++ url.items ∷ []) }
+    ensures asked { IfOk result (λ asked. IfSome asked (λ r. IsJobFor book.new.asking book.new.slots at r × IsRequest r)) }
+    ensures added { OnOk result (AddsNone book.old.slots book.new.slots) }
+    ensures going { OnOk result (book.new.is_stopped ≡ false) }
+    ensures stopped { OnErr result (book.new.is_stopped ≡ true) }
+    ensures run { IsSameRun book.old book.new }
+{
+    let Some(request) = book.admit(at, url)? else {
+        return Ok(None);
+    };
+    if book.skip(at)? {
+        return Ok(None);
+    }
+    Ok(Some(request))
 }
 
 impl<'a, F: Folder, W: Write, R: Read + Drop> Work<'a, F, W, R> {
@@ -89,13 +113,7 @@ impl<'a, F: Folder, W: Write, R: Read + Drop> Work<'a, F, W, R> {
         let Some(url) = self.feed.next()? else {
             return Ok(None);
         };
-        let Some(request) = self.book.admit(at, url)? else {
-            return Ok(None);
-        };
-        if self.book.skip(at)? {
-            return Ok(None);
-        }
-        Ok(Some(request))
+        take_in(&mut self.book, at, url)
     }
 
     /// A slot that is free, if there is one.

@@ -1,27 +1,27 @@
-use Rattle.std.proofs.Common.{◌∙◌, subst, sym}
+use Rattle.std.proofs.Common.{subst}
 use Rattle.std.specs.Prelude.{MatchOption}
 use Rattle.mx_desk.specs.Desks.{Ends, Stays}
 use Rattle.mx_save_urls.proofs.Asked.{asked_less, ended_for}
 use Rattle.mx_save_urls.proofs.Works.{on_ok}
 use Rattle.mx_save_urls.proofs.turns.await_one.Goals as goal
 
-pub close-requires-clause-asked : goal.close-requires-clause-asked
-close-requires-clause-asked g c =
+pub end_one-requires-clause-asked : goal.end_one-requires-clause-asked
+end_one-requires-clause-asked g c = λ awaits.
     let old = c.args.desk.now in
     let new = c.next.new.self in
     let book = c.args.work.now.book in
     let e = c.in-Ok-Some.ended in
     let ends = subst (λ o. MatchOption o (Stays old new) (λ f. Ends old new f.at f.outcome.request)) c.in-Ok-Some.field-0-is c.in-Ok-Some.ensures.ended in
-    ended_for book.asking book.slots old.asked e.at e.ticket e.outcome.request (sym c.awaits.ensures ∙ c.if-awaits.true) ends.added c.requires.all
+    ended_for book.asking book.slots old.asked e.at e.ticket e.outcome.request awaits ends.added c.requires.all
 
-pub returns-then-awaits-clause-all : goal.returns-then-awaits-clause-all
-returns-then-awaits-clause-all g c =
+pub returns-in-Ok-Some-clause-all : goal.returns-in-Ok-Some-clause-all
+returns-in-Ok-Some-clause-all g c =
     let old = c.args.desk.now in
     let new = c.next.new.self in
     let book = c.args.work.now.book in
-    let also = c.close.new.work.book in
+    let also = c.end_one.new.work.book in
     let e = c.in-Ok-Some.ended in
     let ends = subst (λ o. MatchOption o (Stays old new) (λ f. Ends old new f.at f.outcome.request)) c.in-Ok-Some.field-0-is c.in-Ok-Some.ensures.ended in
-    on_ok c.close.result
-    (λ closed. asked_less book.asking also.asking book.slots also.slots old.asked new.asked e.at c.close.ensures.run.book.asking closed ends.asked c.requires.all)
-    c.close.ensures.closed
+    on_ok c.end_one.result
+    (λ closed. asked_less book.asking also.asking book.slots also.slots old.asked new.asked e.at c.end_one.ensures.run.book.asking closed ends.asked c.requires.all)
+    c.end_one.ensures.closed
