@@ -57,7 +57,7 @@ def read(path):
 def library_crates():
     for line in read("crates.txt").splitlines():
         name = line.partition("#")[0].split(" ")[0].rstrip(":").strip()
-        if name and "_tests" not in name and name != "mx_responses_tests_base" and os.path.isfile(f"{TOP}/crates/{name}/src/lib.rt"):
+        if name and "_tests" not in name and os.path.isfile(f"{TOP}/crates/{name}/src/lib.rt"):
             yield name
 
 

@@ -107,7 +107,7 @@ class Rules:
     def __init__(self):
         self.by_name, self.wrong, self.uses = {}, [], []
         for order, crate in enumerate(crates()):
-            is_tests = "_tests" in crate or crate == "mx_responses_tests_base"
+            is_tests = "_tests" in crate
             for path in files(f"crates/{crate}/specs/**/*.antt"):
                 self.read_marks(path, order, "--", definition_at, "definitions")
             for path in files(f"crates/{crate}/src/**/*.rt"):

@@ -29,7 +29,7 @@ fn cause_words(cause: FetchError) -> &'static str
 {
     match cause {
         FetchError::TooManyUrls => "there are more than 256 URLs",
-        FetchError::OutOfMemory => "not enough memory",
+        FetchError::OutOfMemory => "out of memory",
         FetchError::NoClock => "the system's clock can't be read",
         FetchError::NoPoll => "the system gives no poll of sockets, or has too many open files",
         FetchError::NoThread => "a thread can't be started",

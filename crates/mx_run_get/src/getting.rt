@@ -151,6 +151,7 @@ impl<'u> Getting<'u> {
         }
     }
 
+    // rule get-ends
     // Notes what a transfer ended with, at the place of its number.
     fn note(&mut self, alloc: Global, ended: Ended) -> Result<(), Stop>
         requires asked { (place : AtPlace) → slice_get self.old.places ended.at ≡ Some place → is_awaiting place ≡ true → asked_at place ≡ Ok ended.outcome.request }
