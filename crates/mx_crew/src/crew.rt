@@ -11,7 +11,7 @@ use mx_types::{Code, OutOfMemory};
 use std::alloc::{AllocError, AllocGlobal, Global};
 use std::net::{Net, TcpListener, TcpStream};
 use std::rt::Clock;
-use std::sync::atomic::{AtomicBool, Ordering};
+use std::sync::atomic::{AtomicBool, AtomicU64, Ordering};
 use std::sync::{Arc, Wait};
 use std::thread;
 use std::thread::Threads;
@@ -25,6 +25,8 @@ pub struct Crew {
     bells: Vec<Bell>,
     file_limits: Vec<FileLimit>,
     stop: Arc<AtomicBool>,
+    // How many workers were woken one by one.
+    woken: AtomicU64,
 }
 
 // Written out, and not derived: a crate that drops a crew cites its proof.
@@ -34,10 +36,12 @@ impl Drop for Crew {
             bells,
             file_limits,
             stop,
+            woken,
         } = self;
         drop(bells);
         drop(file_limits);
         drop(stop);
+        drop(woken);
     }
 }
 
@@ -59,11 +63,33 @@ impl Crew {
             bells: Vec::new(alloc),
             file_limits: Vec::new(alloc),
             stop,
+            woken: AtomicU64::new(0),
         })
     }
 
-    /// Wakes all workers whose gates it made.
-    pub fn ring(&self) {
+    /// Wakes a worker for each of so many requests that were added, in turn, and all where there are no more workers than that. One that
+    /// isn't woken waits to the end of its timeout.
+    pub fn wake(&self, added: usize) {
+        let count = self.bells.len();
+        if added >= count {
+            self.ring();
+            return;
+        }
+        let woken = self.woken.fetch_add(added as u64, Ordering::SeqCst);
+        let mut at = (woken % count as u64) as usize;
+        for _ in 0..added {
+            if at >= count {
+                at = 0;
+            }
+            if let Some(bell) = self.bells.get(at) {
+                let _ = bell.ring();
+            }
+            at = at.saturating_add(1);
+        }
+    }
+
+    // Wakes all workers whose gates it made.
+    fn ring(&self) {
         for bell in &self.bells {
             // Where the bell can't be rung, its worker waits to the end of its timeout.
             let _ = bell.ring();

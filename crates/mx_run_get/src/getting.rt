@@ -209,19 +209,19 @@ impl<'u> Getting<'u> {
         ensures all { OnOk result (AreAwaited self.new.places desk.new.asked) }
         ensures same { IsSameGetting self.old self.new }
     {
-        let mut to_wake = false;
+        let mut added = 0usize;
         for _ in rt.forever() {
             if self.may_add(desk) {
                 self.add(rt, desk)?;
-                to_wake = true;
+                added = added.saturating_add(1);
                 continue;
             }
             if let Some(turned) = self.left(desk) {
                 return Ok(turned);
             }
-            if to_wake {
-                crew.ring();
-                to_wake = false;
+            if added > 0 {
+                crew.wake(added);
+                added = 0;
             }
             self.await_one(rt, desk)?;
         }

@@ -236,7 +236,7 @@ pub(crate) fn take_turns<
     ensures going { OnOk result (work.new.book.is_stopped ≡ false) }
     ensures run { IsSameWork work.old work.new }
 {
-    let mut to_wake = false;
+    let mut added = 0usize;
     let mut seen = Seen {
         ended: work.tally().ended,
         next: 0,
@@ -249,12 +249,12 @@ pub(crate) fn take_turns<
         // another may end while a message is awaited
         seen.ended = report(work, watch, seen.ended);
         if matches!(begun, Begun::Added) {
-            to_wake = true;
+            added = added.saturating_add(1);
             continue;
         }
-        if to_wake {
-            crew.ring();
-            to_wake = false;
+        if added > 0 {
+            crew.wake(added);
+            added = 0;
         }
         let left = left_ms(patience, desk.is_full(), seen.full, now);
         if let Some(turned) = how_turned(desk, work, left) {
