@@ -1,6 +1,6 @@
 -- A run of `get` at its desks, one step further.
-use Rattle.std.proofs.Common.{◌≡◌, ◌≢◌, ◌∙◌, refl, ap, sym, subst, ℕ, ◌+◌, ◌<◌, ◌≤◌, suc, zero, List, [], ◌∷◌, ◌++◌, map, length, Bool, true, false, inl, inr, arith}
-use Rattle.std.specs.Prelude.{◌⊎◌, Err, OnOk, Option, Some, None, Result, Ok, count_by, is_some, option_map, get_or, slice_get, slice_set, take}
+use Rattle.std.proofs.Common.{◌≡◌, ◌≢◌, ◌∙◌, refl, ap, sym, ℕ, ◌+◌, ◌<◌, suc, zero, List, [], ◌∷◌, ◌++◌, map, length, true, false, inl, inr, arith}
+use Rattle.std.specs.Prelude.{◌⊎◌, Err, Option, Some, None, Result, Ok, count_by, is_some, option_map, get_or, slice_get, slice_set, take}
 use Rattle.std.proofs.lemmas.List.{length-map, length-set, length_push}
 use Rattle.std.proofs.lemmas.Option.{slice_get-get_or, slice_get-map, slice_get_within}
 use Rattle.mx_types.specs.declared.code.Code.{Code}
@@ -10,6 +10,7 @@ use Rattle.mx_request.specs.declared.error.RequestError.{RequestError}
 use Rattle.mx_request.specs.declared.error.RequestError.TheVariants as refusal
 use Rattle.mx_chain.specs.Outcomes.{OutcomeValue}
 use Rattle.mx_desk.proofs.Desks.{none_is_added}
+use Rattle.mx_fetch.proofs.Lists.{cases, stays, there}
 use Rattle.mx_get_text.specs.Asking.{asked_for}
 use Rattle.mx_run_io.specs.declared.options.Options.{Options}
 use Rattle.mx_get_text.specs.Fetched.{fetched_of}
@@ -19,31 +20,8 @@ use Rattle.mx_run_get.specs.declared.place.Place.{Place}
 use Rattle.mx_run_get.specs.declared.place.Place.TheVariants.{Known}
 use Rattle.mx_run_get.proofs.Places.{none_at, none_waits, note_keeps}
 
--- lists, of which one element has changed, or which have one more
+-- lists which have one more
 module _ {X : Type 0} where
-  cases : (xs : List X) (i j : ℕ) (v x : X) → slice_get (slice_set xs i v) j ≡ Some x → ((j ≡ i) × (v ≡ x)) ⊎ ((j ≢ i) × (slice_get xs j ≡ Some x))
-  cases [] i j v x is = absurd (cc)
-  cases (y ∷ ys) zero zero v x is = inl (refl, cc)
-  cases (y ∷ ys) zero (suc j) v x is = inr ((λ e. omega (arith, e)), is)
-  cases (y ∷ ys) (suc i) zero v x is = inr ((λ e. omega (arith, e)), is)
-  cases (y ∷ ys) (suc i) (suc j) v x is =
-      elim (cases ys i j v x is) [
-        | inl c ↦ inl (ap suc c.0, c.1)
-        | inr c ↦ inr ((λ e. c.0 (omega (arith, e))), c.1)
-      ]
-
-  stays : (xs : List X) (i j : ℕ) (v : X) → j ≢ i → slice_get (slice_set xs i v) j ≡ slice_get xs j
-  stays [] i j v other = refl
-  stays (y ∷ ys) zero zero v other = absurd (other refl)
-  stays (y ∷ ys) zero (suc j) v other = refl
-  stays (y ∷ ys) (suc i) zero v other = refl
-  stays (y ∷ ys) (suc i) (suc j) v other = stays ys i j v (λ e. other (ap suc e))
-
-  there : (xs : List X) (i : ℕ) (x v : X) → slice_get xs i ≡ Some x → slice_get (slice_set xs i v) i ≡ Some v
-  there [] i x v is = absurd (cc)
-  there (y ∷ ys) zero x v is = refl
-  there (y ∷ ys) (suc i) x v is = there ys i x v is
-
   pushed : (xs : List X) (v x : X) (i : ℕ) → slice_get (xs ++ v ∷ []) i ≡ Some x → ((i ≡ length xs) × (v ≡ x)) ⊎ ((i < length xs) × (slice_get xs i ≡ Some x))
   pushed [] v x zero is = inl (refl, cc)
   pushed [] v x (suc i) is = absurd (cc)
@@ -156,8 +134,3 @@ getting_noted g h at o urls options places asked waits is =
       within = omega (arith, count, ap length urls, is.within);
       asked = ap (map asked_at) places ∙ note_keeps g.places at o asked waits ∙ is.asked ∙ sym (ap (λ l. take l (wanted g)) count) ∙ sym (ap (take (length h.places)) same);
     }
-
--- where it went well, what follows from what is known then
-pub on_ok : {A E P R : Type 0} (r : Result A E) → (P → R) → OnOk r P → OnOk r R
-on_ok (Ok a) f p = f p
-on_ok (Err e) f p = tt

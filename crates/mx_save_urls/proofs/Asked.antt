@@ -1,9 +1,10 @@
 -- What is added at a desk of the URLs of a run, one step further.
-use Rattle.std.proofs.Common.{◌≡◌, ◌≢◌, ◌∙◌, refl, ap, sym, subst, ℕ, suc, zero, List, [], ◌∷◌, true, false, inl, inr, arith}
-use Rattle.std.specs.Prelude.{◌⊎◌, Option, Some, None, count_by, is_some, slice_get, slice_set}
+use Rattle.std.proofs.Common.{◌≡◌, ◌∙◌, refl, ap, sym, subst, ℕ, suc, zero, List, [], ◌∷◌, true, false, inl, inr}
+use Rattle.std.specs.Prelude.{Option, Some, None, count_by, is_some, slice_get, slice_set}
 use Rattle.mx_types.specs.declared.names.Ticket.{Ticket}
 use Rattle.mx_request.specs.Request.{RequestValue}
 use Rattle.mx_desk.proofs.Desks.{none_is_added}
+use Rattle.mx_fetch.proofs.Lists.{cases, stays, there}
 use Rattle.mx_save_book.specs.Books.{HasNoneAdded, IsAdded, IsClosed, IsJobFor, awaits_at, is_unadded}
 use Rattle.mx_save_book.specs.Jobs.{Asks, job_at, job_of}
 use Rattle.mx_save_book.specs.declared.asking.Asking.{Asking}
@@ -12,31 +13,6 @@ use Rattle.mx_save_book.specs.declared.job.Slot.{Slot}
 use Rattle.mx_save_book.specs.declared.job.Slot.TheVariants as slot
 use Rattle.mx_save_urls.specs.Works.{AddsNone}
 use Rattle.mx_save_urls.specs.Asked.{AreAsked}
-
--- lists, of which one element has changed
-module _ {X : Type 0} where
-  pub cases : (xs : List X) (i j : ℕ) (v x : X) → slice_get (slice_set xs i v) j ≡ Some x → ((j ≡ i) × (v ≡ x)) ⊎ ((j ≢ i) × (slice_get xs j ≡ Some x))
-  cases [] i j v x is = absurd (cc)
-  cases (y ∷ ys) zero zero v x is = inl (refl, cc)
-  cases (y ∷ ys) zero (suc j) v x is = inr ((λ e. omega (arith, e)), is)
-  cases (y ∷ ys) (suc i) zero v x is = inr ((λ e. omega (arith, e)), is)
-  cases (y ∷ ys) (suc i) (suc j) v x is =
-      elim (cases ys i j v x is) [
-        | inl c ↦ inl (ap suc c.0, c.1)
-        | inr c ↦ inr ((λ e. c.0 (omega (arith, e))), c.1)
-      ]
-
-  pub stays : (xs : List X) (i j : ℕ) (v : X) → j ≢ i → slice_get (slice_set xs i v) j ≡ slice_get xs j
-  stays [] i j v other = refl
-  stays (y ∷ ys) zero zero v other = absurd (other refl)
-  stays (y ∷ ys) zero (suc j) v other = refl
-  stays (y ∷ ys) (suc i) zero v other = refl
-  stays (y ∷ ys) (suc i) (suc j) v other = stays ys i j v (λ e. other (ap suc e))
-
-  pub there : (xs : List X) (i : ℕ) (x v : X) → slice_get xs i ≡ Some x → slice_get (slice_set xs i v) i ≡ Some v
-  there [] i x v is = absurd (cc)
-  there (y ∷ ys) zero x v is = refl
-  there (y ∷ ys) (suc i) x v is = there ys i x v is
 
 -- the URL that is in a slot
 job_there : (slots : List Slot) (i : ℕ) (s : Slot) → slice_get slots i ≡ Some s → job_at slots i ≡ job_of s

@@ -1,7 +1,8 @@
 -- The work of a run, one URL further.
 use Rattle.std.proofs.Common.{◌≡◌, ◌∙◌, refl, ap, sym, subst, ℕ, suc, zero, List, [], ◌∷◌, ◌++◌, Bool, true, false, inl, inr, append_assoc}
-use Rattle.std.specs.Prelude.{◌⊎◌, Option, Some, None, Result, Ok, Err, OnOk, MatchOption, if◌then◌else◌, slice_get, slice_set}
+use Rattle.std.specs.Prelude.{Option, Some, None, MatchOption, if◌then◌else◌, slice_get, slice_set}
 use Rattle.mx_request.specs.Request.{RequestValue}
+use Rattle.mx_fetch.proofs.Lists.{cases}
 use Rattle.mx_save_book.specs.Books.{IsJobFor, StandsAt, is_unadded}
 use Rattle.mx_save_book.specs.Jobs.{Asks, job_at, job_of}
 use Rattle.mx_save_book.specs.declared.asking.Asking.{Asking}
@@ -45,23 +46,11 @@ there [] i old v is = absurd (cc)
 there (s ∷ ss) zero old v is = refl
 there (s ∷ ss) (suc i) old v is = there ss i old v is
 
--- slots, one of which has changed
-pub get_cases : (slots : List Slot) (i j : ℕ) (v s : Slot) → slice_get (slice_set slots i v) j ≡ Some s → ((j ≡ i) × (v ≡ s)) ⊎ (slice_get slots j ≡ Some s)
-get_cases [] i j v s is = absurd (cc)
-get_cases (t ∷ ss) zero zero v s is = inl (refl, cc)
-get_cases (t ∷ ss) zero (suc j) v s is = inr is
-get_cases (t ∷ ss) (suc i) zero v s is = inr is
-get_cases (t ∷ ss) (suc i) (suc j) v s is =
-    elim (get_cases ss i j v s is) [
-      | inl c ↦ inl (ap suc c.0, c.1)
-      | inr c ↦ inr c
-    ]
-
 pub adds_none : (slots : List Slot) (i : ℕ) (v : Slot) → is_unadded v ≡ true → AddsNone slots (slice_set slots i v)
 adds_none slots i v unadded j job ticket is =
-    elim (get_cases slots i j v (slot.Added job ticket) is) [
+    elim (cases slots i j v (slot.Added job ticket) is) [
       | inl c ↦ let bad : false ≡ true = sym (ap is_unadded c.1) ∙ unadded in absurd (cc)
-      | inr c ↦ c
+      | inr c ↦ c.1
     ]
 
 pub adds_same : (old new : List Slot) → new ≡ old → AddsNone old new
@@ -82,7 +71,7 @@ stands_for asking old new at text request free s asked = record {
   asked = subst (λ t. Asks asking t request) (sym s.url) asked;
 }
 
--- what follows where something is there, where a skip was none, and where it went well
+-- what follows where something is there, and where a skip was none
 pub match_some : {X : Type 0} (P Q : Type 0) (o : Option X) (x : X) → o ≡ Some x → MatchOption o P (λ _. Q) → Q
 match_some P Q None x is h = absurd (cc)
 match_some P Q (Some y) x is h = h
@@ -94,8 +83,3 @@ skipped_on a b at false is = adds_same a b is
 pub not_skipped : (a b : List Slot) (at : ℕ) (skipped : Bool) → skipped ≡ false → b ≡ (if skipped then slice_set a at slot.Free else a) → b ≡ a
 not_skipped a b at true e is = let bad : true ≡ false = e in absurd (cc)
 not_skipped a b at false e is = is
-
--- where it went well, what follows from what is known then
-pub on_ok : {A E P R : Type 0} (r : Result A E) → (P → R) → OnOk r P → OnOk r R
-on_ok (Ok a) f p = f p
-on_ok (Err e) f p = tt

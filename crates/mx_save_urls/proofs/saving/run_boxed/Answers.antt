@@ -3,7 +3,7 @@ use Rattle.std.specs.Prelude.{OnOk}
 use Rattle.mx_fetch.specs.declared.turned.Turned.TheVariants as how
 use Rattle.mx_save_urls.specs.Asked.{AreAsked, HasTurned}
 use Rattle.mx_save_urls.proofs.Asked.{asked_none}
-use Rattle.mx_save_urls.proofs.Works.{on_ok}
+use Rattle.mx_fetch.proofs.Lists.{on_ok}
 use Rattle.mx_save_urls.proofs.saving.run_boxed.Goals as goal
 
 pub fetch_over_sockets-end-requires-clause-asked : goal.fetch_over_sockets-end-requires-clause-asked

@@ -2,7 +2,7 @@ use Rattle.std.proofs.Common.{subst}
 use Rattle.std.specs.Prelude.{MatchOption}
 use Rattle.mx_desk.specs.Desks.{Ends, Stays}
 use Rattle.mx_save_urls.proofs.Asked.{asked_less, ended_for}
-use Rattle.mx_save_urls.proofs.Works.{on_ok}
+use Rattle.mx_fetch.proofs.Lists.{on_ok}
 use Rattle.mx_save_urls.proofs.turns.await_one.Goals as goal
 
 pub end_one-requires-clause-asked : goal.end_one-requires-clause-asked

@@ -1,7 +1,8 @@
 use Rattle.std.proofs.Common.{◌∙◌, subst, sym}
 use Rattle.std.specs.Prelude.{MatchOption}
 use Rattle.mx_desk.specs.Desks.{Ends, Stays}
-use Rattle.mx_run_get.proofs.Gets.{awaited_less, on_ok}
+use Rattle.mx_fetch.proofs.Lists.{on_ok}
+use Rattle.mx_run_get.proofs.Gets.{awaited_less}
 use Rattle.mx_run_get.proofs.getting.Getting.await_one.Goals as goal
 
 pub returns-in-Some-clause-all : goal.returns-in-Some-clause-all

@@ -1,6 +1,6 @@
 use Rattle.std.proofs.Common.{subst}
 use Rattle.mx_save_book.specs.Books.{IsClosed}
-use Rattle.mx_save_urls.proofs.Works.{on_ok}
+use Rattle.mx_fetch.proofs.Lists.{on_ok}
 use Rattle.mx_save_urls.proofs.work.Work.close.Goals as goal
 
 pub returns-clause-closed : goal.returns-clause-closed
