@@ -117,6 +117,8 @@ fn fetch_first<
 >(rt: &R, crew: &Crew, desk: Desk<'m, 'm, L>, first: First<E, G>) -> First<E, G>
     requires within { are_within first.room.limits ≡ true }
     requires one { first.room.limits.seats ≡ 1 }
+    // rule get-width
+    requires width { desk.width ≡ first.room.width }
     requires asked { E.is_asked first.errand.value desk.asked }
     ensures room { result.room ≡ first.room }
     ensures run { E.is_same first.errand.value result.errand.value }

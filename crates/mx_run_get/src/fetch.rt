@@ -29,8 +29,9 @@ const HISTORY: u32 = 2048;
 // What a multi handle is opened with: what the options ask for, a seat that adds, and a number for each URL.
 fn room(options: Options) -> Room
     requires { are_within options ≡ true }
-    ensures limits { result.limits ≡ record { seats = 1; workers = options.workers; history = 2048; max_connects = options.max_connects } }
+    ensures limits { result.limits ≡ record { seats = 1; workers = options.workers; history = HISTORY; max_connects = options.max_connects } }
     ensures within { are_limits_within result.limits ≡ true }
+    ensures numbers { result.numbers ≡ MOST_URLS }
     ensures width { result.width ≡ width options }
 {
     Room {
