@@ -25,10 +25,10 @@ pub trait Fetch {
     ghost is_same: { Self → Self → Type 0 };
 
     /// Fetches at a desk, until all has ended, or until the history of the multi handle at which it adds is full and all has ended that was
-    /// added. Where that history is full it also leaves the desk once all has ended that was added at that multi handle, though something is
-    /// added at the other one, and, with a patience, once so many milliseconds have passed. It may wait.
+    /// added. Where that history is full it may also leave the desk once all has ended that was added at that multi handle, though something
+    /// is added at the other one, and, with a patience, once so many milliseconds have passed. It may wait.
     ///
-    /// No clause says how long it waits, that it wakes the workers, or in which order it adds.
+    /// No clause says how long it waits, why it stops, that it wakes the workers, or in which order it adds.
     fn fetch<L: Link, R: Wait + AllocGlobal + Clock>(
         &mut self,
         rt: &R,
@@ -41,9 +41,12 @@ pub trait Fetch {
         ensures asked { OnOk result (is_asked self.new desk.new.asked) }
         ensures run { is_same self.old self.new };
 
+    /// A run is the same as itself.
     ghost same: { (x : Self) → is_same x x };
 
+    /// What is the same run later on is so from the first on.
     ghost then: { (x y z : Self) → is_same x y → is_same y z → is_same x z };
 
+    /// Where it left because the history was full, nothing is added, and it goes on at any desk.
     ghost none: { (x : Self) → has_turned x how.HistoryFull → (asked : List (Option RequestValue)) → is_asked x asked };
 }

@@ -118,8 +118,10 @@ fn fetch_by<R: Runtime + Net<Listener = TcpListener, Stream = TcpStream>, E: Fet
     }
 }
 
-/// Fetches with workers over sockets, at one multi handle after another, as `run_on` does. The workers' clocks have that start. `may_fill` says
-/// whether the history of a multi handle may be full before all has ended: only then gates are made for a second one beside it. It may wait.
+/// Fetches with workers over sockets, at one multi handle after another, until all has ended. One whose history is full is followed by the next
+/// once all has ended that was added there; where that takes more than half a second, a second one is opened beside it. The workers' clocks
+/// have that start. `may_fill` says whether a history may be full before all has ended: only then gates are made for a second multi handle. It
+/// may wait.
 ///
 /// It stops where memory is refused, and where the system has no poll or no thread for it; no clause says that the cause is the right one, nor
 /// that `met_file_limit` is.
