@@ -33,3 +33,5 @@ mod steps;
 mod table;
 #[cfg(test)]
 mod trouble;
+#[cfg(test)]
+mod waking;
