@@ -58,9 +58,9 @@ module _ {L : Type 0} (history : L → List Answer) (token_of : L → ℕ) (t ne
     delays = refl;
   }
   by_gate e f can taken mid (Ok link) wants fresh of none empty code after may noted (refused never stays opening) = absurd never
-  by_gate e f can taken mid (Ok link) wants fresh of none empty code after may noted (once_more c stays opening) = record {
+  by_gate e f can taken mid (Ok link) wants fresh of none empty code after may noted (once_more c cause stays opening) = record {
     said = asked t.now.request.endpoint true ∷ opened t.now.request.endpoint (Err c) ∷ lacked true ∷ asked t.now.request.endpoint true ∷ opened t.now.request.endpoint (Ok (token_of link)) ∷ [];
-    supplied = reopens c link wants (must_open e f taken fresh of none) (stays ∙ ap cleared none.same) empty after;
+    supplied = reopens c link wants (must_open e f taken fresh of none) (stays ∙ ap cleared none.same) cause empty after;
     meanwhile = said_then e can mid (λ x. opened x (Err c) ∷ lacked true ∷ asked x true ∷ opened x (Ok (token_of link)) ∷ []) of may noted opening;
     delays = refl;
   }
@@ -71,9 +71,9 @@ module _ {L : Type 0} (history : L → List Answer) (token_of : L → ℕ) (t ne
     meanwhile = said_then e can mid (λ x. opened x (Err c) ∷ lacked false ∷ []) of may noted opening;
     delays = refl;
   }
-  by_gate e f can taken mid (Err again) wants fresh of none empty code after may noted (once_more c stays opening) = record {
+  by_gate e f can taken mid (Err again) wants fresh of none empty code after may noted (once_more c cause stays opening) = record {
     said = asked t.now.request.endpoint true ∷ opened t.now.request.endpoint (Err c) ∷ lacked true ∷ asked t.now.request.endpoint true ∷ opened t.now.request.endpoint (Err again) ∷ [];
-    supplied = gives_up c again wants (must_open e f taken fresh of none) (stays ∙ ap cleared none.same) code after;
+    supplied = gives_up c again wants (must_open e f taken fresh of none) (stays ∙ ap cleared none.same) cause code after;
     meanwhile = said_then e can mid (λ x. opened x (Err c) ∷ lacked true ∷ asked x true ∷ opened x (Err again) ∷ []) of may noted opening;
     delays = refl;
   }
@@ -83,7 +83,7 @@ module _ {L : Type 0} (history : L → List Answer) (token_of : L → ℕ) (t ne
       → can ≡ true → mid ≡ was ++ asked e can ∷ [] → IsPutOff e taken left mid is → Supplies history token_of t new idle left was is true
   by_put_off_again e f can taken mid wants fresh of none same may noted off = record {
     said = asked t.now.request.endpoint true ∷ opened t.now.request.endpoint (Err off.code) ∷ lacked true ∷ asked t.now.request.endpoint false ∷ [];
-    supplied = puts_off off.code wants (must_open e f taken fresh of none) (off.dropped ∙ ap cleared none.same) same;
+    supplied = puts_off off.code wants (must_open e f taken fresh of none) (off.dropped ∙ ap cleared none.same) off.cause same;
     meanwhile = said_then e can mid (λ x. opened x (Err off.code) ∷ lacked true ∷ asked x false ∷ []) of may noted off.meanwhile;
     delays = refl;
   }
@@ -97,14 +97,14 @@ module _ {L : Type 0} (e : HostAndPort) (idle left : Idle L) (was mid later aske
       then ∙ ap (λ (b : Bool). mid ++ lacked b ∷ []) lack ∙ ap (λ (x : List Said). x ++ lacked true ∷ []) first ∙ append_assoc was (opened e (Err c) ∷ []) (lacked true ∷ []) in
       again ∙ ap (λ (b : Bool). later ++ asked e b ∷ []) may ∙ ap (λ (x : List Said). x ++ asked e b ∷ []) two ∙ append_assoc was (opened e (Err c) ∷ lacked true ∷ []) (asked e b ∷ [])
 
-  pub by_put_off : left ≡ cleared idle → mid ≡ was ++ opened e (Err c) ∷ [] → lacks ≡ true → later ≡ mid ++ lacked lacks ∷ [] → can ≡ false → asked_again ≡ later ++ asked e can ∷ []
+  pub by_put_off : is_link_code c ≡ true → left ≡ cleared idle → mid ≡ was ++ opened e (Err c) ∷ [] → lacks ≡ true → later ≡ mid ++ lacked lacks ∷ [] → can ≡ false → asked_again ≡ later ++ asked e can ∷ []
       → IsPutOff e idle left was asked_again
-  by_put_off dropped first lack then may again = record { code = c; dropped = dropped; meanwhile = second false dropped first lack then may again }
+  by_put_off cause dropped first lack then may again = record { code = c; cause = cause; dropped = dropped; meanwhile = second false dropped first lack then may again }
 
-  pub by_second : (token_of : L → ℕ) (answer : Result L Code) (is : List Said) → left ≡ cleared idle → mid ≡ was ++ opened e (Err c) ∷ [] → lacks ≡ true → later ≡ mid ++ lacked lacks ∷ [] → can ≡ true
+  pub by_second : (token_of : L → ℕ) (answer : Result L Code) (is : List Said) → is_link_code c ≡ true → left ≡ cleared idle → mid ≡ was ++ opened e (Err c) ∷ [] → lacks ≡ true → later ≡ mid ++ lacked lacks ∷ [] → can ≡ true
       → asked_again ≡ later ++ asked e can ∷ [] → is ≡ asked_again ++ opened e (numbered token_of answer) ∷ [] → Opens token_of e idle left was is answer
-  by_second token_of answer is dropped first lack then may again third =
-      once_more c dropped (third ∙ ap (λ (x : List Said). x ++ opened e (numbered token_of answer) ∷ []) (second true dropped first lack then may again)
+  by_second token_of answer is cause dropped first lack then may again third =
+      once_more c cause dropped (third ∙ ap (λ (x : List Said). x ++ opened e (numbered token_of answer) ∷ []) (second true dropped first lack then may again)
       ∙ append_assoc was (opened e (Err c) ∷ lacked true ∷ asked e true ∷ []) (opened e (numbered token_of answer) ∷ []))
 
 -- the link that was left was put under a copy of its endpoint

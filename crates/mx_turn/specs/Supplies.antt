@@ -1,5 +1,6 @@
 -- How a worker's links serve a transfer.
 use Rattle.std.specs.Prelude.{◌≡◌, ◌⊎◌, ℕ, Bool, true, false, List, [], ◌∷◌, ◌++◌, Result, Ok, Err, IfOk, IfErr}
+use Rattle.mx_types.specs.Code.{is_link_code}
 use Rattle.mx_types.specs.declared.code.Code.{Code}
 use Rattle.mx_request.specs.Endpoint.{HostAndPort}
 use Rattle.mx_link.specs.declared.answers.Answer.{Answer}
@@ -35,13 +36,14 @@ pub data Opens {L : Type 0} (token_of : L → ℕ) (endpoint : HostAndPort) (old
   refused : IfOk answer (λ _. ⊥) → new ≡ old → is ≡ was ++ opened endpoint (numbered token_of answer) ∷ lacked false ∷ []
       → Opens token_of endpoint old new was is answer
   -- it couldn't for that cause; then all idle links were dropped, and this came of a second try
-  once_more : (c : Code) → new ≡ cleared old
+  once_more : (c : Code) → is_link_code c ≡ true → new ≡ cleared old
       → is ≡ was ++ opened endpoint (Err c) ∷ lacked true ∷ asked endpoint true ∷ opened endpoint (numbered token_of answer) ∷ []
       → Opens token_of endpoint old new was is answer
 
 -- it couldn't for that cause; then all idle links were dropped, and it said that none can be opened yet
 pub record IsPutOff {L : Type 0} (endpoint : HostAndPort) (old new : Idle L) (was is : List Said) : Type 0 where
   pub code : Code
+  pub cause : is_link_code code ≡ true
   pub dropped : new ≡ cleared old
   pub meanwhile : is ≡ was ++ opened endpoint (Err code) ∷ lacked true ∷ asked endpoint false ∷ []
 

@@ -95,17 +95,17 @@ pub data Supplied {L : Type 0} (history : L → List Answer) (token_of : L → �
   fails : (c : Code) → WantsLink t.now → MustOpen t idle → left ≡ idle → is_link_code c ≡ true → new ≡ unserved t c
       → Supplied history token_of t new idle left (asked t.now.request.endpoint true ∷ opened t.now.request.endpoint (Err c) ∷ lacked false ∷ [])
   -- where it fails for that cause, all idle links are dropped; and where one can then be opened, it is given one that the gate opens
-  reopens : (c : Code) (link : L) → WantsLink t.now → MustOpen t idle → left ≡ cleared idle → history link ≡ [] → new ≡ served_by t link false
-      → Supplied history token_of t new idle left
+  reopens : (c : Code) (link : L) → WantsLink t.now → MustOpen t idle → left ≡ cleared idle → is_link_code c ≡ true → history link ≡ []
+      → new ≡ served_by t link false → Supplied history token_of t new idle left
       (asked t.now.request.endpoint true ∷ opened t.now.request.endpoint (Err c) ∷ lacked true ∷ asked t.now.request.endpoint true
       ∷ opened t.now.request.endpoint (Ok (token_of link)) ∷ [])
   -- where that fails, too, it gets the code of why
-  gives_up : (c again : Code) → WantsLink t.now → MustOpen t idle → left ≡ cleared idle → is_link_code again ≡ true → new ≡ unserved t again
-      → Supplied history token_of t new idle left
+  gives_up : (c again : Code) → WantsLink t.now → MustOpen t idle → left ≡ cleared idle → is_link_code c ≡ true → is_link_code again ≡ true
+      → new ≡ unserved t again → Supplied history token_of t new idle left
       (asked t.now.request.endpoint true ∷ opened t.now.request.endpoint (Err c) ∷ lacked true ∷ asked t.now.request.endpoint true
       ∷ opened t.now.request.endpoint (Err again) ∷ [])
   -- and where none can be opened yet, it is given none in this turn
-  puts_off : (c : Code) → WantsLink t.now → MustOpen t idle → left ≡ cleared idle → new ≡ t
+  puts_off : (c : Code) → WantsLink t.now → MustOpen t idle → left ≡ cleared idle → is_link_code c ≡ true → new ≡ t
       → Supplied history token_of t new idle left
       (asked t.now.request.endpoint true ∷ opened t.now.request.endpoint (Err c) ∷ lacked true ∷ asked t.now.request.endpoint false ∷ [])
 
