@@ -1,8 +1,9 @@
 //! A run of a crew, beside an application.
-ghost use Rattle.std.specs.Prelude.{◌≡◌, ◌≤◌, ◌+◌, IfErr, IfOk, MatchResult, OnErr, OnOk, Result, Ok, Err, vec_capacity, vec_len};
+ghost use Rattle.std.specs.Prelude.{◌≡◌, ◌≤◌, ◌+◌, true, IfErr, IfOk, MatchResult, OnErr, OnOk, Result, Ok, Err, vec_capacity, vec_len};
 ghost use Rattle.mx_run_io.specs.declared.stop.Stop.{Stop as WhyNone};
 ghost use Rattle.std.specs.Thread.{IsSync};
 ghost use Rattle.mx_run_io.specs.declared.stop.Stop.TheVariants as stop;
+ghost use Rattle.mx_crew.specs.Stops.{is_crew_stop};
 
 use crate::crew::Crew;
 use crate::gate::Common;
@@ -35,6 +36,7 @@ fn keep<D: Drop, E: Drop>(
     ensures most { vec_len handles.new ≤ vec_len handles.old + 1 }
     ensures room { vec_capacity handles.new ≡ vec_capacity handles.old }
     ensures cause { IfErr result (λ e. e ≡ stop.NoThread) }
+    ensures why { IfErr result (λ e. is_crew_stop e ≡ true) }
 {
     match started {
         Ok(handle) => {
@@ -65,6 +67,7 @@ fn start_one<
     ensures kept { OnOk result (vec_len handles.new ≡ vec_len handles.old + 1) }
     ensures most { vec_len handles.new ≤ vec_len handles.old + 1 }
     ensures room { vec_capacity handles.new ≡ vec_capacity handles.old }
+    ensures why { IfErr result (λ e. is_crew_stop e ≡ true) }
 {
     let started = scope.spawn(
         move || -> D
@@ -94,6 +97,7 @@ fn start_all<
     requires room { vec_len jobs.old ≤ vec_capacity handles.old }
     ensures started { OnOk result (vec_len handles.new ≡ vec_len jobs.old) }
     ensures most { vec_len handles.new ≤ vec_len jobs.old }
+    ensures why { IfErr result (λ e. is_crew_stop e ≡ true) }
 {
     while let Some(job) = jobs.pop() {
         start_one(scope, rt, common, job, handles)?;
@@ -109,7 +113,9 @@ fn stand<R: Wait>(
     started: Result<(), Stop>,
     count: usize,
 ) -> Result<(), Stop>
-    ensures { OnOk result (started ≡ Ok tt) }
+    requires why { IfErr started (λ e. is_crew_stop e ≡ true) }
+    ensures started { OnOk result (started ≡ Ok tt) }
+    ensures why { IfErr result (λ e. is_crew_stop e ≡ true) }
 {
     let stands = match started {
         Ok(()) => common.starts.await_one(rt, count),
@@ -137,7 +143,9 @@ fn join_all<R: Threads, D: Drop>(rt: &R, handles: Vec<JoinHandle<D>>, mut done: 
 
 // What came of the jobs, where there is a crew.
 fn done_if<D: Drop>(stands: Result<(), Stop>, done: Vec<D>) -> Result<Vec<D>, Stop>
-    ensures { MatchResult result (λ d. (stands ≡ Ok tt) × (d ≡ done)) (λ e. stands ≡ Err e) }
+    requires why { IfErr stands (λ e. is_crew_stop e ≡ true) }
+    ensures done { MatchResult result (λ d. (stands ≡ Ok tt) × (d ≡ done)) (λ e. stands ≡ Err e) }
+    ensures why { IfErr result (λ e. is_crew_stop e ≡ true) }
 {
     match stands {
         Ok(()) => Ok(done),
@@ -166,19 +174,21 @@ fn run_all<
     rooms: (Vec<JoinHandle<D>>, Vec<D>),
     application: F,
 ) -> (T, Result<Vec<D>, Stop>)
-    requires application { (stands : Result Unit WhyNone) → F.pre application stands }
+    requires application { (stands : Result Unit WhyNone) → IfErr stands (λ e. is_crew_stop e ≡ true) → F.pre application stands }
     requires none { (vec_len rooms.0 ≡ 0) × (vec_len rooms.1 ≡ 0) }
     requires room { (vec_len jobs ≤ vec_capacity rooms.0) × (vec_len jobs ≤ vec_capacity rooms.1) }
     ensures told { MatchResult result.1 (λ done. F.post application (Ok tt) result.0 × (vec_len done ≡ vec_len jobs)) (λ e. F.post application (Err e) result.0) }
+    ensures why { IfErr result.1 (λ e. is_crew_stop e ≡ true) }
 {
     let (handles, done) = rooms;
     thread::scope(
         thread::scope_env(),
         rt,
         move |scope| -> (T, Result<Vec<D>, Stop>)
-            requires { IsSync R.row × ((stands : Result Unit WhyNone) → F.pre application stands) × (vec_len handles ≡ 0) × (vec_len done ≡ 0)
+            requires { IsSync R.row × ((stands : Result Unit WhyNone) → IfErr stands (λ e. is_crew_stop e ≡ true) → F.pre application stands) × (vec_len handles ≡ 0) × (vec_len done ≡ 0)
                 × (vec_len jobs ≤ vec_capacity handles) × (vec_len jobs ≤ vec_capacity done) }
             ensures told { MatchResult result.1 (λ done. F.post application (Ok tt) result.0 × (vec_len done ≡ vec_len jobs)) (λ e. F.post application (Err e) result.0) }
+            ensures why { IfErr result.1 (λ e. is_crew_stop e ≡ true) }
         {
             let mut jobs = jobs;
             let mut handles = handles;
@@ -197,6 +207,7 @@ fn run_all<
 fn rooms<D: Drop>(alloc: Global, count: usize) -> Result<(Vec<JoinHandle<D>>, Vec<D>), Stop>
     ensures none { IfOk result (λ r. (vec_len r.0 ≡ 0) × (vec_len r.1 ≡ 0)) }
     ensures room { IfOk result (λ r. (count ≤ vec_capacity r.0) × (count ≤ vec_capacity r.1)) }
+    ensures why { IfErr result (λ e. is_crew_stop e ≡ true) }
 {
     let handles = Vec::with_capacity(alloc, count)?;
     match Vec::with_capacity(alloc, count) {
@@ -219,8 +230,9 @@ fn rooms<D: Drop>(alloc: Global, count: usize) -> Result<(Vec<JoinHandle<D>>, Ve
 /// `OutOfMemory` where memory for the threads' handles, or five times for the start of each worker, was refused, and `NoThread` where a
 /// thread couldn't be started: the workers that had started are dismissed then, and have ended. Posts and gates don't come back.
 ///
-/// Of all this the clauses say that what it answers first is what the application may return as it was told, and that it counts as many
-/// workers as there were posts. They don't say on which thread a worker runs, that it ends, or that its gate is that of its post.
+/// Of all this the clauses say that what it answers first is what the application may return as it was told, that it counts as many workers
+/// as there were posts, and that the errors are `OutOfMemory`, `NoPoll` and `NoThread` alone, of which the application is told no other. They
+/// don't say on which thread a worker runs, that it ends, or that its gate is that of its post.
 pub fn run_beside<
     'm,
     L: Link + Send,
@@ -234,8 +246,9 @@ pub fn run_beside<
     posts: Vec<Post<'m, L, G>>,
     application: F,
 ) -> (T, Result<Vec<Worked<G>>, Stop>)
-    requires { (stands : Result Unit WhyNone) → F.pre application stands }
+    requires { (stands : Result Unit WhyNone) → IfErr stands (λ e. is_crew_stop e ≡ true) → F.pre application stands }
     ensures told { MatchResult result.1 (λ worked. F.post application (Ok tt) result.0 × (vec_len worked ≡ vec_len posts.entry)) (λ e. F.post application (Err e) result.0) }
+    ensures why { IfErr result.1 (λ e. is_crew_stop e ≡ true) }
 {
     match rooms(rt.alloc(), posts.len()) {
         Ok(rooms) => {

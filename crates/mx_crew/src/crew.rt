@@ -1,7 +1,8 @@
 //! What wakes workers, and what stops them.
-ghost use Rattle.std.specs.Prelude.{◌≡◌, ◌≤◌, ◌↔◌, IfOk, OnOk, vec_capacity, vec_len};
+ghost use Rattle.std.specs.Prelude.{◌≡◌, ◌≤◌, ◌↔◌, true, IfErr, IfOk, OnOk, vec_capacity, vec_len};
 ghost use Rattle.mx_types.specs.declared.code.Code.TheVariants as codes;
 ghost use Rattle.mx_run_io.specs.declared.stop.Stop.TheVariants as stop;
+ghost use Rattle.mx_crew.specs.Stops.{is_crew_stop};
 
 use mx_gate::{Bell, FileLimit, SocketGate};
 use mx_named_gate::{NameBell, NamedGate, PacedGate};
@@ -47,7 +48,8 @@ impl Drop for Crew {
 
 // Why there is no gate, by the code that says so.
 fn no_gate(code: Code) -> Stop
-    ensures { (result ≡ stop.OutOfMemory) ↔ (code ≡ codes.OutOfMemory) }
+    ensures memory { (result ≡ stop.OutOfMemory) ↔ (code ≡ codes.OutOfMemory) }
+    ensures why { is_crew_stop result ≡ true }
 {
     match code {
         Code::OutOfMemory => Stop::OutOfMemory,
@@ -132,7 +134,9 @@ impl Crew {
         &mut self,
         rt: &'r R,
         start: Instant,
-    ) -> Result<SocketGate<'r, R>, Stop> {
+    ) -> Result<SocketGate<'r, R>, Stop>
+        ensures why { IfErr result (λ e. is_crew_stop e ≡ true) }
+    {
         match SocketGate::starting_at(rt, self.stop()?, start) {
             Ok(gate) => self.register(gate),
             Err(code) => Err(no_gate(code)),
@@ -143,7 +147,9 @@ impl Crew {
     fn register<'r, R: Net + Clock + AllocGlobal>(
         &mut self,
         gate: SocketGate<'r, R>,
-    ) -> Result<SocketGate<'r, R>, Stop> {
+    ) -> Result<SocketGate<'r, R>, Stop>
+        ensures why { IfErr result (λ e. is_crew_stop e ≡ true) }
+    {
         match self.know(&gate) {
             Ok(()) => Ok(gate),
             Err(error) => {
@@ -163,13 +169,17 @@ impl Crew {
         rt: &'r R,
         start: Instant,
         resolver: &Resolver<L, NameBell>,
-    ) -> Result<PacedGate<NamedGate<'r, R, L>>, Stop> {
+    ) -> Result<PacedGate<NamedGate<'r, R, L>>, Stop>
+        ensures why { IfErr result (λ e. is_crew_stop e ≡ true) }
+    {
         let gate = self.socket_gate(rt, start)?;
         Ok(PacedGate::new(NamedGate::new(rt, gate, resolver)?))
     }
 
     // Keeps the waker of the worker at this gate, and the flag that says whether too many files were open for it.
-    fn know<R: Net + Clock + AllocGlobal>(&mut self, gate: &SocketGate<'_, R>) -> Result<(), Stop> {
+    fn know<R: Net + Clock + AllocGlobal>(&mut self, gate: &SocketGate<'_, R>) -> Result<(), Stop>
+        ensures why { IfErr result (λ e. is_crew_stop e ≡ true) }
+    {
         self.bells.push(gate.bell()?)?;
         self.file_limits.push(gate.file_limit()?)?;
         Ok(())
@@ -178,7 +188,8 @@ impl Crew {
     /// So many gates, which this crew wakes and stops. They share a resolver, and their clocks and its own have one start. A thread begins
     /// the lookups that they want. Nobody joins it, nor the threads of lookups: a program ends without them.
     ///
-    /// `NoThread` comes where that thread couldn't be started, `NoPoll` and `OutOfMemory` as they say; no clause says which comes.
+    /// The errors are `NoThread`, where that thread couldn't be started, `NoPoll` and `OutOfMemory`, as they say; no clause says which of them
+    /// comes.
     pub fn gates<
         'r,
         R: Net<Listener = TcpListener, Stream = TcpStream>
@@ -192,7 +203,8 @@ impl Crew {
             + Drop
             + 'static,
     >(&mut self, rt: &'r R, start: Instant, count: u8) -> Result<Vec<HostGate<'r, R>>, Stop>
-        ensures { IfOk result (λ gates. vec_len gates ≡ count) }
+        ensures count { IfOk result (λ gates. vec_len gates ≡ count) }
+        ensures why { IfErr result (λ e. is_crew_stop e ≡ true) }
     {
         let resolver = served(rt, start)?;
         let gates = self.named_gates(rt, start, &resolver, count);
@@ -212,7 +224,8 @@ impl Crew {
         resolver: &Resolver<L, NameBell>,
         count: u8,
     ) -> Result<Vec<PacedGate<NamedGate<'r, R, L>>>, Stop>
-        ensures { IfOk result (λ gates. vec_len gates ≡ count) }
+        ensures count { IfOk result (λ gates. vec_len gates ≡ count) }
+        ensures why { IfErr result (λ e. is_crew_stop e ≡ true) }
     {
         let mut gates = Vec::with_capacity(rt.alloc(), usize::from(count))?;
         match self.fill(rt, start, resolver, &mut gates, count) {
@@ -239,7 +252,8 @@ impl Crew {
     ) -> Result<(), Stop>
         requires none { vec_len gates.old ≡ 0 }
         requires room { count ≤ vec_capacity gates.old }
-        ensures { OnOk result (vec_len gates.new ≡ count) }
+        ensures made { OnOk result (vec_len gates.new ≡ count) }
+        ensures why { IfErr result (λ e. is_crew_stop e ≡ true) }
     {
         for made in 0..count {
             let _ = made;
@@ -261,7 +275,9 @@ fn served<
         + Sync
         + Drop
         + 'static,
->(rt: &R, start: Instant) -> Result<Resolver<SystemLookup<R>, NameBell>, Stop> {
+>(rt: &R, start: Instant) -> Result<Resolver<SystemLookup<R>, NameBell>, Stop>
+    ensures why { IfErr result (λ e. is_crew_stop e ≡ true) }
+{
     let resolver = Resolver::new(rt.alloc(), SystemLookup::new(*rt), start)?;
     match share(rt, &resolver) {
         Ok(()) => Ok(resolver),
@@ -276,7 +292,9 @@ fn served<
 fn share<
     L: Lookup + Send + Sync + Drop + 'static,
     R: Clock + AllocGlobal + Threads + Wait + Copy + Send + Drop + 'static,
->(rt: &R, resolver: &Resolver<L, NameBell>) -> Result<(), Stop> {
+>(rt: &R, resolver: &Resolver<L, NameBell>) -> Result<(), Stop>
+    ensures why { IfErr result (λ e. is_crew_stop e ≡ true) }
+{
     serve(rt, resolver.share()?)
 }
 
@@ -284,7 +302,9 @@ fn share<
 fn serve<
     L: Lookup + Send + Sync + Drop + 'static,
     R: Clock + AllocGlobal + Threads + Wait + Copy + Send + Drop + 'static,
->(rt: &R, resolver: Resolver<L, NameBell>) -> Result<(), Stop> {
+>(rt: &R, resolver: Resolver<L, NameBell>) -> Result<(), Stop>
+    ensures why { IfErr result (λ e. is_crew_stop e ≡ true) }
+{
     let there = *rt;
     match thread::spawn(rt, move || resolver.serve(&there)) {
         Ok(thread) => {

@@ -1,4 +1,6 @@
 //! Whether the workers of a run have started.
+ghost use Rattle.std.specs.Prelude.{◌≡◌, true, IfErr};
+ghost use Rattle.mx_crew.specs.Stops.{is_crew_stop};
 
 use mx_run_io::Stop;
 use std::sync::Wait;
@@ -30,7 +32,9 @@ impl Starts {
     }
 
     /// Waits until one of so many workers has started. `OutOfMemory` comes where the starts of all were refused.
-    pub fn await_one<R: Wait>(&self, rt: &R, count: usize) -> Result<(), Stop> {
+    pub fn await_one<R: Wait>(&self, rt: &R, count: usize) -> Result<(), Stop>
+        ensures why { IfErr result (λ e. is_crew_stop e ≡ true) }
+    {
         for _ in rt.forever() {
             let told = self.told.load(Ordering::SeqCst);
             if told % REFUSED > 0 || count == 0 {
