@@ -1,5 +1,5 @@
 //! The requests that were added at a seat, or at two, and what they ended with.
-ghost use Rattle.std.specs.Prelude.{◌≡◌, ◌<◌, false, All, count_by, length, slice_set, is_some, None, Some, IfErr, IfOk, IfSome, MatchOption, OnOk, slice_get, ◌↔◌, IsTrue, OnErr};
+ghost use Rattle.std.specs.Prelude.{◌≡◌, ◌⊎◌, ◌<◌, false, All, count_by, length, slice_set, is_some, None, Some, IfErr, IfOk, IfSome, MatchOption, OnOk, slice_get, ◌↔◌, IsTrue, OnErr};
 ghost use Rattle.mx_request.specs.Request.{request_origin};
 ghost use Rattle.mx_lock.specs.Ties.{Has, tie};
 ghost use Rattle.mx_desk.specs.Additions.{AreAtFirst, IsTold, awaits_at};
@@ -310,6 +310,7 @@ impl<'e, 'm, L: Link> Desk<'e, 'm, L> {
         requires told { Has (ties_at self.old.ties told.now.is_beside) (tie told.now.message.ticket (request_origin told.now.message.outcome.request)) }
         ensures ended { OnOk result (Ends self.old self.new at told.now.message.outcome.request) }
         ensures ties { self.new.ties ≡ self.old.ties }
+        ensures why { IfErr result (λ e. e ≡ stop.NoMessage) }
     {
         told.message.outcome.request().know();
         origin_is_whole_request();
@@ -330,7 +331,8 @@ impl<'e, 'm, L: Link> Desk<'e, 'm, L> {
     // Takes out an addition whose end came at that seat, and removes its handle there.
     fn close<R: Wait>(&mut self, rt: &R, at: usize, told: &Told) -> Result<(), Stop>
         requires told { Has (ties_at self.old.ties told.now.is_beside) (tie told.now.message.ticket (request_origin told.now.message.outcome.request)) }
-        ensures { OnOk result (Ends self.old self.new at told.now.message.outcome.request) }
+        ensures ended { OnOk result (Ends self.old self.new at told.now.message.outcome.request) }
+        ensures why { IfErr result (λ e. (e ≡ stop.OutOfMemory) ⊎ (e ≡ stop.NoMessage)) }
     {
         self.take(at, told)?;
         self.seats.remove(rt, told.is_beside, told.message.handle)
@@ -339,7 +341,8 @@ impl<'e, 'm, L: Link> Desk<'e, 'm, L> {
     // The end of a request that was added.
     fn end<R: Wait>(&mut self, rt: &R, told: Told) -> Result<Ended, Stop>
         requires told { Has (ties_at self.old.ties told.is_beside) (tie told.message.ticket (request_origin told.message.outcome.request)) }
-        ensures { IfOk result (λ e. Ends self.old self.new e.at e.outcome.request) }
+        ensures ended { IfOk result (λ e. Ends self.old self.new e.at e.outcome.request) }
+        ensures why { IfErr result (λ e. (e ≡ stop.OutOfMemory) ⊎ (e ≡ stop.NoMessage)) }
     {
         let at = told.message.handle.0 as usize;
         match self.close(rt, at, &told) {
@@ -359,13 +362,15 @@ impl<'e, 'm, L: Link> Desk<'e, 'm, L> {
     /// handle is removed. Where none came it answers None. After an error it isn't known what is added. Where requests are added at both
     /// seats it waits for less, so that a message of neither waits for long.
     ///
-    /// A removal that is refused memory is an error. No clause says that the handle is removed.
+    /// The errors are `OutOfMemory`, where the removal is refused memory, and `NoMessage`, where no message could be read, or one came that is
+    /// of no addition; no clause says which of the two comes. No clause says that the handle is removed.
     pub fn next<R: Wait + AllocGlobal + Clock>(
         &mut self,
         rt: &R,
         milliseconds: u32,
     ) -> Result<Option<Ended>, Stop>
         ensures ended { IfOk result (λ o. MatchOption o (Stays self.old self.new) (λ e. Ends self.old self.new e.at e.outcome.request)) }
+        ensures why { IfErr result (λ e. (e ≡ stop.OutOfMemory) ⊎ (e ≡ stop.NoMessage)) }
     {
         let first_waits = self.waiting > self.beside;
         let beside_waits = self.beside > 0;

@@ -78,6 +78,7 @@ fn remove_at<L: Link, R: Wait>(
     handle: HandleId,
 ) -> Result<(), Stop>
     ensures later { IsPrefix seat.old.ties seat.new.ties }
+    ensures why { IfErr result (λ e. e ≡ stop.OutOfMemory) }
 {
     match seat.remove(rt, handle) {
         Ok(RemoveReply::OutOfMemory) => Err(Stop::OutOfMemory),
@@ -226,6 +227,7 @@ impl<'e, 'm, L: Link> Seats<'e, 'm, L> {
     /// Removes a handle at the seat at which it was added.
     pub fn remove<R: Wait>(&mut self, rt: &R, is_beside: bool, handle: HandleId) -> Result<(), Stop>
         ensures later { AreLater self.old self.new }
+        ensures why { IfErr result (λ e. e ≡ stop.OutOfMemory) }
     {
         match &mut self.beside {
             Some(seat) if is_beside => remove_at(rt, seat, handle),
