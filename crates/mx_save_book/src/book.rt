@@ -192,9 +192,9 @@ impl<F: Folder, W: Write> Book<F, W> {
         }
     }
 
-    /// The request of the URL that waits in that slot, once more. An error comes where a growth was refused, or none waits there.
+    /// The request of the URL that waits in that slot, once more. An error comes where a growth was refused, or none waits there, and may come
+    /// where the run has stopped.
     pub fn request(&self, at: usize) -> Result<Request, OutOfMemory>
-        requires going { self.now.is_stopped ≡ false }
         ensures { IfOk result (λ r. IsJobFor self.now.asking self.now.slots at r × IsRequest r) }
     {
         let Some(job) = waiting_job(self.slots.as_slice(), at) else {
@@ -204,6 +204,7 @@ impl<F: Folder, W: Write> Book<F, W> {
             Ok(request) => Ok(request),
             Err(why) => match why {
                 RequestError::OutOfMemory => Err(OutOfMemory),
+                _ if self.is_stopped => Err(OutOfMemory),
                 _ => unreachable!(),
             },
         }

@@ -161,7 +161,6 @@ impl<'a, F: Folder, W: Write, R: Read + Drop> Work<'a, F, W, R> {
 
     /// The slot of a URL whose wait is over, and its request. `OutOfMemory` alone is an error.
     pub fn again(&mut self, now: u64) -> Result<Option<(usize, Request)>, Stop>
-        requires going { self.old.book.is_stopped ≡ false }
         ensures asked { IfOk result (λ due. IfSome due (λ d. IsJobFor self.new.book.asking self.new.book.slots d.0 d.1 × IsRequest d.1)) }
         ensures why { IfErr result (λ e. e ≡ stop.OutOfMemory) }
         ensures book { self.new.book ≡ self.old.book }
