@@ -509,10 +509,12 @@ fn again(mut job: Job) -> Job
 
 /// So many free slots.
 pub fn free_slots(alloc: Global, count: usize) -> Result<Vec<Slot>, OutOfMemory>
-    ensures { IfOk result (λ slots. All (λ s. s ≡ slot.Free) slots.items) }
+    ensures free { IfOk result (λ slots. All (λ s. s ≡ slot.Free) slots.items) }
+    ensures count { IfOk result (λ slots. length slots.items ≡ count) }
 {
     let mut slots = Vec::with_capacity(alloc, count)?;
-    for _ in 0..count {
+    for made in 0..count {
+        let _ = made;
         slots.push(Slot::Free)?;
     }
     Ok(slots)

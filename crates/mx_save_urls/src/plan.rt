@@ -49,10 +49,12 @@ impl Plan {
         u64::from(self.history) < urls.saturating_mul(each)
     }
 
+    // rule save-places
     /// The same as `limits`, with numbers for as many URLs as may have no end yet, of which as many are fetched at a time as the plan says.
     pub fn room(&self) -> Room
         requires { IsPlan self.now }
         ensures limits { IsRoomOf self.now result }
+        ensures numbers { result.numbers ≡ MOST_PENDING }
         ensures within { are_limits_within result.limits ≡ true }
     {
         Room {

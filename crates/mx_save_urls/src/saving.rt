@@ -1,5 +1,5 @@
 //! A run, from its URLs to their ends.
-ghost use Rattle.std.specs.Prelude.{◌≡◌, [], false, All, IfOk, OnOk};
+ghost use Rattle.std.specs.Prelude.{◌≡◌, [], false, All, IfOk, OnOk, length};
 ghost use Rattle.mx_save_book.specs.Books.{HasNoneAdded};
 ghost use Rattle.mx_save_book.specs.declared.job.Slot.TheVariants as slot;
 ghost use Rattle.mx_save_urls.specs.Feeds.{left};
@@ -73,9 +73,11 @@ fn run_boxed<
     }
 }
 
-// The moment at which a run begins, and its slots.
+// rule save-places
+// The moment at which a run begins, and its slots: one for each URL that may have no end yet.
 fn start_and_slots<R: AllocGlobal + Clock>(rt: &R) -> Result<(Instant, Vec<Slot>), Stop>
-    ensures { IfOk result (λ both. All (λ s. s ≡ slot.Free) both.1.items) }
+    ensures free { IfOk result (λ both. All (λ s. s ≡ slot.Free) both.1.items) }
+    ensures count { IfOk result (λ both. length both.1.items ≡ MOST_PENDING) }
 {
     match Instant::now(rt) {
         Ok(start) => Ok((start, free_slots(rt.alloc(), MOST_PENDING)?)),
