@@ -1,5 +1,5 @@
 -- The URLs that are still to be read.
-use Rattle.std.specs.Prelude.{◌≡◌, ℕ, Bool, Box, true, List, [], ◌++◌, drop, map, Option, Some, None, option_map, option_to_list}
+use Rattle.std.specs.Prelude.{◌≡◌, ◌⊎◌, ℕ, ◌<◌, Bool, Box, true, List, [], ◌++◌, drop, length, map, Option, Some, None, IsSome, option_map, option_to_list}
 use Rattle.mx_url_list.specs.Left.{entries_left}
 use Rattle.mx_url_list.specs.declared.list.UrlList.{UrlList}
 use Rattle.mx_save_urls.specs.Texts.{bytes_of}
@@ -13,6 +13,10 @@ list_left remaining (Some list) = option_map (map bytes_of) (entries_left remain
 -- the URL of the list that is at hand, if one is
 abbrev pub at_hand : {R : Type 0} → Feed R → List (List ℕ)
 at_hand feed = option_to_list (option_map (λ v. v.items) feed.ahead)
+
+-- the next URL is at hand: one of the command line is left, or that of the list is
+abbrev pub HasUrl : {R : Type 0} → Feed R → Type 0
+HasUrl feed = (feed.next < length feed.urls.now) ⊎ IsSome feed.ahead
 
 -- what is left of all, where that is known
 abbrev pub left : {R : Type 0} → (R → Option (List ℕ)) → Feed R → Option (List (List ℕ))

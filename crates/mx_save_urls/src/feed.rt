@@ -47,7 +47,8 @@ fn bytes_of(entry: Entry) -> Vec<u8>
 
 // How the URLs go on where the list gave none, or why it isn't read on.
 fn without(error: ListError) -> Result<Ahead, Stop>
-    ensures { IfOk result (λ how. how ≢ ahead.End) }
+    ensures end { IfOk result (λ how. how ≢ ahead.End) }
+    ensures url { IfOk result (λ how. how ≢ ahead.Url) }
 {
     match error {
         ListError::Unread => Err(Stop::Unread),
@@ -58,8 +59,8 @@ fn without(error: ListError) -> Result<Ahead, Stop>
 }
 
 impl<'a, R: Read + Drop> Feed<'a, R> {
-    ghost use Rattle.std.specs.Prelude.{IfOk, None, OnErr, map, option_map, ◌++◌};
-    ghost use Rattle.mx_save_urls.specs.Feeds.{left, list_left, Gives, IsUsedUp, Keeps};
+    ghost use Rattle.std.specs.Prelude.{IfOk, IsSome, None, OnErr, map, option_map, ◌++◌};
+    ghost use Rattle.mx_save_urls.specs.Feeds.{left, list_left, Gives, HasUrl, IsUsedUp, Keeps};
 
     /// The URLs, of which none was read yet.
     pub fn new(alloc: Global, urls: &'a [&'a str], list: Option<Box<UrlList<R>>>) -> Feed<'a, R>
@@ -87,6 +88,7 @@ impl<'a, R: Read + Drop> Feed<'a, R> {
         requires none { (self.old.ahead ≡ None) × (self.old.next ≡ length self.old.urls.now) }
         ensures kept { Keeps (left R.remaining self.old) (left R.remaining self.new) }
         ensures end { IfOk result (λ how. how ≡ ahead.End → IsUsedUp (left R.remaining self.old)) }
+        ensures url { IfOk result (λ how. how ≡ ahead.Url → HasUrl self.new) }
     {
         let Some(list) = &mut self.list else {
             return Ok(Ahead::End);
@@ -107,6 +109,7 @@ impl<'a, R: Read + Drop> Feed<'a, R> {
     pub fn look_ahead(&mut self) -> Result<Ahead, Stop>
         ensures kept { Keeps (left R.remaining self.old) (left R.remaining self.new) }
         ensures end { IfOk result (λ how. how ≡ ahead.End → IsUsedUp (left R.remaining self.old)) }
+        ensures url { IfOk result (λ how. how ≡ ahead.Url → HasUrl self.new) }
     {
         if self.next < self.urls.len() || self.ahead.is_some() {
             return Ok(Ahead::Url);
@@ -114,11 +117,12 @@ impl<'a, R: Read + Drop> Feed<'a, R> {
         self.read_list()
     }
 
-    /// The next URL, or None where none is at hand.
+    /// The next URL, or None where none is at hand: after `look_ahead` has answered `Url` one is.
     ///
     /// An error says that memory was refused: the same URLs are left.
     pub fn next(&mut self) -> Result<Option<Vec<u8>>, Stop>
         ensures next { IfOk result (λ said. Gives (left R.remaining self.old) said (λ v. v.items) (left R.remaining self.new)) }
+        ensures some { HasUrl self.old → IfOk result IsSome }
         ensures kept { OnErr result (Keeps (left R.remaining self.old) (left R.remaining self.new)) }
     {
         if self.next < self.urls.len() {
