@@ -138,11 +138,24 @@ impl WritePlan {
 /// history.
 ///
 /// After its list a read answers `End`, and a write takes everything. It is connected from the start, and its token is 0.
-#[derive(Drop)]
 pub struct ScriptLink {
     reads: ReadPlan,
     writes: WritePlan,
     answers: Answers,
+}
+
+// Written out, and not derived: a crate that drops a link cites its proof.
+impl Drop for ScriptLink {
+    fn drop(self) {
+        let ScriptLink {
+            reads,
+            writes,
+            answers,
+        } = self;
+        drop(reads);
+        drop(writes);
+        drop(answers);
+    }
 }
 
 impl Model for ScriptLink {

@@ -13,10 +13,18 @@ use std::marker::Model;
 // The stream is handed to nobody: a read that bypasses the link would be in no list of results. A poll gets it by `register`.
 /// A TCP stream, with its system calls and their results for contracts alone. Contracts see these; what a socket gives and
 /// takes, and when, no contract can say.
-#[derive(Drop)]
 pub struct TcpSocket {
     stream: TcpStream,
     results: History<Called>,
+}
+
+// Written out, and not derived: a crate that drops a socket cites its proof.
+impl Drop for TcpSocket {
+    fn drop(self) {
+        let TcpSocket { stream, results } = self;
+        drop(stream);
+        drop(results);
+    }
 }
 
 impl Model for TcpSocket {

@@ -148,11 +148,23 @@ fn connect_of(error: Result<Option<ErrorKind>, ErrorKind>, peer: Result<(), Erro
 
 /// A link over a stream. Each of its answers is what the stream's result means; a read or a write that was interrupted
 /// (EINTR) is made again at once, at most 64 times in a row.
-#[derive(Drop)]
 pub struct StreamLink<S: Stream> {
     pub(crate) stream: S,
     pub(crate) token: u64,
     answers: Answers,
+}
+
+// Written out, and not derived: a crate that drops a link cites its proof.
+impl<S: Stream> Drop for StreamLink<S> {
+    fn drop(self) {
+        let StreamLink {
+            stream,
+            token: _,
+            answers,
+        } = self;
+        drop(stream);
+        drop(answers);
+    }
 }
 
 impl<S: Stream> Model for StreamLink<S> {
