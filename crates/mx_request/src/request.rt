@@ -26,7 +26,6 @@ const MOST_BODY: usize = 1_048_576;
 
 /// A request: its method, its URL, where it goes, the bytes that go there, and how long it may take; and what a request that follows
 /// it is made from: its settings, and the endpoint of the first request of its chain. Contracts see it as these.
-#[derive(Drop)]
 pub struct Request {
     method: Method,
     url: Url,
@@ -34,6 +33,25 @@ pub struct Request {
     first: Endpoint,
     endpoint: Endpoint,
     bytes: Vec<u8>,
+}
+
+// Written out, and not derived: a crate that drops a request cites its proof.
+impl Drop for Request {
+    fn drop(self) {
+        let Request {
+            method: _,
+            url,
+            settings,
+            first,
+            endpoint,
+            bytes,
+        } = self;
+        drop(url);
+        drop(settings);
+        drop(first);
+        drop(endpoint);
+        drop(bytes);
+    }
 }
 
 impl Model for Request {
