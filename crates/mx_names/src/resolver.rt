@@ -46,9 +46,16 @@ struct Shared<L: Lookup, B> {
 
 /// A resolver of hosts, for any number of threads. Each lookup runs on a thread of its own, so only `serve` waits for lookups; the other
 /// calls wait for each other's access to the table alone. Nobody joins these threads: a program ends without them.
-#[derive(Drop)]
 pub struct Resolver<L: Lookup, B> {
     shared: Arc<Shared<L, B>>,
+}
+
+// Written out, and not derived: a crate that drops a resolver cites its proof.
+impl<L: Lookup + Drop, B: Drop> Drop for Resolver<L, B> {
+    fn drop(self) {
+        let Resolver { shared } = self;
+        drop(shared);
+    }
 }
 
 // The moment, in milliseconds since the start, and none before the one given.
