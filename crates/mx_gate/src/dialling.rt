@@ -35,7 +35,6 @@ pub trait Dial: Drop {
 /// address that is refused while others are left is reported as a connection that is still being made. All have one token.
 ///
 /// No clause says that the next address is dialled only after a refusal.
-#[derive(Drop)]
 pub struct DialLink<D: Dial> {
     dial: D,
     left: VecDeque<SocketAddr>,
@@ -43,6 +42,25 @@ pub struct DialLink<D: Dial> {
     may_dial: bool,
     history: History<Answer>,
     asked: History<usize>,
+}
+
+// Written out, and not derived: a crate that drops a link cites its proof.
+impl<D: Dial> Drop for DialLink<D> {
+    fn drop(self) {
+        let DialLink {
+            dial,
+            left,
+            link,
+            may_dial: _,
+            history,
+            asked,
+        } = self;
+        drop(dial);
+        drop(left);
+        drop(link);
+        drop(history);
+        drop(asked);
+    }
 }
 
 impl<D: Dial> Model for DialLink<D> {

@@ -15,7 +15,6 @@ use std::sync::Arc;
 ///
 /// No clause says that the link is asked again once the gate has reported something new of it, or that a link whose end was reported is
 /// read until it gives that end.
-#[derive(Drop)]
 pub struct ReadyLink<L: Link> {
     link: L,
     signals: Arc<Signals>,
@@ -31,6 +30,29 @@ pub struct ReadyLink<L: Link> {
     ends_before: u64,
     history: History<Answer>,
     asked: History<usize>,
+}
+
+// Written out, and not derived: a crate that drops a link cites its proof.
+impl<L: Link> Drop for ReadyLink<L> {
+    fn drop(self) {
+        let ReadyLink {
+            link,
+            signals,
+            reads_told: _,
+            writes_told: _,
+            waits_to_connect: _,
+            waits_to_read: _,
+            waits_to_write: _,
+            is_drained: _,
+            ends_before: _,
+            history,
+            asked,
+        } = self;
+        drop(link);
+        drop(signals);
+        drop(history);
+        drop(asked);
+    }
 }
 
 impl<L: Link> Model for ReadyLink<L> {

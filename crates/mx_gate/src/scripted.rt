@@ -19,7 +19,6 @@ use std::marker::Model;
 ///
 /// After its script a link can be opened, an `open` answers `CouldntConnect`, for another cause than too many open files, the moment stays,
 /// and turns answer `Stop`. It never waits.
-#[derive(Drop)]
 pub struct ScriptGate<L: Link> {
     openings: VecDeque<Result<L, Code>>,
     moments: VecDeque<u64>,
@@ -29,6 +28,27 @@ pub struct ScriptGate<L: Link> {
     latest: u64,
     last_wait: Option<u32>,
     said: History<Said>,
+}
+
+// Written out, and not derived: a crate that drops a gate cites its proof.
+impl<L: Link> Drop for ScriptGate<L> {
+    fn drop(self) {
+        let ScriptGate {
+            openings,
+            moments,
+            asks,
+            lacks,
+            turns: _,
+            latest: _,
+            last_wait: _,
+            said,
+        } = self;
+        drop(openings);
+        drop(moments);
+        drop(asks);
+        drop(lacks);
+        drop(said);
+    }
 }
 
 impl<L: Link> Model for ScriptGate<L> {

@@ -68,11 +68,23 @@ impl Shared {
 }
 
 /// What opens the connections of one link of a `SocketGate`, and has its poll report when they are ready. Contracts see what it dialled.
-#[derive(Drop)]
 pub struct SocketDial<'r, R> {
     rt: &'r R,
     shared: Arc<Shared>,
     dialled: History<SocketAddr>,
+}
+
+// Written out, and not derived: a crate that drops a dialler cites its proof.
+impl<'r, R> Drop for SocketDial<'r, R> {
+    fn drop(self) {
+        let SocketDial {
+            rt: _,
+            shared,
+            dialled,
+        } = self;
+        drop(shared);
+        drop(dialled);
+    }
 }
 
 impl<'r, R> Model for SocketDial<'r, R> {
@@ -115,9 +127,16 @@ impl<R: Net> Dial for SocketDial<'_, R> {
 }
 
 /// Ends a wait of its gate from any thread.
-#[derive(Drop)]
 pub struct Bell {
     waker: Arc<Waker>,
+}
+
+// Written out, and not derived: a crate that drops a bell cites its proof.
+impl Drop for Bell {
+    fn drop(self) {
+        let Bell { waker } = self;
+        drop(waker);
+    }
 }
 
 impl Bell {
@@ -129,9 +148,16 @@ impl Bell {
 }
 
 /// Whether too many files were open for a connection of its gate, from any thread.
-#[derive(Drop)]
 pub struct FileLimit {
     shared: Arc<Shared>,
+}
+
+// Written out, and not derived: a crate that drops one cites its proof.
+impl Drop for FileLimit {
+    fn drop(self) {
+        let FileLimit { shared } = self;
+        drop(shared);
+    }
 }
 
 impl FileLimit {
@@ -146,7 +172,6 @@ impl FileLimit {
 /// A gate that opens TCP connections, and waits until one of them is ready. A link of it that would have waited makes no system call before
 /// something new was reported of its connection. Contracts see the latest moment given, the token of its next link, whether its last turn
 /// saw the flag that stops it, and all that was said. What the network answers, and when, no contract can say.
-#[derive(Drop)]
 pub struct SocketGate<'r, R> {
     rt: &'r R,
     poll: Poll,
@@ -164,6 +189,39 @@ pub struct SocketGate<'r, R> {
     found: History<Found>,
     dialled: History<SocketAddr>,
     said: History<Said>,
+}
+
+// Written out, and not derived: a crate that drops a gate cites its proof.
+impl<'r, R> Drop for SocketGate<'r, R> {
+    fn drop(self) {
+        let SocketGate {
+            rt: _,
+            poll,
+            shared,
+            events,
+            bell,
+            signals,
+            stop,
+            start: _,
+            latest: _,
+            next_token: _,
+            is_stopped: _,
+            looked_at: _,
+            may_skip: _,
+            found,
+            dialled,
+            said,
+        } = self;
+        drop(poll);
+        drop(shared);
+        drop(events);
+        drop(bell);
+        drop(signals);
+        drop(stop);
+        drop(found);
+        drop(dialled);
+        drop(said);
+    }
 }
 
 impl<'r, R> Model for SocketGate<'r, R> {
