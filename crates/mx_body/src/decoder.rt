@@ -30,7 +30,6 @@ pub enum Stand {
 /// request, the bytes fed, whether they have ended, and the verdict on them.
 ///
 /// Once it has decided it takes no more: each further call changes nothing and answers the same.
-#[derive(Drop)]
 pub struct Decoder {
     alloc: Global,
     method: Method,
@@ -38,6 +37,23 @@ pub struct Decoder {
     ended: bool,
     verdict: Verdict,
     progress: Progress,
+}
+
+// Written out, and not derived: a crate that drops a decoder cites its proof.
+impl Drop for Decoder {
+    fn drop(self) {
+        let Decoder {
+            alloc: _,
+            method: _,
+            wire,
+            ended: _,
+            verdict,
+            progress,
+        } = self;
+        drop(wire);
+        drop(verdict);
+        drop(progress);
+    }
 }
 
 impl Model for Decoder {
@@ -232,7 +248,17 @@ impl Decoder {
     pub fn into_wire(self) -> Vec<u8>
         ensures { result.items ≡ self.wire }
     {
-        self.wire
+        let Decoder {
+            alloc: _,
+            method: _,
+            wire,
+            ended: _,
+            verdict,
+            progress,
+        } = self;
+        drop(verdict);
+        drop(progress);
+        wire
     }
 
     /// The bytes fed and where the data of the body are in them, by move. There are no parts where there is no
@@ -249,8 +275,9 @@ impl Decoder {
             wire,
             ended: _,
             verdict,
-            progress: _,
+            progress,
         } = self;
+        drop(progress);
         match verdict {
             Verdict::Complete { parts, .. } => (wire, parts),
             _ => (wire, Vec::new(alloc)),
