@@ -26,7 +26,6 @@ pub struct Want<'a> {
 }
 
 /// A request and the link that serves it, if one does.
-#[derive(Drop)]
 pub struct Exchange<L: Link> {
     alloc: Global,
     about: Snapshot<Request>,
@@ -38,6 +37,26 @@ pub struct Exchange<L: Link> {
     is_paused: bool,
     is_polled: bool,
     deadline: Option<u64>,
+}
+
+// Written out, and not derived: a crate that drops an exchange cites its proof.
+impl<L: Link> Drop for Exchange<L> {
+    fn drop(self) {
+        let Exchange {
+            alloc: _,
+            about,
+            stage,
+            needs_fresh: _,
+            is_started: _,
+            failure: _,
+            moment: _,
+            is_paused: _,
+            is_polled: _,
+            deadline: _,
+        } = self;
+        drop(about);
+        drop(stage);
+    }
 }
 
 impl<L: Link> Model for Exchange<L> {
@@ -100,7 +119,7 @@ impl<L: Link> Exchange<L> {
     {
         let Exchange {
             alloc: _,
-            about: _,
+            about,
             stage,
             needs_fresh: _,
             is_started: _,
@@ -110,6 +129,7 @@ impl<L: Link> Exchange<L> {
             is_polled: _,
             deadline: _,
         } = self;
+        drop(about);
         match stage {
             Stage::Live(live) => live.request,
             Stage::Ended(_) => unreachable!(),

@@ -22,7 +22,6 @@ use std::snapshot::Snapshot;
 /// What an exchange ended with: its request, the bytes of the response, the code, the status, and where the data of the body and the value
 /// of the first Location line are in the bytes. For contracts alone it also has what its link answered since it was attached or probed, and
 /// whether that link was in use before.
-#[derive(Drop)]
 pub struct Hop {
     request: Request,
     wire: Vec<u8>,
@@ -32,6 +31,27 @@ pub struct Hop {
     location: Option<BodyPart>,
     answers: Snapshot<History<Answer>>,
     is_reused: Snapshot<bool>,
+}
+
+// Written out, and not derived: a crate that drops a hop cites its proof.
+impl Drop for Hop {
+    fn drop(self) {
+        let Hop {
+            request,
+            wire,
+            code: _,
+            status: _,
+            parts,
+            location: _,
+            answers,
+            is_reused,
+        } = self;
+        drop(request);
+        drop(wire);
+        drop(parts);
+        drop(answers);
+        drop(is_reused);
+    }
 }
 
 impl Model for Hop {
@@ -175,7 +195,9 @@ impl Hop {
     pub fn into_request(self) -> Request
         ensures { result ≡ self.request }
     {
-        self.request
+        let (request, wire) = self.into_parts();
+        drop(wire);
+        request
     }
 
     /// The request and the bytes of the response, by move.
@@ -188,11 +210,14 @@ impl Hop {
             wire,
             code: _,
             status: _,
-            parts: _,
+            parts,
             location: _,
-            answers: _,
-            is_reused: _,
+            answers,
+            is_reused,
         } = self;
+        drop(parts);
+        drop(answers);
+        drop(is_reused);
         (request, wire)
     }
 
