@@ -1,5 +1,6 @@
 -- One more answer of a link that serves.
 use Rattle.std.proofs.Common.{◌≡◌, ℕ, Bool, true, false, List, [], ◌∷◌, ◌++◌, refl, sym, ◌∙◌, ap, subst, Option, Some, None}
+use Rattle.mx_types.specs.Method.{is_repeatable}
 use Rattle.mx_types.specs.declared.code.Code.{Code}
 use Rattle.mx_types.specs.declared.code.Code.TheVariants as code
 use Rattle.mx_types.specs.declared.method.Method.{Method}
@@ -13,7 +14,7 @@ use Rattle.mx_link.specs.Answers.{is_connect, given, given_by}
 use Rattle.mx_link.specs.declared.answers.Answer.{Answer}
 use Rattle.mx_link.specs.declared.answers.Answer.TheVariants as said
 use Rattle.mx_exchange.specs.Order.{is_last}
-use Rattle.mx_exchange.specs.Endings.{by_bytes, by_end, by_fault, by_memory, MustRetry, code_of, fault_code, is_loss, is_repeated, is_heard}
+use Rattle.mx_exchange.specs.Endings.{by_bytes, by_end, by_fault, by_memory, MustRetry, code_of, fault_code, is_loss, is_heard}
 use Rattle.mx_exchange.specs.Lines.{LineState, IsGoing, IsOver, Grows, StepsTo, StepSo}
 use Rattle.mx_exchange.specs.declared.calls.Step.{Step}
 use Rattle.mx_exchange.specs.declared.calls.Step.TheVariants as step
@@ -71,10 +72,10 @@ module _ (kind : Method) (past : List Answer) (d : Decoded) (g : IsGoing kind pa
         let both : true ≡ false = sym m.lost ∙ ap is_loss (sym same) ∙ fine in cc
 
     -- nor is one where that isn't due
-    unrepeated : (a : Answer) → given_by a ≡ [] → ¬ ((reused ≡ true) × (is_repeated kind ≡ true) × (d.wire ≡ [])) → ¬ (MustRetry kind reused (past ++ a ∷ []))
+    unrepeated : (a : Answer) → given_by a ≡ [] → ¬ ((reused ≡ true) × (is_repeatable kind ≡ true) × (d.wire ≡ [])) → ¬ (MustRetry kind reused (past ++ a ∷ []))
     unrepeated a gives never m = never (m.reused_is, m.repeated, g.wire ∙ sym (given-same past a gives) ∙ m.silent)
 
-    retry : (a : Answer) → given_by a ≡ [] → is_loss a ≡ true → (reused ≡ true) × (is_repeated kind ≡ true) × (d.wire ≡ []) → MustRetry kind reused (past ++ a ∷ [])
+    retry : (a : Answer) → given_by a ≡ [] → is_loss a ≡ true → (reused ≡ true) × (is_repeatable kind ≡ true) × (d.wire ≡ []) → MustRetry kind reused (past ++ a ∷ [])
     retry a gives lost h = record { reused_is = h.0; repeated = h.1; silent = given-same past a gives ∙ sym g.wire ∙ h.2; earlier = past; last = a; ends = refl; lost = lost }
 
     failed : (a : Answer) (c : Code) → given_by a ≡ [] → fault_code a ≡ Some c → ¬ (MustRetry kind reused (past ++ a ∷ [])) → IsOver kind reused (past ++ a ∷ []) d c
@@ -131,7 +132,7 @@ module _ {L : Type 0} (old new : LineState L) (d : Decoded) (g : IsGoing old.req
     pub Turn-unheard : Grows old new (said.ReadBlocked ∷ []) → StepsTo old new step.Blocked d
     Turn-unheard grows = turn step.Blocked said.ReadBlocked d grows (λ e. cc) kept (quiet said.ReadBlocked refl refl, refl)
 
-    module _ (due : (old.is_reused ≡ true) × (is_repeated old.request.method ≡ true) × (d.wire ≡ [])) where
+    module _ (due : (old.is_reused ≡ true) × (is_repeatable old.request.method ≡ true) × (d.wire ≡ [])) where
       again : (a : Answer) → given_by a ≡ [] → is_loss a ≡ true → is_connect a ≡ false → Grows old new (a ∷ []) → StepsTo old new step.Lost d
       again a gives lost other grows = turn step.Lost a d grows (λ e. let x : true ≡ false = sym e ∙ other in cc) kept (retry old.request.method old.answers d g old.is_reused a gives lost due)
 
@@ -144,7 +145,7 @@ module _ {L : Type 0} (old new : LineState L) (d : Decoded) (g : IsGoing old.req
       pub Turn-ended_retry : Grows old new (said.ReadEnded ∷ []) → StepsTo old new step.Lost d
       Turn-ended_retry grows = again said.ReadEnded refl refl refl grows
 
-    module _ (never : ¬ ((old.is_reused ≡ true) × (is_repeated old.request.method ≡ true) × (d.wire ≡ []))) where
+    module _ (never : ¬ ((old.is_reused ≡ true) × (is_repeatable old.request.method ≡ true) × (d.wire ≡ []))) where
       unrepeats : (a : Answer) → given_by a ≡ [] → ¬ (MustRetry old.request.method old.is_reused (old.answers ++ a ∷ []))
       unrepeats a gives = unrepeated old.request.method old.answers d g old.is_reused a gives never
 

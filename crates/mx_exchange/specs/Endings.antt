@@ -2,10 +2,10 @@
 use Rattle.std.specs.Prelude.{◌≡◌, ◌==◌, ℕ, Bool, true, false, ◌&&◌, ◌⊎◌, List, [], ◌∷◌, ◌++◌, length, Option, Some, None}
 use Rattle.std.specs.List.{list_any}
 use Rattle.mx_types.specs.Code.{is_link_code}
+use Rattle.mx_types.specs.Method.{is_repeatable}
 use Rattle.mx_types.specs.declared.code.Code.{Code}
 use Rattle.mx_types.specs.declared.code.Code.TheVariants as code
 use Rattle.mx_types.specs.declared.method.Method.{Method}
-use Rattle.mx_types.specs.declared.method.Method.TheVariants as method
 use Rattle.mx_body.specs.Decision.{IsVerdict}
 use Rattle.mx_body.specs.Decoder.{keep_of, len_of}
 use Rattle.mx_body.specs.declared.verdict.Verdict.{Verdict}
@@ -65,12 +65,6 @@ pub data EndsBy (kind : Method) (answers : List Answer) (wire : List ℕ) (v : V
 abbrev pub may_keep : Verdict → List ℕ → Bool
 may_keep v wire = keep_of v && (len_of v == length wire)
 
--- the methods that are sent again
-abbrev pub is_repeated : Method → Bool
-is_repeated method.Get = true
-is_repeated method.Head = true
-is_repeated _ = false
-
 -- the link ended or failed while it was written to or read
 abbrev pub is_loss : Answer → Bool
 is_loss said.WriteFailed = true
@@ -81,7 +75,7 @@ is_loss _ = false
 -- rule exchange-retry: A GET or HEAD on a reused link that was lost before a byte came needs a fresh link, once.
 pub record MustRetry (kind : Method) (reused : Bool) (answers : List Answer) : Type 0 where
   pub reused_is : reused ≡ true
-  pub repeated : is_repeated kind ≡ true
+  pub repeated : is_repeatable kind ≡ true
   pub silent : given answers ≡ []
   pub earlier : List Answer
   pub last : Answer

@@ -1,7 +1,7 @@
 //! One turn over a link.
 ghost use Rattle.std.specs.Prelude.{◌≡◌, ◌↔◌, IsTrue, true, false, ◌<◌, [], length};
+ghost use Rattle.mx_types.specs.Method.{is_repeatable};
 ghost use Rattle.mx_exchange.specs.Order.{most_read};
-ghost use Rattle.mx_exchange.specs.Endings.{is_repeated};
 ghost use Rattle.mx_exchange.specs.Lines.{IsLine, IsOpen, IsGoing, StepsTo, ServesTo};
 
 use crate::buffers::{READ_BYTES, ReadBuffer};
@@ -46,22 +46,14 @@ pub(crate) enum Halt {
 }
 
 // rule exchange-retry
-/// Whether requests of that method may be sent again: GET and HEAD, which change nothing at the server (RFC 9110, section 9.2.1).
-fn is_repeated(method: Method) -> bool
-    ensures { result ≡ is_repeated method }
-{
-    matches!(method, Method::Get | Method::Head)
-}
-
-// rule exchange-retry
 /// Whether a request of that method is sent again where a reused link is lost before it gave a byte.
 fn may_retry(method: Method, is_reused: bool, decoder: &Decoder) -> bool
-    ensures { IsTrue result ↔ ((is_reused ≡ true) × (is_repeated method ≡ true) × (decoder.now.wire ≡ [])) }
+    ensures { IsTrue result ↔ ((is_reused ≡ true) × (is_repeatable method ≡ true) × (decoder.now.wire ≡ [])) }
 {
     if !is_reused || !decoder.wire().is_empty() {
         return false;
     }
-    is_repeated(method)
+    method.is_repeatable()
 }
 
 impl<L: Link> Line<L> {

@@ -5,22 +5,13 @@ use Rattle.std.specs.Char.{is_ascii_digit}
 use Rattle.std.specs.List.{list_all, list_any}
 use Rattle.std.specs.Str.Parse.{digits_value}
 use Rattle.httparse.specs.Grammar.{ResponseHead, status_code}
+use Rattle.mx_types.specs.Method.{is_head}
 use Rattle.mx_types.specs.declared.code.Code.{Code}
 use Rattle.mx_types.specs.declared.code.Code.TheVariants.{WeirdServerReply, BadContentEncoding}
 use Rattle.mx_types.specs.declared.method.Method.{Method}
-use Rattle.mx_types.specs.declared.method.Method.TheVariants as method
 use Rattle.mx_head.specs.declared.types.Framing.{Framing}
 use Rattle.mx_head.specs.declared.types.Framing.TheVariants.{Empty, Counted, Chunked, Close}
 use Rattle.mx_head.specs.Fields.{lines_of, same_word, elements}
-
--- the request was a HEAD
-abbrev pub asks_head_alone : Method → Bool
-asks_head_alone method.Get = false
-asks_head_alone method.Head = true
-asks_head_alone method.Post = false
-asks_head_alone method.Put = false
-asks_head_alone method.Delete = false
-asks_head_alone method.Options = false
 
 -- the status of an answer that has no body to any request
 abbrev pub is_bodiless : ℕ → Bool
@@ -28,7 +19,7 @@ is_bodiless status = (status == 204) || (status == 304)
 
 -- rule head-no-body: The response to a HEAD, and one with status 204 or 304, has no body, whatever its fields say.
 abbrev pub has_no_body : Method → ℕ → Bool
-has_no_body m status = asks_head_alone m || is_bodiless status
+has_no_body m status = is_head m || is_bodiless status
 
 -- an element with nothing in it, which doesn't count in Transfer-Encoding (RFC 9110, section 5.6.1.2)
 abbrev pub is_blank : List ℕ → Bool

@@ -1,6 +1,7 @@
 -- The request that follows a redirect (RFC 9110, sections 10.2.2 and 15.4).
 use Rattle.std.specs.Prelude.{◌≡◌, ◌≢◌, ℕ, ◌==◌, nat_lt, Bool, true, false, not, ◌&&◌, ◌||◌, List, ◌++◌, length, codes, Some, None, Result, Ok, Err, if◌then◌else◌}
 use Rattle.std.specs.Str.{is_utf8, str_eq_ignore_ascii_case}
+use Rattle.mx_types.specs.Method.{is_head}
 use Rattle.mx_types.specs.Settings.{SettingsValue}
 use Rattle.mx_types.specs.declared.method.Method.{Method}
 use Rattle.mx_types.specs.declared.method.Method.TheVariants as method
@@ -23,10 +24,6 @@ is_moved status = status == 301 || status == 302
 abbrev pub is_post : Method → Bool
 is_post method.Post = true
 is_post _ = false
-
-abbrev pub is_head : Method → Bool
-is_head method.Head = true
-is_head _ = false
 
 -- rule redirect-method: 303 makes each method but HEAD a GET without a body, 301 and 302 make POST one; all else keeps method and body.
 abbrev pub becomes_get : ℕ → Method → Bool

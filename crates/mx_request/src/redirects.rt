@@ -1,5 +1,6 @@
 //! What a redirect makes of a request's method and settings (RFC 9110, section 15.4).
 ghost use Rattle.std.specs.Prelude.{◌≡◌, ◌==◌, ◌&&◌, not, map, option_map, string_bytes, None, IfOk, if◌then◌else◌};
+ghost use Rattle.mx_types.specs.Method.{is_head};
 ghost use Rattle.mx_types.specs.Settings.{field_of};
 ghost use Rattle.mx_request.specs.Redirects as spec;
 
@@ -25,17 +26,11 @@ fn is_post(method: Method) -> bool
     matches!(method, Method::Post)
 }
 
-fn is_head(method: Method) -> bool
-    ensures { result ≡ spec.is_head method }
-{
-    matches!(method, Method::Head)
-}
-
 /// Whether the status is 303 and makes a GET of the method.
 fn sees_other(status: u16, method: Method) -> bool
-    ensures { result ≡ (status == 303 && not (spec.is_head method)) }
+    ensures { result ≡ (status == 303 && not (is_head method)) }
 {
-    status == 303 && !is_head(method)
+    status == 303 && !method.is_head()
 }
 
 /// Whether the status is 301 or 302 and makes a GET of the method.

@@ -1,9 +1,9 @@
 -- What is done with a response.
 use Rattle.std.specs.Prelude.{◌≡◌, ◌≢◌, ℕ, nat_le, ◌==◌, ◌&&◌, ◌||◌, Bool, true, false}
+use Rattle.mx_types.specs.Method.{is_head}
 use Rattle.mx_types.specs.declared.code.Code.{Code}
 use Rattle.mx_types.specs.declared.code.Code.TheVariants as codes
 use Rattle.mx_types.specs.declared.method.Method.{Method}
-use Rattle.mx_types.specs.declared.method.Method.TheVariants as method
 use Rattle.mx_save_rules.specs.declared.code.SaveCode.TheVariants as code
 use Rattle.mx_save_rules.specs.declared.decision.Decision.{Decision}
 use Rattle.mx_save_rules.specs.declared.decision.Decision.TheVariants as decision
@@ -11,10 +11,6 @@ use Rattle.mx_save_rules.specs.declared.decision.Decision.TheVariants as decisio
 -- 2xx (RFC 9110, 15.3)
 abbrev pub is_success : ℕ → Bool
 is_success status = nat_le 200 status && nat_le status 299
-
-abbrev pub is_head : Method → Bool
-is_head method.Head = true
-is_head _ = false
 
 -- no body can come: the answer to HEAD, 204, 205 and 304 (RFC 9110, 9.3.2, 15.3.5, 15.3.6 and 15.4.5)
 abbrev pub has_no_file : Method → ℕ → Bool

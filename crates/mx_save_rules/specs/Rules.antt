@@ -1,16 +1,10 @@
 -- After which ends a URL is tried again, and after how long.
-use Rattle.std.specs.Prelude.{ℕ, ◌-◌, ◌^◌, ◌==◌, ◌&&◌, ◌||◌, min, Bool, true, false, List, [], ◌∷◌}
+use Rattle.std.specs.Prelude.{ℕ, ◌-◌, ◌^◌, ◌==◌, ◌&&◌, ◌||◌, min, Bool, List, [], ◌∷◌}
 use Rattle.std.specs.List.{list_any}
 use Rattle.mx_types.specs.Code.{code_number}
+use Rattle.mx_types.specs.Method.{is_repeatable}
 use Rattle.mx_types.specs.declared.code.Code.{Code}
 use Rattle.mx_types.specs.declared.method.Method.{Method}
-use Rattle.mx_types.specs.declared.method.Method.TheVariants as method
-
--- safe methods that fetch (RFC 9110, 9.3.1 and 9.3.2)
-abbrev pub is_repeatable : Method → Bool
-is_repeatable method.Get = true
-is_repeatable method.Head = true
-is_repeatable _ = false
 
 -- numbers of libcurl-errors(3): no host, no connection, a cut body, the timeout, no answer, a failed write, a failed read
 abbrev pub transient_codes : List ℕ

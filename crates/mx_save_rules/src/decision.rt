@@ -29,7 +29,7 @@ fn is_success(status: u16) -> bool
 fn has_no_file(method: Method, status: u16) -> bool
     ensures { result ≡ has_no_file method status }
 {
-    matches!(method, Method::Head) || status == 204 || status == 205 || status == 304
+    method.is_head() || status == 204 || status == 205 || status == 304
 }
 
 // rule save-decision

@@ -1,15 +1,8 @@
 //! After which ends a URL is tried again, and after how long.
 ghost use Rattle.std.specs.Prelude.{◌≡◌, ◌*◌, ◌≤◌};
-ghost use Rattle.mx_save_rules.specs.Rules.{is_repeatable, is_transient_code, is_transient_status, is_retried, delay_seconds};
+ghost use Rattle.mx_save_rules.specs.Rules.{is_transient_code, is_transient_status, is_retried, delay_seconds};
 
 use mx_types::{Code, Method};
-
-/// Whether a request of that method may be sent once more without being asked to: GET and HEAD, which are safe (RFC 9110, section 9.2.1).
-fn is_repeatable(method: Method) -> bool
-    ensures { result ≡ is_repeatable method }
-{
-    matches!(method, Method::Get | Method::Head)
-}
 
 /// Whether the code is of a fault that may pass: 6, 7, 18, 28, 52, 55 or 56.
 fn is_transient_code(code: Code) -> bool
@@ -40,7 +33,7 @@ fn is_transient_status(status: u16) -> bool
 pub fn is_retried(method: Method, code: Code, status: u16) -> bool
     ensures { result ≡ is_retried method code status }
 {
-    is_repeatable(method) && (is_transient_code(code) || is_transient_status(status))
+    method.is_repeatable() && (is_transient_code(code) || is_transient_status(status))
 }
 
 // rule save-retries

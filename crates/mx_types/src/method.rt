@@ -1,6 +1,6 @@
 //! The methods of requests.
 ghost use Rattle.std.specs.Prelude.{◌≡◌, Some};
-ghost use Rattle.mx_types.specs.Method.{method_name, IsMethodOf};
+ghost use Rattle.mx_types.specs.Method.{method_name, IsMethodOf, is_head, is_repeatable};
 
 use std::error::Error;
 use std::fmt;
@@ -30,6 +30,23 @@ impl Method {
             Method::Delete => "DELETE",
             Method::Options => "OPTIONS",
         }
+    }
+
+    /// Whether it is HEAD, whose responses have no body (RFC 9110, section 9.3.2).
+    pub fn is_head(self) -> bool
+        ensures { result ≡ is_head self }
+    {
+        matches!(self, Method::Head)
+    }
+
+    // rule exchange-retry
+    // rule save-retries
+    /// Whether a request of that method may be sent again without being asked to: GET and HEAD, which change nothing at the server
+    /// (RFC 9110, section 9.2.1).
+    pub fn is_repeatable(self) -> bool
+        ensures { result ≡ is_repeatable self }
+    {
+        matches!(self, Method::Get | Method::Head)
     }
 }
 

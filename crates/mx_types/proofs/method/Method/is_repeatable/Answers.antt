@@ -1,5 +1,5 @@
 use Rattle.std.proofs.Common.{rules}
-use Rattle.mx_exchange.proofs.calls.is_repeated.Goals as goal
+use Rattle.mx_types.proofs.method.Method.is_repeatable.Goals as goal
 
 pub returns-in-Get : goal.returns-in-Get
 returns-in-Get c = search rules
