@@ -94,6 +94,7 @@ impl<T> CountedMark<T> {
         ensures begins { MatchBool result (IsPrefix other.now.entries self.now.entries) (IsPrefix self.now.entries other.now.entries) }
         ensures longer { result ≡ nat_le (length other.now.entries) (length self.now.entries) }
     {
+        // proof: one of the marks is a prefix of the other
         other.mark.are_of_one_list(&self.mark);
         other.count <= self.count
     }

@@ -111,7 +111,7 @@ fn stands_next(event: Event, next: Option<Event>, mark: &JournalMark, all: &Jour
     requires begins { IsPrefix mark.now.entries all.now.entries }
     ensures { DecidesBeginning result (mark.now.entries ++ event ∷ []) all.now.entries }
 {
-    // For the prover alone: what holds of both marks is used.
+    // proof: what holds of both marks
     let _ = mark;
     let _ = all;
     match next {
@@ -131,7 +131,7 @@ impl BoardReader {
         ensures is { result ≡ self.now.who }
         ensures maker { is_maker result ≡ true }
     {
-        // For the prover alone: what holds of a reader is used.
+        // proof: what holds of a reader
         let _ = &self.mark;
         self.who
     }
@@ -155,7 +155,7 @@ impl BoardReader {
         ensures is { result ≡ self.now.confirmed }
         ensures but_last { ConfirmsAllButLast self.now }
     {
-        // For the prover alone: what holds of a reader is used.
+        // proof: what holds of a reader
         let _ = &self.unconfirmed;
         self.mark.len()
     }

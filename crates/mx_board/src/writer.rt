@@ -80,7 +80,7 @@ fn publish_all<R: Wait>(
     ensures none { drop result.behind result.log.items ≡ [] }
     ensures caught_up { CaughtUp (view writer.desk.place) result.desk.shown.value (view result.desk.place) }
 {
-    // For the prover alone: what the snapshot holds is used.
+    // proof: what holds of the snapshot
     let _ = events;
     writer.publish_as::<CatchesUp, R>(rt).0
 }

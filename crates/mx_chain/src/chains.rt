@@ -262,6 +262,7 @@ impl<L: Link> Chain<L> {
         ensures chain { IsChain self.now }
         ensures hop { IsExchange L.history L.asked L.token_of self.now.now }
     {
+        // proof: what holds of an exchange
         self.exchange.know();
     }
 
@@ -356,6 +357,7 @@ impl<L: Link> Chain<L> {
         requires cause { EndsWith self.old.request.settings.max_redirects (length self.old.hops) hop code }
         ensures { GoesOnTo self.old hop self.new result }
     {
+        // proof: what holds of a hop
         hop.know();
         self.settle_home(&hop);
         self.code = Some(code);
@@ -387,6 +389,7 @@ impl<L: Link> Chain<L> {
         requires wire { self.old.now.received ≡ length hop.wire }
         ensures { GoesOnTo self.old hop self.new result }
     {
+        // proof: what holds of a hop
         hop.know();
         let count = self.earlier.saturating_add(self.exchange.received());
         match self.hops.push(hop) {
@@ -476,6 +479,7 @@ impl<L: Link> Chain<L> {
             Turned::Ended(hop) => {
                 self.code = Some(hop.code());
                 let stepped = self.go_on(hop);
+                // proof: what holds of a chain
                 self.know();
                 stepped
             }

@@ -18,6 +18,7 @@ pub fn hops_are_a_chain()
 pub fn hops_keep_private()
     ensures { HopsKeepPrivate }
 {
+    // proof: what a request keeps private, and what the next one of its chain keeps
     laws::private_stays_home();
     laws::chain_keeps();
 }

@@ -72,6 +72,7 @@ impl Outcome {
     pub fn know(&self)
         ensures { IsOutcome self.now }
     {
+        // proof: what holds of an outcome
         let _code = self.code;
     }
 
@@ -131,6 +132,7 @@ impl Outcome {
         ensures request { result.now ≡ self.now.request }
         ensures order { InOrder self.now.last.is_reused self.now.last.request.bytes self.now.last.answers }
     {
+        // proof: the last hop's link was asked in order
         let _last = self.last.request();
         match self.earlier.request(0) {
             Some(request) => request,
@@ -157,7 +159,7 @@ impl Outcome {
         ensures listed { is_outcome_code result ≡ true }
     {
         let ended = self.last.code();
-        // For the prover alone: the code is the last hop's.
+        // proof: the code is the last hop's
         let _ended = ended;
         self.code
     }

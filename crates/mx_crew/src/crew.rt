@@ -256,6 +256,7 @@ impl Crew {
         ensures why { IfErr result (λ e. is_crew_stop e ≡ true) }
     {
         for made in 0..count {
+            // proof: the invariant counts by it
             let _ = made;
             gates.push_reserved(self.gate(rt, start, resolver)?);
         }

@@ -60,6 +60,7 @@ fn none_added(alloc: Global, count: usize) -> Result<Vec<Option<Addition>>, OutO
 {
     let mut additions = Vec::with_capacity(alloc, count)?;
     for made in 0..count {
+        // proof: the invariant counts by it
         let _ = made;
         additions.push_reserved(None);
     }
@@ -312,6 +313,7 @@ impl<'e, 'm, L: Link> Desk<'e, 'm, L> {
         ensures ties { self.new.ties ≡ self.old.ties }
         ensures why { IfErr result (λ e. e ≡ stop.NoMessage) }
     {
+        // proof: what holds of a request, and requests of one origin are one
         told.message.outcome.request().know();
         origin_is_whole_request();
         if awaits(

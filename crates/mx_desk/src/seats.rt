@@ -60,6 +60,7 @@ fn add_transfer<L: Link, R: Wait + AllocGlobal>(
     ensures why { IfErr result (λ e. e ≡ stop.OutOfMemory) }
     ensures later { IsPrefix seat.old.ties seat.new.ties }
 {
+    // proof: what holds of a request
     request.know();
     let asked = Snapshot::of(&request);
     let Ok(work) = Queued::keeping_heads(rt.alloc(), request) else {

@@ -249,6 +249,7 @@ impl<L: Link> Exchange<L> {
     pub fn know(&self)
         ensures { IsExchange L.history L.asked L.token_of self.now }
     {
+        // proof: what holds of an exchange
         let _stage = &self.stage;
     }
 

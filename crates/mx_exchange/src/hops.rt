@@ -140,6 +140,7 @@ impl Hop {
     pub fn know(&self)
         ensures { IsHop self.now }
     {
+        // proof: what holds of a hop
         let _code = self.code;
     }
 
@@ -168,6 +169,7 @@ impl Hop {
         ensures content { result ≡ code.Ok → HasContent self.now }
         ensures listed { is_hop_code result ≡ true }
     {
+        // proof: a hop that ends with `Ok` has the content, and which codes there are
         laws::ok_has_content();
         laws::codes_are_listed();
         self.code

@@ -14,6 +14,7 @@ pub fn request_is_taken_from_the_front()
 pub fn ok_has_content()
     ensures { OkHasContent }
 {
+    // proof: the parts of a response are its content
     laws::parts_are_content();
 }
 

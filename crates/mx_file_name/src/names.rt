@@ -51,6 +51,7 @@ impl FileName {
     pub fn know(&self)
         ensures { IsSafeName self.now }
     {
+        // proof: what holds of the name of a file
         let _ = &self.name;
     }
 }
@@ -85,6 +86,7 @@ impl PartName {
     pub fn know(&self)
         ensures { IsPartName self.now }
     {
+        // proof: what holds of the name of a part
         let _ = &self.name;
     }
 }

@@ -80,6 +80,7 @@ impl Failure {
         requires { outcome.code ≢ codes.Ok }
         ensures { result ≡ outcome }
     {
+        // proof: what holds of an outcome
         outcome.know();
         Failure {
             code: outcome.code(),

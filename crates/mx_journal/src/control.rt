@@ -119,7 +119,7 @@ impl<Q: Work + Drop, O: Ending + Drop> Control<Q, O> {
         ensures tickets { (next_ticket self.now.opening self.now.journal).0 ≤ greatest_ticket + 1 }
         ensures begun { self.now.opening.from ≤ length self.now.journal }
     {
-        // For the prover alone: what holds of a core is used.
+        // proof: what holds of a core
         let _ = &self.table;
     }
 

@@ -75,6 +75,7 @@ impl<Q: Work + Drop, O: Ending + Drop> Deed<Q, O> for Addition<Q> {
 
     // rule multi-origins
     fn make<R: Wait>(self, rt: &R, who: Who, parts: &mut Parts<Q, O>) -> AddReply<Q> {
+        // proof: what holds of a core
         parts.core.sound();
         let added = Snapshot::of(&self.work);
         let reply = parts.core.add(&mut parts.log, who, self.handle, self.work);
@@ -242,6 +243,7 @@ impl<Q: Work + Drop, O: Ending + Drop> Deed<Q, O> for Finishing<Q, O> {
         let Finishing { claim, ending } = self;
         let (claim, mark) = claim.into_parts();
         let all = parts.ties.mark();
+        // proof: both marks are of one list, and what holds of a core
         all.are_of_one_list(&mark);
         parts.core.sound();
         let given = Snapshot::of(&claim);

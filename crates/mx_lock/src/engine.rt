@@ -165,6 +165,7 @@ impl<Q: Work + Drop, O: Ending + Drop> Engine<Q, O> {
         ensures legal { is_legal result.core.journal ≡ true }
     {
         let mut parts = parts;
+        // proof: what holds of a core
         parts.core.sound();
         parts.log.publish(rt);
         Engine { parts }
@@ -179,6 +180,7 @@ impl<Q: Work + Drop, O: Ending + Drop> Engine<Q, O> {
         ensures locked { IsLocked O.code_of O.size_of self.now }
         ensures tied { AreOfAdditions Q.origin O.origin self.now.core self.now.ties.entries }
     {
+        // proof: what holds of a core
         self.parts.core.sound();
         Snapshot::of(self)
     }
@@ -187,7 +189,7 @@ impl<Q: Work + Drop, O: Ending + Drop> Engine<Q, O> {
     pub fn published(&self) -> &Table
         ensures { IsTableOf self.now.core.journal result.now }
     {
-        // For the prover alone: what holds of an engine is used.
+        // proof: what holds of an engine
         let _ = &self.parts;
         self.parts.log.table()
     }
@@ -196,7 +198,7 @@ impl<Q: Work + Drop, O: Ending + Drop> Engine<Q, O> {
     pub fn mark(&self) -> JournalMark
         ensures { result ≡ mark_of self.now.core.journal self.now.book }
     {
-        // For the prover alone: what holds of an engine is used.
+        // proof: what holds of an engine
         let _ = &self.parts;
         self.parts.log.mark()
     }
@@ -205,7 +207,7 @@ impl<Q: Work + Drop, O: Ending + Drop> Engine<Q, O> {
     pub fn tie_mark(&self) -> TieMark
         ensures { result ≡ self.now.ties }
     {
-        // For the prover alone: what holds of an engine is used.
+        // proof: what holds of an engine
         let _ = &self.parts;
         self.parts.ties.mark()
     }
@@ -217,7 +219,7 @@ impl<Q: Work + Drop, O: Ending + Drop> Engine<Q, O> {
         ensures grown { IsPrefix mark.old.entries mark.new.entries }
         ensures all { IsPrefix self.now.ties.entries mark.new.entries }
     {
-        // For the prover alone: what holds of an engine is used.
+        // proof: what holds of an engine
         let _ = &self.parts;
         mark.learn(&self.parts.ties.mark())
     }
@@ -227,6 +229,7 @@ impl<Q: Work + Drop, O: Ending + Drop> Engine<Q, O> {
         ensures length { result ≡ length self.now.core.journal }
         ensures legal { is_legal self.now.core.journal ≡ true }
     {
+        // proof: what holds of a core
         self.parts.core.sound();
         self.parts.core.len()
     }
@@ -250,7 +253,7 @@ impl<Q: Work + Drop, O: Ending + Drop> Engine<Q, O> {
         requires { is_maker who ≡ true }
         ensures { result ≡ made_by who self.now.core.journal }
     {
-        // For the prover alone: what holds of an engine is used.
+        // proof: what holds of an engine
         let _ = &self.parts;
         self.parts.log.made(who)
     }
@@ -274,7 +277,7 @@ impl<Q: Work + Drop, O: Ending + Drop> Engine<Q, O> {
         ensures same { self.new ≡ self.old }
         ensures is { IfSome result (λ r. r ≡ caught_up who self.old.core.journal self.old.book) }
     {
-        // For the prover alone: what holds of an engine is used.
+        // proof: what holds of an engine
         let _ = &self.parts;
         self.parts.log.reader(who)
     }

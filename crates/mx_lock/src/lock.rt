@@ -213,6 +213,7 @@ impl<Q: Work + Drop, O: Ending + Drop> Lock<Q, O> {
         if found.begins_with(reader) {
             return Ok(taken);
         }
+        // proof: what holds of the engine that was found
         let known = found.know();
         self.put_back(rt, key, taken);
         Err(known)

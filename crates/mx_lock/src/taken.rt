@@ -132,6 +132,7 @@ impl<Q: Work + Drop, O: Ending + Drop> Taken<Q, O> {
         let parts: &mut Parts<Q, O> = &mut self.engine.parts;
         let (claim, mark) = claim.into_parts();
         let all = parts.ties.mark();
+        // proof: both marks are of one list, and what holds of a core
         all.are_of_one_list(&mark);
         parts.core.sound();
         parts.core.give_back(claim, work)

@@ -32,6 +32,7 @@ fn know(outcome: &Outcome)
     ensures outcome { IsOutcome outcome.now }
     ensures body { outcome.now.code ≡ code.Ok → CarriesBody outcome.now }
 {
+    // proof: what holds of an outcome, of its code and of its bytes
     outcome.know();
     let _code = outcome.code();
     let _wire = outcome.wire();
@@ -56,6 +57,7 @@ fn read_now<Q: Work + Drop, R: Wait>(
             ending,
             left,
         } => {
+            // proof: what holds of an outcome
             know(&ending);
             let code = Outcome::code(&ending);
             Ok(Some(Message {

@@ -179,7 +179,7 @@ fn seated<K, Q: Work + Drop, O: Ending + Drop>(
 {
     let mut readers = readers;
     let mut seats = places;
-    // For the prover alone: the seats' notes are of these words.
+    // proof: the seats' notes are of these words
     let _ = words;
     while let Some(reader) = readers.pop_front() {
         let key = lock.another(founder);
@@ -211,6 +211,7 @@ fn skip<Q: Work + Drop, O: Ending + Drop>(lock: &Lock<Q, O>, founder: &mut Key<Q
     ensures next { view founder.new ≡ founder_at (known_of (view founder.old)) 17 }
 {
     for spare in seats..MOST_SEATS as u8 {
+        // proof: the invariant counts by it
         let _ = spare;
         let _key = lock.another(founder);
     }

@@ -22,7 +22,7 @@ impl<Q: Work + Drop, O: Ending + Drop> Multi<Q, O> {
     pub fn first_call_is_placed(&self)
         ensures { (j : List Event) (ties : List Origin) (who : Who) (s t : SeatView Q O) (call : Call) (reply : Reply) → self.now.engine.opening.from ≡ length j → IsNew self.now j ties who s → Stands s t call reply → IsPlaced self.now.engine.opening who (record { cut = length t.seen; call = call; reply = reply } ∷ []) t.seen }
     {
-        // For the prover alone: a law needs a value.
+        // proof: a law needs a value
         let _ = &self.lock;
     }
 
@@ -33,7 +33,7 @@ impl<Q: Work + Drop, O: Ending + Drop> Multi<Q, O> {
         ensures sees { (s t u : SeatView Q O) (more : List Receipt) → Later s t more → Sees t u → Later s u more }
         ensures none { (s : SeatView Q O) → Later s s [] }
     {
-        // For the prover alone: a law needs a value.
+        // proof: a law needs a value
         let _ = &self.lock;
     }
 

@@ -87,6 +87,7 @@ impl<Q: Work + Drop, O: Ending + Drop> Multi<Q, O> {
                 .leave(rt, &mut one.key, taken, &mut one.reader, &mut one.ties);
             return Ok(cut);
         }
+        // proof: what holds of the engine that was found
         let _known = found.know();
         self.lock.put_back(rt, &mut one.key, taken);
         Err(WrongSeat(()))

@@ -135,11 +135,13 @@ impl<Q: Work + Drop, O: Ending + Drop> Multi<Q, O> {
             Err(_found) => return Err(WrongSeat(deed)),
         };
         let found = taken.engine();
+        // proof: what holds of the engine that was found
         let _known = found.know();
         let who = seat.reader.who();
         let call = deed.as_call();
         let (taken, reply) = taken.run(rt, deed, who);
         let left = taken.engine();
+        // proof: what holds of the engine that is left
         let _left = left.know();
         self.lock
             .leave(rt, &mut seat.key, taken, &mut seat.reader, &mut seat.ties);
@@ -175,6 +177,7 @@ impl<Q: Work + Drop, O: Ending + Drop> Multi<Q, O> {
             Err(_found) => return Err(WrongSeat(())),
         };
         let found = taken.engine();
+        // proof: what holds of the engine that was found, and of its journal
         let known = found.know();
         let _cut = found.len();
         self.lock
@@ -203,12 +206,14 @@ impl<Q: Work + Drop, O: Ending + Drop> Multi<Q, O> {
         };
         let found = taken.engine();
         if finds(found, two) {
+            // proof: what holds of the journal that was found
             let _cut = found.len();
             see(&mut taken, two);
             self.lock
                 .leave(rt, &mut one.key, taken, &mut one.reader, &mut one.ties);
             return true;
         }
+        // proof: what holds of the engine that was found
         let _known = found.know();
         self.lock.put_back(rt, &mut one.key, taken);
         false
@@ -279,6 +284,7 @@ impl<Q: Work + Drop, O: Ending + Drop> Multi<Q, O> {
             note_receipt(&mut seat.mine, cut, Call::Poll, Reply::Woken);
             return Ok(true);
         }
+        // proof: what holds of the engine that was found
         let _known = found.know();
         self.lock.put_back(rt, &mut seat.key, taken);
         Ok(false)

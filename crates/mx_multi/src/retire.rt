@@ -73,6 +73,7 @@ pub(crate) fn finds<K, Q: Work + Drop, O: Ending + Drop>(
     ensures finds { MatchBool result (Finds seat.now found.now.core.journal) (Finds seat.now found.now.core.journal → ⊥) }
     ensures told { AreOfOneList seat.now.ties found.now.ties.entries }
 {
+    // proof: the seat's ties and the engine's are of one list
     seat.ties.are_of_one_list(&found.tie_mark());
     fits(found, &seat.reader)
 }
@@ -219,6 +220,7 @@ impl<Q: Work + Drop, O: Ending + Drop> Multi<Q, O> {
         ensures log { IfOk result (λ r. (r.1.events ≡ retire engine.now.core.journal) × (r.1.published ≡ retire engine.now.core.journal)) }
         ensures rooms { IfOk result (λ r. AreRooms self.now.limits (retire engine.now.core.journal) r.1.book r.0) }
     {
+        // proof: what holds of the engine, and what retiring keeps
         let _known = engine.know();
         retiring_keeps();
         let kept = engine.kept(alloc)?;

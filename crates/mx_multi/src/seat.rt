@@ -116,7 +116,7 @@ impl<K, Q: Work + Drop, O: Ending + Drop> SeatOf<K, Q, O> {
     pub fn is_placed(&self)
         ensures { HasReceipts self.now }
     {
-        // For the prover alone: what holds of a seat is used.
+        // proof: what holds of a seat
         let _ = &self.reader;
     }
 }
@@ -166,6 +166,7 @@ impl<Q: Work + Drop, O: Ending + Drop> SeatOf<Application, Q, O> {
             }
         };
         let engine = taken.engine();
+        // proof: what holds of the engine, and the seat's ties and its are of one list
         let _known = engine.know();
         ties.are_of_one_list(&engine.tie_mark());
         match multi.prepare(rt, alloc, engine, seats, workers) {

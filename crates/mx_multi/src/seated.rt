@@ -488,10 +488,12 @@ impl<'m, Q: Work + Drop, O: Ending + Drop> Seated<'m, AtWork, Q, O> {
             Err(_found) => return None,
         };
         let found = taken.engine();
+        // proof: what holds of the engine that was found, and of its journal
         let _known = found.know();
         let _cut = found.len();
         let claimed = taken.claim();
         let left = taken.engine();
+        // proof: what holds of the engine that is left
         let _left = left.know();
         multi.lock.leave(
             rt,
@@ -590,11 +592,13 @@ impl<'m, Q: Work + Drop, O: Ending + Drop> Seated<'m, AtWork, Q, O> {
             Err(_found) => return Err(WrongSeat((claim, work))),
         };
         let found = taken.engine();
+        // proof: what holds of the engine that was found, and of its journal
         let _known = found.know();
         let _cut = found.len();
         let ticket = claim.ticket();
         let reply = taken.give_back(claim, work);
         let left = taken.engine();
+        // proof: what holds of the engine that is left
         let _left = left.know();
         multi.lock.leave(
             rt,

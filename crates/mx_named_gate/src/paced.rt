@@ -84,6 +84,7 @@ impl<G: Gate> PacedGate<G> {
         ensures paced { result ≡ true → IsPaced (burst_of endpoint.now self.old.said) }
         ensures said { self.new.said ≡ self.old.said }
     {
+        // proof: what the table allows is within the pace
         allows_paced();
         if !self.pace.allows(endpoint) {
             self.has_put_off = true;

@@ -113,7 +113,7 @@ impl<L: Lookup> Names<L> {
         ensures told { IfOk result (λ answer. answer ≡ told since now (find (is_of host.now) self.now)) }
         ensures true_of { IfOk result (IsTrueOf L.gives host.now) }
     {
-        // This has the prover use what holds of every table.
+        // proof: what holds of every table
         let _ = &self.entries;
         let answer = self.told(alloc, host, since, now)?;
         Ok(answer)

@@ -120,6 +120,7 @@ impl Request {
     pub fn know(&self)
         ensures { IsRequest self.now }
     {
+        // proof: what holds of a request
         let _method = self.method;
     }
 }

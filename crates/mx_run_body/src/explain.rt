@@ -20,6 +20,7 @@ use std::io::Write;
 fn why(alloc: Global, method: Method, received: &Received) -> Option<Reason>
     ensures { (bytes : List ℕ) → IsReceived method bytes received.now → IsWhyNone method bytes result }
 {
+    // proof: bytes have one verdict
     one_verdict();
     reason_of(alloc, method, received.decoder.wire())
 }

@@ -39,6 +39,7 @@ fn decide(mut decoder: Decoder, len: usize) -> Result<Received, InputError>
     ensures memory { OnErr result ((bytes : List ℕ) → WasFed decoder bytes → bytes ≢ []) }
     ensures failed { result ≢ Err Failed }
 {
+    // proof: a fault stays the same with more bytes, and so does a complete response
     fault_stays_same();
     complete_stays_same();
     match decoder.end() {

@@ -140,6 +140,7 @@ fn print_body<R: Read, W: Write>(
     ensures unreceived { (result.1 ≡ Err Failed) ↔ (has_failed_read input.new ≡ true) }
 {
     let received = receive(alloc, method, input);
+    // proof: the parts of a response are its content
     parts_are_content();
     let printed = print_received(output, &received);
     (printed, received)

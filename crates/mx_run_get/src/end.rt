@@ -41,6 +41,7 @@ impl End {
     pub fn ended(alloc: Global, outcome: Outcome) -> End
         ensures { result ≡ fetched_of outcome }
     {
+        // proof: what holds of an outcome, and of its code
         outcome.know();
         let _code = outcome.code();
         End {

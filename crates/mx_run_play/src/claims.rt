@@ -50,7 +50,7 @@ impl Claims {
         ensures few { length self.old.tickets ≤ self.old.made }
         ensures kept { self.new ≡ record self.old { made = self.old.made + 1; tickets = self.old.tickets ++ claim.ticket ∷ [] } }
     {
-        // For the prover alone: a ticket is a `u32`.
+        // proof: a ticket is a `u32`
         let _ = claim.ticket();
         self.places.push_reserved(Some(claim));
     }

@@ -156,6 +156,7 @@ impl Player {
     fn add(&mut self, handle: HandleId) -> Result<LineReply, OutOfMemory>
         ensures { IsAnswered self.old (Call.Add handle) result self.new }
     {
+        // proof: what holds of a core
         self.control.sound();
         match self.control.add(&mut self.log, SEAT, handle, NoWork) {
             AddReply::Added(ticket) => {

@@ -106,6 +106,7 @@ impl<F: Folder, B: Body> Ledger<F, B> {
     pub fn know(&self)
         ensures { IsLedger B.parts self.now }
     {
+        // proof: what holds of a ledger
         let _flush = self.flush;
     }
 
@@ -150,6 +151,7 @@ impl<F: Folder, B: Body> Ledger<F, B> {
             });
         };
         self.make_room(body);
+        // proof: what holds of both names
         part.know();
         name.know();
         match save_body(

@@ -181,6 +181,7 @@ pub fn save_body<F: Folder, B: Body>(
     ensures grows { refusals (F.steps folder.old) ≤ refusals (F.steps folder.new) }
     ensures refused { IfErr result (λ e. refusals (F.steps folder.old) + 2 * length (left_of part.now e.left) ≤ refusals (F.steps folder.new)) }
 {
+    // proof: what holds of both names
     part.know();
     name.know();
     match folder.create(part) {

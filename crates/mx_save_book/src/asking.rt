@@ -77,6 +77,7 @@ fn known(built: Result<Request, RequestError>) -> Result<Request, RequestError>
     ensures known { IfOk result IsRequest }
 {
     if let Ok(request) = &built {
+        // proof: what holds of a request
         request.know();
     }
     built

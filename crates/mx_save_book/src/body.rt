@@ -32,6 +32,7 @@ impl WholeBody {
         ensures other { OnErr result (outcome.code ≢ code.Ok) }
         ensures same { MatchResult result (λ body. body ≡ outcome) (λ back. back ≡ outcome) }
     {
+        // proof: what holds of an outcome
         outcome.know();
         match outcome.code() {
             Code::Ok => Ok(WholeBody { outcome }),
@@ -43,6 +44,7 @@ impl WholeBody {
     pub fn know(&self)
         ensures { IsWholeBody self.now }
     {
+        // proof: what holds of a whole body
         let _outcome = &self.outcome;
     }
 

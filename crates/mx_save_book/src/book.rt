@@ -514,6 +514,7 @@ pub fn free_slots(alloc: Global, count: usize) -> Result<Vec<Slot>, OutOfMemory>
 {
     let mut slots = Vec::with_capacity(alloc, count)?;
     for made in 0..count {
+        // proof: the invariant counts by it
         let _ = made;
         slots.push(Slot::Free)?;
     }

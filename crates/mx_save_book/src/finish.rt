@@ -103,6 +103,7 @@ fn save_whole<F: Folder>(
     let Ok(body) = WholeBody::of(outcome) else {
         unreachable!();
     };
+    // proof: what holds of a whole body
     body.know();
     let saved = ledger.save(name, &body);
     drop(body);
@@ -154,6 +155,7 @@ fn save<F: Folder>(
         drop(job);
         return Err(NotEnded::OutOfMemory);
     };
+    // proof: what holds of what is asked
     let _asked = asking.method;
     match save_whole(ledger, &job.name, outcome) {
         Ok(()) => Ok(End::saved(job.url, file, told)),
@@ -209,6 +211,7 @@ pub(crate) fn finish<F: Folder>(
     ensures back { IfErr result (HandsBack job) }
     ensures run { (ledger.new.start ≡ ledger.old.start) × (ledger.new.flush ≡ ledger.old.flush) }
 {
+    // proof: what holds of an outcome
     outcome.know();
     let method = last_method(&outcome);
     let status = outcome.status();

@@ -133,6 +133,7 @@ impl<W: Write> Lines<W> {
         ensures kept { OnErr result (self.new.told ≡ self.old.told) }
         ensures same { (self.new.start ≡ self.old.start) × (self.new.json ≡ self.old.json) }
     {
+        // proof: what holds of an end
         end.know();
         self.ready()?;
         print_flushed(self.alloc, &mut self.output, self.json, &end)?;
@@ -160,6 +161,7 @@ impl<W: Write> Lines<W> {
     pub fn know(&self)
         ensures { AreLines W.contents self.now }
     {
+        // proof: what holds of lines
         let _json = self.json;
     }
 

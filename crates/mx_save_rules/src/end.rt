@@ -166,6 +166,7 @@ impl End {
     pub fn know(&self)
         ensures { IsEnd self.now }
     {
+        // proof: what holds of an end
         let _verdict = self.verdict;
     }
 

@@ -199,6 +199,7 @@ impl<L: Link> Transfer<L> {
         ensures chain { IsChain self.now.chain }
         ensures hop { IsExchange L.history L.asked L.token_of self.now.chain.now }
     {
+        // proof: what holds of a chain
         self.chain.know();
     }
 

@@ -229,6 +229,7 @@ impl<L: Link, C: Right, E: Engine<L, C>> Desk<L, C, E> {
         let Some(claimed) = self.engine.claim(rt) else {
             return;
         };
+        // proof: the transfer has not ended
         claimed.know();
         self.hold(claimed);
         let has_room = self.rack.has_room();

@@ -139,6 +139,7 @@ impl<L: Link, C: Right> Held<L, C> {
     pub(crate) fn know(&self)
         ensures { self.now.held.transfer.code ≡ None }
     {
+        // proof: the transfer has not ended
         let _transfer = &self.transfer;
     }
 }

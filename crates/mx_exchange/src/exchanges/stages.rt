@@ -143,6 +143,7 @@ pub(super) fn end(
     ensures answers { result.answers ≡ answers.value }
     ensures reused { result.is_reused ≡ is_reused.value }
 {
+    // proof: what holds of a request
     request.know();
     let status = decoder.status();
     let location = decoder.location();

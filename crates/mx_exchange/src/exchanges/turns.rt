@@ -295,11 +295,14 @@ impl<L: Link> Exchange<L> {
         ensures served { IsServed L.history self.new }
         ensures undecided { IfGoing result (IsUndecided self.new.request.method self.new.answers) }
     {
+        // proof: what holds of the exchange before the turn
         self.know();
         let turned = self.advance();
+        // proof: what holds of the exchange after the turn
         self.know();
         match turned {
             Turned::Ended(hop) => {
+                // proof: what holds of a hop
                 hop.know();
                 Turned::Ended(hop)
             }
