@@ -13,7 +13,7 @@ use Rattle.mx_link.specs.declared.answers.Answer.{Answer}
 use Rattle.mx_link.specs.declared.answers.Answer.TheVariants as said
 use Rattle.mx_link.specs.declared.answers.Write.{Write}
 use Rattle.mx_link.specs.declared.answers.Write.TheVariants as write
-use Rattle.mx_exchange.specs.Order.{InOrder, stands, is_last, asks_of}
+use Rattle.mx_exchange.specs.Order.{InOrder, stands, is_last, asks_of, most_turn_reads, most_turn_writes}
 use Rattle.mx_exchange.specs.Endings.{IsUndecided, EndsBy, MustRetry}
 use Rattle.mx_exchange.specs.declared.calls.Step.{Step}
 use Rattle.mx_exchange.specs.declared.calls.Step.TheVariants as step
@@ -115,7 +115,7 @@ HaltSo halt.Blocked kind reused answers d more =
     IsGoing kind answers d
     × ((earlier : List Answer) × (last : Answer) × (more ≡ earlier ++ last ∷ []) × (is_blocked last ≡ true))
 HaltSo halt.Unfinished kind reused answers d more =
-    IsGoing kind answers d × ((count_by is_read more ≡ 64) ⊎ (count_by is_write more ≡ 64))
+    IsGoing kind answers d × ((count_by is_read more ≡ most_turn_reads) ⊎ (count_by is_write more ≡ most_turn_writes))
 HaltSo halt.Lost kind reused answers d more = MustRetry kind reused answers
 HaltSo (halt.Over c) kind reused answers d more = IsOver kind reused answers d c
 
@@ -131,8 +131,8 @@ pub record ServesTo {L : Type 0} (old new : LineState L) (how : Halt) (d : Decod
   pub grows : Grows old new more
   pub asked : more ≢ []
   pub connects : count_by is_connect more ≤ 1
-  pub reads : count_by is_read more ≤ 64
-  pub writes : count_by is_write more ≤ 64
+  pub reads : count_by is_read more ≤ most_turn_reads
+  pub writes : count_by is_write more ≤ most_turn_writes
   pub so : HaltSo how old.request.method old.is_reused new.answers d more
 
 -- how many bytes a write took

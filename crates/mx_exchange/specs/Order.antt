@@ -36,6 +36,14 @@ MayRead reused bytes before = (stands reused before ≡ true) × (taken before �
 abbrev pub most_read : ℕ
 most_read = 16384
 
+-- the most reads of one turn
+abbrev pub most_turn_reads : ℕ
+most_turn_reads = 64
+
+-- the most writes of one turn
+abbrev pub most_turn_writes : ℕ
+most_turn_writes = 64
+
 -- it is made, and the link has taken all of the bytes; what a read gives is some bytes, and no more than a read asks for
 abbrev pub MayGive : Bool → List ℕ → List Answer → List ℕ → Type 0
 MayGive reused bytes before piece = MayRead reused bytes before × (0 < length piece) × (length piece ≤ most_read)

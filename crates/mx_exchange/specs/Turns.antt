@@ -9,7 +9,7 @@ use Rattle.mx_link.specs.declared.answers.Answer.{Answer}
 use Rattle.mx_link.specs.declared.answers.Answer.TheVariants as said
 use Rattle.mx_exchange.specs.declared.exchanges.turns.Turned.{Turned}
 use Rattle.mx_exchange.specs.declared.exchanges.turns.Turned.TheVariants as went
-use Rattle.mx_exchange.specs.Order.{InOrder}
+use Rattle.mx_exchange.specs.Order.{InOrder, most_turn_reads, most_turn_writes}
 use Rattle.mx_exchange.specs.Endings.{EndsBy, MustRetry, may_keep}
 use Rattle.mx_exchange.specs.Exchanges.{HopValue, ExchangeState, IsDue, LinkTold, dropped}
 
@@ -61,8 +61,8 @@ pub record Answered {L : Type 0} (history : L → List Answer) (t new : Exchange
   pub told : LinkTold history t.link new.link more
   pub served : t.link ≢ None
   pub connects : count_by is_connect more ≤ 1
-  pub reads : count_by is_read more ≤ 64
-  pub writes : count_by is_write more ≤ 64
+  pub reads : count_by is_read more ≤ most_turn_reads
+  pub writes : count_by is_write more ≤ most_turn_writes
 
 -- only the link and its answers have changed, and the bytes received are those that it gave
 abbrev pub GoesOn : {L : Type 0} → ExchangeState L → ExchangeState L → Type 0
@@ -109,7 +109,7 @@ pub data Exchanged {L : Type 0} (history : L → List Answer) (t new : ExchangeS
   lost : (last : ExchangeState L) → Answered history t last → InOrder t.is_reused t.request.bytes last.answers
       → MustRetry t.request.method t.is_reused last.answers → new ≡ dropped t → Exchanged history t new waits
   blocked : (a : Answered history t new) → EndsBlocked a.more → GoesOn t new → Exchanged history t new waits
-  unfinished : (a : Answered history t new) → (count_by is_read a.more ≡ 64) ⊎ (count_by is_write a.more ≡ 64)
+  unfinished : (a : Answered history t new) → (count_by is_read a.more ≡ most_turn_reads) ⊎ (count_by is_write a.more ≡ most_turn_writes)
       → GoesOn t new → Exchanged history t new asks
   ended : {o : HopValue} → Answered history t new → EndsOver t new o
       → ¬ (MustRetry t.request.method t.is_reused new.answers) → Exchanged history t new (ends o)

@@ -20,12 +20,16 @@ abbrev pub unhidden : List ℕ → List ℕ
 unhidden [] = codes "index.html"
 unhidden (b ∷ bs) = shown b ∷ bs
 
+-- the bytes of a name before its number
+abbrev pub most_base : ℕ
+most_base = 234
+
 -- rule file-base-name: A file's name is the last segment of the URL's path; each byte that isn't visible ASCII is `_`, and so is a dot in
 -- front; an empty one is `index.html`.
 --
 -- the name that a URL gives: the last segment of its path as written, of at most 234 bytes
 unfoldable pub base_name : List ℕ → List ℕ
-base_name url = unhidden (map kept (take 234 (last_segment (path_of url))))
+base_name url = unhidden (map kept (take most_base (last_segment (path_of url))))
 
 abbrev pub IsGiven : List ℕ → Type 0
 IsGiven base = (url : List ℕ) × (base ≡ base_name url)

@@ -85,16 +85,20 @@ pub record IsSettled (called : Result ℕ ErrorKind → Called) (most : ℕ) (be
   pub within : again ≤ most
   pub settled : is_interrupted count ≡ true → again ≡ most
 
+-- how often a call is made again at most
+abbrev pub most_again : ℕ
+most_again = 64
+
 -- rule link-bytes: A link over a stream offers the stream what it is offered, and gives the bytes that a read of the stream gave.
 --
 -- A read of the stream that has left the buffer like this, and the answer is what its result means. What was interrupted gave nothing.
 abbrev pub IsReadBy : List Called → List Called → List ℕ → Read → Type 0
-IsReadBy before after buffer answer = (count : Result ℕ ErrorKind) × IsSettled (λ c. read_call c buffer) 64 before after count × (answer ≡ read_of count)
+IsReadBy before after buffer answer = (count : Result ℕ ErrorKind) × IsSettled (λ c. read_call c buffer) most_again before after count × (answer ≡ read_of count)
 
 -- rule link-bytes
 -- a write of these bytes
 abbrev pub IsWrittenBy : List Called → List Called → List ℕ → Write → Type 0
-IsWrittenBy before after bytes answer = (count : Result ℕ ErrorKind) × IsSettled (λ c. called.Write c bytes) 64 before after count × (answer ≡ write_of count)
+IsWrittenBy before after bytes answer = (count : Result ℕ ErrorKind) × IsSettled (λ c. called.Write c bytes) most_again before after count × (answer ≡ write_of count)
 
 -- the stream was asked for its error, and then for its peer
 pub record IsConnectedBy (before after : List Called) (answer : Connect) : Type 0 where

@@ -6,6 +6,7 @@ use Rattle.std.specs.List.{list_all, list_any}
 use Rattle.std.specs.Option.{option_map_or}
 use Rattle.std.specs.Str.{str_eq_ignore_ascii_case}
 use Rattle.mx_types.specs.Settings.{Field, SettingsValue}
+use Rattle.mx_request.specs.Limits.{most_value, most_fields}
 
 -- section 5.6.2, tchar: a letter, a digit or one of these marks
 abbrev pub is_token_byte : ℕ → Bool
@@ -49,7 +50,7 @@ is_blank_at value place = option_map_or is_blank (slice_get value place) false
 -- at an end (RFC 9110, section 5.5).
 unfoldable pub is_field_value : List ℕ → Bool
 is_field_value value =
-    nat_le (length value) 8192 && list_all is_value_byte value && not (is_blank_at value 0)
+    nat_le (length value) most_value && list_all is_value_byte value && not (is_blank_at value 0)
     && not (is_blank_at value (length value - 1))
 
 -- a caller may add this field
@@ -59,5 +60,5 @@ is_field field = is_field_name field.name && is_field_value field.value
 -- rule request-field-count: At most 64 fields are added, each of which may be, and a user agent that is a field's value.
 unfoldable pub are_fields : SettingsValue → Bool
 are_fields settings =
-    nat_le (length settings.fields) 64 && list_all is_field settings.fields
+    nat_le (length settings.fields) most_fields && list_all is_field settings.fields
     && option_map_or is_field_value settings.user_agent true

@@ -6,6 +6,7 @@ use Rattle.mx_types.specs.Settings.{SettingsValue}
 use Rattle.mx_types.specs.declared.method.Method.{Method}
 use Rattle.mx_types.specs.declared.method.Method.TheVariants as method
 use Rattle.mx_request.specs.Laws.{IsClean, EndsOnce}
+use Rattle.mx_request.specs.Limits.{most_text}
 use Rattle.mx_request.specs.Request.{RequestValue, IsRequest, checked_url, chained}
 use Rattle.mx_request.specs.RequestBytes.{crlf, is_private_name, request_head, told}
 use Rattle.mx_request.specs.declared.error.RequestError.{RequestError}
@@ -41,7 +42,7 @@ next_settings status m settings = record settings {
 abbrev pub short_url : Parsed Parts → Result Parts RequestError
 short_url (Err e) = Err refusal.Malformed
 short_url (Ok url) =
-    if nat_lt 65536 (length (serialize url)) then Err refusal.Malformed else checked_url (Ok url)
+    if nat_lt most_text (length (serialize url)) then Err refusal.Malformed else checked_url (Ok url)
 
 -- rule redirect-next-url: The next URL is the join of the Location with the request's own as its base (URL Standard, section 4.4), of at
 -- most 65,536 bytes; it is refused as Malformed, for its scheme, or for a user name or a password, in this order, and the transfer then

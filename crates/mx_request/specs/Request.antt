@@ -6,6 +6,7 @@ use Rattle.mx_types.specs.declared.method.Method.{Method}
 use Rattle.mx_types.specs.declared.origin.Origin.{Origin}
 use Rattle.mx_request.specs.Endpoint.{HostAndPort}
 use Rattle.mx_request.specs.Fields.{are_fields}
+use Rattle.mx_request.specs.Limits.{most_text, most_body}
 use Rattle.mx_request.specs.RequestBytes.{endpoint_of, request_bytes, told}
 use Rattle.mx_request.specs.declared.error.RequestError.{RequestError}
 use Rattle.mx_request.specs.declared.error.RequestError.TheVariants as refusal
@@ -45,12 +46,12 @@ checked_url (Ok url) =
 -- the URL of a text of at most 65,536 bytes, or why it is refused
 abbrev pub url_of : List ℕ → Result Parts RequestError
 url_of text =
-    if nat_lt 65536 (length text) then Err refusal.Malformed
+    if nat_lt most_text (length text) then Err refusal.Malformed
     else checked_url (parse_url None text)
 
 -- rule request-body-size: A body has at most 1,048,576 bytes.
 abbrev pub is_body_too_large : Option (List ℕ) → Bool
-is_body_too_large body = option_map_or (λ bytes. nat_lt 1048576 (length bytes)) body false
+is_body_too_large body = option_map_or (λ bytes. nat_lt most_body (length bytes)) body false
 
 -- the request with these parts
 abbrev pub request_to : Method → Parts → SettingsValue → RequestValue

@@ -5,6 +5,7 @@ ghost use Rattle.std.specs.Option.{option_map_or};
 ghost use Rattle.std.specs.Str.{str_eq_ignore_ascii_case};
 ghost use Rattle.mx_types.specs.Settings.{field_of};
 ghost use Rattle.mx_request.specs.Fields as spec;
+ghost use Rattle.mx_request.specs.Limits.{most_fields};
 ghost use Rattle.mx_request.specs.RequestBytes.{is_private_name};
 
 use mx_types::Settings;
@@ -144,7 +145,7 @@ fn are_all_fields(fields: &[(String, String)]) -> bool
 }
 
 fn are_extra_fields(fields: &[(String, String)]) -> bool
-    ensures { result ≡ (nat_le (length fields.now) 64
+    ensures { result ≡ (nat_le (length fields.now) most_fields
         && list_all (λ pair. spec.is_field (field_of pair)) fields.now) }
 {
     fields.len() <= MOST_FIELDS && are_all_fields(fields)

@@ -1,6 +1,7 @@
 //! Requests, and what they are built from.
 ghost use Rattle.std.specs.Prelude.{◌≡◌, ◌<◌, ◌⊎◌, IsTrue, bytes_eq, codes, length, option_map, Ok, Err, None, MatchResult, IfOk};
 ghost use Rattle.mx_request.specs.Endpoint.{is_same_endpoint};
+ghost use Rattle.mx_request.specs.Limits.{most_text};
 ghost use Rattle.mx_request.specs.Request as spec;
 ghost use Rattle.mx_request.specs.Redirects.{is_redirect_status, short_url, joined_url, next_request};
 ghost use Rattle.mx_request.specs.Request.{RequestValue, IsBuiltFrom, IsRequest, checked_url, url_of, chained, request_of};
@@ -155,7 +156,7 @@ fn check_url(url: Url) -> Result<Url, RequestError>
 fn parse_url(alloc: Global, text: &str) -> Result<Url, RequestError>
     ensures answer { MatchResult result (λ url. url_of text.now ≡ Ok url)
         (λ e. (url_of text.now ≡ Err e) ⊎ (e ≡ refusal.OutOfMemory)) }
-    ensures too_long { 65536 < length text.now → result ≡ Err refusal.Malformed }
+    ensures too_long { most_text < length text.now → result ≡ Err refusal.Malformed }
 {
     if text.len() > MOST_TEXT {
         return Err(RequestError::Malformed);
@@ -277,7 +278,7 @@ impl Request {
         ensures answer { MatchResult result (λ r. request_of method text.now settings ≡ Ok r)
             (λ e. (request_of method text.now settings ≡ Err e) ⊎ (e ≡ refusal.OutOfMemory)) }
         ensures built { IfOk result (IsBuiltFrom method text.now settings) }
-        ensures too_long { 65536 < length text.now → result ≡ Err refusal.Malformed }
+        ensures too_long { most_text < length text.now → result ≡ Err refusal.Malformed }
     {
         let url = parse_url(alloc, text)?;
         if let Some(refused) = refusal_of(&settings) {

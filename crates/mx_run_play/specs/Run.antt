@@ -8,6 +8,10 @@ use Rattle.mx_run_play.specs.Script.{line_of, lines_of}
 use Rattle.mx_run_play.specs.Texts.{said_text}
 use Rattle.mx_run_play.specs.Turns.{PlayerView, says, player_past, says_retiring, past_retiring, MakesEvent}
 
+-- the reads of a script
+abbrev pub most_script_reads : ℕ
+most_script_reads = 4294967295
+
 -- the text of a run, and its exit status
 pub record Outcome : Type 0 where
   pub text : List ℕ

@@ -130,8 +130,12 @@ abbrev pub is_silent : List ℕ → Bool
 is_silent [] = true
 is_silent (b ∷ bs) = b == 35
 
+-- the bytes of a line
+abbrev pub most_line : ℕ
+most_line = 64
+
 -- rule play-long-lines: A line of a script is bad as soon as its 65th byte is there; a bad line ends the run with 122.
 -- rule play-lines: An empty line and one that begins with `#` are silent; a number is 1 to 10 digits and at most 4,294,967,295.
 unfoldable pub line_of : List ℕ → Line
 line_of text =
-    (if nat_lt 64 (length text) then line.Bad else (if is_silent text then line.Silent else call_or (retire_or_bad text) (call_of (words_of text))))
+    (if nat_lt most_line (length text) then line.Bad else (if is_silent text then line.Silent else call_or (retire_or_bad text) (call_of (words_of text))))

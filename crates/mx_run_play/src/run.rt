@@ -2,7 +2,7 @@
 ghost use Rattle.std.specs.Prelude.{◌≡◌, ◌≢◌, ◌+◌, ◌≤◌, true, IsErr, IfOk};
 ghost use Rattle.mx_types.specs.Limits.{IsHistory};
 ghost use Rattle.mx_run_io.specs.Ends.{reader_of, reads_of, most_reads_of, has_failed_read, has_failed_write, Wrote, EndsRun};
-ghost use Rattle.mx_run_play.specs.Run.{PrintsUnread, AnswersScript, WasAsked, fresh};
+ghost use Rattle.mx_run_play.specs.Run.{PrintsUnread, AnswersScript, WasAsked, fresh, most_script_reads};
 
 use crate::player::Player;
 use crate::session::{Session, Turn};
@@ -24,8 +24,8 @@ fn play_script<R: Read, W: Write>(
     output: &mut Output<W>,
 ) -> Result<u8, WriteFailed>
     requires history { IsHistory history }
-    requires allowed { most_reads_of input.old ≤ 4294967295 }
-    ensures reads { reads_of input.new ≤ reads_of input.old + 4294967295 }
+    requires allowed { most_reads_of input.old ≤ most_script_reads }
+    ensures reads { reads_of input.new ≤ reads_of input.old + most_script_reads }
     ensures asked { has_failed_read input.new ≡ true → WasAsked (has_failed_read input.old)
         (most_reads_of input.old) (reads_of input.old) (reads_of input.new) }
     ensures unread { has_failed_read input.old ≢ true → has_failed_read input.new ≡ true
@@ -68,8 +68,8 @@ pub fn run_play<R: Read, W: Write>(
     output: &mut Output<W>,
 ) -> u8
     requires history { IsHistory history }
-    requires allowed { most_reads_of input.old ≤ 4294967295 }
-    ensures reads { reads_of input.new ≤ reads_of input.old + 4294967295 }
+    requires allowed { most_reads_of input.old ≤ most_script_reads }
+    ensures reads { reads_of input.new ≤ reads_of input.old + most_script_reads }
     ensures asked { has_failed_read input.new ≡ true → WasAsked (has_failed_read input.old)
         (most_reads_of input.old) (reads_of input.old) (reads_of input.new) }
     ensures ends { EndsRun output.new result }

@@ -3,7 +3,7 @@ ghost use Rattle.std.specs.Prelude.{◌≡◌, ◌==◌, ◌≤◌, nat_le, if�
 ghost use Rattle.std.specs.List.{position, list_all};
 ghost use Rattle.std.specs.Char.{is_ascii_digit};
 ghost use Rattle.std.specs.Option.{option_copied};
-ghost use Rattle.mx_run_play.specs.Script.{IsNameOf, IsCodeOf, named, coded, value_of, is_numeral, is_silent, number_of, plain_call, handle_call, end_call, call_with, call_of, words_of, words_behind, retire_or_bad, line_of};
+ghost use Rattle.mx_run_play.specs.Script.{IsNameOf, IsCodeOf, named, coded, value_of, is_numeral, is_silent, number_of, plain_call, handle_call, end_call, call_with, call_of, words_of, words_behind, retire_or_bad, line_of, most_line};
 
 use mx_types::{Call, Code, HandleId, Ticket};
 use std::str;
@@ -249,7 +249,7 @@ fn retire_or_bad(line: &[u8]) -> Line
 // rule play-lines
 /// What a line of at most 64 bytes is.
 pub fn read_line(line: &[u8]) -> Line
-    requires { length line.now ≤ 64 }
+    requires { length line.now ≤ most_line }
     ensures { result ≡ line_of line.now }
 {
     if is_silent(line) {

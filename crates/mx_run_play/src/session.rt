@@ -1,7 +1,7 @@
 //! A script that is played as it is read.
 ghost use Rattle.std.specs.Prelude.{◌≡◌, ◌+◌, ◌<◌, ◌≤◌, ◌^◌, ◌↔◌, ◌∷◌, [], true, length, IsErr, IfOk, OnOk, None};
 ghost use Rattle.mx_run_io.specs.Ends.{reader_of, reads_of, most_reads_of, has_failed_read, has_failed_write, Wrote};
-ghost use Rattle.mx_run_play.specs.Run.{bad_line_text, WasAsked};
+ghost use Rattle.mx_run_play.specs.Run.{bad_line_text, WasAsked, most_script_reads};
 ghost use Rattle.mx_run_play.specs.Session.{IsUnended, Plays, EndsLine, PlaysAll};
 ghost use Rattle.mx_run_play.specs.declared.session.Turn.TheVariants.{Bad};
 
@@ -135,8 +135,8 @@ impl Session {
     ) -> Result<Option<Turn>, WriteFailed>
         requires empty { self.old.line.items ≡ [] }
         requires first { self.old.lines ≡ 0 }
-        requires allowed { most_reads_of input.old ≤ 4294967295 }
-        ensures reads { reads_of input.new ≤ reads_of input.old + 4294967295 }
+        requires allowed { most_reads_of input.old ≤ most_script_reads }
+        ensures reads { reads_of input.new ≤ reads_of input.old + most_script_reads }
         ensures asked { has_failed_read input.new ≡ true → WasAsked (has_failed_read input.old)
             (most_reads_of input.old) (reads_of input.old) (reads_of input.new) }
         ensures unread { IfOk result (λ turn. (turn ≡ None) ↔ (has_failed_read input.new ≡ true)) }

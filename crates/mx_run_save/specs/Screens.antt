@@ -5,6 +5,10 @@ use Rattle.std.specs.Prelude.{ℕ, ◌-◌, ◌++◌, List, take, codes}
 abbrev pub erase : List ℕ
 erase = codes "\u{1b}[K\r"
 
+-- how many milliseconds lie between two moments at which it is drawn, at least
+abbrev pub period_ms : ℕ
+period_ms = 250
+
 -- rule save-progress: The line that shows how a run stands is drawn four times a second at most, fits the columns of the terminal, and leaves
 -- the cursor at its start.
 --

@@ -1,6 +1,6 @@
 //! What is written of a run on standard error: which URLs failed, and its standing.
 ghost use Rattle.std.specs.Prelude.{◌≡◌, ◌+◌, ◌-◌, ◌^◌, ◌<◌, ◌≤◌, IfOk, take};
-ghost use Rattle.mx_run_save.specs.Screens.{progress_line};
+ghost use Rattle.mx_run_save.specs.Screens.{period_ms, progress_line};
 
 use mx_failure_text::{print_failure, print_file_limit, print_words};
 use mx_run_io::Output;
@@ -153,8 +153,8 @@ impl<E: Write> Watch for Terminal<E> {
     // rule save-progress
     fn show(&mut self, standing: &Standing)
         ensures early { standing.now.moment < self.old.next → self.new ≡ self.old }
-        ensures next { self.old.next ≤ standing.now.moment → standing.now.moment + 250 < 2 ^ 64
-            → self.new.next ≡ standing.now.moment + 250 }
+        ensures next { self.old.next ≤ standing.now.moment → standing.now.moment + period_ms < 2 ^ 64
+            → self.new.next ≡ standing.now.moment + period_ms }
     {
         if standing.moment < self.next {
             return;

@@ -6,14 +6,14 @@ use Rattle.mx_head.specs.Limits.{most_bytes}
 use Rattle.mx_run_io.specs.Faults.{PrintsFault}
 use Rattle.mx_run_body.specs.Reading.{ReadsUpTo}
 use Rattle.mx_run_body.specs.Run.{AnswersRead}
-use Rattle.mx_run_play.specs.Run.{AnswersScript, PrintsUnread, fresh}
+use Rattle.mx_run_play.specs.Run.{AnswersScript, PrintsUnread, fresh, most_script_reads}
 use Rattle.mx_command.specs.declared.task.Task.{Task as Tasks}
 use Rattle.mx_command.specs.declared.task.Task.TheVariants.{Body, Play}
 
 -- rule program-reads: `body` reads at most 67,108,866 times, `play` 4,294,967,295 times.
 abbrev pub most_reads : Tasks → ℕ
 most_reads (Body method) = most_bytes + 2
-most_reads (Play history first) = 4294967295
+most_reads (Play history first) = most_script_reads
 
 -- what a run prints and ends with where no read and no write failed
 abbrev pub AnswersTask : Tasks → ℕ → ℕ → Option (List ℕ) → Option (List ℕ) → (List ℕ → Type 0) → ℕ → Type 0
