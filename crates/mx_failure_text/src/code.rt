@@ -2,7 +2,7 @@
 ghost use Rattle.std.specs.Prelude.{◌≡◌};
 ghost use Rattle.mx_failure_text.specs.Words.{code_words, cut_words};
 
-use mx_types::Code;
+use mx_types::{Code, OUT_OF_MEMORY};
 
 /// The words of a code where no bytes are known to be refused.
 pub fn code_words(code: Code) -> &'static str
@@ -16,7 +16,7 @@ pub fn code_words(code: Code) -> &'static str
         Code::CouldntConnect => "the connection was refused, or could not be made",
         Code::WeirdServerReply => "not an HTTP response",
         Code::PartialFile => "the response ended within its body",
-        Code::OutOfMemory => "out of memory",
+        Code::OutOfMemory => OUT_OF_MEMORY,
         Code::OperationTimedout => "timed out",
         Code::TooManyRedirects => "too many redirects",
         Code::GotNothing => "the connection ended before a byte came",

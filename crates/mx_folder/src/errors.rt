@@ -2,6 +2,7 @@
 ghost use Rattle.std.specs.Prelude.{◌≡◌};
 ghost use Rattle.mx_folder.specs.Words.{folder_words};
 
+use mx_types::OUT_OF_MEMORY;
 use std::error::Error;
 use std::fmt;
 
@@ -42,7 +43,7 @@ impl FolderError {
             FolderError::TooLarge =>
                 "the file is over the limit of file sizes: ulimit -f allows more",
             FolderError::NotOpen => "the file is not open",
-            FolderError::OutOfMemory => "out of memory",
+            FolderError::OutOfMemory => OUT_OF_MEMORY,
             FolderError::Failed => "the system could not do it",
         }
     }

@@ -19,7 +19,7 @@ use mx_crew::Runtime;
 use mx_failure_text::print_cause;
 use mx_get_text::{Fetched, print_get};
 use mx_run_io::{Options, Output, end_with};
-use mx_types::Code;
+use mx_types::{Code, OUT_OF_MEMORY};
 use std::io::Write;
 use std::net::{Net, TcpListener, TcpStream};
 
@@ -29,7 +29,7 @@ fn cause_words(cause: FetchError) -> &'static str
 {
     match cause {
         FetchError::TooManyUrls => "there are more than 256 URLs",
-        FetchError::OutOfMemory => "out of memory",
+        FetchError::OutOfMemory => OUT_OF_MEMORY,
         FetchError::NoClock => "the system's clock can't be read",
         FetchError::NoPoll => "the system gives no poll of sockets, or has too many open files",
         FetchError::NoThread => "a thread can't be started",

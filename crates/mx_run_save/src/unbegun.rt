@@ -5,6 +5,7 @@ ghost use Rattle.mx_run_save.specs.Unbegun.{unbegun_line};
 
 use crate::status::OUT_OF_MEMORY;
 use mx_run_io::{Output, UNWRITTEN, WriteFailed};
+use mx_types::OutOfMemory;
 use std::io;
 use std::io::Write;
 
@@ -16,7 +17,7 @@ const OBJECT: &str =
 pub fn tell_out_of_memory(rt: &impl Eprint) -> u8
     ensures { result ≡ OUT_OF_MEMORY }
 {
-    let _ = eprintln!(rt; "mxfetch: out of memory");
+    let _ = eprintln!(rt; "mxfetch: {}", OutOfMemory);
     OUT_OF_MEMORY
 }
 

@@ -22,7 +22,7 @@ pub use crate::history::History;
 pub use crate::limits::{
     GREATEST_TICKET, LEAST_HISTORY, MOST_HANDLES, MOST_HISTORY, MOST_SEATS, MOST_TRANSFERS,
 };
-pub use crate::memory::OutOfMemory;
+pub use crate::memory::{OUT_OF_MEMORY, OutOfMemory};
 pub use crate::method::{Method, ParseMethodError};
 pub use crate::multi_code::MCode;
 pub use crate::names::{HandleId, Ticket};
