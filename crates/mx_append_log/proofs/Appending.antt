@@ -1,10 +1,10 @@
--- The exchange that adds an entry keeps the rule of the list.
+-- The exchange that adds an entry keeps the rule of the list, and so does the look at its length.
 use Rattle.std.proofs.Common.{◌≡◌, ◌≢◌, ℕ, ◌+◌, ◌<◌, ◌==◌, true, false, List, [], ◌∷◌, ◌++◌, append-nil, length, length-append, refl, sym, ap, subst, eq-eqb, ne_eqb, inl, None, arith}
 use mathlib.Core.Logic.{dite}
 use native.Mathlib.Decide.{ℕ_discrete}
 use prog.Atomic.{either}
 use Rattle.logbook.specs.Pages.{Cell, cell, keeps, no_nib, step, Moves, Goes}
-use Rattle.mx_append_log.specs.Log.{IsKept, Appends}
+use Rattle.mx_append_log.specs.Log.{IsKept, Appends, Looks}
 use Rattle.mx_append_log.proofs.Prefixes.{prefix_whole}
 
 abbrev words : ℕ → List Cell
@@ -43,3 +43,11 @@ module _ {T : Type 0} where
       rw (count, all) (at_its_length log e))
       (at_another v log e n) in
       subst (λ cs. (0 < length cs) × ((cell cs 0).1 ≡ true) × Exchanges v e n log cs) (sym kept.words) (omega arith, refl, step_from)
+
+  pub look_keeps : (v : List T) (e : T) → Moves IsKept nothing any_move 0 (v, (no_nib, None)) (λ k. k) (Looks (step 0 0 0 e) (v, (no_nib, None)))
+  look_keeps v e cells log kept begins away =
+      let all = append-nil log in
+      let seen : Goes IsKept nothing any_move 0 (v, (no_nib, None)) (λ k. k) (Looks (step 0 0 0 e) (v, (no_nib, None))) (words (length log)) log =
+      (keeps, [], None, tt, record { words = ap (λ (l : List T). words (length l)) (sym all) }, inl (refl, refl), ap length all) in
+      subst (λ cs. (0 < length cs) × ((cell cs 0).1 ≡ true) × Goes IsKept nothing any_move 0 (v, (no_nib, None)) (λ k. k) (Looks (step 0 0 0 e) (v, (no_nib, None))) cs log) (sym kept.words)
+      (omega arith, refl, seen)

@@ -21,6 +21,10 @@ first_word b = record { tracked = true; key = 0; book = b }
 abbrev pub Appends : {T : Type 0} → Step T → View T ℕ → ℕ → View T ℕ → Type 0
 Appends asked before found after = MatchBool (found == asked.old) (after.0 ≡ before.0 ++ asked.ask ∷ []) (length after.0 ≡ found)
 
+-- the whole list was seen, and its length was found
+abbrev pub Looks : {T : Type 0} → Step T → View T ℕ → ℕ → View T ℕ → Type 0
+Looks asked before found after = length after.0 ≡ found
+
 -- whether the first list is a prefix of the second
 abbrev pub DecidesBeginning : {T : Type 0} → Bool → List T → List T → Type 0
 DecidesBeginning b xs ys = MatchBool b (IsPrefix xs ys) (IsPrefix xs ys → ⊥)

@@ -1,8 +1,10 @@
 //! The growing end of a list.
 ghost use Rattle.std.specs.Prelude.{◌≡◌, ◌++◌, ◌∷◌, [], None, length, MatchBool};
+ghost use Rattle.std.specs.Bool.{OnTrue};
+ghost use mathlib.Core.List.{IsPrefix};
 
 use crate::mark::{CountedMark, LogMark};
-use crate::rule::{Append, LogRule};
+use crate::rule::{Append, LogRule, Look};
 use logbook::{Offer, Plain, Seen, Start, Word};
 use std::marker::Model;
 use std::sync::Wait;
@@ -113,5 +115,34 @@ impl<T> AppendLog<T> {
             }
         }
         unreachable!()
+    }
+
+    // rule board-marks
+    /// The entries of a mark of this list are its first ones. A step has to name an entry, by `about`, which isn't put in. It would wait for
+    /// ever where the list had more entries than were seen here; none are put in elsewhere.
+    pub fn covers<X, M: Plain<X, T, u64>, R: Wait>(&self, rt: &R, mark: &CountedMark<T>, about: &X)
+        requires book { mark.now.book ≡ self.now.book }
+        requires plain { M.state about.now ≡ None }
+        ensures { IsPrefix mark.now.entries self.now.entries }
+    {
+        for _ in rt.forever() {
+            if self.is_whole::<X, M>(mark, about) {
+                return;
+            }
+        }
+        unreachable!()
+    }
+
+    // Whether the list has no more entries than were seen here. Then they include those of the mark.
+    fn is_whole<X, M: Plain<X, T, u64>>(&self, mark: &CountedMark<T>, about: &X) -> bool
+        requires book { mark.now.book ≡ self.now.book }
+        requires plain { M.state about.now ≡ None }
+        ensures { OnTrue result (IsPrefix mark.now.entries self.now.entries) }
+    {
+        let mut seen = self.seen.again();
+        seen.learn(&mark.mark.seen);
+        let mut offer: Offer<T, u64, LogRule, Append> = seen.plain::<Append, X, M>(about);
+        let found = self.word.load::<Look, Append>(&mut seen, &mut offer);
+        found == self.count
     }
 }

@@ -1,4 +1,4 @@
-//! The rule of such a list, and its one kind of step.
+//! The rule of such a list, and its two kinds of steps.
 
 use logbook::{Gain, Plain, Play, Rule};
 
@@ -23,7 +23,7 @@ impl<T> Rule<T, u64> for LogRule {
     ghost first = { [] };
 }
 
-/// The one kind of step: an entry is put after all that were seen.
+/// A step that adds: an entry is put after all that were seen.
 pub struct Append;
 
 impl<T> Play<T, u64> for Append {
@@ -36,6 +36,15 @@ impl<T> Gain<T, u64> for Append {
     ghost use base.Fml.{ftrue};
 
     ghost after = { λ _ _ _. ftrue };
+}
+
+/// A step that looks: all entries that there are were then seen.
+pub struct Look;
+
+impl<T> Play<T, u64> for Look {
+    ghost use Rattle.mx_append_log.specs.Log.{Looks};
+
+    ghost then = { Looks };
 }
 
 /// An entry that is given as it is.
