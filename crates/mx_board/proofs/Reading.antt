@@ -71,3 +71,7 @@ one_begins_other xs ys o p b h = rw (confirms xs o, confirms ys p) (go b h)
     go : (b : Bool) → MatchBool b (IsPrefix ys xs) (IsPrefix xs ys) → OneBeginsOther xs ys
     go true q = inr q
     go false q = inl q
+
+-- what is confirmed is the mark
+pub confirmed_begins : (xs j : List Event) (o : Option Event) → IsPrefix xs j → IsPrefix (take (length xs) (xs ++ option_to_list o)) j
+confirmed_begins xs j o p = subst (λ l. IsPrefix l j) (sym (confirms xs o)) p

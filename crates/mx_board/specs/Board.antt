@@ -62,6 +62,8 @@ AreOfOneJournal xs ys = (j : List Event) × BeginsButLast xs j × BeginsButLast 
 abbrev pub OneBeginsOther : List Event → List Event → Type 0
 OneBeginsOther xs ys = IsPrefix xs ys ⊎ IsPrefix ys xs
 
+-- rule board-confirmed: What is confirmed of what a reader has seen, its board has.
+--
 -- the confirmed events of a reader
 abbrev pub confirmed_of : ReaderState → List Event
 confirmed_of r = take r.confirmed r.seen

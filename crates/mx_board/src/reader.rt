@@ -16,6 +16,7 @@ use crate::version::{CatchesUp, VersionReader};
 use crate::writer::BoardWriter;
 use mx_types::{AddedHandles, Event, HandleId, Look, State, Ticket, Who};
 use std::marker::Model;
+use std::sync::Wait;
 
 /// A maker's reader of the published versions. Contracts see the maker, the events that it has seen, of which journal, and
 /// how many of these are confirmed: by a place in the journal, and not by a read alone.
@@ -293,6 +294,16 @@ impl BoardWriter {
     {
         let place = self.place()?;
         Some(at_place(Some(place), self, who))
+    }
+
+    // rule board-confirmed
+    /// What is confirmed of what a reader of this board has seen are the first events of the board. It looks at the journal's length once,
+    /// and would wait for ever where that had become longer elsewhere, which nothing does.
+    pub fn covers<R: Wait>(&self, rt: &R, reader: &BoardReader)
+        requires { reader.now.book ≡ self.now.book }
+        ensures { IsPrefix (confirmed_of reader.now) self.now.events }
+    {
+        self.covers_mark(rt, &reader.mark)
     }
 }
 

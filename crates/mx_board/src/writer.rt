@@ -1,6 +1,7 @@
 //! Where events are appended, and their table published.
 ghost use Rattle.std.specs.Prelude.{◌≡◌, ◌++◌, ◌∷◌, ◌<◌, [], true, false, length, drop, IfOk, IfSome, OnOk, OnErr, MatchBool};
 ghost use Rattle.std.specs.Mem.{manually_drop_value};
+ghost use mathlib.Core.List.{IsPrefix};
 ghost use Rattle.left_right.specs.Sides.{view};
 ghost use Rattle.mx_history.specs.History.{is_legal, is_maker, made_by};
 ghost use Rattle.mx_history.specs.Table.{IsTableOf, empty_table};
@@ -15,7 +16,7 @@ use left_right::writer::Writer;
 use mx_append_log::{AppendLog, Itself};
 use mx_history::Log;
 use mx_table::Table;
-use mx_types::{Event, OutOfMemory, Who};
+use mx_types::{Event, OutOfMemory, What, Who};
 use std::alloc::Global;
 use std::marker::Model;
 use std::mem::ManuallyDrop;
@@ -257,6 +258,19 @@ impl BoardWriter {
         ensures { result ≡ mark_of self.now.events self.now.book }
     {
         self.journal.counted()
+    }
+
+    // The events of a mark of this journal are its first ones.
+    pub(crate) fn covers_mark<R: Wait>(&self, rt: &R, mark: &JournalMark)
+        requires { mark.now.book ≡ self.now.book }
+        ensures { IsPrefix mark.now.entries self.now.events }
+    {
+        // A look at the journal has to name an event, which isn't appended.
+        let unused = Event {
+            who: Who::Seat(0),
+            what: What::Wake,
+        };
+        self.journal.covers::<Event, Itself, R>(rt, mark, &unused);
     }
 
     /// Ends the board: it waits for the readers that read, gives its memory back, and hands out the table that was
