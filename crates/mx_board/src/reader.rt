@@ -69,7 +69,7 @@ impl Model for BoardReader {
 
 /// What a version shows: the answer, how many events the reader's maker made, how many there are, and the journal.
 #[derive(Drop)]
-struct Reading<A: Drop> {
+struct VersionReading<A: Drop> {
     answer: A,
     made: u32,
     cut: u32,
@@ -82,7 +82,7 @@ fn look<Q: Query>(
     place: VersionReader,
     query: &Q,
     who: Who,
-) -> (VersionReader, Option<Reading<Q::Answer>>)
+) -> (VersionReader, Option<VersionReading<Q::Answer>>)
     requires { is_maker who ≡ true }
     ensures { MatchOption result.1 (view result.0.place ≡ view place.place) (λ f. (x : Shown) × (x.1 ≡ mark_of (f.mark.entries ++ option_to_list f.last) f.mark.book) × CaughtUp (view place.place) x (view result.0.place) × Q.is_answer query.now x.1.entries f.answer × (f.made ≡ made_by who x.1.entries) × (f.cut ≡ length x.1.entries)) }
 {
@@ -93,7 +93,7 @@ fn look<Q: Query>(
             let made = version.table().made(who);
             let cut = version.table().len();
             let (mark, last) = version.journal();
-            let reading = Reading {
+            let reading = VersionReading {
                 answer,
                 made,
                 cut,
@@ -191,7 +191,7 @@ impl BoardReader {
         let Some(reading) = reading else {
             return None;
         };
-        let Reading {
+        let VersionReading {
             answer,
             made,
             cut,

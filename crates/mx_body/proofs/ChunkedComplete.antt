@@ -9,8 +9,8 @@ use Rattle.std.specs.Char.{digit_value, is_ascii_hexdigit}
 use Rattle.std.specs.Str.Parse.{digits_value, digits_value_after}
 use Rattle.httparse.specs.Ascii.{crlf_bytes, semicolon}
 use Rattle.httparse.specs.Grammar.{is_ows}
-use Rattle.mx_body.specs.declared.chunked.place.Place.{Place}
-use Rattle.mx_body.specs.declared.chunked.place.Place.TheVariants.{Start, Size, Extension, SizeLf, Data, DataCr, DataLf, TrailerStart, Trailer, TrailerLf, EndLf, Done}
+use Rattle.mx_body.specs.declared.chunked.place.ChunkedPlace.{ChunkedPlace}
+use Rattle.mx_body.specs.declared.chunked.place.ChunkedPlace.TheVariants.{Start, Size, Extension, SizeLf, Data, DataCr, DataLf, TrailerStart, Trailer, TrailerLf, EndLf, Done}
 use Rattle.mx_body.specs.Chunked.{is_line_byte, IsChunkSize, IsChunkExtension, ChunkOpening, opening_bytes, chunk_size, IsChunkOpening, Chunk, chunk_bytes, IsChunk, IsTrailer, ChunkedBody, chunks_bytes, chunked_bytes, IsChunkedBody, HasSizes}
 use Rattle.mx_body.specs.ChunkedPlace.{in_line, after_line, next_place, place_after}
 use Rattle.mx_body.proofs.ChunkedRun.{by_byte, place_after-append, data_all}
@@ -41,7 +41,7 @@ module _ (limit : ℕ) where
   pub step_opens : (n b : ℕ) → is_ascii_hexdigit b ≡ false → (is_ows b || b == semicolon) ≡ true → next_place limit (Size n) b ≡ Extension n
   step_opens n b not_hex is = cc
 
-  pub step_line : (b : ℕ) (on ends : Place) → is_line_byte b ≡ true → in_line b on ends ≡ on
+  pub step_line : (b : ℕ) (on ends : ChunkedPlace) → is_line_byte b ≡ true → in_line b on ends ≡ on
   step_line b on ends is = grind (arith, nat_tests)
 
   run_digits : (ds : List ℕ) (n : ℕ) (rest : List ℕ) → AllPass is_ascii_hexdigit ds → digits_value_after 16 n ds ≤ limit

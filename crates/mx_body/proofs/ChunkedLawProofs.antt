@@ -8,8 +8,8 @@ use Rattle.std.specs.Str.Parse.{digits_value}
 use Rattle.httparse.specs.Ascii.{crlf_bytes}
 use Rattle.mx_body.specs.declared.part.Part.{Part}
 use Rattle.mx_body.specs.declared.chunked.scan.ChunkedScan.TheVariants as scan
-use Rattle.mx_body.specs.declared.chunked.place.Place.{Place}
-use Rattle.mx_body.specs.declared.chunked.place.Place.TheVariants.{Start, Size, Extension, Data, DataCr, DataLf, Done, Bad, TooLarge}
+use Rattle.mx_body.specs.declared.chunked.place.ChunkedPlace.{ChunkedPlace}
+use Rattle.mx_body.specs.declared.chunked.place.ChunkedPlace.TheVariants.{Start, Size, Extension, Data, DataCr, DataLf, Done, Bad, TooLarge}
 use Rattle.mx_body.specs.Chunked.{IsChunkExtension, opening_bytes, chunk_size, Chunk, IsChunk, chunk_bytes, ChunkedBody, chunks_bytes, trailers_bytes, chunked_bytes, chunked_data, chunk_parts, MayBecomeChunked}
 use Rattle.mx_body.specs.ChunkedPlace.{expect, next_place, place_after, is_settled}
 use Rattle.mx_body.specs.ChunkedScan.{IsUndecidedChunked, NeverHasChunked, IsChunkedScan}
@@ -201,7 +201,7 @@ crlf_behind_data chunks line bytes b c rest are is some sized may =
     (cr, wanted limit c 10 DataLf Start rest refl (λ bad. bad_never limit _ (to_cr ∙ to_lf ∙ bad) may))
   where
     -- where only one byte is allowed, and the bytes aren't bad, it is there
-    wanted : (limit b w : ℕ) (place next : Place) (rest : List ℕ) → next_place limit place b ≡ expect b w next → ¬ (place_after limit place (b ∷ rest) ≡ Bad) → b ≡ w
+    wanted : (limit b w : ℕ) (place next : ChunkedPlace) (rest : List ℕ) → next_place limit place b ≡ expect b w next → ¬ (place_after limit place (b ∷ rest) ≡ Bad) → b ≡ w
     wanted limit b w place next rest step not_bad = by_test (eqb b w) refl
       where
         by_test : (t : Bool) → eqb b w ≡ t → b ≡ w

@@ -8,8 +8,8 @@ use Rattle.std.proofs.lemmas.Bool.Decides.{nat_tests}
 use Rattle.std.specs.Char.{digit_value, is_ascii_hexdigit}
 use Rattle.std.specs.Str.Parse.{digits_value}
 use Rattle.mx_body.specs.declared.part.Part.{Part}
-use Rattle.mx_body.specs.declared.chunked.place.Place.{Place}
-use Rattle.mx_body.specs.declared.chunked.place.Place.TheVariants.{Start, Size, Extension, SizeLf, Data, DataCr, DataLf, TrailerStart, Trailer, TrailerLf, EndLf, Done, Bad, TooLarge}
+use Rattle.mx_body.specs.declared.chunked.place.ChunkedPlace.{ChunkedPlace}
+use Rattle.mx_body.specs.declared.chunked.place.ChunkedPlace.TheVariants.{Start, Size, Extension, SizeLf, Data, DataCr, DataLf, TrailerStart, Trailer, TrailerLf, EndLf, Done, Bad, TooLarge}
 use Rattle.mx_body.specs.Chunked.{opening_bytes, chunk_size, Chunk, chunk_bytes, IsChunk, ChunkedBody, chunks_bytes, trailers_bytes, chunked_bytes, IsChunkedBody, HasSizes, MayBecomeChunked, EndsInLargeSize}
 use Rattle.mx_body.specs.ChunkedPlace.{sized, after_digits, next_place, place_after, is_settled, parts_begun}
 use Rattle.mx_body.specs.ChunkedScan.{IsUndecidedChunked, NeverHasChunked, IsDecidedBy}
@@ -45,11 +45,11 @@ module _ (low high : ℕ) (below : low ≤ high) where
           inl (grind (arith, nat_tests))
 
   -- a test that chooses between equal places
-  same_choice : (t : Bool) (p q r : Place) → (p ≡ TooLarge) ⊎ (q ≡ p) → (cond t p r ≡ TooLarge) ⊎ (cond t q r ≡ cond t p r)
+  same_choice : (t : Bool) (p q r : ChunkedPlace) → (p ≡ TooLarge) ⊎ (q ≡ p) → (cond t p r ≡ TooLarge) ⊎ (cond t q r ≡ cond t p r)
   same_choice true p q r h = h
   same_choice false p q r h = inr refl
 
-  step_same : (place : Place) (b : ℕ) → (next_place low place b ≡ TooLarge) ⊎ (next_place high place b ≡ next_place low place b)
+  step_same : (place : ChunkedPlace) (b : ℕ) → (next_place low place b ≡ TooLarge) ⊎ (next_place high place b ≡ next_place low place b)
   step_same Start b = same_choice (is_ascii_hexdigit b) _ _ Bad (sized_same (digit_value b))
   step_same (Size n) b = same_choice (is_ascii_hexdigit b) _ _ (after_digits n b) (sized_same (n * 16 + digit_value b))
   step_same (Extension n) b = inr refl
@@ -66,7 +66,7 @@ module _ (low high : ℕ) (below : low ≤ high) where
   step_same TooLarge b = inr refl
 
   -- under the lower limit a size is over it, or the place is the same
-  pub place_same : (bs : List ℕ) (place : Place) → (place_after low place bs ≡ TooLarge) ⊎ (place_after high place bs ≡ place_after low place bs)
+  pub place_same : (bs : List ℕ) (place : ChunkedPlace) → (place_after low place bs ≡ TooLarge) ⊎ (place_after high place bs ≡ place_after low place bs)
   place_same [] place = inr (place_after-nil high place ∙ sym (place_after-nil low place))
   place_same (b ∷ bs) place =
       ⊎_elim (λ large. inl (by_byte low place TooLarge b bs large ∙ too_large_stays low bs))
@@ -76,7 +76,7 @@ module _ (low high : ℕ) (below : low ≤ high) where
       (step_same place b)
 
 module _ (limit : ℕ) where
-  abbrev At : List ℕ → Place
+  abbrev At : List ℕ → ChunkedPlace
   At bs = place_after limit Start bs
 
   -- what follows a whole body
@@ -125,10 +125,10 @@ module _ (limit : ℕ) where
   done_reads at bs done = subst (λ p. Reads limit at p bs (parts_begun limit Start at bs)) done (reads_input limit at bs (λ e. cc))
 
   -- some bytes lead from any place to the end of a body
-  abbrev CanFinish : Place → Type 0
+  abbrev CanFinish : ChunkedPlace → Type 0
   CanFinish place = (more : List ℕ) × (place_after limit place more ≡ Done)
 
-  finish_by : (b : ℕ) (place next : Place) → next_place limit place b ≡ next → CanFinish next → CanFinish place
+  finish_by : (b : ℕ) (place next : ChunkedPlace) → next_place limit place b ≡ next → CanFinish next → CanFinish place
   finish_by b place next e h = (b ∷ h.0, by_byte limit place next b h.0 e ∙ h.1)
 
   finish_trailers : CanFinish TrailerStart
@@ -166,7 +166,7 @@ module _ (limit : ℕ) where
       by_test true none = finish_by 10 (SizeLf size) TrailerStart (ap (λ t. cond t TrailerStart (Data size)) none) finish_trailers
       by_test false some = finish_by 10 (SizeLf size) (Data size) (ap (λ t. cond t TrailerStart (Data size)) some) (finish_data size)
 
-  finish : (place : Place) → is_settled place ≡ false → CanFinish place
+  finish : (place : ChunkedPlace) → is_settled place ≡ false → CanFinish place
   finish Start live = finish_start
   finish (Size n) live = finish_by 13 (Size n) (SizeLf n) refl (finish_line n)
   finish (Extension n) live = finish_by 13 (Extension n) (SizeLf n) refl (finish_line n)
@@ -240,5 +240,5 @@ module _ (limit : ℕ) where
       let next : next_place limit (At front) b ≡ TooLarge = sym (place_after-nil limit _) ∙ sym (place_after-cons limit (At front) b []) ∙ sym (place_after-append limit Start front (b ∷ [])) ∙ over in
       at_large (next_place limit (At front) b) _ next read
     where
-      at_large : (place : Place) (parts : List Part) → place ≡ TooLarge → Reads limit 0 place (front ++ b ∷ []) parts → EndsInLargeSize limit (front ++ b ∷ [])
+      at_large : (place : ChunkedPlace) (parts : List Part) → place ≡ TooLarge → Reads limit 0 place (front ++ b ∷ []) parts → EndsInLargeSize limit (front ++ b ∷ [])
       at_large place parts e h = subst (λ p. Reads limit 0 p (front ++ b ∷ []) parts) e h

@@ -4,8 +4,8 @@ use Rattle.std.proofs.lemmas.List.{append-nil, take-append-drop, take_all, take_
 use Rattle.std.proofs.Math.Seq.{take-add}
 use Rattle.std.proofs.lemmas.Bool.{leb-true, leb-false}
 use Rattle.mx_body.specs.declared.part.Part.{Part}
-use Rattle.mx_body.specs.declared.chunked.place.Place.{Place}
-use Rattle.mx_body.specs.declared.chunked.place.Place.TheVariants.{Start, Size, Extension, SizeLf, Data, DataCr, DataLf, TrailerStart, Trailer, TrailerLf, EndLf, Done, Bad, TooLarge}
+use Rattle.mx_body.specs.declared.chunked.place.ChunkedPlace.{ChunkedPlace}
+use Rattle.mx_body.specs.declared.chunked.place.ChunkedPlace.TheVariants.{Start, Size, Extension, SizeLf, Data, DataCr, DataLf, TrailerStart, Trailer, TrailerLf, EndLf, Done, Bad, TooLarge}
 use Rattle.mx_body.specs.Chunked.{ChunkedBody, IsChunkedBody, chunked_bytes, chunk_parts}
 use Rattle.mx_body.specs.ChunkedPlace.{place_after, data_left, begun, parts_begun}
 use Rattle.mx_body.proofs.ChunkedRun.{place_after-nil, place_after-append, by_byte, data_more, parts_begun-append}
@@ -31,12 +31,12 @@ data_fits limit (b ∷ d ∷ xs) left done = by_test (nat_le left 1) refl (data_
     by_test false is later = omega (arith, later (sym (by_byte limit _ _ b (d ∷ xs) (data_more limit left b (leb-false left 1 is))) ∙ done))
 
 module _ (limit at : ℕ) (input : List ℕ) where
-  abbrev At : ℕ → Place
+  abbrev At : ℕ → ChunkedPlace
   At n = place_after limit Start (take n input)
 
   -- the parts, a piece of the rest on
   -- the parts begun further on, by the offset after the bytes that begin them
-  pub further_begun : (n len : ℕ) (place : Place) (more : ℕ → List Part) → n ≤ length input → At n ≡ place
+  pub further_begun : (n len : ℕ) (place : ChunkedPlace) (more : ℕ → List Part) → n ≤ length input → At n ≡ place
       → parts_begun limit place (at + n) (take len (take (length input - n) (drop n input))) ≡ more (at + n + len)
       → parts_begun limit Start at (take (n + len) input) ≡ parts_begun limit Start at (take n input) ++ more (at + (n + len))
   further_begun n len place more within here begins =
@@ -51,7 +51,7 @@ module _ (limit at : ℕ) (input : List ℕ) where
       ∙ ap (λ t. parts_begun limit Start at front ++ parts_begun limit place (at + n) (take len t)) (sym (take_rest input n))
       ∙ ap (λ ps. parts_begun limit Start at front ++ ps) (begins ∙ ap more regrouped)
 
-  pub further_parts : (n len : ℕ) (place next : Place) → n ≤ length input → At n ≡ place
+  pub further_parts : (n len : ℕ) (place next : ChunkedPlace) → n ≤ length input → At n ≡ place
       → parts_begun limit place (at + n) (take len (take (length input - n) (drop n input))) ≡ begun place next (at + n + len)
       → parts_begun limit Start at (take (n + len) input) ≡ parts_begun limit Start at (take n input) ++ begun place next (at + (n + len))
   further_parts n len place next = further_begun n len place (begun place next)
@@ -64,7 +64,7 @@ module _ (limit at : ℕ) (input : List ℕ) where
         ∙ place_after-nil limit Done
 
     -- the data that begins at a place is in the input
-    pub has_room : (n : ℕ) (place : Place) → n ≤ length input → At n ≡ place → n + data_left place ≤ length input
+    pub has_room : (n : ℕ) (place : ChunkedPlace) → n ≤ length input → At n ≡ place → n + data_left place ≤ length input
     has_room n (Data left) within here =
         let back : place_after limit (Data left) (drop n input) ≡ Done =
         ap (λ p. place_after limit p (drop n input)) (sym here) ∙ sym (place_after-append limit Start (take n input) (drop n input)) ∙ ap (place_after limit Start) (take-append-drop n input) ∙ ends in

@@ -1,8 +1,8 @@
 -- What a reader of a chunked body needs beside what a scan does.
 use Rattle.std.proofs.Common.{◌≡◌, ℕ, ◌+◌, ◌-◌, ◌<◌, ◌≤◌, List, ◌++◌, length, take, drop, subst, arith, sym, ap, ◌∙◌}
 use Rattle.std.proofs.lemmas.List.{take_all, take_rest, take-append-drop, length-drop, append-nil}
-use Rattle.mx_body.specs.declared.chunked.place.Place.{Place}
-use Rattle.mx_body.specs.declared.chunked.place.Place.TheVariants.{Start, Size, Extension, SizeLf, Data, DataCr, DataLf, TrailerStart, Trailer, TrailerLf, EndLf, Done, Bad, TooLarge}
+use Rattle.mx_body.specs.declared.chunked.place.ChunkedPlace.{ChunkedPlace}
+use Rattle.mx_body.specs.declared.chunked.place.ChunkedPlace.TheVariants.{Start, Size, Extension, SizeLf, Data, DataCr, DataLf, TrailerStart, Trailer, TrailerLf, EndLf, Done, Bad, TooLarge}
 use Rattle.mx_body.specs.ChunkedPlace.{place_after, data_left, parts_begun}
 use Rattle.mx_body.specs.Chunked.{ChunkedBody, IsChunkedBody, chunked_bytes, chunk_parts}
 use Rattle.mx_body.proofs.ChunkedSound.{Reads, reads_input}
@@ -16,7 +16,7 @@ use Rattle.mx_body.proofs.ChunkedSteps.{further}
 use Rattle.mx_body.proofs.ChunkedRun.{place_after-append, parts_begun-append, data_part, data_begins_none}
 
 -- the data still to come are within the limit
-pub left_fits : (limit : ℕ) (bs : List ℕ) (place : Place) → place_after limit Start bs ≡ place → data_left place ≤ limit
+pub left_fits : (limit : ℕ) (bs : List ℕ) (place : ChunkedPlace) → place_after limit Start bs ≡ place → data_left place ≤ limit
 left_fits limit bs (Data left) e =
     let reads = subst (λ p. Reads limit 0 p bs (parts_begun limit Start 0 bs)) e (reads_input limit 0 bs (λ large. cc)) in
     omega (arith, reads.1.value, reads.1.small)
@@ -67,7 +67,7 @@ data_passed limit body left n k r h is short rest_is end =
     }
 
 -- a stretch further on
-pub led : (limit at : ℕ) (body : List ℕ) (read : ℕ) (place : Place) (parts : List Part) (s : Stretch) → ReadTo limit at body read place parts
+pub led : (limit at : ℕ) (body : List ℕ) (read : ℕ) (place : ChunkedPlace) (parts : List Part) (s : Stretch) → ReadTo limit at body read place parts
     → IsStretch limit place (take (length body - read) (drop read body)) s
     → ReadTo limit at body (read + s.len) s.next (parts ++ part_begun s.ahead (at + (read + s.len)))
 led limit at body read place parts s r is = record {

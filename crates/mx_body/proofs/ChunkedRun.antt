@@ -3,25 +3,25 @@ use Rattle.std.proofs.Common.{◌≡◌, ℕ, suc, ◌+◌, ◌-◌, ◌<◌, �
 use Rattle.std.proofs.lemmas.List.Sums.{fold-append}
 use Rattle.std.proofs.lemmas.List.{append_assoc, append-nil}
 use Rattle.std.proofs.lemmas.Bool.Decides.{nat_tests}
-use Rattle.mx_body.specs.declared.chunked.place.Place.{Place}
-use Rattle.mx_body.specs.declared.chunked.place.Place.TheVariants.{Start, Size, Extension, SizeLf, Data, DataCr, DataLf, TrailerStart, Trailer, TrailerLf, EndLf, Done, Bad, TooLarge}
+use Rattle.mx_body.specs.declared.chunked.place.ChunkedPlace.{ChunkedPlace}
+use Rattle.mx_body.specs.declared.chunked.place.ChunkedPlace.TheVariants.{Start, Size, Extension, SizeLf, Data, DataCr, DataLf, TrailerStart, Trailer, TrailerLf, EndLf, Done, Bad, TooLarge}
 use Rattle.mx_body.specs.ChunkedPlace.{next_place, place_after, is_settled, begun, parts_begun}
 
 module _ (limit : ℕ) where
-  pub place_after-nil : (place : Place) → place_after limit place [] ≡ place
+  pub place_after-nil : (place : ChunkedPlace) → place_after limit place [] ≡ place
   unfolding place_after
   place_after-nil place = refl
 
-  pub place_after-cons : (place : Place) (b : ℕ) (bytes : List ℕ) → place_after limit place (b ∷ bytes) ≡ place_after limit (next_place limit place b) bytes
+  pub place_after-cons : (place : ChunkedPlace) (b : ℕ) (bytes : List ℕ) → place_after limit place (b ∷ bytes) ≡ place_after limit (next_place limit place b) bytes
   unfolding place_after
   place_after-cons place b bytes = refl
 
-  pub place_after-append : (place : Place) (xs ys : List ℕ) → place_after limit place (xs ++ ys) ≡ place_after limit (place_after limit place xs) ys
+  pub place_after-append : (place : ChunkedPlace) (xs ys : List ℕ) → place_after limit place (xs ++ ys) ≡ place_after limit (place_after limit place xs) ys
   unfolding place_after
   place_after-append place xs ys = fold-append (next_place limit) place xs ys
 
   -- a byte, with the place that it leads to
-  pub by_byte : (place next : Place) (b : ℕ) (bytes : List ℕ) → next_place limit place b ≡ next → place_after limit place (b ∷ bytes) ≡ place_after limit next bytes
+  pub by_byte : (place next : ChunkedPlace) (b : ℕ) (bytes : List ℕ) → next_place limit place b ≡ next → place_after limit place (b ∷ bytes) ≡ place_after limit next bytes
   by_byte place next b bytes e = place_after-cons place b bytes ∙ ap (λ p. place_after limit p bytes) e
 
   pub data_more : (left b : ℕ) → 1 < left → next_place limit (Data left) b ≡ Data (left - 1)
@@ -60,7 +60,7 @@ module _ (limit : ℕ) where
   done_ends b xs = by_byte _ _ b xs refl ∙ bad_stays xs
 
   -- what is settled stays so
-  pub settled_stays : (place : Place) (xs : List ℕ) → is_settled place ≡ true → is_settled (place_after limit place xs) ≡ true
+  pub settled_stays : (place : ChunkedPlace) (xs : List ℕ) → is_settled place ≡ true → is_settled (place_after limit place xs) ≡ true
   settled_stays place [] is = ap is_settled (place_after-nil place) ∙ is
   settled_stays Done (b ∷ xs) is = ap is_settled (done_ends b xs)
   settled_stays Bad (b ∷ xs) is = ap is_settled (bad_stays (b ∷ xs))
@@ -78,22 +78,22 @@ module _ (limit : ℕ) where
   settled_stays EndLf (b ∷ xs) is = cc
 
   -- one byte at the front of a list
-  pub first_byte : (place : Place) (xs : List ℕ) → 0 < length xs → next_place limit place (get_or xs 0 0) ≡ place_after limit place (take 1 xs)
+  pub first_byte : (place : ChunkedPlace) (xs : List ℕ) → 0 < length xs → next_place limit place (get_or xs 0 0) ≡ place_after limit place (take 1 xs)
   unfolding place_after
   first_byte place [] some = absurd (omega arith)
   first_byte place (b ∷ xs) some = refl
 
   -- the parts that no byte, a byte and what follows it, and two texts begin
-  pub parts_begun-nil : (place : Place) (at : ℕ) → parts_begun limit place at [] ≡ []
+  pub parts_begun-nil : (place : ChunkedPlace) (at : ℕ) → parts_begun limit place at [] ≡ []
   unfolding parts_begun
   parts_begun-nil place at = refl
 
-  pub parts_begun-cons : (place : Place) (at b : ℕ) (bytes : List ℕ)
+  pub parts_begun-cons : (place : ChunkedPlace) (at b : ℕ) (bytes : List ℕ)
       → parts_begun limit place at (b ∷ bytes) ≡ begun place (next_place limit place b) (at + 1) ++ parts_begun limit (next_place limit place b) (at + 1) bytes
   unfolding parts_begun
   parts_begun-cons place at b bytes = refl
 
-  pub parts_begun-append : (place : Place) (at : ℕ) (xs ys : List ℕ)
+  pub parts_begun-append : (place : ChunkedPlace) (at : ℕ) (xs ys : List ℕ)
       → parts_begun limit place at (xs ++ ys) ≡ parts_begun limit place at xs ++ parts_begun limit (place_after limit place xs) (at + length xs) ys
   unfolding parts_begun place_after
   parts_begun-append place at [] ys =
@@ -115,7 +115,7 @@ module _ (limit : ℕ) where
       ∙ data_begins_none (d ∷ xs) (left - 1) (at + 1) (omega arith)
 
   -- what the first byte begins
-  pub first_begins : (place : Place) (at : ℕ) (xs : List ℕ) → 0 < length xs → parts_begun limit place at (take 1 xs) ≡ begun place (next_place limit place (get_or xs 0 0)) (at + 1)
+  pub first_begins : (place : ChunkedPlace) (at : ℕ) (xs : List ℕ) → 0 < length xs → parts_begun limit place at (take 1 xs) ≡ begun place (next_place limit place (get_or xs 0 0)) (at + 1)
   first_begins place at [] some = absurd (omega arith)
   first_begins place at (b ∷ xs) some =
       let next = next_place limit place b in

@@ -11,8 +11,8 @@ use Rattle.std.specs.Str.Parse.{digits_value}
 use Rattle.std.proofs.lemmas.Int.Digits.{digits_value_push}
 use Rattle.httparse.specs.Ascii.{crlf_bytes}
 use Rattle.mx_body.specs.declared.part.Part.{Part}
-use Rattle.mx_body.specs.declared.chunked.place.Place.{Place}
-use Rattle.mx_body.specs.declared.chunked.place.Place.TheVariants.{Start, Size, Extension, SizeLf, Data, DataCr, DataLf, TrailerStart, Trailer, TrailerLf, EndLf, Done, Bad, TooLarge}
+use Rattle.mx_body.specs.declared.chunked.place.ChunkedPlace.{ChunkedPlace}
+use Rattle.mx_body.specs.declared.chunked.place.ChunkedPlace.TheVariants.{Start, Size, Extension, SizeLf, Data, DataCr, DataLf, TrailerStart, Trailer, TrailerLf, EndLf, Done, Bad, TooLarge}
 use Rattle.mx_body.specs.Chunked.{is_line_byte, IsChunkSize, IsChunkExtension, ChunkOpening, opening_bytes, chunk_size, IsChunkOpening, Chunk, chunk_bytes, IsChunk, IsTrailer, ChunkedBody, chunks_bytes, chunked_bytes, IsChunkedBody, HasSizes, chunk_parts, EndsInLargeSize}
 use Rattle.mx_body.specs.ChunkedPlace.{sized, after_digits, in_line, expect, after_line, next_place, place_after, is_settled, begun, parts_begun}
 use Rattle.mx_body.proofs.ChunkedRun.{parts_begun-nil, parts_begun-cons, place_after-nil, place_after-cons, bad_stays, too_large_stays, done_ends}
@@ -82,7 +82,7 @@ module _ (limit at : ℕ) where
     pub text : bytes ≡ chunked_bytes body
 
   -- what the bytes are at each place, and the parts begun
-  abbrev pub Reads : Place → List ℕ → List Part → Type 0
+  abbrev pub Reads : ChunkedPlace → List ℕ → List Part → Type 0
   Reads Start bytes parts = (chunks : List Chunk) × AreChunks chunks parts × (bytes ≡ chunks_bytes chunks)
   Reads (Size size) bytes parts = InSize size bytes parts
   Reads (Extension size) bytes parts = (l : InLine size [] bytes parts) × (0 < length l.line.extension)
@@ -99,7 +99,7 @@ module _ (limit at : ℕ) where
   Reads TooLarge bytes parts = EndsInLargeSize limit bytes
 
   -- the two cases of a test that chooses a place
-  by_test : (P : Place → Type 0) (t : Bool) (x y : Place) → (t ≡ true → P x) → (t ≡ false → P y) → P (cond t x y)
+  by_test : (P : ChunkedPlace → Type 0) (t : Bool) (x y : ChunkedPlace) → (t ≡ true → P x) → (t ≡ false → P y) → P (cond t x y)
   by_test P true x y one other = one refl
   by_test P false x y one other = other refl
 
@@ -135,10 +135,10 @@ module _ (limit at : ℕ) where
 
   module _ (b : ℕ) (bytes : List ℕ) (parts : List Part) where
     -- what holds of the place after the byte, where the byte begins no part
-    abbrev Then : Place → Type 0
+    abbrev Then : ChunkedPlace → Type 0
     Then next = Reads next (bytes ++ b ∷ []) (parts ++ [])
 
-    same_parts : (next : Place) → Reads next (bytes ++ b ∷ []) parts → Then next
+    same_parts : (next : ChunkedPlace) → Reads next (bytes ++ b ∷ []) parts → Then next
     same_parts next h = subst (Reads next (bytes ++ b ∷ [])) (sym (append-nil parts)) h
 
     -- the bytes with the one that was wanted
@@ -186,7 +186,7 @@ module _ (limit at : ℕ) where
 
     after_size_lf : (size : ℕ) → InLine size (13 ∷ []) bytes parts → Reads (next_place limit (SizeLf size) b) (bytes ++ b ∷ []) (parts ++ begun (SizeLf size) (next_place limit (SizeLf size) b) (at + length bytes + 1))
     after_size_lf size h =
-        let P : Place → Type 0 = λ next. Reads next (bytes ++ b ∷ []) (parts ++ begun (SizeLf size) next (at + length bytes + 1)) in
+        let P : ChunkedPlace → Type 0 = λ next. Reads next (bytes ++ b ∷ []) (parts ++ begun (SizeLf size) next (at + length bytes + 1)) in
         by_test P (b == 10) (after_line size) Bad
         (λ lf. by_test P (size == 0) TrailerStart (Data size)
         (λ none. subst (λ ps. InTrailers [] (bytes ++ b ∷ []) ps) (sym (append-nil parts))
@@ -355,7 +355,7 @@ module _ (limit at : ℕ) where
         (λ _. after_size size h)
 
     -- one byte on
-    pub reads_byte : (place : Place) → is_settled place ≡ false → Reads place bytes parts
+    pub reads_byte : (place : ChunkedPlace) → is_settled place ≡ false → Reads place bytes parts
         → Reads (next_place limit place b) (bytes ++ b ∷ []) (parts ++ begun place (next_place limit place b) (at + length bytes + 1))
     reads_byte Start live h = after_start h.0 h.1 h.2
     reads_byte (Size size) live h = after_size_byte size h
@@ -373,8 +373,8 @@ module _ (limit at : ℕ) where
     reads_byte TooLarge live h = cc
 
   -- a byte taken off the front of what is still to come
-  module _ (place : Place) (b : ℕ) (front bs : List ℕ) (parts : List Part) where
-    abbrev next : Place
+  module _ (place : ChunkedPlace) (b : ℕ) (front bs : List ℕ) (parts : List Part) where
+    abbrev next : ChunkedPlace
     next = next_place limit place b
 
     same_bytes : (front ++ b ∷ []) ++ bs ≡ front ++ b ∷ bs
@@ -388,7 +388,7 @@ module _ (limit at : ℕ) where
         ∙ ap (λ ps. parts ++ ps) (sym (parts_begun-cons limit place (at + length front) b bs))
 
   -- the same of equal places, bytes and parts
-  moved : (p q : Place) (xs ys : List ℕ) (ps qs : List Part) → p ≡ q → xs ≡ ys → ps ≡ qs → Reads p xs ps → Reads q ys qs
+  moved : (p q : ChunkedPlace) (xs ys : List ℕ) (ps qs : List Part) → p ≡ q → xs ≡ ys → ps ≡ qs → Reads p xs ps → Reads q ys qs
   moved p q xs ys ps qs e f g h = subst (λ p. Reads p ys qs) e (subst (λ t. Reads p t qs) f (subst (λ ps. Reads p xs ps) g h))
 
   after_done : (bs xs : List ℕ) (ps : List Part) → IsRead xs ps → Reads (place_after limit Done bs) (xs ++ bs) (ps ++ parts_begun limit Done (at + length xs) bs)
@@ -396,7 +396,7 @@ module _ (limit at : ℕ) where
   after_done (b ∷ bs) xs ps h = moved Bad _ (xs ++ b ∷ bs) _ (ps ++ parts_begun limit Done (at + length xs) (b ∷ bs)) _ (sym (done_ends limit b bs)) refl refl tt
 
   -- what some bytes are, unless a size among them is over the limit
-  pub reads_on : (bs front : List ℕ) (place : Place) (parts : List Part) → is_settled place ≡ false → Reads place front parts
+  pub reads_on : (bs front : List ℕ) (place : ChunkedPlace) (parts : List Part) → is_settled place ≡ false → Reads place front parts
       → ¬ (place_after limit place bs ≡ TooLarge)
       → Reads (place_after limit place bs) (front ++ bs) (parts ++ parts_begun limit place (at + length front) bs)
   reads_on [] front place parts live h small =
@@ -410,7 +410,7 @@ module _ (limit at : ℕ) where
       (λ large. small (place_after-cons limit place b bs ∙ large))
       (λ goes_on. reads_on bs (front ++ b ∷ []) n (parts ++ begun place n (at + length front + 1)) goes_on one (λ large. small (place_after-cons limit place b bs ∙ large))))
     where
-      by_next : (n : Place) (xs : List ℕ) (ps : List Part) → Reads n xs ps → ¬ (place_after limit n bs ≡ TooLarge)
+      by_next : (n : ChunkedPlace) (xs : List ℕ) (ps : List Part) → Reads n xs ps → ¬ (place_after limit n bs ≡ TooLarge)
           → (is_settled n ≡ false → Reads (place_after limit n bs) (xs ++ bs) (ps ++ parts_begun limit n (at + length xs) bs))
           → Reads (place_after limit n bs) (xs ++ bs) (ps ++ parts_begun limit n (at + length xs) bs)
       by_next Start xs ps h _ rest = rest refl

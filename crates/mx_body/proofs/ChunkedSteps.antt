@@ -2,8 +2,8 @@
 use Rattle.std.proofs.Common.{◌≡◌, ℕ, ◌+◌, ◌-◌, ◌<◌, ◌≤◌, false, List, [], ◌∷◌, ◌++◌, length, take, drop, get_or, refl, sym, ap, ◌∙◌, subst}
 use Rattle.std.proofs.lemmas.List.{take-append-drop, take_more, take_all, take_rest, length-take-le, drop_more}
 use Rattle.std.proofs.Math.Seq.{take-add}
-use Rattle.mx_body.specs.declared.chunked.place.Place.{Place}
-use Rattle.mx_body.specs.declared.chunked.place.Place.TheVariants.{Start, Size, Extension, SizeLf, Data, DataCr, DataLf, TrailerStart, Trailer, TrailerLf, EndLf, Done, Bad, TooLarge}
+use Rattle.mx_body.specs.declared.chunked.place.ChunkedPlace.{ChunkedPlace}
+use Rattle.mx_body.specs.declared.chunked.place.ChunkedPlace.TheVariants.{Start, Size, Extension, SizeLf, Data, DataCr, DataLf, TrailerStart, Trailer, TrailerLf, EndLf, Done, Bad, TooLarge}
 use Rattle.mx_body.specs.declared.chunked.scan.ChunkedScan.TheVariants as scan
 use Rattle.mx_body.specs.ChunkedPlace.{place_after, is_settled}
 use Rattle.mx_body.specs.ChunkedScan.{IsUndecidedChunked, IsChunkedScan}
@@ -11,7 +11,7 @@ use Rattle.mx_body.proofs.ChunkedRun.{place_after-append}
 use Rattle.mx_body.proofs.ChunkedLemmas.{done_reads, open_is_undecided, bad_decides, large_decides, ends_in_large}
 
 -- a place that is none of the three that settle
-pub is_open : (place : Place) → ¬ (place ≡ Done) → ¬ (place ≡ Bad) → ¬ (place ≡ TooLarge) → is_settled place ≡ false
+pub is_open : (place : ChunkedPlace) → ¬ (place ≡ Done) → ¬ (place ≡ Bad) → ¬ (place ≡ TooLarge) → is_settled place ≡ false
 is_open Done done bad large = absurd (done refl)
 is_open Bad done bad large = absurd (bad refl)
 is_open TooLarge done bad large = absurd (large refl)
@@ -28,11 +28,11 @@ is_open TrailerLf done bad large = refl
 is_open EndLf done bad large = refl
 
 module _ (limit : ℕ) (input : List ℕ) where
-  abbrev pub At : ℕ → Place
+  abbrev pub At : ℕ → ChunkedPlace
   At n = place_after limit Start (take n input)
 
   -- a piece of the rest on
-  pub further : (at len : ℕ) (place next : Place) → At at ≡ place → next ≡ place_after limit place (take len (take (length input - at) (drop at input))) → At (at + len) ≡ next
+  pub further : (at len : ℕ) (place next : ChunkedPlace) → At at ≡ place → next ≡ place_after limit place (take len (take (length input - at) (drop at input))) → At (at + len) ≡ next
   further at len place next e f =
       ap (place_after limit Start) (take-add at len input) ∙ place_after-append limit Start (take at input) (take len (drop at input))
       ∙ ap (λ p. place_after limit p (take len (drop at input))) e

@@ -4,8 +4,8 @@ use Rattle.std.specs.Prelude.{Option, ◌==◌}
 use Rattle.std.specs.Char.{digit_value, is_ascii_hexdigit}
 use Rattle.std.proofs.lemmas.List.{take_more, length-take-le}
 use Rattle.std.proofs.lemmas.Bool.Decides.{nat_tests}
-use Rattle.mx_body.specs.declared.chunked.place.Place.{Place}
-use Rattle.mx_body.specs.declared.chunked.place.Place.TheVariants.{Start, Size, Extension, SizeLf, Data, DataCr, DataLf, TrailerStart, Trailer, EndLf, TrailerLf, Bad}
+use Rattle.mx_body.specs.declared.chunked.place.ChunkedPlace.{ChunkedPlace}
+use Rattle.mx_body.specs.declared.chunked.place.ChunkedPlace.TheVariants.{Start, Size, Extension, SizeLf, Data, DataCr, DataLf, TrailerStart, Trailer, EndLf, TrailerLf, Bad}
 use Rattle.mx_body.specs.Chunked.{is_line_byte}
 use Rattle.mx_body.specs.ChunkedPlace.{sized, after_digits, in_line, after_line, next_place, place_after, is_settled, begun, parts_begun}
 use Rattle.mx_body.specs.ChunkedStretch.{part_begun, IsStretch, GoesOn}
@@ -22,7 +22,7 @@ first_more (suc n) input old here some = old (omega arith)
 
 module _ (limit : ℕ) where
   -- bytes that end no line
-  pub alone : (place next : Place) (n : ℕ) (input : List ℕ) → 0 < n → is_settled next ≡ false → GoesOn limit place next n input
+  pub alone : (place next : ChunkedPlace) (n : ℕ) (input : List ℕ) → 0 < n → is_settled next ≡ false → GoesOn limit place next n input
       → IsStretch limit place input (record { next = next; len = n; ahead = None })
   alone place next n input some live g = record {
     moved = some;
@@ -34,7 +34,7 @@ module _ (limit : ℕ) where
   }
 
   -- bytes, and the CRLF after them
-  pub with_crlf : (place mid next : Place) (n : ℕ) (ahead : Option ℕ) (input : List ℕ) → n + 2 ≤ length input → take (n + 2) input ≡ take n input ++ 13 ∷ 10 ∷ [] → GoesOn limit place mid n input
+  pub with_crlf : (place mid next : ChunkedPlace) (n : ℕ) (ahead : Option ℕ) (input : List ℕ) → n + 2 ≤ length input → take (n + 2) input ≡ take n input ++ 13 ∷ 10 ∷ [] → GoesOn limit place mid n input
       → place_after limit mid (13 ∷ 10 ∷ []) ≡ next → ((at : ℕ) → parts_begun limit mid at (13 ∷ 10 ∷ []) ≡ part_begun ahead (at + 2)) → ((left : ℕ) → ahead ≡ Some left → next ≡ Data left) → is_settled next ≡ false
       → IsStretch limit place input (record { next = next; len = n + 2; ahead = ahead })
   with_crlf place mid next n ahead input within text g leads begins is_data live = record {
@@ -53,14 +53,14 @@ module _ (limit : ℕ) where
   }
 
   -- no byte
-  pub stays_there : (place : Place) (input : List ℕ) → GoesOn limit place place 0 input
+  pub stays_there : (place : ChunkedPlace) (input : List ℕ) → GoesOn limit place place 0 input
   stays_there place input = record { within = omega arith; leads = place_after-nil limit place; part = λ at. parts_begun-nil limit place at }
 
   -- what CR LF leads to
-  two : (place mid next : Place) → next_place limit place 13 ≡ mid → next_place limit mid 10 ≡ next → place_after limit place (13 ∷ 10 ∷ []) ≡ next
+  two : (place mid next : ChunkedPlace) → next_place limit place 13 ≡ mid → next_place limit mid 10 ≡ next → place_after limit place (13 ∷ 10 ∷ []) ≡ next
   two place mid next e f = by_byte limit place mid 13 (10 ∷ []) e ∙ by_byte limit mid next 10 [] f ∙ place_after-nil limit next
 
-  two_begin : (place mid next : Place) (at : ℕ) → next_place limit place 13 ≡ mid → next_place limit mid 10 ≡ next → begun place mid (at + 1) ≡ []
+  two_begin : (place mid next : ChunkedPlace) (at : ℕ) → next_place limit place 13 ≡ mid → next_place limit mid 10 ≡ next → begun place mid (at + 1) ≡ []
       → parts_begun limit place at (13 ∷ 10 ∷ []) ≡ begun mid next (at + 1 + 1) ++ []
   two_begin place mid next at e f none =
       parts_begun-cons limit place at 13 (10 ∷ [])
@@ -95,20 +95,20 @@ module _ (limit : ℕ) where
       by_test false = refl
 
   -- a size line that ends after its digits, and after its extension
-  pub size_ends : (place : Place) (size n : ℕ) (input : List ℕ) → n + 2 ≤ length input → take (n + 2) input ≡ take n input ++ 13 ∷ 10 ∷ [] → GoesOn limit place (Size size) n input
+  pub size_ends : (place : ChunkedPlace) (size n : ℕ) (input : List ℕ) → n + 2 ≤ length input → take (n + 2) input ≡ take n input ++ 13 ∷ 10 ∷ [] → GoesOn limit place (Size size) n input
       → IsStretch limit place input (record { next = after_line size; len = n + 2; ahead = cond (size == 0) None (Some size) })
   size_ends place size n input within text g =
       with_crlf place (Size size) (after_line size) n (data_of size) input within text g (two (Size size) (SizeLf size) (after_line size) refl refl)
       (λ at. two_begin (Size size) (SizeLf size) (after_line size) at refl refl refl ∙ line_begins size at) (line_data size) (line_open size)
 
-  pub extension_ends : (place : Place) (size n : ℕ) (input : List ℕ) → n + 2 ≤ length input → take (n + 2) input ≡ take n input ++ 13 ∷ 10 ∷ [] → GoesOn limit place (Extension size) n input
+  pub extension_ends : (place : ChunkedPlace) (size n : ℕ) (input : List ℕ) → n + 2 ≤ length input → take (n + 2) input ≡ take n input ++ 13 ∷ 10 ∷ [] → GoesOn limit place (Extension size) n input
       → IsStretch limit place input (record { next = after_line size; len = n + 2; ahead = cond (size == 0) None (Some size) })
   extension_ends place size n input within text g =
       with_crlf place (Extension size) (after_line size) n (data_of size) input within text g (two (Extension size) (SizeLf size) (after_line size) refl refl)
       (λ at. two_begin (Extension size) (SizeLf size) (after_line size) at refl refl refl ∙ line_begins size at) (line_data size) (line_open size)
 
   -- a trailer line, and data, with their CRLF
-  pub trailer_ends : (place : Place) (n : ℕ) (input : List ℕ) → n + 2 ≤ length input → take (n + 2) input ≡ take n input ++ 13 ∷ 10 ∷ [] → GoesOn limit place Trailer n input
+  pub trailer_ends : (place : ChunkedPlace) (n : ℕ) (input : List ℕ) → n + 2 ≤ length input → take (n + 2) input ≡ take n input ++ 13 ∷ 10 ∷ [] → GoesOn limit place Trailer n input
       → IsStretch limit place input (record { next = TrailerStart; len = n + 2; ahead = None })
   trailer_ends place n input within text g =
       with_crlf place Trailer TrailerStart n None input within text g (two Trailer TrailerLf TrailerStart refl refl)
@@ -152,7 +152,7 @@ module _ (limit : ℕ) where
       }
 
   -- the bytes of a line
-  in_line_on : (b : ℕ) (on ends : Place) → is_line_byte b ≡ true → in_line b on ends ≡ on
+  in_line_on : (b : ℕ) (on ends : ChunkedPlace) → is_line_byte b ≡ true → in_line b on ends ≡ on
   in_line_on b on ends = by_test (b == 13) (b == 10)
     where
       by_test : (t u : Bool) → not (t || u) ≡ true → cond t ends (cond u Bad on) ≡ on
@@ -160,7 +160,7 @@ module _ (limit : ℕ) where
       by_test false true e = absurd (cc)
       by_test false false e = refl
 
-  module _ (place : Place) (keeps : (b : ℕ) → is_line_byte b ≡ true → next_place limit place b ≡ place) (none : (at : ℕ) → begun place place at ≡ []) where
+  module _ (place : ChunkedPlace) (keeps : (b : ℕ) → is_line_byte b ≡ true → next_place limit place b ≡ place) (none : (at : ℕ) → begun place place at ≡ []) where
     line_place : (n : ℕ) (xs : List ℕ) → n ≤ length xs → ((k : ℕ) → k < n → is_line_byte (get_or xs k 0) ≡ true) → place_after limit place (take n xs) ≡ place
     line_place zero xs le line = place_after-nil limit place
     line_place (suc n) [] le line = absurd (omega arith)
@@ -198,9 +198,9 @@ module _ (limit : ℕ) where
       }
 
   -- from within a trailer line, and from its beginning
-  pub trailer_goes_on : (place : Place) (n : ℕ) (xs : List ℕ) → (place ≡ TrailerStart) ⊎ (place ≡ Trailer) → 0 < n → n ≤ length xs → ((k : ℕ) → k < n → is_line_byte (get_or xs k 0) ≡ true) → GoesOn limit place Trailer n xs
-  trailer_goes_on place n xs (inl is) some le line = subst (λ (p : Place). GoesOn limit p Trailer n xs) (sym is) (trailer_start n xs some le line)
-  trailer_goes_on place n xs (inr is) some le line = subst (λ (p : Place). GoesOn limit p Trailer n xs) (sym is) (trailer_line n xs le line)
+  pub trailer_goes_on : (place : ChunkedPlace) (n : ℕ) (xs : List ℕ) → (place ≡ TrailerStart) ⊎ (place ≡ Trailer) → 0 < n → n ≤ length xs → ((k : ℕ) → k < n → is_line_byte (get_or xs k 0) ≡ true) → GoesOn limit place Trailer n xs
+  trailer_goes_on place n xs (inl is) some le line = subst (λ (p : ChunkedPlace). GoesOn limit p Trailer n xs) (sym is) (trailer_start n xs some le line)
+  trailer_goes_on place n xs (inr is) some le line = subst (λ (p : ChunkedPlace). GoesOn limit p Trailer n xs) (sym is) (trailer_line n xs le line)
 
   -- data and the CRLF after them
   pub data_ends : (left : ℕ) (input : List ℕ) → 0 < left → left + 2 ≤ length input → take (left + 2) input ≡ take left input ++ 13 ∷ 10 ∷ []

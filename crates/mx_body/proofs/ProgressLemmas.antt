@@ -18,7 +18,7 @@ use Rattle.mx_types.specs.declared.method.Method.{Method}
 use Rattle.mx_head.proofs.ScanLemmas.{scanned_stays}
 use Rattle.mx_body.specs.declared.heads.Passed.{Passed}
 use Rattle.mx_body.specs.Steps.{IsBehind, HavePassed, HasHeadAt}
-use Rattle.mx_body.specs.declared.chunked.place.Place.TheVariants.{Start, Data}
+use Rattle.mx_body.specs.declared.chunked.place.ChunkedPlace.TheVariants.{Start, Data}
 use Rattle.mx_body.specs.declared.progress.Phase.{Phase}
 use Rattle.mx_body.specs.declared.progress.Phase.TheVariants.{Heads, Body, Chunks}
 use Rattle.mx_body.specs.Progress.{IsPhase, KnowsHead, status_read, location_read}

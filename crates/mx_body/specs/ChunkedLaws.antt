@@ -5,7 +5,7 @@ use Rattle.mx_body.specs.Parts.{AreOrdered, joined}
 use Rattle.mx_body.specs.declared.chunked.scan.ChunkedScan.{ChunkedScan}
 use Rattle.mx_body.specs.Chunked.{IsChunkSize, IsChunkExtension, IsChunkOpening, ChunkOpening, chunk_size, opening_bytes, Chunk, IsChunk, ChunkedBody, IsChunkedBody, HasSizes, chunks_bytes, chunked_bytes, IsChunked, MayBecomeChunked, EndsInLargeSize}
 use Rattle.mx_body.specs.ChunkedScan.{IsUndecidedChunked, IsChunkedScan}
-use Rattle.mx_body.specs.declared.chunked.place.Place.TheVariants.{Start, Done, Bad, TooLarge}
+use Rattle.mx_body.specs.declared.chunked.place.ChunkedPlace.TheVariants.{Start, Done, Bad, TooLarge}
 use Rattle.mx_body.specs.ChunkedPlace.{place_after, is_settled, parts_begun}
 use Rattle.mx_body.specs.ChunkedRfc.{IsRfcChunked, HasRfcText}
 

@@ -1,8 +1,8 @@
 -- Private: how far a chunked body has been read.
 use Rattle.std.specs.Prelude.{◌≡◌, ℕ, ◌≤◌, List, length, take}
 use Rattle.mx_body.specs.declared.part.Part.{Part}
-use Rattle.mx_body.specs.declared.chunked.place.Place.{Place}
-use Rattle.mx_body.specs.declared.chunked.place.Place.TheVariants.{Start}
+use Rattle.mx_body.specs.declared.chunked.place.ChunkedPlace.{ChunkedPlace}
+use Rattle.mx_body.specs.declared.chunked.place.ChunkedPlace.TheVariants.{Start}
 use Rattle.mx_body.specs.declared.chunked.reader.ChunkedReader.{ChunkedReader}
 use Rattle.mx_body.specs.ChunkedPlace.{place_after, parts_begun}
 
@@ -13,7 +13,7 @@ pub record HasRead (limit : ℕ) (body : List ℕ) (r : ChunkedReader) : Type 0 
   pub parts : r.parts.items ≡ parts_begun limit Start r.at (take r.read body)
 
 -- the first bytes of the body led to the place, and began the parts
-pub record ReadTo (limit at : ℕ) (body : List ℕ) (read : ℕ) (place : Place) (parts : List Part) : Type 0 where
+pub record ReadTo (limit at : ℕ) (body : List ℕ) (read : ℕ) (place : ChunkedPlace) (parts : List Part) : Type 0 where
   pub inside : read ≤ length body
   pub leads : place_after limit Start (take read body) ≡ place
   pub begins : parts ≡ parts_begun limit Start at (take read body)

@@ -12,7 +12,7 @@ ghost use Rattle.mx_body.specs.Steps.{HasHeadAt};
 ghost use Rattle.mx_types.specs.declared.method.Method.{Method};
 ghost use Rattle.mx_body.specs.declared.verdict.Verdict.TheVariants.{More};
 
-use crate::chunked::place::Place;
+use crate::chunked::place::ChunkedPlace;
 use crate::chunked::reader::ChunkedReader;
 use crate::chunked::scan::ChunkedScan;
 use crate::heads::{FinalStep, Passed, final_head_from};
@@ -194,14 +194,14 @@ fn pass_data(method: Method, wire: &[u8], before: usize, progress: &mut Progress
     let Phase::Chunks { head: _, at } = progress.phase else {
         return false;
     };
-    let Place::Data(left) = progress.reader.place else {
+    let ChunkedPlace::Data(left) = progress.reader.place else {
         return false;
     };
     let more = wire.len() - before;
     if more >= left as usize || wire.len() > MOST_BYTES {
         return false;
     }
-    progress.reader.place = Place::Data(left - more as u32);
+    progress.reader.place = ChunkedPlace::Data(left - more as u32);
     progress.reader.read = wire.len() - at;
     true
 }

@@ -2,7 +2,7 @@
 
 use crate::heads::front;
 use crate::row::Bytes::{Of, Often};
-use crate::row::{Row, Seen};
+use crate::row::{Expected, Row};
 use crate::told::are_parts;
 use mx_body::chunked::laws;
 use mx_body::chunked::parts::chunked_parts;
@@ -73,72 +73,72 @@ pub(crate) fn call_laws() {
 }
 
 /// A body that goes on.
-const SHORT: Seen = Seen::Scan(LIMIT, ChunkedScan::Short);
+const SHORT: Expected = Expected::Scan(LIMIT, ChunkedScan::Short);
 
 /// A size over the limit.
-const TOO_LARGE: Seen = Seen::Scan(LIMIT, ChunkedScan::TooLarge);
+const TOO_LARGE: Expected = Expected::Scan(LIMIT, ChunkedScan::TooLarge);
 
 static BODIES: [Row; 20] = [
     (
         "no_chunk_scanned",
         Of(b"0\r\n\r\n"),
-        Seen::Scan(LIMIT, ChunkedScan::Whole { len: 5 }),
+        Expected::Scan(LIMIT, ChunkedScan::Whole { len: 5 }),
     ),
     (
         "no_chunk_before_a_head",
         Of(b"0\r\n\r\nHTTP/1.1 200 OK"),
-        Seen::Scan(LIMIT, ChunkedScan::Whole { len: 5 }),
+        Expected::Scan(LIMIT, ChunkedScan::Whole { len: 5 }),
     ),
     (
         "chunk_with_an_extension_and_a_trailer",
         Of(b"5;x=y\r\nhello\r\n0\r\nA: b\r\n\r\n"),
-        Seen::Scan(LIMIT, ChunkedScan::Whole { len: 25 }),
+        Expected::Scan(LIMIT, ChunkedScan::Whole { len: 25 }),
     ),
     (
         "chunk_with_a_quoted_extension",
         Of(b"5 \t;x=\"\\\"\"\r\nhello\r\n0;last\r\n\r\n"),
-        Seen::Scan(LIMIT, ChunkedScan::Whole { len: 29 }),
+        Expected::Scan(LIMIT, ChunkedScan::Whole { len: 29 }),
     ),
     (
         "size_of_40_digits",
         Of(b"0000000000000000000000000000000000000005\r\nhello\r\n0\r\n\r\n"),
-        Seen::Scan(LIMIT, ChunkedScan::Whole { len: 54 }),
+        Expected::Scan(LIMIT, ChunkedScan::Whole { len: 54 }),
     ),
     (
         "sizes_in_either_case",
         Of(b"A\r\n0123456789\r\na\r\n0123456789\r\n000\r\n\r\n"),
-        Seen::Scan(LIMIT, ChunkedScan::Whole { len: 37 }),
+        Expected::Scan(LIMIT, ChunkedScan::Whole { len: 37 }),
     ),
     (
         "chunk_that_is_a_head",
         Of(b"13\r\nHTTP/1.1 200 OK\r\n\r\n\r\n0\r\n\r\n"),
-        Seen::Scan(LIMIT, ChunkedScan::Whole { len: 30 }),
+        Expected::Scan(LIMIT, ChunkedScan::Whole { len: 30 }),
     ),
     (
         "chunk_that_is_a_line_end",
         Of(b"2\r\n\r\n\r\n0\r\n\r\n"),
-        Seen::Scan(LIMIT, ChunkedScan::Whole { len: 12 }),
+        Expected::Scan(LIMIT, ChunkedScan::Whole { len: 12 }),
     ),
     (
         "two_trailers",
         Of(b"0\r\nETag: a\r\nAge: 1\r\n\r\n"),
-        Seen::Scan(LIMIT, ChunkedScan::Whole { len: 22 }),
+        Expected::Scan(LIMIT, ChunkedScan::Whole { len: 22 }),
     ),
     (
         "trailers_like_chunks",
         Of(b"0\r\nhello\r\n0\r\n\r\n"),
-        Seen::Scan(LIMIT, ChunkedScan::Whole { len: 15 }),
+        Expected::Scan(LIMIT, ChunkedScan::Whole { len: 15 }),
     ),
     (
         "chunk_that_waits_for_each_byte",
         Of(b"5;x\r\nhello\r\n0\r\na: b\r\n\r\n"),
-        Seen::Waits,
+        Expected::Waits,
     ),
     // so many zeros before a size, and a trailer line of so many bytes
     (
         "size_behind_65536_zeros",
         Often(b"", b"0", 65_536, b"5\r\nhello\r\n0\r\n\r\n"),
-        Seen::Scan(LIMIT, ChunkedScan::Whole { len: 65_551 }),
+        Expected::Scan(LIMIT, ChunkedScan::Whole { len: 65_551 }),
     ),
     (
         "trailer_of_65536_bytes_without_the_last_byte",
@@ -148,32 +148,36 @@ static BODIES: [Row; 20] = [
     (
         "trailer_of_65536_bytes",
         Often(b"0\r\n", b"a", 65_536, b"\r\n\r\n"),
-        Seen::Scan(LIMIT, ChunkedScan::Whole { len: 65_543 }),
+        Expected::Scan(LIMIT, ChunkedScan::Whole { len: 65_543 }),
     ),
     // rule body-parts
     // where the data are
     (
         "part_of_a_chunk",
         Of(b"5;x=y\r\nhello\r\n0\r\nA: b\r\n\r\n"),
-        Seen::Parts(47, &[(54, 59)]),
+        Expected::Parts(47, &[(54, 59)]),
     ),
-    ("parts_of_no_chunk", Of(b"0\r\n\r\n"), Seen::Parts(47, &[])),
+    (
+        "parts_of_no_chunk",
+        Of(b"0\r\n\r\n"),
+        Expected::Parts(47, &[]),
+    ),
     // a trailer isn't delivered, whatever it looks like
     (
         "parts_of_trailers_like_chunks",
         Of(b"0\r\nhello\r\n5\r\nhello\r\n\r\n"),
-        Seen::Parts(0, &[]),
+        Expected::Parts(0, &[]),
     ),
     // rule body-parts
     (
         "parts_of_three_chunks",
         Of(b"1\r\na\r\n02\r\nbc\r\n3;\r\ndef\r\n0\r\n\r\n"),
-        Seen::Parts(0, &[(3, 4), (10, 12), (18, 21)]),
+        Expected::Parts(0, &[(3, 4), (10, 12), (18, 21)]),
     ),
     (
         "part_that_is_a_head",
         Of(b"13\r\nHTTP/1.1 200 OK\r\n\r\n\r\n0\r\n\r\n"),
-        Seen::Parts(0, &[(4, 23)]),
+        Expected::Parts(0, &[(4, 23)]),
     ),
     ("nothing_scanned", Of(b""), SHORT),
 ];
@@ -185,42 +189,62 @@ pub(crate) fn bodies() -> &'static [Row] {
 
 // rule body-chunk-framing
 static BAD: [Row; 21] = [
-    ("bare_lf_behind_a_size", Of(b"5\n"), Seen::BadAtLast),
-    ("bare_lf_behind_an_extension", Of(b"5;a\n"), Seen::BadAtLast),
-    ("bare_cr_in_an_extension", Of(b"5;a\rb"), Seen::BadAtLast),
-    ("two_cr_behind_a_size", Of(b"5\r\r"), Seen::BadAtLast),
-    ("letter_behind_a_size", Of(b"5x"), Seen::BadAtLast),
-    ("letter_behind_a_zero", Of(b"0x"), Seen::BadAtLast),
-    ("minus_as_a_size", Of(b"-"), Seen::BadAtLast),
-    ("blank_as_a_size", Of(b" "), Seen::BadAtLast),
-    ("semicolon_as_a_size", Of(b";"), Seen::BadAtLast),
-    ("cr_as_a_size", Of(b"\r"), Seen::BadAtLast),
-    ("lf_as_a_size", Of(b"\n"), Seen::BadAtLast),
-    ("letter_behind_data", Of(b"5\r\nhelloX"), Seen::BadAtLast),
-    ("digit_behind_data", Of(b"5\r\nhello0"), Seen::BadAtLast),
-    ("bare_lf_behind_data", Of(b"5\r\nhello\n"), Seen::BadAtLast),
-    ("bare_cr_behind_data", Of(b"5\r\nhello\rX"), Seen::BadAtLast),
-    ("bare_lf_as_the_end", Of(b"0\r\n\n"), Seen::BadAtLast),
+    ("bare_lf_behind_a_size", Of(b"5\n"), Expected::BadAtLast),
+    (
+        "bare_lf_behind_an_extension",
+        Of(b"5;a\n"),
+        Expected::BadAtLast,
+    ),
+    (
+        "bare_cr_in_an_extension",
+        Of(b"5;a\rb"),
+        Expected::BadAtLast,
+    ),
+    ("two_cr_behind_a_size", Of(b"5\r\r"), Expected::BadAtLast),
+    ("letter_behind_a_size", Of(b"5x"), Expected::BadAtLast),
+    ("letter_behind_a_zero", Of(b"0x"), Expected::BadAtLast),
+    ("minus_as_a_size", Of(b"-"), Expected::BadAtLast),
+    ("blank_as_a_size", Of(b" "), Expected::BadAtLast),
+    ("semicolon_as_a_size", Of(b";"), Expected::BadAtLast),
+    ("cr_as_a_size", Of(b"\r"), Expected::BadAtLast),
+    ("lf_as_a_size", Of(b"\n"), Expected::BadAtLast),
+    (
+        "letter_behind_data",
+        Of(b"5\r\nhelloX"),
+        Expected::BadAtLast,
+    ),
+    ("digit_behind_data", Of(b"5\r\nhello0"), Expected::BadAtLast),
+    (
+        "bare_lf_behind_data",
+        Of(b"5\r\nhello\n"),
+        Expected::BadAtLast,
+    ),
+    (
+        "bare_cr_behind_data",
+        Of(b"5\r\nhello\rX"),
+        Expected::BadAtLast,
+    ),
+    ("bare_lf_as_the_end", Of(b"0\r\n\n"), Expected::BadAtLast),
     (
         "bare_lf_behind_a_trailer",
         Of(b"0\r\na: b\n"),
-        Seen::BadAtLast,
+        Expected::BadAtLast,
     ),
     (
         "two_cr_behind_a_trailer",
         Of(b"0\r\na: b\r\r"),
-        Seen::BadAtLast,
+        Expected::BadAtLast,
     ),
     (
         "bare_lf_behind_trailers",
         Of(b"0\r\na: b\r\n\n"),
-        Seen::BadAtLast,
+        Expected::BadAtLast,
     ),
-    ("bare_cr_as_the_end", Of(b"0\r\n\rX"), Seen::BadAtLast),
+    ("bare_cr_as_the_end", Of(b"0\r\n\rX"), Expected::BadAtLast),
     (
         "bare_lf_before_a_body",
         Of(b"5\nhello\r\n0\r\n\r\n"),
-        Seen::Scan(LIMIT, ChunkedScan::Bad),
+        Expected::Scan(LIMIT, ChunkedScan::Bad),
     ),
 ];
 
@@ -248,7 +272,7 @@ static SIZES: [Row; 13] = [
     (
         "letter_in_a_size",
         Of(b"400000x"),
-        Seen::Scan(LIMIT, ChunkedScan::Bad),
+        Expected::Scan(LIMIT, ChunkedScan::Bad),
     ),
     (
         "letter_behind_a_size_over_the_limit",
@@ -273,19 +297,19 @@ static SIZES: [Row; 13] = [
     (
         "size_at_a_limit_of_5",
         Of(b"5"),
-        Seen::Scan(5, ChunkedScan::Short),
+        Expected::Scan(5, ChunkedScan::Short),
     ),
     (
         "size_over_a_limit_of_5",
         Of(b"6"),
-        Seen::Scan(5, ChunkedScan::TooLarge),
+        Expected::Scan(5, ChunkedScan::TooLarge),
     ),
     // rule body-chunk-size
     // 1 to 40 digits, each the greatest
     (
         "sizes_of_1_to_40_digits",
         Often(b"", b"F", 40, b""),
-        Seen::TooLargeFrom(7),
+        Expected::TooLargeFrom(7),
     ),
 ];
 

@@ -1,7 +1,7 @@
 //! Heads (RFC 9112, sections 2 to 6 and 9).
 
 use crate::row::Bytes::{LongField, Of};
-use crate::row::{Row, Seen};
+use crate::row::{Expected, Row};
 use mx_head::{Framing, HeadStep, framing, keeps, read_head};
 use mx_responses_tests_base::response::Response;
 use mx_types::{Code, Method};
@@ -88,82 +88,82 @@ static HEADS: [Row; 15] = [
     (
         "head_before_a_body",
         Of(b"HTTP/1.1 200 OK\r\nContent-Length: 5\r\n\r\nhello"),
-        Seen::Head(38, 200, 1),
+        Expected::Head(38, 200, 1),
     ),
     (
         "head_of_line_feeds_alone",
         Of(b"\r\n\nHTTP/1.0 404\n\n<html>"),
-        Seen::Head(17, 404, 0),
+        Expected::Head(17, 404, 0),
     ),
     (
         "head_of_status_999",
         Of(b"HTTP/1.1 999 \r\n\r\n"),
-        Seen::Head(17, 999, 1),
+        Expected::Head(17, 999, 1),
     ),
     // rule head-size
     // as long as a head may be, and longer
     (
         "head_of_65536_without_its_last",
         LongField(0, 65_536),
-        Seen::Wants(65_535),
+        Expected::Wants(65_535),
     ),
     (
         "head_of_65537_without_two",
         LongField(0, 65_537),
-        Seen::Wants(65_535),
+        Expected::Wants(65_535),
     ),
     (
         "head_of_65537_without_its_last",
         LongField(0, 65_537),
-        Seen::Refuses(65_536, Code::TooLarge),
+        Expected::Refuses(65_536, Code::TooLarge),
     ),
     // rule head-size
     (
         "head_of_65537",
         LongField(0, 65_537),
-        Seen::Refuses(65_537, Code::TooLarge),
+        Expected::Refuses(65_537, Code::TooLarge),
     ),
     (
         "head_of_70000",
         LongField(0, 70_000),
-        Seen::Refuses(70_000, Code::TooLarge),
+        Expected::Refuses(70_000, Code::TooLarge),
     ),
     (
         "head_of_65536_in_one_field_line",
         LongField(0, 65_536),
-        Seen::Framed(Method::Get, Ok(Framing::Close), true),
+        Expected::Framed(Method::Get, Ok(Framing::Close), true),
     ),
     // rule head-size
     (
         "head_of_65536_in_128_field_lines",
         LongField(127, 65_536),
-        Seen::Framed(Method::Get, Ok(Framing::Close), true),
+        Expected::Framed(Method::Get, Ok(Framing::Close), true),
     ),
     // the same, a byte at a time
     (
         "head_of_65535_in_ones",
         LongField(0, 65_535),
-        Seen::KnownInTime,
+        Expected::KnownInTime,
     ),
     (
         "head_of_65536_in_ones",
         LongField(0, 65_536),
-        Seen::KnownInTime,
+        Expected::KnownInTime,
     ),
     (
         "head_of_65536_in_128_field_lines_in_ones",
         LongField(127, 65_536),
-        Seen::KnownInTime,
+        Expected::KnownInTime,
     ),
     (
         "head_of_65537_in_ones",
         LongField(0, 65_537),
-        Seen::KnownInTime,
+        Expected::KnownInTime,
     ),
     (
         "head_of_65537_in_129_field_lines_in_ones",
         LongField(128, 65_537),
-        Seen::KnownInTime,
+        Expected::KnownInTime,
     ),
 ];
 
@@ -173,29 +173,29 @@ pub(crate) fn heads() -> &'static [Row] {
 }
 
 /// No length that counts, and a connection that is kept.
-const BAD_LENGTH: Seen = Seen::Framed(Method::Get, Err(Code::WeirdServerReply), true);
+const BAD_LENGTH: Expected = Expected::Framed(Method::Get, Err(Code::WeirdServerReply), true);
 
 // rule head-content-length
 static LENGTHS: [Row; 15] = [
     (
         "length_5",
         Of(b"HTTP/1.1 200 OK\r\nContent-Length: 5\r\n\r\n"),
-        Seen::Framed(Method::Get, Ok(Framing::Counted(5)), true),
+        Expected::Framed(Method::Get, Ok(Framing::Counted(5)), true),
     ),
     (
         "length_5_twice_in_a_line",
         Of(b"HTTP/1.1 200 OK\r\ncontent-length:5, 5\r\n\r\n"),
-        Seen::Framed(Method::Get, Ok(Framing::Counted(5)), true),
+        Expected::Framed(Method::Get, Ok(Framing::Counted(5)), true),
     ),
     (
         "length_5_in_two_lines",
         Of(b"HTTP/1.1 200 OK\r\nContent-Length: 5\r\nA: b\r\nCONTENT-LENGTH:\t005 \r\n\r\n"),
-        Seen::Framed(Method::Get, Ok(Framing::Counted(5)), true),
+        Expected::Framed(Method::Get, Ok(Framing::Counted(5)), true),
     ),
     (
         "length_0",
         Of(b"HTTP/1.1 200 OK\r\nContent-Length: 0\r\n\r\n"),
-        Seen::Framed(Method::Get, Ok(Framing::Counted(0)), true),
+        Expected::Framed(Method::Get, Ok(Framing::Counted(0)), true),
     ),
     (
         "lengths_5_and_6_in_a_line",
@@ -241,13 +241,13 @@ static LENGTHS: [Row; 15] = [
     (
         "greatest_length_of_64_bits",
         Of(b"HTTP/1.1 200 OK\r\nContent-Length: 18446744073709551615\r\n\r\n"),
-        Seen::Framed(Method::Get, Ok(Framing::Counted(u64::MAX)), true),
+        Expected::Framed(Method::Get, Ok(Framing::Counted(u64::MAX)), true),
     ),
     // rule head-huge-length
     (
         "length_of_65_bits",
         Of(b"HTTP/1.1 200 OK\r\nContent-Length: 18446744073709551616\r\n\r\n"),
-        Seen::Framed(Method::Get, Ok(Framing::Counted(u64::MAX)), true),
+        Expected::Framed(Method::Get, Ok(Framing::Counted(u64::MAX)), true),
     ),
     // rule head-huge-length
     (
@@ -269,83 +269,83 @@ static CODINGS: [Row; 14] = [
     (
         "chunked_coding",
         Of(b"HTTP/1.1 200 OK\r\nTransfer-Encoding: chunked\r\n\r\n"),
-        Seen::Framed(Method::Get, Ok(Framing::Chunked), true),
+        Expected::Framed(Method::Get, Ok(Framing::Chunked), true),
     ),
     // rule head-transfer-coding
     (
         "two_codings",
         Of(b"HTTP/1.1 200 OK\r\nTransfer-Encoding: gzip, chunked\r\n\r\n"),
-        Seen::Framed(Method::Get, Err(Code::BadContentEncoding), true),
+        Expected::Framed(Method::Get, Err(Code::BadContentEncoding), true),
     ),
     // rule head-transfer-coding
     (
         "coding_before_a_bad_length",
         Of(b"HTTP/1.1 200 OK\r\nTransfer-Encoding: chunked\r\nContent-Length: x\r\n\r\n"),
-        Seen::Framed(Method::Get, Ok(Framing::Chunked), false),
+        Expected::Framed(Method::Get, Ok(Framing::Chunked), false),
     ),
     // rule head-transfer-coding
     (
         "coding_of_http_1_0",
         Of(b"HTTP/1.0 200 OK\r\nTransfer-Encoding: chunked\r\n\r\n"),
-        Seen::Framed(Method::Get, Err(Code::WeirdServerReply), false),
+        Expected::Framed(Method::Get, Err(Code::WeirdServerReply), false),
     ),
     // rule head-no-body
     (
         "length_in_an_answer_to_head",
         Of(b"HTTP/1.1 200 OK\r\nContent-Length: 5\r\n\r\n"),
-        Seen::Framed(Method::Head, Ok(Framing::Empty), true),
+        Expected::Framed(Method::Head, Ok(Framing::Empty), true),
     ),
     // rule head-no-body
     (
         "length_of_no_content",
         Of(b"HTTP/1.1 204 No Content\r\nContent-Length: 5\r\n\r\n"),
-        Seen::Framed(Method::Post, Ok(Framing::Empty), true),
+        Expected::Framed(Method::Post, Ok(Framing::Empty), true),
     ),
     // rule head-no-body
     (
         "coding_of_not_modified",
         Of(b"HTTP/1.1 304 Not Modified\r\nTransfer-Encoding: gzip\r\n\r\n"),
-        Seen::Framed(Method::Get, Ok(Framing::Empty), true),
+        Expected::Framed(Method::Get, Ok(Framing::Empty), true),
     ),
     (
         "no_connection",
         Of(b"HTTP/1.1 200 OK\r\n\r\n"),
-        Seen::Keeps(true),
+        Expected::Keeps(true),
     ),
     (
         "connection_x_close",
         Of(b"HTTP/1.1 200 OK\r\nConnection: x-close\r\n\r\n"),
-        Seen::Keeps(true),
+        Expected::Keeps(true),
     ),
     // rule head-connection
     (
         "connection_close_in_capitals",
         Of(b"HTTP/1.1 200 OK\r\nconnection:CLOSE\r\n\r\n"),
-        Seen::Keeps(false),
+        Expected::Keeps(false),
     ),
     // rule head-connection
     (
         "connection_close_and_keep_alive",
         Of(b"HTTP/1.1 200 OK\r\nConnection: close, keep-alive\r\n\r\n"),
-        Seen::Keeps(false),
+        Expected::Keeps(false),
     ),
     // rule head-connection
     (
         "connection_keep_alive_of_http_1_0_in_the_second_line",
         Of(b"HTTP/1.0 200 OK\r\nConnection: te\r\nConnection: , Keep-Alive\r\n\r\n"),
-        Seen::Keeps(true),
+        Expected::Keeps(true),
     ),
     // rule head-connection
     (
         "no_connection_of_http_1_0",
         Of(b"HTTP/1.0 200 OK\r\n\r\n"),
-        Seen::Keeps(false),
+        Expected::Keeps(false),
     ),
     // rule head-connection
     (
         "connection_keep_alive_of_http_1_0_and_an_empty_coding",
         Of(b"HTTP/1.0 200 OK\r\nConnection: keep-alive\r\nTransfer-Encoding:\r\n\r\n"),
-        Seen::Keeps(false),
+        Expected::Keeps(false),
     ),
 ];
 

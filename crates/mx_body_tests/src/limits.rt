@@ -1,7 +1,7 @@
 //! Responses as long as one may be.
 
 use crate::row::Bytes::Filled;
-use crate::row::{Row, Seen};
+use crate::row::{Expected, Row};
 use crate::told::is_told;
 use mx_responses_tests_base::bases::{LARGE, OPEN, SHORT};
 use mx_responses_tests_base::response::Response;
@@ -56,13 +56,13 @@ static LIMITS: [Row; 4] = [
     (
         "open_body_at_the_limit",
         Filled(b"HTTP/1.0 200 OK\r\n\r\n", MOST_BYTES),
-        Seen::Told(Told::Open),
+        Expected::Told(Told::Open),
     ),
     // rule body-size
     (
         "open_body_past_the_limit",
         Filled(b"HTTP/1.0 200 OK\r\n\r\n", MOST_BYTES + 1),
-        Seen::Told(Told::OneByteMore),
+        Expected::Told(Told::OneByteMore),
     ),
     // the greatest size, which can't fit after a head
     (
@@ -71,7 +71,7 @@ static LIMITS: [Row; 4] = [
             b"HTTP/1.1 200 OK\r\nTransfer-Encoding: chunked\r\n\r\n4000000\r\n",
             MOST_BYTES,
         ),
-        Seen::Told(Told::Short),
+        Expected::Told(Told::Short),
     ),
     (
         "chunk_past_the_limit",
@@ -79,7 +79,7 @@ static LIMITS: [Row; 4] = [
             b"HTTP/1.1 200 OK\r\nTransfer-Encoding: chunked\r\n\r\n4000000\r\n",
             MOST_BYTES + 1,
         ),
-        Seen::Told(Told::OneByteMore),
+        Expected::Told(Told::OneByteMore),
     ),
 ];
 

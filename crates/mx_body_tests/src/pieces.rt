@@ -3,7 +3,7 @@
 //! Each call is in a function of its own with no contract, which keeps the proof of the tests short.
 
 use crate::row::Bytes::{Of, Often};
-use crate::row::{Bytes, Row, Seen, bytes_of};
+use crate::row::{Bytes, Expected, Row, bytes_of};
 use mx_body::{Decoder, Part, Stand, Verdict, decode_whole};
 use mx_responses_tests_base::bytes::CHUNKED;
 use mx_types::{Code, Method};
@@ -255,29 +255,33 @@ const MANY_CHUNKS: Bytes = Often(CHUNKED_HEAD, b"1\r\nx\r\n", 100_000, b"0\r\n\r
 const LONG_FRONT: &[u8] = b"HTTP/1.1 103 Early Hints\r\n\r\nHTTP/1.1 204 No Content\r\nA: ";
 
 static PIECES: [Row; 6] = [
-    ("many_chunks_in_ones", MANY_CHUNKS, Seen::ManyChunks(1)),
-    ("many_chunks_in_sevens", MANY_CHUNKS, Seen::ManyChunks(7)),
+    ("many_chunks_in_ones", MANY_CHUNKS, Expected::ManyChunks(1)),
+    (
+        "many_chunks_in_sevens",
+        MANY_CHUNKS,
+        Expected::ManyChunks(7),
+    ),
     (
         "many_chunks_by_16384",
         MANY_CHUNKS,
-        Seen::ManyChunks(16_384),
+        Expected::ManyChunks(16_384),
     ),
     (
         "many_chunks_at_once",
         MANY_CHUNKS,
-        Seen::ManyChunks(600_052),
+        Expected::ManyChunks(600_052),
     ),
     // a head of 65,536 bytes, of which 28 are before the value and 4 after it
     (
         "longest_head_behind_an_interim_head",
         Often(LONG_FRONT, b"a", 65_504, b"\r\n\r\n"),
-        Seen::Completes(&[100, 16_384, 65_564], 204, 65_564),
+        Expected::Completes(&[100, 16_384, 65_564], 204, 65_564),
     ),
     // with one byte more before its end, the 65,536th byte makes it too large
     (
         "longer_head_behind_an_interim_head",
         Often(LONG_FRONT, b"a", 65_505, b"\r\n\r"),
-        Seen::RefusedAtLast(Code::TooLarge),
+        Expected::RefusedAtLast(Code::TooLarge),
     ),
 ];
 

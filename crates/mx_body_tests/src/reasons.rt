@@ -1,8 +1,8 @@
 //! Why bytes aren't a whole response, and where that is decided.
 
 use crate::row::Bytes::{Chunks, Of, Often};
-use crate::row::{Row, Seen};
-use mx_reason::{Cut, Fault, Reason, What, reason_of};
+use crate::row::{Expected, Row};
+use mx_reason::{Cut, Defect, Fault, Reason, reason_of};
 use mx_types::Method;
 use std::alloc::Global;
 
@@ -12,7 +12,7 @@ fn reason(alloc: Global, wire: &[u8]) -> Option<Reason> {
 
 /// Whether that is wrong in these bytes, as is decided with so many.
 pub(crate) fn is_fault(alloc: Global, wire: &[u8], at: usize, fault: Fault) -> bool {
-    let what = What::Fault(fault);
+    let what = Defect::Fault(fault);
     reason(alloc, wire) == Some(Reason { at, what })
 }
 
@@ -22,7 +22,7 @@ fn is_cut(alloc: Global, wire: &[u8]) -> bool {
         Some(
             Reason {
                 at,
-                what: What::Cut(_),
+                what: Defect::Cut(_),
             },
         ) => at == wire.len(),
         _ => false,
@@ -39,7 +39,7 @@ pub(crate) fn is_refused(alloc: Global, wire: &[u8], at: usize, fault: Fault, nu
 
 /// Whether bytes end there.
 pub(crate) fn is_cut_so(alloc: Global, wire: &[u8], cut: Cut) -> bool {
-    let what = What::Cut(cut);
+    let what = Defect::Cut(cut);
     let at = wire.len();
     reason(alloc, wire) == Some(Reason { at, what })
 }
@@ -54,127 +54,127 @@ static REFUSED: [Row; 25] = [
     (
         "letter_as_a_status_line",
         Of(b"X"),
-        Seen::Refused(1, Fault::StatusLine, 8),
+        Expected::Refused(1, Fault::StatusLine, 8),
     ),
     (
         "ssh_as_a_status_line",
         Of(b"SSH-2.0-OpenSSH_9.2\r\n"),
-        Seen::Refused(1, Fault::StatusLine, 8),
+        Expected::Refused(1, Fault::StatusLine, 8),
     ),
     (
         "letter_behind_empty_lines",
         Of(b"\r\n\r\nX"),
-        Seen::Refused(5, Fault::StatusLine, 8),
+        Expected::Refused(5, Fault::StatusLine, 8),
     ),
     (
         "status_line_of_version_2",
         Of(b"HTTP/2 200\r\n\r\n"),
-        Seen::Refused(6, Fault::StatusLine, 8),
+        Expected::Refused(6, Fault::StatusLine, 8),
     ),
     (
         "status_line_with_a_letter_in_its_status",
         Of(b"HTTP/1.1 2x0 OK\r\n\r\n"),
-        Seen::Refused(11, Fault::StatusLine, 8),
+        Expected::Refused(11, Fault::StatusLine, 8),
     ),
     (
         "status_line_with_a_bare_cr",
         Of(b"HTTP/1.1 200 O\rK\r\n\r\n"),
-        Seen::Refused(16, Fault::StatusLine, 8),
+        Expected::Refused(16, Fault::StatusLine, 8),
     ),
     (
         "field_line_that_is_folded",
         Of(b"HTTP/1.1 200 OK\r\n folded\r\n\r\n"),
-        Seen::Refused(18, Fault::FieldLine, 8),
+        Expected::Refused(18, Fault::FieldLine, 8),
     ),
     (
         "field_line_without_a_colon",
         Of(b"HTTP/1.1 200 OK\r\nNo Colon\r\n\r\n"),
-        Seen::Refused(20, Fault::FieldLine, 8),
+        Expected::Refused(20, Fault::FieldLine, 8),
     ),
     (
         "field_line_with_a_zero_byte",
         Of(b"HTTP/1.1 200 OK\r\nA: \0\r\n\r\n"),
-        Seen::Refused(21, Fault::FieldLine, 8),
+        Expected::Refused(21, Fault::FieldLine, 8),
     ),
     (
         "bad_field_line_behind_an_interim_head",
         Of(b"HTTP/1.1 100 \r\n\r\nHTTP/1.1 200 OK\r\nA b: c\r\n\r\n"),
-        Seen::Refused(36, Fault::FieldLine, 8),
+        Expected::Refused(36, Fault::FieldLine, 8),
     ),
     (
         "other_protocol",
         Of(b"HTTP/1.1 101 Switching\r\n\r\nmore"),
-        Seen::Refused(26, Fault::InterimHead, 8),
+        Expected::Refused(26, Fault::InterimHead, 8),
     ),
     (
         "length_with_a_letter",
         Of(b"HTTP/1.1 200 OK\r\nContent-Length: 5x\r\n\r\nhello"),
-        Seen::Refused(39, Fault::BadFraming, 8),
+        Expected::Refused(39, Fault::BadFraming, 8),
     ),
     (
         "lengths_that_differ",
         Of(b"HTTP/1.1 200 OK\r\nContent-Length: 5\r\nContent-Length: 6\r\n\r\nhello"),
-        Seen::Refused(57, Fault::BadFraming, 8),
+        Expected::Refused(57, Fault::BadFraming, 8),
     ),
     (
         "framing_of_http_1_0_with_a_coding",
         Of(b"HTTP/1.0 200 OK\r\nTransfer-Encoding: chunked\r\n\r\n0\r\n\r\n"),
-        Seen::Refused(47, Fault::BadFraming, 8),
+        Expected::Refused(47, Fault::BadFraming, 8),
     ),
     (
         "coding_gzip",
         Of(b"HTTP/1.1 200 OK\r\nTransfer-Encoding: gzip\r\n\r\nhello"),
-        Seen::Refused(44, Fault::OtherCoding, 61),
+        Expected::Refused(44, Fault::OtherCoding, 61),
     ),
     (
         "length_over_the_limit",
         Of(b"HTTP/1.1 200 OK\r\nContent-Length: 67108864\r\n\r\nhello"),
-        Seen::Refused(45, Fault::LongBody(67_108_864), 63),
+        Expected::Refused(45, Fault::LongBody(67_108_864), 63),
     ),
     (
         "chunk_over_the_limit",
         Of(b"HTTP/1.1 200 OK\r\nTransfer-Encoding: chunked\r\n\r\n4000001\r\nhello"),
-        Seen::Refused(54, Fault::LargeChunk, 63),
+        Expected::Refused(54, Fault::LargeChunk, 63),
     ),
     (
         "letter_as_a_size_line",
         Of(b"HTTP/1.1 200 OK\r\nTransfer-Encoding: chunked\r\n\r\nhello"),
-        Seen::Refused(48, Fault::SizeLine, 56),
+        Expected::Refused(48, Fault::SizeLine, 56),
     ),
     (
         "bare_lf_as_the_end_of_a_size_line",
         Of(b"HTTP/1.1 200 OK\r\nTransfer-Encoding: chunked\r\n\r\n5\nhello"),
-        Seen::Refused(49, Fault::SizeLine, 56),
+        Expected::Refused(49, Fault::SizeLine, 56),
     ),
     (
         "bare_lf_as_the_end_of_an_extension",
         Of(b"HTTP/1.1 200 OK\r\nTransfer-Encoding: chunked\r\n\r\n5;a\nhello"),
-        Seen::Refused(51, Fault::SizeLine, 56),
+        Expected::Refused(51, Fault::SizeLine, 56),
     ),
     (
         "letter_as_the_end_of_a_chunk",
         Of(b"HTTP/1.1 200 OK\r\nTransfer-Encoding: chunked\r\n\r\n5\r\nhellothere"),
-        Seen::Refused(56, Fault::ChunkEnd, 56),
+        Expected::Refused(56, Fault::ChunkEnd, 56),
     ),
     (
         "bare_cr_as_the_end_of_a_chunk",
         Of(b"HTTP/1.1 200 OK\r\nTransfer-Encoding: chunked\r\n\r\n5\r\nhello\rX"),
-        Seen::Refused(57, Fault::ChunkEnd, 56),
+        Expected::Refused(57, Fault::ChunkEnd, 56),
     ),
     (
         "letter_as_the_second_size_line",
         Of(b"HTTP/1.1 200 OK\r\nTransfer-Encoding: chunked\r\n\r\n5\r\nhello\r\nX"),
-        Seen::Refused(58, Fault::SizeLine, 56),
+        Expected::Refused(58, Fault::SizeLine, 56),
     ),
     (
         "bare_lf_as_the_end_of_trailers",
         Of(b"HTTP/1.1 200 OK\r\nTransfer-Encoding: chunked\r\n\r\n0\r\n\n"),
-        Seen::Refused(51, Fault::Trailer, 56),
+        Expected::Refused(51, Fault::Trailer, 56),
     ),
     (
         "bare_lf_as_the_end_of_a_trailer",
         Of(b"HTTP/1.1 200 OK\r\nTransfer-Encoding: chunked\r\n\r\n0\r\nA: b\n"),
-        Seen::Refused(55, Fault::Trailer, 56),
+        Expected::Refused(55, Fault::Trailer, 56),
     ),
 ];
 
@@ -185,76 +185,76 @@ pub(crate) fn refused() -> &'static [Row] {
 
 // rule reason-truncated
 static ENDS: [Row; 15] = [
-    ("end_before_a_head", Of(b""), Seen::Ends(Cut::Head)),
+    ("end_before_a_head", Of(b""), Expected::Ends(Cut::Head)),
     (
         "end_in_a_status_line",
         Of(b"HTTP/1.1 20"),
-        Seen::Ends(Cut::Head),
+        Expected::Ends(Cut::Head),
     ),
     (
         "end_behind_an_interim_head",
         Of(b"HTTP/1.1 100 \r\n\r\nHT"),
-        Seen::Ends(Cut::Head),
+        Expected::Ends(Cut::Head),
     ),
     (
         "end_before_a_body",
         Of(b"HTTP/1.1 200 OK\r\nContent-Length: 5\r\n\r\n"),
-        Seen::Ends(Cut::Counted { came: 0, of: 5 }),
+        Expected::Ends(Cut::Counted { came: 0, of: 5 }),
     ),
     (
         "end_in_a_body",
         Of(b"HTTP/1.1 200 OK\r\nContent-Length: 5\r\n\r\nhell"),
-        Seen::Ends(Cut::Counted { came: 4, of: 5 }),
+        Expected::Ends(Cut::Counted { came: 4, of: 5 }),
     ),
     (
         "end_before_chunks",
         Of(b"HTTP/1.1 200 OK\r\nTransfer-Encoding: chunked\r\n\r\n"),
-        Seen::Ends(Cut::Chunked),
+        Expected::Ends(Cut::Chunked),
     ),
     (
         "end_in_the_last_chunk",
         Of(b"HTTP/1.1 200 OK\r\nTransfer-Encoding: chunked\r\n\r\n5\r\nhello\r\n0\r\n"),
-        Seen::Ends(Cut::Chunked),
+        Expected::Ends(Cut::Chunked),
     ),
     (
         "end_of_an_empty_open_body",
         Of(b"HTTP/1.1 200 OK\r\n\r\n"),
-        Seen::Ends(Cut::Close),
+        Expected::Ends(Cut::Close),
     ),
     (
         "end_of_an_open_body",
         Of(b"HTTP/1.0 200 OK\r\n\r\nhello"),
-        Seen::Ends(Cut::Close),
+        Expected::Ends(Cut::Close),
     ),
     (
         "whole_with_a_length",
         Of(b"HTTP/1.1 200 OK\r\nContent-Length: 5\r\n\r\nhello"),
-        Seen::Whole(Method::Get),
+        Expected::Whole(Method::Get),
     ),
     (
         "whole_with_no_length",
         Of(b"HTTP/1.1 200 OK\r\nContent-Length: 0\r\n\r\n"),
-        Seen::Whole(Method::Get),
+        Expected::Whole(Method::Get),
     ),
     (
         "whole_without_content",
         Of(b"HTTP/1.1 204 No Content\r\n\r\nmore"),
-        Seen::Whole(Method::Get),
+        Expected::Whole(Method::Get),
     ),
     (
         "whole_in_chunks",
         Of(b"HTTP/1.1 200 OK\r\nTransfer-Encoding: chunked\r\n\r\n5\r\nhello\r\n0\r\n\r\n"),
-        Seen::Whole(Method::Get),
+        Expected::Whole(Method::Get),
     ),
     (
         "whole_in_no_chunks",
         Of(b"HTTP/1.1 200 OK\r\nTransfer-Encoding: chunked\r\n\r\n0\r\nA: b\r\n\r\n\x00"),
-        Seen::Whole(Method::Get),
+        Expected::Whole(Method::Get),
     ),
     (
         "whole_answer_to_head",
         Of(b"HTTP/1.1 200 OK\r\nContent-Length: 5\r\n\r\n"),
-        Seen::Whole(Method::Head),
+        Expected::Whole(Method::Head),
     ),
 ];
 
@@ -270,17 +270,17 @@ static LONG: [Row; 6] = [
     (
         "one_field_line_too_many",
         Often(b"HTTP/1.1 200 OK\r\n", b"A: b\r\n", 128, b"c"),
-        Seen::Refused(786, Fault::ManyFields, 100),
+        Expected::Refused(786, Fault::ManyFields, 100),
     ),
     (
         "head_without_an_end",
         Often(b"HTTP/1.1 200 OK\r\nA: ", b"0123456789", 7000, b""),
-        Seen::Refused(65_536, Fault::LongHead, 100),
+        Expected::Refused(65_536, Fault::LongHead, 100),
     ),
     (
         "one_interim_head_too_many",
         Often(b"", b"HTTP/1.1 100 \r\n\r\n", 20, b""),
-        Seen::Refused(289, Fault::InterimHead, 8),
+        Expected::Refused(289, Fault::InterimHead, 8),
     ),
     (
         "more_bytes_than_there_may_be",
@@ -290,17 +290,17 @@ static LONG: [Row; 6] = [
             4_194_304,
             b"",
         ),
-        Seen::RefusedAsAll(67_108_865, Fault::ManyBytes, 63),
+        Expected::RefusedAsAll(67_108_865, Fault::ManyBytes, 63),
     ),
     (
         "more_chunks_than_there_may_be",
         Chunks(CHUNKED, 1024),
-        Seen::RefusedAsAll(67_108_865, Fault::ManyBytes, 63),
+        Expected::RefusedAsAll(67_108_865, Fault::ManyBytes, 63),
     ),
     (
         "bad_byte_far_behind",
         Often(CHUNKED, b"5\r\nhello\r\n", 100_000, b"5\r\nhello!"),
-        Seen::Refused(1_000_056, Fault::ChunkEnd, 56),
+        Expected::Refused(1_000_056, Fault::ChunkEnd, 56),
     ),
 ];
 

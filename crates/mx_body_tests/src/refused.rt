@@ -34,20 +34,20 @@ fn decode(alloc: Global, row: &Response, bytes: &[u8]) -> (bool, bool) {
 
 /// A call of a decoder.
 #[derive(Clone, Copy)]
-enum Call<'a> {
+enum DecoderCall<'a> {
     Feed(&'a [u8]),
     End,
 }
 
-fn make(decoder: &mut Decoder, call: Call<'_>) -> Result<Stand, OutOfMemory> {
+fn make(decoder: &mut Decoder, call: DecoderCall<'_>) -> Result<Stand, OutOfMemory> {
     match call {
-        Call::Feed(piece) => decoder.feed(piece),
-        Call::End => decoder.end(),
+        DecoderCall::Feed(piece) => decoder.feed(piece),
+        DecoderCall::End => decoder.end(),
     }
 }
 
 // Makes a call, again where memory was refused, if the decoder is as it was then; and whether memory was refused.
-fn make_again(decoder: &mut Decoder, call: Call<'_>) -> (Result<Stand, OutOfMemory>, bool) {
+fn make_again(decoder: &mut Decoder, call: DecoderCall<'_>) -> (Result<Stand, OutOfMemory>, bool) {
     let before = read(decoder);
     match make(decoder, call) {
         Err(OutOfMemory) if read(decoder) == before => (make(decoder, call), true),
@@ -59,13 +59,13 @@ fn make_again(decoder: &mut Decoder, call: Call<'_>) -> (Result<Stand, OutOfMemo
 fn feed_all(decoder: &mut Decoder, row: &Response, bytes: &[u8], len: usize) -> (bool, bool) {
     let mut is_refused = false;
     for piece in bytes.chunks(len.max(1)) {
-        let (stand, lacked) = make_again(decoder, Call::Feed(piece));
+        let (stand, lacked) = make_again(decoder, DecoderCall::Feed(piece));
         is_refused = is_refused || lacked;
         if stand.is_err() {
             return (is_refused, false);
         }
     }
-    let (stand, lacked) = make_again(decoder, Call::End);
+    let (stand, lacked) = make_again(decoder, DecoderCall::End);
     let is_right = stand.is_ok() && says(decoder, row, bytes.len(), true);
     (is_refused || lacked, is_right)
 }
@@ -171,7 +171,7 @@ fn feed_many_chunks(decoder: &mut Decoder) -> (usize, Option<Stand>, bool) {
     let mut is_refused = false;
     for at in 0..600_052 {
         let byte = byte_of_many_chunks(at);
-        let (stand, lacked) = make_again(decoder, Call::Feed(&[byte]));
+        let (stand, lacked) = make_again(decoder, DecoderCall::Feed(&[byte]));
         is_refused = is_refused || lacked;
         if stand != Ok(Stand::More) {
             return (at, stand.ok(), is_refused);

@@ -30,7 +30,7 @@ pub(crate) enum Bytes {
 
 /// What is seen of them.
 #[derive(Clone, Copy)]
-pub(crate) enum Seen {
+pub(crate) enum Expected {
     /// A head of this length, status and minor version.
     Head(usize, u16, u8),
     /// More bytes are needed where so many of them are read as a head.
@@ -76,7 +76,7 @@ pub(crate) enum Seen {
 }
 
 /// A row's name, its bytes, and what is seen of them.
-pub(crate) type Row = (&'static str, Bytes, Seen);
+pub(crate) type Row = (&'static str, Bytes, Expected);
 
 /// Adds the front, the unit so often, and the end.
 fn add_often(
@@ -151,31 +151,31 @@ fn is_as_long(told: &Bytes, len: usize) -> bool {
 }
 
 /// Whether this is seen of these bytes.
-fn is_seen(alloc: Global, seen: &Seen, bytes: &[u8]) -> bool {
+fn is_seen(alloc: Global, seen: &Expected, bytes: &[u8]) -> bool {
     match *seen {
-        Seen::Head(len, status, minor) => is_head(bytes, len, status, minor),
-        Seen::Wants(len) => wants_more_of(bytes, len),
-        Seen::Refuses(len, code) => refuses_front(bytes, len, code),
-        Seen::Framed(method, framing, keep) => is_framed(method, bytes, framing, keep),
-        Seen::Keeps(keep) => is_kept(bytes, keep),
-        Seen::KnownInTime => is_known_anywhere(alloc, bytes),
-        Seen::Location(place, value) => is_located(alloc, bytes, place, value),
-        Seen::LocationBehind(place, value) => is_located_behind(alloc, bytes, place, value),
-        Seen::ManyChunks(len) => has_all_chunks(alloc, bytes, len),
-        Seen::Completes(lens, status, len) => completes(alloc, bytes, lens, status, len),
-        Seen::RefusedAtLast(code) => is_refused_at_last(alloc, bytes, code),
-        Seen::Told(told) => is_told_anyhow(alloc, told, bytes),
-        Seen::Scan(limit, scan) => is_scanned(bytes, limit, scan),
-        Seen::Waits => waits_for_each(bytes),
-        Seen::BadAtLast => is_bad_at_last(bytes),
-        Seen::TooLargeFrom(digit) => is_too_large_from(bytes, digit),
-        Seen::Parts(at, parts) => has_parts(alloc, bytes, at, parts),
-        Seen::Refused(at, fault, number) => is_refused(alloc, bytes, at, fault, number),
-        Seen::RefusedAsAll(at, fault, number) => {
+        Expected::Head(len, status, minor) => is_head(bytes, len, status, minor),
+        Expected::Wants(len) => wants_more_of(bytes, len),
+        Expected::Refuses(len, code) => refuses_front(bytes, len, code),
+        Expected::Framed(method, framing, keep) => is_framed(method, bytes, framing, keep),
+        Expected::Keeps(keep) => is_kept(bytes, keep),
+        Expected::KnownInTime => is_known_anywhere(alloc, bytes),
+        Expected::Location(place, value) => is_located(alloc, bytes, place, value),
+        Expected::LocationBehind(place, value) => is_located_behind(alloc, bytes, place, value),
+        Expected::ManyChunks(len) => has_all_chunks(alloc, bytes, len),
+        Expected::Completes(lens, status, len) => completes(alloc, bytes, lens, status, len),
+        Expected::RefusedAtLast(code) => is_refused_at_last(alloc, bytes, code),
+        Expected::Told(told) => is_told_anyhow(alloc, told, bytes),
+        Expected::Scan(limit, scan) => is_scanned(bytes, limit, scan),
+        Expected::Waits => waits_for_each(bytes),
+        Expected::BadAtLast => is_bad_at_last(bytes),
+        Expected::TooLargeFrom(digit) => is_too_large_from(bytes, digit),
+        Expected::Parts(at, parts) => has_parts(alloc, bytes, at, parts),
+        Expected::Refused(at, fault, number) => is_refused(alloc, bytes, at, fault, number),
+        Expected::RefusedAsAll(at, fault, number) => {
             fault.code().number() == number && is_fault(alloc, bytes, at, fault)
         }
-        Seen::Ends(cut) => is_cut_so(alloc, bytes, cut),
-        Seen::Whole(method) => is_whole(alloc, method, bytes),
+        Expected::Ends(cut) => is_cut_so(alloc, bytes, cut),
+        Expected::Whole(method) => is_whole(alloc, method, bytes),
     }
 }
 

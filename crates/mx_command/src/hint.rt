@@ -13,7 +13,7 @@ use std::fmt;
 
 /// A hint after clap's words.
 #[derive(Clone, Copy)]
-pub enum Hint {
+pub enum UsageHint {
     /// The command that is nearest to a word that is no command.
     Nearest(&'static str),
     /// A URL is in the place of a command.
@@ -22,12 +22,12 @@ pub enum Hint {
     Wanted(&'static NumberRow),
 }
 
-impl fmt::Display for Hint {
+impl fmt::Display for UsageHint {
     fn fmt<W: fmt::Write>(&self, f: &mut fmt::Formatter<W>) -> fmt::Result {
         match self {
-            Hint::Nearest(name) => write!(f, "the nearest command is `{name}`"),
-            Hint::Url => f.write_str("a URL is fetched by `mxfetch get URL`"),
-            Hint::Wanted(row) => {
+            UsageHint::Nearest(name) => write!(f, "the nearest command is `{name}`"),
+            UsageHint::Url => f.write_str("a URL is fetched by `mxfetch get URL`"),
+            UsageHint::Wanted(row) => {
                 let name = row.name;
                 let wanted = row.wanted;
                 write!(f, "{name} takes {wanted}")
@@ -48,25 +48,25 @@ fn command_word(words: &[String]) -> Option<&str>
 }
 
 // The hint for a word that is no command.
-fn of_word(alloc: Global, word: &str) -> Result<Option<Hint>, AllocError>
+fn of_word(alloc: Global, word: &str) -> Result<Option<UsageHint>, AllocError>
     ensures { IfOk result (λ o. IfSome o (IsSaidToWord word.now)) }
 {
     if is_url(word) {
-        return Ok(Some(Hint::Url));
+        return Ok(Some(UsageHint::Url));
     }
     Ok(match nearest(alloc, word)? {
-        Some(name) => Some(Hint::Nearest(name)),
+        Some(name) => Some(UsageHint::Nearest(name)),
         None => None,
     })
 }
 
 // The hint for the first option whose value it doesn't take.
-fn of_value(words: &[String]) -> Option<Hint>
+fn of_value(words: &[String]) -> Option<UsageHint>
     ensures { IfSome result (IsSaidToValue (map string_bytes words.now)) }
 {
     for at in 0..words.len() {
         if let Some(row) = refused_at(words, at) {
-            return Some(Hint::Wanted(row));
+            return Some(UsageHint::Wanted(row));
         }
     }
     None
@@ -74,7 +74,11 @@ fn of_value(words: &[String]) -> Option<Hint>
 
 /// What is said to these words, which are a command line that is refused as that kind of error, if anything is. No clause says that
 /// anything is, or that the command that is named is the nearest.
-pub fn hint_of(alloc: Global, words: &[String], kind: ErrorKind) -> Result<Option<Hint>, AllocError>
+pub fn hint_of(
+    alloc: Global,
+    words: &[String],
+    kind: ErrorKind,
+) -> Result<Option<UsageHint>, AllocError>
     ensures { IfOk result (λ o. IfSome o (IsSaid kind (map string_bytes words.now))) }
 {
     match kind {

@@ -12,7 +12,7 @@ mod task;
 pub use crate::asked::{Asked, Get};
 pub use crate::command::read_command;
 pub use crate::hint::number::NumberRow;
-pub use crate::hint::{Hint, hint_of};
+pub use crate::hint::{UsageHint, hint_of};
 pub use crate::save::read::read_save;
 pub use crate::save::{BodySource, Header, ListSource, Save, SaveFlags, SaveNumbers};
 pub use crate::task::Task;

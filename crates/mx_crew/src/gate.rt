@@ -4,7 +4,7 @@ ghost use Rattle.mx_types.specs.Code.{is_link_code};
 ghost use Rattle.mx_gate.specs.Said.{asked, opened, numbered};
 
 use crate::shortage::{Shortages, Watch};
-use crate::starts::{Start, Starts};
+use crate::starts::{StartReport, Starts};
 use mx_gate::{Gate, Said, Turn};
 use mx_request::Endpoint;
 use mx_types::{Code, History};
@@ -37,7 +37,7 @@ impl Common {
 #[derive(Drop)]
 pub(crate) struct RunGate<'s, G> {
     gate: G,
-    start: Start<'s>,
+    start: StartReport<'s>,
     shortages: &'s Shortages,
     watch: Watch,
     latest: u64,
@@ -48,7 +48,7 @@ impl<'s, G> RunGate<'s, G> {
     pub fn new(common: &'s Common, gate: G) -> RunGate<'s, G> {
         RunGate {
             gate,
-            start: Start::new(&common.starts),
+            start: StartReport::new(&common.starts),
             shortages: &common.shortages,
             watch: Watch::new(),
             latest: 0,

@@ -51,15 +51,15 @@ impl Starts {
 
 /// What a worker tells of its start, once.
 #[derive(Drop)]
-pub(crate) struct Start<'s> {
+pub(crate) struct StartReport<'s> {
     starts: &'s Starts,
     has_started: bool,
     refusals: u32,
 }
 
-impl<'s> Start<'s> {
-    pub fn new(starts: &'s Starts) -> Start<'s> {
-        Start {
+impl<'s> StartReport<'s> {
+    pub fn new(starts: &'s Starts) -> StartReport<'s> {
+        StartReport {
             starts,
             has_started: false,
             refusals: 0,

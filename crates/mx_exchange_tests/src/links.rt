@@ -8,7 +8,7 @@ use std::test::Fail;
 
 /// A call of a link, and what it is to answer.
 #[derive(Clone, Copy)]
-pub(crate) enum Step<'a> {
+pub(crate) enum LinkCall<'a> {
     /// A read into a buffer of three dashes, and what is then at its front.
     Read(Read, &'a [u8]),
     /// A write of these bytes, one at least.
@@ -32,7 +32,7 @@ enum Made {
 struct Row {
     name: &'static str,
     link: Made,
-    steps: &'static [Step<'static>],
+    steps: &'static [LinkCall<'static>],
 }
 
 static SCRIPTED: [Row; 3] = [
@@ -47,10 +47,10 @@ static SCRIPTED: [Row; 3] = [
             &[],
         ),
         steps: &[
-            Step::Read(Read::Bytes(3), b"hel"),
-            Step::Read(Read::Bytes(2), b"lo-"),
-            Step::Read(Read::WouldBlock, b"---"),
-            Step::Read(Read::End, b"---"),
+            LinkCall::Read(Read::Bytes(3), b"hel"),
+            LinkCall::Read(Read::Bytes(2), b"lo-"),
+            LinkCall::Read(Read::WouldBlock, b"---"),
+            LinkCall::Read(Read::End, b"---"),
         ],
     },
     // rule link-failures
@@ -58,12 +58,12 @@ static SCRIPTED: [Row; 3] = [
         name: "a_fault_is_counted",
         link: Made::Script(&[ScriptRead::End, ScriptRead::Fault], &[]),
         steps: &[
-            Step::Token(0),
-            Step::Connect(Connect::Done),
-            Step::Read(Read::End, b"---"),
-            Step::Failures(0),
-            Step::Read(Read::Fault, b"---"),
-            Step::Failures(1),
+            LinkCall::Token(0),
+            LinkCall::Connect(Connect::Done),
+            LinkCall::Read(Read::End, b"---"),
+            LinkCall::Failures(0),
+            LinkCall::Read(Read::Fault, b"---"),
+            LinkCall::Failures(1),
         ],
     },
     // rule link-counts
@@ -80,11 +80,11 @@ static SCRIPTED: [Row; 3] = [
             ],
         ),
         steps: &[
-            Step::Write(b"hello", Write::Bytes(2)),
-            Step::Write(b"llo", Write::WouldBlock),
-            Step::Write(b"llo", Write::Bytes(3)),
-            Step::Write(b"!", Write::Fault),
-            Step::Write(b"all of it", Write::Bytes(9)),
+            LinkCall::Write(b"hello", Write::Bytes(2)),
+            LinkCall::Write(b"llo", Write::WouldBlock),
+            LinkCall::Write(b"llo", Write::Bytes(3)),
+            LinkCall::Write(b"!", Write::Fault),
+            LinkCall::Write(b"all of it", Write::Bytes(9)),
         ],
     },
 ];
@@ -95,32 +95,32 @@ static INTERRUPTED: [Row; 6] = [
     Row {
         name: "an_interrupted_read_is_made_again",
         link: Made::Interrupted(1),
-        steps: &[Step::Read(Read::Bytes(1), b"x--")],
+        steps: &[LinkCall::Read(Read::Bytes(1), b"x--")],
     },
     Row {
         name: "an_interrupted_write_is_made_again",
         link: Made::Interrupted(1),
-        steps: &[Step::Write(b"bytes", Write::Bytes(1))],
+        steps: &[LinkCall::Write(b"bytes", Write::Bytes(1))],
     },
     Row {
         name: "a_read_is_made_again_64_times",
         link: Made::Interrupted(64),
-        steps: &[Step::Read(Read::Bytes(1), b"x--")],
+        steps: &[LinkCall::Read(Read::Bytes(1), b"x--")],
     },
     Row {
         name: "a_write_is_made_again_64_times",
         link: Made::Interrupted(64),
-        steps: &[Step::Write(b"bytes", Write::Bytes(1))],
+        steps: &[LinkCall::Write(b"bytes", Write::Bytes(1))],
     },
     Row {
         name: "a_read_that_is_interrupted_65_times_has_failed",
         link: Made::Interrupted(65),
-        steps: &[Step::Read(Read::Fault, b"")],
+        steps: &[LinkCall::Read(Read::Fault, b"")],
     },
     Row {
         name: "a_write_that_is_interrupted_65_times_has_failed",
         link: Made::Interrupted(65),
-        steps: &[Step::Write(b"bytes", Write::Fault)],
+        steps: &[LinkCall::Write(b"bytes", Write::Fault)],
     },
 ];
 
@@ -140,21 +140,21 @@ pub(crate) fn write<L: Link>(link: &mut L, bytes: &[u8]) -> Write {
 }
 
 /// Makes the call: whether it answers so.
-fn is_so<L: Link>(link: &mut L, step: Step<'_>) -> bool {
+fn is_so<L: Link>(link: &mut L, step: LinkCall<'_>) -> bool {
     match step {
-        Step::Read(answer, front) => {
+        LinkCall::Read(answer, front) => {
             let (read, buffer) = read_three(link);
             read == answer && buffer.starts_with(front)
         }
-        Step::Write(bytes, answer) => write(link, bytes) == answer,
-        Step::Connect(answer) => link.try_connect() == answer,
-        Step::Token(token) => link.token() == token,
-        Step::Failures(count) => link.failures() == count,
+        LinkCall::Write(bytes, answer) => write(link, bytes) == answer,
+        LinkCall::Connect(answer) => link.try_connect() == answer,
+        LinkCall::Token(token) => link.token() == token,
+        LinkCall::Failures(count) => link.failures() == count,
     }
 }
 
 /// The place of the first call that answers otherwise, counted from 0.
-pub(crate) fn first_wrong<L: Link>(link: &mut L, steps: &[Step<'_>]) -> Option<usize> {
+pub(crate) fn first_wrong<L: Link>(link: &mut L, steps: &[LinkCall<'_>]) -> Option<usize> {
     for place in 0..steps.len() {
         if !is_so(link, steps[place]) {
             return Some(place);
@@ -164,7 +164,7 @@ pub(crate) fn first_wrong<L: Link>(link: &mut L, steps: &[Step<'_>]) -> Option<u
 }
 
 /// The same, of a link that is dropped then.
-fn first_wrong_over<L: Link>(link: L, steps: &[Step<'_>]) -> Option<usize> {
+fn first_wrong_over<L: Link>(link: L, steps: &[LinkCall<'_>]) -> Option<usize> {
     let mut link = link;
     let wrong = first_wrong(&mut link, steps);
     drop(link);

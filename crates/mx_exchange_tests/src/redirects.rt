@@ -3,7 +3,7 @@
 use crate::hops::HERE;
 use crate::responses::{COUNTED, FOUND, HEAD, TEMPORARY};
 use crate::rows::Call::{Fresh, Poll};
-use crate::rows::{Call, Ends, Hop, Row, Waiting, Wanted};
+use crate::rows::{Call, Ends, ExpectedHop, Row, Waiting, Wanted};
 use crate::table::GET;
 use mx_link::ScriptRead::Bytes;
 use mx_types::{Code, Method};
@@ -115,13 +115,13 @@ static REDIRECTS: [Row<'static>; 2] = [
         max_redirects: 2,
         calls: &[GIVES_FOUND, Poll, GIVES_COUNTED, Poll],
         chain: &[
-            Hop {
+            ExpectedHop {
                 sent: GET_A,
                 reply: FOUND,
                 heads: FOUND,
                 status: 302,
             },
-            Hop {
+            ExpectedHop {
                 sent: GET_B,
                 reply: COUNTED,
                 heads: HEAD,
@@ -135,13 +135,13 @@ static REDIRECTS: [Row<'static>; 2] = [
         calls: &[GIVES_FOUND, Poll, GIVES_FOUND, Poll],
         ends: Ends::Bodiless(Code::TooManyRedirects, 302, FOUND),
         chain: &[
-            Hop {
+            ExpectedHop {
                 sent: GET_A,
                 reply: FOUND,
                 heads: FOUND,
                 status: 302,
             },
-            Hop {
+            ExpectedHop {
                 sent: GET_B,
                 reply: FOUND,
                 heads: FOUND,
@@ -167,19 +167,19 @@ static COOKIES: [Row<'static>; 1] = [Row {
     waits: &[FOLLOWED_AWAY, FOLLOWED_BACK],
     hops: 3,
     chain: &[
-        Hop {
+        ExpectedHop {
             sent: GET_A_COOKIE,
             reply: AWAY,
             heads: AWAY,
             status: 302,
         },
-        Hop {
+        ExpectedHop {
             sent: GET_ROOT,
             reply: BACK,
             heads: BACK,
             status: 308,
         },
-        Hop {
+        ExpectedHop {
             sent: GET_D_COOKIE,
             reply: COUNTED,
             heads: HEAD,
@@ -206,20 +206,20 @@ const MOVED_IN_CHUNKS: &[u8] =
     b"HTTP/1.1 302 Found\r\nLocation: /b\r\nTransfer-Encoding: chunked\r\n\r\n5\r\nmoved\r\n0\r\nA: b\r\n\r\n";
 
 /// A hop whose redirect has a body behind an interim head, and one whose body is in chunks.
-const WITH_BODIES: [Hop<'static>; 3] = [
-    Hop {
+const WITH_BODIES: [ExpectedHop<'static>; 3] = [
+    ExpectedHop {
         sent: GET_A,
         reply: HINTED_AND_MOVED,
         heads: HINTED_HEADS,
         status: 302,
     },
-    Hop {
+    ExpectedHop {
         sent: GET_B,
         reply: MOVED_IN_CHUNKS,
         heads: CHUNKED_HEAD,
         status: 302,
     },
-    Hop {
+    ExpectedHop {
         sent: GET_B,
         reply: COUNTED,
         heads: HEAD,
@@ -272,7 +272,7 @@ static NOT_FOLLOWED: [Row<'static>; 2] = [
         max_redirects: 0,
         calls: &[Fresh(&[Bytes(FOUND)], &[]), Poll],
         ends: Ends::Bodiless(Code::Ok, 302, FOUND),
-        chain: &[Hop {
+        chain: &[ExpectedHop {
             sent: GET_A,
             reply: FOUND,
             heads: FOUND,
@@ -284,7 +284,7 @@ static NOT_FOLLOWED: [Row<'static>; 2] = [
         name: "a_location_of_an_interim_head_is_no_redirect",
         calls: &[Fresh(&[Bytes(HINTED)], &[]), Poll],
         ends: Ends::Bodiless(Code::Ok, 302, HINTED),
-        chain: &[Hop {
+        chain: &[ExpectedHop {
             sent: GET_A,
             reply: HINTED,
             heads: HINTED,
@@ -299,7 +299,7 @@ static NO_LOCATIONS: [Row<'static>; 2] = [
         name: "no_location_is_no_redirect",
         calls: &[Fresh(&[Bytes(UNLOCATED)], &[]), Poll],
         ends: Ends::Bodiless(Code::Ok, 302, UNLOCATED),
-        chain: &[Hop {
+        chain: &[ExpectedHop {
             sent: GET_A,
             reply: UNLOCATED,
             heads: UNLOCATED,
@@ -312,7 +312,7 @@ static NO_LOCATIONS: [Row<'static>; 2] = [
         name: "an_empty_location_is_no_redirect",
         calls: &[Fresh(&[Bytes(EMPTY)], &[]), Poll],
         ends: Ends::Bodiless(Code::Ok, 302, EMPTY),
-        chain: &[Hop {
+        chain: &[ExpectedHop {
             sent: GET_A,
             reply: EMPTY,
             heads: EMPTY,
@@ -335,7 +335,7 @@ static REFUSED_LOCATIONS: [Row<'static>; 2] = [
         name: "a_location_of_another_scheme_is_refused",
         calls: &[Fresh(&[Bytes(TO_HTTPS)], &[]), Poll],
         ends: Ends::Bodiless(Code::UnsupportedProtocol, 302, TO_HTTPS),
-        chain: &[Hop {
+        chain: &[ExpectedHop {
             sent: GET_A,
             reply: TO_HTTPS,
             heads: TO_HTTPS,
@@ -347,7 +347,7 @@ static REFUSED_LOCATIONS: [Row<'static>; 2] = [
         name: "a_location_with_a_user_is_refused",
         calls: &[Fresh(&[Bytes(TO_USER)], &[]), Poll],
         ends: Ends::Bodiless(Code::UrlMalformat, 302, TO_USER),
-        chain: &[Hop {
+        chain: &[ExpectedHop {
             sent: GET_A,
             reply: TO_USER,
             heads: TO_USER,
@@ -362,7 +362,7 @@ static MALFORMED_LOCATIONS: [Row<'static>; 2] = [
         name: "a_location_with_a_bad_host_is_refused",
         calls: &[Fresh(&[Bytes(TO_BRACKET)], &[]), Poll],
         ends: Ends::Bodiless(Code::UrlMalformat, 302, TO_BRACKET),
-        chain: &[Hop {
+        chain: &[ExpectedHop {
             sent: GET_A,
             reply: TO_BRACKET,
             heads: TO_BRACKET,
@@ -374,7 +374,7 @@ static MALFORMED_LOCATIONS: [Row<'static>; 2] = [
         name: "a_location_that_is_not_ascii_is_refused",
         calls: &[Fresh(&[Bytes(TO_BYTE_255)], &[]), Poll],
         ends: Ends::Bodiless(Code::UrlMalformat, 302, TO_BYTE_255),
-        chain: &[Hop {
+        chain: &[ExpectedHop {
             sent: GET_A,
             reply: TO_BYTE_255,
             heads: TO_BYTE_255,
@@ -398,13 +398,13 @@ static REWRITTEN: [Row<'static>; 3] = [
         calls: &[Fresh(&[Bytes(SEE_OTHER)], &[]), Poll, GIVES_COUNTED, Poll],
         waits: &[FOLLOWED_303],
         chain: &[
-            Hop {
+            ExpectedHop {
                 sent: POST_A,
                 reply: SEE_OTHER,
                 heads: SEE_OTHER,
                 status: 303,
             },
-            Hop {
+            ExpectedHop {
                 sent: GET_C,
                 reply: COUNTED,
                 heads: HEAD,
@@ -419,13 +419,13 @@ static REWRITTEN: [Row<'static>; 3] = [
         calls: &[Fresh(&[Bytes(MOVED)], &[]), Poll, GIVES_COUNTED, Poll],
         waits: &[FOLLOWED_301],
         chain: &[
-            Hop {
+            ExpectedHop {
                 sent: POST_A,
                 reply: MOVED,
                 heads: MOVED,
                 status: 301,
             },
-            Hop {
+            ExpectedHop {
                 sent: GET_C,
                 reply: COUNTED,
                 heads: HEAD,
@@ -440,13 +440,13 @@ static REWRITTEN: [Row<'static>; 3] = [
         calls: &[Fresh(&[Bytes(SEE_OTHER)], &[]), Poll, GIVES_COUNTED, Poll],
         waits: &[FOLLOWED_303],
         chain: &[
-            Hop {
+            ExpectedHop {
                 sent: PUT_A,
                 reply: SEE_OTHER,
                 heads: SEE_OTHER,
                 status: 303,
             },
-            Hop {
+            ExpectedHop {
                 sent: GET_C,
                 reply: COUNTED,
                 heads: HEAD,
@@ -464,13 +464,13 @@ static KEPT_METHODS: [Row<'static>; 2] = [
         calls: &[Fresh(&[Bytes(TEMPORARY)], &[]), Poll, GIVES_COUNTED, Poll],
         waits: &[FOLLOWED_307],
         chain: &[
-            Hop {
+            ExpectedHop {
                 sent: POST_A,
                 reply: TEMPORARY,
                 heads: TEMPORARY,
                 status: 307,
             },
-            Hop {
+            ExpectedHop {
                 sent: POST_C,
                 reply: COUNTED,
                 heads: HEAD,
@@ -485,13 +485,13 @@ static KEPT_METHODS: [Row<'static>; 2] = [
         calls: &[Fresh(&[Bytes(MOVED)], &[]), Poll, GIVES_COUNTED, Poll],
         waits: &[FOLLOWED_301],
         chain: &[
-            Hop {
+            ExpectedHop {
                 sent: PUT_A,
                 reply: MOVED,
                 heads: MOVED,
                 status: 301,
             },
-            Hop {
+            ExpectedHop {
                 sent: PUT_C,
                 reply: COUNTED,
                 heads: HEAD,

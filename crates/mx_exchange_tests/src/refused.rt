@@ -4,7 +4,7 @@
 
 use crate::faults::one_by_one;
 use crate::hops::TWICE;
-use crate::links::{Step, first_wrong};
+use crate::links::{LinkCall, first_wrong};
 use crate::replay::{Stop, attach_script, poll, request_of, transfer_of, verdict};
 use crate::responses::{CHUNKED, COUNTED, FOUND};
 use futures::test::MockTask;
@@ -187,16 +187,16 @@ static READS: [ScriptRead<'static>; 4] = [
 
 static WRITES: [Write; 3] = [Write::Bytes(2), Write::WouldBlock, Write::Fault];
 
-static ASKED: [Step<'static>; 9] = [
-    Step::Read(Read::Bytes(3), b"hel"),
-    Step::Read(Read::Bytes(2), b"lo-"),
-    Step::Read(Read::WouldBlock, b"---"),
-    Step::Read(Read::End, b"---"),
-    Step::Read(Read::Fault, b"---"),
-    Step::Write(b"hello", Write::Bytes(2)),
-    Step::Write(b"llo", Write::WouldBlock),
-    Step::Write(b"llo", Write::Fault),
-    Step::Write(b"llo", Write::Bytes(3)),
+static ASKED: [LinkCall<'static>; 9] = [
+    LinkCall::Read(Read::Bytes(3), b"hel"),
+    LinkCall::Read(Read::Bytes(2), b"lo-"),
+    LinkCall::Read(Read::WouldBlock, b"---"),
+    LinkCall::Read(Read::End, b"---"),
+    LinkCall::Read(Read::Fault, b"---"),
+    LinkCall::Write(b"hello", Write::Bytes(2)),
+    LinkCall::Write(b"llo", Write::WouldBlock),
+    LinkCall::Write(b"llo", Write::Fault),
+    LinkCall::Write(b"llo", Write::Bytes(3)),
 ];
 
 // The link, made again where memory was refused; and whether it was.

@@ -3,7 +3,7 @@
 //! What was seen is not kept: each part is compared at once with what the row says of it. So the functions own little, and of what is costly
 //! to drop at most one value, which they drop by a call. Where a call of the transfer has a condition, that is checked first.
 
-use crate::rows::{Call, Ends, Hop, Links, Row, Waiting, Wanted, end_of};
+use crate::rows::{Call, Ends, ExpectedHop, Links, Row, Waiting, Wanted, end_of};
 use futures::task::Poll;
 use futures::test::MockTask;
 use mx_link::{ScriptLink, ScriptRead, Write};
@@ -60,7 +60,7 @@ fn holds(is_so: bool, part: &'static str) -> Result<(), Stop> {
 }
 
 /// Whether an outcome has this hop, counted from 0: all of its bytes, or its heads alone.
-fn is_hop(outcome: &Outcome, at: usize, hop: &Hop<'_>, is_whole: bool) -> bool {
+fn is_hop(outcome: &Outcome, at: usize, hop: &ExpectedHop<'_>, is_whole: bool) -> bool {
     let sent = match outcome.hop_request(at) {
         Some(request) => request.bytes() == hop.sent,
         None => false,
@@ -81,7 +81,7 @@ fn is_no_hop(outcome: &Outcome, at: usize) -> bool {
 
 // rule redirect-heads
 /// Whether an outcome has these hops and no more, and of all but the last their heads alone where these are kept.
-fn are_hops(outcome: &Outcome, chain: &[Hop<'_>], heads_alone: bool) -> bool {
+fn are_hops(outcome: &Outcome, chain: &[ExpectedHop<'_>], heads_alone: bool) -> bool {
     for at in 0..chain.len() {
         let is_whole = !heads_alone || at == chain.len() - 1;
         if !is_hop(outcome, at, &chain[at], is_whole) {

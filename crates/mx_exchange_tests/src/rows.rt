@@ -66,7 +66,7 @@ pub(crate) struct Links {
 
 /// What is seen of a hop.
 #[derive(Clone, Copy)]
-pub(crate) struct Hop<'a> {
+pub(crate) struct ExpectedHop<'a> {
     /// The bytes of its request.
     pub sent: &'a [u8],
     /// The bytes that its link gave.
@@ -115,7 +115,7 @@ pub(crate) struct Row<'a> {
     /// One more than redirects were followed.
     pub hops: usize,
     /// Each hop. Where this is empty it isn't compared.
-    pub chain: &'a [Hop<'a>],
+    pub chain: &'a [ExpectedHop<'a>],
 }
 
 /// What a transfer has ended with, but for its hops.

@@ -4,8 +4,8 @@ use Rattle.std.specs.Char.{to_ascii_lowercase}
 use Rattle.mx_types.specs.declared.code.Code.{Code}
 use Rattle.mx_types.specs.declared.code.Code.TheVariants as code
 use Rattle.mx_reason.specs.declared.reason.Reason.{Reason}
-use Rattle.mx_reason.specs.declared.reason.What.{What}
-use Rattle.mx_reason.specs.declared.reason.What.TheVariants as what
+use Rattle.mx_reason.specs.declared.reason.Defect.{Defect}
+use Rattle.mx_reason.specs.declared.reason.Defect.TheVariants as what
 use Rattle.mx_reason.specs.declared.reason.Fault.TheVariants as fault
 use Rattle.mx_failure_text.specs.declared.hint.Hint.{Hint}
 use Rattle.mx_failure_text.specs.declared.hint.Hint.TheVariants.{NoScheme, Https, NotRaw, FileLimit}
@@ -46,7 +46,7 @@ file_limit_hint true = Some FileLimit
 file_limit_hint false = None
 
 -- Where a response's first line isn't a status line, or a chunk's size isn't one, it may have been changed when it was saved.
-abbrev pub what_hint : What → Option Hint
+abbrev pub what_hint : Defect → Option Hint
 what_hint (what.Fault fault.StatusLine) = Some NotRaw
 what_hint (what.Fault fault.SizeLine) = Some NotRaw
 what_hint _ = None

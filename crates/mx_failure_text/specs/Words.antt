@@ -4,8 +4,8 @@ use Rattle.std.specs.Fmt.{decimal}
 use Rattle.mx_types.specs.declared.code.Code.{Code}
 use Rattle.mx_types.specs.declared.code.Code.TheVariants as code
 use Rattle.mx_reason.specs.declared.reason.Reason.{Reason}
-use Rattle.mx_reason.specs.declared.reason.What.{What}
-use Rattle.mx_reason.specs.declared.reason.What.TheVariants as what
+use Rattle.mx_reason.specs.declared.reason.Defect.{Defect}
+use Rattle.mx_reason.specs.declared.reason.Defect.TheVariants as what
 use Rattle.mx_reason.specs.declared.reason.Fault.{Fault}
 use Rattle.mx_reason.specs.declared.reason.Fault.TheVariants as fault
 use Rattle.mx_reason.specs.declared.reason.Cut.{Cut}
@@ -63,7 +63,7 @@ cut_text at cut.Close = codes ": " ++ (decimal at ++ codes " bytes came, of a bo
 abbrev pub refused_text : ℕ → Fault → List ℕ
 refused_text at f = codes "the response is refused at byte " ++ (decimal at ++ (codes ": " ++ fault_words f))
 
-abbrev pub what_text : Code → ℕ → What → List ℕ
+abbrev pub what_text : Code → ℕ → Defect → List ℕ
 what_text c at (what.Fault f) = refused_text at f
 what_text c at (what.Cut x) = cut_words c ++ cut_text at x
 

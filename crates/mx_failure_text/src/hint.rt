@@ -2,7 +2,7 @@
 ghost use Rattle.std.specs.Prelude.{◌≡◌, ◌↔◌, IsTrue, Some};
 ghost use Rattle.mx_failure_text.specs.Hints.{is_url_code, BeginsInAnyCase, IsUrlHint, hint_words, body_hint, file_limit_hint};
 
-use mx_reason::{Fault, Reason, What};
+use mx_reason::{Defect, Fault, Reason};
 use mx_types::Code;
 
 /// A hint for a common first mistake.
@@ -83,13 +83,13 @@ pub fn body_hint(reason: Option<Reason>) -> Option<Hint>
     match reason {
         Some(
             Reason {
-                what: What::Fault(Fault::StatusLine),
+                what: Defect::Fault(Fault::StatusLine),
                 ..
             },
         ) => Some(Hint::NotRaw),
         Some(
             Reason {
-                what: What::Fault(Fault::SizeLine),
+                what: Defect::Fault(Fault::SizeLine),
                 ..
             },
         ) => Some(Hint::NotRaw),

@@ -5,7 +5,7 @@ mod code;
 mod hint;
 mod line;
 mod reason;
-mod told;
+mod report;
 
 pub use crate::code::code_words;
 pub use crate::hint::{Hint, body_hint, file_limit_hint, url_hint};
@@ -13,4 +13,4 @@ pub use crate::line::{
     print_body_failure, print_cause, print_failure, print_file_limit, print_words, shown,
 };
 pub use crate::reason::fault_words;
-pub use crate::told::Told;
+pub use crate::report::FailureReport;

@@ -8,7 +8,7 @@ ghost use Rattle.mx_failure_text.specs.Hints.{IsUrlHint, body_hint, file_limit_h
 ghost use Rattle.mx_failure_text.specs.Lines.{shown, line_front, line_back, failure_line, hint_line, body_line, body_lines, IsFailureText, Writes};
 
 use crate::hint::{Hint, body_hint, file_limit_hint, url_hint};
-use crate::told::Told;
+use crate::report::FailureReport;
 use mx_run_io::{Output, WriteFailed};
 use mx_types::Code;
 use percent_encoding::{AsciiSet, CONTROLS, PercentEncode, ascii_set, percent_encode};
@@ -116,7 +116,7 @@ pub fn print_cause<W: Write>(
 }
 
 // Prints the line of a response that isn't whole.
-fn print_told<W: Write>(output: &mut Output<W>, told: Told) -> Result<(), WriteFailed>
+fn print_told<W: Write>(output: &mut Output<W>, told: FailureReport) -> Result<(), WriteFailed>
     ensures bytes { OnOk result (Wrote W.contents output.old output.new (body_line (told_text told.code told.reason) (code_number told.code))) }
     ensures failed { IsErr result ↔ (has_failed_write output.new ≡ true) }
 {
@@ -125,7 +125,10 @@ fn print_told<W: Write>(output: &mut Output<W>, told: Told) -> Result<(), WriteF
 }
 
 /// Prints what is reported of a response that isn't whole, a line, and then the line of a hint where there is one.
-pub fn print_body_failure<W: Write>(output: &mut Output<W>, told: Told) -> Result<(), WriteFailed>
+pub fn print_body_failure<W: Write>(
+    output: &mut Output<W>,
+    told: FailureReport,
+) -> Result<(), WriteFailed>
     ensures bytes { OnOk result (Wrote W.contents output.old output.new (body_lines told.code told.reason)) }
     ensures failed { IsErr result ↔ (has_failed_write output.new ≡ true) }
 {

@@ -42,13 +42,13 @@ pub type SocketLink<'r, R> = ReadyLink<DialLink<SocketDial<'r, R>>>;
 // What a gate has in common with those that open its connections: where these are registered, and whether one couldn't be begun since too
 // many files were open: the last one, of which the gate wasn't asked yet, and one before it.
 #[derive(Drop)]
-struct Shared {
+struct SharedRegistry {
     registry: Registry,
     met_file_limit: AtomicBool,
     lacks_files: AtomicBool,
 }
 
-impl Shared {
+impl SharedRegistry {
     // Notes that too many files were open for the last connection, where that was so, and the gate wasn't asked.
     fn pass(&self) {
         if self.lacks_files.swap(false, Ordering::SeqCst) {
@@ -70,7 +70,7 @@ impl Shared {
 /// What opens the connections of one link of a `SocketGate`, and has its poll report when they are ready. Contracts see what it dialled.
 pub struct SocketDial<'r, R> {
     rt: &'r R,
-    shared: Arc<Shared>,
+    shared: Arc<SharedRegistry>,
     dialled: History<SocketAddr>,
 }
 
@@ -149,7 +149,7 @@ impl Bell {
 
 /// Whether too many files were open for a connection of its gate, from any thread.
 pub struct FileLimit {
-    shared: Arc<Shared>,
+    shared: Arc<SharedRegistry>,
 }
 
 // Written out, and not derived: a crate that drops one cites its proof.
@@ -175,7 +175,7 @@ impl FileLimit {
 pub struct SocketGate<'r, R> {
     rt: &'r R,
     poll: Poll,
-    shared: Arc<Shared>,
+    shared: Arc<SharedRegistry>,
     events: Events<Global>,
     bell: Arc<Waker>,
     signals: Arc<Signals>,
@@ -232,11 +232,17 @@ impl<'r, R> Model for SocketGate<'r, R> {
     ghost view = { λ g. record { latest = g.latest; next_token = g.next_token; is_stopped = g.is_stopped; found = g.found; dialled = g.dialled; said = g.said } };
 }
 
-type Parts = (Poll, Arc<Shared>, Events<Global>, Arc<Waker>, Arc<Signals>);
+type Parts = (
+    Poll,
+    Arc<SharedRegistry>,
+    Events<Global>,
+    Arc<Waker>,
+    Arc<Signals>,
+);
 
 // The part of a gate with this poll that its links share.
-fn share(alloc: Global, poll: &Poll) -> io::Result<Arc<Shared>> {
-    let shared = Shared {
+fn share(alloc: Global, poll: &Poll) -> io::Result<Arc<SharedRegistry>> {
+    let shared = SharedRegistry {
         registry: poll.registry().try_clone()?,
         met_file_limit: AtomicBool::new(false),
         lacks_files: AtomicBool::new(false),

@@ -2,7 +2,7 @@
 
 use crate::hosts::addresses;
 use crate::outside::{At, set, v4};
-use mx_names::{Addresses, Answer, Lookup};
+use mx_names::{Addresses, HostAnswer, Lookup};
 use mx_types::Code;
 use std::alloc::{AllocError, AllocGlobal, Global};
 use std::net::{IpAddr, SocketAddr};
@@ -150,10 +150,10 @@ fn are(addresses: &[SocketAddr], numbers: &[u64]) -> bool {
 }
 
 /// Whether an answer is this in numbers: those of its addresses; the number of its code after 0; none where nothing is known.
-pub(crate) fn says(answer: &Answer, numbers: &[u64]) -> bool {
+pub(crate) fn says(answer: &HostAnswer, numbers: &[u64]) -> bool {
     match answer {
-        Answer::Known(addresses) => are(addresses.as_slice(), numbers),
-        Answer::Failed(code) => numbers == [0, u64::from(code.number())].as_slice(),
-        Answer::NotYet => numbers.is_empty(),
+        HostAnswer::Known(addresses) => are(addresses.as_slice(), numbers),
+        HostAnswer::Failed(code) => numbers == [0, u64::from(code.number())].as_slice(),
+        HostAnswer::NotYet => numbers.is_empty(),
     }
 }

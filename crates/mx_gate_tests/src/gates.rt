@@ -3,7 +3,7 @@
 
 use crate::moments::{tells_beside, tells_moments};
 use crate::outside::Outside;
-use crate::peers::{Peer, Told, meets};
+use crate::peers::{Peer, PeerSignals, meets};
 use crate::turns::{Turns, takes};
 use mx_gate::{Bell, Gate, SocketGate};
 use mx_link::{Connect, Link, Read, Write};
@@ -33,7 +33,7 @@ pub(crate) enum Task<'a> {
     /// It sees that the link has this token.
     Token(u64),
     /// It meets a peer that waits until the test has it go on, and offers these bytes in each write.
-    Meet(&'a Told, Peer, &'a [u8]),
+    Meet(&'a PeerSignals, Peer, &'a [u8]),
 }
 
 /// What a test does at a gate.

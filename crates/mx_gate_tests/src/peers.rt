@@ -25,7 +25,7 @@ const LOOKS: u32 = 200_000;
 
 /// The signals between a test and its peer: that the peer is to go on, and that it has sent.
 #[derive(Drop)]
-pub(crate) struct Told {
+pub(crate) struct PeerSignals {
     go: AtomicBool,
     sent: AtomicBool,
 }
@@ -79,7 +79,12 @@ fn read_all(stream: &mut TcpStream) -> u64 {
 }
 
 /// Does what the peer does over a connection: how many bytes it read, or nothing where it failed.
-fn serve<R: Clock + Wait>(rt: &R, stream: &mut TcpStream, told: &Told, peer: Peer) -> Option<u64> {
+fn serve<R: Clock + Wait>(
+    rt: &R,
+    stream: &mut TcpStream,
+    told: &PeerSignals,
+    peer: Peer,
+) -> Option<u64> {
     let (first, rest) = sent_by(peer);
     let is_begun = stream.write_all(first).is_ok();
     wait_for(rt, &told.go);
@@ -90,7 +95,7 @@ fn serve<R: Clock + Wait>(rt: &R, stream: &mut TcpStream, told: &Told, peer: Pee
 }
 
 /// Closes the connection, of a peer that closes later a while after the test is told that it has sent.
-fn close<R: Clock>(rt: &R, stream: TcpStream, told: &Told, peer: Peer) {
+fn close<R: Clock>(rt: &R, stream: TcpStream, told: &PeerSignals, peer: Peer) {
     if matches!(peer, Peer::SendsLate | Peer::SendsTwice) {
         told.sent.store(true, Ordering::SeqCst);
         thread::sleep(rt, Duration::from_millis(100));
@@ -103,7 +108,7 @@ fn close<R: Clock>(rt: &R, stream: TcpStream, told: &Told, peer: Peer) {
 fn be_peer<R: Clock + Wait>(
     rt: &R,
     listener: &TcpListener,
-    told: &Told,
+    told: &PeerSignals,
     peer: Peer,
 ) -> Option<u64> {
     let Ok((mut stream, _)) = listener.accept() else {
@@ -133,7 +138,7 @@ fn finds_nothing<L: Link>(link: &mut L) -> bool {
 }
 
 /// Has the peer go on, and waits until it has sent.
-fn go_on<R: Clock + Wait>(rt: &R, told: &Told) {
+fn go_on<R: Clock + Wait>(rt: &R, told: &PeerSignals) {
     told.go.store(true, Ordering::SeqCst);
     wait_for(rt, &told.sent);
 }
@@ -144,7 +149,7 @@ fn reads_after_a_turn<R: Clock + Wait, G: Gate>(
     rt: &R,
     gate: &mut G,
     link: &mut G::Link,
-    told: &Told,
+    told: &PeerSignals,
     comes_at_once: bool,
 ) -> bool {
     let is_begun = begins(gate, link, comes_at_once);
@@ -167,7 +172,7 @@ fn reads_to_the_end<R: Clock + Wait, G: Gate>(
     rt: &R,
     gate: &mut G,
     link: &mut G::Link,
-    told: &Told,
+    told: &PeerSignals,
 ) -> bool {
     let connected = connect(gate, link);
     go_on(rt, told);
@@ -217,7 +222,7 @@ fn write_on<G: Gate>(gate: &mut G, link: &mut G::Link, bytes: &[u8]) -> Write {
 fn writes_all<G: Gate>(
     gate: &mut G,
     link: &mut G::Link,
-    told: &Told,
+    told: &PeerSignals,
     peer: Peer,
     bytes: &[u8],
 ) -> Option<u64> {
@@ -240,7 +245,7 @@ pub(crate) fn meets<R: Clock + Wait, G: Gate>(
     rt: &R,
     gate: &mut G,
     link: &mut G::Link,
-    told: &Told,
+    told: &PeerSignals,
     peer: Peer,
     bytes: &[u8],
 ) -> Option<u64> {
@@ -262,7 +267,7 @@ fn peer_there<
         + Send
         + Drop
         + 'static,
->(rt: &R, told: Arc<Told>, peer: Peer) -> Result<(u16, JoinHandle<Option<u64>>), Fail> {
+>(rt: &R, told: Arc<PeerSignals>, peer: Peer) -> Result<(u16, JoinHandle<Option<u64>>), Fail> {
     let (listener, port) = listening(rt, "127.0.0.1:0")?;
     let rt_there = *rt;
     let there = thread::spawn(rt, move || be_peer(&rt_there, &listener, &told, peer))?;
@@ -273,7 +278,7 @@ fn peer_there<
 fn meet<R: Net + Clock + Wait + Threads + AllocGlobal + Copy + Send + Drop + 'static>(
     rt: &R,
     port: u16,
-    told: &Told,
+    told: &PeerSignals,
     peer: Peer,
 ) -> Result<Option<u64>, Fail> {
     let there = endpoint(rt.alloc(), "127.0.0.1", port)?;
@@ -296,7 +301,7 @@ fn is_met_by<
         + Send
         + Drop
         + 'static,
->(rt: &R, told: &Arc<Told>, peer: Peer) -> Result<bool, Fail> {
+>(rt: &R, told: &Arc<PeerSignals>, peer: Peer) -> Result<bool, Fail> {
     let (port, there) = peer_there(rt, Arc::try_clone(told)?, peer)?;
     let near = meet(rt, port, told, peer);
     let (near, far) = joined(rt, near, there)?;
@@ -317,7 +322,7 @@ fn is_met<
 >(rt: &R, peer: Peer) -> Result<bool, Fail> {
     let go = AtomicBool::new(false);
     let sent = AtomicBool::new(false);
-    let told = Arc::new(rt.alloc(), Told { go, sent })?;
+    let told = Arc::new(rt.alloc(), PeerSignals { go, sent })?;
     let is_met = is_met_by(rt, &told, peer);
     drop(told);
     is_met

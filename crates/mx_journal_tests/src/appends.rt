@@ -2,7 +2,7 @@
 //! `mx_journal::definitions` read off that log.
 
 use crate::caller::{Caller, Said, Step};
-use crate::sample::{End, Job, SEAT, Wrong, verdict};
+use crate::sample::{CodeEnding, NumberedWork, SEAT, Wrong, verdict};
 use mx_journal::{Control, Log, definitions};
 use mx_types::{Code, Event, HandleId, OutOfMemory, State, Ticket};
 use std::alloc::Global;
@@ -29,7 +29,7 @@ static SCRIPT: [(Step, Said); 14] = [
 // Whether as many run as are read off the log, the seat has made as many calls, and a reader at 5 is woken just where one is there.
 fn numbers_agree(
     alloc: Global,
-    control: &Control<Job, End>,
+    control: &Control<NumberedWork, CodeEnding>,
     events: &[Event],
 ) -> Result<bool, OutOfMemory> {
     let running = definitions::running(alloc, events)?.len();
@@ -43,7 +43,7 @@ fn numbers_agree(
 // Whether the states of handles 7 and 9 are those that are read off the log.
 fn states_agree(
     alloc: Global,
-    control: &Control<Job, End>,
+    control: &Control<NumberedWork, CodeEnding>,
     events: &[Event],
 ) -> Result<bool, OutOfMemory> {
     for handle in [HandleId(7), HandleId(9)] {
@@ -57,7 +57,7 @@ fn states_agree(
 // Whether the looks of the first three tickets are those that are read off the log.
 fn looks_agree(
     alloc: Global,
-    control: &Control<Job, End>,
+    control: &Control<NumberedWork, CodeEnding>,
     events: &[Event],
 ) -> Result<bool, OutOfMemory> {
     for ticket in 0..3 {
@@ -96,7 +96,7 @@ fn are_tickets(tickets: &[Ticket], waiting: &[(Ticket, Code, u32)]) -> bool {
 // Whether the core lists the handles that the executable definitions find added.
 fn handles_agree(
     alloc: Global,
-    control: &Control<Job, End>,
+    control: &Control<NumberedWork, CodeEnding>,
     events: &[Event],
 ) -> Result<bool, OutOfMemory> {
     let added = definitions::added(alloc, events)?;
@@ -106,7 +106,7 @@ fn handles_agree(
 // Whether the core lists the tickets of the messages that the executable definitions find waiting.
 fn messages_agree(
     alloc: Global,
-    control: &Control<Job, End>,
+    control: &Control<NumberedWork, CodeEnding>,
     events: &[Event],
 ) -> Result<bool, OutOfMemory> {
     let waiting = definitions::waiting(alloc, events)?;
@@ -116,7 +116,7 @@ fn messages_agree(
 // Whether the core answers what the executable definitions read off its log.
 fn agrees(
     alloc: Global,
-    control: &Control<Job, End>,
+    control: &Control<NumberedWork, CodeEnding>,
     events: &[Event],
 ) -> Result<bool, OutOfMemory> {
     Ok(

@@ -2,7 +2,7 @@
 ghost use Rattle.mx_types.specs.Limits.{IsHistory};
 
 use crate::callers::{claim_and_give_back, retire_and_see};
-use crate::sample::{End, Held, Job, RefusesOnce, SEAT, WORKER};
+use crate::sample::{CodeEnding, Held, NumberedWork, RefusesOnce, SEAT, WORKER};
 use mx_journal::{
     AddReply, Control, FinishReply, GiveBackReply, InfoReply, Log, PauseReply, RemoveReply,
     RetireReply, WakeupReply, definitions,
@@ -93,7 +93,7 @@ pub enum Said {
 /// A control core, its log, and the claims that are held.
 #[derive(Drop)]
 pub struct Caller {
-    pub control: Control<Job, End>,
+    pub control: Control<NumberedWork, CodeEnding>,
     pub log: RefusesOnce,
     held: Vec<Held>,
 }
@@ -119,7 +119,7 @@ impl Caller {
         let handle = HandleId(handle);
         match self
             .control
-            .add(&mut self.log, SEAT, handle, Job { number })
+            .add(&mut self.log, SEAT, handle, NumberedWork { number })
         {
             AddReply::Added(ticket) => Said::Added(ticket.0),
             AddReply::AddedAlready(_) => Said::AddedAlready,
@@ -173,7 +173,7 @@ impl Caller {
         Ok(
             match self
                 .control
-                .finish(&mut self.log, WORKER, claim, End { code })
+                .finish(&mut self.log, WORKER, claim, CodeEnding { code })
             {
                 FinishReply::Recorded => Said::Recorded,
                 FinishReply::Stale(end) => Said::StaleEnd(end.code),
@@ -307,7 +307,7 @@ fn are_retired(alloc: Global, log: &[Event], kept: &[Event]) -> Result<bool, Out
 }
 
 // Whether these are the events of the journal.
-fn is_journal(control: &Control<Job, End>, events: &[Event]) -> bool {
+fn is_journal(control: &Control<NumberedWork, CodeEnding>, events: &[Event]) -> bool {
     if control.len() as usize != events.len() {
         return false;
     }

@@ -1,7 +1,7 @@
 //! A control core whose calls are refused memory. One that was is made again, and has then to answer as if it had been the first; only then
 //! does the test fail, by a text of its own. Without a refusal it passes. Which appends of its log may be refused is tried in `appends`.
 
-use crate::sample::{End, Job, SEAT};
+use crate::sample::{CodeEnding, NumberedWork, SEAT};
 use mx_journal::{AddReply, Control, RemoveReply, VecLog, WakeupReply};
 use mx_types::{Event, HandleId, OutOfMemory, Ticket, What};
 use std::alloc::Global;
@@ -19,7 +19,7 @@ pub fn end(is_refused: bool) -> Result<(), Fail> {
 }
 
 // A control state, made again where memory was refused; and whether it was.
-fn control(alloc: Global) -> Result<(Control<Job, End>, bool), OutOfMemory> {
+fn control(alloc: Global) -> Result<(Control<NumberedWork, CodeEnding>, bool), OutOfMemory> {
     match Control::new(alloc, 64) {
         Ok(control) => Ok((control, false)),
         Err(OutOfMemory) => Ok((Control::new(alloc, 64)?, true)),
@@ -28,11 +28,11 @@ fn control(alloc: Global) -> Result<(Control<Job, End>, bool), OutOfMemory> {
 
 // Adds a handle, again where memory was refused: its ticket, and whether it was.
 fn add(
-    control: &mut Control<Job, End>,
+    control: &mut Control<NumberedWork, CodeEnding>,
     log: &mut VecLog,
     handle: HandleId,
 ) -> (Option<Ticket>, bool) {
-    let job = Job { number: handle.0 };
+    let job = NumberedWork { number: handle.0 };
     match control.add(log, SEAT, handle, job) {
         AddReply::Added(ticket) => (Some(ticket), false),
         AddReply::OutOfMemory(job) => match control.add(log, SEAT, handle, job) {
@@ -44,7 +44,7 @@ fn add(
 }
 
 // Makes four events, of which the first may be refused memory: whether all were made, and whether memory was refused.
-fn make_four(control: &mut Control<Job, End>, log: &mut VecLog) -> (bool, bool) {
+fn make_four(control: &mut Control<NumberedWork, CodeEnding>, log: &mut VecLog) -> (bool, bool) {
     let (first, is_refused) = add(control, log, HandleId(7));
     let (second, _) = add(control, log, HandleId(8));
     let woken = matches!(control.wakeup(log, SEAT), WakeupReply::Ok);
@@ -54,7 +54,10 @@ fn make_four(control: &mut Control<Job, End>, log: &mut VecLog) -> (bool, bool) 
 }
 
 // What is kept of those, found out again where memory was refused; and whether it was.
-fn kept(alloc: Global, control: &Control<Job, End>) -> Result<(Vec<Event>, bool), OutOfMemory> {
+fn kept(
+    alloc: Global,
+    control: &Control<NumberedWork, CodeEnding>,
+) -> Result<(Vec<Event>, bool), OutOfMemory> {
     match control.kept(alloc) {
         Ok(kept) => Ok((kept, false)),
         Err(OutOfMemory) => Ok((control.kept(alloc)?, true)),
@@ -69,7 +72,7 @@ static KEPT: [Event; 1] = [Event {
 // Whether four events are made and then kept as they should be, and whether memory was refused.
 fn makes_and_keeps(
     alloc: Global,
-    control: &mut Control<Job, End>,
+    control: &mut Control<NumberedWork, CodeEnding>,
 ) -> Result<(bool, bool), OutOfMemory> {
     let mut log = VecLog::new(alloc);
     let (are_made, at_an_event) = make_four(control, &mut log);

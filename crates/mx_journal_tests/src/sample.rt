@@ -14,11 +14,11 @@ pub const WORKER: Who = Who::Worker(0);
 
 /// An ending without a request.
 #[derive(Drop)]
-pub struct End {
+pub struct CodeEnding {
     pub code: Code,
 }
 
-impl Ending for End {
+impl Ending for CodeEnding {
     ghost use Rattle.mx_types.specs.Origin.{no_request};
 
     ghost origin = { λ _. no_request };
@@ -38,11 +38,11 @@ impl Ending for End {
 
 /// Work that is known by its number, without a request.
 #[derive(Drop)]
-pub struct Job {
+pub struct NumberedWork {
     pub number: u32,
 }
 
-impl Work for Job {
+impl Work for NumberedWork {
     ghost use Rattle.mx_types.specs.Origin.{no_request};
 
     ghost origin = { λ _. no_request };
@@ -51,8 +51,8 @@ impl Work for Job {
 /// A claim with its work.
 #[derive(Drop)]
 pub struct Held {
-    pub claim: Claim<Job>,
-    pub job: Job,
+    pub claim: Claim<NumberedWork>,
+    pub job: NumberedWork,
 }
 
 impl Model for Held {

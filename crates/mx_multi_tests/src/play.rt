@@ -19,7 +19,7 @@ use std::time::Clock;
 
 /// What a call answers.
 #[derive(Clone, Copy)]
-pub enum Said {
+pub enum Expected {
     /// In the words of `mxfetch play`.
     Text(&'static str),
     /// An addition, with its ticket.
@@ -30,9 +30,9 @@ pub enum Said {
 
 /// A call, with what it is to answer.
 #[derive(Clone, Copy)]
-pub enum Step {
+pub enum ScriptStep {
     /// A seat's call: its number, the answer, and how many events the seat has then seen.
-    Make(usize, Call, Said, u32),
+    Make(usize, Call, Expected, u32),
     /// A seat polls, for a millisecond at most, and whether that returns.
     PollFor(usize, bool),
     /// The last seat makes all calls of a script, and has then seen so many events.
@@ -50,7 +50,7 @@ pub enum Step {
     /// The worker notes so many bytes for its last claim.
     Note(u32),
     /// The worker looks at a ticket: the answer, and how many events its seat has then seen.
-    Look(Ticket, Said, u32),
+    Look(Ticket, Expected, u32),
     /// The last seat reads the progress of a handle's transfer.
     Progress(HandleId, Progress),
     /// How full the history was when the first seat last saw it, and how full it may be.
@@ -86,14 +86,14 @@ fn is_text(alloc: Global, reply: &Reply, text: &str) -> Result<bool, OutOfMemory
 }
 
 // Whether an answer is this. Its text is tried once more where memory was refused.
-fn is_reply(alloc: Global, reply: &Reply, said: Said) -> Result<bool, OutOfMemory> {
+fn is_reply(alloc: Global, reply: &Reply, said: Expected) -> Result<bool, OutOfMemory> {
     match said {
-        Said::Text(text) => match is_text(alloc, reply, text) {
+        Expected::Text(text) => match is_text(alloc, reply, text) {
             Ok(is_so) => Ok(is_so),
             Err(_) => is_text(alloc, reply, text),
         },
-        Said::Added(given) => Ok(matches!(reply, Reply::Added(ticket) if *ticket == given)),
-        Said::Message(of, read) => match reply {
+        Expected::Added(given) => Ok(matches!(reply, Reply::Added(ticket) if *ticket == given)),
+        Expected::Message(of, read) => match reply {
             Reply::Message {
                 handle,
                 ticket,
@@ -107,7 +107,7 @@ fn is_reply(alloc: Global, reply: &Reply, said: Said) -> Result<bool, OutOfMemor
 }
 
 // Whether this was answered.
-fn is_said(alloc: Global, reply: Option<Reply>, said: Said) -> Result<bool, OutOfMemory> {
+fn is_said(alloc: Global, reply: Option<Reply>, said: Expected) -> Result<bool, OutOfMemory> {
     match reply {
         Some(reply) => is_reply(alloc, &reply, said),
         None => Ok(false),
@@ -137,20 +137,20 @@ fn ask<R: Wait>(
     rt: &R,
     alloc: Global,
     whole: &mut Whole,
-    step: &Step,
+    step: &ScriptStep,
 ) -> Result<(bool, bool), OutOfMemory> {
     match *step {
-        Step::Make(number, call, said, cut) => {
+        ScriptStep::Make(number, call, said, cut) => {
             let (reply, is_refused) = make(rt, whole, number, call);
             let is_so = is_said(alloc, reply, said)?;
             Ok((is_so && whole.cut(number) == Some(cut), is_refused))
         }
-        Step::Finish(code, size, cut) => {
+        ScriptStep::Finish(code, size, cut) => {
             let (reply, is_refused) = finish(rt, whole, code, size);
-            let is_so = is_said(alloc, reply, Said::Text("recorded"))?;
+            let is_so = is_said(alloc, reply, Expected::Text("recorded"))?;
             Ok((is_so && whole.worker_cut() == Some(cut), is_refused))
         }
-        Step::Look(ticket, said, cut) => {
+        ScriptStep::Look(ticket, said, cut) => {
             let look = whole.look(ticket).map(Reply::Look);
             let is_so = is_said(alloc, look, said)?;
             Ok((is_so && whole.worker_cut() == Some(cut), false))
@@ -163,19 +163,19 @@ fn ask<R: Wait>(
 fn call<R: Threads + Wait + Sync + Clock>(
     rt: &R,
     whole: &mut Whole,
-    step: &Step,
+    step: &ScriptStep,
 ) -> Result<bool, OutOfMemory> {
     Ok(match *step {
-        Step::PollFor(number, is_woken) => whole.poll_for(rt, number, 1) == Some(is_woken),
-        Step::Run(calls, cut) => whole.run(rt, calls)? == Some((calls.len(), cut)),
-        Step::MeetTwo(cut) => whole.meet_two(rt)? == Some(cut),
-        Step::MeetAll(cut) => whole.meet_all(rt) == Some(cut) && whole.have_all_seen(cut),
-        Step::Claim(ticket) => whole.claim(rt)? == Some(ticket),
-        Step::GiveBack(is_back) => whole.give_back(rt) == Some(is_back),
-        Step::Note(count) => whole.note(count),
-        Step::Progress(handle, progress) => whole.progress(handle) == Some(progress),
-        Step::History(used) => whole.history(0) == Some(used),
-        Step::Two(one, two, cut) => {
+        ScriptStep::PollFor(number, is_woken) => whole.poll_for(rt, number, 1) == Some(is_woken),
+        ScriptStep::Run(calls, cut) => whole.run(rt, calls)? == Some((calls.len(), cut)),
+        ScriptStep::MeetTwo(cut) => whole.meet_two(rt)? == Some(cut),
+        ScriptStep::MeetAll(cut) => whole.meet_all(rt) == Some(cut) && whole.have_all_seen(cut),
+        ScriptStep::Claim(ticket) => whole.claim(rt)? == Some(ticket),
+        ScriptStep::GiveBack(is_back) => whole.give_back(rt) == Some(is_back),
+        ScriptStep::Note(count) => whole.note(count),
+        ScriptStep::Progress(handle, progress) => whole.progress(handle) == Some(progress),
+        ScriptStep::History(used) => whole.history(0) == Some(used),
+        ScriptStep::Two(one, two, cut) => {
             whole.run_two(rt, (one, two))? == Some(((one.len(), two.len()), [cut, cut]))
         }
         _ => false,
@@ -325,12 +325,15 @@ impl Play {
         &mut self,
         rt: &R,
         alloc: Global,
-        step: &Step,
+        step: &ScriptStep,
     ) -> Result<bool, OutOfMemory> {
         let Some(whole) = &mut self.place else {
             return Ok(false);
         };
-        if !matches!(step, Step::Make(..) | Step::Finish(..) | Step::Look(..)) {
+        if !matches!(
+            step,
+            ScriptStep::Make(..) | ScriptStep::Finish(..) | ScriptStep::Look(..)
+        ) {
             return call(rt, whole, step);
         }
         let (is_so, is_refused) = ask(rt, alloc, whole, step)?;
@@ -345,19 +348,19 @@ impl Play {
         &mut self,
         rt: &R,
         alloc: Global,
-        step: &Step,
+        step: &ScriptStep,
     ) -> Result<bool, OutOfMemory> {
         match *step {
-            Step::Retire(cut) => {
+            ScriptStep::Retire(cut) => {
                 let told = self.retire(rt, alloc);
                 Ok(told == (true, None) && self.is_retired(cut))
             }
-            Step::Hindered(why) => Ok(self.retire(rt, alloc) == (true, Some(why))),
-            Step::HinderedWithoutLast(why) => {
+            ScriptStep::Hindered(why) => Ok(self.retire(rt, alloc) == (true, Some(why))),
+            ScriptStep::HinderedWithoutLast(why) => {
                 Ok(self.retire_once(rt, alloc, false) == (true, Some(why)))
             }
-            Step::Beside(tasks, times) => self.beside_often(rt, alloc, tasks, times),
-            Step::Storm(seed, turns) => {
+            ScriptStep::Beside(tasks, times) => self.beside_often(rt, alloc, tasks, times),
+            ScriptStep::Storm(seed, turns) => {
                 let tasks = [Task::Chance(seed, turns); THREADS];
                 let calls = self.beside(rt, alloc, &tasks)?;
                 Ok(calls.unwrap_or(0) as u64 > u64::from(turns) * 16)
@@ -371,7 +374,7 @@ impl Play {
         &mut self,
         rt: &R,
         alloc: Global,
-        steps: &[Step],
+        steps: &[ScriptStep],
     ) -> Result<Option<usize>, OutOfMemory> {
         for (at, step) in steps.iter().enumerate() {
             if !self.take_step(rt, alloc, step)? {
@@ -399,15 +402,15 @@ fn open<R: Wait>(rt: &R, alloc: Global, limits: Limits) -> Result<Play, OpenErro
 
 /// A script: its name, the limits of its multi handle, and its steps.
 #[derive(Clone, Copy)]
-pub struct Row<'a> {
+pub struct Script<'a> {
     pub name: &'static str,
     pub limits: Limits,
-    pub steps: &'a [Step],
+    pub steps: &'a [ScriptStep],
 }
 
 /// The script that fails, and its step.
 #[derive(Clone, Copy)]
-pub struct Wrong {
+pub struct FailedStep {
     pub row: &'static str,
     pub step: usize,
 }
@@ -417,7 +420,7 @@ fn play_steps<R: Threads + Wait + Sync + Clock>(
     rt: &R,
     alloc: Global,
     limits: Limits,
-    steps: &[Step],
+    steps: &[ScriptStep],
     refused: &mut bool,
 ) -> Result<Option<usize>, OutOfMemory> {
     let mut play = match open(rt, alloc, limits) {
@@ -437,12 +440,12 @@ fn play_steps<R: Threads + Wait + Sync + Clock>(
 fn play_all<R: Threads + Wait + Sync + Clock>(
     rt: &R,
     alloc: Global,
-    rows: &[Row<'static>],
+    rows: &[Script<'static>],
     refused: &mut bool,
-) -> Result<Option<Wrong>, OutOfMemory> {
+) -> Result<Option<FailedStep>, OutOfMemory> {
     for row in rows {
         if let Some(step) = play_steps(rt, alloc, row.limits, row.steps, refused)? {
-            return Ok(Some(Wrong {
+            return Ok(Some(FailedStep {
                 row: row.name,
                 step,
             }));
@@ -455,16 +458,16 @@ fn play_all<R: Threads + Wait + Sync + Clock>(
 fn play_both<R: Threads + Wait + Sync + Clock>(
     rt: &R,
     alloc: Global,
-    rows: &[Row<'static>],
-    made: Row<'_>,
+    rows: &[Script<'static>],
+    made: Script<'_>,
     tries_limits: bool,
     refused: &mut bool,
-) -> Result<Option<Wrong>, OutOfMemory> {
+) -> Result<Option<FailedStep>, OutOfMemory> {
     if let Some(wrong) = play_all(rt, alloc, rows, refused)? {
         return Ok(Some(wrong));
     }
     if let Some(step) = play_steps(rt, alloc, made.limits, made.steps, refused)? {
-        return Ok(Some(Wrong {
+        return Ok(Some(FailedStep {
             row: made.name,
             step,
         }));
@@ -476,8 +479,8 @@ fn play_both<R: Threads + Wait + Sync + Clock>(
 }
 
 // The end of a test: it fails with the script and the step, and else, where a call was refused memory, by a text of its own.
-fn end(wrong: Option<Wrong>, refused: bool) -> Result<(), Fail> {
-    if let Some(Wrong { row, step }) = wrong {
+fn end(wrong: Option<FailedStep>, refused: bool) -> Result<(), Fail> {
+    if let Some(FailedStep { row, step }) = wrong {
         return Err(Fail::new(format_args!("{row}: step {step}")));
     }
     if refused {
@@ -493,8 +496,8 @@ fn end(wrong: Option<Wrong>, refused: bool) -> Result<(), Fail> {
 pub fn try_rows<R: Threads + Wait + Sync + Clock>(
     rt: &R,
     alloc: Global,
-    rows: &[Row<'static>],
-    made: Row<'_>,
+    rows: &[Script<'static>],
+    made: Script<'_>,
     tries_limits: bool,
 ) -> Result<(), Fail> {
     let mut refused = false;

@@ -1,7 +1,7 @@
 //! Scripts whose calls may be refused memory. One that was is made again, and has then to answer as if it had been the first; only then
 //! does the test fail, by a text of its own. Without a refusal it passes.
 
-use crate::play::{Row, try_rows};
+use crate::play::{Script, try_rows};
 use crate::rows::{FOUR_SEATS, RETIRINGS, SCRIPTS, SHORT_HISTORY, full_history, full_table};
 use std::test::Fail;
 
@@ -9,7 +9,7 @@ use std::test::Fail;
 #[test]
 fn scripts(rt: HostRuntime) -> Result<(), Fail> {
     let steps = full_table(rt.alloc())?;
-    let full = Row {
+    let full = Script {
         name: "the_table_has_256_places",
         limits: FOUR_SEATS,
         steps: steps.as_slice(),
@@ -24,7 +24,7 @@ fn scripts(rt: HostRuntime) -> Result<(), Fail> {
 fn retirings(rt: HostRuntime) -> Result<(), Fail> {
     let steps = full_history(rt.alloc())?;
     // rule multi-retire
-    let full = Row {
+    let full = Script {
         name: "a_full_history_goes_on",
         limits: SHORT_HISTORY,
         steps: steps.as_slice(),

@@ -1,6 +1,6 @@
 //! Scripts of calls on one thread, each with what it answers and how many events the seat has then seen.
 
-use crate::play::{Row, Said, Step, Wrong};
+use crate::play::{Expected, FailedStep, Script, ScriptStep};
 use crate::whole::Whole;
 use mx_multi::{HistoryUse, Limits, OpenError, Progress, Refusal};
 use mx_types::{Call, Code, HandleId, OutOfMemory, Ticket};
@@ -46,171 +46,181 @@ const FIRST: Ticket = Ticket(0);
 const SECOND: Ticket = Ticket(1);
 
 /// What is added is claimed, ended, polled for and read.
-const DOCUMENTED: &[Step] = &[
-    Step::Make(3, Call::Add(ONE), Said::Added(FIRST), 1),
-    Step::Claim(FIRST),
-    Step::Finish(Code::Ok, 5, 2),
-    Step::Make(3, Call::Poll, Said::Text("woken"), 2),
-    Step::Make(3, Call::InfoRead, Said::Message(ONE, FIRST), 3),
+const DOCUMENTED: &[ScriptStep] = &[
+    ScriptStep::Make(3, Call::Add(ONE), Expected::Added(FIRST), 1),
+    ScriptStep::Claim(FIRST),
+    ScriptStep::Finish(Code::Ok, 5, 2),
+    ScriptStep::Make(3, Call::Poll, Expected::Text("woken"), 2),
+    ScriptStep::Make(3, Call::InfoRead, Expected::Message(ONE, FIRST), 3),
 ];
 
 /// Wake-ups let one poll return, which takes all of them.
-const WAKE_UPS: &[Step] = &[
-    Step::Make(3, Call::Wakeup, Said::Text("ok"), 1),
-    Step::Make(3, Call::Wakeup, Said::Text("ok"), 2),
-    Step::Make(3, Call::Poll, Said::Text("woken"), 2),
-    Step::Make(3, Call::Wakeup, Said::Text("ok"), 3),
-    Step::Make(3, Call::Poll, Said::Text("woken"), 3),
+const WAKE_UPS: &[ScriptStep] = &[
+    ScriptStep::Make(3, Call::Wakeup, Expected::Text("ok"), 1),
+    ScriptStep::Make(3, Call::Wakeup, Expected::Text("ok"), 2),
+    ScriptStep::Make(3, Call::Poll, Expected::Text("woken"), 2),
+    ScriptStep::Make(3, Call::Wakeup, Expected::Text("ok"), 3),
+    ScriptStep::Make(3, Call::Poll, Expected::Text("woken"), 3),
 ];
 
 /// A poll that may wait a millisecond returns where a wake-up has come since the last one, and else says that none had.
-const SHORT_POLLS: &[Step] = &[
-    Step::PollFor(0, false),
-    Step::Make(1, Call::Wakeup, Said::Text("ok"), 1),
-    Step::PollFor(0, true),
-    Step::PollFor(0, false),
+const SHORT_POLLS: &[ScriptStep] = &[
+    ScriptStep::PollFor(0, false),
+    ScriptStep::Make(1, Call::Wakeup, Expected::Text("ok"), 1),
+    ScriptStep::PollFor(0, true),
+    ScriptStep::PollFor(0, false),
 ];
 
 /// A transfer that is paused, resumed and done, and what each call says of it.
-const PAUSED: &[Step] = &[
-    Step::Make(3, Call::Add(THREE), Said::Text("added 0"), 1),
-    Step::Make(3, Call::Pause(THREE), Said::Text("changed"), 2),
-    Step::Make(3, Call::Pause(THREE), Said::Text("no-change"), 2),
-    Step::Make(3, Call::State(THREE), Said::Text("paused 0"), 2),
-    Step::Make(3, Call::Unpause(THREE), Said::Text("changed"), 3),
-    Step::Make(3, Call::Unpause(THREE), Said::Text("no-change"), 3),
-    Step::Claim(FIRST),
-    Step::Finish(Code::OperationTimedout, 0, 4),
-    Step::Make(3, Call::Pause(THREE), Said::Text("not-running"), 4),
-    Step::Make(3, Call::Pause(FOUR), Said::Text("not-added"), 4),
-    Step::Make(3, Call::State(THREE), Said::Text("done 0 28"), 4),
-    Step::Make(3, Call::Running, Said::Text("running 0"), 4),
-    Step::Make(3, Call::Handles, Said::Text("handles 3"), 4),
-    Step::Make(3, Call::Remove(THREE), Said::Text("removed"), 5),
+const PAUSED: &[ScriptStep] = &[
+    ScriptStep::Make(3, Call::Add(THREE), Expected::Text("added 0"), 1),
+    ScriptStep::Make(3, Call::Pause(THREE), Expected::Text("changed"), 2),
+    ScriptStep::Make(3, Call::Pause(THREE), Expected::Text("no-change"), 2),
+    ScriptStep::Make(3, Call::State(THREE), Expected::Text("paused 0"), 2),
+    ScriptStep::Make(3, Call::Unpause(THREE), Expected::Text("changed"), 3),
+    ScriptStep::Make(3, Call::Unpause(THREE), Expected::Text("no-change"), 3),
+    ScriptStep::Claim(FIRST),
+    ScriptStep::Finish(Code::OperationTimedout, 0, 4),
+    ScriptStep::Make(3, Call::Pause(THREE), Expected::Text("not-running"), 4),
+    ScriptStep::Make(3, Call::Pause(FOUR), Expected::Text("not-added"), 4),
+    ScriptStep::Make(3, Call::State(THREE), Expected::Text("done 0 28"), 4),
+    ScriptStep::Make(3, Call::Running, Expected::Text("running 0"), 4),
+    ScriptStep::Make(3, Call::Handles, Expected::Text("handles 3"), 4),
+    ScriptStep::Make(3, Call::Remove(THREE), Expected::Text("removed"), 5),
 ];
 
 /// Every call that may be refused memory: an addition, a pause, a resume, a wake-up, an end, a message and a removal.
-const EVERY_CALL: &[Step] = &[
-    Step::Make(3, Call::Add(SEVEN), Said::Text("added 0"), 1),
-    Step::Make(3, Call::Add(SEVEN), Said::Text("added-already"), 1),
-    Step::Make(3, Call::Pause(SEVEN), Said::Text("changed"), 2),
-    Step::Make(3, Call::Unpause(SEVEN), Said::Text("changed"), 3),
-    Step::Make(3, Call::Wakeup, Said::Text("ok"), 4),
-    Step::Make(3, Call::Poll, Said::Text("woken"), 4),
-    Step::Claim(FIRST),
-    Step::Finish(Code::Ok, 5, 5),
-    Step::Make(3, Call::Poll, Said::Text("woken"), 5),
-    Step::Make(3, Call::InfoRead, Said::Text("message 7 0 0 5 left 0"), 6),
-    Step::Make(3, Call::InfoRead, Said::Text("empty"), 6),
-    Step::Make(3, Call::Handles, Said::Text("handles 7"), 6),
-    Step::Make(3, Call::Remove(SEVEN), Said::Text("removed"), 7),
-    Step::Make(3, Call::Running, Said::Text("running 0"), 7),
+const EVERY_CALL: &[ScriptStep] = &[
+    ScriptStep::Make(3, Call::Add(SEVEN), Expected::Text("added 0"), 1),
+    ScriptStep::Make(3, Call::Add(SEVEN), Expected::Text("added-already"), 1),
+    ScriptStep::Make(3, Call::Pause(SEVEN), Expected::Text("changed"), 2),
+    ScriptStep::Make(3, Call::Unpause(SEVEN), Expected::Text("changed"), 3),
+    ScriptStep::Make(3, Call::Wakeup, Expected::Text("ok"), 4),
+    ScriptStep::Make(3, Call::Poll, Expected::Text("woken"), 4),
+    ScriptStep::Claim(FIRST),
+    ScriptStep::Finish(Code::Ok, 5, 5),
+    ScriptStep::Make(3, Call::Poll, Expected::Text("woken"), 5),
+    ScriptStep::Make(
+        3,
+        Call::InfoRead,
+        Expected::Text("message 7 0 0 5 left 0"),
+        6,
+    ),
+    ScriptStep::Make(3, Call::InfoRead, Expected::Text("empty"), 6),
+    ScriptStep::Make(3, Call::Handles, Expected::Text("handles 7"), 6),
+    ScriptStep::Make(3, Call::Remove(SEVEN), Expected::Text("removed"), 7),
+    ScriptStep::Make(3, Call::Running, Expected::Text("running 0"), 7),
 ];
 
 /// Two seats add a handle each, meet, and list both; where nothing is removed, the journal stays as it is. A meeting shows each
 /// seat what the other has added. A script of reads is run to its end.
-const TWO_ADDED: &[Step] = &[
-    Step::Make(3, Call::Add(ONE), Said::Text("added 0"), 1),
-    Step::Make(2, Call::Add(TWO), Said::Text("added 1"), 2),
-    Step::MeetTwo(2),
-    Step::Make(3, Call::Handles, Said::Text("handles 1 2"), 2),
-    Step::Run(&[Call::Handles, Call::Running, Call::State(TWO)], 2),
-    Step::Make(3, Call::Remove(HandleId(9)), Said::Text("not-added"), 2),
-    Step::Make(3, Call::Add(THREE), Said::Text("added 2"), 3),
-    Step::MeetTwo(3),
+const TWO_ADDED: &[ScriptStep] = &[
+    ScriptStep::Make(3, Call::Add(ONE), Expected::Text("added 0"), 1),
+    ScriptStep::Make(2, Call::Add(TWO), Expected::Text("added 1"), 2),
+    ScriptStep::MeetTwo(2),
+    ScriptStep::Make(3, Call::Handles, Expected::Text("handles 1 2"), 2),
+    ScriptStep::Run(&[Call::Handles, Call::Running, Call::State(TWO)], 2),
+    ScriptStep::Make(3, Call::Remove(HandleId(9)), Expected::Text("not-added"), 2),
+    ScriptStep::Make(3, Call::Add(THREE), Expected::Text("added 2"), 3),
+    ScriptStep::MeetTwo(3),
 ];
 
 /// A read looks at what is published, not at what its seat has seen: the first seat reads what the second one added.
-const READ_ANEW: &[Step] = &[
-    Step::Make(3, Call::Add(ONE), Said::Text("added 0"), 1),
-    Step::Make(2, Call::Add(TWO), Said::Text("added 1"), 2),
-    Step::Make(3, Call::Handles, Said::Text("handles 1 2"), 2),
-    Step::Make(3, Call::Remove(HandleId(9)), Said::Text("not-added"), 2),
-    Step::Make(2, Call::Remove(ONE), Said::Text("removed"), 3),
-    Step::Make(3, Call::Running, Said::Text("running 1"), 3),
-    Step::Make(3, Call::State(ONE), Said::Text("not-added"), 3),
+const READ_ANEW: &[ScriptStep] = &[
+    ScriptStep::Make(3, Call::Add(ONE), Expected::Text("added 0"), 1),
+    ScriptStep::Make(2, Call::Add(TWO), Expected::Text("added 1"), 2),
+    ScriptStep::Make(3, Call::Handles, Expected::Text("handles 1 2"), 2),
+    ScriptStep::Make(3, Call::Remove(HandleId(9)), Expected::Text("not-added"), 2),
+    ScriptStep::Make(2, Call::Remove(ONE), Expected::Text("removed"), 3),
+    ScriptStep::Make(3, Call::Running, Expected::Text("running 1"), 3),
+    ScriptStep::Make(3, Call::State(ONE), Expected::Text("not-added"), 3),
 ];
 
 /// The bytes that were noted for an addition are its own: a newer one of the same handle begins with none.
-const PROGRESS: &[Step] = &[
-    Step::Make(0, Call::Add(ONE), Said::Text("added 0"), 1),
-    Step::Claim(FIRST),
-    Step::Note(5),
-    Step::Progress(ONE, Progress::Bytes(FIRST, 5)),
-    Step::Make(0, Call::Remove(ONE), Said::Text("removed"), 2),
-    Step::Make(0, Call::Add(ONE), Said::Text("added 1"), 3),
-    Step::Progress(ONE, Progress::Bytes(SECOND, 0)),
-    Step::Note(9),
-    Step::Progress(ONE, Progress::Bytes(SECOND, 0)),
-    Step::Claim(SECOND),
-    Step::Note(3),
-    Step::Progress(ONE, Progress::Bytes(SECOND, 3)),
-    Step::Progress(HandleId(8), Progress::NotAdded),
+const PROGRESS: &[ScriptStep] = &[
+    ScriptStep::Make(0, Call::Add(ONE), Expected::Text("added 0"), 1),
+    ScriptStep::Claim(FIRST),
+    ScriptStep::Note(5),
+    ScriptStep::Progress(ONE, Progress::Bytes(FIRST, 5)),
+    ScriptStep::Make(0, Call::Remove(ONE), Expected::Text("removed"), 2),
+    ScriptStep::Make(0, Call::Add(ONE), Expected::Text("added 1"), 3),
+    ScriptStep::Progress(ONE, Progress::Bytes(SECOND, 0)),
+    ScriptStep::Note(9),
+    ScriptStep::Progress(ONE, Progress::Bytes(SECOND, 0)),
+    ScriptStep::Claim(SECOND),
+    ScriptStep::Note(3),
+    ScriptStep::Progress(ONE, Progress::Bytes(SECOND, 3)),
+    ScriptStep::Progress(HandleId(8), Progress::NotAdded),
 ];
 
 /// Work that was given back is claimed by its ticket again; that of a removed handle isn't taken back.
-const GIVEN_BACK: &[Step] = &[
-    Step::Make(3, Call::Add(ONE), Said::Text("added 0"), 1),
-    Step::Make(3, Call::Add(TWO), Said::Text("added 1"), 2),
-    Step::Claim(FIRST),
-    Step::Claim(SECOND),
-    Step::GiveBack(true),
-    Step::GiveBack(true),
-    Step::Claim(FIRST),
-    Step::Make(3, Call::Remove(ONE), Said::Text("removed"), 3),
-    Step::GiveBack(false),
-    Step::Claim(SECOND),
-    Step::Finish(Code::Ok, 2, 4),
-    Step::Make(3, Call::InfoRead, Said::Text("message 2 1 0 2 left 0"), 5),
+const GIVEN_BACK: &[ScriptStep] = &[
+    ScriptStep::Make(3, Call::Add(ONE), Expected::Text("added 0"), 1),
+    ScriptStep::Make(3, Call::Add(TWO), Expected::Text("added 1"), 2),
+    ScriptStep::Claim(FIRST),
+    ScriptStep::Claim(SECOND),
+    ScriptStep::GiveBack(true),
+    ScriptStep::GiveBack(true),
+    ScriptStep::Claim(FIRST),
+    ScriptStep::Make(3, Call::Remove(ONE), Expected::Text("removed"), 3),
+    ScriptStep::GiveBack(false),
+    ScriptStep::Claim(SECOND),
+    ScriptStep::Finish(Code::Ok, 2, 4),
+    ScriptStep::Make(
+        3,
+        Call::InfoRead,
+        Expected::Text("message 2 1 0 2 left 0"),
+        5,
+    ),
 ];
 
-pub static SCRIPTS: [Row<'static>; 9] = [
+pub static SCRIPTS: [Script<'static>; 9] = [
     // rule multi-out-of-memory
-    Row {
+    Script {
         name: "every_call_that_may_find_no_memory",
         limits: FOUR_SEATS,
         steps: EVERY_CALL,
     },
-    Row {
+    Script {
         name: "what_is_added_is_ended_and_read",
         limits: FOUR_SEATS,
         steps: DOCUMENTED,
     },
-    Row {
+    Script {
         name: "a_poll_takes_all_wake_ups",
         limits: FOUR_SEATS,
         steps: WAKE_UPS,
     },
-    Row {
+    Script {
         name: "a_poll_waits_no_longer_than_it_may",
         limits: FOUR_SEATS,
         steps: SHORT_POLLS,
     },
-    Row {
+    Script {
         name: "a_transfer_is_paused_and_done",
         limits: FOUR_SEATS,
         steps: PAUSED,
     },
     // rule multi-scripts
     // rule multi-meeting
-    Row {
+    Script {
         name: "two_seats_add_a_handle_each",
         limits: FOUR_SEATS,
         steps: TWO_ADDED,
     },
-    Row {
+    Script {
         name: "a_read_looks_anew",
         limits: FOUR_SEATS,
         steps: READ_ANEW,
     },
     // rule multi-progress
-    Row {
+    Script {
         name: "progress_is_of_the_newest_addition",
         limits: FOUR_SEATS,
         steps: PROGRESS,
     },
     // rule multi-least-ticket
-    Row {
+    Script {
         name: "given_back_work_is_claimed_by_its_ticket",
         limits: FOUR_SEATS,
         steps: GIVEN_BACK,
@@ -219,75 +229,95 @@ pub static SCRIPTS: [Row<'static>; 9] = [
 
 /// All seats meet. Then a missing seat blocks retiring, and next a claim that hasn't come back: nothing has changed. Once it is given back,
 /// the events of the handles that are added stay, and tickets go on.
-const CLAIM_OUT: &[Step] = &[
-    Step::Make(0, Call::Add(ONE), Said::Text("added 0"), 1),
-    Step::Make(1, Call::Add(TWO), Said::Text("added 1"), 2),
-    Step::Make(2, Call::Wakeup, Said::Text("ok"), 3),
-    Step::MeetAll(3),
-    Step::Make(2, Call::Handles, Said::Text("handles 1 2"), 3),
-    Step::HinderedWithoutLast(Refusal::SeatsMissing),
-    Step::Claim(Ticket(0)),
-    Step::HinderedWithoutLast(Refusal::SeatsMissing),
-    Step::Hindered(Refusal::ClaimOut),
-    Step::Make(0, Call::Add(ONE), Said::Text("added-already"), 3),
-    Step::MeetAll(3),
-    Step::GiveBack(true),
-    Step::Retire(Some(2)),
-    Step::Make(2, Call::Handles, Said::Text("handles 1 2"), 2),
-    Step::Make(1, Call::Add(THREE), Said::Text("added 2"), 3),
-    Step::Claim(Ticket(0)),
-    Step::Finish(Code::Ok, 5, 4),
-    Step::MeetAll(4),
+const CLAIM_OUT: &[ScriptStep] = &[
+    ScriptStep::Make(0, Call::Add(ONE), Expected::Text("added 0"), 1),
+    ScriptStep::Make(1, Call::Add(TWO), Expected::Text("added 1"), 2),
+    ScriptStep::Make(2, Call::Wakeup, Expected::Text("ok"), 3),
+    ScriptStep::MeetAll(3),
+    ScriptStep::Make(2, Call::Handles, Expected::Text("handles 1 2"), 3),
+    ScriptStep::HinderedWithoutLast(Refusal::SeatsMissing),
+    ScriptStep::Claim(Ticket(0)),
+    ScriptStep::HinderedWithoutLast(Refusal::SeatsMissing),
+    ScriptStep::Hindered(Refusal::ClaimOut),
+    ScriptStep::Make(0, Call::Add(ONE), Expected::Text("added-already"), 3),
+    ScriptStep::MeetAll(3),
+    ScriptStep::GiveBack(true),
+    ScriptStep::Retire(Some(2)),
+    ScriptStep::Make(2, Call::Handles, Expected::Text("handles 1 2"), 2),
+    ScriptStep::Make(1, Call::Add(THREE), Expected::Text("added 2"), 3),
+    ScriptStep::Claim(Ticket(0)),
+    ScriptStep::Finish(Code::Ok, 5, 4),
+    ScriptStep::MeetAll(4),
 ];
 
 /// An unread message, a pause and the work in the queue stay; what was done and removed is gone.
-const KEPT: &[Step] = &[
-    Step::Make(0, Call::Add(FOUR), Said::Text("added 0"), 1),
-    Step::Claim(Ticket(0)),
-    Step::Finish(Code::Ok, 9, 2),
-    Step::Make(0, Call::InfoRead, Said::Text("message 4 0 0 9 left 0"), 3),
-    Step::Make(0, Call::Remove(FOUR), Said::Text("removed"), 4),
-    Step::Make(1, Call::Add(ONE), Said::Text("added 1"), 5),
-    Step::Claim(Ticket(1)),
-    Step::Finish(Code::OperationTimedout, 7, 6),
-    Step::Make(1, Call::Add(TWO), Said::Text("added 2"), 7),
-    Step::Make(1, Call::Pause(TWO), Said::Text("changed"), 8),
-    Step::Make(2, Call::Add(THREE), Said::Text("added 3"), 9),
-    Step::Make(2, Call::Wakeup, Said::Text("ok"), 10),
-    Step::Retire(Some(5)),
-    Step::Make(0, Call::Handles, Said::Text("handles 1 2 3"), 5),
-    Step::Make(0, Call::State(ONE), Said::Text("done 1 28"), 5),
-    Step::Make(0, Call::State(TWO), Said::Text("paused 2"), 5),
-    Step::Make(0, Call::State(THREE), Said::Text("running 3"), 5),
-    Step::Make(0, Call::State(FOUR), Said::Text("not-added"), 5),
-    Step::Make(1, Call::Running, Said::Text("running 2"), 5),
-    Step::Make(1, Call::InfoRead, Said::Text("message 1 1 28 7 left 0"), 6),
-    Step::Make(1, Call::InfoRead, Said::Text("empty"), 6),
-    Step::Make(1, Call::Unpause(TWO), Said::Text("changed"), 7),
-    Step::Claim(Ticket(2)),
-    Step::Claim(Ticket(3)),
-    Step::Finish(Code::Ok, 3, 8),
-    Step::Make(2, Call::InfoRead, Said::Text("message 3 3 0 3 left 0"), 9),
-    Step::Make(2, Call::Add(FOUR), Said::Text("added 4"), 10),
-    Step::Finish(Code::Ok, 2, 11),
-    Step::Make(2, Call::InfoRead, Said::Text("message 2 2 0 2 left 0"), 12),
-    Step::Make(2, Call::Remove(TWO), Said::Text("removed"), 13),
-    Step::Retire(Some(7)),
-    Step::Make(2, Call::Handles, Said::Text("handles 1 3 4"), 7),
-    Step::Make(2, Call::State(ONE), Said::Text("read 1 28"), 7),
-    Step::Claim(Ticket(4)),
+const KEPT: &[ScriptStep] = &[
+    ScriptStep::Make(0, Call::Add(FOUR), Expected::Text("added 0"), 1),
+    ScriptStep::Claim(Ticket(0)),
+    ScriptStep::Finish(Code::Ok, 9, 2),
+    ScriptStep::Make(
+        0,
+        Call::InfoRead,
+        Expected::Text("message 4 0 0 9 left 0"),
+        3,
+    ),
+    ScriptStep::Make(0, Call::Remove(FOUR), Expected::Text("removed"), 4),
+    ScriptStep::Make(1, Call::Add(ONE), Expected::Text("added 1"), 5),
+    ScriptStep::Claim(Ticket(1)),
+    ScriptStep::Finish(Code::OperationTimedout, 7, 6),
+    ScriptStep::Make(1, Call::Add(TWO), Expected::Text("added 2"), 7),
+    ScriptStep::Make(1, Call::Pause(TWO), Expected::Text("changed"), 8),
+    ScriptStep::Make(2, Call::Add(THREE), Expected::Text("added 3"), 9),
+    ScriptStep::Make(2, Call::Wakeup, Expected::Text("ok"), 10),
+    ScriptStep::Retire(Some(5)),
+    ScriptStep::Make(0, Call::Handles, Expected::Text("handles 1 2 3"), 5),
+    ScriptStep::Make(0, Call::State(ONE), Expected::Text("done 1 28"), 5),
+    ScriptStep::Make(0, Call::State(TWO), Expected::Text("paused 2"), 5),
+    ScriptStep::Make(0, Call::State(THREE), Expected::Text("running 3"), 5),
+    ScriptStep::Make(0, Call::State(FOUR), Expected::Text("not-added"), 5),
+    ScriptStep::Make(1, Call::Running, Expected::Text("running 2"), 5),
+    ScriptStep::Make(
+        1,
+        Call::InfoRead,
+        Expected::Text("message 1 1 28 7 left 0"),
+        6,
+    ),
+    ScriptStep::Make(1, Call::InfoRead, Expected::Text("empty"), 6),
+    ScriptStep::Make(1, Call::Unpause(TWO), Expected::Text("changed"), 7),
+    ScriptStep::Claim(Ticket(2)),
+    ScriptStep::Claim(Ticket(3)),
+    ScriptStep::Finish(Code::Ok, 3, 8),
+    ScriptStep::Make(
+        2,
+        Call::InfoRead,
+        Expected::Text("message 3 3 0 3 left 0"),
+        9,
+    ),
+    ScriptStep::Make(2, Call::Add(FOUR), Expected::Text("added 4"), 10),
+    ScriptStep::Finish(Code::Ok, 2, 11),
+    ScriptStep::Make(
+        2,
+        Call::InfoRead,
+        Expected::Text("message 2 2 0 2 left 0"),
+        12,
+    ),
+    ScriptStep::Make(2, Call::Remove(TWO), Expected::Text("removed"), 13),
+    ScriptStep::Retire(Some(7)),
+    ScriptStep::Make(2, Call::Handles, Expected::Text("handles 1 3 4"), 7),
+    ScriptStep::Make(2, Call::State(ONE), Expected::Text("read 1 28"), 7),
+    ScriptStep::Claim(Ticket(4)),
 ];
 
-pub static RETIRINGS: [Row<'static>; 2] = [
+pub static RETIRINGS: [Script<'static>; 2] = [
     // rule multi-retire
     // rule multi-meet-all
-    Row {
+    Script {
         name: "a_claim_hinders_until_it_is_back",
         limits: THREE_SEATS,
         steps: CLAIM_OUT,
     },
     // rule multi-retire
-    Row {
+    Script {
         name: "what_is_added_stays_as_it_is",
         limits: THREE_SEATS,
         steps: KEPT,
@@ -296,7 +326,7 @@ pub static RETIRINGS: [Row<'static>; 2] = [
 
 // A handle is added, its transfer is ended, and the message is read, after so many events.
 fn push_transfer(
-    steps: &mut Vec<Step>,
+    steps: &mut Vec<ScriptStep>,
     handle: HandleId,
     ticket: u32,
     events: u32,
@@ -305,33 +335,33 @@ fn push_transfer(
     let added = events.wrapping_add(1);
     let ended = events.wrapping_add(2);
     let read = events.wrapping_add(3);
-    steps.push(Step::Make(0, Call::Add(handle), Said::Added(ticket), added))?;
-    steps.push(Step::Claim(ticket))?;
-    steps.push(Step::Finish(Code::Ok, 5, ended))?;
-    steps.push(Step::Make(0, Call::InfoRead, Said::Message(handle, ticket), read))?;
+    steps.push(ScriptStep::Make(0, Call::Add(handle), Expected::Added(ticket), added))?;
+    steps.push(ScriptStep::Claim(ticket))?;
+    steps.push(ScriptStep::Finish(Code::Ok, 5, ended))?;
+    steps.push(ScriptStep::Make(0, Call::InfoRead, Expected::Message(handle, ticket), read))?;
     Ok(())
 }
 
 // Handle 2 is added, ended and removed three times, whose first ticket this is; then the history is full, since a fourth has no room
 // beside handle 1; and all is retired but that.
-fn push_round(steps: &mut Vec<Step>, first: u32) -> Result<(), OutOfMemory> {
+fn push_round(steps: &mut Vec<ScriptStep>, first: u32) -> Result<(), OutOfMemory> {
     for number in 0..3u32 {
         let events = number.wrapping_mul(4).wrapping_add(3);
         push_transfer(steps, TWO, first.wrapping_add(number), events)?;
         let removed = events.wrapping_add(4);
-        steps.push(Step::Make(0, Call::Remove(TWO), Said::Text("removed"), removed))?;
+        steps.push(ScriptStep::Make(0, Call::Remove(TWO), Expected::Text("removed"), removed))?;
     }
-    steps.push(Step::Make(0, Call::Add(TWO), Said::Text("history-full"), 15))?;
-    steps.push(Step::History(HistoryUse {
+    steps.push(ScriptStep::Make(0, Call::Add(TWO), Expected::Text("history-full"), 15))?;
+    steps.push(ScriptStep::History(HistoryUse {
         events: 15,
         most: 16,
     }))?;
-    steps.push(Step::Retire(Some(3)))?;
+    steps.push(ScriptStep::Retire(Some(3)))?;
     Ok(())
 }
 
 /// A history of 16 events that fills up is retired, and goes on: ten times, and no ticket is given again.
-pub fn full_history(alloc: Global) -> Result<Vec<Step>, OutOfMemory> {
+pub fn full_history(alloc: Global) -> Result<Vec<ScriptStep>, OutOfMemory> {
     let mut steps = Vec::new(alloc);
     push_transfer(&mut steps, ONE, 0, 0)?;
     for round in 0..10u32 {
@@ -341,15 +371,15 @@ pub fn full_history(alloc: Global) -> Result<Vec<Step>, OutOfMemory> {
 }
 
 /// 256 additions have the tickets 0 to 255, and the next finds no room.
-pub fn full_table(alloc: Global) -> Result<Vec<Step>, OutOfMemory> {
+pub fn full_table(alloc: Global) -> Result<Vec<ScriptStep>, OutOfMemory> {
     let mut steps = Vec::new(alloc);
     for number in 0..256u32 {
-        let added = Said::Added(Ticket(number));
+        let added = Expected::Added(Ticket(number));
         let cut = number.wrapping_add(1);
-        steps.push(Step::Make(1, Call::Add(HandleId(number)), added, cut))?;
+        steps.push(ScriptStep::Make(1, Call::Add(HandleId(number)), added, cut))?;
     }
-    let none = Said::Text("table-full");
-    steps.push(Step::Make(1, Call::Add(HandleId(256)), none, 256))?;
+    let none = Expected::Text("table-full");
+    steps.push(ScriptStep::Make(1, Call::Add(HandleId(256)), none, 256))?;
     Ok(steps)
 }
 
@@ -376,7 +406,7 @@ fn are_bad<R: Wait>(rt: &R, alloc: Global, limits: Limits) -> bool {
 }
 
 /// The first of the numbers outside their limits that isn't refused.
-pub fn first_opened<R: Wait>(rt: &R, alloc: Global) -> Option<Wrong> {
+pub fn first_opened<R: Wait>(rt: &R, alloc: Global) -> Option<FailedStep> {
     for (step, (seats, workers, history, max_connects)) in BAD_LIMITS.iter().enumerate() {
         let limits = Limits {
             seats: *seats,
@@ -386,7 +416,7 @@ pub fn first_opened<R: Wait>(rt: &R, alloc: Global) -> Option<Wrong> {
         };
         if !are_bad(rt, alloc, limits) {
             // rule multi-limits
-            return Some(Wrong {
+            return Some(FailedStep {
                 row: "bad_limits_are_refused",
                 step,
             });

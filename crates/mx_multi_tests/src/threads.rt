@@ -1,7 +1,7 @@
 //! Scripts whose calls are made by threads at the same time: reads while another call keeps the lock, turns that are taken by polls and
 //! wake-ups, and calls by chance, which one thread answers the same.
 
-use crate::play::{Row, Said, Step, try_rows};
+use crate::play::{Expected, Script, ScriptStep, try_rows};
 use crate::rows::FOUR_SEATS;
 use mx_multi::Limits;
 use mx_multi_tests_base::party::{Act, Task};
@@ -28,7 +28,7 @@ const EIGHT_THREADS: Limits = Limits {
 };
 
 /// Two threads make the calls of a script each, at a seat of their own, and both seats have then seen what both did.
-const TWO_SCRIPTS: &[Step] = &[Step::Two(
+const TWO_SCRIPTS: &[ScriptStep] = &[ScriptStep::Two(
     &[Call::Wakeup, Call::Poll, Call::Running],
     &[
         Call::Handles,
@@ -40,7 +40,7 @@ const TWO_SCRIPTS: &[Step] = &[Step::Two(
 )];
 
 /// Reads are answered while the end of a transfer, in another thread, asks for its code under the lock, by what was published before.
-const HELD_LOCK: &[Step] = &[Step::Beside(
+const HELD_LOCK: &[ScriptStep] = &[ScriptStep::Beside(
     &[
         Task::Acts(&[
             Act::Make(Call::Add(ONE), "added 0", 1),
@@ -59,8 +59,8 @@ const HELD_LOCK: &[Step] = &[Step::Beside(
 )];
 
 /// What one seat adds or removes, each other seat sees in its first call; one that lists all during the addition sees all of it or nothing.
-const SEEN: &[Step] = &[
-    Step::Beside(
+const SEEN: &[ScriptStep] = &[
+    ScriptStep::Beside(
         &[
             Task::Acts(&[
                 Act::Make(Call::Add(ONE), "added 0", 1),
@@ -70,21 +70,21 @@ const SEEN: &[Step] = &[
         ],
         1,
     ),
-    Step::Make(2, Call::Handles, Said::Text("handles 1"), 1),
-    Step::Make(3, Call::Running, Said::Text("running 1"), 1),
-    Step::Make(1, Call::State(ONE), Said::Text("running 0"), 1),
-    Step::Look(Ticket(0), Said::Text("go"), 1),
-    Step::MeetTwo(1),
-    Step::Make(0, Call::Remove(ONE), Said::Text("removed"), 2),
-    Step::Make(2, Call::Handles, Said::Text("handles"), 2),
-    Step::Make(3, Call::Running, Said::Text("running 0"), 2),
-    Step::Make(1, Call::State(ONE), Said::Text("not-added"), 2),
-    Step::Look(Ticket(0), Said::Text("gone"), 2),
+    ScriptStep::Make(2, Call::Handles, Expected::Text("handles 1"), 1),
+    ScriptStep::Make(3, Call::Running, Expected::Text("running 1"), 1),
+    ScriptStep::Make(1, Call::State(ONE), Expected::Text("running 0"), 1),
+    ScriptStep::Look(Ticket(0), Expected::Text("go"), 1),
+    ScriptStep::MeetTwo(1),
+    ScriptStep::Make(0, Call::Remove(ONE), Expected::Text("removed"), 2),
+    ScriptStep::Make(2, Call::Handles, Expected::Text("handles"), 2),
+    ScriptStep::Make(3, Call::Running, Expected::Text("running 0"), 2),
+    ScriptStep::Make(1, Call::State(ONE), Expected::Text("not-added"), 2),
+    ScriptStep::Look(Ticket(0), Expected::Text("gone"), 2),
 ];
 
 /// 1,000 turns of two threads, which pause and resume a handle, poll, and wake each other: a wake-up that is lost leaves both asleep.
-const TURNS: &[Step] = &[
-    Step::Beside(
+const TURNS: &[ScriptStep] = &[
+    ScriptStep::Beside(
         &[
             Task::Acts(&[
                 Act::Make(Call::Add(ONE), "added 0", 1),
@@ -94,12 +94,12 @@ const TURNS: &[Step] = &[
         ],
         1,
     ),
-    Step::Make(0, Call::State(ONE), Said::Text("running 0"), 4001),
+    ScriptStep::Make(0, Call::State(ONE), Expected::Text("running 0"), 4001),
 ];
 
 /// Two polls at a time, and one wake-up for both: if it woke only one, the other would stay asleep.
-const POLLS: &[Step] = &[
-    Step::Beside(
+const POLLS: &[ScriptStep] = &[
+    ScriptStep::Beside(
         &[
             Task::Acts(&[Act::Say(Call::Poll, "woken")]),
             Task::Acts(&[Act::Say(Call::Poll, "woken")]),
@@ -107,35 +107,35 @@ const POLLS: &[Step] = &[
         ],
         300,
     ),
-    Step::Make(0, Call::Running, Said::Text("running 0"), 300),
+    ScriptStep::Make(0, Call::Running, Expected::Text("running 0"), 300),
 ];
 
-static ROWS: [Row<'static>; 6] = [
+static ROWS: [Script<'static>; 6] = [
     // rule multi-scripts
-    Row {
+    Script {
         name: "two_threads_make_all_their_calls",
         limits: FOUR_SEATS,
         steps: TWO_SCRIPTS,
     },
     // rule multi-reads
-    Row {
+    Script {
         name: "reads_take_no_lock",
         limits: TWO_THREADS,
         steps: HELD_LOCK,
     },
-    Row {
+    Script {
         name: "seats_see_what_another_did",
         limits: TWO_THREADS,
         steps: SEEN,
     },
     // rule multi-woken
     // rule multi-sleeping-poll
-    Row {
+    Script {
         name: "no_wake_up_is_lost",
         limits: TWO_THREADS,
         steps: TURNS,
     },
-    Row {
+    Script {
         name: "one_wake_up_wakes_two_polls",
         limits: Limits {
             seats: 6,
@@ -146,21 +146,21 @@ static ROWS: [Row<'static>; 6] = [
         steps: POLLS,
     },
     // rule multi-linearized
-    Row {
+    Script {
         name: "one_thread_answers_the_same",
         limits: EIGHT_THREADS,
-        steps: &[Step::Storm(20261123, 4000)],
+        steps: &[ScriptStep::Storm(20261123, 4000)],
     },
 ];
 
 // 40 turns of each of eight threads, and the same again after each of a hundred retirings.
-fn retired_storms(alloc: Global) -> Result<Vec<Step>, OutOfMemory> {
+fn retired_storms(alloc: Global) -> Result<Vec<ScriptStep>, OutOfMemory> {
     let mut steps = Vec::new(alloc);
     let seed = 20261127;
-    steps.push(Step::Storm(seed, 40))?;
+    steps.push(ScriptStep::Storm(seed, 40))?;
     for number in 1..101u64 {
-        steps.push(Step::Retire(None))?;
-        steps.push(Step::Storm(seed ^ number << 32, 40))?;
+        steps.push(ScriptStep::Retire(None))?;
+        steps.push(ScriptStep::Storm(seed ^ number << 32, 40))?;
     }
     Ok(steps)
 }
@@ -170,7 +170,7 @@ fn retired_storms(alloc: Global) -> Result<Vec<Step>, OutOfMemory> {
 fn threads_answer_as_one_does(rt: HostRuntime) -> Result<(), Fail> {
     let steps = retired_storms(rt.alloc())?;
     // rule multi-retire
-    let storms = Row {
+    let storms = Script {
         name: "a_retired_handle_answers_as_one_thread_does",
         limits: Limits {
             history: 8192,

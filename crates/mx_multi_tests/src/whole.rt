@@ -12,7 +12,7 @@ use mx_multi_tests_base::entries::{Entry, Stop};
 use mx_multi_tests_base::hand::Hand;
 use mx_multi_tests_base::hold::Hold;
 use mx_multi_tests_base::party::Task;
-use mx_multi_tests_base::sample::{End, Handle, Job};
+use mx_multi_tests_base::sample::{End, Job, SampleMulti};
 use mx_multi_tests_base::stress;
 use mx_multi_tests_base::stress::Pool;
 use mx_types::{Call, HandleId, Look, OutOfMemory, Reply, Ticket};
@@ -33,7 +33,10 @@ pub struct Whole {
 }
 
 // Takes the last seat.
-fn pop_at<K>(multi: &Handle, seats: &mut Vec<SeatOf<K, Job, End>>) -> Option<SeatOf<K, Job, End>>
+fn pop_at<K>(
+    multi: &SampleMulti,
+    seats: &mut Vec<SeatOf<K, Job, End>>,
+) -> Option<SeatOf<K, Job, End>>
     requires { All (λ s. s.of ≡ multi.now) seats.old.items }
     ensures all { All (λ s. s.of ≡ multi.now) seats.new.items }
     ensures own { IfSome result (λ s. s.of ≡ multi.now) }
@@ -45,7 +48,7 @@ fn pop_at<K>(multi: &Handle, seats: &mut Vec<SeatOf<K, Job, End>>) -> Option<Sea
 
 // Puts a seat in the place of the one with this number, and answers that one; or answers the seat, where there are fewer.
 fn replace_at<K>(
-    multi: &Handle,
+    multi: &SampleMulti,
     seats: &mut Vec<SeatOf<K, Job, End>>,
     number: usize,
     seat: SeatOf<K, Job, End>,
@@ -64,7 +67,7 @@ fn replace_at<K>(
 // Takes the seat with this number, the last one where there are fewer. Where it isn't the last, that has its place meanwhile. None where
 // there is no seat.
 fn take_at<'m, K>(
-    multi: &'m Handle,
+    multi: &'m SampleMulti,
     seats: &mut Vec<SeatOf<K, Job, End>>,
     number: usize,
 ) -> Option<Seated<'m, K, Job, End>>
@@ -79,7 +82,7 @@ fn take_at<'m, K>(
 
 // Puts a seat that `take_at` took back, at this number.
 fn put_at<K>(
-    multi: &Handle,
+    multi: &SampleMulti,
     seats: &mut Vec<SeatOf<K, Job, End>>,
     number: usize,
     seat: Seated<'_, K, Job, End>,
@@ -136,7 +139,7 @@ fn finish_at<R: Wait>(
 // Lets two seats meet: how many events both have then seen. None where it was answered `WrongSeat`, and where they have seen other numbers.
 fn meet_both<R: Wait>(
     rt: &R,
-    multi: &Handle,
+    multi: &SampleMulti,
     one: Seat<Job, End>,
     two: Seat<Job, End>,
 ) -> (Seat<Job, End>, Seat<Job, End>, Option<u32>)
@@ -153,7 +156,7 @@ fn meet_both<R: Wait>(
 
 impl Whole {
     pub fn open<R: Wait>(rt: &R, alloc: Global, limits: Limits) -> Result<Whole, OpenError> {
-        match Handle::open(rt, alloc, limits) {
+        match SampleMulti::open(rt, alloc, limits) {
             Ok((multi, seats, workers)) => {
                 let hand = Hand::new(alloc, multi.shared().first_ties());
                 Ok(Whole {

@@ -1,6 +1,6 @@
 //! What calls were answered.
 
-use crate::texts::Said;
+use crate::texts::ReplyText;
 use mx_types::{Call, OutOfMemory, Reply, Who};
 use std::alloc::Global;
 
@@ -18,7 +18,7 @@ pub struct Entry {
 
 /// The text of an answer.
 pub fn text_of(alloc: Global, reply: &Reply) -> Result<String, OutOfMemory> {
-    let said = Said(reply);
+    let said = ReplyText(reply);
     Ok(format!(in alloc; "{said}")?)
 }
 

@@ -30,7 +30,7 @@ fn may_call(who: Who) -> bool
 
 // A claim on an addition of this crate's work.
 #[derive(Drop)]
-struct Held {
+struct HeldClaim {
     claim: Claim<Job>,
     ghost origin: { claim.origin ≡ no_request },
 }
@@ -40,7 +40,7 @@ struct Held {
 pub struct OneThread {
     control: Control<Job, End>,
     log: VecLog,
-    held: Vec<Option<Held>>,
+    held: Vec<Option<HeldClaim>>,
     marks: [u32; 32],
     calls: [usize; 32],
 }
@@ -66,7 +66,7 @@ impl OneThread {
     {
         let reply = self.control.add(&mut self.log, who, handle, Job).reply();
         if let Some((claim, _work)) = self.control.claim() {
-            self.held.push(Some(Held { claim }))?;
+            self.held.push(Some(HeldClaim { claim }))?;
         }
         Ok(reply)
     }
@@ -75,7 +75,7 @@ impl OneThread {
         requires { is_maker who ≡ true }
     {
         let place = self.held.get_mut(ticket.0 as usize)?;
-        let Held { claim } = place.take()?;
+        let HeldClaim { claim } = place.take()?;
         let reply = self.control.finish(&mut self.log, who, claim, end);
         Some(reply.reply())
     }
@@ -142,7 +142,7 @@ impl OneThread {
     // Gives all work back that is claimed.
     fn give_all_back(&mut self) {
         for place in 0..self.held.len() {
-            if let Some(Held { claim }) = self.held[place].take() {
+            if let Some(HeldClaim { claim }) = self.held[place].take() {
                 let _reply = self.control.give_back(claim, Job);
             }
         }
@@ -155,7 +155,7 @@ impl OneThread {
                 return;
             };
             if let Some(place) = self.held.get_mut(claim.ticket().0 as usize) {
-                *place = Some(Held { claim });
+                *place = Some(HeldClaim { claim });
             }
         }
     }

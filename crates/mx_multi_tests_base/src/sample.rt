@@ -64,4 +64,4 @@ impl Ending for End {
     }
 }
 
-pub type Handle = Multi<Job, End>;
+pub type SampleMulti = Multi<Job, End>;

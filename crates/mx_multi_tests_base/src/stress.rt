@@ -7,7 +7,7 @@ use crate::entries::{Entry, Notes, Stop};
 use crate::hold::Hold;
 use crate::one_thread::OneThread;
 use crate::party::{Chance, Party, Place, Task};
-use crate::sample::{End, Handle, Job};
+use crate::sample::{End, Job, SampleMulti};
 use mx_multi::{Seat, WorkerSeat};
 use mx_types::{OutOfMemory, Who};
 use std::alloc::Global;
@@ -20,7 +20,7 @@ pub const THREADS: usize = 8;
 /// The seats of a multi handle that no thread has.
 #[derive(Drop)]
 pub struct Pool<'a> {
-    pub multi: &'a Handle,
+    pub multi: &'a SampleMulti,
     pub seats: Vec<Seat<Job, End>>,
     pub workers: Vec<WorkerSeat<Job, End>>,
     pub ghost own: { All (λ s. s.of ≡ multi.now) seats.items × All (λ s. s.of ≡ multi.now) workers.items },
@@ -157,14 +157,14 @@ impl<'a> Pool<'a> {
 /// The threads, each with its seats.
 #[derive(Drop)]
 struct Parties<'a> {
-    multi: &'a Handle,
+    multi: &'a SampleMulti,
     list: Vec<Party<'a>>,
     ghost own: { All (λ p. p.one.client.of ≡ multi.now) list.items },
 }
 
 // Adds a party after the others, which have seats of this multi handle.
 fn keep_party<'a>(
-    multi: &'a Handle,
+    multi: &'a SampleMulti,
     party: Party<'a>,
     parties: &mut Vec<Party<'a>>,
 ) -> Result<(), OutOfMemory>
@@ -194,7 +194,7 @@ fn run_parties<R: Threads + Wait + Sync>(rt: &R, parties: &mut [Party], hold: &A
 
 impl<'a> Parties<'a> {
     // None yet.
-    fn new(alloc: Global, multi: &'a Handle) -> Parties<'a>
+    fn new(alloc: Global, multi: &'a SampleMulti) -> Parties<'a>
         ensures { result.multi.now ≡ multi.now }
     {
         Parties {

@@ -51,9 +51,9 @@ fn word_of(reply: &Reply) -> &'static str {
 
 /// What a call answers.
 #[derive(Drop)]
-pub struct Said<'a>(pub &'a Reply);
+pub struct ReplyText<'a>(pub &'a Reply);
 
-impl fmt::Display for Said<'_> {
+impl fmt::Display for ReplyText<'_> {
     fn fmt<W: fmt::Write>(&self, f: &mut fmt::Formatter<W>) -> fmt::Result {
         match self.0 {
             Reply::Added(ticket) => write!(f, "added {}", ticket.0),

@@ -6,8 +6,8 @@ use Rattle.std.specs.Net.Grammar.{IsIpText}
 use Rattle.mx_request.specs.Endpoint.{HostAndPort}
 use Rattle.mx_names.specs.Hosts.{unbracketed, IsSpelled}
 use Rattle.mx_names.specs.Names.{Gives, IsTrueOf, SpellsNone}
-use Rattle.mx_names.specs.declared.answer.Answer.{Answer}
-use Rattle.mx_names.specs.declared.answer.Answer.TheVariants as answers
+use Rattle.mx_names.specs.declared.answer.HostAnswer.{HostAnswer}
+use Rattle.mx_names.specs.declared.answer.HostAnswer.TheVariants as answers
 use Rattle.mx_gate.specs.Said.{Said}
 use Rattle.mx_gate.specs.Gates.{SocketGateState}
 use Rattle.mx_gate.specs.Dials.{AreAt, AreAddressesOf}
@@ -20,10 +20,10 @@ pub record NamedGateState : Type 0 where
 -- a host, and the answer on it
 pub record ToldState : Type 0 where
   pub host : List ℕ
-  pub answer : Answer
+  pub answer : HostAnswer
 
 -- A resolver's answer on a host: the address that it spells, or the result of a lookup of that very name.
-pub record IsToldOf (gives : Gives) (host : List ℕ) (answer : Answer) : Type 0 where
+pub record IsToldOf (gives : Gives) (host : List ℕ) (answer : HostAnswer) : Type 0 where
   pub spelled : (ip : IpAddr) → IsIpText (unbracketed host) ip → IsSpelled (unbracketed host) answer
   pub looked_up : SpellsNone (unbracketed host) → IsTrueOf gives (unbracketed host) answer
 

@@ -10,7 +10,7 @@ ghost use Rattle.mx_named_gate.specs.Named.{IsToldOf, AreOf};
 use crate::bell::NameBell;
 use crate::waiting::Waiting;
 use mx_gate::{Gate, Said, SocketGate, SocketLink, Turn, number_of};
-use mx_names::{Answer, Lookup, Resolver};
+use mx_names::{HostAnswer, Lookup, Resolver};
 use mx_request::Endpoint;
 use mx_types::{Code, History, OutOfMemory};
 use std::alloc::{AllocGlobal, Global};
@@ -23,7 +23,7 @@ use std::sync::Wait;
 #[derive(Drop)]
 struct Told<L: Lookup> {
     host: String,
-    answer: Answer,
+    answer: HostAnswer,
     by: PhantomData<L>,
 }
 
@@ -39,7 +39,7 @@ impl<L: Lookup> Model for Told<L> {
 }
 
 // The answer on this host, if there was one.
-fn answer_to<L: Lookup>(told: Option<Told<L>>, host: &str) -> Option<Answer>
+fn answer_to<L: Lookup>(told: Option<Told<L>>, host: &str) -> Option<HostAnswer>
     ensures { IfSome result (IsToldOf L.gives host.now) }
 {
     match told {
@@ -51,7 +51,7 @@ fn answer_to<L: Lookup>(told: Option<Told<L>>, host: &str) -> Option<Answer>
 impl<L: Lookup> Told<L> {
     // The answer, where it is on this host.
     #[tactic(auto, using(crate::proofs::NamedLemmas::told_alike))]
-    fn answer_to(self, host: &str) -> Option<Answer>
+    fn answer_to(self, host: &str) -> Option<HostAnswer>
         ensures { IfSome result (IsToldOf L.gives host.now) }
     {
         if self.host.as_str() == host {
@@ -62,7 +62,7 @@ impl<L: Lookup> Told<L> {
     }
 
     // What is known of the host, unless memory is refused.
-    fn of(alloc: Global, host: &str, answer: Answer) -> Option<Told<L>>
+    fn of(alloc: Global, host: &str, answer: HostAnswer) -> Option<Told<L>>
         requires { IsToldOf L.gives host.now answer }
     {
         match String::from_str(alloc, host) {
@@ -166,7 +166,7 @@ impl<'r, R: Net + Clock + AllocGlobal + Wait, L: Lookup> NamedGate<'r, R, L> {
 
     // The resolver's answer on the host now.
     #[tactic(auto, using(crate::proofs::NamedLemmas::is_told))]
-    fn ask(&self, host: &str) -> Answer
+    fn ask(&self, host: &str) -> HostAnswer
         ensures { IsToldOf L.gives host.now result }
     {
         let now = self.gate.latest();
@@ -175,7 +175,7 @@ impl<'r, R: Net + Clock + AllocGlobal + Wait, L: Lookup> NamedGate<'r, R, L> {
     }
 
     // The resolver's answer on the host: the last one that it gave, if that was on this host.
-    fn answer_of(&mut self, host: &str) -> Answer
+    fn answer_of(&mut self, host: &str) -> HostAnswer
         ensures told { IsToldOf L.gives host.now result }
         ensures same { self.new ≡ self.old }
     {
@@ -190,7 +190,7 @@ impl<'r, R: Net + Clock + AllocGlobal + Wait, L: Lookup> NamedGate<'r, R, L> {
         ensures { self.new ≡ self.old }
     {
         let answer = self.ask(host);
-        if matches!(answer, Answer::NotYet) {
+        if matches!(answer, HostAnswer::NotYet) {
             let now = self.gate.latest();
             // Where memory is refused, the host counts as asked for since a later moment.
             let _ = self.waiting.begin(self.rt.alloc(), host, now);
@@ -212,14 +212,14 @@ impl<'r, R: Net + Clock + AllocGlobal + Wait, L: Lookup> NamedGate<'r, R, L> {
         ensures said { self.new.said ≡ self.old.said }
     {
         match self.answer_of(endpoint.host.as_str()) {
-            Answer::Known(addresses) => {
+            HostAnswer::Known(addresses) => {
                 match self.gate.open_at(endpoint, addresses.as_slice()) {
                     Ok(link) => Ok(link),
                     Err(code) => Err(code),
                 }
             }
-            Answer::Failed(code) => Err(failure(code)),
-            Answer::NotYet => self.gate.open(endpoint),
+            HostAnswer::Failed(code) => Err(failure(code)),
+            HostAnswer::NotYet => self.gate.open(endpoint),
         }
     }
 }

@@ -11,7 +11,7 @@ use Rattle.std.proofs.lemmas.Slice.Eq.{bytes_eq-Decides}
 use Rattle.std.proofs.lemmas.Iterator.Adapters.{position_from-zero}
 use Rattle.std.proofs.Math.Seq.{drop-cons}
 use Rattle.mx_names.specs.declared.entry.Learnt.{Learnt}
-use Rattle.mx_names.specs.declared.answer.Answer.TheVariants as answers
+use Rattle.mx_names.specs.declared.answer.HostAnswer.TheVariants as answers
 use Rattle.mx_names.specs.Names.{Outcome, Gives, HostState, is_of, is_under_way, is_kept, stays, begun, most_lookups, IsDistinct, IsTable, IsLearnt, IsOutcome, IsTrueOf, Learns, HasNone, SpellsNone, tells, told, told_by, answer_of}
 
 equal_bytes : (xs ys : List ℕ) → bytes_eq xs ys ≡ true → xs ≡ ys

@@ -5,8 +5,8 @@ use Rattle.std.specs.declared.net.SocketAddr.{SocketAddr}
 use Rattle.std.specs.Net.Socket.{socket_ip}
 use Rattle.std.specs.Net.Grammar.{IsIpText}
 use Rattle.mx_types.specs.declared.code.Code.TheVariants as codes
-use Rattle.mx_names.specs.declared.answer.Answer.{Answer}
-use Rattle.mx_names.specs.declared.answer.Answer.TheVariants as answer
+use Rattle.mx_names.specs.declared.answer.HostAnswer.{HostAnswer}
+use Rattle.mx_names.specs.declared.answer.HostAnswer.TheVariants as answer
 
 -- the text is in brackets (91 and 93)
 abbrev pub is_bracketed : List ℕ → Bool
@@ -17,7 +17,7 @@ abbrev pub unbracketed : List ℕ → List ℕ
 unbracketed host = if is_bracketed host then take (length host - 2) (drop 1 host) else host
 
 -- that one address is the answer, or that memory was refused
-abbrev pub IsAddress : IpAddr → Answer → Type 0
+abbrev pub IsAddress : IpAddr → HostAnswer → Type 0
 IsAddress ip (answer.Known addresses) = (a : SocketAddr) × (addresses ≡ a ∷ []) × (socket_ip a ≡ ip)
 IsAddress ip (answer.Failed failed) = failed ≡ codes.OutOfMemory
 IsAddress ip answer.NotYet = ⊥
@@ -25,5 +25,5 @@ IsAddress ip answer.NotYet = ⊥
 -- rule name-spelled-address: A host that spells an address isn't looked up.
 --
 -- the one address that the text spells is the answer, or that memory was refused
-abbrev pub IsSpelled : List ℕ → Answer → Type 0
+abbrev pub IsSpelled : List ℕ → HostAnswer → Type 0
 IsSpelled text told = (ip : IpAddr) × IsIpText text ip × IsAddress ip told

@@ -10,8 +10,8 @@ use Rattle.mx_types.specs.declared.code.Code.{Code}
 use Rattle.mx_types.specs.declared.code.Code.TheVariants as codes
 use Rattle.mx_names.specs.Addresses.{in_order, is_lookup_code}
 use Rattle.mx_names.specs.declared.entry.Learnt.{Learnt}
-use Rattle.mx_names.specs.declared.answer.Answer.{Answer}
-use Rattle.mx_names.specs.declared.answer.Answer.TheVariants as answer
+use Rattle.mx_names.specs.declared.answer.HostAnswer.{HostAnswer}
+use Rattle.mx_names.specs.declared.answer.HostAnswer.TheVariants as answer
 
 -- the result of a lookup: the host's addresses, or the code of why there are none
 abbrev pub Outcome : Type 0
@@ -75,16 +75,16 @@ abbrev pub tells : ℕ → ℕ → Learnt → Bool
 tells since now learnt = is_young now learnt && (is_ok learnt.outcome || nat_le since learnt.moment)
 
 -- an outcome, as an answer
-abbrev pub answer_of : Outcome → Answer
+abbrev pub answer_of : Outcome → HostAnswer
 answer_of (Ok addresses) = answer.Known addresses
 answer_of (Err failed) = answer.Failed failed
 
-abbrev pub told_by : ℕ → ℕ → Option Learnt → Answer
+abbrev pub told_by : ℕ → ℕ → Option Learnt → HostAnswer
 told_by since now None = answer.NotYet
 told_by since now (Some learnt) = if tells since now learnt then answer_of learnt.outcome else answer.NotYet
 
 -- The answer on a host to one who asks since a moment, now.
-abbrev pub told : ℕ → ℕ → Option HostState → Answer
+abbrev pub told : ℕ → ℕ → Option HostState → HostAnswer
 told since now None = answer.NotYet
 told since now (Some state) = told_by since now state.learnt
 
@@ -151,7 +151,7 @@ pub record IsTable (gives : Gives) (states : List HostState) : Type 0 where
   pub true_to : AllByRecursion (λ state. IsLearnt gives state.host state.learnt) states
 
 -- rule name-own-answer: What is reported of a host is the result of a lookup of that host.
-abbrev pub IsTrueOf : Gives → List ℕ → Answer → Type 0
+abbrev pub IsTrueOf : Gives → List ℕ → HostAnswer → Type 0
 IsTrueOf gives host (answer.Known addresses) = IsFound gives host addresses
 IsTrueOf gives host (answer.Failed failed) = IsFailure gives host failed
 IsTrueOf gives host answer.NotYet = Unit {0}

@@ -4,7 +4,7 @@ use mx_types::Code;
 
 /// The answer to one who asks for a host's addresses.
 #[derive(Drop)]
-pub enum Answer {
+pub enum HostAnswer {
     /// The addresses.
     Known(Addresses),
     /// The lookup failed: `CouldntResolveHost`, or `OutOfMemory` where memory was refused.

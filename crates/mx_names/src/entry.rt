@@ -3,7 +3,7 @@ ghost use Rattle.std.specs.Prelude.{◌≡◌, Some, IfOk};
 ghost use Rattle.mx_names.specs.Names.{is_of, is_under_way, is_over, told_by, stays};
 
 use crate::addresses::Addresses;
-use crate::answer::Answer;
+use crate::answer::HostAnswer;
 use crate::names::KEPT_MS;
 use mx_types::{Code, OutOfMemory};
 use std::alloc::Global;
@@ -44,15 +44,20 @@ impl Learnt {
     }
 
     // Its answer to one who asks since a moment.
-    pub(crate) fn told(&self, alloc: Global, since: u64, now: u64) -> Result<Answer, OutOfMemory>
+    pub(crate) fn told(
+        &self,
+        alloc: Global,
+        since: u64,
+        now: u64,
+    ) -> Result<HostAnswer, OutOfMemory>
         ensures { IfOk result (λ answer. answer ≡ told_by since now (Some self.now)) }
     {
         if !self.tells(since, now) {
-            return Ok(Answer::NotYet);
+            return Ok(HostAnswer::NotYet);
         }
         match &self.outcome {
-            Ok(addresses) => Ok(Answer::Known(addresses.copy(alloc)?)),
-            Err(code) => Ok(Answer::Failed(*code)),
+            Ok(addresses) => Ok(HostAnswer::Known(addresses.copy(alloc)?)),
+            Err(code) => Ok(HostAnswer::Failed(*code)),
         }
     }
 
@@ -99,12 +104,12 @@ impl Entry {
     }
 
     // Its answer to one who asks since a moment.
-    pub fn told(&self, alloc: Global, since: u64, now: u64) -> Result<Answer, OutOfMemory>
+    pub fn told(&self, alloc: Global, since: u64, now: u64) -> Result<HostAnswer, OutOfMemory>
         ensures { IfOk result (λ answer. answer ≡ told_by since now self.now.learnt) }
     {
         match &self.learnt {
             Some(learnt) => learnt.told(alloc, since, now),
-            None => Ok(Answer::NotYet),
+            None => Ok(HostAnswer::NotYet),
         }
     }
 

@@ -14,7 +14,7 @@ mod resolver;
 mod system;
 
 pub use crate::addresses::{Addresses, in_order};
-pub use crate::answer::Answer;
+pub use crate::answer::HostAnswer;
 pub use crate::entry::Learnt;
 pub use crate::faults::{fault_code, lookup_code};
 pub use crate::finding::Finding;

@@ -4,7 +4,7 @@ ghost use Rattle.std.specs.List.{filter, find, position};
 ghost use Rattle.std.specs.Option.{option_map};
 ghost use Rattle.mx_names.specs.Names.{IsTable, IsTrueOf, SpellsNone, Learns, HasNone, told, may_begin, begun, is_of, is_open, is_under_way, stays};
 
-use crate::answer::Answer;
+use crate::answer::HostAnswer;
 use crate::entry::Entry;
 use crate::finding::Finding;
 use crate::lookup::Lookup;
@@ -109,7 +109,7 @@ impl<L: Lookup> Names<L> {
         host: &str,
         since: u64,
         now: u64,
-    ) -> Result<Answer, OutOfMemory>
+    ) -> Result<HostAnswer, OutOfMemory>
         ensures told { IfOk result (λ answer. answer ≡ told since now (find (is_of host.now) self.now)) }
         ensures true_of { IfOk result (IsTrueOf L.gives host.now) }
     {
@@ -119,12 +119,18 @@ impl<L: Lookup> Names<L> {
         Ok(answer)
     }
 
-    fn told(&self, alloc: Global, host: &str, since: u64, now: u64) -> Result<Answer, OutOfMemory>
+    fn told(
+        &self,
+        alloc: Global,
+        host: &str,
+        since: u64,
+        now: u64,
+    ) -> Result<HostAnswer, OutOfMemory>
         ensures { IfOk result (λ answer. answer ≡ told since now (find (is_of host.now) self.now)) }
     {
         match self.entry_of(host) {
             Some(entry) => entry.told(alloc, since, now),
-            None => Ok(Answer::NotYet),
+            None => Ok(HostAnswer::NotYet),
         }
     }
 

@@ -6,7 +6,7 @@ ghost use Rattle.mx_names.specs.Hosts.{unbracketed, IsAddress, IsSpelled};
 ghost use Rattle.mx_names.specs.Names.{IsTrueOf, SpellsNone};
 
 use crate::addresses::Addresses;
-use crate::answer::Answer;
+use crate::answer::HostAnswer;
 use crate::finding::Finding;
 use crate::hosts::{spelled, unbracketed};
 use crate::lookup::Lookup;
@@ -69,12 +69,12 @@ fn moment(rt: &impl Clock, start: Instant, least: u64) -> u64 {
 }
 
 // A host that spells this address.
-fn ask_address<R: AllocGlobal>(rt: &R, ip: IpAddr) -> Answer
+fn ask_address<R: AllocGlobal>(rt: &R, ip: IpAddr) -> HostAnswer
     ensures { IsAddress ip result }
 {
     match Addresses::one(rt.alloc(), SocketAddr::new(ip, 0)) {
-        Ok(addresses) => Answer::Known(addresses),
-        Err(_) => Answer::Failed(Code::OutOfMemory),
+        Ok(addresses) => HostAnswer::Known(addresses),
+        Err(_) => HostAnswer::Failed(Code::OutOfMemory),
     }
 }
 
@@ -111,7 +111,7 @@ impl<L: Lookup, B> Shared<L, B> {
         name: &str,
         since: u64,
         now: u64,
-    ) -> Result<(Answer, bool), OutOfMemory>
+    ) -> Result<(HostAnswer, bool), OutOfMemory>
         requires { SpellsNone name.now }
         ensures { IfOk result (λ r. IsTrueOf L.gives name.now r.0) }
     {
@@ -136,7 +136,7 @@ impl<L: Lookup, B> Shared<L, B> {
         name: &str,
         since: u64,
         now: u64,
-    ) -> Result<Answer, OutOfMemory>
+    ) -> Result<HostAnswer, OutOfMemory>
         requires { SpellsNone name.now }
         ensures { IfOk result (IsTrueOf L.gives name.now) }
     {
@@ -148,13 +148,19 @@ impl<L: Lookup, B> Shared<L, B> {
         Ok(answer)
     }
 
-    fn ask_name<R: Wait + AllocGlobal>(&self, rt: &R, name: &str, since: u64, now: u64) -> Answer
+    fn ask_name<R: Wait + AllocGlobal>(
+        &self,
+        rt: &R,
+        name: &str,
+        since: u64,
+        now: u64,
+    ) -> HostAnswer
         requires { SpellsNone name.now }
         ensures { IsTrueOf L.gives name.now result }
     {
         match self.try_name(rt, name, since, now) {
             Ok(answer) => answer,
-            Err(_) => Answer::Failed(Code::OutOfMemory),
+            Err(_) => HostAnswer::Failed(Code::OutOfMemory),
         }
     }
 }
@@ -167,7 +173,13 @@ impl<L: Lookup, B> Resolver<L, B> {
     /// address and isn't looked up.
     ///
     /// Returns `Failed(OutOfMemory)` where memory is refused, too. It starts no thread and waits for no lookup.
-    pub fn look<R: Wait + AllocGlobal>(&self, rt: &R, host: &str, since: u64, now: u64) -> Answer
+    pub fn look<R: Wait + AllocGlobal>(
+        &self,
+        rt: &R,
+        host: &str,
+        since: u64,
+        now: u64,
+    ) -> HostAnswer
         ensures spelled { (ip : Ip) → IsIpText (unbracketed host.now) ip → IsSpelled (unbracketed host.now) result }
         ensures looked_up { SpellsNone (unbracketed host.now) → IsTrueOf L.gives (unbracketed host.now) result }
     {
@@ -274,7 +286,7 @@ impl<L: Lookup + Send + Sync + Drop + 'static, B: Ring + Send + Sync + Drop + 's
         host: &str,
         since: u64,
         now: u64,
-    ) -> Answer
+    ) -> HostAnswer
         ensures spelled { (ip : Ip) → IsIpText (unbracketed host.now) ip → IsSpelled (unbracketed host.now) result }
         ensures looked_up { SpellsNone (unbracketed host.now) → IsTrueOf L.gives (unbracketed host.now) result }
     {

@@ -9,8 +9,8 @@ use Rattle.mx_head.specs.declared.types.Framing.TheVariants as framing
 use Rattle.mx_head.specs.Framing.{framing_of}
 use Rattle.mx_head.specs.Faults.{HasManyFields, IsLongHead}
 use Rattle.mx_head.specs.Limits.{most_bytes}
-use Rattle.mx_body.specs.declared.chunked.place.Place.{Place}
-use Rattle.mx_body.specs.declared.chunked.place.Place.TheVariants as place
+use Rattle.mx_body.specs.declared.chunked.place.ChunkedPlace.{ChunkedPlace}
+use Rattle.mx_body.specs.declared.chunked.place.ChunkedPlace.TheVariants as place
 use Rattle.mx_body.specs.Chunked.{MayBecomeChunked, EndsInLargeSize}
 use Rattle.mx_body.specs.ChunkedPlace.{place_after}
 use Rattle.mx_body.specs.Response.{print_heads, StandsAtHead, StandsAtBody}
@@ -49,7 +49,7 @@ TellsOfHead r LongHead = IsLongHead r
 TellsOfHead r _ = ⊥
 
 -- the part of a chunked body that a byte at this place belongs to
-abbrev pub chunk_fault : Place → Fault
+abbrev pub chunk_fault : ChunkedPlace → Fault
 chunk_fault place.Start = SizeLine
 chunk_fault (place.Size size) = SizeLine
 chunk_fault (place.Extension size) = SizeLine

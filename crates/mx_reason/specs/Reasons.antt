@@ -6,8 +6,8 @@ use Rattle.mx_body.specs.declared.verdict.Verdict.TheVariants as verdict
 use Rattle.mx_body.specs.Decision.{BeginsWithResponse, IsVerdict}
 use Rattle.mx_body.specs.Response.{Response}
 use Rattle.mx_reason.specs.declared.reason.Reason.{Reason}
-use Rattle.mx_reason.specs.declared.reason.What.{What}
-use Rattle.mx_reason.specs.declared.reason.What.TheVariants as what
+use Rattle.mx_reason.specs.declared.reason.Defect.{Defect}
+use Rattle.mx_reason.specs.declared.reason.Defect.TheVariants as what
 use Rattle.mx_reason.specs.Cuts.{IsCutIn}
 use Rattle.mx_reason.specs.Faults.{fault_code, before_last, Tells}
 
@@ -30,9 +30,9 @@ pub record DecidesAt (m : Method) (wire : List ℕ) (at : ℕ) (code : Code) : T
   pub decides : Decides m (take at wire) code
 
 -- The first bytes of the wire decide, and this is wrong at their end; or nothing is decided, and the wire ends here.
-abbrev pub IsWhatAt : Method → List ℕ → ℕ → What → Type 0
-IsWhatAt m wire at (what.Fault fault) = DecidesAt m wire at (fault_code fault) × Tells m (take at wire) fault
-IsWhatAt m wire at (what.Cut cut) = (at ≡ length wire) × IsVerdict m wire false verdict.More × IsCutIn m wire cut
+abbrev pub IsDefectAt : Method → List ℕ → ℕ → Defect → Type 0
+IsDefectAt m wire at (what.Fault fault) = DecidesAt m wire at (fault_code fault) × Tells m (take at wire) fault
+IsDefectAt m wire at (what.Cut cut) = (at ≡ length wire) × IsVerdict m wire false verdict.More × IsCutIn m wire cut
 
 abbrev pub IsReason : Method → List ℕ → Reason → Type 0
-IsReason m wire reason = IsWhatAt m wire reason.at reason.what
+IsReason m wire reason = IsDefectAt m wire reason.at reason.what

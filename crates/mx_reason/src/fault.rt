@@ -2,7 +2,7 @@
 ghost use Rattle.std.specs.Prelude.{◌≡◌, ◌-◌, length};
 ghost use Rattle.mx_head.specs.Limits.{most_bytes};
 ghost use Rattle.mx_head.specs.Summary.{framing_by};
-ghost use Rattle.mx_body.specs.declared.chunked.place.Place.TheVariants.{Start};
+ghost use Rattle.mx_body.specs.declared.chunked.place.ChunkedPlace.TheVariants.{Start};
 ghost use Rattle.mx_body.specs.ChunkedPlace.{place_after};
 ghost use Rattle.mx_reason.specs.Faults.{fault_code, chunk_fault, framing_fault, before_last, TellsOfHead, TellsOfBody, TellsOfChunks, Tells};
 ghost use Rattle.mx_reason.specs.Reasons.{Decides};
@@ -12,7 +12,7 @@ use crate::line::is_behind_status;
 use crate::reason::Fault;
 use crate::walk::{Walked, walk};
 use mx_body::MOST_BYTES;
-use mx_body::chunked::place::Place;
+use mx_body::chunked::place::ChunkedPlace;
 use mx_head::{Framing, Head, MOST_HEAD_BYTES, framing};
 use mx_types::{Code, Method};
 
@@ -38,10 +38,10 @@ fn fault_in_head(rest: &[u8], code: Code) -> Fault
 }
 
 /// The place after some bytes of a chunked body.
-fn place_behind(body: &[u8]) -> Place
+fn place_behind(body: &[u8]) -> ChunkedPlace
     ensures { result ≡ place_after most_bytes Start body.now }
 {
-    let mut place = Place::Start;
+    let mut place = ChunkedPlace::Start;
     let mut at = 0;
     while at < body.len() {
         let (next, len) = place.advance(MOST_BYTES as u32, &body[at..]);
@@ -52,12 +52,15 @@ fn place_behind(body: &[u8]) -> Place
 }
 
 /// The part of a chunked body that a byte at this place belongs to.
-fn chunk_fault(place: Place) -> Fault
+fn chunk_fault(place: ChunkedPlace) -> Fault
     ensures { result ≡ chunk_fault place }
 {
     match place {
-        Place::Start | Place::Size(_) | Place::Extension(_) | Place::SizeLf(_) => Fault::SizeLine,
-        Place::Data(_) | Place::DataCr | Place::DataLf => Fault::ChunkEnd,
+        ChunkedPlace::Start
+        | ChunkedPlace::Size(_)
+        | ChunkedPlace::Extension(_)
+        | ChunkedPlace::SizeLf(_) => Fault::SizeLine,
+        ChunkedPlace::Data(_) | ChunkedPlace::DataCr | ChunkedPlace::DataLf => Fault::ChunkEnd,
         _ => Fault::Trailer,
     }
 }

@@ -3,7 +3,7 @@ ghost use Rattle.std.specs.Prelude.{◌≤◌, length};
 
 use crate::walk::{Walked, walk};
 use mx_body::MOST_BYTES;
-use mx_body::chunked::place::Place;
+use mx_body::chunked::place::ChunkedPlace;
 use mx_head::{Framing, MOST_HEAD_BYTES, framing};
 use mx_types::Method;
 
@@ -11,13 +11,13 @@ use mx_types::Method;
 fn settled_at(body: &[u8]) -> usize
     ensures { result ≤ length body.now }
 {
-    let mut place = Place::Start;
+    let mut place = ChunkedPlace::Start;
     let mut at = 0;
     while at < body.len() {
         let (next, len) = place.advance(MOST_BYTES as u32, &body[at..]);
         at += len;
         match next {
-            Place::Done | Place::Bad | Place::TooLarge => return at,
+            ChunkedPlace::Done | ChunkedPlace::Bad | ChunkedPlace::TooLarge => return at,
             _ => place = next,
         }
     }

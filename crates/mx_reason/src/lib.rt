@@ -11,5 +11,5 @@ mod reason;
 mod tell;
 mod walk;
 
-pub use crate::reason::{Cut, Fault, Reason, What};
+pub use crate::reason::{Cut, Defect, Fault, Reason};
 pub use crate::tell::reason_of;

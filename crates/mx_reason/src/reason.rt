@@ -9,12 +9,12 @@ use mx_types::Code;
 pub struct Reason {
     /// After how many bytes it is decided; how many there are, where nothing is.
     pub at: usize,
-    pub what: What,
+    pub what: Defect,
 }
 
 /// What is wrong with them.
 #[derive(Clone, Copy, PartialEq, Eq)]
-pub enum What {
+pub enum Defect {
     /// They are refused, whatever follows.
     Fault(Fault),
     /// They end before anything is decided.

@@ -8,7 +8,7 @@ use crate::bracket::{Standing, judge, shortest};
 use crate::cut::cut_of;
 use crate::fault::fault_of;
 use crate::guess::guess;
-use crate::reason::{Reason, What};
+use crate::reason::{Defect, Reason};
 use mx_types::{Code, Method};
 use std::alloc::Global;
 
@@ -20,7 +20,7 @@ fn refusal(alloc: Global, method: Method, wire: &[u8], code: Code) -> Reason
     let at = shortest(alloc, method, wire, code, guess(method, wire));
     Reason {
         at,
-        what: What::Fault(fault_of(method, &wire[..at], code)),
+        what: Defect::Fault(fault_of(method, &wire[..at], code)),
     }
 }
 
@@ -39,7 +39,7 @@ pub fn reason_of(alloc: Global, method: Method, wire: &[u8]) -> Option<Reason>
         Standing::Whole => None,
         Standing::Open => Some(Reason {
             at: wire.len(),
-            what: What::Cut(cut_of(method, wire)),
+            what: Defect::Cut(cut_of(method, wire)),
         }),
         Standing::Fault(code) => Some(refusal(alloc, method, wire, code)),
     }

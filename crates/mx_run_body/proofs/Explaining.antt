@@ -11,14 +11,14 @@ use Rattle.mx_body.specs.declared.verdict.Verdict.TheVariants as verdict
 use Rattle.mx_body.specs.Decision.{IsVerdict}
 use Rattle.mx_body.specs.Laws.{HasOneVerdict, IsSameVerdict}
 use Rattle.mx_reason.specs.declared.reason.Reason.{Reason}
-use Rattle.mx_reason.specs.declared.reason.What.{What}
-use Rattle.mx_reason.specs.declared.reason.What.TheVariants as what
-use Rattle.mx_reason.specs.Reasons.{IsReason, IsWhatAt, Decides, BeginsWithAny}
+use Rattle.mx_reason.specs.declared.reason.Defect.{Defect}
+use Rattle.mx_reason.specs.declared.reason.Defect.TheVariants as what
+use Rattle.mx_reason.specs.Reasons.{IsReason, IsDefectAt, Decides, BeginsWithAny}
 use Rattle.mx_reason.specs.Faults.{fault_code, Tells}
 use Rattle.mx_run_body.specs.declared.reading.Received.{Received}
 use Rattle.mx_run_body.specs.declared.reading.InputError.{InputError}
 use Rattle.mx_run_body.specs.declared.reading.InputError.TheVariants.{Failed, OutOfMemory}
-use Rattle.mx_failure_text.specs.declared.told.Told.{Told}
+use Rattle.mx_failure_text.specs.declared.report.FailureReport.{FailureReport}
 use Rattle.mx_run_body.specs.Reading.{IsReceived, IsRead}
 use Rattle.mx_run_body.specs.Explained.{IsWhyNone, IsTold, TellsVerdict, TellsRead, code_alone, told_lines}
 
@@ -43,8 +43,8 @@ cut_is_all m bytes r read one more = go r.decoder.ended refl
         absurd (undecided r.decoder.verdict refl (one m r.decoder.wire false r.decoder.verdict verdict.More running more))
 
 -- what is wrong with the bytes that the decoder has is wrong with all
-what_of_all : (m : Method) (bytes : List ℕ) (r : Received) → IsReceived m bytes r → HasOneVerdict → (at : ℕ) (w : What)
-    → IsWhatAt m r.decoder.wire at w → IsWhatAt m bytes at w
+what_of_all : (m : Method) (bytes : List ℕ) (r : Received) → IsReceived m bytes r → HasOneVerdict → (at : ℕ) (w : Defect)
+    → IsDefectAt m r.decoder.wire at w → IsDefectAt m bytes at w
 what_of_all m bytes r read one at (what.Fault fault) is =
     let same : take at r.decoder.wire ≡ take at bytes =
     sym (ap (take at) read.whole ∙ take-append-le at r.decoder.wire read.behind is.0.within) in (
@@ -55,7 +55,7 @@ what_of_all m bytes r read one at (what.Fault fault) is =
       subst (λ (t : List ℕ). Tells m t fault) same is.1,
     )
 what_of_all m bytes r read one at (what.Cut cut) is =
-    subst (λ (t : List ℕ). IsWhatAt m t at (what.Cut cut)) (cut_is_all m bytes r read one is.1) is
+    subst (λ (t : List ℕ). IsDefectAt m t at (what.Cut cut)) (cut_is_all m bytes r read one is.1) is
 
 pub why_none : (m : Method) (bytes : List ℕ) (r : Received) (result : Option Reason) → IsReceived m bytes r → HasOneVerdict
     → IfSome result (IsReason m r.decoder.wire) → IfNone result (BeginsWithAny m r.decoder.wire) → IsWhyNone m bytes result
@@ -63,7 +63,7 @@ why_none m bytes r (Some reason) read one some none = what_of_all m bytes r read
 why_none m bytes r None read one some none = (r.decoder.wire, read.behind, read.whole, none)
 
 -- what is reported is of the verdict
-tells_verdict : (m : Method) (bytes : List ℕ) (v : Verdict) (told : Option Told) (Written : List ℕ → Type 0) → IsVerdict m bytes true v
+tells_verdict : (m : Method) (bytes : List ℕ) (v : Verdict) (told : Option FailureReport) (Written : List ℕ → Type 0) → IsVerdict m bytes true v
     → IsTold m bytes v told → Written (told_lines told) → TellsVerdict m bytes v Written
 tells_verdict m bytes (verdict.Complete status len parts keep) told Written decided is written =
     subst (λ t. Written (told_lines t)) is written
@@ -71,7 +71,7 @@ tells_verdict m bytes verdict.More told Written decided is written = let both : 
 tells_verdict m bytes (verdict.Fault code) told Written decided is written =
     (is.0, is.1, subst (λ t. Written (told_lines t)) is.2 written)
 
-pub tells_read : {E : Type 0} (m : Method) (known left old new : Option (List ℕ)) (received : Result Received InputError) (told : Option Told)
+pub tells_read : {E : Type 0} (m : Method) (known left old new : Option (List ℕ)) (received : Result Received InputError) (told : Option FailureReport)
     (result : Result Unit E) → IfOk received (IsRead m known left) → received ≢ Err Failed
     → (received ≡ Err OutOfMemory → told ≡ code_alone code.OutOfMemory)
     → IfOk received (λ r. (bytes : List ℕ) → IsReceived m bytes r → IsTold m bytes r.decoder.verdict told)

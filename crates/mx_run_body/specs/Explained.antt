@@ -9,7 +9,7 @@ use Rattle.mx_body.specs.declared.verdict.Verdict.TheVariants as verdict
 use Rattle.mx_body.specs.Decision.{IsVerdict}
 use Rattle.mx_reason.specs.declared.reason.Reason.{Reason}
 use Rattle.mx_reason.specs.Reasons.{IsReason, BeginsWithAny}
-use Rattle.mx_failure_text.specs.declared.told.Told.{Told}
+use Rattle.mx_failure_text.specs.declared.report.FailureReport.{FailureReport}
 use Rattle.mx_failure_text.specs.Lines.{body_lines}
 use Rattle.mx_run_body.specs.Reading.{WasRead}
 
@@ -25,15 +25,15 @@ TellsVerdict m bytes verdict.More Written = ⊥
 TellsVerdict m bytes (verdict.Fault c) Written = (reason : Option Reason) × IsWhyNone m bytes reason × Written (body_lines c reason)
 
 -- Private: what is reported by a code alone; and what is reported of a verdict.
-abbrev pub code_alone : Code → Option Told
+abbrev pub code_alone : Code → Option FailureReport
 code_alone c = Some (record { code = c; reason = None })
 
-abbrev pub IsTold : Method → List ℕ → Verdict → Option Told → Type 0
+abbrev pub IsTold : Method → List ℕ → Verdict → Option FailureReport → Type 0
 IsTold m bytes (verdict.Fault c) told = (reason : Option Reason) × IsWhyNone m bytes reason × (told ≡ Some (record { code = c; reason = reason }))
 IsTold m bytes _ told = told ≡ None
 
 -- Private: the lines of what is reported
-abbrev pub told_lines : Option Told → List ℕ
+abbrev pub told_lines : Option FailureReport → List ℕ
 told_lines None = []
 told_lines (Some told) = body_lines told.code told.reason
 

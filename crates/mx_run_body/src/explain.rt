@@ -9,7 +9,7 @@ ghost use Rattle.mx_run_body.specs.declared.reading.InputError.TheVariants.{Fail
 use crate::reading::{InputError, Received};
 use mx_body::Verdict;
 use mx_body::laws::one_verdict;
-use mx_failure_text::{Told, print_body_failure};
+use mx_failure_text::{FailureReport, print_body_failure};
 use mx_reason::{Reason, reason_of};
 use mx_run_io::{Output, WriteFailed};
 use mx_types::{Code, Method};
@@ -26,11 +26,11 @@ fn why(alloc: Global, method: Method, received: &Received) -> Option<Reason>
 }
 
 // What is reported of what was received, if it isn't a whole response.
-fn told_of_verdict(alloc: Global, method: Method, received: &Received) -> Option<Told>
+fn told_of_verdict(alloc: Global, method: Method, received: &Received) -> Option<FailureReport>
     ensures { (bytes : List ℕ) → IsReceived method bytes received.now → IsTold method bytes received.now.decoder.verdict result }
 {
     match received.decoder.verdict() {
-        Verdict::Fault(code) => Some(Told {
+        Verdict::Fault(code) => Some(FailureReport {
             code: *code,
             reason: why(alloc, method, received),
         }),
@@ -39,20 +39,27 @@ fn told_of_verdict(alloc: Global, method: Method, received: &Received) -> Option
 }
 
 // What is reported of an input, if it isn't a whole response.
-fn told_of(alloc: Global, method: Method, received: &Result<Received, InputError>) -> Option<Told>
+fn told_of(
+    alloc: Global,
+    method: Method,
+    received: &Result<Received, InputError>,
+) -> Option<FailureReport>
     ensures unread { received.now ≡ Err Failed → result ≡ code_alone Code.RecvError }
     ensures short { received.now ≡ Err OutOfMemory → result ≡ code_alone Code.OutOfMemory }
     ensures read { IfOk received.now (λ r. (bytes : List ℕ) → IsReceived method bytes r → IsTold method bytes r.decoder.verdict result) }
 {
     match received {
         Ok(received) => told_of_verdict(alloc, method, received),
-        Err(InputError::Failed) => Some(Told::by_code(Code::RecvError)),
-        Err(InputError::OutOfMemory) => Some(Told::by_code(Code::OutOfMemory)),
+        Err(InputError::Failed) => Some(FailureReport::by_code(Code::RecvError)),
+        Err(InputError::OutOfMemory) => Some(FailureReport::by_code(Code::OutOfMemory)),
     }
 }
 
 // Prints what is reported, if anything is.
-fn print_told<E: Write>(output: &mut Output<E>, told: Option<Told>) -> Result<(), WriteFailed>
+fn print_told<E: Write>(
+    output: &mut Output<E>,
+    told: Option<FailureReport>,
+) -> Result<(), WriteFailed>
     ensures told { OnOk result (Wrote E.contents output.old output.new (told_lines told)) }
     ensures failed { IsErr result → has_failed_write output.new ≡ true }
 {

@@ -12,11 +12,11 @@ use std::marker::Model;
 
 /// What a URL ended with. Contracts see it, and know that it is an outcome where a transfer ended.
 #[derive(Drop)]
-pub struct End {
+pub struct UrlEnd {
     fetched: Fetched,
 }
 
-impl Model for End {
+impl Model for UrlEnd {
     ghost use Rattle.mx_get_text.specs.declared.fetched.Fetched.{Fetched};
     ghost use Rattle.mx_run_get.specs.Asked.{IsEnd};
 
@@ -27,24 +27,24 @@ impl Model for End {
     ghost invariant = { λ e. IsEnd e.fetched };
 }
 
-impl End {
+impl UrlEnd {
     /// The URL was refused.
-    pub fn refused(code: Code) -> End
+    pub fn refused(code: Code) -> UrlEnd
         ensures { result ≡ fetched.Refused code }
     {
-        End {
+        UrlEnd {
             fetched: Fetched::Refused(code),
         }
     }
 
     /// A transfer of the URL's request ended. The bytes of a failed one are dropped.
-    pub fn ended(alloc: Global, outcome: Outcome) -> End
+    pub fn ended(alloc: Global, outcome: Outcome) -> UrlEnd
         ensures { result ≡ fetched_of outcome }
     {
         // proof: what holds of an outcome, and of its code
         outcome.know();
         let _code = outcome.code();
-        End {
+        UrlEnd {
             fetched: Fetched::of(alloc, outcome),
         }
     }

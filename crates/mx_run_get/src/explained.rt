@@ -6,21 +6,21 @@ ghost use Rattle.mx_get_text.specs.Fetched.{code_of};
 ghost use Rattle.mx_failure_text.specs.Lines.{Writes};
 ghost use Rattle.mx_run_get.specs.Explained.{IsWhyOf, IsEndText, AreEndTexts, IsRunText};
 
-use mx_failure_text::{Told, print_failure, print_file_limit};
+use mx_failure_text::{FailureReport, print_failure, print_file_limit};
 use mx_get_text::Fetched;
 use mx_run_io::{Output, WriteFailed};
 use mx_types::Code;
 use std::io::Write;
 
 /// What is reported of a URL's end: its code, and why it failed, as far as the received bytes show.
-pub fn told_of(fetched: &Fetched) -> Told
+pub fn told_of(fetched: &Fetched) -> FailureReport
     ensures code { result.code ≡ code_of fetched.now }
     ensures reason { IsWhyOf fetched.now result.reason }
 {
     match fetched {
-        Fetched::Refused(code) => Told::by_code(*code),
-        Fetched::Ended(outcome) => Told::by_code(outcome.code()),
-        Fetched::Failed(failure) => Told {
+        Fetched::Refused(code) => FailureReport::by_code(*code),
+        Fetched::Ended(outcome) => FailureReport::by_code(outcome.code()),
+        Fetched::Failed(failure) => FailureReport {
             code: failure.code(),
             reason: failure.reason(),
         },

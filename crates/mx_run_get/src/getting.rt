@@ -10,7 +10,7 @@ ghost use Rattle.mx_run_get.specs.Places.{asked_at, is_awaiting, is_awaiting_at,
 ghost use Rattle.mx_run_get.specs.declared.place.Place.{Place as AtPlace};
 ghost use Rattle.mx_run_io.specs.declared.stop.Stop.TheVariants as stop;
 
-use crate::end::End;
+use crate::end::UrlEnd;
 use crate::place::{Place, ended_at};
 use mx_crew::Crew;
 use mx_desk::{Desk, Ended};
@@ -29,13 +29,13 @@ use std::sync::Wait;
 const LONGEST_WAIT_MS: u32 = 60_000;
 
 // What a URL ends with that is refused so, unless memory was.
-fn refused(error: RequestError) -> Result<End, Stop>
+fn refused(error: RequestError) -> Result<UrlEnd, Stop>
     ensures end { IfOk result (λ end. end ≡ fetched.Refused (refusal_code error)) }
     ensures other { IfOk result (λ _. error ≢ refusal.OutOfMemory) }
 {
     match error {
         RequestError::OutOfMemory => Err(Stop::OutOfMemory),
-        error => Ok(End::refused(error.code())),
+        error => Ok(UrlEnd::refused(error.code())),
     }
 }
 

@@ -5,7 +5,7 @@ ghost use Rattle.mx_run_get.specs.Places.{asked_at, is_awaiting, is_awaiting_at,
 ghost use Rattle.mx_run_get.specs.declared.place.Place.TheVariants as place;
 ghost use Rattle.mx_run_io.specs.declared.stop.Stop.TheVariants as stop;
 
-use crate::end::End;
+use crate::end::UrlEnd;
 use mx_get_text::Fetched;
 use mx_request::Request;
 use mx_run_io::Stop;
@@ -19,7 +19,7 @@ pub enum Place {
     /// The end of its transfer is awaited. Contracts see the request.
     Awaited(Snapshot<Request>),
     /// What the URL ended with.
-    Known(End),
+    Known(UrlEnd),
 }
 
 // Whether an end is awaited at that place.
@@ -33,7 +33,7 @@ fn is_awaited(places: &[Place], at: usize) -> bool
 }
 
 // Keeps an end at a place: it is known there from then on.
-fn keep_at(places: &mut Vec<Place>, at: usize, end: End)
+fn keep_at(places: &mut Vec<Place>, at: usize, end: UrlEnd)
     requires { at < vec_len places.old }
     ensures { places.new.items ≡ slice_set places.old.items at (place.Known end) }
 {
@@ -47,7 +47,7 @@ pub fn ended_at(alloc: Global, places: &mut Vec<Place>, at: usize, outcome: Outc
     ensures other { result ≡ false → places.new.items ≡ places.old.items }
 {
     if is_awaited(places.as_slice(), at) {
-        keep_at(places, at, End::ended(alloc, outcome));
+        keep_at(places, at, UrlEnd::ended(alloc, outcome));
         return true;
     }
     drop(outcome);

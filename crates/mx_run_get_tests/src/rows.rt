@@ -1,5 +1,5 @@
 //! What `get` prints of some URLs, each row with a server of its own.
-use crate::server::Server;
+use crate::server::CountingServer;
 use mx_run_get::{Runtime, run_get, run_get_explained};
 use mx_run_io::{Options, Output};
 use std::alloc::Global;
@@ -8,7 +8,7 @@ use std::test::Fail;
 
 /// URLs, and their results. `PORT` stands for the server's port.
 #[derive(Clone, Copy)]
-struct Row {
+struct GetRow {
     /// What it is about.
     name: &'static str,
     max_connects: u8,
@@ -23,10 +23,10 @@ struct Row {
     connections: Option<u32>,
 }
 
-static ROWS: [Row; 6] = [
+static ROWS: [GetRow; 6] = [
     // rule turn-links
     // rule get-ends
-    Row {
+    GetRow {
         name: "both bodies in the order of the URLs, over one connection",
         max_connects: 4,
         max_redirects: 0,
@@ -36,7 +36,7 @@ static ROWS: [Row; 6] = [
         status: 0,
         connections: Some(1),
     },
-    Row {
+    GetRow {
         name: "a worker that keeps no idle links makes a connection for each",
         max_connects: 0,
         max_redirects: 0,
@@ -46,7 +46,7 @@ static ROWS: [Row; 6] = [
         status: 0,
         connections: Some(2),
     },
-    Row {
+    GetRow {
         name: "a body that ends before its length is not printed, and its code is the exit status",
         max_connects: 4,
         max_redirects: 0,
@@ -58,7 +58,7 @@ static ROWS: [Row; 6] = [
     },
     // rule redirect-outcome
     // rule redirect-idle-link
-    Row {
+    GetRow {
         name: "a redirect is followed, and one that leads to itself ends with 47 past the limit, over one connection",
         max_connects: 4,
         max_redirects: 2,
@@ -68,7 +68,7 @@ static ROWS: [Row; 6] = [
         status: 47,
         connections: Some(1),
     },
-    Row {
+    GetRow {
         name: "a redirect is a response as any other where none is followed",
         max_connects: 4,
         max_redirects: 0,
@@ -78,7 +78,7 @@ static ROWS: [Row; 6] = [
         status: 0,
         connections: Some(1),
     },
-    Row {
+    GetRow {
         name: "each URL that failed is told of, in their order: one cut short, one that nothing serves, and three that are refused",
         max_connects: 4,
         max_redirects: 0,
@@ -99,7 +99,7 @@ static ROWS: [Row; 6] = [
     },
 ];
 
-impl Row {
+impl GetRow {
     /// With one worker.
     fn options(&self) -> Options {
         Options {
@@ -126,7 +126,7 @@ fn with_port(alloc: Global, text: &str, port: u16) -> Result<String, Fail> {
 
 /// What `get` printed and reported, and its exit status; 255 where it isn't run.
 #[derive(Drop)]
-struct Ran {
+struct GetOutput {
     printed: Vec<u8>,
     told: Vec<u8>,
     status: u8,
@@ -137,7 +137,7 @@ fn run<R: Runtime + Net<Listener = TcpListener, Stream = TcpStream>>(
     urls: &[&str],
     options: Options,
     is_explained: bool,
-) -> Ran {
+) -> GetOutput {
     let mut printed = Vec::new(rt.alloc());
     let mut told = Vec::new(rt.alloc());
     let status = if !options.are_within() {
@@ -153,7 +153,7 @@ fn run<R: Runtime + Net<Listener = TcpListener, Stream = TcpStream>>(
     } else {
         run_get(rt, urls, options, &mut Output::new(&mut printed))
     };
-    Ran {
+    GetOutput {
         printed,
         told,
         status,
@@ -162,9 +162,9 @@ fn run<R: Runtime + Net<Listener = TcpListener, Stream = TcpStream>>(
 
 fn run_row<R: Runtime + Net<Listener = TcpListener, Stream = TcpStream>>(
     rt: &R,
-    row: &Row,
+    row: &GetRow,
     port: u16,
-) -> Result<Ran, Fail> {
+) -> Result<GetOutput, Fail> {
     let mut urls = Vec::new(rt.alloc());
     for url in row.urls {
         urls.push(with_port(rt.alloc(), *url, port)?)?;
@@ -177,7 +177,7 @@ fn run_row<R: Runtime + Net<Listener = TcpListener, Stream = TcpStream>>(
 }
 
 /// Whether the URLs of a server at this port have these results.
-fn is_as_planned(alloc: Global, row: &Row, port: u16, ran: &Ran) -> Result<bool, Fail> {
+fn is_as_planned(alloc: Global, row: &GetRow, port: u16, ran: &GetOutput) -> Result<bool, Fail> {
     let printed = with_port(alloc, row.printed, port)?;
     let told = with_port(alloc, row.told.unwrap_or(""), port)?;
     Ok(
@@ -190,9 +190,9 @@ fn is_as_planned(alloc: Global, row: &Row, port: u16, ran: &Ran) -> Result<bool,
 /// Whether the URLs have the results of their row.
 fn holds<R: Runtime + Net<Listener = TcpListener, Stream = TcpStream>>(
     rt: &R,
-    row: &Row,
+    row: &GetRow,
 ) -> Result<bool, Fail> {
-    let server = Server::start(rt)?;
+    let server = CountingServer::start(rt)?;
     let port = server.address.port();
     let ran = run_row(rt, row, port)?;
     let connections = server.end(rt)?;

@@ -76,22 +76,22 @@ fn serve(listener: &TcpListener, is_over: &AtomicBool) -> u32 {
 
 /// A running server.
 #[derive(Drop)]
-pub struct Server {
+pub struct CountingServer {
     pub address: SocketAddr,
     is_over: Arc<AtomicBool>,
     thread: JoinHandle<u32>,
 }
 
-impl Server {
+impl CountingServer {
     pub fn start<R: Threads + Net<Listener = TcpListener, Stream = TcpStream> + AllocGlobal>(
         rt: &R,
-    ) -> Result<Server, Fail> {
+    ) -> Result<CountingServer, Fail> {
         let is_over = Arc::new(rt.alloc(), AtomicBool::new(false))?;
         let is_over_there = Arc::try_clone(&is_over)?;
         let listener = TcpListener::bind(rt, "127.0.0.1:0")?;
         let address = listener.local_addr()?;
         let thread = thread::spawn(rt, move || serve(&listener, &is_over_there))?;
-        Ok(Server {
+        Ok(CountingServer {
             address,
             is_over,
             thread,
@@ -100,7 +100,7 @@ impl Server {
 
     /// Ends it by one more connection, and answers on how many a request came.
     pub fn end<R: Threads + Net<Stream = TcpStream>>(self, rt: &R) -> Result<u32, Fail> {
-        let Server {
+        let CountingServer {
             address,
             is_over,
             thread,

@@ -3,7 +3,7 @@
 //! It is called in one function, which has no contract, and what a row owns is owned by functions with one exit: so the proof is short.
 use crate::fakes::{Filler, Full, Pipe};
 use crate::long::{Long, add_long, bytes_of};
-use crate::tally::Tally;
+use crate::tally::RowTally;
 use mx_responses_tests_base::bytes::{COUNTED, HEAD};
 use mx_run_body::{MOST_READS, run_body};
 use mx_run_io::{Input, Output};
@@ -95,12 +95,12 @@ fn are_gathered(alloc: Global) -> Result<bool, AllocError> {
     gathered
 }
 
-fn see_pieces(alloc: Global, tally: &mut Tally) -> Result<(), AllocError> {
+fn see_pieces(alloc: Global, tally: &mut RowTally) -> Result<(), AllocError> {
     tally.hold("pieces are gathered", are_gathered(alloc)?)
 }
 
 /// Each front of a head, but for none of it, is refused.
-fn see_cuts(alloc: Global, tally: &mut Tally) -> Result<(), AllocError> {
+fn see_cuts(alloc: Global, tally: &mut RowTally) -> Result<(), AllocError> {
     for cut in 1..HEAD.len() {
         let is_right = prints_of(alloc, Method::Get, &HEAD[..cut], 8, b"FAULT 8\n");
         tally.hold("a head that is cut", is_right)?;
@@ -118,7 +118,7 @@ fn set_random(bytes: &mut [u8], mut state: u32) -> u32 {
 }
 
 /// Each of 200 random inputs is refused: the first byte of each begins no head.
-fn see_random(alloc: Global, tally: &mut Tally) -> Result<(), AllocError> {
+fn see_random(alloc: Global, tally: &mut RowTally) -> Result<(), AllocError> {
     let mut state: u32 = 20261122;
     let mut bytes = [b'!'; 101];
     for _ in 0..200 {
@@ -156,7 +156,7 @@ const UNFLUSHED: Pipe = Pipe {
 };
 
 // rule program-unwritten
-fn see_buffers(alloc: Global, tally: &mut Tally) -> Result<(), AllocError> {
+fn see_buffers(alloc: Global, tally: &mut RowTally) -> Result<(), AllocError> {
     tally.hold("a buffer before a full disk", is_full_behind(alloc, 0))?;
     tally.hold(
         "a buffer before a disk that is full after a write",
@@ -237,7 +237,7 @@ fn is_filled(alloc: Global, row: Filled) -> bool {
     ended == row.status && are_line_and_letters(&written, row.line, row.count)
 }
 
-fn see_filled(alloc: Global, tally: &mut Tally) -> Result<(), AllocError> {
+fn see_filled(alloc: Global, tally: &mut RowTally) -> Result<(), AllocError> {
     for row in &FILLED {
         tally.hold(row.name, is_filled(alloc, *row))?;
     }
@@ -245,7 +245,7 @@ fn see_filled(alloc: Global, tally: &mut Tally) -> Result<(), AllocError> {
 }
 
 /// Goes through all of them.
-pub(crate) fn see_all(alloc: Global, tally: &mut Tally) -> Result<(), AllocError> {
+pub(crate) fn see_all(alloc: Global, tally: &mut RowTally) -> Result<(), AllocError> {
     see_pieces(alloc, tally)?;
     see_cuts(alloc, tally)?;
     see_random(alloc, tally)?;

@@ -1,6 +1,6 @@
 //! The lines, objects, decisions and exit statuses of `save`.
 use crate::fakes::Pipe;
-use crate::tally::Tally;
+use crate::tally::RowTally;
 use mx_run_io::Output;
 use mx_save_rules::{
     Decision, End, ExitStatus, FramingWord, JsonError, SaveCode, Transferred, print_json,
@@ -175,7 +175,7 @@ fn is_unwritten(alloc: Global, end: &End) -> bool {
     line.is_err() && matches!(object, Err(JsonError::Unwritten))
 }
 
-fn see_end(alloc: Global, tally: &mut Tally, row: Row) -> Result<(), AllocError> {
+fn see_end(alloc: Global, tally: &mut RowTally, row: Row) -> Result<(), AllocError> {
     let end = end_of(alloc, row)?;
     let is_printed = is_line(alloc, &end, row) && is_object(alloc, &end, row);
     let is_unwritten = is_unwritten(alloc, &end);
@@ -184,7 +184,7 @@ fn see_end(alloc: Global, tally: &mut Tally, row: Row) -> Result<(), AllocError>
     tally.see(is_unwritten, row.name, "a write that fails\n")
 }
 
-fn see_ends(alloc: Global, tally: &mut Tally) -> Result<(), AllocError> {
+fn see_ends(alloc: Global, tally: &mut RowTally) -> Result<(), AllocError> {
     for row in &ENDS {
         see_end(alloc, tally, *row)?;
     }
@@ -231,7 +231,7 @@ static CASES: [Case; 17] = [
 
 /// Counts a row of this name.
 fn hold(
-    tally: &mut Tally,
+    tally: &mut RowTally,
     name: Result<String, AllocError>,
     is_right: bool,
 ) -> Result<(), AllocError> {
@@ -241,7 +241,7 @@ fn hold(
     held
 }
 
-fn see_decisions(alloc: Global, tally: &mut Tally) -> Result<(), AllocError> {
+fn see_decisions(alloc: Global, tally: &mut RowTally) -> Result<(), AllocError> {
     for case in &CASES {
         let (code, method, status, content_on_error, decision) = *case;
         let is_right = verdict_of(code, method, status, content_on_error) == decision;
@@ -256,10 +256,10 @@ const FINE: SaveCode = SaveCode::Transfer(Code::Ok);
 const NO_HOST: SaveCode = SaveCode::Transfer(Code::CouldntResolveHost);
 
 /// How the URLs of a run end, in this order: the place and the code of each; and the status of the run.
-type Run = (&'static [(u64, SaveCode)], u8);
+type RunEnds = (&'static [(u64, SaveCode)], u8);
 
 // rule save-exit-status
-static RUNS: [Run; 6] = [
+static RUNS: [RunEnds; 6] = [
     (&[], 0),
     (&[(0, FINE), (1, FINE)], 0),
     (&[(2, SaveCode::WriteError), (0, FINE), (1, NO_HOST)], 6),
@@ -277,7 +277,7 @@ fn status_after(ends: &[(u64, SaveCode)]) -> u8 {
     status.status()
 }
 
-fn see_statuses(alloc: Global, tally: &mut Tally) -> Result<(), AllocError> {
+fn see_statuses(alloc: Global, tally: &mut RowTally) -> Result<(), AllocError> {
     for (at, row) in RUNS.iter().enumerate() {
         let name = format!(in alloc; "exit status {at}");
         hold(tally, name, status_after(row.0) == row.1)?;
@@ -286,7 +286,7 @@ fn see_statuses(alloc: Global, tally: &mut Tally) -> Result<(), AllocError> {
 }
 
 /// Goes through all of them.
-pub(crate) fn see_all(alloc: Global, tally: &mut Tally) -> Result<(), AllocError> {
+pub(crate) fn see_all(alloc: Global, tally: &mut RowTally) -> Result<(), AllocError> {
     see_ends(alloc, tally)?;
     see_decisions(alloc, tally)?;
     see_statuses(alloc, tally)

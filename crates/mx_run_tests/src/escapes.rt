@@ -99,7 +99,7 @@ fn add_number(alloc: Global, text: &mut String, byte: u8) -> Result<(), AllocErr
 
 /// What is seen, in lines as rows have them.
 #[derive(Drop)]
-pub(crate) struct Seen {
+pub(crate) struct SeenText {
     alloc: Global,
     pub(crate) text: String,
     /// The last byte, and how often it came, which isn't in the text yet.
@@ -112,9 +112,9 @@ pub(crate) struct Seen {
 /// A byte that comes more often is written once, with its count.
 const MOST_WRITTEN: usize = 16;
 
-impl Seen {
-    pub(crate) fn new(alloc: Global) -> Seen {
-        Seen {
+impl SeenText {
+    pub(crate) fn new(alloc: Global) -> SeenText {
+        SeenText {
             alloc,
             text: String::new(alloc),
             last: None,

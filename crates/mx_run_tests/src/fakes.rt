@@ -4,13 +4,13 @@ use std::io::{Error, ErrorKind, Read, Write};
 
 /// Gives at most so many of its bytes a read, and then ends; but after so many reads it fails.
 #[derive(Drop)]
-pub(crate) struct Pieces<'a> {
+pub(crate) struct PieceReader<'a> {
     pub(crate) bytes: &'a [u8],
     pub(crate) most: usize,
     pub(crate) reads: usize,
 }
 
-impl Read for Pieces<'_> {
+impl Read for PieceReader<'_> {
     fn read(&mut self, buffer: &mut [u8]) -> io::Result<usize> {
         if self.reads == 0 {
             return Err(Error::from(ErrorKind::ConnectionReset));
@@ -26,7 +26,7 @@ impl Read for Pieces<'_> {
 /// Gives what pieces give, but has nothing now every other time if it is late.
 #[derive(Drop)]
 pub(crate) struct Stalling<'a> {
-    pub(crate) pieces: Pieces<'a>,
+    pub(crate) pieces: PieceReader<'a>,
     pub(crate) is_late: bool,
     pub(crate) stalls: bool,
 }

@@ -1,10 +1,10 @@
 //! What `get` prints.
 use crate::fakes::Pipe;
-use crate::tally::Tally;
+use crate::tally::RowTally;
 use crate::transfers::{Planned, fetch_all};
 use futures::test::MockTask;
 use mx_get_text::{Fetched, print_get};
-use mx_reason::{Cut, Fault, Reason, What};
+use mx_reason::{Cut, Defect, Fault, Reason};
 use mx_run_io::Output;
 use mx_types::Code;
 use std::alloc::{AllocError, Global};
@@ -76,10 +76,10 @@ fn is_printed(alloc: Global, fetched: &[Fetched], row: Row) -> bool {
 }
 
 /// Of a failure the code, the status, how many bytes came, and the reason.
-type Told = (Code, u16, usize, Option<Reason>);
+type ReportedFailure = (Code, u16, usize, Option<Reason>);
 
 /// A GET with its end, and what is reported of it, if it is a failure.
-type Failing = (&'static str, Planned, Option<Told>);
+type Failing = (&'static str, Planned, Option<ReportedFailure>);
 
 // rule get-failures
 static FAILING: [Failing; 6] = [
@@ -97,7 +97,7 @@ static FAILING: [Failing; 6] = [
             42,
             Some(Reason {
                 at: 42,
-                what: What::Cut(Cut::Counted { came: 4, of: 5 }),
+                what: Defect::Cut(Cut::Counted { came: 4, of: 5 }),
             }),
         )),
     ),
@@ -110,7 +110,7 @@ static FAILING: [Failing; 6] = [
             11,
             Some(Reason {
                 at: 11,
-                what: What::Cut(Cut::Head),
+                what: Defect::Cut(Cut::Head),
             }),
         )),
     ),
@@ -123,7 +123,7 @@ static FAILING: [Failing; 6] = [
             0,
             Some(Reason {
                 at: 0,
-                what: What::Cut(Cut::Head),
+                what: Defect::Cut(Cut::Head),
             }),
         )),
     ),
@@ -136,7 +136,7 @@ static FAILING: [Failing; 6] = [
             29,
             Some(Reason {
                 at: 20,
-                what: What::Fault(Fault::FieldLine),
+                what: Defect::Fault(Fault::FieldLine),
             }),
         )),
     ),
@@ -147,7 +147,7 @@ static FAILING: [Failing; 6] = [
     ),
 ];
 
-fn told_of(end: &Fetched) -> Option<Told> {
+fn told_of(end: &Fetched) -> Option<ReportedFailure> {
     match end {
         Fetched::Failed(failure) => Some((
             failure.code(),
@@ -181,7 +181,7 @@ static PIPED: [Planned; 2] = [
     Planned::Refused(Code::UrlMalformat),
 ];
 
-fn see_pipes(tally: &mut Tally, fetched: &[Fetched]) -> Result<(), AllocError> {
+fn see_pipes(tally: &mut RowTally, fetched: &[Fetched]) -> Result<(), AllocError> {
     for row in &PIPES {
         let (writes, is_flushed, status) = *row;
         let is_right = status_of(fetched, writes, is_flushed) == status;
@@ -192,28 +192,28 @@ fn see_pipes(tally: &mut Tally, fetched: &[Fetched]) -> Result<(), AllocError> {
 
 /// What is to be seen of some GETs.
 #[derive(Clone, Copy)]
-enum Seen {
+enum ExpectedGet {
     /// What is printed.
     Printed(Row),
     /// What is reported of the only one.
-    Failing(&'static str, Option<Told>),
+    Failing(&'static str, Option<ReportedFailure>),
     /// The exit status for each of the pipes.
     Pipes,
 }
 
 fn see_ends(
     alloc: Global,
-    tally: &mut Tally,
+    tally: &mut RowTally,
     fetched: &[Fetched],
-    seen: Seen,
+    seen: ExpectedGet,
 ) -> Result<(), AllocError> {
     match seen {
-        Seen::Printed(row) => tally.hold(row.name, is_printed(alloc, fetched, row)),
-        Seen::Failing(name, told) => {
+        ExpectedGet::Printed(row) => tally.hold(row.name, is_printed(alloc, fetched, row)),
+        ExpectedGet::Failing(name, told) => {
             let is_told = fetched.len() == 1 && told_of(&fetched[0]) == told;
             tally.hold(name, is_told)
         }
-        Seen::Pipes => see_pipes(tally, fetched),
+        ExpectedGet::Pipes => see_pipes(tally, fetched),
     }
 }
 
@@ -221,9 +221,9 @@ fn see_ends(
 fn see_into(
     alloc: Global,
     task: &MockTask,
-    tally: &mut Tally,
+    tally: &mut RowTally,
     planned: &[Planned],
-    seen: Seen,
+    seen: ExpectedGet,
     fetched: &mut Vec<Fetched>,
 ) -> io::Result<()> {
     fetch_all(alloc, task, planned, fetched)?;
@@ -235,9 +235,9 @@ fn see_into(
 fn see(
     alloc: Global,
     task: &MockTask,
-    tally: &mut Tally,
+    tally: &mut RowTally,
     planned: &[Planned],
-    seen: Seen,
+    seen: ExpectedGet,
 ) -> io::Result<()> {
     let mut fetched = Vec::new(alloc);
     let ended = see_into(alloc, task, tally, planned, seen, &mut fetched);
@@ -245,20 +245,26 @@ fn see(
     ended
 }
 
-fn see_by(alloc: Global, task: &MockTask, tally: &mut Tally) -> io::Result<()> {
+fn see_by(alloc: Global, task: &MockTask, tally: &mut RowTally) -> io::Result<()> {
     for row in &PRINTED {
-        see(alloc, task, tally, row.planned, Seen::Printed(*row))?;
+        see(alloc, task, tally, row.planned, ExpectedGet::Printed(*row))?;
     }
     for row in &FAILING {
         let (name, planned, told) = *row;
-        see(alloc, task, tally, &[planned], Seen::Failing(name, told))?;
+        see(
+            alloc,
+            task,
+            tally,
+            &[planned],
+            ExpectedGet::Failing(name, told),
+        )?;
     }
     tally.hold("nothing to write", status_of(&[], 0, true) == 0)?;
-    see(alloc, task, tally, &PIPED, Seen::Pipes)
+    see(alloc, task, tally, &PIPED, ExpectedGet::Pipes)
 }
 
 /// Goes through all of them.
-pub(crate) fn see_all(rt: &HostRuntime, tally: &mut Tally) -> io::Result<()> {
+pub(crate) fn see_all(rt: &HostRuntime, tally: &mut RowTally) -> io::Result<()> {
     let task = MockTask::new(rt)?;
     let seen = see_by(rt.alloc(), &task, tally);
     drop(task);

@@ -1,6 +1,6 @@
 //! Lists of URLs.
-use crate::escapes::Seen;
-use crate::fakes::{Pieces, Stalling};
+use crate::escapes::SeenText;
+use crate::fakes::{PieceReader, Stalling};
 use crate::tally::add_all;
 use mx_url_list::{Entry, ListError, MOST_LINE, UrlList};
 use std::alloc::{AllocError, Global};
@@ -51,7 +51,7 @@ type Way = (usize, usize, bool);
 fn tell_list(alloc: Global, text: &mut String, bytes: &[u8], way: Way) -> Result<(), AllocError> {
     let (most, reads, is_late) = way;
     let reader = Stalling {
-        pieces: Pieces { bytes, most, reads },
+        pieces: PieceReader { bytes, most, reads },
         is_late,
         stalls: false,
     };
@@ -69,7 +69,7 @@ fn told(alloc: Global, bytes: &[u8], way: Way) -> Result<String, AllocError> {
 }
 
 fn seen(alloc: Global, told: &str) -> Result<String, AllocError> {
-    let mut seen = Seen::new(alloc);
+    let mut seen = SeenText::new(alloc);
     seen.see('>', told.as_bytes())?;
     Ok(seen.text)
 }

@@ -21,7 +21,7 @@ mod texts;
 mod transfers;
 mod words;
 
-use crate::tally::Tally;
+use crate::tally::RowTally;
 use std::alloc::{AllocError, Global};
 use std::{fs, io};
 
@@ -55,7 +55,7 @@ static TABLES: [(&str, Table); 11] = [
 ];
 
 /// Goes through the rows of a file.
-fn see_file(rt: &HostRuntime, name: &str, tally: &mut Tally) -> io::Result<()> {
+fn see_file(rt: &HostRuntime, name: &str, tally: &mut RowTally) -> io::Result<()> {
     let text = fs::read_to_string(rt, name)?;
     let seen = texts::see_all(rt.alloc(), text.as_str(), tally);
     drop(text);
@@ -64,7 +64,7 @@ fn see_file(rt: &HostRuntime, name: &str, tally: &mut Tally) -> io::Result<()> {
 }
 
 /// Goes through the rows of a table of values.
-fn see_values(alloc: Global, table: Table, tally: &mut Tally) -> Result<(), AllocError> {
+fn see_values(alloc: Global, table: Table, tally: &mut RowTally) -> Result<(), AllocError> {
     match table {
         Table::Responses => responses::see_all(alloc, tally),
         Table::Body => body::see_all(alloc, tally),
@@ -76,7 +76,7 @@ fn see_values(alloc: Global, table: Table, tally: &mut Tally) -> Result<(), Allo
 }
 
 /// Goes through the rows of a table.
-fn see(rt: &HostRuntime, name: &str, table: Table, tally: &mut Tally) -> io::Result<()> {
+fn see(rt: &HostRuntime, name: &str, table: Table, tally: &mut RowTally) -> io::Result<()> {
     match table {
         Table::File => see_file(rt, name, tally),
         Table::Get => gets::see_all(rt, tally),
@@ -88,8 +88,13 @@ fn see(rt: &HostRuntime, name: &str, table: Table, tally: &mut Tally) -> io::Res
 }
 
 /// The result of a table. Of one of another crate it isn't said how many rows it has.
-fn result_of(alloc: Global, name: &str, table: Table, tally: &Tally) -> Result<String, AllocError> {
-    let Tally { rows, wrong, text } = tally;
+fn result_of(
+    alloc: Global,
+    name: &str,
+    table: Table,
+    tally: &RowTally,
+) -> Result<String, AllocError> {
+    let RowTally { rows, wrong, text } = tally;
     match table {
         Table::Responses => format!(in alloc; "{name}: {wrong} wrong\n{text}"),
         _ => format!(in alloc; "{name}: {rows} rows, {wrong} wrong\n{text}"),
@@ -103,7 +108,7 @@ fn print(rt: &HostRuntime, text: &str) -> io::Result<()> {
 
 /// Goes through the rows of a table, and prints its result.
 fn try_table(rt: &HostRuntime, name: &str, table: Table) -> io::Result<()> {
-    let mut tally = Tally::new(rt.alloc());
+    let mut tally = RowTally::new(rt.alloc());
     let seen = see(rt, name, table, &mut tally);
     let result = result_of(rt.alloc(), name, table, &tally);
     drop(tally);

@@ -2,8 +2,8 @@
 //!
 //! `run_play` is called in one function, which has no contract, and what a row owns is owned by functions that end in one place: so the
 //! proof is short.
-use crate::fakes::{Full, Pieces, Pipe};
-use crate::tally::Tally;
+use crate::fakes::{Full, PieceReader, Pipe};
+use crate::tally::RowTally;
 use mx_run_io::{Input, Output};
 use mx_run_play::{MOST_READS, run_play};
 use std::alloc::{AllocError, Global};
@@ -29,8 +29,8 @@ fn run<R: Read + Drop, W: Write + Drop>(
 }
 
 /// A reader that gives a byte a read, and fails after so many reads.
-fn trickle(script: &str, reads: usize) -> Pieces<'_> {
-    Pieces {
+fn trickle(script: &str, reads: usize) -> PieceReader<'_> {
+    PieceReader {
         bytes: script.as_bytes(),
         most: 1,
         reads,
@@ -63,7 +63,7 @@ static FAULTS: [(usize, usize, &str); 4] = [
 ];
 
 // rule program-failed-read
-fn see_failing_reads(alloc: Global, tally: &mut Tally) -> Result<(), AllocError> {
+fn see_failing_reads(alloc: Global, tally: &mut RowTally) -> Result<(), AllocError> {
     for fault in &FAULTS {
         let (first, last, printed) = *fault;
         for reads in first..=last {
@@ -87,7 +87,7 @@ fn printed_by(most: u64) -> (&'static str, u8) {
 }
 
 // rule program-reads
-fn see_most_reads(alloc: Global, tally: &mut Tally) -> Result<(), AllocError> {
+fn see_most_reads(alloc: Global, tally: &mut RowTally) -> Result<(), AllocError> {
     for most in 0..=8 {
         let (printed, status) = printed_by(most);
         let is_right = plays(alloc, ("add 1\nx", 8, most, printed, status));
@@ -133,7 +133,7 @@ fn is_answered(answer: Option<u8>, writes: u8, status: u8) -> bool {
 }
 
 // rule program-unwritten
-fn see_failing_writes(alloc: Global, tally: &mut Tally) -> Result<(), AllocError> {
+fn see_failing_writes(alloc: Global, tally: &mut RowTally) -> Result<(), AllocError> {
     for row in &WRITTEN {
         for writes in 0..40 {
             let answer = answers_full(alloc, *row, writes);
@@ -170,7 +170,7 @@ const UNFLUSHED: Pipe = Pipe {
 };
 
 // rule program-unwritten
-fn see_buffers(alloc: Global, tally: &mut Tally) -> Result<(), AllocError> {
+fn see_buffers(alloc: Global, tally: &mut RowTally) -> Result<(), AllocError> {
     tally.hold("a buffer before a full disk", is_full_behind(alloc, 0))?;
     tally.hold(
         "a buffer before a disk that is full after a write",
@@ -230,7 +230,7 @@ fn plays_full(alloc: Global, script: &str) -> Result<bool, AllocError> {
 
 // rule core-add-refusals
 // rule core-room
-fn see_full(alloc: Global, tally: &mut Tally) -> Result<(), AllocError> {
+fn see_full(alloc: Global, tally: &mut RowTally) -> Result<(), AllocError> {
     let script = numbered(alloc, "add", BEHIND)?;
     let is_right = plays_full(alloc, script.as_str());
     drop(script);
@@ -238,7 +238,7 @@ fn see_full(alloc: Global, tally: &mut Tally) -> Result<(), AllocError> {
 }
 
 /// Goes through all of them.
-pub(crate) fn see_all(alloc: Global, tally: &mut Tally) -> Result<(), AllocError> {
+pub(crate) fn see_all(alloc: Global, tally: &mut RowTally) -> Result<(), AllocError> {
     see_failing_reads(alloc, tally)?;
     see_most_reads(alloc, tally)?;
     see_failing_writes(alloc, tally)?;

@@ -1,7 +1,7 @@
 //! `run_body` over the responses of `mx_responses_tests_base`, whole, and with reads and writes that fail.
 use crate::body::{prints, prints_of, run};
-use crate::fakes::{Full, Pieces};
-use crate::tally::Tally;
+use crate::fakes::{Full, PieceReader};
+use crate::tally::RowTally;
 use mx_responses_tests_base::response::Response;
 use mx_responses_tests_base::table::responses;
 use mx_types::Method;
@@ -62,7 +62,7 @@ fn row_of<'a>(response: &Response, bytes: &'a [u8], output: &'a [u8]) -> Row<'a>
 
 /// Whether `body` ends so, and writes that output, where a reader gives a byte a read, and fails after so many reads.
 fn prints_by(alloc: Global, row: Row<'_>, reads: usize, status: u32, output: &[u8]) -> bool {
-    let reader = Pieces {
+    let reader = PieceReader {
         bytes: row.bytes,
         most: 1,
         reads,
@@ -112,7 +112,7 @@ fn tells_failing_writes(alloc: Global, row: Row<'_>) -> bool {
 }
 
 /// Tries it whole, with each read failing where it has at most 200 bytes, and with each write failing.
-fn see_row(alloc: Global, tally: &mut Tally, row: Row<'_>) -> Result<(), AllocError> {
+fn see_row(alloc: Global, tally: &mut RowTally, row: Row<'_>) -> Result<(), AllocError> {
     let is_printed = prints_of(alloc, row.method, row.bytes, row.status, row.output);
     tally.see(is_printed, row.name, "printed otherwise\n")?;
     if row.bytes.len() <= 200 {
@@ -131,7 +131,7 @@ fn see_row(alloc: Global, tally: &mut Tally, row: Row<'_>) -> Result<(), AllocEr
 
 fn see_bytes(
     alloc: Global,
-    tally: &mut Tally,
+    tally: &mut RowTally,
     response: &Response,
     bytes: &[u8],
 ) -> Result<(), AllocError> {
@@ -144,14 +144,18 @@ fn see_bytes(
     seen
 }
 
-fn see_response(alloc: Global, tally: &mut Tally, response: &Response) -> Result<(), AllocError> {
+fn see_response(
+    alloc: Global,
+    tally: &mut RowTally,
+    response: &Response,
+) -> Result<(), AllocError> {
     let bytes = response.bytes(alloc)?;
     let seen = see_bytes(alloc, tally, response, bytes.as_slice());
     drop(bytes);
     seen
 }
 
-fn see_part(alloc: Global, tally: &mut Tally, rows: &[Response]) -> Result<(), AllocError> {
+fn see_part(alloc: Global, tally: &mut RowTally, rows: &[Response]) -> Result<(), AllocError> {
     for response in rows {
         see_response(alloc, tally, response)?;
     }
@@ -159,7 +163,7 @@ fn see_part(alloc: Global, tally: &mut Tally, rows: &[Response]) -> Result<(), A
 }
 
 /// Goes through all of them.
-pub(crate) fn see_all(alloc: Global, tally: &mut Tally) -> Result<(), AllocError> {
+pub(crate) fn see_all(alloc: Global, tally: &mut RowTally) -> Result<(), AllocError> {
     for rows in responses() {
         see_part(alloc, tally, rows)?;
     }

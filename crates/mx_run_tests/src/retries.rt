@@ -1,5 +1,5 @@
 //! What `save` tries again, and when.
-use crate::tally::Tally;
+use crate::tally::RowTally;
 use mx_save_rules::{Wait, Waiting, delay_ms, is_retried};
 use mx_types::{Code, Method};
 use std::alloc::{AllocError, Global};
@@ -52,7 +52,7 @@ fn all_are(codes: &[Code], method: Method, are: bool) -> bool {
     true
 }
 
-fn see_codes(tally: &mut Tally) -> Result<(), AllocError> {
+fn see_codes(tally: &mut RowTally) -> Result<(), AllocError> {
     for row in &METHODS {
         let (method, is_repeated) = *row;
         let are_right = all_are(&TRANSIENT, method, is_repeated);
@@ -68,7 +68,7 @@ fn see_codes(tally: &mut Tally) -> Result<(), AllocError> {
 /// Counts a row whose name has a number.
 fn hold_number(
     alloc: Global,
-    tally: &mut Tally,
+    tally: &mut RowTally,
     name: &str,
     number: u64,
     is_right: bool,
@@ -79,7 +79,7 @@ fn hold_number(
     held
 }
 
-fn see_statuses(alloc: Global, tally: &mut Tally) -> Result<(), AllocError> {
+fn see_statuses(alloc: Global, tally: &mut RowTally) -> Result<(), AllocError> {
     for status in 0..1_000u16 {
         let is_right = is_retried(Method::Get, Code::Ok, status) == STATUSES.contains(&status);
         hold_number(alloc, tally, "status", u64::from(status), is_right)?;
@@ -100,7 +100,7 @@ static DELAYS: [(u32, u64); 8] = [
     (256, 60_000),
 ];
 
-fn see_delays(alloc: Global, tally: &mut Tally) -> Result<(), AllocError> {
+fn see_delays(alloc: Global, tally: &mut RowTally) -> Result<(), AllocError> {
     for row in &DELAYS {
         let (tries, delay) = *row;
         let is_right = tries >= 1 && delay_ms(tries) == delay;
@@ -130,7 +130,11 @@ fn add_jobs(waiting: &mut Waiting) -> Result<(), AllocError> {
     Ok(())
 }
 
-fn see_waiting(alloc: Global, tally: &mut Tally, waiting: &mut Waiting) -> Result<(), AllocError> {
+fn see_waiting(
+    alloc: Global,
+    tally: &mut RowTally,
+    waiting: &mut Waiting,
+) -> Result<(), AllocError> {
     add_jobs(waiting)?;
     tally.hold("the next moment", waiting.next() == Some(10))?;
     for row in &DUE {
@@ -142,7 +146,7 @@ fn see_waiting(alloc: Global, tally: &mut Tally, waiting: &mut Waiting) -> Resul
 }
 
 // rule save-waiting
-fn see_due(alloc: Global, tally: &mut Tally) -> Result<(), AllocError> {
+fn see_due(alloc: Global, tally: &mut RowTally) -> Result<(), AllocError> {
     let mut waiting = Waiting::new(alloc);
     let seen = see_waiting(alloc, tally, &mut waiting);
     drop(waiting);
@@ -150,7 +154,7 @@ fn see_due(alloc: Global, tally: &mut Tally) -> Result<(), AllocError> {
 }
 
 /// Goes through all of them.
-pub(crate) fn see_all(alloc: Global, tally: &mut Tally) -> Result<(), AllocError> {
+pub(crate) fn see_all(alloc: Global, tally: &mut RowTally) -> Result<(), AllocError> {
     see_codes(tally)?;
     see_statuses(alloc, tally)?;
     see_delays(alloc, tally)?;

@@ -2,7 +2,7 @@
 ghost use Rattle.mx_types.specs.Limits.{IsHistory};
 ghost use Rattle.mx_command.specs.Asked.{IsTask};
 
-use crate::escapes::Seen;
+use crate::escapes::SeenText;
 use crate::words::words_of;
 use mx_command::{Asked, Task, read_command};
 use mx_run_body::{MOST_READS, run_body, run_body_explained};
@@ -69,14 +69,14 @@ fn explain(alloc: Global, method: Method, input: &[u8]) -> Written {
     }
 }
 
-fn add_run(seen: &mut Seen, run: &Written) -> Result<(), AllocError> {
+fn add_run(seen: &mut SeenText, run: &Written) -> Result<(), AllocError> {
     seen.see('>', run.written.as_slice())?;
     seen.see('!', run.told.as_slice())?;
     seen.end(run.status)
 }
 
 fn tell_run(alloc: Global, run: &Written) -> Result<String, AllocError> {
-    let mut seen = Seen::new(alloc);
+    let mut seen = SeenText::new(alloc);
     add_run(&mut seen, run)?;
     Ok(seen.text)
 }

@@ -11,16 +11,16 @@ pub(crate) fn add_all(text: &mut String, parts: &[&str]) -> Result<(), AllocErro
 
 /// How many rows were tried, how many of them are wrong, and what is said of these.
 #[derive(Drop)]
-pub(crate) struct Tally {
+pub(crate) struct RowTally {
     pub(crate) rows: u64,
     pub(crate) wrong: u64,
     pub(crate) text: String,
 }
 
-impl Tally {
+impl RowTally {
     /// The tally of no rows.
-    pub(crate) fn new(alloc: Global) -> Tally {
-        Tally {
+    pub(crate) fn new(alloc: Global) -> RowTally {
+        RowTally {
             rows: 0,
             wrong: 0,
             text: String::new(alloc),

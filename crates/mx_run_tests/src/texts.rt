@@ -3,7 +3,7 @@ use crate::lists::{see_failing_list, see_list};
 use crate::rows::{Row, rows_of};
 use crate::runs::see_run;
 use crate::saves::see_save;
-use crate::tally::Tally;
+use crate::tally::RowTally;
 use crate::words::{see_command, see_hint};
 use std::alloc::{AllocError, Global};
 
@@ -19,7 +19,7 @@ fn see(alloc: Global, row: &Row<'_>) -> Result<String, AllocError> {
     }
 }
 
-fn see_row(alloc: Global, row: &Row<'_>, tally: &mut Tally) -> Result<(), AllocError> {
+fn see_row(alloc: Global, row: &Row<'_>, tally: &mut RowTally) -> Result<(), AllocError> {
     let seen = see(alloc, row)?;
     let is_right = seen.as_str() == row.wanted.as_str();
     let noted = tally.see(is_right, row.title, seen.as_str());
@@ -27,7 +27,7 @@ fn see_row(alloc: Global, row: &Row<'_>, tally: &mut Tally) -> Result<(), AllocE
     noted
 }
 
-fn see_rows(alloc: Global, rows: &[Row<'_>], tally: &mut Tally) -> Result<(), AllocError> {
+fn see_rows(alloc: Global, rows: &[Row<'_>], tally: &mut RowTally) -> Result<(), AllocError> {
     for row in rows {
         see_row(alloc, row, tally)?;
     }
@@ -35,7 +35,7 @@ fn see_rows(alloc: Global, rows: &[Row<'_>], tally: &mut Tally) -> Result<(), Al
 }
 
 /// Goes through the rows of a text.
-pub(crate) fn see_all(alloc: Global, text: &str, tally: &mut Tally) -> Result<(), AllocError> {
+pub(crate) fn see_all(alloc: Global, text: &str, tally: &mut RowTally) -> Result<(), AllocError> {
     let rows = rows_of(alloc, text)?;
     let seen = see_rows(alloc, rows.as_slice(), tally);
     drop(rows);

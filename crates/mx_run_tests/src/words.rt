@@ -4,7 +4,7 @@ use crate::saves::tell_save;
 use crate::tally::add_all;
 use clap::Error;
 use clap::error::ErrorKind;
-use mx_command::{Asked, Get, Hint, Task, hint_of, read_command};
+use mx_command::{Asked, Get, Task, UsageHint, hint_of, read_command};
 use std::alloc::{AllocError, Global};
 
 /// The text of these bytes, or none where they aren't UTF-8.
@@ -166,7 +166,7 @@ fn hint_for(
     alloc: Global,
     words: &[String],
     kind: Option<ErrorKind>,
-) -> Result<Option<Hint>, AllocError> {
+) -> Result<Option<UsageHint>, AllocError> {
     match kind {
         Some(kind) => hint_of(alloc, words, kind),
         None => Ok(None),

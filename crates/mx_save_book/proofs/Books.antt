@@ -27,7 +27,7 @@ use Rattle.mx_save_book.specs.declared.job.Job.{Job}
 use Rattle.mx_save_book.specs.declared.job.Slot.{Slot}
 use Rattle.mx_save_book.specs.declared.job.Slot.TheVariants as slot
 use Rattle.mx_save_book.specs.Jobs.{Asks, BookValue, CanAsk, GrowsBy, GrowsFor, HandsBack, HasEnded, HoldsOf, IsBook, IsTold, Pends, Saves, State, is_saved, is_taken, is_told_saved, job_at, job_of, state_of}
-use Rattle.mx_save_book.specs.Lines.{ToldValue}
+use Rattle.mx_save_book.specs.Lines.{PrintedEndValue}
 use Rattle.mx_save_book.specs.Books.{HaveEnded}
 use Rattle.mx_save_book.proofs.Names.{all_given_more, fresh_on, given_more, given_new, given_on, is_fresh, is_new, saved_on}
 use Rattle.mx_save_book.proofs.Slots.{as_many, cases, fresh_count, fresh_none, inside, none, one_less, one_more, stays, there}
@@ -86,38 +86,38 @@ holds_on asking name old new e verdict.Done grows h = h
 holds_on asking name old new e verdict.Skipped grows h = h
 holds_on asking name old new e verdict.Failed grows h = h
 
-told_on : (asking : Asking) (urls : List (List ℕ)) (name : List ℕ) (old new : Saves) (ts : List ToldValue) → GrowsBy name old new
+told_on : (asking : Asking) (urls : List (List ℕ)) (name : List ℕ) (old new : Saves) (ts : List PrintedEndValue) → GrowsBy name old new
     → AllByRecursion (IsTold asking urls old) ts → AllByRecursion (IsTold asking urls new) ts
 told_on asking urls name old new ts grows all =
     all_weaker (IsTold asking urls old) (IsTold asking urls new) ts
     (λ t h. record { url = h.url; end = h.end; holds = holds_on asking name old new t.end t.end.verdict grows h.holds }) all
 
-told_more : (asking : Asking) (urls more : List (List ℕ)) (saves : Saves) (ts : List ToldValue)
+told_more : (asking : Asking) (urls more : List (List ℕ)) (saves : Saves) (ts : List PrintedEndValue)
     → AllByRecursion (IsTold asking urls saves) ts → AllByRecursion (IsTold asking (urls ++ more) saves) ts
 told_more asking urls more saves ts all =
     all_weaker (IsTold asking urls saves) (IsTold asking (urls ++ more) saves) ts
     (λ t h. record { url = get_more urls more t.place t.end.url h.url; end = h.end; holds = h.holds }) all
 
-ended_more : (ts : List ToldValue) (t : ToldValue) (place : ℕ) → HasEnded ts place → HasEnded (ts ++ t ∷ []) place
+ended_more : (ts : List PrintedEndValue) (t : PrintedEndValue) (place : ℕ) → HasEnded ts place → HasEnded (ts ++ t ∷ []) place
 ended_more ts t place h = (h.0, Contains-append_left ts (t ∷ []) h.0 h.1, h.2)
 
-ended_now : (ts : List ToldValue) (t : ToldValue) (place : ℕ) → t.place ≡ place → HasEnded (ts ++ t ∷ []) place
+ended_now : (ts : List PrintedEndValue) (t : PrintedEndValue) (place : ℕ) → t.place ≡ place → HasEnded (ts ++ t ∷ []) place
 ended_now ts t place is = (t, Contains-push ts t, is)
 
 -- how many were reported as saved, one end further
 abbrev weigh : Bool → ℕ
 weigh b = cond b 1 0
 
-count_push : (ts : List ToldValue) (t : ToldValue) → count_by is_told_saved (ts ++ t ∷ []) ≡ count_by is_told_saved ts + weigh (is_told_saved t)
+count_push : (ts : List PrintedEndValue) (t : PrintedEndValue) → count_by is_told_saved (ts ++ t ∷ []) ≡ count_by is_told_saved ts + weigh (is_told_saved t)
 count_push ts t = sum_by_push (λ x. weigh (is_told_saved x)) ts t
 
-unsaved_more : (ts : List ToldValue) (t : ToldValue) → is_told_saved t ≡ false → count_by is_told_saved (ts ++ t ∷ []) ≡ count_by is_told_saved ts
+unsaved_more : (ts : List PrintedEndValue) (t : PrintedEndValue) → is_told_saved t ≡ false → count_by is_told_saved (ts ++ t ∷ []) ≡ count_by is_told_saved ts
 unsaved_more ts t is = omega (arith, count_push ts t, ap weigh is)
 
-saved_more : (ts : List ToldValue) (t : ToldValue) → is_told_saved t ≡ true → count_by is_told_saved (ts ++ t ∷ []) ≡ count_by is_told_saved ts + 1
+saved_more : (ts : List PrintedEndValue) (t : PrintedEndValue) → is_told_saved t ≡ true → count_by is_told_saved (ts ++ t ∷ []) ≡ count_by is_told_saved ts + 1
 saved_more ts t is = omega (arith, count_push ts t, ap weigh is)
 
-owed_on : (name : List ℕ) (old new : Saves) (ts : List ToldValue) (t : ToldValue) → GrowsFor name t.end.verdict old new → length old ≡ count_by is_told_saved ts
+owed_on : (name : List ℕ) (old new : Saves) (ts : List PrintedEndValue) (t : PrintedEndValue) → GrowsFor name t.end.verdict old new → length old ≡ count_by is_told_saved ts
     → length new ≡ count_by is_told_saved (ts ++ t ∷ [])
 owed_on name old new ts t grows owed =
     elim grows [
@@ -148,7 +148,7 @@ begun b names empty urls named slots told_none saves = record {
 }
 
 -- a URL was refused
-pub refused : (b : State) (read : ℕ) (bases : List (List ℕ)) (url : List ℕ) (e : EndValue) (ts : List ToldValue) → IsBook b read bases → ts ≡ b.told ++ record { place = read; end = e } ∷ [] → IsEnd e → e.url ≡ url → e.verdict ≡ verdict.Failed → IsSome e.error
+pub refused : (b : State) (read : ℕ) (bases : List (List ℕ)) (url : List ℕ) (e : EndValue) (ts : List PrintedEndValue) → IsBook b read bases → ts ≡ b.told ++ record { place = read; end = e } ∷ [] → IsEnd e → e.url ≡ url → e.verdict ≡ verdict.Failed → IsSome e.error
     → IsBook (record b { urls = b.urls ++ url ∷ []; told = ts }) (read + 1) bases
 refused b read bases url e ts is more end same failed words = subst (λ l. IsBook (record b { urls = b.urls ++ url ∷ []; told = l }) (read + 1) bases) (sym more) (record {
   read = omega (arith, is.read, push_length b.urls url);
@@ -284,13 +284,13 @@ again b read bases at old new v is was now place url name =
     }
 
 -- a URL has ended
-pub closed : (b : State) (read : ℕ) (bases : List (List ℕ)) (at : ℕ) (job : Job) (e : EndValue) (ts : List ToldValue) (saves : Saves) → IsBook b read bases → ts ≡ b.told ++ record { place = job.place; end = e } ∷ [] → IsEnd e → job_at b.slots at ≡ Some job
+pub closed : (b : State) (read : ℕ) (bases : List (List ℕ)) (at : ℕ) (job : Job) (e : EndValue) (ts : List PrintedEndValue) (saves : Saves) → IsBook b read bases → ts ≡ b.told ++ record { place = job.place; end = e } ∷ [] → IsEnd e → job_at b.slots at ≡ Some job
     → e.url ≡ job.url.items → GrowsFor job.name e.verdict b.saves saves → HoldsOf b.asking saves e e.verdict
     → IsBook (record b { slots = slice_set b.slots at slot.Free; told = ts; saves = saves }) read bases
 closed b read bases at job e ts saves is more end was url grows_for holds =
     let grows = grows_by job.name e.verdict b.saves saves grows_for in
     let pends = is.pending at job was in
-    let t : ToldValue = record { place = job.place; end = e } in
+    let t : PrintedEndValue = record { place = job.place; end = e } in
     subst (λ l. IsBook (record b { slots = slice_set b.slots at slot.Free; told = l; saves = saves }) read bases) (sym more) (record {
       read = is.read;
       bases = is.bases;
@@ -351,7 +351,7 @@ stood_as b read n bases us ns bs at job is more few u m s asks free place name =
     (subst (λ l. IsBook (record b { urls = us; named = l; slots = ss }) (read + 1) (bases ++ base_name job.url.items ∷ [])) (sym m)
     (subst (λ l. IsBook (record b { urls = l; named = b.named ++ job.url.items ∷ []; slots = ss }) (read + 1) (bases ++ base_name job.url.items ∷ [])) (sym u) book)))
 
-pub refused_as : (b : State) (read n : ℕ) (bases us : List (List ℕ)) (url : List ℕ) (e : EndValue) (ts : List ToldValue) → IsBook b read bases → n ≡ read + 1
+pub refused_as : (b : State) (read n : ℕ) (bases us : List (List ℕ)) (url : List ℕ) (e : EndValue) (ts : List PrintedEndValue) → IsBook b read bases → n ≡ read + 1
     → us ≡ b.urls ++ url ∷ [] → ts ≡ b.told ++ record { place = read; end = e } ∷ [] → IsEnd e → e.url ≡ url → e.verdict ≡ verdict.Failed → IsSome e.error
     → IsBook (record b { urls = us; told = ts }) n bases
 refused_as b read n bases us url e ts is more u told_more_ end same failed words =

@@ -8,20 +8,20 @@ use Rattle.mx_run_io.specs.Ends.{Wrote, has_failed_write, is_pending, writer_of}
 use Rattle.mx_run_io.specs.declared.output.Output.{Output}
 use Rattle.mx_save_rules.specs.declared.status.ExitStatus.{ExitStatus}
 use Rattle.mx_save_rules.specs.declared.status.PlacedCode.{PlacedCode}
-use Rattle.mx_save_book.specs.Lines.{AreLines, LinesValue, ToldValue, line_of, note_of, text_of}
+use Rattle.mx_save_book.specs.Lines.{AreLines, LinesValue, PrintedEndValue, line_of, note_of, text_of}
 
-text_more : (json : Bool) (ts : List ToldValue) (t : ToldValue) → text_of json (ts ++ t ∷ []) ≡ text_of json ts ++ line_of json t.end
+text_more : (json : Bool) (ts : List PrintedEndValue) (t : PrintedEndValue) → text_of json (ts ++ t ∷ []) ≡ text_of json ts ++ line_of json t.end
 text_more json [] t = append-nil (line_of json t.end)
 text_more json (s ∷ ts) t =
     ap (λ l. line_of json s.end ++ l) (text_more json ts t)
     ∙ sym (append_assoc (line_of json s.end) (text_of json ts) (line_of json t.end))
 
-pub written_more : (old mid new : Option (List ℕ)) (json : Bool) (ts : List ToldValue) (t : ToldValue) → Appends old mid (text_of json ts) → Appends mid new (line_of json t.end)
+pub written_more : (old mid new : Option (List ℕ)) (json : Bool) (ts : List PrintedEndValue) (t : PrintedEndValue) → Appends old mid (text_of json ts) → Appends mid new (line_of json t.end)
     → Appends old new (text_of json (ts ++ t ∷ []))
 written_more old mid new json ts t first more =
     subst (Appends old new) (sym (text_more json ts t)) (Appends-trans old mid new (text_of json ts) (line_of json t.end) first more)
 
-pub noted_more : (first : Option PlacedCode) (ts : List ToldValue) (t : ToldValue) → after_notes first (map note_of (ts ++ t ∷ [])) ≡ after_note (after_notes first (map note_of ts)) (note_of t)
+pub noted_more : (first : Option PlacedCode) (ts : List PrintedEndValue) (t : PrintedEndValue) → after_notes first (map note_of (ts ++ t ∷ [])) ≡ after_note (after_notes first (map note_of ts)) (note_of t)
 noted_more first [] t = refl
 noted_more first (s ∷ ts) t = noted_more (after_note first (note_of s)) ts t
 
@@ -44,7 +44,7 @@ flushed_on contents l out are well keeps flushed = record {
 }
 
 -- one end more was reported, and flushed
-pub told_on : {W : Type 0} (contents : W → Option (List ℕ)) (l : LinesValue W) (out : Output W) (t : ToldValue) (status : ExitStatus) (ts : List ToldValue) → AreLines contents l
+pub told_on : {W : Type 0} (contents : W → Option (List ℕ)) (l : LinesValue W) (out : Output W) (t : PrintedEndValue) (status : ExitStatus) (ts : List PrintedEndValue) → AreLines contents l
     → has_failed_write l.output ≢ true → Wrote contents l.output out (line_of l.json t.end) → is_pending out ≡ false
     → first_of status ≡ after_note (first_of l.status) (note_of t) → ts ≡ l.told ++ t ∷ [] → AreLines contents (record l { status = status; output = out; told = ts })
 told_on contents l out t status ts are well wrote flushed noted more =

@@ -10,7 +10,7 @@ use Rattle.mx_save_book.specs.declared.asking.Asking.{Asking}
 use Rattle.mx_save_book.specs.declared.job.Job.{Job}
 use Rattle.mx_save_book.specs.declared.job.Slot.{Slot}
 use Rattle.mx_save_book.specs.declared.job.Slot.TheVariants as slot
-use Rattle.mx_save_book.specs.Lines.{LinesValue, ToldValue}
+use Rattle.mx_save_book.specs.Lines.{LinesValue, PrintedEndValue}
 use Rattle.mx_save_book.specs.Jobs.{Asks, BookValue, HasEnded, IsTold, Saves, is_told_saved, job_at}
 
 -- no URL was read yet
@@ -95,7 +95,7 @@ awaits_at slots i t = option_map_or (awaits t) (slice_get slots i) false
 --
 -- All URLs have ended: what was reported holds, each URL was reported, and as many ends were reported as there are URLs; and no more bodies
 -- were saved than URLs were reported as saved: of one that failed, or was skipped, nothing was.
-pub record HaveEnded (asking : Asking) (urls : List (List ℕ)) (saves : Saves) (told : List ToldValue) : Type 0 where
+pub record HaveEnded (asking : Asking) (urls : List (List ℕ)) (saves : Saves) (told : List PrintedEndValue) : Type 0 where
   pub holds : AllByRecursion (IsTold asking urls saves) told
   pub each : (place : ℕ) → place < length urls → HasEnded told place
   pub count : length told ≡ length urls

@@ -19,7 +19,7 @@ use Rattle.mx_save_book.specs.declared.finish.NotEnded.TheVariants as not_ended
 use Rattle.mx_save_book.specs.declared.job.Job.{Job}
 use Rattle.mx_save_book.specs.declared.job.Slot.{Slot}
 use Rattle.mx_save_book.specs.declared.job.Slot.TheVariants as slot
-use Rattle.mx_save_book.specs.Lines.{LinesValue, ToldValue}
+use Rattle.mx_save_book.specs.Lines.{LinesValue, PrintedEndValue}
 
 -- the request is that of the URL
 abbrev pub Asks : Asking → List ℕ → RequestValue → Type 0
@@ -85,7 +85,7 @@ HoldsOf asking saves e verdict.Skipped = ⊤
 HoldsOf asking saves e verdict.Failed = IsFailedEnd e
 
 -- of the URL at the place that was reported, and it is an end
-pub record IsTold (asking : Asking) (urls : List (List ℕ)) (saves : Saves) (t : ToldValue) : Type 0 where
+pub record IsTold (asking : Asking) (urls : List (List ℕ)) (saves : Saves) (t : PrintedEndValue) : Type 0 where
   pub url : slice_get urls t.place ≡ Some t.end.url
   pub end : IsEnd t.end
   pub holds : HoldsOf asking saves t.end t.end.verdict
@@ -97,7 +97,7 @@ pub record State : Type 0 where
   pub urls : List (List ℕ)
   pub named : List (List ℕ)
   pub slots : List Slot
-  pub told : List ToldValue
+  pub told : List PrintedEndValue
   pub saves : Saves
 
 -- the same, with the output and the folder, and whether the run has stopped
@@ -126,14 +126,14 @@ abbrev pub IsPending : List Slot → ℕ → Type 0
 IsPending slots place = (i : ℕ) × (job : Job) × (job_at slots i ≡ Some job) × (job.place ≡ place)
 
 -- it was reported
-abbrev pub HasEnded : List ToldValue → ℕ → Type 0
-HasEnded told place = (t : ToldValue) × Contains told t × (t.place ≡ place)
+abbrev pub HasEnded : List PrintedEndValue → ℕ → Type 0
+HasEnded told place = (t : PrintedEndValue) × Contains told t × (t.place ≡ place)
 
 abbrev pub is_saved : Verdict → Bool
 is_saved verdict.Saved = true
 is_saved _ = false
 
-abbrev pub is_told_saved : ToldValue → Bool
+abbrev pub is_told_saved : PrintedEndValue → Bool
 is_told_saved t = is_saved t.end.verdict
 
 -- Each URL is in a slot, or it has ended, and there are as many ends as URLs that aren't in one. What was reported holds. No two of the

@@ -10,11 +10,11 @@ use Rattle.mx_save_rules.specs.declared.status.ExitStatus.{ExitStatus}
 use Rattle.mx_save_rules.specs.declared.status.PlacedCode.{PlacedCode}
 
 -- an end that was printed, with the place of its URL
-pub record ToldValue : Type 0 where
+pub record PrintedEndValue : Type 0 where
   pub place : ℕ
   pub end : EndValue
 
-abbrev pub note_of : ToldValue → PlacedCode
+abbrev pub note_of : PrintedEndValue → PlacedCode
 note_of t = record { place = t.place; number = save_number t.end.code }
 
 -- what is printed of an end
@@ -22,7 +22,7 @@ abbrev pub line_of : Bool → EndValue → List ℕ
 line_of json end = if json then json_line end else end_line end
 
 -- and of all, in their order
-abbrev pub text_of : Bool → List ToldValue → List ℕ
+abbrev pub text_of : Bool → List PrintedEndValue → List ℕ
 text_of json [] = []
 text_of json (t ∷ ts) = line_of json t.end ++ text_of json ts
 
@@ -31,7 +31,7 @@ pub record LinesValue (W : Type 0) : Type 0 where
   pub status : ExitStatus
   pub output : Output W
   pub start : Output W
-  pub told : List ToldValue
+  pub told : List PrintedEndValue
 
 -- The output since is the text of these ends, and it is flushed; and the status is that of their codes.
 pub record AreLines {W : Type 0} (contents : W → Option (List ℕ)) (l : LinesValue W) : Type 0 where

@@ -15,5 +15,5 @@ pub use crate::asking::Asking;
 pub use crate::body::WholeBody;
 pub use crate::book::{Book, free_slots};
 pub use crate::job::{Job, Slot};
-pub use crate::lines::{Lines, Told};
+pub use crate::lines::{Lines, PrintedEnd};
 pub use crate::tally::Tally;

@@ -4,17 +4,17 @@ ghost use Rattle.mx_get_text.specs.Failures.{IsWhy};
 ghost use Rattle.mx_save_book.specs.Said.{IsSaid, IsToldOf};
 
 use mx_chain::Outcome;
-use mx_failure_text::Told;
+use mx_failure_text::FailureReport;
 use mx_get_text::why_of;
 use mx_types::Code;
 use std::alloc::{AllocError, Global};
 
 // What is reported of a transfer that failed: its code, and what its bytes show.
-fn told_of(alloc: Global, outcome: &Outcome) -> Told
+fn told_of(alloc: Global, outcome: &Outcome) -> FailureReport
     ensures code { result.code ≡ outcome.now.code }
     ensures reason { IsWhy outcome.now result.reason }
 {
-    Told {
+    FailureReport {
         code: outcome.code(),
         reason: why_of(alloc, outcome),
     }

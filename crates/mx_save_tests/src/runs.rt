@@ -29,7 +29,7 @@ pub(crate) struct Ran {
 }
 
 // A run of the URLs of the command line and those of a list, and what it leaves. An @ stands for the address of the server.
-struct Row {
+struct SaveRow {
     name: &'static str,
     urls: &'static [&'static str],
     list: &'static str,
@@ -50,7 +50,7 @@ struct Row {
 }
 
 // Two bodies are saved.
-const BOTH: Row = Row {
+const BOTH: SaveRow = SaveRow {
     name: "no call of the folder fails",
     urls: &[],
     list: "@a\n@b",
@@ -67,7 +67,7 @@ const BOTH: Row = Row {
 };
 
 // The first body can't be saved.
-const FIRST_FAILS: Row = Row {
+const FIRST_FAILS: SaveRow = SaveRow {
     held: b"|bbb|",
     printed: "failed 23 200 0 - @a\nsaved 0 200 3 b @b\n",
     status: 23,
@@ -75,7 +75,7 @@ const FIRST_FAILS: Row = Row {
 };
 
 // The second can't.
-const SECOND_FAILS: Row = Row {
+const SECOND_FAILS: SaveRow = SaveRow {
     held: b"aaa||",
     printed: "saved 0 200 3 a @a\nfailed 23 200 0 - @b\n",
     status: 23,
@@ -84,10 +84,10 @@ const SECOND_FAILS: Row = Row {
 
 // rule save-each-once
 // rule save-bodies
-static ROWS: [Row; 18] = [
+static ROWS: [SaveRow; 18] = [
     // rule save-each-once
     // rule save-requests
-    Row {
+    SaveRow {
         name: "two are saved, one is refused, one isn't there",
         urls: &["@one", "ftp://a/"],
         list: "@none\n@two/one\n",
@@ -100,7 +100,7 @@ static ROWS: [Row; 18] = [
     },
     // rule save-long-runs
     // A multi handle has room for one URL: five URLs take five, one after another, at the same gates.
-    Row {
+    SaveRow {
         name: "the least history",
         list: "@a\n@b\n@c\n@d\n@e",
         history: LEAST_HISTORY,
@@ -110,74 +110,74 @@ static ROWS: [Row; 18] = [
         served: 5,
         ..BOTH
     },
-    Row {
+    SaveRow {
         name: "the first part can't be made",
         fails_at: 0,
         ..FIRST_FAILS
     },
-    Row {
+    SaveRow {
         name: "the first write of the first body fails",
         fails_at: 1,
         ..FIRST_FAILS
     },
-    Row {
+    SaveRow {
         name: "the second write of the first body fails",
         fails_at: 2,
         ..FIRST_FAILS
     },
-    Row {
+    SaveRow {
         name: "the flush of the first body fails",
         fails_at: 3,
         ..FIRST_FAILS
     },
-    Row {
+    SaveRow {
         name: "the first part can't be renamed",
         fails_at: 4,
         ..FIRST_FAILS
     },
-    Row {
+    SaveRow {
         name: "the second part can't be made",
         fails_at: 5,
         ..SECOND_FAILS
     },
-    Row {
+    SaveRow {
         name: "the first write of the second body fails",
         fails_at: 6,
         ..SECOND_FAILS
     },
-    Row {
+    SaveRow {
         name: "the second write of the second body fails",
         fails_at: 7,
         ..SECOND_FAILS
     },
-    Row {
+    SaveRow {
         name: "the flush of the second body fails",
         fails_at: 8,
         ..SECOND_FAILS
     },
-    Row {
+    SaveRow {
         name: "the second part can't be renamed",
         fails_at: 9,
         ..SECOND_FAILS
     },
-    Row {
+    SaveRow {
         name: "the folder can't be flushed",
         fails_at: 10,
         is_whole: false,
         ..BOTH
     },
-    Row {
+    SaveRow {
         name: "the call behind the last fails",
         fails_at: 11,
         ..BOTH
     },
-    Row {
+    SaveRow {
         name: "the second call behind the last fails",
         fails_at: 12,
         ..BOTH
     },
     // rule file-descriptors
-    Row {
+    SaveRow {
         name: "no file can be opened for the first body, which has a further try",
         fails_at: 0,
         error: FolderError::TooManyOpen,
@@ -186,13 +186,13 @@ static ROWS: [Row; 18] = [
         served: 3,
         ..BOTH
     },
-    Row {
+    SaveRow {
         name: "no file can be opened for the first body, which has no further try",
         fails_at: 0,
         error: FolderError::TooManyOpen,
         ..FIRST_FAILS
     },
-    Row {
+    SaveRow {
         name: "the disk is full, and a further try isn't made",
         fails_at: 0,
         retries: 1,
@@ -267,12 +267,12 @@ fn held(alloc: Global, folder: &MemoryFolder, names: &[&str]) -> Result<Vec<u8>,
 
 // A list that is read by at most 32 bytes, and has nothing now every other time.
 #[derive(Drop)]
-struct Stalling<'a> {
+struct StallingList<'a> {
     bytes: &'a [u8],
     stalls: bool,
 }
 
-impl Read for Stalling<'_> {
+impl Read for StallingList<'_> {
     fn read(&mut self, buffer: &mut [u8]) -> io::Result<usize> {
         self.stalls = !self.stalls;
         if self.stalls {
@@ -313,7 +313,7 @@ pub(crate) fn save<R: Runtime + Net<Listener = TcpListener, Stream = TcpStream>>
     let lines = Lines::new(alloc, Output::new(&mut printed), false);
     let list = UrlList::new(
         alloc,
-        Stalling {
+        StallingList {
             bytes: list,
             stalls: false,
         },
@@ -354,7 +354,7 @@ struct Texts {
     printed: String,
 }
 
-fn texts_of(alloc: Global, row: &Row, port: u16) -> Result<Texts, AllocError> {
+fn texts_of(alloc: Global, row: &SaveRow, port: u16) -> Result<Texts, AllocError> {
     let address = format!(in alloc; "http://127.0.0.1:{port}/")?;
     let mut urls = Vec::new(alloc);
     for url in row.urls {
@@ -370,7 +370,7 @@ fn texts_of(alloc: Global, row: &Row, port: u16) -> Result<Texts, AllocError> {
 // Whether a run leaves what its row says.
 fn is_right<R: Runtime + Net<Listener = TcpListener, Stream = TcpStream>>(
     rt: &R,
-    row: &Row,
+    row: &SaveRow,
 ) -> Result<bool, Fail> {
     let alloc = rt.alloc();
     let server = Server::start(rt, row.served)?;

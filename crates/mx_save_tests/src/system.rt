@@ -26,7 +26,7 @@ enum OnFiles {
 }
 
 // A save by a run of its own, flushed or not, and what it answers.
-struct Save {
+struct SaveCall {
     folder: &'static str,
     url: &'static str,
     body: &'static [&'static [u8]],
@@ -54,7 +54,7 @@ enum OnOpen {
 
 enum Step {
     Files(OnFiles),
-    Save(Save),
+    Save(SaveCall),
     // Opens the folder of this path.
     Open(&'static str),
     Folder(OnOpen),
@@ -72,7 +72,7 @@ static SCENARIOS: [Scenario; 6] = [
         name: "a folder is made",
         root: "made-by-a-test",
         steps: &[
-            Step::Save(Save {
+            Step::Save(SaveCall {
                 folder: "made-by-a-test/a/b",
                 url: "http://h/x",
                 body: &[b"o", b"ne"],
@@ -80,7 +80,7 @@ static SCENARIOS: [Scenario; 6] = [
                 answer: Ok(()),
             }),
             Step::Files(OnFiles::Holds("made-by-a-test/a/b/x", "one")),
-            Step::Save(Save {
+            Step::Save(SaveCall {
                 folder: "made-by-a-test/a/b",
                 url: "http://h/x",
                 body: &[b"other"],
@@ -98,7 +98,7 @@ static SCENARIOS: [Scenario; 6] = [
         steps: &[
             Step::Files(OnFiles::MakeFolder("part-of-a-test")),
             Step::Files(OnFiles::MakeFile("part-of-a-test/.mxfetch-42-0.part", "mine")),
-            Step::Save(Save {
+            Step::Save(SaveCall {
                 folder: "part-of-a-test",
                 url: "http://h/x",
                 body: &[b"o", b"ne"],
@@ -120,7 +120,7 @@ static SCENARIOS: [Scenario; 6] = [
             Step::Files(OnFiles::MakeFolder("way-of-a-test/x")),
             Step::Files(OnFiles::MakeFile("way-of-a-test/far", "far")),
             Step::Files(OnFiles::MakeLink("far", "way-of-a-test/y")),
-            Step::Save(Save {
+            Step::Save(SaveCall {
                 folder: "way-of-a-test",
                 url: "http://h/x",
                 body: &[b"o", b"ne"],
@@ -128,7 +128,7 @@ static SCENARIOS: [Scenario; 6] = [
                 answer: Err(SaveError::Place(FolderError::AlreadyThere)),
             }),
             Step::Files(OnFiles::Lacks("way-of-a-test/.mxfetch-42-0.part")),
-            Step::Save(Save {
+            Step::Save(SaveCall {
                 folder: "way-of-a-test",
                 url: "http://h/y",
                 body: &[b"other"],
@@ -184,7 +184,7 @@ static SCENARIOS: [Scenario; 6] = [
                 Err(SaveError::Create(FolderError::NotThere)),
             )),
             Step::Files(OnFiles::MakeFile("gone-of-a-test", "")),
-            Step::Save(Save {
+            Step::Save(SaveCall {
                 folder: "gone-of-a-test",
                 url: "http://h/x",
                 body: &[b"o", b"ne"],
@@ -237,7 +237,7 @@ fn save_in<R: Files>(
 }
 
 // Whether a save by a run of its own answers what it has to.
-fn is_saved<R: Files + AllocGlobal>(rt: &R, save: &Save) -> Result<bool, OutOfMemory> {
+fn is_saved<R: Files + AllocGlobal>(rt: &R, save: &SaveCall) -> Result<bool, OutOfMemory> {
     let name = name_of(rt.alloc(), save.url)?;
     let body = Pieces { pieces: save.body };
     let saved = match SystemFolder::open(rt.alloc(), rt, save.folder) {

@@ -3,8 +3,8 @@ use Rattle.std.specs.Prelude.{◌≡◌, ℕ, List, [], ◌∷◌, ◌++◌, tak
 use Rattle.mx_url_list.specs.declared.entry.Entry.{Entry}
 use Rattle.mx_url_list.specs.declared.line.OpenLine.{OpenLine}
 use Rattle.mx_url_list.specs.declared.list.UrlList.{UrlList}
-use Rattle.mx_url_list.specs.declared.list.Turn.{Turn}
-use Rattle.mx_url_list.specs.declared.list.Turn.TheVariants as turn
+use Rattle.mx_url_list.specs.declared.list.AfterRead.{AfterRead}
+use Rattle.mx_url_list.specs.declared.list.AfterRead.TheVariants as after_read
 use Rattle.mx_url_list.specs.Entries.{Told, told, told_if, entries_from}
 
 -- the entries of the line that is open, and of the bytes after it
@@ -38,6 +38,6 @@ KeepsEntries (Some all) None = ⊥
 KeepsEntries (Some all) (Some rest) = rest ≡ all
 
 -- how a list goes on after a read: the same entries are left, or the next one is given
-abbrev pub GoesOn : Option (List Told) → Turn → Option (List Told) → Type 0
-GoesOn old turn.More new = KeepsEntries old new
-GoesOn old (turn.Next said) new = GivesNext old said new
+abbrev pub GoesOn : Option (List Told) → AfterRead → Option (List Told) → Type 0
+GoesOn old after_read.More new = KeepsEntries old new
+GoesOn old (after_read.Next said) new = GivesNext old said new

@@ -33,7 +33,7 @@ impl From<AllocError> for ListError {
 
 /// How a list goes on after a read.
 #[derive(Drop)]
-enum Turn {
+enum AfterRead {
     /// What was read has no entry yet.
     More,
     /// The next entry, if there is one.
@@ -130,19 +130,19 @@ impl<R: Read + Drop> UrlList<R> {
     }
 
     // Goes on by one read at most.
-    fn advance(&mut self) -> Result<Turn, ListError>
-        ensures next { IfOk result (λ turn. GoesOn (entries_left R.remaining self.old) turn (entries_left R.remaining self.new)) }
+    fn advance(&mut self) -> Result<AfterRead, ListError>
+        ensures next { IfOk result (λ after_read. GoesOn (entries_left R.remaining self.old) after_read (entries_left R.remaining self.new)) }
         ensures kept { OnErr result (KeepsEntries (entries_left R.remaining self.old) (entries_left R.remaining self.new)) }
     {
         match self.next_held()? {
-            Some(entry) => return Ok(Turn::Next(Some(entry))),
+            Some(entry) => return Ok(AfterRead::Next(Some(entry))),
             None => {}
         }
         let count = self.fill()?;
         if count == 0 {
-            return Ok(Turn::Next(self.line.end(self.alloc)?));
+            return Ok(AfterRead::Next(self.line.end(self.alloc)?));
         }
-        Ok(Turn::More)
+        Ok(AfterRead::More)
     }
 
     // rule list-entries
@@ -158,8 +158,8 @@ impl<R: Read + Drop> UrlList<R> {
     {
         for _ in 0..MOST_READS {
             match self.advance()? {
-                Turn::More => {}
-                Turn::Next(said) => return Ok(said),
+                AfterRead::More => {}
+                AfterRead::Next(said) => return Ok(said),
             }
         }
         Err(ListError::Unended)

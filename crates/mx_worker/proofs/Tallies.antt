@@ -26,7 +26,7 @@ use Rattle.mx_link.specs.declared.answers.Answer.{Answer}
 use Rattle.mx_gate.specs.Said.{Said}
 use Rattle.mx_turn.specs.Turn.{Runs}
 use Rattle.mx_turn.proofs.Accounts.{accounted}
-use Rattle.mx_worker_turns.specs.Desks.{EndView, HandsIn, HasRun, HeldView}
+use Rattle.mx_worker_turns.specs.WorkerSteps.{EndView, HandsIn, HasRun, HeldView}
 use Rattle.mx_lock.specs.Ties.{TiedClaimed}
 use Rattle.mx_turn.specs.Laws.{claimed_by, recorded_by, stale_by, given_back_by, unseated_by}
 use Rattle.mx_worker.specs.Work.{AreCounted, AreHeld, FoundOther, IsDone, IsUncounted, WorkerRan, answered_by, code_of, end_of, finish_call, finish_of, handed_back, held_count, noted_by_deed, return_of, size_of}

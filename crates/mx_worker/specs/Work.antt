@@ -21,7 +21,7 @@ use Rattle.mx_multi.specs.Seats.{MultiView, SeatView, Later, FindsOther}
 use Rattle.mx_gate.specs.Said.{Said}
 use Rattle.mx_turn.specs.Workers.{Deed, looks, notes, finishes, Finish, recorded, stale, lacking, unseated, Return, returned, ended_before, unreturned, Worker, starts, IsOver}
 use Rattle.mx_turn.specs.Turn.{Runs}
-use Rattle.mx_worker_turns.specs.Desks.{EndView, HeldView}
+use Rattle.mx_worker_turns.specs.WorkerSteps.{EndView, HeldView}
 use Rattle.mx_turn.specs.Laws.{claimed_by, recorded_by, stale_by, given_back_by, unseated_by, AreAccounted}
 
 -- the code of an outcome, and how many bytes its body has, as in its message

@@ -2,7 +2,7 @@
 ghost use Rattle.std.specs.Prelude.{◌≡◌, ◌∷◌, ◌++◌, [], option_map, IfSome};
 ghost use Rattle.mx_turn.specs.Workers.{Return, claims, looks, notes, gives_back};
 ghost use Rattle.mx_request.specs.Request.{request_origin};
-ghost use Rattle.mx_worker_turns.specs.Desks.{HandsIn};
+ghost use Rattle.mx_worker_turns.specs.WorkerSteps.{HandsIn};
 ghost use Rattle.mx_worker.specs.Work.{AreCounted, AreHeld, IsDone, end_of};
 
 use crate::claims::WorkerClaim;

@@ -1,7 +1,7 @@
 //! A transfer that a worker's seat claims, and that is polled and ended by hand, with no worker.
 
 use crate::polls::outcome_of;
-use crate::stage::Worker;
+use crate::stage::SeatedWorker;
 use crate::trouble::Trouble;
 use futures::task::{Doorbell, Solo};
 use mx_journal::FinishReply;
@@ -25,7 +25,7 @@ fn is_recorded<C: Drop, O: Drop, W: Drop>(answer: Result<FinishReply<C, O>, W>) 
 
 // Claims a transfer, polls it at the moments 0 and 1 as the look at it says, and records its end. It says whether it was paused; None
 // where any of this went otherwise.
-fn end_claimed<R: Wait>(rt: &R, worker: &mut Worker<'_>, solo: &Solo) -> Option<bool> {
+fn end_claimed<R: Wait>(rt: &R, worker: &mut SeatedWorker<'_>, solo: &Solo) -> Option<bool> {
     let Some((claim, queued)) = worker.claim(rt) else {
         return None;
     };
@@ -42,7 +42,7 @@ fn end_claimed<R: Wait>(rt: &R, worker: &mut Worker<'_>, solo: &Solo) -> Option<
 
 /// Claims a transfer at the seat, polls it at the moments 0 and 1 as the look at it says, and records its end. It says whether it was
 /// paused; None where any of this went otherwise, or there is no seat.
-pub fn end_at<R: Wait>(rt: &R, worker: Option<Worker<'_>>, solo: &Solo) -> Option<bool> {
+pub fn end_at<R: Wait>(rt: &R, worker: Option<SeatedWorker<'_>>, solo: &Solo) -> Option<bool> {
     let Some(worker) = worker else {
         return None;
     };

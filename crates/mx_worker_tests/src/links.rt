@@ -1,7 +1,7 @@
 //! Rows of which links a worker takes, and of how long it has its gate wait for them.
 
 use crate::messages::Wanted;
-use crate::steps::{COUNTED, Opening, RUN, Row, Run, Step};
+use crate::steps::{COUNTED, Opening, RUN, Run, Scenario, Step};
 use crate::table::{AT_ONCE, OTHER, OTHER_AT_ONCE};
 use mx_link::ScriptRead;
 use mx_types::Code;
@@ -63,10 +63,10 @@ const GO_BACK: Step = Step::Run(Run {
 });
 
 /// Rows of the links that a worker takes for one transfer after another, and for the hops of one.
-pub static LINKS: [Row; 13] = [
+pub static LINKS: [Scenario; 13] = [
     // rule turn-links
     // The worker keeps its link, and the gate opens one.
-    Row {
+    Scenario {
         name: "an idle link serves the next transfer",
         keeps: 4,
         times: 1,
@@ -80,7 +80,7 @@ pub static LINKS: [Row; 13] = [
         ],
     },
     // A worker that keeps no idle link has the gate open two.
-    Row {
+    Scenario {
         name: "without idle links each transfer has its own",
         keeps: 0,
         times: 1,
@@ -94,7 +94,7 @@ pub static LINKS: [Row; 13] = [
         ],
     },
     // The link of a hop serves the next one where that goes to the same endpoint.
-    Row {
+    Scenario {
         name: "a link serves the next hop",
         keeps: 4,
         times: 1,
@@ -106,7 +106,7 @@ pub static LINKS: [Row; 13] = [
         ],
     },
     // A hop to another port has a link of its own.
-    Row {
+    Scenario {
         name: "a hop to another port has its own link",
         keeps: 4,
         times: 1,
@@ -123,7 +123,7 @@ pub static LINKS: [Row; 13] = [
         ],
     },
     // A third hop, back at the first port, has the first link again, though it was kept two hops ago.
-    Row {
+    Scenario {
         name: "a hop back has the first link again",
         keeps: 4,
         times: 1,
@@ -135,7 +135,7 @@ pub static LINKS: [Row; 13] = [
         ],
     },
     // A worker that keeps no idle link has the gate open one for each hop.
-    Row {
+    Scenario {
         name: "without idle links the next hop has its own",
         keeps: 0,
         times: 1,
@@ -146,7 +146,7 @@ pub static LINKS: [Row; 13] = [
             Step::LinksLeft(0),
         ],
     },
-    Row {
+    Scenario {
         name: "without idle links a hop back has its own",
         keeps: 0,
         times: 1,
@@ -158,7 +158,7 @@ pub static LINKS: [Row; 13] = [
         ],
     },
     // With the limit 0 a redirect is a response as any other.
-    Row {
+    Scenario {
         name: "with the limit 0 no redirect is followed",
         keeps: 4,
         times: 1,
@@ -170,7 +170,7 @@ pub static LINKS: [Row; 13] = [
         ],
     },
     // With the limit 1 the second redirect ends the transfer.
-    Row {
+    Scenario {
         name: "with the limit 1 the second redirect isn't followed",
         keeps: 4,
         times: 1,
@@ -183,7 +183,7 @@ pub static LINKS: [Row; 13] = [
     },
     // rule turn-files
     // The idle link of the first endpoint is dropped, and the gate opens one to the second once more. The third transfer has its own.
-    Row {
+    Scenario {
         name: "idle links are dropped where too many files are open",
         keeps: 4,
         times: 1,
@@ -204,7 +204,7 @@ pub static LINKS: [Row; 13] = [
     },
     // rule turn-files
     // In the third turn, in which the third transfer is claimed: the idle link of its endpoint is dropped before.
-    Row {
+    Scenario {
         name: "idle links are dropped in a turn in which too many files are open",
         keeps: 4,
         times: 1,
@@ -227,7 +227,7 @@ pub static LINKS: [Row; 13] = [
         ],
     },
     // For another cause the transfer fails, and the idle link stays.
-    Row {
+    Scenario {
         name: "idle links stay where a link is refused for another cause",
         keeps: 4,
         times: 1,
@@ -243,7 +243,7 @@ pub static LINKS: [Row; 13] = [
         ],
     },
     // Where that doesn't help, the transfer fails.
-    Row {
+    Scenario {
         name: "a link is opened once more where too many files are open, and no more often",
         keeps: 4,
         times: 1,
@@ -299,10 +299,10 @@ Server: one that says more of itself than anybody wants to know, and sends it by
 A: 1\r\nB: 2\r\nC: 3\r\nD: 4\r\nE: 5\r\nContent-Length: 5\r\n\r\nhello";
 
 /// Rows of how long a worker has its gate wait. In its first turn it claims, and there may be more: it doesn't wait.
-pub static WAITING: [Row; 6] = [
+pub static WAITING: [Scenario; 6] = [
     // rule turn-wait
     // In the second turn the deadline is 7 milliseconds away.
-    Row {
+    Scenario {
         name: "a turn waits until the next deadline",
         keeps: 4,
         times: 1,
@@ -314,7 +314,7 @@ pub static WAITING: [Row; 6] = [
         ],
     },
     // It is farther than the longest wait.
-    Row {
+    Scenario {
         name: "a turn waits no longer than the longest wait",
         keeps: 4,
         times: 1,
@@ -325,7 +325,7 @@ pub static WAITING: [Row; 6] = [
             Step::Waits(&[0, 20, 20, 20, 20]),
         ],
     },
-    Row {
+    Scenario {
         name: "a turn without a deadline waits the longest wait",
         keeps: 4,
         times: 1,
@@ -339,7 +339,7 @@ pub static WAITING: [Row; 6] = [
     // rule turn-wait-for-link
     // While no link can be opened yet, the worker waits as long as where there is nothing to do: it doesn't spin. Once one can be, it is
     // opened.
-    Row {
+    Scenario {
         name: "a worker waits for a name",
         keeps: 4,
         times: 1,
@@ -359,7 +359,7 @@ pub static WAITING: [Row; 6] = [
     },
     // rule turn-wait
     // One that asked to be polled again, after the most reads of a poll, isn't kept waiting.
-    Row {
+    Scenario {
         name: "a transfer that asks is polled at once",
         keeps: 4,
         times: 1,
@@ -379,7 +379,7 @@ pub static WAITING: [Row; 6] = [
     // rule turn-wait-for-link
     // The second transfer is given the link that the first has left, which the server closes once it is written to. The transfer wants a
     // fresh link, and the worker has that opened without a wait.
-    Row {
+    Scenario {
         name: "a lost link is replaced at once",
         keeps: 4,
         times: 1,

@@ -3,8 +3,8 @@ ghost use Rattle.std.specs.Prelude.{◌≡◌, All};
 
 use crate::messages::Wanted;
 use crate::open::{ScriptParts, open};
-use crate::stage::{Caller, Stage, Worker};
-use crate::steps::{Answer, Row, Run, Step};
+use crate::stage::{Caller, SeatedWorker, Stage};
+use crate::steps::{Answer, Run, Scenario, Step};
 use crate::table::SLOW_RUN;
 use crate::trouble::{Trouble, holds};
 use mx_link::ScriptLink;
@@ -99,7 +99,7 @@ impl<'r, 'm, R: Wait + RandomSource + AllocGlobal> Stage<'r, 'm, R> {
     }
 
     // Takes a row's steps, of which it counts each before it is taken.
-    fn take_steps(&mut self, row: &Row, number: u32, taken: &mut u32) -> Result<(), Trouble> {
+    fn take_steps(&mut self, row: &Scenario, number: u32, taken: &mut u32) -> Result<(), Trouble> {
         for step in row.steps {
             *taken = taken.saturating_add(1);
             self.take_step(number, step)?;
@@ -112,9 +112,9 @@ impl<'r, 'm, R: Wait + RandomSource + AllocGlobal> Stage<'r, 'm, R> {
 fn play_seated<'m, R: Wait + RandomSource + AllocGlobal>(
     rt: &R,
     seat: Caller<'m>,
-    first: Worker<'m>,
-    second: Worker<'m>,
-    row: &Row,
+    first: SeatedWorker<'m>,
+    second: SeatedWorker<'m>,
+    row: &Scenario,
     number: u32,
     taken: &mut u32,
 ) -> Result<bool, Trouble> {
@@ -133,7 +133,7 @@ fn play_at<R: Wait + RandomSource + AllocGlobal>(
     multi: &Multi<Queued<ScriptLink>, Outcome>,
     seat: Seat<Queued<ScriptLink>, Outcome>,
     workers: &mut Vec<WorkerSeat<Queued<ScriptLink>, Outcome>>,
-    row: &Row,
+    row: &Scenario,
     number: u32,
     taken: &mut u32,
 ) -> Result<bool, Trouble>
@@ -156,7 +156,7 @@ fn play_at<R: Wait + RandomSource + AllocGlobal>(
 fn play_parts<R: Wait + RandomSource + AllocGlobal>(
     rt: &R,
     parts: ScriptParts,
-    row: &Row,
+    row: &Scenario,
     number: u32,
     taken: &mut u32,
 ) -> Result<bool, Trouble>
@@ -177,7 +177,7 @@ fn play_parts<R: Wait + RandomSource + AllocGlobal>(
 // Plays a row.
 fn play<R: Wait + RandomSource + AllocGlobal>(
     rt: &R,
-    row: &Row,
+    row: &Scenario,
     number: u32,
     taken: &mut u32,
 ) -> Result<bool, Trouble> {
@@ -186,7 +186,7 @@ fn play<R: Wait + RandomSource + AllocGlobal>(
 }
 
 // The error of a row in which something else came than should.
-fn otherwise<R: AllocGlobal>(rt: &R, row: &Row, number: u32, taken: u32) -> Result<(), Fail> {
+fn otherwise<R: AllocGlobal>(rt: &R, row: &Scenario, number: u32, taken: u32) -> Result<(), Fail> {
     let name = row.name;
     let said = format!(in rt.alloc();
         "row {name}, playing {number}, step {taken}: something else comes"
@@ -197,7 +197,7 @@ fn otherwise<R: AllocGlobal>(rt: &R, row: &Row, number: u32, taken: u32) -> Resu
 // Plays a row once more that was refused memory. It fails in any case, and reports the result.
 fn play_again<R: Wait + RandomSource + AllocGlobal>(
     rt: &R,
-    row: &Row,
+    row: &Scenario,
     number: u32,
 ) -> Result<(), Fail> {
     let mut taken = 0;
@@ -210,7 +210,7 @@ fn play_again<R: Wait + RandomSource + AllocGlobal>(
 // Plays a row by this number, and once more where it was refused memory.
 fn try_row<R: Wait + RandomSource + AllocGlobal>(
     rt: &R,
-    row: &Row,
+    row: &Scenario,
     number: u32,
 ) -> Result<(), Fail> {
     let mut taken = 0;
@@ -224,7 +224,10 @@ fn try_row<R: Wait + RandomSource + AllocGlobal>(
 
 /// Plays these rows, each as often as it says. One in which a call was refused memory is played once more, and has to come as if nothing
 /// had been refused; only then it fails by `AGAIN`. Without a refusal it passes.
-pub fn try_rows<R: Wait + RandomSource + AllocGlobal>(rt: &R, rows: &[Row]) -> Result<(), Fail> {
+pub fn try_rows<R: Wait + RandomSource + AllocGlobal>(
+    rt: &R,
+    rows: &[Scenario],
+) -> Result<(), Fail> {
     for row in rows {
         for number in 0..row.times {
             try_row(rt, row, number)?;

@@ -1,7 +1,7 @@
 //! What a worker's run needs: its request, its start, what it ended with.
 ghost use Rattle.std.specs.Prelude.{◌≡◌};
 
-use crate::stage::Worker;
+use crate::stage::SeatedWorker;
 use crate::steps::Answer;
 use crate::trouble::{Trouble, holds};
 use mx_gate::Gate;
@@ -107,9 +107,9 @@ impl<'a, R> RandomSource for Unlucky<'a, R> {
 /// Starts a worker that is refused. It is to have done nothing; its seat comes back.
 pub fn refuse<'m, R: Wait + RandomSource + AllocGlobal, G: Gate<Link = ScriptLink>>(
     rt: &R,
-    worker: Worker<'m>,
+    worker: SeatedWorker<'m>,
     gate: &mut G,
-) -> Result<Worker<'m>, Trouble> {
+) -> Result<SeatedWorker<'m>, Trouble> {
     let end = run_worker(&Unlucky { rt }, worker, gate);
     if end.refused && (end.recorded, end.stale, end.given_back) == (0, 0, 0) {
         return Ok(end.seat);
@@ -130,7 +130,7 @@ pub struct Ran {
 /// Runs a worker, once more where memory for its start was refused.
 pub fn work<R: Wait + RandomSource + AllocGlobal, G: Gate<Link = ScriptLink>>(
     rt: &R,
-    worker: Worker<'_>,
+    worker: SeatedWorker<'_>,
     gate: &mut G,
 ) -> Result<Ran, Trouble> {
     let mut worker = worker;

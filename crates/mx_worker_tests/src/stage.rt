@@ -26,7 +26,7 @@ use std::sync::Wait;
 pub type Caller<'m> = Seated<'m, Application, Queued<ScriptLink>, Outcome>;
 
 /// A worker's seat, at its multi handle.
-pub type Worker<'m> = Seated<'m, AtWork, Queued<ScriptLink>, Outcome>;
+pub type SeatedWorker<'m> = Seated<'m, AtWork, Queued<ScriptLink>, Outcome>;
 
 /// What a row is played on. It is the gate of its workers: a scripted one that notes its waits, and in which the application may call.
 #[derive(Drop)]
@@ -34,7 +34,7 @@ pub struct Stage<'r, 'm, R: Wait> {
     rt: &'r R,
     seat: Caller<'m>,
     /// Those that were not at work.
-    workers: Vec<Worker<'m>>,
+    workers: Vec<SeatedWorker<'m>>,
     gate: ScriptGate<ScriptLink>,
     meanwhile: Meanwhile,
     waits: Vec<u32>,
@@ -107,7 +107,7 @@ impl<'r, 'm, R: Wait> Gate for Stage<'r, 'm, R> {
 
 impl<'r, 'm, R: Wait + RandomSource + AllocGlobal> Stage<'r, 'm, R> {
     /// A stage with these seats, of which the workers' are taken from the last one on.
-    pub fn new(rt: &'r R, seat: Caller<'m>, workers: Vec<Worker<'m>>) -> Stage<'r, 'm, R> {
+    pub fn new(rt: &'r R, seat: Caller<'m>, workers: Vec<SeatedWorker<'m>>) -> Stage<'r, 'm, R> {
         let alloc = rt.alloc();
         Stage {
             rt,
@@ -151,7 +151,7 @@ impl<'r, 'm, R: Wait + RandomSource + AllocGlobal> Stage<'r, 'm, R> {
     }
 
     // The next worker's seat, whose start was refused first where the run says so.
-    fn next_worker(&mut self, is_refused_once: bool) -> Result<Worker<'m>, Trouble> {
+    fn next_worker(&mut self, is_refused_once: bool) -> Result<SeatedWorker<'m>, Trouble> {
         let Some(worker) = self.workers.pop() else {
             return Err(Trouble::Wrong);
         };

@@ -130,7 +130,7 @@ pub enum Step {
 }
 
 /// A row: what is done at a multi handle of its own.
-pub struct Row {
+pub struct Scenario {
     pub name: &'static str,
     /// How many idle links its workers keep.
     pub keeps: u8,

@@ -1,7 +1,7 @@
 //! Rows of what becomes of transfers that one worker holds.
 
 use crate::messages::Wanted;
-use crate::steps::{Answer, COUNTED, Meanwhile, Opening, RUN, Row, Run, Step};
+use crate::steps::{Answer, COUNTED, Meanwhile, Opening, RUN, Run, Scenario, Step};
 use mx_link::ScriptRead;
 use mx_types::{Call, Code, HandleId};
 
@@ -29,13 +29,13 @@ const FROM_AGAIN: &[u8] = b"GET /again HTTP/1.1\r\nHost: a.example\r\nAccept: */
 const THREE: HandleId = HandleId(3);
 
 /// Rows that are played with each growth of memory refused, too.
-pub static SERVING: [Row; 3] = [
+pub static SERVING: [Scenario; 3] = [
     // rule worker-own-claim
     // rule worker-seat
     // rule worker-counts
     // rule turn-claims
     // Two handles and one worker: both messages have code 0, each the outcome of its own request.
-    Row {
+    Scenario {
         name: "one worker serves two",
         keeps: 4,
         times: 1,
@@ -54,7 +54,7 @@ pub static SERVING: [Row; 3] = [
         ],
     },
     // A worker never begins a transfer that was removed, and its handle gets no message.
-    Row {
+    Scenario {
         name: "a removed handle gets no message",
         keeps: 4,
         times: 1,
@@ -75,7 +75,7 @@ pub static SERVING: [Row; 3] = [
     // rule turn-paused
     // A transfer of one millisecond that is paused and resumed before a worker claims it, and then ends at its deadline: what each call
     // says of it.
-    Row {
+    Scenario {
         name: "a paused transfer ends at its deadline",
         keeps: 4,
         times: 1,
@@ -122,7 +122,7 @@ pub const SLOW_RUN: Run = Run {
 
 /// Stopped at any turn of a run of eight transfers, a worker leaves what another can end: every handle gets one message, and every body is
 /// whole.
-pub static TAKING_OVER: [Row; 1] = [Row {
+pub static TAKING_OVER: [Scenario; 1] = [Scenario {
     name: "another worker takes over at any turn",
     keeps: 4,
     times: 16,
@@ -135,10 +135,10 @@ pub static TAKING_OVER: [Row; 1] = [Row {
 }];
 
 /// Rows of what a worker that is stopped gives back.
-pub static GIVING_BACK: [Row; 3] = [
+pub static GIVING_BACK: [Scenario; 3] = [
     // rule turn-stop
     // A worker that is stopped gives back a transfer that has no link yet, and another ends it.
-    Row {
+    Scenario {
         name: "what has not started is given back",
         keeps: 4,
         times: 1,
@@ -161,7 +161,7 @@ pub static GIVING_BACK: [Row; 3] = [
     // rule worker-requeued-deadline
     // A transfer that was given back keeps its deadline: it has ten milliseconds, is given back at the moment 100, and the next worker has
     // it at 110 and ends it.
-    Row {
+    Scenario {
         name: "what is given back keeps its deadline",
         keeps: 4,
         times: 1,
@@ -186,7 +186,7 @@ pub static GIVING_BACK: [Row; 3] = [
     // rule turn-stop
     // Handles 0 to 4, of which 0, 2 and 3 are paused. A worker that is stopped ends what has started, and gives back the others, before
     // what no worker had claimed. They are resumed, the last one first: the next worker claims them in the order of their tickets.
-    Row {
+    Scenario {
         name: "what has started is ended",
         keeps: 0,
         times: 1,
@@ -221,7 +221,7 @@ pub static GIVING_BACK: [Row; 3] = [
 ];
 
 /// A worker that could claim 70 transfers has claimed 64.
-pub static HOLDING: [Row; 1] = [Row {
+pub static HOLDING: [Scenario; 1] = [Scenario {
     name: "a worker holds 64 at most",
     keeps: 4,
     times: 1,
@@ -236,9 +236,9 @@ pub static HOLDING: [Row; 1] = [Row {
 }];
 
 /// Rows of how transfers end.
-pub static ENDING: [Row; 10] = [
+pub static ENDING: [Scenario; 10] = [
     // A gate that can't open gives the code of the message.
-    Row {
+    Scenario {
         name: "a host that isn't resolved gives its code",
         keeps: 4,
         times: 1,
@@ -253,7 +253,7 @@ pub static ENDING: [Row; 10] = [
             Step::Read(Wanted::Of(1, Code::CouldntResolveHost, b"")),
         ],
     },
-    Row {
+    Scenario {
         name: "a connection that isn't made gives its code",
         keeps: 4,
         times: 1,
@@ -268,7 +268,7 @@ pub static ENDING: [Row; 10] = [
             Step::Read(Wanted::Of(1, Code::CouldntConnect, b"")),
         ],
     },
-    Row {
+    Scenario {
         name: "a link without memory gives its code",
         keeps: 4,
         times: 1,
@@ -285,7 +285,7 @@ pub static ENDING: [Row; 10] = [
     },
     // A transfer whose link gives nothing ends with 28 at its deadline, and the wait before is no longer than that. In the turn at 100 it
     // is claimed, in that at 107 three milliseconds are left, and in that at 110 nothing is held any more.
-    Row {
+    Scenario {
         name: "a deadline ends a transfer",
         keeps: 4,
         times: 1,
@@ -305,7 +305,7 @@ pub static ENDING: [Row; 10] = [
     // rule turn-progress
     // A seat reads how many bytes came for a transfer, whether it ended whole or within its response: the first link gives 40 bytes, three
     // less than a response has, and nothing more.
-    Row {
+    Scenario {
         name: "a worker notes how far a transfer is",
         keeps: 4,
         times: 1,
@@ -331,7 +331,7 @@ pub static ENDING: [Row; 10] = [
         ],
     },
     // A worker whose start is refused says so, claims nothing, and gives its seat back as it was: another serves there what was added.
-    Row {
+    Scenario {
         name: "a refused start leaves the seat as it was",
         keeps: 4,
         times: 1,
@@ -350,7 +350,7 @@ pub static ENDING: [Row; 10] = [
     // rule worker-counts
     // A transfer that ends after its handle was removed has a stale end, which is counted once, and no message. The handle, added again, is
     // fetched whole by another worker, under its new ticket.
-    Row {
+    Scenario {
         name: "an end after the removal is stale",
         keeps: 4,
         times: 1,
@@ -377,7 +377,7 @@ pub static ENDING: [Row; 10] = [
     },
     // rule turn-gone
     // A transfer that a worker holds is dropped as soon as its look says that its handle is gone, without a message.
-    Row {
+    Scenario {
         name: "a held transfer whose handle is removed is dropped",
         keeps: 4,
         times: 1,
@@ -402,7 +402,7 @@ pub static ENDING: [Row; 10] = [
         ],
     },
     // Its link is dropped with it, though the worker keeps idle links: for the next transfer to the same endpoint the gate opens another.
-    Row {
+    Scenario {
         name: "the link of a removed handle serves no other",
         keeps: 4,
         times: 1,
@@ -433,7 +433,7 @@ pub static ENDING: [Row; 10] = [
     // The clock is read once at the beginning of a turn and once before each transfer but the first. As many transfers as a worker holds
     // are claimed, one a turn. So the last transfer is polled for the first time at 2079, and the last turn begins at 2144: 75 milliseconds
     // after 2079 its first ten transfers have been polled. The one that is due then is served next, not after the 53 others.
-    Row {
+    Scenario {
         name: "the due are served between two polls",
         keeps: 0,
         times: 1,
@@ -458,8 +458,8 @@ pub static ENDING: [Row; 10] = [
 ];
 
 /// Rows of transfers that a worker's seat claims, polls and ends by itself, with no worker: at the deadline, whether paused or not.
-pub static BY_HAND: [Row; 2] = [
-    Row {
+pub static BY_HAND: [Scenario; 2] = [
+    Scenario {
         name: "a paused transfer is ended by hand",
         keeps: 4,
         times: 1,
@@ -470,7 +470,7 @@ pub static BY_HAND: [Row; 2] = [
             Step::Read(Wanted::Of(1, Code::OperationTimedout, b"")),
         ],
     },
-    Row {
+    Scenario {
         name: "a resumed transfer is ended by hand",
         keeps: 4,
         times: 1,

@@ -14,7 +14,7 @@ use Rattle.mx_gate.specs.Said.{Said}
 use Rattle.mx_turn.specs.Supplies.{Supplies}
 use Rattle.mx_turn.specs.Workers.{Held, Worker, does, holds, Finish, recorded, stale, lacking, unseated, Return, Deed, looks, notes, gives_back}
 use Rattle.mx_turn.specs.Turn.{handed_in, is_delayed, prepared, unlinked, Keeps, Settles, Supplied, LooksAt, lets_go, serves, is_go}
-use Rattle.mx_worker_turns.specs.Desks.{beside, IsReadied, Polls, Advances}
+use Rattle.mx_worker_turns.specs.WorkerSteps.{beside, IsReadied, Polls, Advances}
 
 -- the same in each part
 pub alike : {L : Type 0} (w v : Worker L) → w.held ≡ v.held → w.set_aside ≡ v.set_aside → w.idle ≡ v.idle → w.is_stopping ≡ v.is_stopping → w.can_go_on ≡ v.can_go_on → w.did ≡ v.did → w.said ≡ v.said → w ≡ v

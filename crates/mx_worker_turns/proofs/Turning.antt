@@ -8,7 +8,7 @@ use Rattle.mx_gate.specs.Said.{Said, told, waited}
 use Rattle.mx_turn.specs.Workers.{Held, SetAside, Worker, in_hand, holds}
 use Rattle.mx_turn.specs.Turn.{Each, Claims, keeps, finds_none, claims_one, Retries, GivesBack, holds_on, returns, Stops, GoesThrough, wait_of, relieved, relieves, WorkerTurn}
 use Rattle.mx_turn.specs.Supplies.{Relieves as IdleRelieves}
-use Rattle.mx_worker_turns.specs.Desks.{Relieves, beside}
+use Rattle.mx_worker_turns.specs.WorkerSteps.{Relieves, beside}
 use Rattle.mx_worker_turns.proofs.Looking.{handed_beside}
 
 module _ {L : Type 0} (said : List Said) where

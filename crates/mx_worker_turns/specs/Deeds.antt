@@ -2,7 +2,7 @@
 use Rattle.std.specs.Prelude.{ℕ, option_map}
 use Rattle.mx_types.specs.declared.names.Ticket.{Ticket}
 use Rattle.mx_turn.specs.Workers.{Deed, claims, looks, notes, finishes, gives_back, recorded, stale, lacking, unseated, returned, ended_before, unreturned}
-use Rattle.mx_worker_turns.specs.Desks.{HeldView, EndView}
+use Rattle.mx_worker_turns.specs.WorkerSteps.{HeldView, EndView}
 use Rattle.mx_worker_turns.specs.declared.deeds.Note.{Note}
 use Rattle.mx_worker_turns.specs.declared.deeds.Note.TheVariants as note
 

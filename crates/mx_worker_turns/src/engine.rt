@@ -56,7 +56,7 @@ impl<L: Link, C: Right> Drop for Held<L, C> {
 impl<L: Link, C: Right> Model for Held<L, C> {
     ghost use Rattle.std.specs.Prelude.{◌≡◌, None};
     ghost use Rattle.mx_request.specs.Request.{request_origin};
-    ghost use Rattle.mx_worker_turns.specs.Desks.{HeldView};
+    ghost use Rattle.mx_worker_turns.specs.WorkerSteps.{HeldView};
 
     ghost Value = { HeldView L };
 
@@ -164,7 +164,7 @@ impl<C: Right> Drop for Finished<C> {
 impl<C: Right> Model for Finished<C> {
     ghost use Rattle.std.specs.Prelude.{◌≡◌};
     ghost use Rattle.mx_request.specs.Request.{request_origin};
-    ghost use Rattle.mx_worker_turns.specs.Desks.{EndView};
+    ghost use Rattle.mx_worker_turns.specs.WorkerSteps.{EndView};
 
     ghost Value = { EndView };
 
@@ -203,7 +203,7 @@ pub trait Engine<L: Link, C: Right>: Tied + Drop {
     type Start;
 
     ghost use Rattle.mx_turn.specs.Workers.{Deed, Return, claims, looks, notes, gives_back};
-    ghost use Rattle.mx_worker_turns.specs.Desks.{HandsIn};
+    ghost use Rattle.mx_worker_turns.specs.WorkerSteps.{HandsIn};
 
     // What was done at it so far, in order.
     ghost did: { Self → List (Deed L) };

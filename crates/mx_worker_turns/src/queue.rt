@@ -21,7 +21,7 @@ impl<T: Tied + Drop, E: Tied> Model for Queue<T, E> {
     ghost use Rattle.std.specs.Prelude.{◌≡◌, ◌≤◌, All};
     ghost use Rattle.std.specs.VecDeque.{deque_capacity};
     ghost use Rattle.mx_types.specs.Limits.{most_transfers};
-    ghost use Rattle.mx_worker_turns.specs.Desks.{QueueView};
+    ghost use Rattle.mx_worker_turns.specs.WorkerSteps.{QueueView};
 
     ghost Value = { QueueView T };
 

@@ -1,7 +1,7 @@
 //! What a worker has in flight.
 ghost use Rattle.std.specs.Prelude.{◌≡◌, ◌<◌, ◌≤◌, ◌↔◌, ◌∷◌, ◌++◌, [], map, IsTrue, IfOk};
 ghost use Rattle.mx_types.specs.Limits.{most_transfers};
-ghost use Rattle.mx_worker_turns.specs.Desks.{racked};
+ghost use Rattle.mx_worker_turns.specs.WorkerSteps.{racked};
 
 use crate::engine::{Finished, Held, Right, Tied};
 use crate::queue::Queue;
@@ -22,7 +22,7 @@ pub(crate) struct Rack<L: Link, C: Right, E: Tied> {
 impl<L: Link, C: Right, E: Tied> Model for Rack<L, C, E> {
     ghost use Rattle.std.specs.Prelude.{◌≡◌, ◌+◌, ◌≤◌, length, map};
     ghost use Rattle.mx_types.specs.Limits.{most_transfers};
-    ghost use Rattle.mx_worker_turns.specs.Desks.{RackView};
+    ghost use Rattle.mx_worker_turns.specs.WorkerSteps.{RackView};
 
     ghost Value = { RackView L };
 

@@ -1,6 +1,6 @@
 //! A worker's run, from its start to its end.
 ghost use Rattle.std.specs.Prelude.{◌≡◌, MatchResult};
-ghost use Rattle.mx_worker_turns.specs.Desks.{HasRun};
+ghost use Rattle.mx_worker_turns.specs.WorkerSteps.{HasRun};
 
 use crate::engine::{Engine, Right};
 use crate::worker::Worker;

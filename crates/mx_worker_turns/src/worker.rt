@@ -2,12 +2,12 @@
 ghost use Rattle.std.specs.Prelude.{◌≡◌, ◌↔◌, [], IsTrue, MatchResult, IfSome};
 ghost use Rattle.mx_turn.specs.Workers.{IsOver, starts};
 ghost use Rattle.mx_turn.specs.Turn.{WorkerTurn, Runs};
-ghost use Rattle.mx_worker_turns.specs.Desks.{beside};
+ghost use Rattle.mx_worker_turns.specs.WorkerSteps.{beside};
 
-use crate::desk::Desk;
 use crate::engine::{Engine, Finished, Held, Right};
 use crate::queue::Queue;
 use crate::rack::Rack;
+use crate::worker_core::WorkerCore;
 use futures::task::{Doorbell, Solo};
 use mx_gate::Gate;
 use mx_link::Link;
@@ -23,20 +23,20 @@ use std::sync::Wait;
 /// The spare queues are empty between its turns. A turn swaps what it holds into one of them, and goes through that.
 #[derive(Drop)]
 pub struct Worker<L: Link, C: Right, E: Engine<L, C>> {
-    desk: Desk<L, C, E>,
+    core: WorkerCore<L, C, E>,
     spare_held: Queue<Held<L, C>, E>,
     spare_ends: Queue<Finished<C>, E>,
 }
 
 impl<L: Link, C: Right, E: Engine<L, C>> Model for Worker<L, C, E> {
     ghost use Rattle.std.specs.Prelude.{◌≡◌, []};
-    ghost use Rattle.mx_worker_turns.specs.Desks.{DeskView};
+    ghost use Rattle.mx_worker_turns.specs.WorkerSteps.{WorkerView};
 
-    ghost Value = { DeskView L E.Start };
+    ghost Value = { WorkerView L E.Start };
 
-    ghost view = { λ w. w.desk };
+    ghost view = { λ w. w.core };
 
-    ghost invariant = { λ w. (w.spare_held ≡ record { items = []; of = w.desk.of }) × (w.spare_ends ≡ record { items = []; of = w.desk.of }) };
+    ghost invariant = { λ w. (w.spare_held ≡ record { items = []; of = w.core.of }) × (w.spare_ends ≡ record { items = []; of = w.core.of }) };
 }
 
 // The queues that a worker needs memory for.
@@ -137,7 +137,7 @@ impl<L: Link, C: Right, E: Engine<L, C>> Worker<L, C, E> {
             spare_ends,
         } = queues;
         Ok(Worker {
-            desk: Desk::new(engine, rack, links, solo),
+            core: WorkerCore::new(engine, rack, links, solo),
             spare_held,
             spare_ends,
         })
@@ -148,20 +148,20 @@ impl<L: Link, C: Right, E: Engine<L, C>> Worker<L, C, E> {
         ensures { (E.did result ≡ self.worker.did) × (E.start result ≡ self.start) }
     {
         let Worker {
-            desk,
+            core,
             spare_held,
             spare_ends,
         } = self;
         drop(spare_held);
         drop(spare_ends);
-        desk.into_engine()
+        core.into_engine()
     }
 
     /// Whether it was told to stop, and has nothing in flight.
     pub fn is_over(&self) -> bool
         ensures { IsTrue result ↔ IsOver self.now.worker }
     {
-        self.desk.is_over()
+        self.core.is_over()
     }
 
     /// One turn: it claims, tries the ends again that were refused memory, goes through its transfers, waits at the gate, and gives back
@@ -170,7 +170,7 @@ impl<L: Link, C: Right, E: Engine<L, C>> Worker<L, C, E> {
         ensures turn { WorkerTurn L.history L.token_of (beside self.old.worker (G.said gate.old)) (beside self.new.worker (G.said gate.new)) }
         ensures same { self.new ≡ record self.old { worker = self.new.worker } }
     {
-        self.desk
+        self.core
             .turn(rt, gate, &mut self.spare_held, &mut self.spare_ends);
     }
 

@@ -3,13 +3,13 @@
 ghost use Rattle.std.specs.Prelude.{◌≡◌, ◌+◌, ◌<◌, ◌≤◌, ◌^◌, ℕ, List, length, take, true, false, IsTrue, None, Some, IfSome, IfOk};
 ghost use Rattle.mx_head.specs.Limits.{most_bytes};
 ghost use Rattle.mx_body.specs.declared.part.Part.{Part};
-ghost use Rattle.mx_body.specs.declared.chunked.place.Place.TheVariants.{Start, Data, TrailerStart};
+ghost use Rattle.mx_body.specs.declared.chunked.place.ChunkedPlace.TheVariants.{Start, Data, TrailerStart};
 ghost use Rattle.mx_body.specs.ChunkedPlace.{is_settled};
 ghost use Rattle.mx_body.specs.ChunkedReader.{ReadTo};
 ghost use Rattle.mx_body.specs.ChunkedStretch.{IsStretch};
 
 use crate::Part;
-use crate::chunked::place::Place;
+use crate::chunked::place::ChunkedPlace;
 use crate::chunked::stretch::{add_part, digits, go_over, is_crlf_at, line_bytes, part_at};
 use crate::limits::MOST_BYTES;
 use mx_types::OutOfMemory;
@@ -44,7 +44,7 @@ fn pass_chunks(
     at: u32,
     body: &[u8],
     from: usize,
-) -> Result<(Place, usize), OutOfMemory>
+) -> Result<(ChunkedPlace, usize), OutOfMemory>
     requires read { ReadTo most_bytes at body.now from Start parts.old.items }
     requires room { at + length body.now + most_bytes < 2 ^ 32 }
     ensures read { IfOk result (λ r. ReadTo most_bytes at body.now r.1 r.0 parts.new.items) }
@@ -65,11 +65,11 @@ fn pass_chunks(
             end: start + size,
         })?;
         if !has_data(size, &body[read..]) {
-            return Ok((Place::Data(size), read));
+            return Ok((ChunkedPlace::Data(size), read));
         }
         read += size as usize + 2;
     }
-    Ok((Place::Start, read))
+    Ok((ChunkedPlace::Start, read))
 }
 
 /// The end of the complete trailer lines from an offset on, at which the first of them begins.
@@ -96,9 +96,9 @@ pub(crate) fn pass(
     parts: &mut Vec<Part>,
     at: u32,
     body: &[u8],
-    place: Place,
+    place: ChunkedPlace,
     read: usize,
-) -> Result<(Place, usize), OutOfMemory>
+) -> Result<(ChunkedPlace, usize), OutOfMemory>
     requires read { ReadTo most_bytes at body.now read place parts.old.items }
     requires some { read < length body.now }
     requires room { at + length body.now + most_bytes < 2 ^ 32 }
@@ -113,8 +113,8 @@ pub(crate) fn pass(
     let end = read + stretch.len;
     add_part(parts, part_at(stretch.ahead, at + end as u32))?;
     match stretch.next {
-        Place::Start => pass_chunks(parts, at, body, end),
-        Place::TrailerStart => Ok((Place::TrailerStart, lines_end(body, end))),
+        ChunkedPlace::Start => pass_chunks(parts, at, body, end),
+        ChunkedPlace::TrailerStart => Ok((ChunkedPlace::TrailerStart, lines_end(body, end))),
         next => Ok((next, end)),
     }
 }

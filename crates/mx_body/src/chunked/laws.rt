@@ -38,7 +38,7 @@ pub fn framing_is_strict()
     ensures examples { BareLfExamples }
 {}
 
-/// What the places of a reader (`place::Place`) say of the bytes read, whatever the pieces they came in: a body with its parts, a prefix of
+/// What the places of a reader (`place::ChunkedPlace`) say of the bytes read, whatever the pieces they came in: a body with its parts, a prefix of
 /// one, no prefix of one, or one with a size over the limit.
 pub fn places_tell()
     ensures done { DoneIsWhole }

@@ -5,16 +5,16 @@ ghost use Rattle.mx_body.specs.Chunked.{ChunkedBody, IsChunkedBody, chunked_byte
 ghost use Rattle.mx_body.specs.ChunkedPlace.{begun, data_left};
 
 use crate::Part;
-use crate::chunked::place::Place;
+use crate::chunked::place::ChunkedPlace;
 use mx_types::OutOfMemory;
 use std::alloc::Global;
 
-pub(crate) fn begun(place: Place, next: Place, at: u32) -> Option<Part>
+pub(crate) fn begun(place: ChunkedPlace, next: ChunkedPlace, at: u32) -> Option<Part>
     requires { at + data_left next < 2 ^ 32 }
     ensures { option_to_list result ≡ begun place next at }
 {
     match (place, next) {
-        (Place::SizeLf(_), Place::Data(left)) => Some(Part {
+        (ChunkedPlace::SizeLf(_), ChunkedPlace::Data(left)) => Some(Part {
             start: at,
             end: at + left,
         }),
@@ -37,7 +37,7 @@ pub fn chunked_parts(alloc: Global, input: &[u8], at: u32) -> Result<Vec<Part>, 
         → input.now ≡ chunked_bytes body → body.chunks ≢ []) }
 {
     let mut parts = Vec::new(alloc);
-    let mut place = Place::Start;
+    let mut place = ChunkedPlace::Start;
     let mut read = 0;
     while read < input.len() {
         let (next, len) = place.advance(u32::MAX, &input[read..]);

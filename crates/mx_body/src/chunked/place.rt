@@ -7,7 +7,7 @@ use httparse::parse_hex_digit;
 
 /// A reader's place after some bytes of a chunked body.
 #[derive(Clone, Copy)]
-pub enum Place {
+pub enum ChunkedPlace {
     /// Before the first digit of a size.
     Start,
     /// After some digits of a size, with the value so far.
@@ -39,13 +39,13 @@ pub enum Place {
 }
 
 // rule body-chunk-size
-fn sized(limit: u32, size: u64) -> Place
+fn sized(limit: u32, size: u64) -> ChunkedPlace
     ensures { result ≡ sized limit size }
 {
     if size <= u64::from(limit) {
-        Place::Size(size as u32)
+        ChunkedPlace::Size(size as u32)
     } else {
-        Place::TooLarge
+        ChunkedPlace::TooLarge
     }
 }
 
@@ -56,77 +56,81 @@ fn size_with(size: u32, digit: u64) -> u64
     u64::from(size) * 16 + digit
 }
 
-fn after_digits(size: u32, b: u8) -> Place
+fn after_digits(size: u32, b: u8) -> ChunkedPlace
     ensures { result ≡ after_digits size b }
 {
     match b {
-        b' ' | b'\t' | b';' => Place::Extension(size),
-        b'\r' => Place::SizeLf(size),
-        _ => Place::Bad,
+        b' ' | b'\t' | b';' => ChunkedPlace::Extension(size),
+        b'\r' => ChunkedPlace::SizeLf(size),
+        _ => ChunkedPlace::Bad,
     }
 }
 
-fn in_line(b: u8, on: Place, ends: Place) -> Place
+fn in_line(b: u8, on: ChunkedPlace, ends: ChunkedPlace) -> ChunkedPlace
     ensures { result ≡ in_line b on ends }
 {
     match b {
         b'\r' => ends,
-        b'\n' => Place::Bad,
+        b'\n' => ChunkedPlace::Bad,
         _ => on,
     }
 }
 
-fn expect(b: u8, wanted: u8, next: Place) -> Place
+fn expect(b: u8, wanted: u8, next: ChunkedPlace) -> ChunkedPlace
     ensures { result ≡ expect b wanted next }
 {
-    if b == wanted { next } else { Place::Bad }
+    if b == wanted { next } else { ChunkedPlace::Bad }
 }
 
-pub(crate) fn after_line(size: u32) -> Place
+pub(crate) fn after_line(size: u32) -> ChunkedPlace
     ensures { result ≡ after_line size }
 {
     if size == 0 {
-        Place::TrailerStart
+        ChunkedPlace::TrailerStart
     } else {
-        Place::Data(size)
+        ChunkedPlace::Data(size)
     }
 }
 
-impl Place {
+impl ChunkedPlace {
     // rule body-chunk-framing
     /// The place after one more byte, where no size may be over the limit.
-    pub fn step(self, limit: u32, b: u8) -> Place
+    pub fn step(self, limit: u32, b: u8) -> ChunkedPlace
         ensures { result ≡ next_place limit self b }
     {
         match self {
-            Place::Start => match parse_hex_digit(b) {
+            ChunkedPlace::Start => match parse_hex_digit(b) {
                 Some(digit) => sized(limit, digit),
-                None => Place::Bad,
+                None => ChunkedPlace::Bad,
             },
-            Place::Size(size) => match parse_hex_digit(b) {
+            ChunkedPlace::Size(size) => match parse_hex_digit(b) {
                 Some(digit) => sized(limit, size_with(size, digit)),
                 None => after_digits(size, b),
             },
-            Place::Extension(size) => in_line(b, Place::Extension(size), Place::SizeLf(size)),
-            Place::SizeLf(size) => expect(b, b'\n', after_line(size)),
-            Place::Data(left) => if left <= 1 {
-                Place::DataCr
+            ChunkedPlace::Extension(size) => in_line(
+                b,
+                ChunkedPlace::Extension(size),
+                ChunkedPlace::SizeLf(size),
+            ),
+            ChunkedPlace::SizeLf(size) => expect(b, b'\n', after_line(size)),
+            ChunkedPlace::Data(left) => if left <= 1 {
+                ChunkedPlace::DataCr
             } else {
-                Place::Data(left - 1)
+                ChunkedPlace::Data(left - 1)
             },
-            Place::DataCr => expect(b, b'\r', Place::DataLf),
-            Place::DataLf => expect(b, b'\n', Place::Start),
-            Place::TrailerStart => in_line(b, Place::Trailer, Place::EndLf),
-            Place::Trailer => in_line(b, Place::Trailer, Place::TrailerLf),
-            Place::TrailerLf => expect(b, b'\n', Place::TrailerStart),
-            Place::EndLf => expect(b, b'\n', Place::Done),
-            Place::Done | Place::Bad => Place::Bad,
-            Place::TooLarge => Place::TooLarge,
+            ChunkedPlace::DataCr => expect(b, b'\r', ChunkedPlace::DataLf),
+            ChunkedPlace::DataLf => expect(b, b'\n', ChunkedPlace::Start),
+            ChunkedPlace::TrailerStart => in_line(b, ChunkedPlace::Trailer, ChunkedPlace::EndLf),
+            ChunkedPlace::Trailer => in_line(b, ChunkedPlace::Trailer, ChunkedPlace::TrailerLf),
+            ChunkedPlace::TrailerLf => expect(b, b'\n', ChunkedPlace::TrailerStart),
+            ChunkedPlace::EndLf => expect(b, b'\n', ChunkedPlace::Done),
+            ChunkedPlace::Done | ChunkedPlace::Bad => ChunkedPlace::Bad,
+            ChunkedPlace::TooLarge => ChunkedPlace::TooLarge,
         }
     }
 
     /// The place after the next byte, or, within data, after the data that is there; and how many bytes that is.
-    pub fn advance(self, limit: u32, input: &[u8]) -> (Place, usize)
+    pub fn advance(self, limit: u32, input: &[u8]) -> (ChunkedPlace, usize)
         requires { 0 < length input.now }
         ensures moved { 0 < result.1 }
         ensures within { result.1 ≤ length input.now }
@@ -138,12 +142,12 @@ impl Place {
         ensures by_one_byte { is_settled result.0 ≡ true → result.1 ≡ 1 }
     {
         match self {
-            Place::Data(left) if left > 0 => {
+            ChunkedPlace::Data(left) if left > 0 => {
                 let there = input.len() as u64;
                 if u64::from(left) <= there {
-                    (Place::DataCr, left as usize)
+                    (ChunkedPlace::DataCr, left as usize)
                 } else {
-                    (Place::Data(left - there as u32), input.len())
+                    (ChunkedPlace::Data(left - there as u32), input.len())
                 }
             }
             _ => (self.step(limit, input[0]), 1),

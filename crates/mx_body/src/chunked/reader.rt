@@ -3,14 +3,14 @@
 ghost use Rattle.std.specs.Prelude.{◌≡◌, [], ◌+◌, ◌<◌, ◌^◌, ℕ, length, false, Ok, IfOk, OnOk, OnErr};
 ghost use Rattle.mx_head.specs.Limits.{most_bytes};
 ghost use Rattle.mx_body.specs.ChunkedPlace.{is_settled};
-ghost use Rattle.mx_body.specs.declared.chunked.place.Place.TheVariants.{Start};
+ghost use Rattle.mx_body.specs.declared.chunked.place.ChunkedPlace.TheVariants.{Start};
 ghost use Rattle.mx_body.specs.ChunkedScan.{IsChunkedScan};
 ghost use Rattle.mx_body.specs.declared.chunked.scan.ChunkedScan.TheVariants.{Whole, Short};
 ghost use Rattle.mx_body.specs.ChunkedReader.{HasRead};
 
 use crate::Part;
 use crate::chunked::chunks::pass;
-use crate::chunked::place::Place;
+use crate::chunked::place::ChunkedPlace;
 use crate::chunked::scan::ChunkedScan;
 use mx_types::OutOfMemory;
 use std::alloc::Global;
@@ -20,7 +20,7 @@ use std::alloc::Global;
 pub(crate) struct ChunkedReader {
     /// The offset at which the body begins.
     pub(crate) at: u32,
-    pub(crate) place: Place,
+    pub(crate) place: ChunkedPlace,
     /// How many bytes of the body were read.
     pub(crate) read: usize,
     /// One for each chunk whose size line was read, even where its data are still to come.
@@ -37,13 +37,13 @@ impl ChunkedReader {
     {
         ChunkedReader {
             at,
-            place: Place::Start,
+            place: ChunkedPlace::Start,
             read: 0,
             parts: Vec::new(alloc),
         }
     }
 
-    fn go_to(&mut self, place: Place, read: usize)
+    fn go_to(&mut self, place: ChunkedPlace, read: usize)
         ensures { self.new ≡ record self.old { place = place; read = read } }
     {
         self.place = place;
@@ -80,15 +80,15 @@ impl ChunkedReader {
                 }
             }
             match place {
-                Place::Done => {
+                ChunkedPlace::Done => {
                     self.go_to(place, read);
                     return Ok(ChunkedScan::Whole { len: read });
                 }
-                Place::Bad => {
+                ChunkedPlace::Bad => {
                     self.go_to(place, read);
                     return Ok(ChunkedScan::Bad);
                 }
-                Place::TooLarge => {
+                ChunkedPlace::TooLarge => {
                     self.go_to(place, read);
                     return Ok(ChunkedScan::TooLarge);
                 }

@@ -3,7 +3,7 @@
 ghost use Rattle.std.specs.Prelude.{◌≡◌};
 ghost use Rattle.mx_body.specs.ChunkedScan.{IsChunkedScan};
 
-use crate::chunked::place::Place;
+use crate::chunked::place::ChunkedPlace;
 
 /// What the first bytes of an input are, read as a chunked body with no size over a limit.
 #[derive(Clone, Copy, PartialEq, Eq)]
@@ -25,15 +25,15 @@ pub enum ChunkedScan {
 pub fn scan_chunked(input: &[u8], limit: u32) -> ChunkedScan
     ensures { IsChunkedScan limit input.now result }
 {
-    let mut place = Place::Start;
+    let mut place = ChunkedPlace::Start;
     let mut at = 0;
     while at < input.len() {
         let (next, len) = place.advance(limit, &input[at..]);
         at += len;
         match next {
-            Place::Done => return ChunkedScan::Whole { len: at },
-            Place::Bad => return ChunkedScan::Bad,
-            Place::TooLarge => return ChunkedScan::TooLarge,
+            ChunkedPlace::Done => return ChunkedScan::Whole { len: at },
+            ChunkedPlace::Bad => return ChunkedScan::Bad,
+            ChunkedPlace::TooLarge => return ChunkedScan::TooLarge,
             _ => place = next,
         }
     }

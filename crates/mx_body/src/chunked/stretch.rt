@@ -2,14 +2,14 @@
 
 ghost use Rattle.std.specs.Prelude.{◌≡◌, ◌+◌, ◌<◌, ◌≤◌, ◌∷◌, ◌++◌, ℕ, [], length, take, slice_index, true, IsTrue, None, Some, ◌⊎◌, ◌==◌, ◌^◌, option_to_list, OnOk, OnErr, if◌then◌else◌};
 ghost use Rattle.std.specs.Char.{is_ascii_hexdigit};
-ghost use Rattle.mx_body.specs.declared.chunked.place.Place.{Place};
-ghost use Rattle.mx_body.specs.declared.chunked.place.Place.TheVariants.{Start, Size, Extension, Data, TrailerStart, Trailer};
+ghost use Rattle.mx_body.specs.declared.chunked.place.ChunkedPlace.{ChunkedPlace};
+ghost use Rattle.mx_body.specs.declared.chunked.place.ChunkedPlace.TheVariants.{Start, Size, Extension, Data, TrailerStart, Trailer};
 ghost use Rattle.mx_body.specs.Chunked.{is_line_byte};
 ghost use Rattle.mx_body.specs.ChunkedPlace.{begun, after_line};
 ghost use Rattle.mx_body.specs.ChunkedStretch.{GoesOn, IsStretch, part_begun};
 
 use crate::Part;
-use crate::chunked::place::{Place, after_line};
+use crate::chunked::place::{ChunkedPlace, after_line};
 use httparse::parse_hex_digit;
 use memchr::memchr2;
 use mx_types::OutOfMemory;
@@ -18,7 +18,7 @@ use mx_types::OutOfMemory;
 #[derive(Clone, Copy)]
 pub(crate) struct Stretch {
     /// The place after them.
-    pub(crate) next: Place,
+    pub(crate) next: ChunkedPlace,
     /// How many there are.
     pub(crate) len: usize,
     /// Where they end the line of a chunk with data, how many bytes of data follow.
@@ -65,18 +65,18 @@ pub(crate) fn line_bytes(input: &[u8]) -> usize
 }
 
 /// How many bytes of data begin at the second place, where it is reached from the first by a byte.
-fn data_begun(place: Place, next: Place) -> Option<u32>
+fn data_begun(place: ChunkedPlace, next: ChunkedPlace) -> Option<u32>
     ensures part { (at : ℕ) → part_begun result at ≡ begun place next at }
     ensures ahead { (left : ℕ) → result ≡ Some left → next ≡ Data left }
 {
     match (place, next) {
-        (Place::SizeLf(_), Place::Data(left)) => Some(left),
+        (ChunkedPlace::SizeLf(_), ChunkedPlace::Data(left)) => Some(left),
         _ => None,
     }
 }
 
 /// One byte, or the data that are there.
-fn step(place: Place, limit: u32, input: &[u8]) -> Stretch
+fn step(place: ChunkedPlace, limit: u32, input: &[u8]) -> Stretch
     requires { 0 < length input.now }
     ensures { IsStretch limit place input.now result }
 {
@@ -119,11 +119,11 @@ fn data_of(size: u32) -> Option<u32>
 }
 
 /// The stretch of `n` bytes that lead to `next`, with the CRLF after them where that ends a chunk's line of that size.
-fn line_of_size(size: u32, next: Place, n: usize, input: &[u8]) -> Stretch
+fn line_of_size(size: u32, next: ChunkedPlace, n: usize, input: &[u8]) -> Stretch
     requires some { 0 < n }
     requires within { n ≤ length input.now }
     requires next { (next ≡ Size size) ⊎ (next ≡ Extension size) }
-    ensures { (limit : ℕ) (place : Place) → GoesOn limit place next n input.now → IsStretch limit place input.now result }
+    ensures { (limit : ℕ) (place : ChunkedPlace) → GoesOn limit place next n input.now → IsStretch limit place input.now result }
 {
     if !is_crlf_at(input, n) {
         return Stretch {
@@ -140,7 +140,7 @@ fn line_of_size(size: u32, next: Place, n: usize, input: &[u8]) -> Stretch
 }
 
 /// The stretch of the bytes after digits with the value `size`; `place` is theirs, or, where there are none, the start.
-fn from_size(place: Place, limit: u32, size: u32, input: &[u8]) -> Stretch
+fn from_size(place: ChunkedPlace, limit: u32, size: u32, input: &[u8]) -> Stretch
     requires some { 0 < length input.now }
     requires place { (place ≡ Size size) ⊎ ((place ≡ Start) × (size ≡ 0)) }
     ensures { IsStretch limit place input.now result }
@@ -149,7 +149,7 @@ fn from_size(place: Place, limit: u32, size: u32, input: &[u8]) -> Stretch
     if n == 0 {
         return step(place, limit, input);
     }
-    line_of_size(value, Place::Size(value), n, input)
+    line_of_size(value, ChunkedPlace::Size(value), n, input)
 }
 
 fn from_extension(limit: u32, size: u32, input: &[u8]) -> Stretch
@@ -158,13 +158,13 @@ fn from_extension(limit: u32, size: u32, input: &[u8]) -> Stretch
 {
     let n = line_bytes(input);
     if n == 0 {
-        return step(Place::Extension(size), limit, input);
+        return step(ChunkedPlace::Extension(size), limit, input);
     }
-    line_of_size(size, Place::Extension(size), n, input)
+    line_of_size(size, ChunkedPlace::Extension(size), n, input)
 }
 
 /// The stretch of the bytes of a trailer line, from its beginning or from within.
-fn from_trailer(place: Place, limit: u32, input: &[u8]) -> Stretch
+fn from_trailer(place: ChunkedPlace, limit: u32, input: &[u8]) -> Stretch
     requires some { 0 < length input.now }
     requires place { (place ≡ TrailerStart) ⊎ (place ≡ Trailer) }
     ensures { IsStretch limit place input.now result }
@@ -175,13 +175,13 @@ fn from_trailer(place: Place, limit: u32, input: &[u8]) -> Stretch
     }
     if is_crlf_at(input, n) {
         return Stretch {
-            next: Place::TrailerStart,
+            next: ChunkedPlace::TrailerStart,
             len: n + 2,
             ahead: None,
         };
     }
     Stretch {
-        next: Place::Trailer,
+        next: ChunkedPlace::Trailer,
         len: n,
         ahead: None,
     }
@@ -195,25 +195,25 @@ fn from_data(limit: u32, left: u32, input: &[u8]) -> Stretch
     let n = left as usize;
     if 0 < n && n <= input.len() && is_crlf_at(input, n) {
         return Stretch {
-            next: Place::Start,
+            next: ChunkedPlace::Start,
             len: n + 2,
             ahead: None,
         };
     }
-    step(Place::Data(left), limit, input)
+    step(ChunkedPlace::Data(left), limit, input)
 }
 
 /// The bytes at the front that are passed at once from a place.
-pub(crate) fn go_over(place: Place, limit: u32, input: &[u8]) -> Stretch
+pub(crate) fn go_over(place: ChunkedPlace, limit: u32, input: &[u8]) -> Stretch
     requires { 0 < length input.now }
     ensures { IsStretch limit place input.now result }
 {
     match place {
-        Place::Start => from_size(place, limit, 0, input),
-        Place::Size(size) => from_size(place, limit, size, input),
-        Place::Extension(size) => from_extension(limit, size, input),
-        Place::TrailerStart | Place::Trailer => from_trailer(place, limit, input),
-        Place::Data(left) => from_data(limit, left, input),
+        ChunkedPlace::Start => from_size(place, limit, 0, input),
+        ChunkedPlace::Size(size) => from_size(place, limit, size, input),
+        ChunkedPlace::Extension(size) => from_extension(limit, size, input),
+        ChunkedPlace::TrailerStart | ChunkedPlace::Trailer => from_trailer(place, limit, input),
+        ChunkedPlace::Data(left) => from_data(limit, left, input),
         _ => step(place, limit, input),
     }
 }

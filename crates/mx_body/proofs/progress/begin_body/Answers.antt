@@ -1,6 +1,6 @@
 use Rattle.std.proofs.Common.{sym, arith}
 use Rattle.mx_head.specs.Limits.{most_bytes}
-use Rattle.mx_body.specs.declared.chunked.place.Place.TheVariants.{Start}
+use Rattle.mx_body.specs.declared.chunked.place.ChunkedPlace.TheVariants.{Start}
 use Rattle.mx_body.proofs.ChunkedRun.{place_after-nil, parts_begun-nil}
 use Rattle.mx_body.proofs.progress.begin_body.Goals as goal
 

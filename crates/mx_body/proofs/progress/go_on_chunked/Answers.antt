@@ -5,7 +5,7 @@ use Rattle.mx_body.specs.Chunked.{chunked_bytes, chunk_parts}
 use Rattle.mx_body.specs.ChunkedScan.{IsChunkedScan}
 use Rattle.mx_body.specs.Decision.{first_bytes}
 use Rattle.mx_body.specs.ChunkedPlace.{parts_begun}
-use Rattle.mx_body.specs.declared.chunked.place.Place.TheVariants.{Start}
+use Rattle.mx_body.specs.declared.chunked.place.ChunkedPlace.TheVariants.{Start}
 use Rattle.mx_body.proofs.MeetsLemmas.{body_response}
 use Rattle.mx_body.proofs.FirstBytesLemmas.{first_body, length-first_bytes}
 use Rattle.mx_body.proofs.VerdictLemmas.{input_length}

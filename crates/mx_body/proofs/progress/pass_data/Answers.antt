@@ -1,6 +1,6 @@
 use Rattle.std.proofs.Common.{◌-◌, false, length, take, subst, sym, refl, arith}
 use Rattle.std.proofs.lemmas.List.{length-take-le}
-use Rattle.mx_body.specs.declared.chunked.place.Place.TheVariants.{Data}
+use Rattle.mx_body.specs.declared.chunked.place.ChunkedPlace.TheVariants.{Data}
 use Rattle.mx_body.specs.declared.progress.Phase.{Phase}
 use Rattle.mx_body.specs.Progress.{IsPhase, KnowsHead}
 use Rattle.mx_body.proofs.ProgressLemmas.{head_grows, chunks_pass, chunks_undecided}

@@ -1,7 +1,7 @@
 use Rattle.std.proofs.Common.{◌∙◌, ap, sym, arith}
 use Rattle.std.proofs.lemmas.List.{take_all}
 use Rattle.mx_head.specs.Limits.{most_bytes}
-use Rattle.mx_body.specs.declared.chunked.place.Place.TheVariants.{Start}
+use Rattle.mx_body.specs.declared.chunked.place.ChunkedPlace.TheVariants.{Start}
 use Rattle.mx_body.specs.ChunkedPlace.{place_after}
 use Rattle.mx_body.proofs.ChunkedRun.{place_after-nil}
 use Rattle.mx_body.proofs.ChunkedSteps.{further}

@@ -1,6 +1,6 @@
 use Rattle.std.proofs.Common.{ap, subst, ◌∙◌}
 use Rattle.mx_multi.specs.Seats.{MultiView}
-use Rattle.mx_worker_turns.specs.Desks.{HasRun}
+use Rattle.mx_worker_turns.specs.WorkerSteps.{HasRun}
 use Rattle.mx_worker.specs.Work.{IsDone, TallyView}
 use Rattle.mx_worker.proofs.Tallies.{ran}
 use Rattle.mx_worker.proofs.worker.run_worker.Goals as goal

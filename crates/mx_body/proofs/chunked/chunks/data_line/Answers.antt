@@ -1,5 +1,5 @@
 use Rattle.std.proofs.Common.{refl, arith}
-use Rattle.mx_body.specs.declared.chunked.place.Place.TheVariants.{Data}
+use Rattle.mx_body.specs.declared.chunked.place.ChunkedPlace.TheVariants.{Data}
 use Rattle.mx_body.proofs.ChunkedReaderLemmas.{left_fits}
 use Rattle.mx_body.proofs.ChunkedStretchLemmas.{data_line_ends}
 use Rattle.mx_body.proofs.chunked.chunks.data_line.Goals as goal

@@ -2,7 +2,7 @@ use Rattle.std.proofs.Common.{◌+◌, ◌-◌, length, take, drop, inl, refl, s
 use Rattle.std.proofs.lemmas.List.{append-nil}
 use Rattle.mx_head.specs.Limits.{most_bytes}
 use Rattle.mx_body.specs.declared.part.Part.{Part}
-use Rattle.mx_body.specs.declared.chunked.place.Place.TheVariants.{TrailerStart}
+use Rattle.mx_body.specs.declared.chunked.place.ChunkedPlace.TheVariants.{TrailerStart}
 use Rattle.mx_body.specs.ChunkedReader.{ReadTo}
 use Rattle.mx_body.proofs.ChunkedReaderLemmas.{led}
 use Rattle.mx_body.proofs.ChunkedStretchLemmas.{trailer_ends, trailer_goes_on}

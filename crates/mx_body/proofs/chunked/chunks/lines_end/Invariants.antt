@@ -1,7 +1,7 @@
 use Rattle.std.proofs.Common.{ℕ, List, length, ◌-◌, ◌≤◌}
 use Rattle.mx_head.specs.Limits.{most_bytes}
 use Rattle.mx_body.specs.declared.part.Part.{Part}
-use Rattle.mx_body.specs.declared.chunked.place.Place.TheVariants.{TrailerStart}
+use Rattle.mx_body.specs.declared.chunked.place.ChunkedPlace.TheVariants.{TrailerStart}
 use Rattle.mx_body.specs.ChunkedReader.{ReadTo}
 use Rattle.mx_body.proofs.chunked.chunks.lines_end.Given as goal
 

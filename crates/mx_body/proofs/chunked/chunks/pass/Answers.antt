@@ -3,8 +3,8 @@ use Rattle.std.specs.Prelude.{option_to_list}
 use Rattle.std.proofs.lemmas.List.{take-append-le}
 use Rattle.mx_head.specs.Limits.{most_bytes}
 use Rattle.mx_body.specs.declared.part.Part.{Part}
-use Rattle.mx_body.specs.declared.chunked.place.Place.{Place}
-use Rattle.mx_body.specs.declared.chunked.place.Place.TheVariants.{Data}
+use Rattle.mx_body.specs.declared.chunked.place.ChunkedPlace.{ChunkedPlace}
+use Rattle.mx_body.specs.declared.chunked.place.ChunkedPlace.TheVariants.{Data}
 use Rattle.mx_body.specs.ChunkedReader.{ReadTo}
 use Rattle.mx_body.proofs.ChunkedReaderLemmas.{led, left_fits}
 use Rattle.mx_body.proofs.ChunkedSteps.{further}
@@ -23,7 +23,7 @@ pass_chunks-requires-clause-read c =
     let end = c.args.read + c.go_over-stretch.result.len in
     let items = c.in_ok-add_part.ensures.added ∙ ap (λ ps. old ++ ps) c.part_at.ensures in
     let here = led most_bytes at body c.args.read c.args.place old c.go_over-stretch.result c.requires.read c.go_over-stretch.ensures in
-    subst (λ (p : Place). ReadTo most_bytes at body end p c.add_part.new.parts.items) c.in-Start.is
+    subst (λ (p : ChunkedPlace). ReadTo most_bytes at body end p c.add_part.new.parts.items) c.in-Start.is
     (subst (λ (ps : List Part). ReadTo most_bytes at body end c.go_over-stretch.result.next ps) (sym items) here)
 
 pub returns-in-TrailerStart-clause-read : goal.returns-in-TrailerStart-clause-read
@@ -35,7 +35,7 @@ returns-in-TrailerStart-clause-read c =
     let items = c.in_ok-add_part.ensures.added ∙ ap (λ ps. old ++ ps) c.part_at.ensures in
     let here = led most_bytes at body c.args.read c.args.place old c.go_over-stretch.result c.requires.read c.go_over-stretch.ensures in
     c.lines_end.ensures.read at c.add_part.new.parts.items
-    (subst (λ (p : Place). ReadTo most_bytes at body end p c.add_part.new.parts.items) c.in-TrailerStart.is
+    (subst (λ (p : ChunkedPlace). ReadTo most_bytes at body end p c.add_part.new.parts.items) c.in-TrailerStart.is
     (subst (λ (ps : List Part). ReadTo most_bytes at body end c.go_over-stretch.result.next ps) (sym items) here))
 
 pub returns-in_default : goal.returns-in_default

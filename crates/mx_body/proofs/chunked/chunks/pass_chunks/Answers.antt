@@ -2,7 +2,7 @@ use Rattle.std.proofs.Common.{◌≡◌, ◌+◌, ◌++◌, length, take, List, 
 use Rattle.std.proofs.lemmas.List.{append-nil, take-append-le}
 use Rattle.mx_head.specs.Limits.{most_bytes}
 use Rattle.mx_body.specs.declared.part.Part.{Part}
-use Rattle.mx_body.specs.declared.chunked.place.Place.TheVariants.{Start, Data}
+use Rattle.mx_body.specs.declared.chunked.place.ChunkedPlace.TheVariants.{Start, Data}
 use Rattle.mx_body.specs.ChunkedReader.{ReadTo}
 use Rattle.mx_body.specs.ChunkedStretch.{part_begun}
 use Rattle.mx_body.proofs.ChunkedReaderLemmas.{led}

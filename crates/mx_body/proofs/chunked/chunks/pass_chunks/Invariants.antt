@@ -1,6 +1,6 @@
 use Rattle.std.proofs.Common.{ℕ, length, take, ◌-◌, ◌≡◌, ◌≤◌}
 use Rattle.mx_head.specs.Limits.{most_bytes}
-use Rattle.mx_body.specs.declared.chunked.place.Place.TheVariants.{Start}
+use Rattle.mx_body.specs.declared.chunked.place.ChunkedPlace.TheVariants.{Start}
 use Rattle.mx_body.specs.ChunkedReader.{ReadTo}
 use Rattle.mx_body.proofs.chunked.chunks.pass_chunks.Given as goal
 

@@ -3,7 +3,7 @@ use Rattle.std.specs.Prelude.{option_to_list, OnErr, Result, Ok, Err}
 use Rattle.std.proofs.lemmas.List.{append-nil}
 use Rattle.mx_body.specs.declared.part.Part.{Part}
 use Rattle.mx_body.specs.ChunkedPlace.{parts_begun}
-use Rattle.mx_body.specs.declared.chunked.place.Place.TheVariants.{Start}
+use Rattle.mx_body.specs.declared.chunked.place.ChunkedPlace.TheVariants.{Start}
 use Rattle.mx_body.proofs.ChunkedRun.{place_after-nil, parts_begun-nil}
 use Rattle.mx_body.proofs.ChunkedSteps.{further}
 use Rattle.mx_body.proofs.ChunkedParts.{further_parts, has_room, all_parts, has_chunk}

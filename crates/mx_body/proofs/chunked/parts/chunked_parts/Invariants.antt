@@ -1,5 +1,5 @@
 use Rattle.std.proofs.Common.{length, take, ◌-◌, ◌≡◌, ◌≤◌}
-use Rattle.mx_body.specs.declared.chunked.place.Place.TheVariants.{Start}
+use Rattle.mx_body.specs.declared.chunked.place.ChunkedPlace.TheVariants.{Start}
 use Rattle.mx_body.specs.ChunkedPlace.{place_after, parts_begun}
 use Rattle.mx_body.proofs.chunked.parts.chunked_parts.Given as goal
 

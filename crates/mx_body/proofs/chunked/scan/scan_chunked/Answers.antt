@@ -1,5 +1,5 @@
 use Rattle.std.proofs.Common.{◌≡◌, ◌+◌, false, refl, sym, ap, ◌∙◌, arith}
-use Rattle.mx_body.specs.declared.chunked.place.Place.TheVariants.{Start}
+use Rattle.mx_body.specs.declared.chunked.place.ChunkedPlace.TheVariants.{Start}
 use Rattle.mx_body.specs.ChunkedPlace.{is_settled}
 use Rattle.mx_body.proofs.ChunkedRun.{place_after-nil}
 use Rattle.mx_body.proofs.ChunkedSteps.{is_open, At, further, whole_at, short, bad_at, large_at}

@@ -1,5 +1,5 @@
 use Rattle.std.proofs.Common.{length, take, false, ◌-◌, ◌≡◌, ◌≤◌}
-use Rattle.mx_body.specs.declared.chunked.place.Place.TheVariants.{Start}
+use Rattle.mx_body.specs.declared.chunked.place.ChunkedPlace.TheVariants.{Start}
 use Rattle.mx_body.specs.ChunkedPlace.{place_after, is_settled}
 use Rattle.mx_body.proofs.chunked.scan.scan_chunked.Given as goal
 

@@ -1,6 +1,6 @@
 use Rattle.std.proofs.Common.{ℕ, ◌≡◌, ◌≤◌, ◌*◌, ◌+◌, true, get_or, subst, sym, arith}
 use Rattle.std.specs.Char.{is_ascii_hexdigit}
-use Rattle.mx_body.specs.declared.chunked.place.Place.TheVariants.{Size}
+use Rattle.mx_body.specs.declared.chunked.place.ChunkedPlace.TheVariants.{Size}
 use Rattle.mx_body.specs.ChunkedStretch.{GoesOn}
 use Rattle.mx_body.proofs.ChunkedStretchLemmas.{stays_there, digit_more, first_more}
 use Rattle.mx_body.proofs.chunked.stretch.digits.Goals as goal

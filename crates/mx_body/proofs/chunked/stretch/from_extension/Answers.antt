@@ -1,4 +1,4 @@
-use Rattle.mx_body.specs.declared.chunked.place.Place.TheVariants.{Extension}
+use Rattle.mx_body.specs.declared.chunked.place.ChunkedPlace.TheVariants.{Extension}
 use Rattle.mx_body.proofs.ChunkedStretchLemmas.{extension_goes_on}
 use Rattle.mx_body.proofs.chunked.stretch.from_extension.Goals as goal
 

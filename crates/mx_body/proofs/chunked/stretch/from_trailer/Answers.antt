@@ -1,5 +1,5 @@
 use Rattle.std.proofs.Common.{refl, arith}
-use Rattle.mx_body.specs.declared.chunked.place.Place.TheVariants.{Trailer}
+use Rattle.mx_body.specs.declared.chunked.place.ChunkedPlace.TheVariants.{Trailer}
 use Rattle.mx_body.proofs.ChunkedStretchLemmas.{alone, trailer_ends, trailer_goes_on}
 use Rattle.mx_body.proofs.chunked.stretch.from_trailer.Goals as goal
 

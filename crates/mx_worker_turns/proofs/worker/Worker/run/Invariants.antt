@@ -1,6 +1,6 @@
 use Rattle.std.proofs.Common.{◌≡◌}
 use Rattle.mx_turn.specs.Turn.{Runs}
-use Rattle.mx_worker_turns.specs.Desks.{beside}
+use Rattle.mx_worker_turns.specs.WorkerSteps.{beside}
 use Rattle.mx_worker_turns.proofs.worker.Worker.run.Given as goal
 
 abbrev pub invariant-loop : goal.invariant-loop

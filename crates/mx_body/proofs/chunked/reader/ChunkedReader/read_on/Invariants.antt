@@ -1,6 +1,6 @@
 use Rattle.std.proofs.Common.{length, take, false, ◌-◌, ◌≡◌, ◌≤◌}
 use Rattle.mx_head.specs.Limits.{most_bytes}
-use Rattle.mx_body.specs.declared.chunked.place.Place.TheVariants.{Start}
+use Rattle.mx_body.specs.declared.chunked.place.ChunkedPlace.TheVariants.{Start}
 use Rattle.mx_body.specs.ChunkedPlace.{place_after, parts_begun, is_settled}
 use Rattle.mx_body.proofs.chunked.reader.ChunkedReader.read_on.Given as goal
 

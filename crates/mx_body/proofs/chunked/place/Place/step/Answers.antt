@@ -1,5 +1,0 @@
-use Rattle.std.proofs.Common.{rules}
-use Rattle.mx_body.proofs.chunked.place.Place.step.Goals as goal
-
-pub returns-in-Some-parse_hex_digit : goal.returns-in-Some-parse_hex_digit
-returns-in-Some-parse_hex_digit c = search rules

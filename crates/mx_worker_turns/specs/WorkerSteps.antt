@@ -1,0 +1,96 @@
+-- What the functions of a worker promise one another.
+use Rattle.std.specs.Prelude.{◌≡◌, ◌⊎◌, ℕ, ◌+◌, Bool, List, ◌∷◌, ◌++◌, [], length, Option, Some, None}
+use Rattle.logbook.specs.Pages.{Book}
+use Rattle.mx_link.specs.declared.answers.Answer.{Answer}
+use Rattle.mx_turn.specs.Idle.{Idle}
+use Rattle.mx_chain.specs.Chains.{ChainState, received_of}
+use Rattle.mx_chain.specs.Steps.{How, Steps}
+use Rattle.mx_gate.specs.Said.{Said, lacked}
+use Rattle.mx_turn.specs.Workers.{Held, SetAside, Finish, recorded, stale, lacking, unseated, Deed, notes, finishes, Worker, starts, IsOver}
+use Rattle.mx_turn.specs.Turn.{Keeps, Readies, Settles, Runs, is_delayed, prepared, relieved, unlinked}
+
+-- a claimed transfer, and which list of ties has the tie of its claim's addition
+pub record HeldView (L : Type 0) : Type 0 where
+  pub held : Held L
+  pub of : Book
+
+-- an end that is to be handed in, and likewise
+pub record EndView : Type 0 where
+  pub end : SetAside
+  pub of : Book
+
+-- items in order, and of which list of ties they are
+pub record QueueView (T : Type 0) : Type 0 where
+  pub items : List T
+  pub of : Book
+
+-- what a worker has in flight
+pub record RackView (L : Type 0) : Type 0 where
+  pub held : List (Held L)
+  pub set_aside : List SetAside
+  pub of : Book
+
+-- how many those are
+abbrev pub racked : {L : Type 0} → RackView L → ℕ
+racked r = length r.held + length r.set_aside
+
+-- a worker, of which list of ties its claims are, and how its engine began
+pub record WorkerView (L S : Type 0) : Type 0 where
+  pub worker : Worker L
+  pub of : Book
+  pub start : S
+
+-- beside what the gate has said
+abbrev pub beside : {L : Type 0} → Worker L → List Said → Worker L
+beside w said = record w { said = said }
+
+-- an end was handed in: it comes back where memory was refused, and only there
+pub record HandsIn {L : Type 0} (was is : List (Deed L)) (e : EndView) (back : Option EndView) : Type 0 where
+  pub f : Finish
+  pub did : is ≡ was ++ finishes e.end.ticket e.end.outcome f ∷ []
+  pub comes_back : f ≡ lacking → back ≡ Some e
+  pub is_taken : ((f ≡ recorded) ⊎ (f ≡ stale)) ⊎ (f ≡ unseated) → back ≡ None
+
+-- its gate was asked whether too many files are open: then the idle links were dropped
+pub record Relieves {L : Type 0} (w v : Worker L) (was is : List Said) : Type 0 where
+  pub lacks : Bool
+  pub after : v ≡ record w { idle = relieved lacks w.idle }
+  pub meanwhile : is ≡ was ++ lacked lacks ∷ []
+
+-- a transfer is ready for its poll, or no link can be opened for it yet (`delayed`)
+pub record IsReadied {L : Type 0} (history : L → List Answer) (token_of : L → ℕ) (t ready : ChainState L) (goes delayed : Bool) (w v : Worker L) : Type 0 where
+  pub idle : Idle L
+  pub said : List Said
+  pub readies : Readies history token_of goes t ready w.idle idle said
+  pub delays : delayed ≡ is_delayed said
+  pub after : v ≡ record w { idle = idle; said = w.said ++ said }
+
+-- a transfer is polled once: the count of its bytes is noted, and the link that a hop left is kept
+pub record Polls {L : Type 0} (history : L → List Answer) (h : Held L) (left : ChainState L) (w v : Worker L) (how : How) : Type 0 where
+  pub new : ChainState L
+  pub idle : Idle L
+  pub steps : Steps history h.transfer new how
+  pub keeps : Keeps new w.idle idle
+  pub unlinks : left ≡ unlinked new
+  pub after : v ≡ record w { idle = idle; did = w.did ++ notes h.ticket h.slot (received_of new) ∷ [] }
+
+-- a transfer that was looked at is polled
+pub record Advances {L : Type 0} (history : L → List Answer) (token_of : L → ℕ) (now : ℕ) (h : Held L) (goes : Bool) (w v : Worker L) : Type 0 where
+  pub ready : ChainState L
+  pub new : ChainState L
+  pub idle : Idle L
+  pub left : Idle L
+  pub said : List Said
+  pub how : How
+  pub readies : Readies history token_of goes (prepared now goes h.transfer) ready w.idle idle said
+  pub steps : Steps history ready new how
+  pub keeps : Keeps new idle left
+  pub settles : Settles (record h { transfer = unlinked new }) goes (is_delayed said) (record w { idle = left; did = w.did ++ notes h.ticket h.slot (received_of new) ∷ []; said = w.said ++ said }) v how
+
+-- A worker ran, from its start to its end: what was done at the engine, and what its gate said, before and after.
+pub record HasRun {L : Type 0} (history : L → List Answer) (token_of : L → ℕ) (limit : ℕ) (done did : List (Deed L)) (was is : List Said) : Type 0 where
+  pub last : Worker L
+  pub run : Runs history token_of (record (starts limit) { did = done; said = was }) last
+  pub over : IsOver last
+  pub did_is : did ≡ last.did
+  pub said_is : is ≡ last.said

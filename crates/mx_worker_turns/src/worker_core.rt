@@ -1,0 +1,526 @@
+//! A worker's core: what it holds, and what it does with it.
+ghost use Rattle.std.specs.Prelude.{◌≡◌, ◌<◌, ◌≤◌, ◌+◌, ◌↔◌, ◌||◌, ◌&&◌, not, length, map, [], None, Some, true, false, IsTrue, fold, min};
+ghost use Rattle.mx_types.specs.Limits.{most_transfers};
+ghost use Rattle.mx_types.specs.declared.reply.Look.TheVariants as look;
+ghost use Rattle.mx_request.specs.Request.{request_origin};
+ghost use Rattle.mx_exchange.specs.Exchanges.{WantsLink};
+ghost use Rattle.mx_chain.specs.Steps.{IfEnded, IfGoing, Steps, how_of};
+ghost use Rattle.mx_gate.specs.Said.{is_stop};
+ghost use Rattle.mx_turn.specs.Workers.{Return, gives_back, in_hand, does, holds, IsOver};
+ghost use Rattle.mx_turn.specs.Turn.{Each, Claims, Retries, LooksAt, GivesBack, GoesThrough, Stops, WorkerTurn, is_go, longest_wait, prepared, time_left, wait_of};
+ghost use Rattle.mx_worker_turns.specs.WorkerSteps.{Advances, HandsIn, IsReadied, Polls, Relieves, beside};
+
+use crate::engine::{Engine, Finished, Held, LONGEST_WAIT, Right, Tied};
+use crate::next::{least_deadline, take_next};
+use crate::queue::Queue;
+use crate::rack::Rack;
+use futures::Future;
+use futures::task::{Poll, Solo};
+use mx_chain::Stepped;
+use mx_gate::{Gate, Turn};
+use mx_link::Link;
+use mx_transfer::Transfer;
+use mx_turn::Links;
+use mx_types::Look;
+use std::marker::Model;
+use std::sync::Wait;
+
+/// A worker without its spare queues. Contracts see the worker, of which list of ties its claims are, and how its engine began.
+#[derive(Drop)]
+pub(crate) struct WorkerCore<L: Link, C: Right, E: Engine<L, C>> {
+    engine: E,
+    rack: Rack<L, C, E>,
+    links: Links<L>,
+    solo: Solo,
+    is_stopping: bool,
+    can_go_on: bool,
+}
+
+impl<L: Link, C: Right, E: Engine<L, C>> Model for WorkerCore<L, C, E> {
+    ghost use Rattle.std.specs.Prelude.{◌≡◌, []};
+    ghost use Rattle.mx_worker_turns.specs.WorkerSteps.{WorkerView};
+
+    ghost Value = { WorkerView L E.Start };
+
+    ghost view = { λ d. record {
+      worker = record { held = d.rack.held; set_aside = d.rack.set_aside; idle = d.links; is_stopping = d.is_stopping; can_go_on = d.can_go_on; did = E.did d.engine; said = [] };
+      of = E.of d.engine;
+      start = E.start d.engine;
+    } };
+
+    ghost invariant = { λ d. d.rack.of ≡ E.of d.engine };
+}
+
+// The lesser of the longest wait and the milliseconds to the next deadline of these.
+fn least_left<L: Link, C: Right, E: Tied>(held: &Queue<Held<L, C>, E>, now: u64) -> u32
+    ensures { result ≡ fold (λ ms h. min ms (time_left now h.held.transfer.now.deadline)) longest_wait held.now.items }
+{
+    let mut least = LONGEST_WAIT as u32;
+    for place in 0..held.len() {
+        least = least.min(held.get(place).time_left(now));
+    }
+    least
+}
+
+// One poll, in the context of the worker's one task. The task goes on whatever the poll answers.
+// A task that has ended can't say whether a poll asked for another.
+fn poll_once<L: Link>(solo: &Solo, transfer: &mut Transfer<L>) -> Stepped
+    requires running { transfer.old.chain.code ≡ None }
+    ensures steps { Steps L.history transfer.old.chain transfer.new.chain (how_of result) }
+    ensures value { IfEnded result (λ o. o.request ≡ transfer.old.chain.request) }
+    ensures again { IfGoing result (transfer.new.chain.code ≡ None) }
+    ensures same { IfGoing result (transfer.new.chain.request ≡ transfer.old.chain.request) }
+{
+    let mut cx = solo.begin();
+    match transfer.poll(&mut cx) {
+        Poll::Ready(outcome) => {
+            let _again: Poll<()> = cx.yield_now();
+            cx.park();
+            Stepped::Ended(outcome)
+        }
+        Poll::Pending => {
+            cx.park();
+            if transfer.has_asked() {
+                Stepped::Asks
+            } else {
+                Stepped::Waits
+            }
+        }
+    }
+}
+
+// Whether a transfer wants a link.
+fn wants_link<L: Link>(transfer: &Transfer<L>) -> bool
+    ensures { IsTrue result ↔ WantsLink transfer.now.chain.now }
+{
+    transfer.wants().is_some()
+}
+
+// Whether a look found that a transfer is gone.
+fn is_gone(seen: Option<Look>) -> bool
+    ensures { IsTrue result ↔ (seen ≡ Some look.Gone) }
+{
+    matches!(seen, Some(Look::Gone))
+}
+
+// rule turn-paused
+// Whether a look found that a transfer may go on.
+fn may_go(seen: Option<Look>) -> bool
+    ensures { result ≡ is_go seen }
+{
+    matches!(seen, Some(Look::Go))
+}
+
+// rule turn-wait-for-link
+// Whether a transfer that waits could go on at once: one that may go on, and wants a link that may be opened.
+fn could_go_on(goes: bool, delayed: bool, wants: bool) -> bool
+    ensures { result ≡ (goes && (not delayed && wants)) }
+{
+    goes && !delayed && wants
+}
+
+// Hands in an end. One that is refused memory comes back.
+fn hand_in<L: Link, C: Right, E: Engine<L, C>, R: Wait>(
+    rt: &R,
+    engine: &mut E,
+    finished: Finished<C>,
+) -> Option<Finished<C>>
+    requires own { finished.of ≡ E.of engine.old }
+    ensures did { HandsIn (E.did engine.old) (E.did engine.new) finished result }
+    ensures same { (E.of engine.new ≡ E.of engine.old) × (E.start engine.new ≡ E.start engine.old) }
+{
+    let mut place = Some(finished);
+    engine.finish(rt, &mut place);
+    place
+}
+
+impl<L: Link, C: Right, E: Engine<L, C>> WorkerCore<L, C, E> {
+    pub fn new(engine: E, rack: Rack<L, C, E>, links: Links<L>, solo: Solo) -> WorkerCore<L, C, E>
+        requires { rack.of ≡ E.of engine }
+        ensures { result ≡ record {
+          worker = record { held = rack.held; set_aside = rack.set_aside; idle = links; is_stopping = false; can_go_on = false; did = E.did engine; said = [] };
+          of = E.of engine;
+          start = E.start engine;
+        } }
+    {
+        WorkerCore {
+            engine,
+            rack,
+            links,
+            solo,
+            is_stopping: false,
+            can_go_on: false,
+        }
+    }
+
+    /// The engine.
+    pub fn into_engine(self) -> E
+        ensures { (E.did result ≡ self.worker.did) × (E.start result ≡ self.start) }
+    {
+        let WorkerCore {
+            engine,
+            rack,
+            links,
+            solo,
+            ..
+        } = self;
+        drop(rack);
+        drop(links);
+        drop(solo);
+        engine
+    }
+
+    // rule turn-over
+    /// Whether it was told to stop, and has nothing in flight.
+    pub fn is_over(&self) -> bool
+        ensures { IsTrue result ↔ IsOver self.now.worker }
+    {
+        self.is_stopping && self.rack.is_empty()
+    }
+
+    // rule turn-claims
+    // Holds a transfer, after the others.
+    fn hold(&mut self, held: Held<L, C>)
+        requires room { in_hand self.old.worker < most_transfers }
+        requires own { held.of ≡ self.old.of }
+        ensures held { self.new ≡ record self.old { worker = holds self.old.worker held.held } }
+    {
+        self.rack.hold(held);
+    }
+
+    // Notes whether something could go on at once: then this turn isn't to wait.
+    fn go_on_if(&mut self, could: bool)
+        ensures goes_on { self.new ≡ record self.old { worker = record self.old.worker { can_go_on = (self.old.worker.can_go_on || could) } } }
+    {
+        self.can_go_on = self.can_go_on || could;
+    }
+
+    // Holds on to a transfer that was polled, which could go on at once, or couldn't.
+    fn hold_on(&mut self, right: C, transfer: Box<Transfer<L>>, could: bool)
+        requires room { in_hand self.old.worker < most_transfers }
+        requires own { C.of right ≡ self.old.of }
+        requires running { transfer.value.chain.code ≡ None }
+        requires origin { request_origin transfer.value.chain.request ≡ C.origin_of right }
+        ensures held { self.new.worker ≡ holds (record self.old.worker { can_go_on = (self.old.worker.can_go_on || could) }) (record { ticket = C.ticket_of right; slot = C.slot_of right; transfer = transfer.value.chain }) }
+        ensures same { self.new ≡ record self.old { worker = self.new.worker } }
+    {
+        self.go_on_if(could);
+        self.hold(Held::new(right, transfer));
+    }
+
+    // rule turn-files
+    // Asks the gate whether too many files are open, and drops the idle links where they are.
+    fn relieve<G: Gate<Link = L>>(&mut self, gate: &mut G)
+        ensures relieves { Relieves self.old.worker self.new.worker (G.said gate.old) (G.said gate.new) }
+        ensures same { self.new ≡ record self.old { worker = self.new.worker } }
+    {
+        self.links.relieve(gate);
+    }
+
+    // rule turn-claims
+    // Claims a transfer, if there is one and it has room for it.
+    fn claim<R: Wait>(&mut self, rt: &R)
+        ensures claims { Claims self.old.worker self.new.worker }
+        ensures same { self.new ≡ record self.old { worker = self.new.worker } }
+    {
+        if self.is_stopping || !self.rack.has_room() {
+            return;
+        }
+        let Some(claimed) = self.engine.claim(rt) else {
+            return;
+        };
+        // proof: the transfer has not ended
+        claimed.know();
+        self.hold(claimed);
+        let has_room = self.rack.has_room();
+        self.go_on_if(has_room);
+    }
+
+    // Hands in an end. One that is refused memory is set aside.
+    fn record<R: Wait>(&mut self, rt: &R, finished: Finished<C>)
+        requires room { in_hand self.old.worker < most_transfers }
+        requires own { finished.of ≡ self.old.of }
+        ensures retries { Retries finished.end self.old.worker self.new.worker }
+        ensures same { self.new ≡ record self.old { worker = self.new.worker } }
+    {
+        if let Some(finished) = hand_in(rt, &mut self.engine, finished) {
+            self.rack.set_aside(finished);
+        }
+    }
+
+    // rule turn-paused
+    // Gives a transfer the moment and whether it is paused, and a link where it goes on and wants one. The answer is whether none can be
+    // opened for it yet.
+    fn make_ready<G: Gate<Link = L>>(
+        &mut self,
+        gate: &mut G,
+        now: u64,
+        goes: bool,
+        transfer: &mut Transfer<L>,
+    ) -> bool
+        ensures ready { IsReadied L.history L.token_of (prepared now goes transfer.old.chain) transfer.new.chain goes result (beside self.old.worker (G.said gate.old)) (beside self.new.worker (G.said gate.new)) }
+        ensures code { transfer.new.chain.code ≡ transfer.old.chain.code }
+        ensures request { transfer.new.chain.request ≡ transfer.old.chain.request }
+        ensures same { self.new ≡ record self.old { worker = self.new.worker } }
+    {
+        transfer.prepare(now, !goes);
+        if !goes {
+            return false;
+        }
+        self.links.supply(gate, transfer)
+    }
+
+    // rule turn-progress
+    // Polls a transfer once, notes how many bytes it has received, and keeps the link that a hop left.
+    fn poll(&mut self, right: &C, transfer: &mut Transfer<L>) -> Stepped
+        requires running { transfer.old.chain.code ≡ None }
+        ensures polls { Polls L.history (record { ticket = C.ticket_of right.now; slot = C.slot_of right.now; transfer = transfer.old.chain }) transfer.new.chain self.old.worker self.new.worker (how_of result) }
+        ensures value { IfEnded result (λ o. o.request ≡ transfer.old.chain.request) }
+        ensures again { IfGoing result (transfer.new.chain.code ≡ None) }
+        ensures request { IfGoing result (transfer.new.chain.request ≡ transfer.old.chain.request) }
+        ensures same { self.new ≡ record self.old { worker = self.new.worker } }
+    {
+        let stepped = poll_once(&self.solo, transfer);
+        // Before the end is recorded: from then on the slot may be another transfer's.
+        self.engine.note(right, transfer.received());
+        self.links.keep(transfer);
+        stepped
+    }
+
+    // Makes a transfer ready, polls it once, and holds it on unless it has ended.
+    fn advance<R: Wait, G: Gate<Link = L>>(
+        &mut self,
+        rt: &R,
+        gate: &mut G,
+        now: u64,
+        held: Held<L, C>,
+        goes: bool,
+    )
+        requires room { in_hand self.old.worker < most_transfers }
+        requires own { held.of ≡ self.old.of }
+        ensures advances { Advances L.history L.token_of now held.held goes (beside self.old.worker (G.said gate.old)) (beside self.new.worker (G.said gate.new)) }
+        ensures same { self.new ≡ record self.old { worker = self.new.worker } }
+    {
+        let (right, mut transfer) = held.into_parts();
+        let lent: &mut Transfer<L> = &mut transfer;
+        let delayed = self.make_ready(gate, now, goes, lent);
+        match self.poll(&right, lent) {
+            Stepped::Waits => {
+                let wants = wants_link(lent);
+                self.hold_on(right, transfer, could_go_on(goes, delayed, wants));
+            }
+            Stepped::Asks => self.hold_on(right, transfer, goes),
+            Stepped::Ended(outcome) => {
+                drop(transfer);
+                self.record(rt, Finished::new(right, outcome));
+            }
+        }
+    }
+
+    // rule worker-requeued-deadline
+    // Requeues a transfer as it is, with its link. It is held no more, whatever the answer is.
+    fn give_back<R: Wait>(&mut self, rt: &R, held: Held<L, C>)
+        requires own { held.of ≡ self.old.of }
+        ensures gives { (r : Return) × (self.new.worker ≡ does self.old.worker (gives_back held.held r)) }
+        ensures same { self.new ≡ record self.old { worker = self.new.worker } }
+    {
+        let mut place = Some(held);
+        self.engine.give_back(rt, &mut place);
+        drop(place);
+    }
+
+    // rule turn-gone
+    // rule turn-paused
+    // Looks at a transfer, and polls it unless it is gone: then it is given back.
+    fn look_at<R: Wait, G: Gate<Link = L>>(
+        &mut self,
+        rt: &R,
+        gate: &mut G,
+        now: u64,
+        held: Held<L, C>,
+    )
+        requires room { in_hand self.old.worker < most_transfers }
+        requires own { held.of ≡ self.old.of }
+        ensures looks { LooksAt L.history L.token_of now held.held (beside self.old.worker (G.said gate.old)) (beside self.new.worker (G.said gate.new)) }
+        ensures same { self.new ≡ record self.old { worker = self.new.worker } }
+    {
+        let seen = self.engine.look(held.ticket());
+        if is_gone(seen) {
+            return self.give_back(rt, held);
+        }
+        self.advance(rt, gate, now, held, may_go(seen));
+    }
+
+    // rule turn-stop
+    // Gives a transfer back that has not started. One that has is held on.
+    fn hand_back<R: Wait>(&mut self, rt: &R, held: Held<L, C>)
+        requires room { in_hand self.old.worker < most_transfers }
+        requires own { held.of ≡ self.old.of }
+        ensures gives { GivesBack held.held self.old.worker self.new.worker }
+        ensures same { self.new ≡ record self.old { worker = self.new.worker } }
+    {
+        if held.started() {
+            self.hold(held);
+            return;
+        }
+        self.give_back(rt, held);
+    }
+
+    // rule turn-set-aside
+    // Hands in the ends again that were set aside, in order.
+    fn retry_those<R: Wait>(&mut self, rt: &R, todo: &mut Queue<Finished<C>, E>)
+        requires fits { length todo.old.items + in_hand self.old.worker ≤ most_transfers }
+        requires own { todo.old.of ≡ self.old.of }
+        ensures retries { Each Retries (map (λ e. e.end) todo.old.items) self.old.worker self.new.worker }
+        ensures empty { todo.new.items ≡ [] }
+        ensures of { todo.new.of ≡ todo.old.of }
+        ensures same { self.new ≡ record self.old { worker = self.new.worker } }
+    {
+        for gone in 0..todo.len() {
+            let Some(finished) = todo.pop() else {
+                return;
+            };
+            self.record(rt, finished);
+        }
+    }
+
+    // Gives back what has not started, in order, and holds on to the rest.
+    fn stop_those<R: Wait>(&mut self, rt: &R, todo: &mut Queue<Held<L, C>, E>)
+        requires fits { length todo.old.items + in_hand self.old.worker ≤ most_transfers }
+        requires own { todo.old.of ≡ self.old.of }
+        ensures gives { Each GivesBack (map (λ h. h.held) todo.old.items) self.old.worker self.new.worker }
+        ensures empty { todo.new.items ≡ [] }
+        ensures of { todo.new.of ≡ todo.old.of }
+        ensures same { self.new ≡ record self.old { worker = self.new.worker } }
+    {
+        for gone in 0..todo.len() {
+            let Some(held) = todo.pop() else {
+                return;
+            };
+            self.hand_back(rt, held);
+        }
+    }
+
+    // Looks at each of these once: one that is due, while there is one, else the first. It reads the clock before each that isn't due, and
+    // the answer is the last moment. One reading a turn would be too few: 64 transfers may make 64 reads each meanwhile.
+    fn go_through<R: Wait, G: Gate<Link = L>>(
+        &mut self,
+        rt: &R,
+        gate: &mut G,
+        now: u64,
+        todo: &mut Queue<Held<L, C>, E>,
+    ) -> u64
+        requires fits { length todo.old.items + in_hand self.old.worker ≤ most_transfers }
+        requires own { todo.old.of ≡ self.old.of }
+        ensures through { GoesThrough L.history L.token_of result (beside self.new.worker (G.said gate.new)) now true (map (λ h. h.held) todo.old.items) (beside self.old.worker (G.said gate.old)) }
+        ensures empty { todo.new.items ≡ [] }
+        ensures of { todo.new.of ≡ todo.old.of }
+        ensures same { self.new ≡ record self.old { worker = self.new.worker } }
+    {
+        let mut least = least_deadline(todo);
+        let mut moment = now;
+        let mut is_new = true;
+        for gone in 0..todo.len() {
+            let Some(held) = take_next(gate, todo, &mut least, &mut moment, is_new) else {
+                unreachable!()
+            };
+            self.look_at(rt, gate, moment, held);
+            is_new = false;
+        }
+        moment
+    }
+
+    // Tries the ends again that were set aside.
+    fn retry_all<R: Wait>(&mut self, rt: &R, todo: &mut Queue<Finished<C>, E>)
+        requires spare { todo.old.items ≡ [] }
+        requires own { todo.old.of ≡ self.old.of }
+        ensures retries { Each Retries self.old.worker.set_aside (record self.old.worker { set_aside = [] }) self.new.worker }
+        ensures spare { todo.new ≡ todo.old }
+        ensures same { self.new ≡ record self.old { worker = self.new.worker } }
+    {
+        self.rack.swap_set_aside(todo);
+        self.retry_those(rt, todo);
+    }
+
+    // Goes through what it holds. The answer is the last moment.
+    fn go_all<R: Wait, G: Gate<Link = L>>(
+        &mut self,
+        rt: &R,
+        gate: &mut G,
+        now: u64,
+        todo: &mut Queue<Held<L, C>, E>,
+    ) -> u64
+        requires spare { todo.old.items ≡ [] }
+        requires own { todo.old.of ≡ self.old.of }
+        ensures through { GoesThrough L.history L.token_of result (beside self.new.worker (G.said gate.new)) now true self.old.worker.held (record (beside self.old.worker (G.said gate.old)) { held = [] }) }
+        ensures spare { todo.new ≡ todo.old }
+        ensures same { self.new ≡ record self.old { worker = self.new.worker } }
+    {
+        self.rack.swap_held(todo);
+        self.go_through(rt, gate, now, todo)
+    }
+
+    // rule turn-wait
+    // How long it may wait.
+    fn wait_ms(&self, now: u64) -> u32
+        ensures { result ≡ wait_of now self.now.worker }
+    {
+        if self.can_go_on {
+            return 0;
+        }
+        least_left(self.rack.held(), now)
+    }
+
+    // Gives back what has not started, in order of claim.
+    fn stop<R: Wait>(&mut self, rt: &R, todo: &mut Queue<Held<L, C>, E>)
+        requires spare { todo.old.items ≡ [] }
+        requires own { todo.old.of ≡ self.old.of }
+        ensures gives { Each GivesBack self.old.worker.held (record self.old.worker { is_stopping = true; held = [] }) self.new.worker }
+        ensures spare { todo.new ≡ todo.old }
+        ensures same { self.new ≡ record self.old { worker = self.new.worker } }
+    {
+        self.is_stopping = true;
+        self.rack.swap_held(todo);
+        self.stop_those(rt, todo);
+    }
+
+    // rule turn-stop
+    // Begins to stop where it is told to, else goes on.
+    fn hear<R: Wait>(&mut self, rt: &R, turn: Turn, todo: &mut Queue<Held<L, C>, E>)
+        requires spare { todo.old.items ≡ [] }
+        requires own { todo.old.of ≡ self.old.of }
+        ensures stops { Stops (is_stop turn) self.old.worker.is_stopping self.old.worker self.new.worker }
+        ensures spare { todo.new ≡ todo.old }
+        ensures same { self.new ≡ record self.old { worker = self.new.worker } }
+    {
+        if matches!(turn, Turn::Stop) && !self.is_stopping {
+            self.stop(rt, todo);
+        }
+    }
+
+    /// One turn. The two queues are empty before and afterwards.
+    pub fn turn<R: Wait, G: Gate<Link = L>>(
+        &mut self,
+        rt: &R,
+        gate: &mut G,
+        held: &mut Queue<Held<L, C>, E>,
+        ends: &mut Queue<Finished<C>, E>,
+    )
+        requires held { held.old ≡ record { items = []; of = self.old.of } }
+        requires ends { ends.old ≡ record { items = []; of = self.old.of } }
+        ensures turn { WorkerTurn L.history L.token_of (beside self.old.worker (G.said gate.old)) (beside self.new.worker (G.said gate.new)) }
+        ensures held { held.new ≡ held.old }
+        ensures ends { ends.new ≡ ends.old }
+        ensures same { self.new ≡ record self.old { worker = self.new.worker } }
+    {
+        self.can_go_on = false;
+        let now = gate.now();
+        self.relieve(gate);
+        self.claim(rt);
+        self.retry_all(rt, ends);
+        let last = self.go_all(rt, gate, now, held);
+        let wait = self.wait_ms(last);
+        let turn = gate.turn(wait);
+        self.hear(rt, turn, held);
+    }
+}
