@@ -1,5 +1,5 @@
 //! The next message, and what is known of it.
-ghost use Rattle.std.specs.Prelude.{◌≡◌, IfErr, IfOk, IfSome, MatchOption};
+ghost use Rattle.std.specs.Prelude.{◌≡◌, IfErr, IfOk, IfSome, MatchOption, OnOk, length};
 ghost use Rattle.mx_types.specs.declared.code.Code.TheVariants as code;
 ghost use Rattle.mx_chain.specs.Outcomes.{IsOutcome};
 ghost use Rattle.mx_message.specs.Message.{CarriesBody, IsNextMessage, IsRead, Unread, Waited};
@@ -46,6 +46,7 @@ fn read_now<Q: Work + Drop, R: Wait>(
     ensures of { seat.new.of ≡ seat.old.of }
     ensures unread { IfErr result (λ _. Unread seat.old seat.new) }
     ensures read { IfOk result (λ o. MatchOption o (Waited seat.old seat.new) (λ m. (m.code ≡ m.outcome.code) × IsRead seat.old seat.new m.handle m.ticket m.outcome m.left)) }
+    ensures confirmed { OnOk result (seat.new.confirmed ≡ length seat.new.seen) }
 {
     let Ok(reply) = seat.info_read(rt) else {
         return Err(NoMessage);
@@ -81,6 +82,7 @@ fn read_once<Q: Work + Drop, R: Wait>(
     ensures of { seat.new.of ≡ seat.old.of }
     ensures unread { IfErr result (λ _. Unread seat.old seat.new) }
     ensures read { IfOk result (λ o. MatchOption o (Waited seat.old seat.new) (λ m. (m.code ≡ m.outcome.code) × IsRead seat.old seat.new m.handle m.ticket m.outcome m.left)) }
+    ensures confirmed { IfOk result (λ o. IfSome o (λ _. seat.new.confirmed ≡ length seat.new.seen)) }
 {
     match read_now(rt, seat)? {
         Some(message) => Ok(Some(message)),
@@ -121,6 +123,7 @@ pub fn next_message_within<Q: Work + Drop, R: Wait + Clock>(
     ensures unread { IfErr result (λ _. Unread seat.old seat.new) }
     ensures code { IfOk result (λ o. IfSome o (λ m. m.code ≡ m.outcome.code)) }
     ensures message { IfOk result (λ o. MatchOption o (Waited seat.old seat.new) (λ m. IsNextMessage seat.old seat.new m.handle m.ticket m.outcome m.left)) }
+    ensures confirmed { OnOk result (seat.new.confirmed ≡ length seat.new.seen) }
 {
     match read_now(rt, seat)? {
         Some(message) => Ok(Some(message)),
@@ -152,6 +155,7 @@ pub fn next_message<Q: Work + Drop, R: Wait>(
     ensures unread { IfErr result (λ _. Unread seat.old seat.new) }
     ensures code { IfOk result (λ m. m.code ≡ m.outcome.code) }
     ensures message { IfOk result (λ m. IsNextMessage seat.old seat.new m.handle m.ticket m.outcome m.left) }
+    ensures confirmed { OnOk result (seat.new.confirmed ≡ length seat.new.seen) }
 {
     for _ in rt.forever() {
         if let Some(message) = read_once(rt, seat)? {
