@@ -75,19 +75,6 @@ fn fetch_at<'m, L: Link, R: Wait + AllocGlobal + Clock, E: Fetch + Drop>(
     }
 }
 
-// What is left once the desk is dropped.
-fn errand_of<'m, L: Link, E: Fetch + Drop>(second: Second<'m, L, E>) -> Box<E>
-    ensures { result ≡ second.entry.errand }
-{
-    let Second {
-        desk,
-        errand,
-        turned: _,
-    } = second;
-    drop(desk);
-    errand
-}
-
 // How the run turned once it came back from second multi handles: where there was none it waits at its desk until all has ended there.
 fn after_seconds<'m, L: Link, R: Wait + AllocGlobal + Clock, E: Fetch + Drop>(
     rt: &R,
@@ -104,7 +91,7 @@ fn after_seconds<'m, L: Link, R: Wait + AllocGlobal + Clock, E: Fetch + Drop>(
         Some(turned) => turned,
         None => fetch_at(rt, crew, &mut second, None),
     };
-    (errand_of(second), turned)
+    (second.into_errand(), turned)
 }
 
 // Fetches at a desk, and while that is held up at second multi handles.
@@ -138,7 +125,7 @@ fn fetch_first<
     let turned = fetch_at(rt, crew, &mut second, Some(PATIENCE_MS));
     if !matches!(turned, Ok(Turned::Held)) {
         return First {
-            errand: errand_of(second),
+            errand: second.into_errand(),
             spare,
             room,
             turned,

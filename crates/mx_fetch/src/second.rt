@@ -24,11 +24,38 @@ use std::thread::Threads;
 
 /// What a run has with it at a second multi handle: its desk, whose first seat is at the first one, and how it came back from there, where
 /// it was there. The desk isn't left where the run stopped with something added at the second one.
-#[derive(Drop)]
 pub(crate) struct Second<'e, L: Link, E> {
     pub desk: Option<Desk<'e, 'e, L>>,
     pub errand: Box<E>,
     pub turned: Option<Result<Turned, Stop>>,
+}
+
+// Written out, and not derived: what hands one on cites its proof.
+impl<'e, L: Link, E: Drop> Drop for Second<'e, L, E> {
+    fn drop(self) {
+        let Second {
+            desk,
+            errand,
+            turned: _,
+        } = self;
+        drop(desk);
+        drop(errand);
+    }
+}
+
+impl<'e, L: Link, E: Drop> Second<'e, L, E> {
+    /// What is left once the desk is dropped.
+    pub fn into_errand(self) -> Box<E>
+        ensures { result ≡ self.entry.errand }
+    {
+        let Second {
+            desk,
+            errand,
+            turned: _,
+        } = self;
+        drop(desk);
+        errand
+    }
 }
 
 /// What fetches at a seat that it is given. It is a type parameter to what runs a crew beside it, so that the closure there captures and
