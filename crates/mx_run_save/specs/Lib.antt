@@ -1,5 +1,6 @@
 -- What `run_save` does, and what its exit status says.
 pub mod Asked
+pub mod Runs
 pub mod Saved
 pub mod Screens
 pub mod Status

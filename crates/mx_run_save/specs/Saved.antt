@@ -1,26 +1,28 @@
 -- What a run of `save` leaves in its folder.
-use Rattle.std.specs.Prelude.{◌≡◌, ℕ, List, map, ◌++◌, Option, option_map}
+use Rattle.std.specs.Prelude.{◌≡◌, ℕ, List, map, ◌++◌, Option, Some, option_map}
 use Rattle.mx_chain.specs.Outcomes.{OutcomeValue}
 use Rattle.mx_folder.specs.declared.steps.Step.{Step}
 use Rattle.mx_save.specs.Ledgers.{LedgerValue, IsLedger}
 use Rattle.mx_command.specs.declared.save.Save.{Save}
 use Rattle.mx_save_book.specs.Bodies.{parts_of}
-use Rattle.mx_save_book.specs.Lines.{LinesValue}
+use Rattle.mx_save_book.specs.Books.{HaveEnded}
+use Rattle.mx_save_book.specs.Lines.{PrintedEndValue}
 use Rattle.mx_save_book.specs.declared.asking.Asking.{Asking}
-use Rattle.mx_save_urls.specs.Runs.{SavesAll}
 
 -- the URLs of a run, where it is known what its list has: those of the command line, and then those of the list
 abbrev pub urls_of : Save → Option (List (List ℕ)) → Option (List (List ℕ))
 urls_of save listed = option_map (λ more. map (λ u. u.now) save.urls.items ++ more) listed
 
 -- rule save-each-once
--- Each URL has ended, and was printed once. What was saved is in the folder, which had one list of steps when the run began, and has
--- another now: each file was at each moment what it was before or a whole body that was saved, and each body that was saved is there now,
--- flushed where that was asked for.
-pub record SavesIn (save : Save) (asking : Asking) (given : Option (List (List ℕ))) (old new : List Step) {W : Type 0} (lines : LinesValue W) : Type 0 where
+-- Each URL has ended, and was printed once: where it is known which URLs there were, these are the ones. What was saved is in the folder,
+-- which had one list of steps when the run began, and has another now: each file was at each moment what it was before or a whole body that
+-- was saved, and each body that was saved is there now, flushed where that was asked for.
+pub record SavesIn (save : Save) (asking : Asking) (given : Option (List (List ℕ))) (old new : List Step) (told : List PrintedEndValue) : Type 0 where
   pub ledger : LedgerValue OutcomeValue
   pub whole : IsLedger parts_of ledger
   pub start : ledger.start ≡ old
   pub now : ledger.steps ≡ new
   pub flush : ledger.flush ≡ save.flags.fsync
-  pub all : SavesAll asking given ledger lines
+  pub urls : List (List ℕ)
+  pub all : (every : List (List ℕ)) → given ≡ Some every → every ≡ urls
+  pub ended : HaveEnded asking urls ledger.entries told

@@ -1,5 +1,5 @@
 //! What a run reads its URLs from, and what it saves in.
-ghost use Rattle.std.specs.Prelude.{◌≡◌, ◌⊎◌, [], IfErr, IfOk};
+ghost use Rattle.std.specs.Prelude.{◌≡◌, ◌⊎◌, [], IfErr, IfOk, is_some};
 
 use crate::polled::Polled;
 use crate::status::{OUT_OF_MEMORY, UNMADE, UNREAD};
@@ -30,22 +30,36 @@ fn boxed<R: AllocGlobal + Eprint>(
     }
 }
 
-/// The list of URLs, if there is one; or the exit status where it can't be opened, or memory for it was refused, which is reported.
-pub fn list_of<R: Files<File = File> + Input<Reader = StdinLock<'static>> + AllocGlobal + Eprint>(
+// The list of URLs that is read from there; or the exit status where it can't be opened, or memory for it was refused, which is reported.
+fn open_list<R: Files<File = File> + Input<Reader = StdinLock<'static>> + AllocGlobal + Eprint>(
     rt: &R,
-    input: Option<ListSource<'_>>,
-) -> Result<Option<Box<UrlList<ListReader>>>, u8>
+    source: ListSource<'_>,
+) -> Result<Box<UrlList<ListReader>>, u8>
     ensures { IfErr result (λ status. (status ≡ UNREAD) ⊎ (status ≡ OUT_OF_MEMORY)) }
 {
-    let reader = match input {
-        None => return Ok(None),
-        Some(ListSource::Standard) => Right(Polled::new(rt.reader())),
-        Some(ListSource::File(path)) => match File::open(rt, path) {
+    let reader = match source {
+        ListSource::Standard => Right(Polled::new(rt.reader())),
+        ListSource::File(path) => match File::open(rt, path) {
             Ok(file) => Left(Polled::new(file)),
             Err(error) => return Err(tell_unread(rt, path, error)),
         },
     };
-    Ok(Some(boxed(rt, UrlList::new(rt.alloc(), reader))?))
+    Ok(boxed(rt, UrlList::new(rt.alloc(), reader))?)
+}
+
+/// The list of URLs, exactly where one is asked for; or the exit status where it can't be opened, or memory for it was refused, which is
+/// reported.
+pub fn list_of<R: Files<File = File> + Input<Reader = StdinLock<'static>> + AllocGlobal + Eprint>(
+    rt: &R,
+    input: Option<ListSource<'_>>,
+) -> Result<Option<Box<UrlList<ListReader>>>, u8>
+    ensures asked { IfOk result (λ list. is_some list ≡ is_some input.entry) }
+    ensures status { IfErr result (λ status. (status ≡ UNREAD) ⊎ (status ≡ OUT_OF_MEMORY)) }
+{
+    match input {
+        Some(source) => Ok(Some(open_list(rt, source)?)),
+        None => Ok(None),
+    }
 }
 
 /// The folder of the files, which is made where it isn't there; or the exit status where it can't be, which is reported.

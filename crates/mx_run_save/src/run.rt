@@ -1,9 +1,11 @@
 //! The run of what is asked for.
-ghost use Rattle.std.specs.Prelude.{◌≡◌, ◌≢◌, [], IfErr, OnOk, IsErr};
+ghost use Rattle.std.specs.Prelude.{◌≡◌, ◌≢◌, [], IfErr, OnOk, IsErr, is_some};
 ghost use Rattle.mx_command.specs.Saving.{AreSaveNumbers};
 ghost use Rattle.mx_save_urls.specs.Feeds.{list_left};
+ghost use Rattle.mx_run_save.specs.Asked.{IsAskedBy};
+ghost use Rattle.mx_run_save.specs.Runs.{EndsSave};
 ghost use Rattle.mx_run_save.specs.Saved.{SavesIn, urls_of};
-ghost use Rattle.mx_run_save.specs.Status.{codes_number, stop_number};
+ghost use Rattle.mx_run_save.specs.Status.{IsUnbegun, codes_number, stop_number};
 
 use crate::asked::asking_of;
 use crate::opened::{folder_of, list_of};
@@ -56,7 +58,7 @@ pub fn save_in<
     requires numbers { AreSaveNumbers save.now.numbers }
     requires fresh { lines.told ≡ [] }
     ensures all { OnOk result.stopped (SavesIn save.now asking (urls_of save.now (list_left Rd.remaining list))
-        (F.steps folder) (F.steps result.folder) result.lines) }
+        (F.steps folder) (F.steps result.folder) result.lines.told) }
     ensures lines { (result.lines.start ≡ lines.start) × (result.lines.json ≡ lines.json) }
 {
     let ledger = Ledger::new(rt.alloc(), process, folder, save.flags.fsync);
@@ -112,15 +114,16 @@ fn save_aloud<
     folder: F,
     watch: V,
 ) -> u8
-    requires { AreSaveNumbers save.now.numbers }
+    requires numbers { AreSaveNumbers save.now.numbers }
+    requires asked { IsAskedBy save.now asking }
+    requires listed { is_some list ≡ is_some save.now.input }
+    ensures { EndsSave save.now (F.steps folder) result }
 {
     match BufWriter::with_capacity(rt.alloc(), 65_536, io::writer(rt)) {
         Ok(writer) => {
             let lines = Lines::new(rt.alloc(), Output::new(writer), save.flags.json);
-            end(
-                rt,
-                &save_in(rt, save, process, asking, list, folder, lines, watch),
-            )
+            let saved = save_in(rt, save, process, asking, list, folder, lines, watch);
+            end(rt, &saved)
         }
         Err(_) => {
             let _ = tell_out_of_memory(rt);
@@ -130,7 +133,10 @@ fn save_aloud<
 }
 
 // The exit status of a run that can't begin, which was told: where it is out of memory, objects are told so, too.
-fn unbegun(rt: &impl Print, save: &Save<'_>, status: u8) -> u8 {
+fn unbegun(rt: &impl Print, save: &Save<'_>, status: u8) -> u8
+    requires { IsUnbegun status }
+    ensures { IsUnbegun result }
+{
     if status == OUT_OF_MEMORY {
         return end_unbegun(rt, save.flags.json);
     }
@@ -142,7 +148,8 @@ fn unbegun(rt: &impl Print, save: &Save<'_>, status: u8) -> u8 {
 /// shown if that is asked for, or if it is a terminal and that isn't forbidden. The answer is the exit status. The files that hold a part
 /// of a body are named for this process. It may wait.
 ///
-/// It has no `ensures`: [`save_in`] has the promise, and the exit status and what is printed on standard error are left to tests.
+/// Where the run began, [`save_in`] has the promise of it, over a folder where nothing was done yet. What is printed on standard error, and
+/// which URLs a list has, is left to tests.
 pub fn run_save<
     R: Runtime
         + Net<Listener = TcpListener, Stream = TcpStream>
@@ -153,6 +160,7 @@ pub fn run_save<
     E: Write + IsTerminal + Drop,
 >(rt: &R, save: &Save<'_>, process: u32, stderr: E, screen: Screen) -> u8
     requires { AreSaveNumbers save.now.numbers }
+    ensures { EndsSave save.now [] result }
 {
     let asking = match asking_of(rt, save) {
         Ok(asking) => asking,

@@ -1,0 +1,29 @@
+-- What `run_save` did, by its exit status.
+use Rattle.std.specs.Prelude.{◌≡◌, ◌⊎◌, ℕ, List, Option, Some, None, [], Result, OnOk}
+use Rattle.mx_folder.specs.declared.errors.FolderError.{FolderError}
+use Rattle.mx_folder.specs.declared.steps.Step.{Step}
+use Rattle.mx_command.specs.declared.save.Save.{Save}
+use Rattle.mx_save_book.specs.Lines.{PrintedEndValue}
+use Rattle.mx_save_book.specs.declared.asking.Asking.{Asking}
+use Rattle.mx_run_io.specs.declared.stop.Stop.{Stop}
+use Rattle.mx_run_save.specs.Asked.{IsAskedBy}
+use Rattle.mx_run_save.specs.Saved.{SavesIn, urls_of}
+use Rattle.mx_run_save.specs.Status.{IsStatusOf, IsUnbegun}
+
+-- A run that began, over a folder with one list of steps when it did: it asks of each URL what `save` is asked for. Its URLs are those of the
+-- command line alone where no list is asked for, and unless it stopped each has ended. Its exit status is by the ends that it printed.
+pub record IsRun (save : Save) (old : List Step) (status : ℕ) : Type 0 where
+  pub asking : Asking
+  pub asked : IsAskedBy save asking
+  pub listed : Option (List (List ℕ))
+  pub unlisted : save.input ≡ None → listed ≡ Some []
+  pub new : List Step
+  pub told : List PrintedEndValue
+  pub stopped : Result Unit Stop
+  pub flushed : Result Unit FolderError
+  pub saves : OnOk stopped (SavesIn save asking (urls_of save listed) old new told)
+  pub ends : IsStatusOf stopped flushed told status
+
+-- the run couldn't begin, or it began and has ended
+abbrev pub EndsSave : Save → List Step → ℕ → Type 0
+EndsSave save old status = IsUnbegun status ⊎ IsRun save old status
