@@ -94,6 +94,7 @@ fn after_seconds<'m, L: Link, R: Wait + AllocGlobal + Clock, E: Fetch + Drop>(
     (second.into_errand(), turned)
 }
 
+// rule get-width
 // Fetches at a desk, and while that is held up at second multi handles.
 fn fetch_first<
     'm,
@@ -104,7 +105,6 @@ fn fetch_first<
 >(rt: &R, crew: &Crew, desk: Desk<'m, 'm, L>, first: First<E, G>) -> First<E, G>
     requires within { are_within first.room.limits ≡ true }
     requires one { first.room.limits.seats ≡ 1 }
-    // rule get-width
     requires width { desk.width ≡ first.room.width }
     requires asked { E.is_asked first.errand.value desk.asked }
     ensures room { result.room ≡ first.room }
