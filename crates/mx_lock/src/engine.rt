@@ -7,7 +7,7 @@ ghost use Rattle.mx_journal.specs.History.{is_legal, is_maker, made_by, retire};
 ghost use Rattle.mx_journal.specs.Answers.{is_ready};
 ghost use Rattle.mx_journal.specs.Receipts.{is_poll};
 ghost use Rattle.mx_journal.specs.Table.{IsTableOf};
-ghost use Rattle.mx_board.specs.Board.{caught_up, mark_of};
+ghost use Rattle.mx_board.specs.Board.{caught_up, confirmed_of, mark_of};
 ghost use Rattle.mx_lock.specs.Engine.{IsLocked, Leaves};
 ghost use Rattle.mx_lock.specs.Ties.{AreOfAdditions, IsTied, Tells};
 ghost use Rattle.mx_types.specs.Limits.{IsHistory};
@@ -258,11 +258,13 @@ impl<Q: Work + Drop, O: Ending + Drop> Engine<Q, O> {
         self.parts.log.made(who)
     }
 
-    /// Whether the journal begins with what a reader has seen.
-    pub fn begins_with(&self, reader: &BoardReader) -> bool
+    /// Whether the journal begins with what a reader has seen. With what is confirmed of that it does begin: it is no older.
+    pub fn begins_with<R: Wait>(&self, rt: &R, reader: &BoardReader) -> bool
         requires { reader.now.book ≡ self.now.book }
-        ensures { DecidesBeginning result reader.now.seen self.now.core.journal }
+        ensures begins { DecidesBeginning result reader.now.seen self.now.core.journal }
+        ensures newer { IsPrefix (confirmed_of reader.now) self.now.core.journal }
     {
+        self.parts.log.covers(rt, reader);
         let confirmed = reader.confirmed();
         if confirmed > self.len() as u64 {
             return false;

@@ -3,7 +3,7 @@ ghost use Rattle.std.specs.Prelude.{◌≡◌, ◌≢◌, [], true, false, IfErr
 ghost use mathlib.Core.List.{IsPrefix};
 ghost use Rattle.crossbeam_channel.specs.Claims.{view};
 ghost use Rattle.mx_journal.specs.Laws.{HasAtMostOneMore};
-ghost use Rattle.mx_board.specs.Board.{caught_up};
+ghost use Rattle.mx_board.specs.Board.{caught_up, confirmed_of};
 ghost use Rattle.mx_lock.specs.Engine.{content};
 ghost use Rattle.mx_lock.specs.Lock.{maker, engine_of, first_key, IsFoundBy, IsKeyOf, Took, given, released, founded, parent, child};
 
@@ -194,7 +194,8 @@ impl<Q: Work + Drop, O: Ending + Drop> Lock<Q, O> {
     // rule multi-wrong-seat
     // rule multi-queue
     /// Takes the engine for a reader, where the journal begins with what the reader has seen. Else the engine is put back
-    /// as it was found, and what was found comes back, for contracts alone: its journal doesn't begin so.
+    /// as it was found, and what was found comes back, for contracts alone: its journal begins with what is confirmed of what
+    /// the reader has seen, but not with all of it.
     pub fn enter<R: Wait>(
         &self,
         rt: &R,
@@ -207,10 +208,11 @@ impl<Q: Work + Drop, O: Ending + Drop> Lock<Q, O> {
         ensures kept { IsKeyOf self.now key.new }
         ensures entered { MatchResult result (λ t. Took content (view key.old) t (view key.new) × IsPrefix reader.now.seen t.core.journal) (λ _. view key.new ≡ released (view key.old)) }
         ensures right { IfErr result (λ x. IsFoundBy O.code_of O.size_of (view key.old) x.value × (IsPrefix reader.now.seen x.value.core.journal → ⊥)) }
+        ensures newer { IfErr result (λ x. IsPrefix (confirmed_of reader.now) x.value.core.journal) }
     {
         let taken = self.take(rt, key);
         let found = taken.engine();
-        if found.begins_with(reader) {
+        if found.begins_with(rt, reader) {
             return Ok(taken);
         }
         // proof: what holds of the engine that was found
