@@ -8,7 +8,7 @@ use Rattle.mx_types.specs.declared.event.Event.{Event}
 use Rattle.mx_journal.specs.History.{made_by}
 use Rattle.mx_board.specs.Board.{ReaderState}
 use Rattle.mx_lock.specs.Engine.{EngineState}
-use Rattle.mx_multi.specs.Seats.{Finds, FindsOther, IsAhead, MultiView, SeatView}
+use Rattle.mx_multi.specs.Seats.{Finds, FindsOther, IsAhead, IsNoOlder, MultiView, SeatView}
 use Rattle.mx_multi.specs.Meeting.{OneIsWrong}
 use Rattle.mx_multi.specs.Retiring.{AllFind, FoundIn, HasRightSeats, HasWrongSeat, Hinders, IsRefused, LacksSeats, OneFindsOther}
 use Rattle.mx_multi.specs.declared.open.Limits.{Limits}
@@ -39,22 +39,27 @@ module _ {Q O : Type 0} where
   other_front : (j : List Event) (seats : List (SeatView Q O)) (last : SeatView Q O) → OneFindsOther j seats → OneFindsOther j (seats ++ last ∷ [])
   other_front j seats last h =
       let lt = h.2 in
-      (h.0, h.1, omega (arith, lt, one_more seats last), λ f. h.3 (subst (λ (s : SeatView Q O). Finds s j) (at_front seats last h.1 h.0 lt) f))
+      let same = at_front seats last h.1 h.0 lt in
+      (h.0, h.1, omega (arith, lt, one_more seats last), subst (λ (s : SeatView Q O). IsNoOlder s j) (sym same) h.3, λ f. h.4 (subst (λ (s : SeatView Q O). Finds s j) same f))
 
-  other_first : (j : List Event) (one : SeatView Q O) (seats : List (SeatView Q O)) → (Finds one j → ⊥) → OneFindsOther j (one ∷ seats)
-  other_first j one seats h = (0, one, omega (arith), h)
+  -- the journal, no older, isn't what the seat has seen
+  abbrev LiesOther : SeatView Q O → List Event → Type 0
+  LiesOther s j = IsNoOlder s j × (Finds s j → ⊥)
+
+  other_first : (j : List Event) (one : SeatView Q O) (seats : List (SeatView Q O)) → LiesOther one j → OneFindsOther j (one ∷ seats)
+  other_first j one seats h = (0, one, omega (arith), h.0, h.1)
 
   other_rest : (j : List Event) (one : SeatView Q O) (seats : List (SeatView Q O)) → OneFindsOther j seats → OneFindsOther j (one ∷ seats)
-  other_rest j one seats h = (suc h.0, h.1, omega (arith, h.2), h.3)
+  other_rest j one seats h = (suc h.0, h.1, omega (arith, h.2), h.3, h.4)
 
-  other_of : (j : List Event) (one : SeatView Q O) (seats workers : List (SeatView Q O)) → (Finds one j → ⊥) ⊎ (OneFindsOther j seats ⊎ OneFindsOther j workers) → OneFindsOther j (one ∷ seats) ⊎ OneFindsOther j workers
+  other_of : (j : List Event) (one : SeatView Q O) (seats workers : List (SeatView Q O)) → LiesOther one j ⊎ (OneFindsOther j seats ⊎ OneFindsOther j workers) → OneFindsOther j (one ∷ seats) ⊎ OneFindsOther j workers
   other_of j one seats workers h =
-      ⊎_elim (λ (o : Finds one j → ⊥). inl (other_first j one seats o)) (λ (o : OneFindsOther j seats ⊎ OneFindsOther j workers).
+      ⊎_elim (λ (o : LiesOther one j). inl (other_first j one seats o)) (λ (o : OneFindsOther j seats ⊎ OneFindsOther j workers).
       ⊎_elim (λ (p : OneFindsOther j seats). inl (other_rest j one seats p)) (λ (p : OneFindsOther j workers). inr p) o) h
 
-  other_of_workers : (j : List Event) (one : SeatView Q O) (seats workers : List (SeatView Q O)) → (Finds one j → ⊥) ⊎ (OneFindsOther j seats ⊎ OneFindsOther j workers) → OneFindsOther j seats ⊎ OneFindsOther j (one ∷ workers)
+  other_of_workers : (j : List Event) (one : SeatView Q O) (seats workers : List (SeatView Q O)) → LiesOther one j ⊎ (OneFindsOther j seats ⊎ OneFindsOther j workers) → OneFindsOther j seats ⊎ OneFindsOther j (one ∷ workers)
   other_of_workers j one seats workers h =
-      ⊎_elim (λ (o : Finds one j → ⊥). inr (other_first j one workers o)) (λ (o : OneFindsOther j seats ⊎ OneFindsOther j workers).
+      ⊎_elim (λ (o : LiesOther one j). inr (other_first j one workers o)) (λ (o : OneFindsOther j seats ⊎ OneFindsOther j workers).
       ⊎_elim (λ (p : OneFindsOther j seats). inl p) (λ (p : OneFindsOther j workers). inr (other_rest j one workers p)) o) h
 
   module _ (code : O → Code) (size : O → ℕ) (m : MultiView Q O) (seats workers : List (SeatView Q O)) (last : SeatView Q O) where
@@ -63,7 +68,13 @@ module _ {Q O : Type 0} where
     wrong_seat own o = (
       o.found,
       record { engine = o.engine ∙ ap (λ (z : MultiView Q O). z.engine) own; locked = o.locked },
-      inl (length seats, last, omega (arith, one_more seats last), λ f. o.other (subst (λ (s : SeatView Q O). Finds s o.found.core.journal) (at_last seats last last) f)),
+      inl (
+        length seats,
+        last,
+        omega (arith, one_more seats last),
+        subst (λ (s : SeatView Q O). IsNoOlder s o.found.core.journal) (sym (at_last seats last last)) o.newer,
+        λ f. o.other (subst (λ (s : SeatView Q O). Finds s o.found.core.journal) (at_last seats last last) f),
+      ),
     )
 
     pub none_lack : (l : Limits) → l ≡ m.limits → l.seats ≤ length seats + 1 → l.workers ≤ length workers → LacksSeats m (seats ++ last ∷ []) workers → ⊥
@@ -107,5 +118,5 @@ module _ {Q O : Type 0} where
     wrong_one one seats workers own o = (
       o.found,
       record { engine = o.engine ∙ ap (λ (z : MultiView Q O). z.engine) own; locked = o.locked },
-      inl o.other,
+      inl (o.newer, o.other),
     )

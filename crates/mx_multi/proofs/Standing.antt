@@ -1,11 +1,12 @@
 -- What a call says of its seat.
-use Rattle.std.proofs.Common.{◌≡◌, inl, inr, ℕ, ◌∙◌, sym, refl, ap, subst, List, [], ◌∷◌, ◌+◌, ◌≤◌, ◌++◌, append-nil, length, length-append, Bool, MatchBool, true, false, cond, arith}
+use Rattle.std.proofs.Common.{◌≡◌, inl, inr, ℕ, ◌∙◌, sym, refl, ap, subst, List, [], ◌∷◌, ◌+◌, ◌≤◌, ◌++◌, append-nil, length, length-append, take, Bool, MatchBool, true, false, cond, arith}
 use Rattle.std.specs.Prelude.{not, Option, Some, None}
 use Rattle.std.specs.List.{filter}
 use Rattle.std.specs.Option.{unwrap_or}
 use mathlib.Core.List.{IsPrefix}
 use Rattle.logbook.specs.Pages.{Book}
 use Rattle.std.proofs.lemmas.Bool.{false≢true, or_left, or_right}
+use Rattle.std.proofs.lemmas.List.{length-take-le, take_all}
 use Rattle.std.proofs.lemmas.List.Sums.{fold-append}
 use Rattle.mx_types.specs.declared.code.Code.{Code}
 use Rattle.mx_types.specs.declared.names.Ticket.{Ticket}
@@ -23,12 +24,12 @@ use Rattle.mx_journal.specs.Receipts.{is_poll, mark, IsPlaced}
 use Rattle.mx_journal.specs.Laws.{HasAtMostOneMore}
 use Rattle.mx_history.proofs.Lists.{same-refl}
 use Rattle.mx_history.proofs.Placing.{call_adds_at_most_one, call_is_placed, placed_stays}
-use Rattle.mx_board.specs.Board.{ReaderState, Reads, caught_up}
+use Rattle.mx_board.specs.Board.{ReaderState, Reads, caught_up, confirmed_of}
 use Rattle.mx_board.specs.Progress.{NoteState}
-use Rattle.mx_append_log.proofs.Prefixes.{prefix_self, prefix_trans}
+use Rattle.mx_append_log.proofs.Prefixes.{prefix_self, prefix_trans, takes_prefix}
 use Rattle.mx_lock.specs.Engine.{EngineState, EngineId, content, HasNoOther, IsLocked, Leaves, IsLeft}
 use Rattle.mx_lock.specs.Lock.{maker, engine_of, newly, IsFoundBy, Took, given, released}
-use Rattle.mx_multi.specs.Seats.{MultiView, SeatView, IsAhead, FindsNoneReady, FindsOther, IsSeat, HasReceipts, Finds, Confirms, Stands, Sees, SeesVersion, FoundState, LeavesState}
+use Rattle.mx_multi.specs.Seats.{MultiView, SeatView, IsAhead, IsNoOlder, FindsNoneReady, FindsOther, IsSeat, HasReceipts, Finds, Confirms, Stands, Sees, SeesVersion, FoundState, LeavesState}
 use Rattle.mx_board.specs.declared.answer.Progress.{Progress}
 use Rattle.mx_multi.specs.Progress.{IsProgress}
 use Rattle.mx_types.specs.declared.names.HandleId.{HandleId}
@@ -127,6 +128,20 @@ module _ {Q O : Type 0} where
 prefix_length : (xs ys : List Event) → IsPrefix xs ys → length xs ≤ length ys
 prefix_length xs ys h = omega (arith, ap length h.1, length-append xs h.0)
 
+-- a journal that has all that a reader has confirmed, is no older than what its seat has seen
+pub no_older : {Q O : Type 0} (r : ReaderState) (s : SeatView Q O) (j : List Event) → s.seen ≡ r.seen → s.confirmed ≡ r.confirmed → r.confirmed ≤ length r.seen → IsPrefix (confirmed_of r) j → IsNoOlder s j
+no_older r s j seen confirmed within newer =
+    let counts = length-take-le r.confirmed r.seen within in
+    let fits = prefix_length (confirmed_of r) j newer in
+    record {
+      long = omega (arith, confirmed, counts, fits);
+      begins = subst (λ l. IsPrefix l j) (sym (ap (take s.confirmed) seen ∙ ap (λ n. take n r.seen) confirmed)) newer;
+    }
+
+-- and so is one that begins with all that was seen
+pub begins_newer : (r : ReaderState) (j : List Event) → IsPrefix r.seen j → IsPrefix (confirmed_of r) j
+begins_newer r j p = prefix_trans (confirmed_of r) r.seen j (takes_prefix r.confirmed (confirmed_of r) r.seen refl) p
+
 all_confirmed : (j : List Event) → (length j ≤ length j) × (length j ≤ length j + 1)
 all_confirmed j = (omega arith, omega arith)
 
@@ -155,7 +170,14 @@ module _ {Q O : Type 0} (v w : KeyView) (r : ReaderState) (x : EngineState Q O) 
   pub finds_none_ready : (code : O → Code) (size : O → ℕ) (of : MultiView Q O) (p : ℕ) (n : NoteState) (k : List Origin) (m : List Receipt) (back : List Ticket) → of.engine ≡ engine_of v → IsPrefix r.seen x.core.journal → IsLocked code size x → is_ready p x.core.journal ≡ false
       → FindsNoneReady code size (seat_of of v r p n k m back)
   finds_none_ready code size of p n k m back engine pre locked none =
-      record { found = x; engine = sym took.engine ∙ sym engine; locked = locked; begins = finds of p n k m back pre; none = none }
+      record {
+        found = x;
+        engine = sym took.engine ∙ sym engine;
+        locked = locked;
+        newer = no_older r (seat_of of v r p n k m back) x.core.journal refl refl seat.but_last.0 (begins_newer r x.core.journal pre);
+        begins = finds of p n k m back pre;
+        none = none;
+      }
 
   pub book_found : r.book ≡ x.book
   book_found = seat.book ∙ ap (λ (e : EngineId). e.book) took.engine
@@ -330,14 +352,23 @@ pub none_claimed : {Q : Type 0} (j k : List Event) (q r : List (Ticket × Q)) �
 none_claimed {Q} j k q r e none still = λ t h.
     sym (ap (λ l. has_ticket t (claimed l r)) e ∙ ap (λ (z : List (Ticket × Q)). has_ticket t (claimed j z)) (still ∙ sym none)) ∙ h
 
--- what was found does not begin with what a seat has seen, or has another number of its own events
-pub finds_other : {Q O : Type 0} (code : O → Code) (size : O → ℕ) (v : KeyView) (r : ReaderState) (x : EngineState Q O) (of : MultiView Q O) (p : ℕ) (n : NoteState) (k : List Origin) (m : List Receipt) (back : List Ticket) → of.engine ≡ engine_of v → IsFoundBy code size v x → (IsPrefix r.seen x.core.journal → ⊥)
+-- what was found by a seat's key doesn't begin with what the seat has seen, though it does with what is confirmed of that
+pub finds_other : {Q O : Type 0} (code : O → Code) (size : O → ℕ) (v : KeyView) (r : ReaderState) (x : EngineState Q O) (of : MultiView Q O) (p : ℕ) (n : NoteState) (k : List Origin) (m : List Receipt) (back : List Ticket) → of.engine ≡ engine_of v → IsSeat v r → IsFoundBy code size v x → IsPrefix (confirmed_of r) x.core.journal → (IsPrefix r.seen x.core.journal → ⊥)
     → FindsOther code size (seat_of of v r p n k m back)
-finds_other code size v r x of p n k m back engine found lacks = record { found = x; engine = found.engine ∙ sym engine; locked = found.locked; other = λ f. lacks f.later }
+finds_other code size v r x of p n k m back engine seat found newer lacks = record {
+  found = x;
+  engine = found.engine ∙ sym engine;
+  locked = found.locked;
+  newer = no_older r (seat_of of v r p n k m back) x.core.journal refl refl seat.but_last.0 newer;
+  own = subst (λ w. made_by w x.core.journal ≡ made_by w v.seen) seat.who found.own ∙ sym seat.own;
+  other = λ f. lacks f.later;
+}
 
-pub not_ahead : {Q O : Type 0} (code : O → Code) (size : O → ℕ) (v : KeyView) (r : ReaderState) (x : EngineState Q O) (of : MultiView Q O) (p : ℕ) (n : NoteState) (k : List Origin) (m : List Receipt) (back : List Ticket) → of.engine ≡ (content x).engine → IsLocked code size x → (IsAhead r x.core.journal → ⊥)
-    → FindsOther code size (seat_of of v r p n k m back)
-not_ahead code size v r x of p n k m back engine locked lacks = record { found = x; engine = sym engine; locked = locked; other = λ f. lacks (f.later, f.own) }
+-- where all that it has seen is confirmed, it does
+pub right_seat : {Q O : Type 0} (code : O → Code) (size : O → ℕ) (s : SeatView Q O) → s.confirmed ≡ length s.seen → FindsOther code size s → ⊥
+right_seat code size s all h =
+    let whole : take s.confirmed s.seen ≡ s.seen = ap (λ n. take n s.seen) all ∙ take_all (length s.seen) s.seen (omega arith) in
+    h.other (record { later = subst (λ l. IsPrefix l h.found.core.journal) whole h.newer.begins; own = h.own })
 
 -- and what a reader knows of an engine holds for the same one
 pub ahead_as : {Q O : Type 0} (b : Bool) (r : ReaderState) (x y : EngineState Q O) → x ≡ y → b ≡ true → MatchBool b (IsAhead r x.core.journal) (IsAhead r x.core.journal → ⊥) → IsAhead r y.core.journal

@@ -5,7 +5,7 @@ use Rattle.mx_types.specs.declared.event.Event.{Event}
 use Rattle.mx_journal.specs.History.{is_legal}
 use Rattle.mx_lock.specs.Engine.{EngineState}
 use Rattle.mx_multi.specs.Retiring.{FoundIn, OneFindsOther}
-use Rattle.mx_multi.specs.Seats.{Finds, MultiView, SeatView, Sees}
+use Rattle.mx_multi.specs.Seats.{Finds, IsNoOlder, MultiView, SeatView, Sees}
 
 -- the seat has seen this journal, with no receipt for that, and has claimed and given back nothing
 pub record SeesAll {Q O : Type 0} (j : List Event) (s t : SeatView Q O) : Type 0 where
@@ -28,7 +28,8 @@ pub record Meets {Q O : Type 0} (seats met workers met_workers : List (SeatView 
   pub for_seats : AllSee list seats met
   pub for_workers : AllSee list workers met_workers
 
--- a seat, or one of those beside it, isn't the multi handle's
+-- a seat, or one of those beside it, isn't the multi handle's: the journal in its lock, which is no older than what that one has seen, doesn't
+-- begin with that, or has another number of events that are its own
 abbrev pub OneIsWrong : {Q O : Type 0} → (O → Code) → (O → ℕ) → MultiView Q O → SeatView Q O → List (SeatView Q O) → List (SeatView Q O) → Type 0
 OneIsWrong {Q} {O} code size m one seats workers =
-    (x : EngineState Q O) × FoundIn code size m x × ((Finds one x.core.journal → ⊥) ⊎ (OneFindsOther x.core.journal seats ⊎ OneFindsOther x.core.journal workers))
+    (x : EngineState Q O) × FoundIn code size m x × ((IsNoOlder one x.core.journal × (Finds one x.core.journal → ⊥)) ⊎ (OneFindsOther x.core.journal seats ⊎ OneFindsOther x.core.journal workers))

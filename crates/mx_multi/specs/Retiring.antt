@@ -8,7 +8,7 @@ use Rattle.mx_append_log.specs.Log.{AreOfOneList}
 use Rattle.mx_journal.specs.Core.{retired}
 use Rattle.mx_lock.specs.Engine.{EngineState, IsLocked, content}
 use Rattle.mx_multi.specs.Opening.{IsFounded}
-use Rattle.mx_multi.specs.Seats.{Finds, MultiView, SeatView}
+use Rattle.mx_multi.specs.Seats.{Finds, IsNoOlder, MultiView, SeatView}
 use Rattle.mx_multi.specs.declared.open.Limits.{Limits}
 use Rattle.mx_multi.specs.declared.retire.Retiring.{Retiring}
 use Rattle.mx_multi.specs.declared.retire.Retiring.TheVariants as retiring
@@ -19,9 +19,10 @@ use Rattle.mx_multi.specs.declared.retire.Refusal.TheVariants as refusal
 abbrev pub AllFind : {Q O : Type 0} → List Event → List (SeatView Q O) → Type 0
 AllFind j seats = All (λ s. Finds s j) seats
 
--- that doesn't hold for one of the seats
+-- that doesn't hold for one of the seats, though the journal is no older than what that seat has seen
 abbrev pub OneFindsOther : {Q O : Type 0} → List Event → List (SeatView Q O) → Type 0
-OneFindsOther {Q} {O} j seats = (k : ℕ) × (d : SeatView Q O) × (k < length seats) × (Finds (slice_index_or seats k d) j → ⊥)
+OneFindsOther {Q} {O} j seats =
+    (k : ℕ) × (d : SeatView Q O) × (k < length seats) × IsNoOlder (slice_index_or seats k d) j × (Finds (slice_index_or seats k d) j → ⊥)
 
 -- the ties that each of the seats was told, and this list, are prefixes of one list
 abbrev pub AllToldOf : {Q O : Type 0} → List Origin → List (SeatView Q O) → Type 0
@@ -51,7 +52,8 @@ pub record IsRetiredTo {Q O : Type 0} (code : O → Code) (size : O → ℕ) (m 
   pub ties : after.ties ≡ found.ties
   pub founded : IsFounded m.limits after n new_seats new_workers
 
--- one of the seats isn't the multi handle's: the journal in its lock doesn't begin with what that seat has seen
+-- one of the seats isn't the multi handle's: the journal in its lock, which is no older than what that seat has seen, doesn't begin with that,
+-- or has another number of events that are its own
 abbrev pub HasWrongSeat : {Q O : Type 0} → (O → Code) → (O → ℕ) → MultiView Q O → List (SeatView Q O) → List (SeatView Q O) → Type 0
 HasWrongSeat {Q} {O} code size m seats workers =
     (x : EngineState Q O) × FoundIn code size m x × (OneFindsOther x.core.journal seats ⊎ OneFindsOther x.core.journal workers)

@@ -1,5 +1,5 @@
 -- What a seat has seen, and what a call says of it.
-use Rattle.std.specs.Prelude.{◌≡◌, ℕ, ◌+◌, ◌-◌, ◌≤◌, if◌then◌else◌, true, false, List, [], ◌∷◌, ◌++◌, length}
+use Rattle.std.specs.Prelude.{◌≡◌, ℕ, ◌+◌, ◌-◌, ◌≤◌, if◌then◌else◌, true, false, List, [], ◌∷◌, ◌++◌, length, take}
 use Rattle.std.specs.List.{AllByRecursion}
 use mathlib.Core.List.{IsPrefix}
 use Rattle.atomic_table.specs.Seated.{TableId}
@@ -74,6 +74,11 @@ pub record Finds {Q O : Type 0} (s : SeatView Q O) (j : List Event) : Type 0 whe
   pub later : IsPrefix s.seen j
   pub own : made_by s.who j ≡ made_by s.who s.seen
 
+-- a journal that has all that is confirmed of what the seat has seen, and so is no older than that
+pub record IsNoOlder {Q O : Type 0} (s : SeatView Q O) (j : List Event) : Type 0 where
+  pub long : s.confirmed ≤ length j
+  pub begins : IsPrefix (take s.confirmed s.seen) j
+
 -- what was confirmed stays confirmed; and now all that was seen is confirmed, or all but the last event
 pub record Confirms {Q O : Type 0} (s t : SeatView Q O) : Type 0 where
   pub more : s.confirmed ≤ t.confirmed
@@ -137,21 +142,34 @@ pub record FoundState {Q O : Type 0} (code : O → Code) (size : O → ℕ) (s :
   pub locked : IsLocked code size x
 
 -- rule multi-wrong-seat: A call under the lock is answered `WrongSeat` only where the journal there doesn't begin with what its seat has
--- seen, or has another number of the seat's own events.
+-- seen. It has all that is confirmed of that, and no event more of the seat's own.
 --
--- The engine in the lock of the seat's multi handle when a call was refused: its journal doesn't begin with what the seat has seen, or has
--- another number of events that are the seat's own.
+-- The engine in the lock of the seat's multi handle when a call was refused: its journal begins with what is confirmed of what the seat has
+-- seen, and has as many events of the seat's own, but doesn't begin with all that the seat has seen.
 pub record FindsOther {Q O : Type 0} (code : O → Code) (size : O → ℕ) (s : SeatView Q O) : Type 0 where
   pub found : EngineState Q O
   pub engine : (content found).engine ≡ s.of.engine
   pub locked : IsLocked code size found
+  pub newer : IsNoOlder s found.core.journal
+  pub own : made_by s.who found.core.journal ≡ made_by s.who s.seen
   pub other : Finds s found.core.journal → ⊥
 
--- What was there when a poll was not to return: no event at or after the seat's mark lets it return
+-- rule multi-wrong-seat
+-- The same where another seat entered the lock: the journal may have another number of events that are this seat's own.
+pub record MeetsOther {Q O : Type 0} (code : O → Code) (size : O → ℕ) (s : SeatView Q O) : Type 0 where
+  pub found : EngineState Q O
+  pub engine : (content found).engine ≡ s.of.engine
+  pub locked : IsLocked code size found
+  pub newer : IsNoOlder s found.core.journal
+  pub other : Finds s found.core.journal → ⊥
+
+-- What was there when a poll was not to return: a journal that begins with what the seat has seen, of which no event at or after the seat's
+-- mark lets it return
 pub record FindsNoneReady {Q O : Type 0} (code : O → Code) (size : O → ℕ) (s : SeatView Q O) : Type 0 where
   pub found : EngineState Q O
   pub engine : (content found).engine ≡ s.of.engine
   pub locked : IsLocked code size found
+  pub newer : IsNoOlder s found.core.journal
   pub begins : Finds s found.core.journal
   pub none : is_ready s.polled found.core.journal ≡ false
 
@@ -199,7 +217,7 @@ pub record GivesBack {Q O : Type 0} (code : O → Code) (size : O → ℕ) (s : 
 abbrev pub given_with : {Q : Type 0} → GiveBackReply Q → Ticket → List Ticket → List Ticket
 given_with reply t given = if is_back reply then given ++ t ∷ [] else given
 
--- the queue that was found there was empty
+-- the queue that was found there, with the journal that the seat has then seen, was empty
 pub record ClaimsNothing {Q O : Type 0} (code : O → Code) (size : O → ℕ) (s : SeatView Q O) : Type 0 where
   pub found : EngineState Q O
   pub is : FoundState code size s found

@@ -7,7 +7,7 @@ ghost use Rattle.mx_types.specs.declared.event.Who.{Who};
 ghost use Rattle.mx_types.specs.declared.origin.Origin.{Origin};
 ghost use Rattle.mx_types.specs.declared.reply.Reply.{Reply};
 ghost use Rattle.mx_journal.specs.Receipts.{IsPlaced};
-ghost use Rattle.mx_multi.specs.Seats.{IsNew, Later, SeatView, Sees, Stands};
+ghost use Rattle.mx_multi.specs.Seats.{FindsOther, IsNew, Later, SeatView, Sees, Stands};
 ghost use Rattle.mx_append_log.specs.Log.{AreOfOneList};
 ghost use Rattle.mx_multi.specs.Laws.{AreToldAlike, RanScript, Met};
 
@@ -32,6 +32,15 @@ impl<Q: Work + Drop, O: Ending + Drop> Multi<Q, O> {
         ensures more { (s t u : SeatView Q O) (more : List Receipt) (call : Call) (reply : Reply) → Later s t more → Stands t u call reply → Later s u (more ++ record { cut = length u.seen; call = call; reply = reply } ∷ []) }
         ensures sees { (s t u : SeatView Q O) (more : List Receipt) → Later s t more → Sees t u → Later s u more }
         ensures none { (s : SeatView Q O) → Later s s [] }
+    {
+        // proof: a law needs a value
+        let _ = &self.lock;
+    }
+
+    // rule multi-wrong-seat
+    /// A seat that has seen only confirmed events isn't refused. Such is a new seat, and one whose last call was under the lock and answered.
+    pub fn confirmed_seats_are_right(&self)
+        ensures { (s : SeatView Q O) → s.confirmed ≡ length s.seen → FindsOther O.code_of O.size_of s → ⊥ }
     {
         // proof: a law needs a value
         let _ = &self.lock;

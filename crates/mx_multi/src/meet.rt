@@ -80,7 +80,7 @@ impl<Q: Work + Drop, O: Ending + Drop> Multi<Q, O> {
             Err(_found) => return Err(WrongSeat(())),
         };
         let found = taken.engine();
-        if both_find(found, seats, workers) {
+        if both_find(rt, found, seats, workers) {
             let cut = found.len();
             see_both(&mut taken, seats, workers);
             self.lock

@@ -4,10 +4,11 @@ ghost use Rattle.std.specs.Bool.{OnFalse};
 ghost use Rattle.mx_types.specs.declared.call.Call.{Call};
 ghost use Rattle.mx_types.specs.declared.reply.Reply.{Reply};
 ghost use Rattle.crossbeam_channel.specs.Claims.{view};
-ghost use Rattle.mx_board.specs.Board.{AreOfOneJournal, OneBeginsOther};
+ghost use mathlib.Core.List.{IsPrefix};
+ghost use Rattle.mx_board.specs.Board.{AreOfOneJournal, OneBeginsOther, confirmed_of};
 ghost use Rattle.mx_lock.specs.Lock.{IsKeyOf};
 ghost use Rattle.mx_lock.specs.Ties.{AreOfAdditions, Tells};
-ghost use Rattle.mx_multi.specs.Seats.{IsAhead, Stands, Sees, FindsNoneReady, FindsOther, FoundState, LeavesState};
+ghost use Rattle.mx_multi.specs.Seats.{IsAhead, Stands, Sees, FindsNoneReady, FindsOther, FoundState, LeavesState, MeetsOther};
 
 use crate::meet::see;
 use crate::open::Limits;
@@ -21,8 +22,9 @@ use std::snapshot::Snapshot;
 use std::sync::{Condvar, Mutex, Wait};
 use std::time::{Clock, Duration};
 
-/// The seat has seen a journal that isn't the beginning of this one. No contract rules that out for a seat that `open` gave.
-/// What the call was given comes back, and nothing was changed.
+/// The seat has seen a journal that isn't the beginning of this one. `confirmed_seats_are_right` rules that out for a seat whose events are all
+/// confirmed, as they are after an answered call under the lock. Where a read has shown it another event since, no contract rules it out. What
+/// the call was given comes back, and nothing was changed.
 #[derive(Drop)]
 pub struct WrongSeat<T>(pub T);
 
@@ -88,14 +90,16 @@ impl<Q: Work + Drop, O: Ending + Drop> Model for Multi<Q, O> {
 }
 
 // Whether the journal begins with what a reader has seen, and has no event more of its maker.
-pub(crate) fn fits<Q: Work + Drop, O: Ending + Drop>(
+pub(crate) fn fits<Q: Work + Drop, O: Ending + Drop, R: Wait>(
+    rt: &R,
     found: &Engine<Q, O>,
     reader: &BoardReader,
 ) -> bool
     requires { reader.now.book ≡ found.now.book }
-    ensures { MatchBool result (IsAhead reader.now found.now.core.journal) (IsAhead reader.now found.now.core.journal → ⊥) }
+    ensures ahead { MatchBool result (IsAhead reader.now found.now.core.journal) (IsAhead reader.now found.now.core.journal → ⊥) }
+    ensures newer { IsPrefix (confirmed_of reader.now) found.now.core.journal }
 {
-    if !found.begins_with(reader) {
+    if !found.begins_with(rt, reader) {
         return false;
     }
     found.made(reader.who()) == reader.made()
@@ -198,14 +202,14 @@ impl<Q: Work + Drop, O: Ending + Drop> Multi<Q, O> {
         ensures meets { MatchBool result (Sees one.old one.new × Sees two.old two.new × (one.new.seen ≡ two.new.seen)) ((one.new ≡ one.old) × (two.new ≡ two.old)) }
         ensures claims { (one.new.claims ≡ one.old.claims) × (two.new.claims ≡ two.old.claims) }
         ensures given { (one.new.given ≡ one.old.given) × (two.new.given ≡ two.old.given) }
-        ensures right { OnFalse result (FindsOther O.code_of O.size_of one.old ⊎ FindsOther O.code_of O.size_of two.old) }
+        ensures right { OnFalse result (FindsOther O.code_of O.size_of one.old ⊎ MeetsOther O.code_of O.size_of two.old) }
     {
         let mut taken = match self.lock.enter(rt, &mut one.key, &one.reader) {
             Ok(taken) => taken,
             Err(_found) => return false,
         };
         let found = taken.engine();
-        if finds(found, two) {
+        if finds(rt, found, two) {
             // proof: what holds of the journal that was found
             let _cut = found.len();
             see(&mut taken, two);

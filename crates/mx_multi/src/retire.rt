@@ -8,7 +8,7 @@ ghost use Rattle.mx_journal.specs.History.{retire};
 ghost use Rattle.mx_lock.specs.Engine.{content};
 ghost use Rattle.mx_multi.specs.Opening.{AreRooms};
 ghost use Rattle.mx_multi.specs.Retiring.{refusal_number, AllFind, AllToldOf, Hinders, IsRefused, IsRetiredTo, MatchRetiring, MayRetire, OneFindsOther};
-ghost use Rattle.mx_multi.specs.Seats.{Finds};
+ghost use Rattle.mx_multi.specs.Seats.{Finds, IsNoOlder};
 
 use crate::founding::{Rooms, rooms_by};
 use crate::multi::{Multi, fits};
@@ -65,21 +65,24 @@ pub type Handle<Q, O> = (OwnedMulti<Q, O>, Vec<Seat<Q, O>>, Vec<WorkerSeat<Q, O>
 
 // Whether the journal begins with what the seat has seen, and has no event more of its own. The seat's list of ties and the engine's are
 // prefixes of one.
-pub(crate) fn finds<K, Q: Work + Drop, O: Ending + Drop>(
+pub(crate) fn finds<K, Q: Work + Drop, O: Ending + Drop, R: Wait>(
+    rt: &R,
     found: &Engine<Q, O>,
     seat: &SeatOf<K, Q, O>,
 ) -> bool
     requires { seat.now.of.engine ≡ (content found.now).engine }
+    ensures newer { IsNoOlder seat.now found.now.core.journal }
     ensures finds { MatchBool result (Finds seat.now found.now.core.journal) (Finds seat.now found.now.core.journal → ⊥) }
     ensures told { AreOfOneList seat.now.ties found.now.ties.entries }
 {
     // proof: the seat's ties and the engine's are of one list
     seat.ties.are_of_one_list(&found.tie_mark());
-    fits(found, &seat.reader)
+    fits(rt, found, &seat.reader)
 }
 
 // Whether that holds of each of the seats.
-fn all_find<K, Q: Work + Drop, O: Ending + Drop>(
+fn all_find<K, Q: Work + Drop, O: Ending + Drop, R: Wait>(
+    rt: &R,
     found: &Engine<Q, O>,
     seats: &[SeatOf<K, Q, O>],
 ) -> bool
@@ -87,7 +90,7 @@ fn all_find<K, Q: Work + Drop, O: Ending + Drop>(
     ensures { MatchBool result (AllFind found.now.core.journal seats.now × AllToldOf found.now.ties.entries seats.now) (OneFindsOther found.now.core.journal seats.now) }
 {
     for seat in seats {
-        if !finds(found, seat) {
+        if !finds(rt, found, seat) {
             return false;
         }
     }
@@ -95,7 +98,8 @@ fn all_find<K, Q: Work + Drop, O: Ending + Drop>(
 }
 
 // Whether that holds of each of the seats, and of each of the workers' seats.
-pub(crate) fn both_find<Q: Work + Drop, O: Ending + Drop>(
+pub(crate) fn both_find<Q: Work + Drop, O: Ending + Drop, R: Wait>(
+    rt: &R,
     found: &Engine<Q, O>,
     seats: &[Seat<Q, O>],
     workers: &[WorkerSeat<Q, O>],
@@ -103,10 +107,10 @@ pub(crate) fn both_find<Q: Work + Drop, O: Ending + Drop>(
     requires { All (λ s. s.of.engine ≡ (content found.now).engine) seats.now × All (λ s. s.of.engine ≡ (content found.now).engine) workers.now }
     ensures { MatchBool result ((AllFind found.now.core.journal seats.now × AllToldOf found.now.ties.entries seats.now) × (AllFind found.now.core.journal workers.now × AllToldOf found.now.ties.entries workers.now)) (OneFindsOther found.now.core.journal seats.now ⊎ OneFindsOther found.now.core.journal workers.now) }
 {
-    if !all_find(found, seats) {
+    if !all_find(rt, found, seats) {
         return false;
     }
-    all_find(found, workers)
+    all_find(rt, found, workers)
 }
 
 impl<Q: Work + Drop, O: Ending + Drop> OwnedMulti<Q, O> {
@@ -174,7 +178,7 @@ impl<Q: Work + Drop, O: Ending + Drop> Multi<Q, O> {
         ensures log { IfOk result (λ r. (r.1.events ≡ retire engine.now.core.journal) × (r.1.published ≡ retire engine.now.core.journal)) }
         ensures rooms { IfOk result (λ r. AreRooms self.now.limits (retire engine.now.core.journal) r.1.book r.0) }
     {
-        if let Some(why) = self.hinders(engine, seats, workers) {
+        if let Some(why) = self.hinders(rt, engine, seats, workers) {
             return Err(why);
         }
         match self.grow(rt, alloc, engine) {
@@ -185,8 +189,9 @@ impl<Q: Work + Drop, O: Ending + Drop> Multi<Q, O> {
 
     // rule multi-retire
     // What blocks retiring, with one seat beside these, refused memory aside.
-    fn hinders(
+    fn hinders<R: Wait>(
         &self,
+        rt: &R,
         engine: &Engine<Q, O>,
         seats: &[Seat<Q, O>],
         workers: &[WorkerSeat<Q, O>],
@@ -195,7 +200,7 @@ impl<Q: Work + Drop, O: Ending + Drop> Multi<Q, O> {
         requires own { All (λ s. s.of ≡ self.now) seats.now × All (λ s. s.of ≡ self.now) workers.now }
         ensures { MatchOption result (MayRetire engine.now self.now.limits seats.now workers.now) (λ why. Hinders engine.now self.now.limits seats.now workers.now why) }
     {
-        if !both_find(engine, seats, workers) {
+        if !both_find(rt, engine, seats, workers) {
             return Some(Refusal::WrongSeat);
         }
         if seats.len() + 1 < usize::from(self.limits.seats)

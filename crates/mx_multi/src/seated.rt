@@ -10,7 +10,7 @@ ghost use Rattle.mx_journal.specs.Replies.{IsGivenBack, is_back, handed_back, wo
 ghost use Rattle.mx_lock.specs.Ties.{Has, Tells, tie, tie_added, tie_read};
 ghost use Rattle.mx_multi.specs.Laws.{RanScript};
 ghost use Rattle.mx_multi.specs.Progress.{IsProgress, noted_by};
-ghost use Rattle.mx_multi.specs.Seats.{FindsNoneReady, FindsOther, HasReceipts, Stands, Sees, SeesVersion, GivesBack, ClaimsLeast, ClaimsNothing, LeavesState, given_with};
+ghost use Rattle.mx_multi.specs.Seats.{FindsNoneReady, FindsOther, MeetsOther, HasReceipts, Stands, Sees, SeesVersion, GivesBack, ClaimsLeast, ClaimsNothing, LeavesState, given_with};
 
 use crate::multi::{HandleList, Multi, WrongSeat};
 use crate::progress::read_word;
@@ -154,8 +154,8 @@ impl<'m, Q: Work + Drop, O: Ending + Drop> Seated<'m, Application, Q, O> {
     /// The first that applies, in this order; each hands the work back. After all but the first the seat has seen the journal that the call
     /// found:
     ///
-    /// - `WrongSeat`: the journal in the lock doesn't begin with what the seat has seen, or has another number of the seat's own events;
-    ///   the seat stays as it was;
+    /// - `WrongSeat`: the journal in the lock doesn't begin with what the seat has seen, though it does with what is confirmed of that; the
+    ///   seat stays as it was;
     /// - `AddedAlready`: the handle is added;
     /// - `TableFull`: as many handles are added as can be;
     /// - `TicketsSpent`: no ticket is left;
@@ -395,7 +395,7 @@ impl<'m, Q: Work + Drop, O: Ending + Drop> Seated<'m, Application, Q, O> {
         ensures meets { MatchResult result (λ n. Sees self.old self.new × Sees other.old other.new × (self.new.seen ≡ other.new.seen) × (n ≡ length self.new.seen)) (λ _. (self.new ≡ self.old) × (other.new ≡ other.old)) }
         ensures claims { (self.new.claims ≡ self.old.claims) × (other.new.claims ≡ other.old.claims) }
         ensures given { (self.new.given ≡ self.old.given) × (other.new.given ≡ other.old.given) }
-        ensures right { OnErr result (FindsOther O.code_of O.size_of self.old ⊎ FindsOther O.code_of O.size_of other.old) }
+        ensures right { OnErr result (FindsOther O.code_of O.size_of self.old ⊎ MeetsOther O.code_of O.size_of other.old) }
     {
         let met = self.multi.try_meet(rt, &mut self.seat, &mut other.seat);
         if met {
@@ -479,7 +479,7 @@ impl<'m, Q: Work + Drop, O: Ending + Drop> Seated<'m, AtWork, Q, O> {
         ensures handle { IfSome result (λ r. handle_of r.0.ticket self.new.seen ≡ Some r.0.handle) }
         ensures slot { IfSome result (λ r. slot_of r.0.ticket self.new.seen ≡ Some r.0.slot) }
         ensures queue { MatchOption result ((self.new ≡ self.old) ⊎ ClaimsNothing O.code_of O.size_of self.new) (λ r. ClaimsLeast O.code_of O.size_of self.new r.0.ticket r.1) }
-        ensures right { IfNone result (FindsOther O.code_of O.size_of self.old ⊎ ClaimsNothing O.code_of O.size_of self.new) }
+        ensures right { IfNone result (((self.new ≡ self.old) × FindsOther O.code_of O.size_of self.old) ⊎ (Sees self.old self.new × ClaimsNothing O.code_of O.size_of self.new)) }
         ensures of { self.new.of ≡ self.old.of }
     {
         let multi = self.multi;
@@ -543,8 +543,8 @@ impl<'m, Q: Work + Drop, O: Ending + Drop> Seated<'m, AtWork, Q, O> {
     ///
     /// The first that applies, in this order. After all but the first the seat has seen the journal that the call found:
     ///
-    /// - `WrongSeat`: the journal in the lock doesn't begin with what the seat has seen, or has another number of the seat's own events;
-    ///   the seat stays as it was, and claim and ending are handed back;
+    /// - `WrongSeat`: the journal in the lock doesn't begin with what the seat has seen, though it does with what is confirmed of that; the
+    ///   seat stays as it was, and claim and ending are handed back;
     /// - `Stale`: the claimed addition was removed, or has ended; the ending is handed back, and the claim is spent;
     /// - `OutOfMemory`: memory for the event was refused; claim and ending are handed back.
     pub fn finish<R: Wait>(

@@ -72,8 +72,8 @@ returns-then-both_find g c =
 pub returns-in-Err-clause-right : goal.returns-in-Err-clause-right
 returns-in-Err-clause-right g c =
     let h : FindsOther g.O.Ending.code_of g.O.Ending.size_of c.args.one.now = other_from g.O.Ending.code_of g.O.Ending.size_of _ _ c.one.view_is
-    (finds_other g.O.Ending.code_of g.O.Ending.size_of (view c.one.inside.key) c.one.inside.reader c.in-Err._found.value _ c.one.inside.polled c.one.inside.notes c.one.inside.ties.entries c.one.inside.mine c.one.inside.given refl c.in-Err.ensures.right.0 c.in-Err.ensures.right.1) in (
+    (finds_other g.O.Ending.code_of g.O.Ending.size_of (view c.one.inside.key) c.one.inside.reader c.in-Err._found.value _ c.one.inside.polled c.one.inside.notes c.one.inside.ties.entries c.one.inside.mine c.one.inside.given refl c.one.invariant.0 c.in-Err.ensures.right.0 c.in-Err.ensures.newer c.in-Err.ensures.right.1) in (
       h.found,
       record { engine = h.engine ∙ ap (λ (m : MultiView g.row.Q.Denot g.row.O.Denot). m.engine) c.requires.own.0; locked = h.locked },
-      inl h.other,
+      inl (h.newer, h.other),
     )

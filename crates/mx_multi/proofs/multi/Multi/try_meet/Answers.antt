@@ -3,7 +3,7 @@ use Rattle.crossbeam_channel.specs.Claims.{view}
 use Rattle.mx_lock.specs.Lock.{IsKeyOf}
 use Rattle.mx_board.specs.Board.{ReaderState}
 use Rattle.mx_lock.specs.Engine.{EngineState, IsLeft, content}
-use Rattle.mx_multi.specs.Seats.{Finds, MultiView, SeatView}
+use Rattle.mx_multi.specs.Seats.{Finds, IsNoOlder, MultiView, SeatView}
 use Rattle.mx_multi.proofs.Standing.{list_kept, list_released, seat_after, seat_released, received_same, received_released, lock_sees, same_of, engine_kept, engine_released, sees_from, claims_after, left_same, no_other, legal_as, locked_as, other_from, finds_other}
 use Rattle.mx_multi.proofs.multi.Multi.try_meet.Goals as goal
 
@@ -86,10 +86,11 @@ returns-clause-right g c =
       found = x;
       engine = sym engine;
       locked = locked_as _ _ _ _ c.engine-found.ensures c.know-known.ensures.locked;
+      newer = subst (λ (z : EngineState g.row.Q.Denot g.row.O.Denot). IsNoOlder c.args.two.now z.core.journal) c.engine-found.ensures c.if-finds.ensures.newer;
       other = subst (λ (z : EngineState g.row.Q.Denot g.row.O.Denot). Finds c.args.two.now z.core.journal → ⊥) c.engine-found.ensures c.if-finds.ensures.finds;
     })
 
 pub returns-in-Err-clause-right : goal.returns-in-Err-clause-right
 returns-in-Err-clause-right g c =
     inl (other_from g.O.Ending.code_of g.O.Ending.size_of _ _ c.one.view_is
-    (finds_other g.O.Ending.code_of g.O.Ending.size_of (view c.one.inside.key) c.one.inside.reader c.in-Err._found.value _ c.one.inside.polled c.one.inside.notes c.one.inside.ties.entries c.one.inside.mine c.one.inside.given refl c.in-Err.ensures.right.0 c.in-Err.ensures.right.1))
+    (finds_other g.O.Ending.code_of g.O.Ending.size_of (view c.one.inside.key) c.one.inside.reader c.in-Err._found.value _ c.one.inside.polled c.one.inside.notes c.one.inside.ties.entries c.one.inside.mine c.one.inside.given refl c.one.invariant.0 c.in-Err.ensures.right.0 c.in-Err.ensures.newer c.in-Err.ensures.right.1))

@@ -16,7 +16,7 @@ pub returns-in-Err-clause-refused : goal.returns-in-Err-clause-refused
 returns-in-Err-clause-refused g c =
     wrong_seat g.O.Ending.code_of g.O.Ending.size_of c.args.multi.now c.args.seats.now c.args.workers.now c.args.self c.requires.own.0
     (other_from g.O.Ending.code_of g.O.Ending.size_of _ _ c.self.view_is
-    (finds_other g.O.Ending.code_of g.O.Ending.size_of (view c.self.inside.key) c.self.inside.reader c.in-Err._found.value _ c.self.inside.polled c.self.inside.notes c.self.inside.ties.entries c.self.inside.mine c.self.inside.given refl c.in-Err.ensures.right.0 c.in-Err.ensures.right.1))
+    (finds_other g.O.Ending.code_of g.O.Ending.size_of (view c.self.inside.key) c.self.inside.reader c.in-Err._found.value _ c.self.inside.polled c.self.inside.notes c.self.inside.ties.entries c.self.inside.mine c.self.inside.given refl c.self.invariant.0 c.in-Err.ensures.right.0 c.in-Err.ensures.newer c.in-Err.ensures.right.1))
 
 pub returns-clause-refused : goal.returns-clause-refused
 returns-clause-refused g c =

@@ -120,21 +120,30 @@ returns-clause-given g c = ap (λ (s : SeatView g.row.Q.Denot g.row.O.Denot). s.
 
 pub returns-in-Err-clause-right : goal.returns-in-Err-clause-right
 returns-in-Err-clause-right g c =
-    inl (other_from g.O.Ending.code_of g.O.Ending.size_of _ _ ((λ i. (c.self-inside.view_is i).seat) ∙ c.self.view_is)
-    (finds_other g.O.Ending.code_of g.O.Ending.size_of (view c.self-inside.inside.0.1.0.key) c.self-inside.inside.0.1.0.reader c.in-Err._found.value _ c.self-inside.inside.0.1.0.polled c.self-inside.inside.0.1.0.notes c.self-inside.inside.0.1.0.ties.entries c.self-inside.inside.0.1.0.mine c.self-inside.inside.0.1.0.given refl c.in-Err.ensures.right.0 c.in-Err.ensures.right.1))
+    inl (
+      search rules,
+      other_from g.O.Ending.code_of g.O.Ending.size_of _ _ ((λ i. (c.self-inside.view_is i).seat) ∙ c.self.view_is)
+          (finds_other g.O.Ending.code_of g.O.Ending.size_of (view c.self-inside.inside.0.1.0.key) c.self-inside.inside.0.1.0.reader c.in-Err._found.value _ c.self-inside.inside.0.1.0.polled c.self-inside.inside.0.1.0.notes c.self-inside.inside.0.1.0.ties.entries c.self-inside.inside.0.1.0.mine c.self-inside.inside.0.1.0.given refl c.self-inside.invariant.0 c.in-Err.ensures.right.0 c.in-Err.ensures.newer c.in-Err.ensures.right.1),
+    )
 
 pub returns-in_default-clause-right : goal.returns-in_default-clause-right
 returns-in_default-clause-right g c =
+    let k : IsKeyOf c.multi.inside.lock c.leave.new.key = c.leave.ensures.kept in
     let took = c.in-Ok.ensures.entered.0 in
     let x = c.in-Ok.taken in
     let y = c.claim-claimed.new.self in
+    let j = c.claim-claimed.ensures.journal in
     let none : (x.core.queue ≡ []) × (y.core.queue ≡ []) = search rules in
-    inr
-    (record {
-      found = x;
-      is = found_state _ _ c.self-inside.inside.0.1.0.reader x c.self-inside.invariant.0 took g.O.Ending.code_of g.O.Ending.size_of _ x refl (ap (λ (t : ReaderState). t.seen) c.leave.ensures.reader ∙ c.claim-claimed.ensures.journal.0) (engine_kept _ _ c.self-inside.inside.0.1.0.reader x c.self-inside.invariant.0 took _ y c.leave.ensures.gave) (locked_as _ _ _ _ c.engine-found.ensures c.know-known.ensures.locked);
-      none = none.0;
-    })
+    let left : IsLeft x y = record { journal = j.0; opening = j.1; book = j.2; ties = ap (λ (z : TieState). z.book) c.claim-claimed.ensures.ties; legal = ap is_legal j.0 ∙ (legal_as _ _ c.engine-found.ensures c.len-cut.ensures.legal) } in
+    inr (
+      sees_from _ _ _ ((λ i. (c.self-inside.view_is i).seat) ∙ c.self.view_is)
+          (lock_sees _ _ c.self-inside.inside.0.1.0.reader x c.self-inside.invariant.0 took _ c.leave.new.reader y c.leave.ensures.gave c.leave.ensures.reader _ _ c.self-inside.inside.0.1.0.polled c.self-inside.inside.0.1.0.notes c.self-inside.inside.0.1.0.ties.entries c.leave.new.ties.entries c.self-inside.inside.0.1.0.mine c.self-inside.inside.0.1.0.given c.self-inside.inside.0.1.0.given c.leave.ensures.told.1 (same_of _ _ _ _ c.self.inside.seat c.self.invariant (c.multi.view_is ∙ (λ i. (c.self-inside.view_is i).multi.now)) (λ i. (c.self-inside.view_is i).seat.of) k.0 k.1 (engine_kept _ _ c.self-inside.inside.0.1.0.reader x c.self-inside.invariant.0 took _ y c.leave.ensures.gave) refl refl) c.in-Ok.ensures.entered.1 left),
+      record {
+        found = x;
+        is = found_state _ _ c.self-inside.inside.0.1.0.reader x c.self-inside.invariant.0 took g.O.Ending.code_of g.O.Ending.size_of _ x refl (ap (λ (t : ReaderState). t.seen) c.leave.ensures.reader ∙ c.claim-claimed.ensures.journal.0) (engine_kept _ _ c.self-inside.inside.0.1.0.reader x c.self-inside.invariant.0 took _ y c.leave.ensures.gave) (locked_as _ _ _ _ c.engine-found.ensures c.know-known.ensures.locked);
+        none = none.0;
+      },
+    )
 
 pub returns-clause-handle : goal.returns-clause-handle
 returns-clause-handle g c = ap (λ (t : ReaderState). handle_of c.in-Some.claimed.0.ticket t.seen) c.leave.ensures.reader ∙ ap (handle_of c.in-Some.claimed.0.ticket) c.claim-claimed.ensures.journal.0 ∙ c.in-Some.ensures.handle

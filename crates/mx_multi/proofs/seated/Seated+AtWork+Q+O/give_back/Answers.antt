@@ -79,7 +79,7 @@ returns-clause-given g c =
 pub returns-in-Err-clause-right : goal.returns-in-Err-clause-right
 returns-in-Err-clause-right g c =
     other_from g.O.Ending.code_of g.O.Ending.size_of _ _ ((λ i. (c.self-inside.view_is i).seat) ∙ c.self.view_is)
-    (finds_other g.O.Ending.code_of g.O.Ending.size_of (view c.self-inside.inside.0.1.0.key) c.self-inside.inside.0.1.0.reader c.in-Err._found.value _ c.self-inside.inside.0.1.0.polled c.self-inside.inside.0.1.0.notes c.self-inside.inside.0.1.0.ties.entries c.self-inside.inside.0.1.0.mine c.self-inside.inside.0.1.0.given refl c.in-Err.ensures.right.0 c.in-Err.ensures.right.1)
+    (finds_other g.O.Ending.code_of g.O.Ending.size_of (view c.self-inside.inside.0.1.0.key) c.self-inside.inside.0.1.0.reader c.in-Err._found.value _ c.self-inside.inside.0.1.0.polled c.self-inside.inside.0.1.0.notes c.self-inside.inside.0.1.0.ties.entries c.self-inside.inside.0.1.0.mine c.self-inside.inside.0.1.0.given refl c.self-inside.invariant.0 c.in-Err.ensures.right.0 c.in-Err.ensures.newer c.in-Err.ensures.right.1)
 
 pub invariant_of-self-2 : goal.invariant_of-self-2
 invariant_of-self-2 g c =
