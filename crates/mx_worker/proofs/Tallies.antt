@@ -58,6 +58,19 @@ later_notes s t slot ticket count more h = record {
   placed = λ p. let q = h.placed p in record { placed = q.placed; polled = q.polled };
 }
 
+-- what a seat did goes on from t to u, with these receipts
+abbrev GoesOn : {Q : Type 0} → Seat Q → Seat Q → List Receipt → Type 0
+GoesOn {Q} t u more = (x : Seat Q) (earlier : List Receipt) → Later x t earlier → Later x u (earlier ++ more)
+
+-- the seat is as it was, or has seen a journal
+later_on : {Q : Type 0} (t u : Seat Q) → (u ≡ t) ⊎ Sees t u → GoesOn t u []
+later_on t u (inl e) = λ x earlier run. subst (λ l. Later x u l) (sym (append-nil earlier)) (subst (λ v. Later x v earlier) (sym e) run)
+later_on t u (inr h) = λ x earlier run. subst (λ l. Later x u l) (sym (append-nil earlier)) (later_sees x t u earlier run h)
+
+-- what was found is found for each longer run
+found_on : {Q : Type 0} (s t u : Seat Q) (more : List Receipt) → GoesOn t u more → FoundOther s t → FoundOther s u
+found_on s t u more on f = record { seat = f.seat; before = f.before; since = f.since; after = f.after ++ more; until = on f.seat f.after f.until; other = f.other }
+
 module _ {L Q : Type 0} where
   abbrev Done : Seat Q → Seat Q → List (Deed L) → Type 0
   Done s t did = IsDone s t did
@@ -74,52 +87,48 @@ module _ {L Q : Type 0} where
   }
 
   -- what was lost
-  seated_more : (s : Seat Q) (did : List (Deed L)) (d : Deed L) → (filter_map unseated_by did ≡ []) ⊎ FoundOther s.of → (filter_map unseated_by (d ∷ []) ≡ []) ⊎ FoundOther s.of
-      → (filter_map unseated_by (did ++ d ∷ []) ≡ []) ⊎ FoundOther s.of
-  seated_more s did d (inr f) _ = inr f
-  seated_more s did d (inl e) (inr f) = inr f
-  seated_more s did d (inl e) (inl k) = inl (picks_same unseated_by did d k ∙ e)
+  seated_more : (s t u : Seat Q) (did : List (Deed L)) (d : Deed L) (more : List Receipt) → GoesOn t u more → (filter_map unseated_by did ≡ []) ⊎ FoundOther s t
+      → (filter_map unseated_by (d ∷ []) ≡ []) ⊎ FindsOther code_of size_of t → (earlier : List Receipt) → Later s t earlier → (filter_map unseated_by (did ++ d ∷ []) ≡ []) ⊎ FoundOther s u
+  seated_more s t u did d more on (inr f) _ earlier run = inr (found_on s t u more on f)
+  seated_more s t u did d more on (inl e) (inr f) earlier run =
+      inr (found_on s t u more on (record { seat = t; before = earlier; since = run; after = []; until = later_none t; other = f }))
+  seated_more s t u did d more on (inl e) (inl k) earlier run = inl (picks_same unseated_by did d k ∙ e)
 
   -- one deed more
   done_more : (s t u : Seat Q) (did : List (Deed L)) (d : Deed L) (more : List Receipt) (w : Done s t did)
-      → Later s u (w.more ++ more)
+      → GoesOn t u more
       → map (λ (r : Receipt). (r.call, r.reply)) more ≡ filter_map answered_by (d ∷ [])
       → u.claims ≡ t.claims ++ filter_map claimed_by (d ∷ [])
       → u.given ≡ t.given ++ filter_map given_back_by (d ∷ [])
       → u.words.noted ≡ t.words.noted ++ filter_map noted_by_deed (d ∷ [])
-      → (filter_map unseated_by (d ∷ []) ≡ []) ⊎ FoundOther s.of
+      → (filter_map unseated_by (d ∷ []) ≡ []) ⊎ FindsOther code_of size_of t
       → Done s u (did ++ d ∷ [])
-  done_more s t u did d more w later answers claimed given noted seated = record {
+  done_more s t u did d more w on answers claimed given noted seated = record {
     more = w.more ++ more;
-    later = later;
+    later = on s w.more w.later;
     answers = map-append (λ (r : Receipt). (r.call, r.reply)) w.more more ∙ ap (λ l. l ++ map (λ (r : Receipt). (r.call, r.reply)) more) w.answers
         ∙ ap (λ l. filter_map answered_by did ++ l) answers ∙ sym (filter_map-append answered_by did (d ∷ []));
     claims = picks_more claimed_by did d t.claims u.claims s.claims w.claims claimed;
     given = picks_more given_back_by did d t.given u.given s.given w.given given;
     noted = picks_more noted_by_deed did d t.words.noted u.words.noted s.words.noted w.noted noted;
-    seated = seated_more s did d w.seated seated;
+    seated = seated_more s t u did d more on w.seated seated w.more w.later;
   }
-
-  -- the seat is as it was, or has seen a journal
-  later_on : (s t u : Seat Q) (did : List (Deed L)) (w : Done s t did) → (u ≡ t) ⊎ Sees t u → Later s u (w.more ++ [])
-  later_on s t u did w (inl e) = subst (λ l. Later s u l) (sym (append-nil w.more)) (subst (λ v. Later s v w.more) (sym e) w.later)
-  later_on s t u did w (inr h) = subst (λ l. Later s u l) (sym (append-nil w.more)) (later_sees s t u w.more w.later h)
 
   -- it asked for work, and there was none
   pub done_claims_none : (s t u : Seat Q) (did : List (Deed L)) → Done s t did → (u ≡ t) ⊎ Sees t u → u.claims ≡ t.claims → u.given ≡ t.given → Done s u (did ++ claims None ∷ [])
   done_claims_none s t u did w h claimed given =
-      done_more s t u did _ [] w (later_on s t u did w h) refl (claimed ∙ sym (append-nil t.claims)) (given ∙ sym (append-nil t.given)) (noted_on t u h) (inl refl)
+      done_more s t u did _ [] w (later_on t u h) refl (claimed ∙ sym (append-nil t.claims)) (given ∙ sym (append-nil t.given)) (noted_on t u h) (inl refl)
 
   -- and was given some
   pub done_claims : (s t u : Seat Q) (did : List (Deed L)) (h : Held L) (ticket : Ticket) → Done s t did → h.ticket ≡ ticket → Sees t u → u.claims ≡ t.claims ++ ticket ∷ [] → u.given ≡ t.given → Done s u (did ++ claims (Some h) ∷ [])
   done_claims s t u did h ticket w is sees claimed given =
-      done_more s t u did _ [] w (later_on s t u did w (inr sees)) refl (claimed ∙ ap (λ x. t.claims ++ x ∷ []) (sym is)) (given ∙ sym (append-nil t.given)) (noted_on t u (inr sees)) (inl refl)
+      done_more s t u did _ [] w (later_on t u (inr sees)) refl (claimed ∙ ap (λ x. t.claims ++ x ∷ []) (sym is)) (given ∙ sym (append-nil t.given)) (noted_on t u (inr sees)) (inl refl)
 
   -- the seat is as it was
   as_it_was : (s t u : Seat Q) (did : List (Deed L)) (d : Deed L) → Done s t did → u ≡ t → filter_map answered_by (d ∷ []) ≡ [] → filter_map claimed_by (d ∷ []) ≡ [] → filter_map given_back_by (d ∷ []) ≡ []
-      → filter_map noted_by_deed (d ∷ []) ≡ [] → (filter_map unseated_by (d ∷ []) ≡ []) ⊎ FoundOther s.of → Done s u (did ++ d ∷ [])
+      → filter_map noted_by_deed (d ∷ []) ≡ [] → (filter_map unseated_by (d ∷ []) ≡ []) ⊎ FindsOther code_of size_of t → Done s u (did ++ d ∷ [])
   as_it_was s t u did d w e answers claimed given noted seated =
-      done_more s t u did d [] w (later_on s t u did w (inl e)) (sym answers)
+      done_more s t u did d [] w (later_on t u (inl e)) (sym answers)
       (ap (λ (v : Seat Q). v.claims) e ∙ sym (append-nil t.claims) ∙ ap (λ l. t.claims ++ l) (sym claimed))
       (ap (λ (v : Seat Q). v.given) e ∙ sym (append-nil t.given) ∙ ap (λ l. t.given ++ l) (sym given))
       (ap (λ (v : Seat Q). v.words.noted) e ∙ sym (append-nil t.words.noted) ∙ ap (λ l. t.words.noted ++ l) (sym noted))
@@ -133,7 +142,7 @@ module _ {L Q : Type 0} where
   answered : (s t u : Seat Q) (did : List (Deed L)) (d : Deed L) (c : Call) (r : Reply) → Done s t did → Stands t u c r → filter_map answered_by (d ∷ []) ≡ (c, r) ∷ []
       → filter_map claimed_by (d ∷ []) ≡ [] → filter_map given_back_by (d ∷ []) ≡ [] → filter_map noted_by_deed (d ∷ []) ≡ [] → filter_map unseated_by (d ∷ []) ≡ [] → Done s u (did ++ d ∷ [])
   answered s t u did d c r w h answers claimed given noted seated =
-      done_more s t u did d (record { cut = length u.seen; call = c; reply = r } ∷ []) w (later_more s t u w.more c r w.later h) (sym answers)
+      done_more s t u did d (record { cut = length u.seen; call = c; reply = r } ∷ []) w (λ x earlier run. later_more x t u earlier c r run h) (sym answers)
       (h.claims ∙ sym (append-nil t.claims) ∙ ap (λ l. t.claims ++ l) (sym claimed))
       (h.given ∙ sym (append-nil t.given) ∙ ap (λ l. t.given ++ l) (sym given))
       (ap (λ x. x.noted) h.words ∙ sym (append-nil t.words.noted) ∙ ap (λ l. t.words.noted ++ l) (sym noted))
@@ -156,29 +165,26 @@ module _ {L Q : Type 0} where
   pub done_lacking : (s t u : Seat Q) (did : List (Deed L)) (ticket : Ticket) (o : OutcomeValue) → Done s t did → Stands t u (finish_call ticket o) reply.OutOfMemory → Done s u (did ++ finishes ticket o lacking ∷ [])
   done_lacking s t u did ticket o w h = answered s t u did _ _ _ w h refl refl refl refl refl
 
-  -- the engine in the lock was another's
-  found_other : (s t : Seat Q) (did : List (Deed L)) → Done s t did → FindsOther code_of size_of t → FoundOther s.of
-  found_other s t did w f = record { seat = t; of = w.later.of; other = f }
-
+  -- the journal in the lock was another
   pub done_unseated : (s t u : Seat Q) (did : List (Deed L)) (ticket : Ticket) (o : OutcomeValue) → Done s t did → u ≡ t → FindsOther code_of size_of t → Done s u (did ++ finishes ticket o unseated ∷ [])
-  done_unseated s t u did ticket o w e f = as_it_was s t u did _ w e refl refl refl refl (inr (found_other s t did w f))
+  done_unseated s t u did ticket o w e f = as_it_was s t u did _ w e refl refl refl refl (inr f)
 
   pub done_unreturned : (s t u : Seat Q) (did : List (Deed L)) (h : Held L) → Done s t did → u ≡ t → FindsOther code_of size_of t → Done s u (did ++ gives_back h unreturned ∷ [])
-  done_unreturned s t u did h w e f = as_it_was s t u did _ w e refl refl refl refl (inr (found_other s t did w f))
+  done_unreturned s t u did h w e f = as_it_was s t u did _ w e refl refl refl refl (inr f)
 
   -- work went back
   pub done_returned : (s t u : Seat Q) (did : List (Deed L)) (h : Held L) (ticket : Ticket) → Done s t did → h.ticket ≡ ticket → Sees t u → u.claims ≡ t.claims → u.given ≡ t.given ++ ticket ∷ [] → Done s u (did ++ gives_back h returned ∷ [])
   done_returned s t u did h ticket w is sees claimed given =
-      done_more s t u did _ [] w (later_on s t u did w (inr sees)) refl (claimed ∙ sym (append-nil t.claims)) (given ∙ ap (λ x. t.given ++ x ∷ []) (sym is)) (noted_on t u (inr sees)) (inl refl)
+      done_more s t u did _ [] w (later_on t u (inr sees)) refl (claimed ∙ sym (append-nil t.claims)) (given ∙ ap (λ x. t.given ++ x ∷ []) (sym is)) (noted_on t u (inr sees)) (inl refl)
 
   pub done_ended_before : (s t u : Seat Q) (did : List (Deed L)) (h : Held L) → Done s t did → Sees t u → u.claims ≡ t.claims → u.given ≡ t.given → Done s u (did ++ gives_back h ended_before ∷ [])
   done_ended_before s t u did h w sees claimed given =
-      done_more s t u did _ [] w (later_on s t u did w (inr sees)) refl (claimed ∙ sym (append-nil t.claims)) (given ∙ sym (append-nil t.given)) (noted_on t u (inr sees)) (inl refl)
+      done_more s t u did _ [] w (later_on t u (inr sees)) refl (claimed ∙ sym (append-nil t.claims)) (given ∙ sym (append-nil t.given)) (noted_on t u (inr sees)) (inl refl)
 
   -- a count was noted
   pub done_notes : (s t u : Seat Q) (did : List (Deed L)) (slot : ℕ) (ticket : Ticket) (count : ℕ) → Done s t did → u ≡ noted_by t slot ticket count → Done s u (did ++ notes ticket slot count ∷ [])
   done_notes s t u did slot ticket count w e = subst (λ v. Done s v (did ++ notes ticket slot count ∷ [])) (sym e)
-      (done_more s t (noted_by t slot ticket count) did _ [] w (subst (λ l. Later s (noted_by t slot ticket count) l) (sym (append-nil w.more)) (later_notes s t slot ticket count w.more w.later))
+      (done_more s t (noted_by t slot ticket count) did _ [] w (λ x earlier run. subst (λ l. Later x (noted_by t slot ticket count) l) (sym (append-nil earlier)) (later_notes x t slot ticket count earlier run))
       refl (sym (append-nil t.claims)) (sym (append-nil t.given)) refl (inl refl))
 
 -- the counts after a deed that none of them counts

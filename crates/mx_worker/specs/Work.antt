@@ -17,7 +17,7 @@ use Rattle.mx_journal.specs.declared.replies.GiveBackReply.TheVariants as giving
 use Rattle.mx_lock.specs.Ties.{TiedClaimed}
 use Rattle.mx_board.specs.declared.note.Note.{Note}
 use Rattle.mx_board.specs.Progress.{note, word_of}
-use Rattle.mx_multi.specs.Seats.{MultiView, SeatView, Later, FindsOther}
+use Rattle.mx_multi.specs.Seats.{SeatView, Later, FindsOther}
 use Rattle.mx_gate.specs.Said.{Said}
 use Rattle.mx_turn.specs.Workers.{Deed, looks, notes, finishes, Finish, recorded, stale, lacking, unseated, Return, returned, ended_before, unreturned, Worker, starts, IsOver}
 use Rattle.mx_turn.specs.Turn.{Runs}
@@ -48,17 +48,20 @@ abbrev pub noted_by_deed : {L : Type 0} → Deed L → Option Note
 noted_by_deed (notes t slot count) = Some (note slot (word_of t count))
 noted_by_deed _ = None
 
--- at some moment the journal in the lock didn't begin with what a seat of this multi handle had seen, or had other events of the seat's own
-pub record FoundOther {Q : Type 0} (m : MultiView Q OutcomeValue) : Type 0 where
+-- at some moment of what the seat did, from s to t, the journal in the lock didn't begin with what the seat had seen by then
+pub record FoundOther {Q : Type 0} (s t : SeatView Q OutcomeValue) : Type 0 where
   pub seat : SeatView Q OutcomeValue
-  pub of : seat.of ≡ m
+  pub before : List Receipt
+  pub since : Later s seat before
+  pub after : List Receipt
+  pub until : Later seat t after
   pub other : FindsOther code_of size_of seat
 
 -- rule worker-seat: What a worker does in its turns is what its seat does.
 --
 -- What the seat did, from s to t, is these deeds: its further receipts are those of the calls that were answered, in order; its further
 -- claims are what they claimed; likewise what it gave back and the words that it wrote. And nothing was lost for a seat of another handle,
--- unless what was in the lock was another handle's indeed.
+-- unless the journal in the lock was found not to begin with what the seat had seen then.
 pub record IsDone {L Q : Type 0} (s t : SeatView Q OutcomeValue) (did : List (Deed L)) : Type 0 where
   pub more : List Receipt
   pub later : Later s t more
@@ -66,7 +69,7 @@ pub record IsDone {L Q : Type 0} (s t : SeatView Q OutcomeValue) (did : List (De
   pub claims : t.claims ≡ s.claims ++ filter_map claimed_by did
   pub given : t.given ≡ s.given ++ filter_map given_back_by did
   pub noted : t.words.noted ≡ s.words.noted ++ filter_map noted_by_deed did
-  pub seated : (filter_map unseated_by did ≡ []) ⊎ FoundOther s.of
+  pub seated : (filter_map unseated_by did ≡ []) ⊎ FoundOther s t
 
 -- how many they are, held at the greatest number of 32 bits
 abbrev pub held_count : List Ticket → ℕ
