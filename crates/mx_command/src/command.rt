@@ -1,14 +1,16 @@
 //! The command line.
 ghost use Rattle.std.specs.Prelude.{◌≡◌, true, IfOk, IfSome};
 ghost use Rattle.mx_run_io.specs.Options.{are_within};
+ghost use Rattle.clap.specs.Words.{found_of};
 ghost use Rattle.mx_command.specs.Asked.{IsTask, IsAsked};
+ghost use Rattle.mx_command.specs.Given.{AreOptionsOf, IsGetOf, IsGiven};
 
 use crate::asked::{Asked, Get};
-use crate::help;
 use crate::options::{METHODS, OptionRow, Takes, with_options};
 use crate::save::options::save_command;
 use crate::save::read::read_save;
 use crate::task::Task;
+use crate::{given, help};
 use clap::error::ErrorKind;
 use clap::{Arg, ArgAction, ArgMatches, Command, Error};
 use mx_run_io::Options;
@@ -158,15 +160,10 @@ fn task_of(matches: &ArgMatches<'_>) -> Option<Task>
 // rule get-options
 /// How the URLs of `get` are fetched, if its values are there. Their ranges are tested here too.
 fn options_of(get: &ArgMatches<'_>) -> Option<Options>
-    ensures { IfSome result (λ options. are_within options ≡ true) }
+    ensures within { IfSome result (λ options. are_within options ≡ true) }
+    ensures given { IfSome result (AreOptionsOf (found_of get.now)) }
 {
-    let options = Options {
-        workers: get.get_one::<u8>("workers")?,
-        at_once: get.get_one::<u16>("at-once")?,
-        timeout_ms: get.get_one::<u32>("timeout-ms")?,
-        max_connects: get.get_one::<u8>("max-connects")?,
-        max_redirects: get.get_one::<u8>("max-redirects")?,
-    };
+    let options = given::options_of(get)?;
     if !options.are_within() {
         return None;
     }
@@ -175,19 +172,17 @@ fn options_of(get: &ArgMatches<'_>) -> Option<Options>
 
 /// What `get` is asked for, if its values are there.
 fn get_of<'a>(alloc: Global, get: &ArgMatches<'a>) -> Result<Option<Get<'a>>, AllocError>
-    ensures { IfOk result (λ o. IfSome o (λ g. are_within g.options ≡ true)) }
+    ensures within { IfOk result (λ o. IfSome o (λ g. are_within g.options ≡ true)) }
+    ensures given { IfOk result (λ o. IfSome o (IsGetOf (found_of get.now))) }
 {
-    let (Some(options), Some(given)) = (options_of(get), get.get_strs("URL")) else {
+    let (Some(options), true) = (options_of(get), get.contains_id("URL")) else {
         return Ok(None);
     };
-    let mut urls = Vec::with_capacity(alloc, given.len())?;
-    for url in given {
-        urls.push(*url)?;
-    }
+    let urls = given::texts_of(alloc, get, "URL")?;
     Ok(Some(Get {
         options,
         urls,
-        explain: get.get_flag("explain"),
+        explain: given::flag_of(get, "explain"),
     }))
 }
 
@@ -201,13 +196,14 @@ fn is_explained(matches: &ArgMatches<'_>) -> bool {
 
 /// What the matches ask for, if they name a command.
 fn asked_of<'a>(alloc: Global, matches: &ArgMatches<'a>) -> Result<Option<Asked<'a>>, AllocError>
-    ensures { IfOk result (λ o. IfSome o IsAsked) }
+    ensures asked { IfOk result (λ o. IfSome o IsAsked) }
+    ensures given { IfOk result (λ o. IfSome o IsGiven) }
 {
     if let Some(get) = matches.subcommand_matches("get") {
-        return Ok(match get_of(alloc, get)? {
-            Some(get) => Some(Asked::Get(get)),
-            None => None,
-        });
+        let Some(get) = get_of(alloc, get)? else {
+            return Ok(None);
+        };
+        return Ok(Some(Asked::Get(get)));
     }
     Ok(match task_of(matches) {
         Some(Task::Body(method)) if is_explained(matches) => Some(Asked::Explain(method)),
@@ -222,7 +218,8 @@ fn read_at<'a>(
     command: &mut Command<'a>,
     words: &'a [String],
 ) -> Result<Asked<'a>, Error>
-    ensures { IfOk result IsAsked }
+    ensures asked { IfOk result IsAsked }
+    ensures given { IfOk result IsGiven }
 {
     if words.len() < 2 {
         return Err(command.error(ErrorKind::MissingSubcommand, help::NO_COMMAND)?);
@@ -238,7 +235,8 @@ fn read_at<'a>(
 
 // Reads a command line at the commands of `mxfetch`.
 fn read_below<'a>(alloc: Global, words: &'a [String]) -> Result<Asked<'a>, Error>
-    ensures { IfOk result IsAsked }
+    ensures asked { IfOk result IsAsked }
+    ensures given { IfOk result IsGiven }
 {
     let mut command = mxfetch_command(alloc)?;
     let read = read_at(alloc, &mut command, words);
@@ -256,8 +254,11 @@ fn is_save(words: &[String]) -> bool {
 
 /// Reads a command line, of which the first word is the program's name. An error is help that was asked for,
 /// a refusal in clap's words, or `OutOfMemory`.
+///
+/// Values are those that clap found under the names of their options. No clause says which words these values come from.
 pub fn read_command<'a>(alloc: Global, words: &'a [String]) -> Result<Asked<'a>, Error>
-    ensures { IfOk result IsAsked }
+    ensures asked { IfOk result IsAsked }
+    ensures given { IfOk result IsGiven }
 {
     if !is_save(words) {
         return read_below(alloc, words);

@@ -3,6 +3,7 @@
 
 mod asked;
 mod command;
+mod given;
 mod help;
 mod hint;
 mod options;

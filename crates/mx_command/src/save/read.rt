@@ -1,28 +1,26 @@
 //! What a command line of `save` asks for.
-ghost use Rattle.std.specs.Prelude.{IfOk, IfSome};
+ghost use Rattle.std.specs.Prelude.{◌≡◌, IfOk, IfSome, codes, is_some};
+ghost use Rattle.clap.specs.Words.{found_of, matched_of, one_text};
+ghost use Rattle.mx_command.specs.Given.{AreFlagsOf, AreNumbersOf, IsProgressOf, default_method, progress_by};
+ghost use Rattle.mx_command.specs.Given.{IsBodyBy, IsBodyOf, IsInputOf, IsMethodBy, IsSaveGiven, IsSaveOf, IsSourceOf};
 ghost use Rattle.mx_command.specs.Saving.{AreSaveNumbers, IsSaveAsked};
 
+use crate::given::{byte_of, flag_of, options_of, texts_of, word_of};
 use crate::save::options::save_command;
 use crate::save::{BodySource, Header, ListSource, Save, SaveFlags, SaveNumbers, help};
 use clap::error::ErrorKind;
 use clap::{ArgMatches, Command, Error};
-use mx_run_io::Options;
 use mx_types::{LEAST_HISTORY, MOST_HISTORY, Method};
 use std::alloc::{AllocError, Global};
 
 /// The numbers of `save`, if its values are there. Their ranges are tested here too, since clap's contract doesn't say that they were.
 fn numbers_of(save: &ArgMatches<'_>) -> Option<SaveNumbers>
-    ensures { IfSome result AreSaveNumbers }
+    ensures within { IfSome result AreSaveNumbers }
+    ensures given { IfSome result (AreNumbersOf (found_of save.now)) }
 {
-    let options = Options {
-        workers: save.get_one::<u8>("workers")?,
-        at_once: save.get_one::<u16>("at-once")?,
-        timeout_ms: save.get_one::<u32>("timeout-ms")?,
-        max_connects: save.get_one::<u8>("max-connects")?,
-        max_redirects: save.get_one::<u8>("max-redirects")?,
-    };
-    let retries = save.get_one::<u8>("retry")?;
-    let history = save.get_one::<u32>("history")?;
+    let options = options_of(save)?;
+    let retries = byte_of(save, "retry")?;
+    let history = word_of(save, "history")?;
     if !options.are_within() || !(LEAST_HISTORY..=MOST_HISTORY).contains(&history) {
         return None;
     }
@@ -33,45 +31,87 @@ fn numbers_of(save: &ArgMatches<'_>) -> Option<SaveNumbers>
     })
 }
 
-fn flags_of(save: &ArgMatches<'_>) -> SaveFlags {
-    let progress = if save.get_flag("progress") {
+// Whether progress is shown, where that is asked for, and where it is forbidden.
+fn progress_by(shown: bool, hidden: bool) -> Option<bool>
+    ensures { result ≡ progress_by shown hidden }
+{
+    if shown {
         Some(true)
-    } else if save.get_flag("no-progress") {
+    } else if hidden {
         Some(false)
     } else {
         None
-    };
+    }
+}
+
+fn progress_of(save: &ArgMatches<'_>) -> Option<bool>
+    ensures { IsProgressOf (found_of save.now) result }
+{
+    progress_by(flag_of(save, "progress"), flag_of(save, "no-progress"))
+}
+
+fn flags_of(save: &ArgMatches<'_>) -> SaveFlags
+    ensures { AreFlagsOf (found_of save.now) result }
+{
     SaveFlags {
-        skip_existing: save.get_flag("skip-existing"),
-        content_on_error: save.get_flag("content-on-error"),
-        fsync: save.get_flag("fsync"),
-        json: save.get_flag("json"),
-        progress,
+        skip_existing: flag_of(save, "skip-existing"),
+        content_on_error: flag_of(save, "content-on-error"),
+        fsync: flag_of(save, "fsync"),
+        json: flag_of(save, "json"),
+        progress: progress_of(save),
     }
 }
 
-fn input_of<'a>(save: &ArgMatches<'a>) -> Option<ListSource<'a>> {
-    match save.get_str("input")? {
-        "-" => Some(ListSource::Standard),
-        file => Some(ListSource::File(file)),
+fn source_of(text: &str) -> ListSource<'_>
+    ensures { IsSourceOf text.now result }
+{
+    if text == "-" {
+        ListSource::Standard
+    } else {
+        ListSource::File(text)
     }
 }
 
-fn body_of<'a>(save: &ArgMatches<'a>) -> Option<BodySource<'a>> {
-    let text = save.get_str("data")?;
+fn input_of<'a>(save: &ArgMatches<'a>) -> Option<ListSource<'a>>
+    ensures { IsInputOf (found_of save.now) result }
+{
+    match save.get_str("input") {
+        Some(text) => Some(source_of(text)),
+        None => None,
+    }
+}
+
+fn body_by(text: &str) -> BodySource<'_>
+    ensures { IsBodyBy text.now result }
+{
     match text.strip_prefix('@') {
-        Some(file) => Some(BodySource::File(file)),
-        None => Some(BodySource::Text(text)),
+        Some(file) => BodySource::File(file),
+        None => BodySource::Text(text),
     }
+}
+
+fn body_of<'a>(save: &ArgMatches<'a>) -> Option<BodySource<'a>>
+    ensures { IsBodyOf (found_of save.now) result }
+{
+    match save.get_str("data") {
+        Some(text) => Some(body_by(text)),
+        None => None,
+    }
+}
+
+fn default_method(has_body: bool) -> Method
+    ensures { result ≡ default_method has_body }
+{
+    if has_body { Method::Post } else { Method::Get }
 }
 
 // The method that was given, else POST with a body, and GET without one.
-fn method_of(save: &ArgMatches<'_>) -> Method {
-    match save.get_one::<Method>("method") {
-        Some(method) => method,
-        None if save.contains_id("data") => Method::Post,
-        None => Method::Get,
-    }
+fn method_of(save: &ArgMatches<'_>) -> Method
+    ensures { IsMethodBy (one_text (found_of save.now) (codes "method"))
+        (default_method (is_some (matched_of (found_of save.now) (codes "data")))) result }
+{
+    save.get_one::<Method>("method")
+        .unwrap_or(default_method(save.contains_id("data")))
 }
 
 fn header_of(text: &str) -> Option<Header<'_>> {
@@ -80,16 +120,6 @@ fn header_of(text: &str) -> Option<Header<'_>> {
         name,
         value: value.trim_ascii(),
     })
-}
-
-fn urls_of<'a>(alloc: Global, save: &ArgMatches<'a>) -> Result<Vec<&'a str>, AllocError> {
-    let mut urls = Vec::new(alloc);
-    if let Some(given) = save.get_strs("URL") {
-        for url in given {
-            urls.push(*url)?;
-        }
-    }
-    Ok(urls)
 }
 
 /// The header fields, if each has a colon.
@@ -115,7 +145,8 @@ fn save_of<'a>(
     alloc: Global,
     save: &ArgMatches<'a>,
 ) -> Result<Result<Save<'a>, &'static str>, AllocError>
-    ensures { IfOk result (λ asked. IfOk asked IsSaveAsked) }
+    ensures asked { IfOk result (λ asked. IfOk asked IsSaveAsked) }
+    ensures given { IfOk result (λ asked. IfOk asked (IsSaveOf (found_of save.now))) }
 {
     let (Some(numbers), Some(into)) = (numbers_of(save), save.get_str("into")) else {
         return Ok(Err(help::NO_VALUE));
@@ -131,7 +162,7 @@ fn save_of<'a>(
         flags: flags_of(save),
         into,
         input: input_of(save),
-        urls: urls_of(alloc, save)?,
+        urls: texts_of(alloc, save, "URL")?,
         method: method_of(save),
         headers,
         body: body_of(save),
@@ -143,7 +174,8 @@ fn asked_of<'a>(
     alloc: Global,
     matches: &ArgMatches<'a>,
 ) -> Result<Result<Save<'a>, &'static str>, AllocError>
-    ensures { IfOk result (λ asked. IfOk asked IsSaveAsked) }
+    ensures asked { IfOk result (λ asked. IfOk asked IsSaveAsked) }
+    ensures given { IfOk result (λ asked. IfOk asked IsSaveGiven) }
 {
     match matches.subcommand_matches("save") {
         Some(save) => save_of(alloc, save),
@@ -165,7 +197,8 @@ fn read_at<'a>(
     command: &mut Command<'a>,
     words: &'a [String],
 ) -> Result<Save<'a>, Error>
-    ensures { IfOk result IsSaveAsked }
+    ensures asked { IfOk result IsSaveAsked }
+    ensures given { IfOk result IsSaveGiven }
 {
     let matches = command.try_get_matches_from_mut(words)?;
     let asked = asked_of(alloc, &matches);
@@ -178,8 +211,12 @@ fn read_at<'a>(
 
 /// Reads a command line of `save`, of which the first word is the program's name and the second `save`. An error is help that was asked
 /// for, a refusal in clap's words, or `OutOfMemory`.
+///
+/// Each part of it, its header fields aside, is by the value that clap found under the name of its option. No clause says which words these
+/// values come from.
 pub fn read_save<'a>(alloc: Global, words: &'a [String]) -> Result<Save<'a>, Error>
-    ensures { IfOk result IsSaveAsked }
+    ensures asked { IfOk result IsSaveAsked }
+    ensures given { IfOk result IsSaveGiven }
 {
     let mut command = mxfetch_command(alloc)?;
     let read = read_at(alloc, &mut command, words);
