@@ -30,6 +30,6 @@ file found (Placed part final ∷ before) name =
     if bytes_eq name final then file found before part else (if bytes_eq name part then None else file found before name)
 file found (Removed part ∷ before) name =
     if bytes_eq name part then None else file found before name
-file found (Looked _ ∷ before) name = file found before name
+file found (Looked _ _ ∷ before) name = file found before name
 file found (FolderFlushed ∷ before) name = file found before name
 file found (Refused _ ∷ before) name = file found before name

@@ -9,8 +9,8 @@ use mx_file_name::{FileName, PartName};
 /// Each call is one step: it is done, or it is refused and changes nothing.
 pub trait Folder: Drop {
     ghost use Rattle.mx_folder.specs.declared.steps.Step.{Step};
-    ghost use Rattle.mx_folder.specs.declared.steps.Step.TheVariants.{Created, Flushed, Placed, Removed, Looked, FolderFlushed};
-    ghost use Rattle.mx_folder.specs.Steps.{done, appended};
+    ghost use Rattle.mx_folder.specs.declared.steps.Step.TheVariants.{Created, Flushed, Placed, Removed, FolderFlushed};
+    ghost use Rattle.mx_folder.specs.Steps.{done, appended, looked};
 
     /// What was done so far, the newest first.
     ghost steps: { Self → List Step };
@@ -40,7 +40,7 @@ pub trait Folder: Drop {
 
     /// Looks up what is under a name. A link isn't followed.
     fn look(&mut self, name: &FileName) -> Result<Kind, FolderError>
-        ensures { steps self.new ≡ done result (Looked name.now) ∷ steps self.old };
+        ensures { steps self.new ≡ looked result name.now ∷ steps self.old };
 
     /// Flushes the names of the folder to the disk.
     fn flush_folder(&mut self) -> Result<(), FolderError>

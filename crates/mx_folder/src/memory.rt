@@ -286,7 +286,7 @@ impl Folder for MemoryFolder {
     }
 
     fn look(&mut self, name: &FileName) -> Result<Kind, FolderError>
-        ensures told { self.new ≡ spec.done result (steps.Looked name.now) ∷ self.old }
+        ensures told { self.new ≡ spec.looked result name.now ∷ self.old }
         ensures kind { IfOk result (λ kind. kind ≡ kind_of (file none self.old name.now)) }
     {
         let kind = match self.held(self.alloc, name.as_str()) {
@@ -294,7 +294,7 @@ impl Folder for MemoryFolder {
             Ok(Some(_)) => Kind::File,
             Err(OutOfMemory) => return Err(self.refuse(FolderError::OutOfMemory)),
         };
-        match self.pass(Step::Looked(bytes_of(name.as_str().as_bytes()))) {
+        match self.pass(Step::Looked(bytes_of(name.as_str().as_bytes()), kind)) {
             Ok(()) => Ok(kind),
             Err(error) => Err(error),
         }

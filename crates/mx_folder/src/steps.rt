@@ -18,8 +18,8 @@ pub enum Step {
     Placed(Past<u8>, Past<u8>),
     /// Nothing is under this name any more.
     Removed(Past<u8>),
-    /// What is under this name was looked at.
-    Looked(Past<u8>),
+    /// What is under this name was looked at, and this was there.
+    Looked(Past<u8>, Kind),
     /// The names that the folder has are on the disk.
     FolderFlushed,
     /// The call failed, and changed nothing that a name holds.
@@ -35,6 +35,16 @@ pub enum Kind {
     File,
     /// Anything else: a folder, a link, a device.
     Other,
+}
+
+// What a look did.
+pub(crate) fn looked(answer: &Result<Kind, FolderError>, name: Past<u8>) -> Step
+    ensures { result ≡ spec.looked answer.now name }
+{
+    match answer {
+        Ok(kind) => Step::Looked(name, *kind),
+        Err(error) => Step::Refused(*error),
+    }
 }
 
 // What a call did.

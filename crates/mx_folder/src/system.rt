@@ -5,7 +5,7 @@ use crate::errors::FolderError;
 use crate::folders::Folder;
 use crate::limit::{front, most_bytes};
 use crate::past::{Past, bytes_of};
-use crate::steps::{Kind, Step, done};
+use crate::steps::{Kind, Step, done, looked};
 use mx_file_name::{FileName, PartName};
 use std::alloc::Global;
 use std::fs::{File, OpenFile};
@@ -327,7 +327,8 @@ impl<'a, R: Files> Folder for SystemFolder<'a, R> {
 
     fn look(&mut self, name: &FileName) -> Result<Kind, FolderError> {
         let kind = kind_at(self.alloc, self.files, self.path.as_str(), name.as_str());
-        self.steps.note(done(&kind, Step::Looked(bytes_of(name.as_str().as_bytes()))));
+        self.steps
+            .note(looked(&kind, bytes_of(name.as_str().as_bytes())));
         kind
     }
 

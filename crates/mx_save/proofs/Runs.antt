@@ -5,9 +5,12 @@ use Rattle.std.specs.List.{Contains, AllByRecursion}
 use Rattle.std.proofs.lemmas.List.{length-append}
 use Rattle.std.proofs.lemmas.List.Elements.{Contains-append_left, Contains-append_right}
 use Rattle.mx_file_name.specs.Safe.{IsSafeName, IsPartName}
+use Rattle.mx_folder.specs.declared.steps.Kind.{Kind}
+use Rattle.mx_folder.specs.declared.steps.Kind.TheVariants as kind
 use Rattle.mx_folder.specs.declared.steps.Step.{Step}
+use Rattle.mx_folder.specs.declared.steps.Step.TheVariants.{Looked}
 use Rattle.mx_folder.specs.declared.errors.FolderError.{FolderError}
-use Rattle.mx_folder.specs.Steps.{done, refusals}
+use Rattle.mx_folder.specs.Steps.{done, looked, refusals}
 use Rattle.mx_folder.specs.Files.{File, file}
 use Rattle.mx_folder.specs.Moments.{IsLater, AtEachMoment, MayHave, MayBeLeft}
 use Rattle.mx_save.specs.declared.error.SaveError.{SaveError}
@@ -103,6 +106,15 @@ no_part result step old new e same = subst (LeavesOnly [] old) (sym e) (same_par
 pub more_refused : {T : Type 0} (result : Result T FolderError) (step : Step) (old new : List Step) → new ≡ done result step ∷ old → refusals old ≤ refusals (step ∷ old)
     → refusals old + 2 * 0 ≤ refusals new
 more_refused result step old new e same = omega (arith, ap refusals e, done_grows result step old same)
+
+-- what a look found is a step that changes no file
+abbrev pub told_kind : Result Kind FolderError → Kind
+told_kind (Ok k) = k
+told_kind (Err e) = kind.Absent
+
+pub looked_done : (result : Result Kind FolderError) (name : List ℕ) → looked result name ≡ done result (Looked name (told_kind result))
+looked_done (Ok k) name = refl
+looked_done (Err e) name = refl
 
 -- one more entry
 more_entries : {B : Type 0} (parts : B → List (List ℕ)) (flush : Bool) (entry : List ℕ × B) (entries : List (List ℕ × B)) (start moment : List Step)

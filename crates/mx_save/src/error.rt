@@ -1,7 +1,9 @@
 //! Why a body wasn't saved.
-ghost use Rattle.std.specs.Prelude.{◌≡◌};
+ghost use Rattle.std.specs.Prelude.{◌≡◌, true};
+ghost use Rattle.mx_folder.specs.declared.errors.FolderError.TheVariants as whys;
 ghost use Rattle.mx_save.specs.Ledgers.{is_taken};
 ghost use Rattle.mx_save.specs.Words.{save_words, is_create};
+ghost use Rattle.mx_save.specs.declared.error.SaveError.TheVariants as errors;
 
 use mx_file_name::PartName;
 use mx_folder::FolderError;
@@ -85,8 +87,10 @@ impl Unsaved {
     }
 
     /// Whether no file could be opened for it, since too many are open.
-    pub fn is_file_limit(&self) -> bool {
-        self.error == SaveError::Create(FolderError::TooManyOpen)
+    pub fn is_file_limit(&self) -> bool
+        ensures { result ≡ true → self.now.error ≡ errors.Create whys.TooManyOpen }
+    {
+        matches!(self.error, SaveError::Create(FolderError::TooManyOpen))
     }
 }
 

@@ -1,6 +1,7 @@
 //! The saves of a run.
 ghost use Rattle.std.specs.Prelude.{◌≡◌, ◌≢◌, ◌<◌, ◌≤◌, ◌+◌, false, true, [], ◌∷◌, ◌++◌, map, Ok, IsOk, IfErr, OnOk, OnErr};
-ghost use Rattle.mx_folder.specs.Steps.{refusals, done};
+ghost use Rattle.mx_folder.specs.Steps.{refusals, done, looked};
+ghost use Rattle.mx_folder.specs.Moments.{IsLater};
 ghost use Rattle.mx_folder.specs.declared.steps.Step.TheVariants as steps;
 ghost use Rattle.mx_save.specs.Bodies.{FilesAreKept, left_of};
 ghost use Rattle.mx_save.specs.Ledgers.{LedgerValue, IsLedger, IsFresh, is_taken, left_names, most_parts};
@@ -139,6 +140,7 @@ impl<F: Folder, B: Body> Ledger<F, B> {
         ensures files { OnErr result (FilesAreKept self.old.steps self.new.steps) }
         ensures start { self.new.start ≡ self.old.start }
         ensures flush { self.new.flush ≡ self.old.flush }
+        ensures later { IsLater self.old.steps self.new.steps }
         ensures cause { IfErr result (λ u. u.error ≢ errors.OutOfMemory → refusals self.old.steps < refusals self.new.steps) }
         ensures whole { OnOk result (self.new.left ≡ self.old.left) }
         ensures left { IfErr result (λ u. self.new.left ≡ left_names u.part u.left ++ self.old.left) }
@@ -194,6 +196,7 @@ impl<F: Folder, B: Body> Ledger<F, B> {
         ensures files { OnErr result (FilesAreKept self.old.steps self.new.steps) }
         ensures start { self.new.start ≡ self.old.start }
         ensures flush { self.new.flush ≡ self.old.flush }
+        ensures later { IsLater self.old.steps self.new.steps }
         ensures cause { IfErr result (λ u. u.error ≢ errors.OutOfMemory → refusals self.old.steps < refusals self.new.steps) }
         ensures tried { IfErr result (λ u. is_taken u.error u.left ≡ true → refusals self.old.steps + most_parts ≤ refusals self.new.steps) }
         ensures whole { OnOk result (self.new.left ≡ self.old.left) }
@@ -214,7 +217,7 @@ impl<F: Folder, B: Body> Ledger<F, B> {
 
     /// Looks up what is under a name. A link isn't followed.
     pub fn look(&mut self, name: &FileName) -> Result<Kind, FolderError>
-        ensures { self.new ≡ record self.old { steps = done result (steps.Looked name.now) ∷ self.old.steps } }
+        ensures { self.new ≡ record self.old { steps = looked result name.now ∷ self.old.steps } }
     {
         self.folder.look(name)
     }
@@ -225,6 +228,7 @@ impl<F: Folder, B: Body> Ledger<F, B> {
         ensures run { IsLedger B.parts (record self { steps = F.steps result.0 }) }
         ensures asked { self.flush ≡ true → F.steps result.0 ≡ done result.1 steps.FolderFlushed ∷ self.steps }
         ensures unasked { self.flush ≡ false → (F.steps result.0 ≡ self.steps) × IsOk result.1 }
+        ensures later { IsLater self.steps (F.steps result.0) }
     {
         let Ledger {
             mut folder,

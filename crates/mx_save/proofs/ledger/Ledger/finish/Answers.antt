@@ -1,4 +1,5 @@
-use Rattle.std.proofs.Common.{[], arith, inl, refl, subst}
+use Rattle.std.proofs.Common.{[], ◌∷◌, ◌∙◌, ap, arith, inl, refl, subst}
+use Rattle.mx_folder.specs.Steps.{done}
 use Rattle.mx_folder.specs.declared.steps.Step.TheVariants.{FolderFlushed}
 use Rattle.mx_save.specs.Ledgers.{LedgerValue, IsLedger}
 use Rattle.mx_save.proofs.Runs.{kept_on, kept_step, more_refused, no_part}
@@ -16,3 +17,8 @@ returns-clause-run g c =
     (kept_step c.flush_folder-flushed.result FolderFlushed (steps inside.folder) new c.flush_folder-flushed.ensures (λ found name safe. refl))
     (no_part c.flush_folder-flushed.result FolderFlushed (steps inside.folder) new c.flush_folder-flushed.ensures (λ found name hidden. inl refl))
     (more_refused c.flush_folder-flushed.result FolderFlushed (steps inside.folder) new c.flush_folder-flushed.ensures (omega arith)))
+
+pub returns-clause-later : goal.returns-clause-later
+returns-clause-later g c =
+    let step = done c.flush_folder-flushed.result FolderFlushed in
+    (step ∷ [], c.flush_folder-flushed.ensures ∙ ap (λ (l : LedgerValue g.row.B.Denot). step ∷ l.steps) c.self.view_is)

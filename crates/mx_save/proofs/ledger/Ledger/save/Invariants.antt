@@ -1,4 +1,5 @@
 use Rattle.std.proofs.Common.{◌≡◌, ◌+◌, ◌≤◌}
+use Rattle.mx_folder.specs.Moments.{IsLater}
 use Rattle.mx_folder.specs.Steps.{refusals}
 use Rattle.mx_save.specs.Bodies.{FilesAreKept}
 use Rattle.mx_save.proofs.ledger.Ledger.save.Given as goal
@@ -11,5 +12,6 @@ invariant-loop-tried g l = record {
   flush : l.self.flush ≡ l.fn.self.flush;
   files : FilesAreKept l.fn.self.steps l.self.steps;
   left : l.self.left ≡ l.fn.self.left;
+  later : IsLater l.fn.self.steps l.self.steps;
   grows : refusals l.fn.self.steps + l.tried ≤ refusals l.self.steps + 1;
 }
