@@ -6,8 +6,9 @@ use Rattle.mx_save.specs.Ledgers.{LedgerValue, IsLedger}
 use Rattle.mx_command.specs.declared.save.Save.{Save}
 use Rattle.mx_save_book.specs.Bodies.{parts_of}
 use Rattle.mx_save_book.specs.Books.{HaveEnded}
-use Rattle.mx_save_book.specs.Lines.{PrintedEndValue}
+use Rattle.mx_save_book.specs.Lines.{LinesValue, PrintedEndValue}
 use Rattle.mx_save_book.specs.declared.asking.Asking.{Asking}
+use Rattle.mx_save_urls.specs.Runs.{TellsTruly}
 
 -- the URLs of a run, where it is known what its list has: those of the command line, and then those of the list
 abbrev pub urls_of : Save → Option (List (List ℕ)) → Option (List (List ℕ))
@@ -25,4 +26,13 @@ pub record SavesIn (save : Save) (asking : Asking) (given : Option (List (List �
   pub flush : ledger.flush ≡ save.flags.fsync
   pub urls : List (List ℕ)
   pub all : (every : List (List ℕ)) → given ≡ Some every → every ≡ urls
-  pub ended : HaveEnded asking urls ledger.entries told
+  pub ended : HaveEnded asking urls ledger told
+
+-- What was reported holds, also where the run has stopped; and what was saved is in the folder, as of a run that hasn't.
+pub record TellsOfFolder (save : Save) (asking : Asking) (given : Option (List (List ℕ))) (old new : List Step) {W : Type 0} (lines : LinesValue W) : Type 0 where
+  pub ledger : LedgerValue OutcomeValue
+  pub whole : IsLedger parts_of ledger
+  pub start : ledger.start ≡ old
+  pub now : ledger.steps ≡ new
+  pub flush : ledger.flush ≡ save.flags.fsync
+  pub told : TellsTruly asking given ledger lines

@@ -4,7 +4,7 @@ ghost use Rattle.mx_command.specs.Saving.{AreSaveNumbers};
 ghost use Rattle.mx_save_urls.specs.Feeds.{list_left};
 ghost use Rattle.mx_run_save.specs.Asked.{IsAskedBy};
 ghost use Rattle.mx_run_save.specs.Runs.{EndsSave};
-ghost use Rattle.mx_run_save.specs.Saved.{SavesIn, urls_of};
+ghost use Rattle.mx_run_save.specs.Saved.{SavesIn, TellsOfFolder, urls_of};
 ghost use Rattle.mx_run_save.specs.Status.{IsUnbegun, codes_number, stop_number};
 
 use crate::asked::asking_of;
@@ -59,6 +59,7 @@ pub fn save_in<
     requires fresh { lines.told ≡ [] }
     ensures all { OnOk result.stopped (SavesIn save.now asking (urls_of save.now (list_left Rd.remaining list))
         (F.steps folder) (F.steps result.folder) result.lines.told) }
+    ensures told { TellsOfFolder save.now asking (urls_of save.now (list_left Rd.remaining list)) (F.steps folder) (F.steps result.folder) result.lines }
     ensures lines { (result.lines.start ≡ lines.start) × (result.lines.json ≡ lines.json) }
 {
     let ledger = Ledger::new(rt.alloc(), process, folder, save.flags.fsync);

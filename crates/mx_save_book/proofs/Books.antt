@@ -1,34 +1,50 @@
 -- A book, one URL further, and one end further.
-use Rattle.std.proofs.Common.{◌≡◌, ◌≢◌, ◌∙◌, refl, ap, sym, subst, ℕ, ◌+◌, ◌<◌, ◌≤◌, ◌^◌, suc, zero, List, [], ◌∷◌, ◌++◌, map, length, length-append, Bool, true, false, cond, inl, inr, arith}
-use Rattle.std.specs.Prelude.{◌⊎◌, Option, Some, None, IfSome, IsSome, SomeIff, Result, Ok, Err, IsUtf8, MatchResult, OnOk, count_by, slice_get, slice_set}
+use Rattle.std.proofs.Common.{◌≡◌, ◌≢◌, ◌∙◌, refl, ap, sym, subst, ℕ, ◌+◌, ◌*◌, ◌<◌, ◌≤◌, ◌^◌, suc, zero, List, [], ◌∷◌, ◌++◌, map, take, length, length-append, append_assoc, append-nil, Bool, true, false, cond, inl, inr, arith}
+use Rattle.std.specs.Prelude.{◌⊎◌, ◌&&◌, if◌then◌else◌, nat_le, Option, Some, None, is_some, IfSome, IfOk, IfErr, SomeIff, Result, Ok, Err, IsUtf8, MatchResult, OnOk, count_by, slice_get, slice_set}
 use Rattle.std.specs.List.{Contains, AllByRecursion}
-use Rattle.std.proofs.lemmas.List.Elements.{Contains-append_left, Contains-push}
+use Rattle.std.proofs.lemmas.Bool.{leb-true}
+use Rattle.std.proofs.lemmas.List.{take_at}
+use Rattle.std.proofs.lemmas.List.Elements.{Contains-append_left, Contains-append_right, Contains-push}
 use Rattle.std.proofs.lemmas.List.Sums.{sum_by_push}
+use Rattle.mx_types.specs.declared.code.Code.{Code}
 use Rattle.mx_request.specs.Request.{RequestValue, request_of}
 use Rattle.mx_request.specs.declared.error.RequestError.{RequestError}
 use Rattle.mx_request.specs.declared.error.RequestError.TheVariants as refusal
-use Rattle.mx_body.specs.Parts.{joined}
-use Rattle.mx_chain.specs.Outcomes.{OutcomeValue}
+use Rattle.mx_chain.specs.Outcomes.{OutcomeValue, IsOutcome}
 use Rattle.mx_file_name.specs.Names.{base_name, count_of, names_of, numbered}
 use Rattle.mx_file_name.specs.Laws.{NamesAreDistinct}
 use Rattle.mx_file_name.proofs.Apart.{distinct}
-use Rattle.mx_save.specs.Ledgers.{IsFresh}
+use Rattle.mx_folder.specs.declared.errors.FolderError.{FolderError}
+use Rattle.mx_folder.specs.declared.steps.Kind.{Kind}
+use Rattle.mx_folder.specs.declared.steps.Kind.TheVariants as kind
+use Rattle.mx_folder.specs.declared.steps.Step.{Step}
+use Rattle.mx_folder.specs.declared.steps.Step.TheVariants as steps
+use Rattle.mx_folder.specs.Moments.{IsLater}
+use Rattle.mx_folder.specs.Steps.{looked, refusals}
+use Rattle.mx_save.specs.Ledgers.{LedgerValue, IsFresh}
+use Rattle.mx_save.specs.Words.{unsaved_text}
+use Rattle.mx_save.specs.declared.error.SaveError.{SaveError}
+use Rattle.mx_save.specs.declared.error.SaveError.TheVariants as unsaved
 use Rattle.mx_save_rules.specs.Decisions.{IsDecision}
+use Rattle.mx_save_rules.specs.Rules.{delay_seconds, is_retried}
+use Rattle.mx_save_rules.specs.declared.code.SaveCode.{SaveCode}
 use Rattle.mx_save_rules.specs.declared.decision.Decision.TheVariants as decision
 use Rattle.mx_save_rules.specs.declared.end.Transferred.{Transferred}
-use Rattle.mx_save_rules.specs.Ends.{EndValue, IsEnd, saved_end}
+use Rattle.mx_save_rules.specs.Ends.{EndValue, IsEnd, done_end, failed_end, saved_end, skipped_end}
 use Rattle.mx_save_rules.specs.declared.end.Verdict.{Verdict}
 use Rattle.mx_save_rules.specs.declared.end.Verdict.TheVariants as verdict
 use Rattle.mx_save_book.specs.Bodies.{IsWholeBody}
+use Rattle.mx_save_book.specs.Framings.{TellsFraming}
+use Rattle.mx_save_book.specs.Said.{unsaved_code}
 use Rattle.mx_save_book.specs.declared.asking.Asking.{Asking}
 use Rattle.mx_save_book.specs.declared.finish.NotEnded.{NotEnded}
 use Rattle.mx_save_book.specs.declared.finish.NotEnded.TheVariants as not_ended
 use Rattle.mx_save_book.specs.declared.job.Job.{Job}
 use Rattle.mx_save_book.specs.declared.job.Slot.{Slot}
 use Rattle.mx_save_book.specs.declared.job.Slot.TheVariants as slot
-use Rattle.mx_save_book.specs.Jobs.{Asks, BookValue, CanAsk, GrowsBy, GrowsFor, HandsBack, HasEnded, HoldsOf, IsBook, IsTold, Pends, Saves, State, is_saved, is_taken, is_told_saved, job_at, job_of, state_of}
+use Rattle.mx_save_book.specs.Jobs.{AreNamed, Asks, BookValue, CanAsk, GrowsBy, GrowsFor, HandsBack, HasEnded, HasFound, HoldsOf, IsAccount, IsBook, IsFailedEnd, IsLaterLedger, IsMadeOf, IsMadeWithWords, IsNameAt, IsReported, IsTold, IsTransferred, IsTry, MayName, Pends, Refuses, Saves, State, is_saved, is_taken, is_told_saved, job_at, job_of, refused_end, state_of}
 use Rattle.mx_save_book.specs.Lines.{PrintedEndValue}
-use Rattle.mx_save_book.specs.Books.{HaveEnded}
+use Rattle.mx_save_book.specs.Books.{Delays, HaveEnded, IsFoundAt, LeavesSlot, WaitsAgain, delay_of, next_try}
 use Rattle.mx_save_book.proofs.Names.{all_given_more, fresh_on, given_more, given_new, given_on, is_fresh, is_new, saved_on}
 use Rattle.mx_save_book.proofs.Slots.{as_many, cases, fresh_count, fresh_none, inside, none, one_less, one_more, stays, there}
 
@@ -42,6 +58,15 @@ get_more : {X : Type 0} (xs ys : List X) (i : ℕ) (x : X) → slice_get xs i �
 get_more [] ys i x is = absurd (cc)
 get_more (y ∷ xs) ys zero x is = is
 get_more (y ∷ xs) ys (suc i) x is = get_more xs ys i x is
+
+take_front : {X : Type 0} (xs ys : List X) (i : ℕ) (x : X) → slice_get xs i ≡ Some x → take i (xs ++ ys) ≡ take i xs
+take_front [] ys i x is = absurd (cc)
+take_front (y ∷ xs) ys zero x is = refl
+take_front (y ∷ xs) ys (suc i) x is = ap (λ l. y ∷ l) (take_front xs ys i x is)
+
+if_some : {X : Type 0} (P Q : X → Type 0) (o : Option X) → ((x : X) → P x → Q x) → IfSome o P → IfSome o Q
+if_some P Q None f h = tt
+if_some P Q (Some x) f h = f x h
 
 pub get_last : {X : Type 0} (xs : List X) (x : X) → slice_get (xs ++ x ∷ []) (length xs) ≡ Some x
 get_last [] x = refl
@@ -69,34 +94,169 @@ place_cases (suc n) (suc m) lt =
       | inr h ↦ inr (ap suc h)
     ]
 
+-- the URLs that take a name
+named_push : (asking : Asking) (urls named : List (List ℕ)) (url : List ℕ) → AreNamed asking urls named → CanAsk asking url → AreNamed asking (urls ++ url ∷ []) (named ++ url ∷ [])
+named_push asking [] named url is can = inl (can, [], ap (λ l. l ++ url ∷ []) is, refl)
+named_push asking (u ∷ urls) named url is can =
+    elim is [
+      | inl h ↦ inl (h.0, h.1 ++ url ∷ [], ap (λ l. l ++ url ∷ []) h.2, named_push asking urls h.1 url h.3 can)
+      | inr h ↦ inr (h.0, named_push asking urls named url h.1 can)
+    ]
+
+named_past : (asking : Asking) (urls named : List (List ℕ)) (url : List ℕ) → AreNamed asking urls named → ¬ (CanAsk asking url) → AreNamed asking (urls ++ url ∷ []) named
+named_past asking [] named url is cant = inr (cant, is)
+named_past asking (u ∷ urls) named url is cant =
+    elim is [
+      | inl h ↦ inl (h.0, h.1, h.2, named_past asking urls h.1 url h.3 cant)
+      | inr h ↦ inr (h.0, named_past asking urls named url h.1 cant)
+    ]
+
+-- none can be made of one that is refused
+pub refuses_all : (asking : Asking) (url : List ℕ) (why : RequestError) → Refuses asking url why → ¬ (CanAsk asking url)
+refuses_all asking url why refuses can =
+    elim refuses [
+      | inl is ↦ let bad : Err why ≡ Ok can.request = sym is ∙ can.asks in cc
+      | inr is ↦ is.0 can.text
+    ]
+
+-- the name of a URL, where more were read
+name_more : (asking : Asking) (urls more : List (List ℕ)) (place : ℕ) (name : List ℕ) → IsNameAt asking urls place name → IsNameAt asking (urls ++ more) place name
+name_more asking urls more place name n = record {
+  url = n.url;
+  at = get_more urls more place n.url n.at;
+  before = n.before;
+  named = subst (λ l. AreNamed asking l n.before) (sym (take_front urls more place n.url n.at)) n.named;
+  is = n.is;
+}
+
+name_told : (asking : Asking) (urls : List (List ℕ)) (place : ℕ) (name : List ℕ) (file : Option (List ℕ)) → MayName name file → IsNameAt asking urls place name
+    → IfSome file (IsNameAt asking urls place)
+name_told asking urls place name None may is = tt
+name_told asking urls place name (Some n) may is = subst (IsNameAt asking urls place) (sym may) is
+
+-- what was done to a folder later
+refusals_step : (step : Step) (old : List Step) → refusals old ≤ refusals (step ∷ old)
+refusals_step (steps.Created part) old = omega arith
+refusals_step (steps.Appended part more) old = omega arith
+refusals_step (steps.Flushed part) old = omega arith
+refusals_step (steps.Placed part final) old = omega arith
+refusals_step (steps.Removed part) old = omega arith
+refusals_step (steps.Looked name found) old = omega arith
+refusals_step steps.FolderFlushed old = omega arith
+refusals_step (steps.Refused why) old = omega arith
+
+refusals_more : (more old : List Step) → refusals old ≤ refusals (more ++ old)
+refusals_more [] old = omega arith
+refusals_more (step ∷ more) old = omega (arith, refusals_more more old, refusals_step step (more ++ old))
+
+pub refusals_later : (old new : List Step) → IsLater old new → refusals old ≤ refusals new
+refusals_later old new later = omega (arith, refusals_more later.0 old, ap refusals later.1)
+
+pub same_ledger : (l : LedgerValue OutcomeValue) → IsLaterLedger l l
+same_ledger l = record { start = refl; flush = refl; later = ([], refl) }
+
+found_on : (old new : LedgerValue OutcomeValue) (name : List ℕ) → IsLaterLedger old new → HasFound old name → HasFound new name
+found_on old new name later h = record {
+  since = later.later.0 ++ h.since;
+  steps = later.later.1 ∙ ap (λ l. later.later.0 ++ l) h.steps ∙ sym (append_assoc later.later.0 h.since old.start)
+      ∙ ap (λ l. (later.later.0 ++ h.since) ++ l) (sym later.start);
+  found = Contains-append_right later.later.0 h.since (steps.Looked name kind.File) h.found;
+}
+
+-- a look that found a file is the newest step
+pub found_now : (old new : LedgerValue OutcomeValue) (name : List ℕ) → IsLater old.start old.steps → new.start ≡ old.start → new.steps ≡ steps.Looked name kind.File ∷ old.steps
+    → HasFound new name
+found_now old new name later start is = record {
+  since = steps.Looked name kind.File ∷ later.0;
+  steps = is ∙ ap (λ l. steps.Looked name kind.File ∷ l) later.1 ∙ ap (λ l. steps.Looked name kind.File ∷ (later.0 ++ l)) (sym start);
+  found = (0, omega arith, refl);
+}
+
 -- what was reported holds when more is saved, and more URLs were read
-holds_on : (asking : Asking) (name : List ℕ) (old new : Saves) (e : EndValue) (v : Verdict) → GrowsBy name old new → HoldsOf asking old e v → HoldsOf asking new e v
-holds_on asking name old new e verdict.Saved grows h = record {
+failed_on : (asking : Asking) (old new : LedgerValue OutcomeValue) (e : EndValue) → IsLaterLedger old new → IsFailedEnd asking old e → IsFailedEnd asking new e
+failed_on asking old new e later h =
+    elim h [
+      | inl refused ↦ inl refused
+      | inr other ↦ elim other [
+        | inl transfer ↦ inr (inl transfer)
+        | inr u ↦ inr (inr (record {
+          outcome = u.outcome;
+          whole = u.whole;
+          asked = u.asked;
+          decided = u.decided;
+          report = u.report;
+          why = u.why;
+          part = u.part;
+          left = u.left;
+          code = u.code;
+          words = u.words;
+          refused = λ known. omega (arith, u.refused known, refusals_later old.steps new.steps later.later, ap refusals later.start);
+        }))
+      ]
+    ]
+
+holds_on : (asking : Asking) (name : List ℕ) (old new : LedgerValue OutcomeValue) (e : EndValue) (v : Verdict) → GrowsBy name old.entries new.entries → IsLaterLedger old new
+    → HoldsOf asking old e v → HoldsOf asking new e v
+holds_on asking name old new e verdict.Saved grows later h = record {
   name = h.name;
   outcome = h.outcome;
   file = h.file;
-  saved = saved_on name old new (h.name, h.outcome) grows h.saved;
+  saved = saved_on name old.entries new.entries (h.name, h.outcome) grows h.saved;
   whole = h.whole;
   asked = h.asked;
   decided = h.decided;
-  status = h.status;
   size = h.size;
+  report = h.report;
 }
-holds_on asking name old new e verdict.Done grows h = h
-holds_on asking name old new e verdict.Skipped grows h = h
-holds_on asking name old new e verdict.Failed grows h = h
+holds_on asking name old new e verdict.Done grows later h = h
+holds_on asking name old new e verdict.Skipped grows later h =
+    record { asked = h.asked; name = h.name; file = h.file; found = found_on old new h.name later h.found; untried = h.untried }
+holds_on asking name old new e verdict.Failed grows later h = failed_on asking old new e later h
 
-told_on : (asking : Asking) (urls : List (List ℕ)) (name : List ℕ) (old new : Saves) (ts : List PrintedEndValue) → GrowsBy name old new
-    → AllByRecursion (IsTold asking urls old) ts → AllByRecursion (IsTold asking urls new) ts
-told_on asking urls name old new ts grows all =
+pub told_on : (asking : Asking) (urls : List (List ℕ)) (name : List ℕ) (old new : LedgerValue OutcomeValue) (ts : List PrintedEndValue) → GrowsBy name old.entries new.entries
+    → IsLaterLedger old new → AllByRecursion (IsTold asking urls old) ts → AllByRecursion (IsTold asking urls new) ts
+told_on asking urls name old new ts grows later all =
     all_weaker (IsTold asking urls old) (IsTold asking urls new) ts
-    (λ t h. record { url = h.url; end = h.end; holds = holds_on asking name old new t.end t.end.verdict grows h.holds }) all
+    (λ t h. record { url = h.url; name = h.name; end = h.end; holds = holds_on asking name old new t.end t.end.verdict grows later h.holds }) all
 
-told_more : (asking : Asking) (urls more : List (List ℕ)) (saves : Saves) (ts : List PrintedEndValue)
-    → AllByRecursion (IsTold asking urls saves) ts → AllByRecursion (IsTold asking (urls ++ more) saves) ts
-told_more asking urls more saves ts all =
-    all_weaker (IsTold asking urls saves) (IsTold asking (urls ++ more) saves) ts
-    (λ t h. record { url = get_more urls more t.place t.end.url h.url; end = h.end; holds = h.holds }) all
+told_more : (asking : Asking) (urls more : List (List ℕ)) (l : LedgerValue OutcomeValue) (ts : List PrintedEndValue)
+    → AllByRecursion (IsTold asking urls l) ts → AllByRecursion (IsTold asking (urls ++ more) l) ts
+told_more asking urls more l ts all =
+    all_weaker (IsTold asking urls l) (IsTold asking (urls ++ more) l) ts
+    (λ t h. record {
+      url = get_more urls more t.place t.end.url h.url;
+      name = if_some (IsNameAt asking urls t.place) (IsNameAt asking (urls ++ more) t.place) t.end.file (λ n is. name_more asking urls more t.place n is) h.name;
+      end = h.end;
+      holds = h.holds;
+    }) all
+
+-- a run that has stopped
+pub stopped : (b now : State) (s : Bool) (n m : ℕ) (bases others more : List (List ℕ)) (name : List ℕ) → IsAccount b s n bases → now.asking ≡ b.asking → now.urls ≡ b.urls ++ more
+    → now.told ≡ b.told → GrowsBy name b.ledger.entries now.ledger.entries → IsLaterLedger b.ledger now.ledger → IsAccount now true m others
+stopped b now s n m bases others more name is asking urls told grows later = record {
+  told =
+      let one = told_more b.asking b.urls more now.ledger b.told (told_on b.asking b.urls name b.ledger now.ledger b.told grows later is.told) in
+      subst (λ k. AllByRecursion (IsTold k now.urls now.ledger) now.told) (sym asking)
+      (subst (λ l. AllByRecursion (IsTold b.asking l now.ledger) now.told) (sym urls)
+      (subst (AllByRecursion (IsTold b.asking (b.urls ++ more) now.ledger)) (sym told) one));
+  going = λ e. absurd (cc);
+}
+
+-- with the URLs, or the folder, as they were
+pub stopped_more : (b now : State) (s : Bool) (n m : ℕ) (bases others more : List (List ℕ)) → IsAccount b s n bases → now.asking ≡ b.asking → now.urls ≡ b.urls ++ more
+    → now.told ≡ b.told → now.ledger ≡ b.ledger → IsAccount now true m others
+stopped_more b now s n m bases others more is asking urls told ledger =
+    stopped b now s n m bases others more [] is asking urls told (inl (ap (λ l. l.entries) ledger))
+    (subst (IsLaterLedger b.ledger) (sym ledger) (same_ledger b.ledger))
+
+pub stopped_later : (b now : State) (s : Bool) (n m : ℕ) (bases others : List (List ℕ)) (name : List ℕ) → IsAccount b s n bases → now.asking ≡ b.asking → now.urls ≡ b.urls
+    → now.told ≡ b.told → GrowsBy name b.ledger.entries now.ledger.entries → IsLaterLedger b.ledger now.ledger → IsAccount now true m others
+stopped_later b now s n m bases others name is asking urls told grows later =
+    stopped b now s n m bases others [] name is asking (urls ∙ sym (append-nil b.urls)) told grows later
+
+-- where all holds, what was reported does
+pub account : (b : State) (s : Bool) (n : ℕ) (bases : List (List ℕ)) → IsBook b n bases → IsAccount b s n bases
+account b s n bases is = record { told = is.told; going = λ e. is }
 
 ended_more : (ts : List PrintedEndValue) (t : PrintedEndValue) (place : ℕ) → HasEnded ts place → HasEnded (ts ++ t ∷ []) place
 ended_more ts t place h = (h.0, Contains-append_left ts (t ∷ []) h.0 h.1, h.2)
@@ -125,7 +285,7 @@ owed_on name old new ts t grows owed =
       | inr one ↦ omega (arith, owed, ap length one.2, saved_more ts t one.0)
     ]
 
-grows_by : (name : List ℕ) (v : Verdict) (old new : Saves) → GrowsFor name v old new → GrowsBy name old new
+pub grows_by : (name : List ℕ) (v : Verdict) (old new : Saves) → GrowsFor name v old new → GrowsBy name old new
 grows_by name v old new grows =
     elim grows [
       | inl other ↦ inl other.1
@@ -133,46 +293,64 @@ grows_by name v old new grows =
     ]
 
 -- a run begins
-pub begun : (b : State) (names : List (List ℕ)) → names ≡ [] → b.urls ≡ [] → b.named ≡ [] → AllByRecursion (λ s. s ≡ slot.Free) b.slots → b.told ≡ [] → b.saves ≡ [] → IsBook b 0 names
+pub begun : (b : State) (names : List (List ℕ)) → names ≡ [] → b.urls ≡ [] → b.named ≡ [] → AllByRecursion (λ s. s ≡ slot.Free) b.slots → b.told ≡ [] → b.ledger.entries ≡ [] → IsBook b 0 names
 begun b names empty urls named slots told_none saves = record {
   read = ap length (sym urls);
   bases = empty ∙ ap (map base_name) (sym named);
+  named = subst (λ l. AreNamed b.asking l b.named) (sym urls) named;
   fewer = omega (arith, ap length named);
   pending = λ i job is. absurd (fresh_none b.slots slots i job is);
   apart = λ i j p q is also same. absurd (fresh_none b.slots slots i p is);
   given = subst (AllByRecursion (λ e. Contains (names_of b.named) e.0)) (sym saves) tt;
-  told = subst (AllByRecursion (IsTold b.asking b.urls b.saves)) (sym told_none) tt;
+  told = subst (AllByRecursion (IsTold b.asking b.urls b.ledger)) (sym told_none) tt;
   each = λ place lt. absurd (omega (arith, lt, ap length urls));
   count = omega (arith, ap length urls, ap length told_none, fresh_count b.slots slots);
   owed = ap length saves ∙ sym (ap (count_by is_told_saved) told_none);
 }
 
+-- a URL that has no end, where more were read
+pends_more : (asking : Asking) (urls more named : List (List ℕ)) (saves : Saves) (job : Job) → Pends asking urls named saves job → Pends asking (urls ++ more) named saves job
+pends_more asking urls more named saves job p = record {
+  url = get_more urls more job.place job.url.items p.url;
+  asks = p.asks;
+  name = name_more asking urls more job.place job.name p.name;
+  given = p.given;
+  fresh = p.fresh;
+  tries = p.tries;
+}
+
 -- a URL was refused
-pub refused : (b : State) (read : ℕ) (bases : List (List ℕ)) (url : List ℕ) (e : EndValue) (ts : List PrintedEndValue) → IsBook b read bases → ts ≡ b.told ++ record { place = read; end = e } ∷ [] → IsEnd e → e.url ≡ url → e.verdict ≡ verdict.Failed → IsSome e.error
+pub refused : (b : State) (read : ℕ) (bases : List (List ℕ)) (url : List ℕ) (why : RequestError) (e : EndValue) (ts : List PrintedEndValue) → IsBook b read bases
+    → ts ≡ b.told ++ record { place = read; end = e } ∷ [] → IsEnd e → e ≡ refused_end url why → Refuses b.asking url why
     → IsBook (record b { urls = b.urls ++ url ∷ []; told = ts }) (read + 1) bases
-refused b read bases url e ts is more end same failed words = subst (λ l. IsBook (record b { urls = b.urls ++ url ∷ []; told = l }) (read + 1) bases) (sym more) (record {
-  read = omega (arith, is.read, push_length b.urls url);
-  bases = is.bases;
-  fewer = omega (arith, is.fewer, push_length b.urls url);
-  pending = λ i job at. let p = is.pending i job at in record { url = get_more b.urls (url ∷ []) job.place job.url.items p.url; asks = p.asks; given = p.given; fresh = p.fresh };
-  apart = is.apart;
-  given = is.given;
-  told = all_push (IsTold b.asking (b.urls ++ url ∷ []) b.saves) b.told (record { place = read; end = e }) (told_more b.asking b.urls (url ∷ []) b.saves b.told is.told)
-      (record {
-        url = ap (slice_get (b.urls ++ url ∷ [])) is.read ∙ get_last b.urls url ∙ ap Some (sym same);
-        end = end;
-        holds = subst (HoldsOf b.asking b.saves e) (sym failed) words;
-      });
-  each = λ place lt. elim (place_cases (length b.urls) place (omega (arith, lt, push_length b.urls url))) [
-    | inl before ↦ elim (is.each place before) [
-      | inl p ↦ inl p
-      | inr h ↦ inr (ended_more b.told (record { place = read; end = e }) place h)
-    ]
-    | inr last ↦ inr (ended_now b.told (record { place = read; end = e }) place (is.read ∙ sym last))
-  ];
-  count = omega (arith, is.count, push_length b.urls url, push_length b.told (record { place = read; end = e }));
-  owed = is.owed ∙ sym (unsaved_more b.told (record { place = read; end = e }) (ap is_saved failed));
-})
+refused b read bases url why e ts is more end same refuses =
+    let t : PrintedEndValue = record { place = read; end = e } in
+    subst (λ l. IsBook (record b { urls = b.urls ++ url ∷ []; told = l }) (read + 1) bases) (sym more) (record {
+      read = omega (arith, is.read, push_length b.urls url);
+      bases = is.bases;
+      named = named_past b.asking b.urls b.named url is.named (refuses_all b.asking url why refuses);
+      fewer = omega (arith, is.fewer, push_length b.urls url);
+      pending = λ i job at. pends_more b.asking b.urls (url ∷ []) b.named b.ledger.entries job (is.pending i job at);
+      apart = is.apart;
+      given = is.given;
+      told = all_push (IsTold b.asking (b.urls ++ url ∷ []) b.ledger) b.told t (told_more b.asking b.urls (url ∷ []) b.ledger b.told is.told)
+          (record {
+            url = ap (slice_get (b.urls ++ url ∷ [])) is.read ∙ get_last b.urls url ∙ ap (λ x. Some x.url) (sym same);
+            name = subst (λ x. IfSome x.file (IsNameAt b.asking (b.urls ++ url ∷ []) read)) (sym same) tt;
+            end = end;
+            holds = subst (λ x. HoldsOf b.asking b.ledger x x.verdict) (sym same)
+                (inl (record { why = why; refuses = refuses; code = refl; words = refl; untried = (refl, refl, refl, refl) }));
+          });
+      each = λ place lt. elim (place_cases (length b.urls) place (omega (arith, lt, push_length b.urls url))) [
+        | inl before ↦ elim (is.each place before) [
+          | inl p ↦ inl p
+          | inr h ↦ inr (ended_more b.told t place h)
+        ]
+        | inr last ↦ inr (ended_now b.told t place (is.read ∙ sym last))
+      ];
+      count = omega (arith, is.count, push_length b.urls url, push_length b.told t);
+      owed = is.owed ∙ sym (unsaved_more b.told t (ap (λ x. is_saved x.verdict) same));
+    })
 
 same_or_other : (i j : ℕ) → (i ≡ j) ⊎ (i ≢ j)
 same_or_other zero zero = inl refl
@@ -198,24 +376,33 @@ not_free (s ∷ ss) (suc i) p free is = not_free ss i p free is
 
 -- a URL is in a slot that was free
 pub stood : (b : State) (read : ℕ) (bases : List (List ℕ)) (at : ℕ) (job : Job) → IsBook b read bases → NamesAreDistinct → read + 1 < 2 ^ 64
-    → CanAsk b.asking job.url.items → slice_get b.slots at ≡ Some slot.Free → job.place ≡ read → job.name ≡ numbered (base_name job.url.items) (count_of bases (base_name job.url.items))
+    → CanAsk b.asking job.url.items → slice_get b.slots at ≡ Some slot.Free → job.place ≡ read → job.name ≡ numbered (base_name job.url.items) (count_of bases (base_name job.url.items)) → job.tries ≡ 1
     → IsBook (record b { urls = b.urls ++ job.url.items ∷ []; named = b.named ++ job.url.items ∷ []; slots = slice_set b.slots at (slot.Waiting job) })
     (read + 1) (bases ++ base_name job.url.items ∷ [])
-stood b read bases at job is law few asks free place name =
+stood b read bases at job is law few asks free place name first =
     let url = job.url.items in
     let named : job.name ≡ numbered (base_name url) (count_of (map base_name b.named) (base_name url)) = name ∙ ap (λ l. numbered (base_name url) (count_of l (base_name url))) is.bases in
     let fewer : length (b.named ++ url ∷ []) < 2 ^ 64 = omega (arith, push_length b.named url, is.fewer, is.read, few) in
     let apart_from = is_new law b.named url job.name in
-    let fresh = is_fresh (names_of b.named) job.name b.saves (λ other has. apart_from other fewer named has) is.given in
+    let own : IsNameAt b.asking (b.urls ++ url ∷ []) job.place job.name = record {
+      url = url;
+      at = ap (slice_get (b.urls ++ url ∷ [])) (place ∙ is.read) ∙ get_last b.urls url;
+      before = b.named;
+      named = subst (λ l. AreNamed b.asking l b.named) (sym (take_at b.urls (url ∷ []) job.place (sym (place ∙ is.read)))) is.named;
+      is = named;
+    } in
+    let once : IsTry b.asking job.tries = (omega (arith, first), omega (arith, first)) in
+    let fresh = is_fresh (names_of b.named) job.name b.ledger.entries (λ other has. apart_from other fewer named has) is.given in
     record {
       read = omega (arith, is.read, push_length b.urls url);
       bases = ap (λ l. l ++ base_name url ∷ []) is.bases ∙ sym (map_push b.named url);
+      named = named_push b.asking b.urls b.named url is.named asks;
       fewer = omega (arith, is.fewer, push_length b.urls url, push_length b.named url);
       pending = λ i p at_i. elim (cases b.slots at i (slot.Waiting job) p at_i) [
-        | inl new ↦ subst (Pends b.asking (b.urls ++ url ∷ []) (b.named ++ url ∷ []) b.saves) (some_same job p new.1)
-            (record { url = ap (slice_get (b.urls ++ url ∷ [])) (place ∙ is.read) ∙ get_last b.urls url; asks = asks; given = given_new b.named url job.name named; fresh = fresh })
-        | inr old ↦ let h = is.pending i p old.1 in
-            record { url = get_more b.urls (url ∷ []) p.place p.url.items h.url; asks = h.asks; given = given_more b.named url p.name h.given; fresh = h.fresh }
+        | inl new ↦ subst (Pends b.asking (b.urls ++ url ∷ []) (b.named ++ url ∷ []) b.ledger.entries) (some_same job p new.1)
+            (record { url = own.at; asks = asks; name = own; given = given_new b.named url job.name named; fresh = fresh; tries = once })
+        | inr old ↦ let h = pends_more b.asking b.urls (url ∷ []) b.named b.ledger.entries p (is.pending i p old.1) in
+            record { url = h.url; asks = h.asks; name = h.name; given = given_more b.named url p.name h.given; fresh = h.fresh; tries = h.tries }
       ];
       apart = λ i j p q at_i at_j same. elim (cases b.slots at i (slot.Waiting job) p at_i) [
         | inl one ↦ elim (cases b.slots at j (slot.Waiting job) q at_j) [
@@ -227,8 +414,8 @@ stood b read bases at job is law few asks free place name =
           | inr two ↦ is.apart i j p q one.1 two.1 same
         ]
       ];
-      given = all_given_more b.named url b.saves is.given;
-      told = told_more b.asking b.urls (url ∷ []) b.saves b.told is.told;
+      given = all_given_more b.named url b.ledger.entries is.given;
+      told = told_more b.asking b.urls (url ∷ []) b.ledger b.told is.told;
       each = λ p lt. elim (place_cases (length b.urls) p (omega (arith, lt, push_length b.urls url))) [
         | inl before ↦ elim (is.each p before) [
           | inl h ↦ inl (h.0, h.1, stays b.slots at h.0 (slot.Waiting job) (λ e. not_free b.slots at h.1 free (ap (job_at b.slots) (sym e) ∙ h.2)) ∙ h.2, h.3)
@@ -242,21 +429,24 @@ stood b read bases at job is law few asks free place name =
 
 -- what is in a slot has changed but for its place, its text and its name
 pub again : (b : State) (read : ℕ) (bases : List (List ℕ)) (at : ℕ) (old new : Job) (v : Slot) → IsBook b read bases → job_at b.slots at ≡ Some old → job_of v ≡ Some new
-    → new.place ≡ old.place → new.url ≡ old.url → new.name ≡ old.name → IsBook (record b { slots = slice_set b.slots at v }) read bases
-again b read bases at old new v is was now place url name =
+    → new.place ≡ old.place → new.url ≡ old.url → new.name ≡ old.name → IsTry b.asking new.tries → IsBook (record b { slots = slice_set b.slots at v }) read bases
+again b read bases at old new v is was now place url name tries =
     let s = inside b.slots at old was in
     let pends = is.pending at old was in
     record {
       read = is.read;
       bases = is.bases;
+      named = is.named;
       fewer = is.fewer;
       pending = λ i p at_i. elim (cases b.slots at i v p at_i) [
-        | inl c ↦ subst (Pends b.asking b.urls b.named b.saves) (some_same new p (sym now ∙ c.1))
+        | inl c ↦ subst (Pends b.asking b.urls b.named b.ledger.entries) (some_same new p (sym now ∙ c.1))
             (record {
               url = ap (slice_get b.urls) place ∙ pends.url ∙ ap (λ u. Some u.items) (sym url);
               asks = subst (λ u. CanAsk b.asking u.items) (sym url) pends.asks;
+              name = subst (λ n. IsNameAt b.asking b.urls new.place n) (sym name) (subst (λ n. IsNameAt b.asking b.urls n old.name) (sym place) pends.name);
               given = subst (Contains (names_of b.named)) (sym name) pends.given;
-              fresh = subst (λ n. IsFresh n b.saves) (sym name) pends.fresh;
+              fresh = subst (λ n. IsFresh n b.ledger.entries) (sym name) pends.fresh;
+              tries = tries;
             })
         | inr c ↦ is.pending i p c.1
       ];
@@ -284,16 +474,17 @@ again b read bases at old new v is was now place url name =
     }
 
 -- a URL has ended
-pub closed : (b : State) (read : ℕ) (bases : List (List ℕ)) (at : ℕ) (job : Job) (e : EndValue) (ts : List PrintedEndValue) (saves : Saves) → IsBook b read bases → ts ≡ b.told ++ record { place = job.place; end = e } ∷ [] → IsEnd e → job_at b.slots at ≡ Some job
-    → e.url ≡ job.url.items → GrowsFor job.name e.verdict b.saves saves → HoldsOf b.asking saves e e.verdict
-    → IsBook (record b { slots = slice_set b.slots at slot.Free; told = ts; saves = saves }) read bases
-closed b read bases at job e ts saves is more end was url grows_for holds =
-    let grows = grows_by job.name e.verdict b.saves saves grows_for in
+pub closed : (b : State) (read : ℕ) (bases : List (List ℕ)) (at : ℕ) (job : Job) (e : EndValue) (ts : List PrintedEndValue) (l : LedgerValue OutcomeValue) → IsBook b read bases → ts ≡ b.told ++ record { place = job.place; end = e } ∷ [] → IsEnd e → job_at b.slots at ≡ Some job
+    → e.url ≡ job.url.items → MayName job.name e.file → GrowsFor job.name e.verdict b.ledger.entries l.entries → IsLaterLedger b.ledger l → HoldsOf b.asking l e e.verdict
+    → IsBook (record b { slots = slice_set b.slots at slot.Free; told = ts; ledger = l }) read bases
+closed b read bases at job e ts l is more end was url may grows_for later holds =
+    let grows = grows_by job.name e.verdict b.ledger.entries l.entries grows_for in
     let pends = is.pending at job was in
     let t : PrintedEndValue = record { place = job.place; end = e } in
-    subst (λ l. IsBook (record b { slots = slice_set b.slots at slot.Free; told = l; saves = saves }) read bases) (sym more) (record {
+    subst (λ x. IsBook (record b { slots = slice_set b.slots at slot.Free; told = x; ledger = l }) read bases) (sym more) (record {
       read = is.read;
       bases = is.bases;
+      named = is.named;
       fewer = is.fewer;
       pending = λ i p at_i. elim (cases b.slots at i slot.Free p at_i) [
         | inl c ↦ let bad : None ≡ Some p = c.1 in absurd (cc)
@@ -301,8 +492,10 @@ closed b read bases at job e ts saves is more end was url grows_for holds =
             record {
               url = h.url;
               asks = h.asks;
+              name = h.name;
               given = h.given;
-              fresh = fresh_on p.name job.name b.saves saves (λ same. c.0 (is.apart i at p job c.1 was same)) h.fresh grows;
+              fresh = fresh_on p.name job.name b.ledger.entries l.entries (λ same. c.0 (is.apart i at p job c.1 was same)) h.fresh grows;
+              tries = h.tries;
             }
       ];
       apart = λ i j p q at_i at_j same. elim (cases b.slots at i slot.Free p at_i) [
@@ -312,9 +505,14 @@ closed b read bases at job e ts saves is more end was url grows_for holds =
           | inr two ↦ is.apart i j p q one.1 two.1 same
         ]
       ];
-      given = given_on (names_of b.named) job.name b.saves saves pends.given is.given grows;
-      told = all_push (IsTold b.asking b.urls saves) b.told t (told_on b.asking b.urls job.name b.saves saves b.told grows is.told)
-          (record { url = pends.url ∙ ap Some (sym url); end = end; holds = holds });
+      given = given_on (names_of b.named) job.name b.ledger.entries l.entries pends.given is.given grows;
+      told = all_push (IsTold b.asking b.urls l) b.told t (told_on b.asking b.urls job.name b.ledger l b.told grows later is.told)
+          (record {
+            url = pends.url ∙ ap Some (sym url);
+            name = name_told b.asking b.urls job.place job.name e.file may pends.name;
+            end = end;
+            holds = holds;
+          });
       each = λ p lt. elim (is.each p lt) [
         | inl h ↦ elim (same_or_other h.0 at) [
           | inl same ↦ inr (ended_now b.told t p (ap (λ x. x.place) (some_same job h.1 (sym was ∙ ap (job_at b.slots) (sym same) ∙ h.2)) ∙ h.3))
@@ -323,11 +521,11 @@ closed b read bases at job e ts saves is more end was url grows_for holds =
         | inr h ↦ inr (ended_more b.told t p h)
       ];
       count = omega (arith, is.count, one_less b.slots at job was, push_length b.told t);
-      owed = owed_on job.name b.saves saves b.told t grows_for is.owed;
+      owed = owed_on job.name b.ledger.entries l.entries b.told t grows_for is.owed;
     })
 
 -- all have ended
-pub ended : (b : State) (read : ℕ) (bases : List (List ℕ)) → IsBook b read bases → count_by is_taken b.slots ≡ 0 → HaveEnded b.asking b.urls b.saves b.told
+pub ended : (b : State) (read : ℕ) (bases : List (List ℕ)) → IsBook b read bases → count_by is_taken b.slots ≡ 0 → HaveEnded b.asking b.urls b.ledger b.told
 ended b read bases is empty = record {
   holds = is.told;
   each = λ place lt. elim (is.each place lt) [
@@ -341,22 +539,22 @@ ended b read bases is empty = record {
 -- the same, as the calls leave it
 pub stood_as : (b : State) (read n : ℕ) (bases us ns bs : List (List ℕ)) (at : ℕ) (job : Job) → IsBook b read bases → n ≡ read + 1 → n < 2 ^ 64
     → us ≡ b.urls ++ job.url.items ∷ [] → ns ≡ b.named ++ job.url.items ∷ [] → bs ≡ bases ++ base_name job.url.items ∷ []
-    → CanAsk b.asking job.url.items → slice_get b.slots at ≡ Some slot.Free → job.place ≡ read → job.name ≡ numbered (base_name job.url.items) (count_of bases (base_name job.url.items))
+    → CanAsk b.asking job.url.items → slice_get b.slots at ≡ Some slot.Free → job.place ≡ read → job.name ≡ numbered (base_name job.url.items) (count_of bases (base_name job.url.items)) → job.tries ≡ 1
     → IsBook (record b { urls = us; named = ns; slots = slice_set b.slots at (slot.Waiting job) }) n bs
-stood_as b read n bases us ns bs at job is more few u m s asks free place name =
+stood_as b read n bases us ns bs at job is more few u m s asks free place name first =
     let ss = slice_set b.slots at (slot.Waiting job) in
-    let book = stood b read bases at job is distinct (omega (arith, more, few)) asks free place name in
+    let book = stood b read bases at job is distinct (omega (arith, more, few)) asks free place name first in
     subst (λ l. IsBook (record b { urls = us; named = ns; slots = ss }) l bs) (sym more)
     (subst (λ l. IsBook (record b { urls = us; named = ns; slots = ss }) (read + 1) l) (sym s)
     (subst (λ l. IsBook (record b { urls = us; named = l; slots = ss }) (read + 1) (bases ++ base_name job.url.items ∷ [])) (sym m)
     (subst (λ l. IsBook (record b { urls = l; named = b.named ++ job.url.items ∷ []; slots = ss }) (read + 1) (bases ++ base_name job.url.items ∷ [])) (sym u) book)))
 
-pub refused_as : (b : State) (read n : ℕ) (bases us : List (List ℕ)) (url : List ℕ) (e : EndValue) (ts : List PrintedEndValue) → IsBook b read bases → n ≡ read + 1
-    → us ≡ b.urls ++ url ∷ [] → ts ≡ b.told ++ record { place = read; end = e } ∷ [] → IsEnd e → e.url ≡ url → e.verdict ≡ verdict.Failed → IsSome e.error
+pub refused_as : (b : State) (read n : ℕ) (bases us : List (List ℕ)) (url : List ℕ) (why : RequestError) (e : EndValue) (ts : List PrintedEndValue) → IsBook b read bases → n ≡ read + 1
+    → us ≡ b.urls ++ url ∷ [] → ts ≡ b.told ++ record { place = read; end = e } ∷ [] → IsEnd e → e ≡ refused_end url why → Refuses b.asking url why
     → IsBook (record b { urls = us; told = ts }) n bases
-refused_as b read n bases us url e ts is more u told_more_ end same failed words =
+refused_as b read n bases us url why e ts is more u told_more_ end same refuses =
     subst (λ l. IsBook (record b { urls = us; told = ts }) l bases) (sym more)
-    (subst (λ l. IsBook (record b { urls = l; told = ts }) (read + 1) bases) (sym u) (refused b read bases url e ts is told_more_ end same failed words))
+    (subst (λ l. IsBook (record b { urls = l; told = ts }) (read + 1) bases) (sym u) (refused b read bases url why e ts is told_more_ end same refuses))
 
 -- what was put into a slot in place of what was put there before
 set_twice : (slots : List Slot) (i : ℕ) (a v : Slot) → slice_set (slice_set slots i a) i v ≡ slice_set slots i v
@@ -400,11 +598,18 @@ pub none_taken : (slots : List Slot) → ((i : ℕ) (p : Job) → job_at slots i
 none_taken slots none_there = uncounted slots none_there
 
 -- and so of a book
-pub ended_of : {W : Type 0} (was now : BookValue W) (read : ℕ) (bases : List (List ℕ)) → was ≡ now → (was.is_stopped ≡ false → IsBook (state_of was) read bases)
-    → now.is_stopped ≡ false → count_by is_taken now.slots ≡ 0 → HaveEnded now.asking now.urls now.ledger.entries now.lines.told
+pub told_of : {W : Type 0} (was now : BookValue W) (read : ℕ) (bases : List (List ℕ)) → was ≡ now → IsAccount (state_of was) was.is_stopped read bases
+    → AllByRecursion (IsTold now.asking now.urls now.ledger) now.lines.told
+told_of {W = W} was now read bases same is =
+    let P : BookValue W → Type 0 = λ b. AllByRecursion (IsTold b.asking b.urls b.ledger) b.lines.told in
+    subst P same is.told
+
+pub ended_of : {W : Type 0} (was now : BookValue W) (read : ℕ) (bases : List (List ℕ)) → was ≡ now → IsAccount (state_of was) was.is_stopped read bases
+    → now.is_stopped ≡ false → count_by is_taken now.slots ≡ 0 → HaveEnded now.asking now.urls now.ledger now.lines.told
 ended_of {W = W} was now read bases same book going empty =
-    let P : BookValue W → Type 0 = λ b. (b.is_stopped ≡ false → IsBook (state_of b) read bases) in
-    ended (state_of now) read bases (subst P same book going) empty
+    let P : BookValue W → Type 0 = λ b. IsAccount (state_of b) b.is_stopped read bases in
+    let is = subst P same book in
+    ended (state_of now) read bases (is.going going) empty
 
 pub job_within : (slots : List Slot) (i : ℕ) (p : Job) → job_at slots i ≡ Some p → i < length slots
 job_within [] i p is = absurd (cc)
@@ -419,22 +624,115 @@ can_ask asking url text (Ok q) utf8 same made =
     record { text = utf8; request = q; asks = subst (λ t. request_of asking.method t asking.settings ≡ Ok q) same made }
 can_ask asking url text (Err e) utf8 same made = tt
 
+pub can_refuse : (asking : Asking) (url text : List ℕ) (r : Result RequestValue RequestError) → text ≡ url
+    → MatchResult r (λ q. request_of asking.method text asking.settings ≡ Ok q) (λ e. (request_of asking.method text asking.settings ≡ Err e) ⊎ (e ≡ refusal.OutOfMemory))
+    → IfErr r (λ e. e ≢ refusal.OutOfMemory → Refuses asking url e)
+can_refuse asking url text (Ok q) same made = tt
+can_refuse asking url text (Err e) same made = λ known.
+    elim made [
+      | inl is ↦ inl (subst (λ t. request_of asking.method t asking.settings ≡ Err e) same is)
+      | inr none ↦ absurd (known none)
+    ]
+
+-- what is reported of an outcome
+reported : (asking : Asking) (o : OutcomeValue) (tries : ℕ) (t : Transferred) (e : EndValue) → IsTransferred o tries t → IsTry asking tries
+    → e.status ≡ t.status → e.hops ≡ t.hops → e.framing ≡ t.framing → e.tries ≡ t.tries → IsReported asking o e
+reported asking o tries t e is once status hops framing tried = record {
+  status = status ∙ is.status;
+  hops = hops ∙ is.hops;
+  framing = subst (TellsFraming o.last.request.method o.wire) (sym framing) is.framing;
+  tries = subst (IsTry asking) (sym (tried ∙ is.tries)) once;
+}
+
 -- what is reported of a body that was saved holds
-pub saved_holds : (asking : Asking) (saves old : Saves) (url file name : List ℕ) (t : Transferred) (o : OutcomeValue) (e : EndValue) → saves ≡ (name, o) ∷ old → file ≡ name
-    → IsWholeBody o → Asks asking url o.request → IsDecision o.code o.last.request.method o.status asking.content_on_error decision.Save → t.status ≡ o.status
-    → t.length ≡ length (joined o.wire o.parts) → e ≡ saved_end url file t → HoldsOf asking saves e e.verdict
-saved_holds asking saves old url file name t o e is named whole asked decided status size same =
-    subst (λ x. HoldsOf asking saves x x.verdict) (sym same) (record {
+pub saved_holds : (asking : Asking) (l : LedgerValue OutcomeValue) (old : Saves) (url file name : List ℕ) (tries : ℕ) (t : Transferred) (o : OutcomeValue) (e : EndValue)
+    → l.entries ≡ (name, o) ∷ old → file ≡ name → IsWholeBody o → Asks asking url o.request
+    → IsDecision o.code o.last.request.method o.status asking.content_on_error decision.Save → IsTransferred o tries t → IsTry asking tries
+    → e ≡ saved_end url file t → HoldsOf asking l e e.verdict
+saved_holds asking l old url file name tries t o e is named whole asked decided told once same =
+    subst (λ x. HoldsOf asking l x x.verdict) (sym same) (record {
       name = name;
       outcome = o;
       file = ap Some named;
-      saved = subst (λ l. Contains l (name, o)) (sym is) (0, omega arith, refl);
+      saved = subst (λ x. Contains x (name, o)) (sym is) (0, omega arith, refl);
       whole = whole;
       asked = asked;
       decided = decided;
-      status = status;
-      size = size;
+      size = told.size;
+      report = reported asking o tries t (saved_end url file t) told once refl refl refl refl;
     })
+
+-- of one that wasn't
+pub unsaved_holds : (asking : Asking) (old l : LedgerValue OutcomeValue) (url : List ℕ) (tries : ℕ) (t : Transferred) (o : OutcomeValue) (why : SaveError) (part : Option (List ℕ)) (left : Option FolderError) (e : EndValue)
+    → IsWholeBody o → Asks asking url o.request → IsDecision o.code o.last.request.method o.status asking.content_on_error decision.Save
+    → IsTransferred o tries t → IsTry asking tries → refusals old.start ≤ refusals old.steps → l.start ≡ old.start
+    → (why ≢ unsaved.OutOfMemory → refusals old.steps < refusals l.steps)
+    → e ≡ failed_end url (unsaved_code why) t (Some (unsaved_text why part left)) → HoldsOf asking l e e.verdict
+unsaved_holds asking old l url tries t o why part left e whole asked decided told once before start cause same =
+    subst (λ x. HoldsOf asking l x x.verdict) (sym same) (inr (inr (record {
+      outcome = o;
+      whole = whole;
+      asked = asked;
+      decided = decided;
+      report = reported asking o tries t (failed_end url (unsaved_code why) t (Some (unsaved_text why part left))) told once refl refl refl refl;
+      why = why;
+      part = part;
+      left = left;
+      code = refl;
+      words = refl;
+      refused = λ known. omega (arith, cause known, before, ap refusals start);
+    })))
+
+-- of a response that has nothing to save
+pub done_holds : (asking : Asking) (l : LedgerValue OutcomeValue) (url : List ℕ) (tries : ℕ) (o : OutcomeValue) (e : EndValue) → IsOutcome o → Asks asking url o.request
+    → IsDecision o.code o.last.request.method o.status asking.content_on_error decision.Done → IsTry asking tries
+    → IsMadeOf o tries (done_end url) e → HoldsOf asking l e e.verdict
+done_holds asking l url tries o e is asked decided once made =
+    subst (λ x. HoldsOf asking l x x.verdict) (sym made.2) (record {
+      outcome = o;
+      is = is;
+      asked = asked;
+      decided = decided;
+      size = made.1.size;
+      report = reported asking o tries made.0 (done_end url made.0) made.1 once refl refl refl refl;
+    })
+
+-- of one of which nothing is saved
+pub failed_holds : (asking : Asking) (l : LedgerValue OutcomeValue) (url : List ℕ) (tries : ℕ) (o : OutcomeValue) (code : SaveCode) (e : EndValue) → IsOutcome o → Asks asking url o.request
+    → IsDecision o.code o.last.request.method o.status asking.content_on_error (decision.Fail code) → IsTry asking tries
+    → IsMadeWithWords o tries (λ t text. failed_end url code t (Some text)) e → HoldsOf asking l e e.verdict
+failed_holds asking l url tries o code e is asked decided once made =
+    let m = made.2 in
+    subst (λ x. HoldsOf asking l x x.verdict) (sym m.2) (inr (inl (record {
+      outcome = o;
+      is = is;
+      asked = asked;
+      decided = decided;
+      report = reported asking o tries m.0 (failed_end url code m.0 (Some made.0)) m.1 once refl refl refl refl;
+      text = made.0;
+      said = made.1;
+      words = refl;
+    })))
+
+-- where an end was made
+pub if_ok : {A E : Type 0} (P Q : A → Type 0) (r : Result A E) → ((x : A) → P x → Q x) → IfOk r P → IfOk r Q
+if_ok P Q (Ok x) f p = f x p
+if_ok P Q (Err e) f p = tt
+
+-- where none was
+pub if_err : {A E : Type 0} (P Q : E → Type 0) (r : Result A E) → ((x : E) → P x → Q x) → IfErr r P → IfErr r Q
+if_err P Q (Ok a) f p = tt
+if_err P Q (Err x) f p = f x p
+
+pub err_known : {A E : Type 0} (Q : E → Type 0) (P : Type 0) (r : Result A E) → P → IfErr r (λ e. Q e → P)
+err_known Q P (Ok a) p = tt
+err_known Q P (Err e) p = λ q. p
+
+-- of one that is skipped
+pub skipped_holds : (asking : Asking) (l : LedgerValue OutcomeValue) (url name : List ℕ) (e : EndValue) → asking.skip_existing ≡ true → HasFound l name → e ≡ skipped_end url name
+    → HoldsOf asking l e e.verdict
+skipped_holds asking l url name e asked found same =
+    subst (λ x. HoldsOf asking l x x.verdict) (sym same) (record { asked = asked; name = name; file = refl; found = found; untried = (refl, refl, refl, refl) })
 
 set_length : (slots : List Slot) (i : ℕ) (v : Slot) → length (slice_set slots i v) ≡ length slots
 set_length [] i v = refl
@@ -442,19 +740,80 @@ set_length (s ∷ ss) zero v = refl
 set_length (s ∷ ss) (suc i) v = ap suc (set_length ss i v)
 
 -- a URL that comes back is the one that was handed in
-pub handed_back : (job back : Job) (e : NotEnded) → HandsBack job e → e ≡ not_ended.Unopened back → back ≡ job
-handed_back job back e hands is = subst (HandsBack job) is hands
+pub handed_back : (job back : Job) (may_retry : Bool) (e : NotEnded) → HandsBack job may_retry e → e ≡ not_ended.Unopened back → (back ≡ job) × (may_retry ≡ true)
+handed_back job back may_retry e hands is = subst (HandsBack job may_retry) is hands
 
 -- a slot whose URL was taken out is there
 pub still_within : (slots free : List Slot) (i : ℕ) (v : Slot) (p : Job) → job_at slots i ≡ Some p → free ≡ slice_set slots i v → i < length free
 still_within slots free i v p was is = omega (arith, job_within slots i p was, ap length is, set_length slots i v)
 
+-- a folder to which more was done
+pub later_on : (b : State) (read : ℕ) (bases : List (List ℕ)) (l : LedgerValue OutcomeValue) → IsBook b read bases → l.entries ≡ b.ledger.entries → IsLaterLedger b.ledger l
+    → IsBook (record b { ledger = l }) read bases
+later_on b read bases l is kept later = record {
+  read = is.read;
+  bases = is.bases;
+  named = is.named;
+  fewer = is.fewer;
+  pending = λ i p at. subst (λ s. Pends b.asking b.urls b.named s p) (sym kept) (is.pending i p at);
+  apart = is.apart;
+  given = subst (AllByRecursion (λ e. Contains (names_of b.named) e.0)) (sym kept) is.given;
+  told = told_on b.asking b.urls [] b.ledger l b.told (inl kept) later is.told;
+  each = is.each;
+  count = is.count;
+  owed = ap length kept ∙ is.owed;
+}
+
+-- a URL that has tries left has one more
+pub next_is_try : (asking : Asking) (tries : ℕ) → 1 ≤ tries → tries ≤ asking.retries → IsTry asking (next_try tries)
+next_is_try asking tries some few = (omega (arith, some), omega (arith, few))
+
+pub delay_few : (asking : Asking) (tries : ℕ) (code : Code) (status delay : ℕ) → Some delay ≡ delay_of asking tries code status → tries ≤ asking.retries
+delay_few asking tries code status delay is =
+    leb-true tries asking.retries (by_tests (nat_le tries asking.retries) (is_retried asking.method code status) (1000 * delay_seconds tries) is)
+  where
+    by_tests : (few retried : Bool) (n : ℕ) → Some delay ≡ (if few && retried then Some n else None) → few ≡ true
+    by_tests true retried n h = refl
+    by_tests false retried n h = absurd (cc)
+
+pub retry_tries : (asking : Asking) (slots : List Slot) (at : ℕ) (job next : Job) (code : Code) (status : ℕ) (delay : Option ℕ) → Delays asking slots at code status delay
+    → is_some delay ≡ true → job_at slots at ≡ Some job → IsTry asking job.tries → next.tries ≡ next_try job.tries → IsTry asking next.tries
+retry_tries asking slots at job next code status None delays some there once more = absurd (cc)
+retry_tries asking slots at job next code status (Some n) delays some there once more =
+    subst (IsTry asking) (sym more) (next_is_try asking job.tries once.0 (delay_few asking job.tries code status n (delays job there)))
+
+pub leaves_waiting : (old new : List Slot) (at : ℕ) (delay : Option ℕ) → is_some delay ≡ true → WaitsAgain old new at → LeavesSlot old new at delay
+leaves_waiting old new at None some waits = absurd (cc)
+leaves_waiting old new at (Some n) some waits = waits
+
+-- a look at a name
+pub look_later : (old new : LedgerValue OutcomeValue) (step : Step) → new ≡ record old { steps = step ∷ old.steps } → IsLaterLedger old new
+look_later old new step is = subst (IsLaterLedger old) (sym is) (record { start = refl; flush = refl; later = (step ∷ [], refl) })
+
+pub found_by_look : (slots : List Slot) (at : ℕ) (job : Job) (old new : LedgerValue OutcomeValue) (r : Result Kind FolderError) → job_at slots at ≡ Some job → IsLater old.start old.steps
+    → new ≡ record old { steps = looked r job.name ∷ old.steps } → r ≡ Ok kind.File → IsFoundAt slots at new
+found_by_look slots at job old new r there later is file = record {
+  job = job;
+  there = there;
+  found = found_now old new job.name later (ap (λ l. l.start) is) (ap (λ l. l.steps) is ∙ ap (λ x. looked x job.name ∷ old.steps) file);
+}
+
+pub found_here : (slots : List Slot) (at : ℕ) (job : Job) (l : LedgerValue OutcomeValue) → IsFoundAt slots at l → job_at slots at ≡ Some job → HasFound l job.name
+found_here slots at job l f there = subst (λ j. HasFound l j.name) (some_same f.job job (sym f.there ∙ there)) f.found
+
+pub account_later : (b : State) (s : Bool) (read : ℕ) (bases : List (List ℕ)) (l : LedgerValue OutcomeValue) → IsAccount b s read bases → l.entries ≡ b.ledger.entries
+    → IsLaterLedger b.ledger l → IsAccount (record b { ledger = l }) s read bases
+account_later b s read bases l is kept later = record {
+  told = told_on b.asking b.urls [] b.ledger l b.told (inl kept) later is.told;
+  going = λ e. later_on b read bases l (is.going e) kept later;
+}
+
 -- a URL that was taken out of its slot is put back, and waits
-pub back_again : (b : State) (read : ℕ) (bases : List (List ℕ)) (at : ℕ) (job back next : Job) (free slots : List Slot) (saves : Saves) → IsBook b read bases → job_at b.slots at ≡ Some job
-    → free ≡ slice_set b.slots at slot.Free → slots ≡ slice_set free at (slot.Waiting next) → back ≡ job → next.place ≡ back.place → next.url ≡ back.url → next.name ≡ back.name → saves ≡ b.saves
-    → IsBook (record b { slots = slots; saves = saves }) read bases
-back_again b read bases at job back next free slots saves is was taken put same place url name kept =
+pub back_again : (b : State) (read : ℕ) (bases : List (List ℕ)) (at : ℕ) (job back next : Job) (free slots : List Slot) (l : LedgerValue OutcomeValue) → IsBook b read bases → job_at b.slots at ≡ Some job
+    → free ≡ slice_set b.slots at slot.Free → slots ≡ slice_set free at (slot.Waiting next) → back ≡ job → next.place ≡ back.place → next.url ≡ back.url → next.name ≡ back.name
+    → IsTry b.asking next.tries → l.entries ≡ b.ledger.entries → IsLaterLedger b.ledger l → IsBook (record b { slots = slots; ledger = l }) read bases
+back_again b read bases at job back next free slots l is was taken put same place url name tries kept later =
     let now : slots ≡ slice_set b.slots at (slot.Waiting next) = put ∙ set_again b.slots free at slot.Free (slot.Waiting next) taken in
-    let waits = again b read bases at job next (slot.Waiting next) is was refl (place ∙ ap (λ j. j.place) same) (url ∙ ap (λ j. j.url) same) (name ∙ ap (λ j. j.name) same) in
-    let one = subst (λ l. IsBook (record b { slots = slice_set b.slots at (slot.Waiting next); saves = l }) read bases) (sym kept) waits in
-    subst (λ l. IsBook (record b { slots = l; saves = saves }) read bases) (sym now) one
+    let waits = again b read bases at job next (slot.Waiting next) is was refl (place ∙ ap (λ j. j.place) same) (url ∙ ap (λ j. j.url) same) (name ∙ ap (λ j. j.name) same) tries in
+    let one = later_on (record b { slots = slice_set b.slots at (slot.Waiting next) }) read bases l waits kept later in
+    subst (λ x. IsBook (record b { slots = x; ledger = l }) read bases) (sym now) one

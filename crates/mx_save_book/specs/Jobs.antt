@@ -1,18 +1,35 @@
 -- The URLs of a run, and what each ended with.
-use Rattle.std.specs.Prelude.{IsUtf8, ◌≡◌, ◌⊎◌, ℕ, ◌+◌, ◌<◌, ◌≤◌, Bool, true, false, List, ◌∷◌, length, map, count_by, Option, Some, None, IsSome, Ok, slice_get, ⊤}
+use Rattle.std.specs.Prelude.{IsUtf8, ◌≡◌, ◌≢◌, ◌⊎◌, ℕ, ◌+◌, ◌-◌, ◌^◌, ◌<◌, ◌≤◌, min, Bool, true, false, List, [], ◌∷◌, ◌++◌, length, map, take, count_by, Option, Some, None, IfSome, Ok, Err, slice_get, ⊤}
 use Rattle.std.specs.Option.{option_map_or}
 use Rattle.std.specs.List.{Contains, AllByRecursion}
 use Rattle.mx_request.specs.Request.{RequestValue, request_of}
+use Rattle.mx_request.specs.RequestError.{refusal_code}
+use Rattle.mx_request.specs.declared.error.RequestError.{RequestError}
+use Rattle.mx_request.specs.declared.error.RequestError.TheVariants as refusal
 use Rattle.mx_body.specs.Parts.{joined}
-use Rattle.mx_chain.specs.Outcomes.{OutcomeValue, IsOutcome}
-use Rattle.mx_file_name.specs.Names.{base_name, names_of}
+use Rattle.mx_chain.specs.Outcomes.{OutcomeValue, IsOutcome, hops_of}
+use Rattle.mx_file_name.specs.Names.{base_name, count_of, names_of, numbered}
+use Rattle.mx_folder.specs.declared.errors.FolderError.{FolderError}
+use Rattle.mx_folder.specs.declared.steps.Kind.TheVariants as kind
+use Rattle.mx_folder.specs.declared.steps.Step.{Step}
+use Rattle.mx_folder.specs.declared.steps.Step.TheVariants.{Looked}
+use Rattle.mx_folder.specs.Moments.{IsLater}
+use Rattle.mx_folder.specs.Steps.{refusals}
 use Rattle.mx_save.specs.Ledgers.{LedgerValue, IsFresh}
+use Rattle.mx_save.specs.Words.{unsaved_text}
+use Rattle.mx_save.specs.declared.error.SaveError.{SaveError}
+use Rattle.mx_save.specs.declared.error.SaveError.TheVariants as unsaved
+use Rattle.mx_failure_text.specs.Words.{code_words}
 use Rattle.mx_save_rules.specs.Decisions.{IsDecision}
+use Rattle.mx_save_rules.specs.declared.code.SaveCode.TheVariants as save
 use Rattle.mx_save_rules.specs.declared.decision.Decision.TheVariants as decision
-use Rattle.mx_save_rules.specs.Ends.{EndValue, IsEnd}
+use Rattle.mx_save_rules.specs.Ends.{EndValue, IsEnd, failed_end}
+use Rattle.mx_save_rules.specs.declared.end.Transferred.{Transferred}
 use Rattle.mx_save_rules.specs.declared.end.Verdict.{Verdict}
 use Rattle.mx_save_rules.specs.declared.end.Verdict.TheVariants as verdict
 use Rattle.mx_save_book.specs.Bodies.{IsWholeBody}
+use Rattle.mx_save_book.specs.Framings.{TellsFraming}
+use Rattle.mx_save_book.specs.Said.{IsSaid, unsaved_code}
 use Rattle.mx_save_book.specs.declared.asking.Asking.{Asking}
 use Rattle.mx_save_book.specs.declared.finish.NotEnded.{NotEnded}
 use Rattle.mx_save_book.specs.declared.finish.NotEnded.TheVariants as not_ended
@@ -49,6 +66,38 @@ job_at slots i = option_map_or job_of (slice_get slots i) None
 abbrev pub Saves : Type 0
 Saves = List (List ℕ × OutcomeValue)
 
+-- a try of a URL, counted from 1
+abbrev pub IsTry : Asking → ℕ → Type 0
+IsTry asking tries = (1 ≤ tries) × (tries ≤ asking.retries + 1)
+
+-- What is reported of a transfer of which this is the outcome: the status of its last response, how many requests it made, how the end of
+-- the body was found, and which try it was.
+pub record IsReported (asking : Asking) (outcome : OutcomeValue) (e : EndValue) : Type 0 where
+  pub status : e.status ≡ outcome.status
+  pub hops : e.hops ≡ min (length (hops_of outcome)) (2 ^ 32 - 1)
+  pub framing : TellsFraming outcome.last.request.method outcome.wire e.framing
+  pub tries : IsTry asking e.tries
+
+-- the same as it is handed to an end, with the length of the body
+pub record IsTransferred (outcome : OutcomeValue) (number : ℕ) (t : Transferred) : Type 0 where
+  pub status : t.status ≡ outcome.status
+  pub size : t.length ≡ length (joined outcome.wire outcome.parts)
+  pub hops : t.hops ≡ min (length (hops_of outcome)) (2 ^ 32 - 1)
+  pub framing : TellsFraming outcome.last.request.method outcome.wire t.framing
+  pub tries : t.tries ≡ number
+
+-- Private: the end that is made of what is reported of the outcome of that try
+abbrev pub IsMadeOf : OutcomeValue → ℕ → (Transferred → EndValue) → EndValue → Type 0
+IsMadeOf outcome tries make e = (t : Transferred) × IsTransferred outcome tries t × (e ≡ make t)
+
+-- Private: with words of why nothing is saved of it
+abbrev pub IsMadeWithWords : OutcomeValue → ℕ → (Transferred → List ℕ → EndValue) → EndValue → Type 0
+IsMadeWithWords outcome tries make e = (text : List ℕ) × IsSaid outcome text × IsMadeOf outcome tries (λ t. make t text) e
+
+-- no transfer was made
+abbrev pub IsUntried : EndValue → Type 0
+IsUntried e = (e.status ≡ 0) × (e.hops ≡ 0) × (e.framing ≡ None) × (e.tries ≡ 0)
+
 -- A URL that was reported as saved: under the name that was reported a whole body was saved, that of an outcome of a transfer of the URL's
 -- request, whose status is one that is saved; and what was reported is that outcome's.
 pub record IsSavedEnd (asking : Asking) (saves : Saves) (e : EndValue) : Type 0 where
@@ -59,46 +108,122 @@ pub record IsSavedEnd (asking : Asking) (saves : Saves) (e : EndValue) : Type 0 
   pub whole : IsWholeBody outcome
   pub asked : Asks asking e.url outcome.request
   pub decided : IsDecision outcome.code outcome.last.request.method outcome.status asking.content_on_error decision.Save
-  pub status : e.status ≡ outcome.status
   pub size : e.length ≡ length (joined outcome.wire outcome.parts)
+  pub report : IsReported asking outcome e
 
--- A URL that was reported as done: the outcome of a transfer of its request is whole, and has nothing to save.
+-- A URL that was reported as done: the outcome of a transfer of its request is whole, and has nothing to save; and what was reported is that
+-- outcome's.
 pub record IsDoneEnd (asking : Asking) (e : EndValue) : Type 0 where
   pub outcome : OutcomeValue
   pub is : IsOutcome outcome
   pub asked : Asks asking e.url outcome.request
   pub decided : IsDecision outcome.code outcome.last.request.method outcome.status asking.content_on_error decision.Done
-  pub status : e.status ≡ outcome.status
+  pub size : e.length ≡ length (joined outcome.wire outcome.parts)
+  pub report : IsReported asking outcome e
+
+-- since the run began the folder was asked what is under the name, and found a regular file
+pub record HasFound (l : LedgerValue OutcomeValue) (name : List ℕ) : Type 0 where
+  pub since : List Step
+  pub steps : l.steps ≡ since ++ l.start
+  pub found : Contains since (Looked name kind.File)
+
+-- a URL that was skipped: that was asked for, and the folder had a file of the name that was reported
+pub record IsSkippedEnd (asking : Asking) (l : LedgerValue OutcomeValue) (e : EndValue) : Type 0 where
+  pub asked : asking.skip_existing ≡ true
+  pub name : List ℕ
+  pub file : e.file ≡ Some name
+  pub found : HasFound l name
+  pub untried : IsUntried e
+
+-- no request is made of the URL, for this reason
+abbrev pub Refuses : Asking → List ℕ → RequestError → Type 0
+Refuses asking url why = (request_of asking.method url asking.settings ≡ Err why) ⊎ (¬ (IsUtf8 url) × (why ≡ refusal.Malformed))
+
+-- a URL that failed, since it is refused
+pub record IsRefusedEnd (asking : Asking) (e : EndValue) : Type 0 where
+  pub why : RequestError
+  pub refuses : Refuses asking e.url why
+  pub code : e.code ≡ save.Transfer (refusal_code why)
+  pub words : e.error ≡ Some (code_words (refusal_code why))
+  pub untried : IsUntried e
+
+-- what is reported of it
+abbrev pub refused_end : List ℕ → RequestError → EndValue
+refused_end url why =
+    failed_end url (save.Transfer (refusal_code why)) (record { status = 0; length = 0; framing = None; hops = 0; tries = 0 })
+    (Some (code_words (refusal_code why)))
+
+-- a URL that failed, since nothing is saved of the outcome of a transfer of its request: by the code of that, or by its status
+pub record IsFailedTransfer (asking : Asking) (e : EndValue) : Type 0 where
+  pub outcome : OutcomeValue
+  pub is : IsOutcome outcome
+  pub asked : Asks asking e.url outcome.request
+  pub decided : IsDecision outcome.code outcome.last.request.method outcome.status asking.content_on_error (decision.Fail e.code)
+  pub report : IsReported asking outcome e
+  pub text : List ℕ
+  pub said : IsSaid outcome text
+  pub words : e.error ≡ Some text
+
+-- A URL that failed, since a whole body that is to be saved wasn't: the folder has refused a call since the run began, or memory was
+-- refused.
+pub record IsUnsavedEnd (asking : Asking) (l : LedgerValue OutcomeValue) (e : EndValue) : Type 0 where
+  pub outcome : OutcomeValue
+  pub whole : IsWholeBody outcome
+  pub asked : Asks asking e.url outcome.request
+  pub decided : IsDecision outcome.code outcome.last.request.method outcome.status asking.content_on_error decision.Save
+  pub report : IsReported asking outcome e
+  pub why : SaveError
+  pub part : Option (List ℕ)
+  pub left : Option FolderError
+  pub code : e.code ≡ unsaved_code why
+  pub words : e.error ≡ Some (unsaved_text why part left)
+  pub refused : why ≢ unsaved.OutOfMemory → refusals l.start < refusals l.steps
 
 -- rule save-failures: Of each URL that failed it is said why: of a transfer what its bytes show, of a whole response that its status isn't
 -- 2xx.
 --
--- a URL that failed: it is said why
-abbrev pub IsFailedEnd : EndValue → Type 0
-IsFailedEnd e = IsSome e.error
+-- a URL that failed: with which cause
+abbrev pub IsFailedEnd : Asking → LedgerValue OutcomeValue → EndValue → Type 0
+IsFailedEnd asking l e = IsRefusedEnd asking e ⊎ IsFailedTransfer asking e ⊎ IsUnsavedEnd asking l e
 
 -- what was reported of a URL holds
-abbrev pub HoldsOf : Asking → Saves → EndValue → Verdict → Type 0
-HoldsOf asking saves e verdict.Saved = IsSavedEnd asking saves e
-HoldsOf asking saves e verdict.Done = IsDoneEnd asking e
-HoldsOf asking saves e verdict.Skipped = ⊤
-HoldsOf asking saves e verdict.Failed = IsFailedEnd e
+abbrev pub HoldsOf : Asking → LedgerValue OutcomeValue → EndValue → Verdict → Type 0
+HoldsOf asking l e verdict.Saved = IsSavedEnd asking l.entries e
+HoldsOf asking l e verdict.Done = IsDoneEnd asking e
+HoldsOf asking l e verdict.Skipped = IsSkippedEnd asking l e
+HoldsOf asking l e verdict.Failed = IsFailedEnd asking l e
 
--- of the URL at the place that was reported, and it is an end
-pub record IsTold (asking : Asking) (urls : List (List ℕ)) (saves : Saves) (t : PrintedEndValue) : Type 0 where
+-- those of the URLs of which a request can be made, in their order: they take a name
+abbrev pub AreNamed : Asking → List (List ℕ) → List (List ℕ) → Type 0
+AreNamed asking [] named = named ≡ []
+AreNamed asking (url ∷ urls) named =
+    (CanAsk asking url × (rest : List (List ℕ)) × (named ≡ url ∷ rest) × AreNamed asking urls rest)
+    ⊎ (¬ (CanAsk asking url) × AreNamed asking urls named)
+
+-- the name of the URL at that place: by its text, and by those before it that took a name
+pub record IsNameAt (asking : Asking) (urls : List (List ℕ)) (place : ℕ) (name : List ℕ) : Type 0 where
+  pub url : List ℕ
+  pub at : slice_get urls place ≡ Some url
+  pub before : List (List ℕ)
+  pub named : AreNamed asking (take place urls) before
+  pub is : name ≡ numbered (base_name url) (count_of (map base_name before) (base_name url))
+
+-- of the URL at the place that was reported, under that URL's name, and it is an end
+pub record IsTold (asking : Asking) (urls : List (List ℕ)) (l : LedgerValue OutcomeValue) (t : PrintedEndValue) : Type 0 where
   pub url : slice_get urls t.place ≡ Some t.end.url
+  pub name : IfSome t.end.file (IsNameAt asking urls t.place)
   pub end : IsEnd t.end
-  pub holds : HoldsOf asking saves t.end t.end.verdict
+  pub holds : HoldsOf asking l t.end t.end.verdict
 
 -- what is asked of each URL; the URLs so far, and those of them that took a name; the slots of those that have no end yet, and what was
--- reported of the others; and what was saved
+-- reported of the others; and the folder, with what was saved
 pub record State : Type 0 where
   pub asking : Asking
   pub urls : List (List ℕ)
   pub named : List (List ℕ)
   pub slots : List Slot
   pub told : List PrintedEndValue
-  pub saves : Saves
+  pub ledger : LedgerValue OutcomeValue
 
 -- the same, with the output and the folder, and whether the run has stopped
 pub record BookValue (W : Type 0) : Type 0 where
@@ -111,15 +236,17 @@ pub record BookValue (W : Type 0) : Type 0 where
   pub is_stopped : Bool
 
 abbrev pub state_of : {W : Type 0} → BookValue W → State
-state_of b = record { asking = b.asking; urls = b.urls; named = b.named; slots = b.slots; told = b.lines.told; saves = b.ledger.entries }
+state_of b = record { asking = b.asking; urls = b.urls; named = b.named; slots = b.slots; told = b.lines.told; ledger = b.ledger }
 
--- a URL that has no end yet: it is at its place, a request can be made of it, its name is one of those that were given, and nothing was saved
--- under it
+-- a URL that has no end yet: it is at its place, a request can be made of it, its name is that of its place and one of those that were given,
+-- nothing was saved under it, and it has tries left
 pub record Pends (asking : Asking) (urls named : List (List ℕ)) (saves : Saves) (job : Job) : Type 0 where
   pub url : slice_get urls job.place ≡ Some job.url.items
   pub asks : CanAsk asking job.url.items
+  pub name : IsNameAt asking urls job.place job.name
   pub given : Contains (names_of named) job.name
   pub fresh : IsFresh job.name saves
+  pub tries : IsTry asking job.tries
 
 -- it is in a slot
 abbrev pub IsPending : List Slot → ℕ → Type 0
@@ -136,19 +263,31 @@ is_saved _ = false
 abbrev pub is_told_saved : PrintedEndValue → Bool
 is_told_saved t = is_saved t.end.verdict
 
--- Each URL is in a slot, or it has ended, and there are as many ends as URLs that aren't in one. What was reported holds. No two of the
--- names are alike, and nothing was saved but under a name that was given; and as many bodies were saved as URLs were reported as saved.
+-- Each URL is in a slot, or it has ended, and there are as many ends as URLs that aren't in one. What was reported holds. Those of which a
+-- request can be made have names. No two of the names are alike, and nothing was saved but under a name that was given; and as many bodies were saved as URLs were reported as saved.
 pub record IsBook (b : State) (n : ℕ) (names : List (List ℕ)) : Type 0 where
   pub read : n ≡ length b.urls
   pub bases : names ≡ map base_name b.named
+  pub named : AreNamed b.asking b.urls b.named
   pub fewer : length b.named ≤ length b.urls
-  pub pending : (i : ℕ) (job : Job) → job_at b.slots i ≡ Some job → Pends b.asking b.urls b.named b.saves job
+  pub pending : (i : ℕ) (job : Job) → job_at b.slots i ≡ Some job → Pends b.asking b.urls b.named b.ledger.entries job
   pub apart : (i j : ℕ) (p q : Job) → job_at b.slots i ≡ Some p → job_at b.slots j ≡ Some q → p.name ≡ q.name → i ≡ j
-  pub given : AllByRecursion (λ e. Contains (names_of b.named) e.0) b.saves
-  pub told : AllByRecursion (IsTold b.asking b.urls b.saves) b.told
+  pub given : AllByRecursion (λ e. Contains (names_of b.named) e.0) b.ledger.entries
+  pub told : AllByRecursion (IsTold b.asking b.urls b.ledger) b.told
   pub each : (place : ℕ) → place < length b.urls → IsPending b.slots place ⊎ HasEnded b.told place
   pub count : length b.urls ≡ count_by is_taken b.slots + length b.told
-  pub owed : length b.saves ≡ count_by is_told_saved b.told
+  pub owed : length b.ledger.entries ≡ count_by is_told_saved b.told
+
+-- What holds of every book, also of a run that has stopped: what was reported. Unless it has, all else holds, too.
+pub record IsAccount (b : State) (is_stopped : Bool) (n : ℕ) (names : List (List ℕ)) : Type 0 where
+  pub told : AllByRecursion (IsTold b.asking b.urls b.ledger) b.told
+  pub going : is_stopped ≡ false → IsBook b n names
+
+-- more was done to the folder of the same run
+pub record IsLaterLedger (old new : LedgerValue OutcomeValue) : Type 0 where
+  pub start : new.start ≡ old.start
+  pub flush : new.flush ≡ old.flush
+  pub later : IsLater old.steps new.steps
 
 -- the saves grow by this name, if they do
 abbrev pub GrowsBy : List ℕ → Saves → Saves → Type 0
@@ -160,7 +299,11 @@ abbrev pub GrowsFor : List ℕ → Verdict → Saves → Saves → Type 0
 GrowsFor name v old new =
     ((is_saved v ≡ false) × (new ≡ old)) ⊎ ((is_saved v ≡ true) × (outcome : OutcomeValue) × (new ≡ (name, outcome) ∷ old))
 
--- a URL that has no end comes back as it was, where memory wasn't refused
-abbrev pub HandsBack : Job → NotEnded → Type 0
-HandsBack job not_ended.OutOfMemory = ⊤
-HandsBack job (not_ended.Unopened back) = back ≡ job
+-- a file is named so, if one is
+abbrev pub MayName : List ℕ → Option (List ℕ) → Type 0
+MayName name file = IfSome file (λ n. n ≡ name)
+
+-- a URL that has no end comes back as it was, where memory wasn't refused and it may be tried again
+abbrev pub HandsBack : Job → Bool → NotEnded → Type 0
+HandsBack job may_retry not_ended.OutOfMemory = ⊤
+HandsBack job may_retry (not_ended.Unopened back) = (back ≡ job) × (may_retry ≡ true)

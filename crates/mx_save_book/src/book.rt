@@ -1,11 +1,11 @@
 //! The URLs of a run, from their reading to their ends.
-ghost use Rattle.std.specs.Prelude.{◌≡◌, ◌≢◌, ◌+◌, ◌<◌, ◌^◌, All, ◌++◌, ◌∷◌, [], true, false, if◌then◌else◌, count_by, IfErr, IfOk, OnErr, OnOk, Some, IsSome, IfSome, MatchOption, MatchResult, Ok, Err, length, slice_get, slice_set};
-ghost use Rattle.mx_types.specs.Code.{code_number};
+ghost use Rattle.std.specs.Prelude.{◌≡◌, ◌≢◌, ◌+◌, ◌<◌, ◌^◌, All, ◌++◌, ◌∷◌, [], true, false, if◌then◌else◌, count_by, IfErr, IfOk, OnErr, OnOk, Some, None, IsSome, IfSome, MatchOption, MatchResult, Ok, Err, length, slice_get, slice_set};
+ghost use Rattle.std.specs.List.{AllByRecursion};
 ghost use Rattle.mx_request.specs.Request.{IsRequest};
 ghost use Rattle.mx_save_rules.specs.Ends.{skipped_end};
 ghost use Rattle.mx_request.specs.declared.error.RequestError.TheVariants as refusal;
-ghost use Rattle.mx_save_book.specs.Jobs.{Asks, CanAsk, is_taken, job_at};
-ghost use Rattle.mx_save_book.specs.Books.{HasNoneAdded, HaveEnded, IsAdded, IsClosed, IsFreshBook, IsJobFor, IsPutBack, IsSameRun, StandsAt, WaitsAgain, awaits_at};
+ghost use Rattle.mx_save_book.specs.Jobs.{Asks, CanAsk, IsLaterLedger, IsTold, Refuses, is_taken, job_at, refused_end};
+ghost use Rattle.mx_save_book.specs.Books.{Delays, HasNoneAdded, HaveEnded, IsAdded, IsClosed, IsFoundAt, IsFreshBook, IsJobFor, IsPutBack, IsSameRun, LeavesSlot, Retries, StandsAt, WaitsAgain, awaits_at, delay_of, next_try};
 ghost use Rattle.mx_save_book.specs.declared.job.Slot.TheVariants as slot;
 
 use crate::asking::Asking;
@@ -31,8 +31,8 @@ use std::{mem, str};
 /// The URLs of a run: those that have no end yet, each in a slot, and what the others ended with, which is printed and saved. Contracts see
 /// it as `BookValue`.
 ///
-/// Each URL of the run is in a slot, or was reported, once. What was reported holds: a body that was reported as saved is in its file,
-/// whole. Once a call has answered an error, only that isn't known any more; what was saved still is.
+/// What was reported holds: a body that was reported as saved is in its file, whole. Each URL of the run is in a slot, or was reported, once:
+/// once a call has answered an error, that isn't known any more.
 #[derive(Drop)]
 pub struct Book<F: Folder, W: Write> {
     alloc: Global,
@@ -48,8 +48,8 @@ pub struct Book<F: Folder, W: Write> {
 }
 
 impl<F: Folder, W: Write> Model for Book<F, W> {
-    ghost use Rattle.std.specs.Prelude.{◌≡◌, false, map};
-    ghost use Rattle.mx_save_book.specs.Jobs.{BookValue, IsBook};
+    ghost use Rattle.std.specs.Prelude.{map};
+    ghost use Rattle.mx_save_book.specs.Jobs.{BookValue, IsAccount};
 
     ghost Value = { BookValue W };
 
@@ -63,14 +63,14 @@ impl<F: Folder, W: Write> Model for Book<F, W> {
       is_stopped = b.is_stopped;
     } };
 
-    ghost invariant = { λ b. b.is_stopped ≡ false → IsBook (record {
+    ghost invariant = { λ b. IsAccount (record {
       asking = b.asking;
       urls = map (λ u. u.items) b.urls;
       named = map (λ u. u.items) b.named;
       slots = b.slots.items;
       told = b.lines.told;
-      saves = b.ledger.entries;
-    }) b.read b.names };
+      ledger = b.ledger;
+    }) b.is_stopped b.read b.names };
 }
 
 // The count of URLs with one more.
@@ -81,7 +81,9 @@ fn one_more(count: u64) -> Option<u64>
 }
 
 // A URL of which no transfer was made.
-fn untried() -> Transferred {
+fn untried() -> Transferred
+    ensures { result ≡ record { status = 0; length = 0; framing = None; hops = 0; tries = 0 } }
+{
     Transferred {
         status: 0,
         length: 0,
@@ -89,6 +91,15 @@ fn untried() -> Transferred {
         hops: 0,
         tries: 0,
     }
+}
+
+// The end of a URL that is refused.
+fn refused(alloc: Global, url: Vec<u8>, why: RequestError) -> Result<End, AllocError>
+    ensures { IfOk result (λ end. end ≡ refused_end url.items why) }
+{
+    let code = why.code();
+    let words = String::from_str(alloc, code_words(code))?;
+    Ok(End::failed(url, SaveCode::Transfer(code), untried(), Some(words)))
 }
 
 impl<F: Folder, W: Write> Book<F, W> {
@@ -119,22 +130,21 @@ impl<F: Folder, W: Write> Book<F, W> {
     }
 
     /// Reports a URL that is refused, which takes no name.
-    fn refuse(&mut self, url: Vec<u8>, code: Code) -> Result<(), Stop>
+    fn refuse(&mut self, url: Vec<u8>, why: RequestError) -> Result<(), Stop>
         requires going { self.old.is_stopped ≡ false }
-        requires code { code_number code ≢ 0 }
-        ensures urls { OnOk result (self.new.urls ≡ self.old.urls ++ url.items ∷ []) }
+        requires why { Refuses self.old.asking url.items why }
+        ensures urls { self.new.urls ≡ self.old.urls ++ url.items ∷ [] }
         ensures slots { OnOk result (self.new.slots ≡ self.old.slots) }
         ensures going { OnOk result (self.new.is_stopped ≡ false) }
         ensures stopped { OnErr result (self.new.is_stopped ≡ true) }
         ensures run { IsSameRun self.old self.new }
     {
         self.is_stopped = true;
+        self.urls.show(&url);
         let Some(read) = one_more(self.read) else {
             return Err(Stop::OutOfMemory);
         };
-        self.urls.show(&url);
-        let words = String::from_str(self.alloc, code_words(code))?;
-        let end = End::failed(url, SaveCode::Transfer(code), untried(), Some(words));
+        let end = refused(self.alloc, url, why)?;
         self.lines.tell(self.read, end)?;
         self.read = read;
         self.is_stopped = false;
@@ -146,19 +156,19 @@ impl<F: Folder, W: Write> Book<F, W> {
         requires going { self.old.is_stopped ≡ false }
         requires asks { CanAsk self.old.asking url.items }
         requires free { slice_get self.old.slots at ≡ Some slot.Free }
-        ensures urls { OnOk result (self.new.urls ≡ self.old.urls ++ url.items ∷ []) }
+        ensures urls { self.new.urls ≡ self.old.urls ++ url.items ∷ [] }
         ensures slots { OnOk result (StandsAt self.old.slots self.new.slots at url.items) }
         ensures going { OnOk result (self.new.is_stopped ≡ false) }
         ensures stopped { OnErr result (self.new.is_stopped ≡ true) }
         ensures run { IsSameRun self.old self.new }
     {
         self.is_stopped = true;
+        self.urls.show(&url);
         let Some(read) = one_more(self.read) else {
             return Err(Stop::OutOfMemory);
         };
         let name = self.names.next(self.alloc, url.as_slice())?;
         self.named.show(&url);
-        self.urls.show(&url);
         self.slots[at] = Slot::Waiting(Job {
             place: self.read,
             url,
@@ -175,7 +185,7 @@ impl<F: Folder, W: Write> Book<F, W> {
     pub fn admit(&mut self, at: usize, url: Vec<u8>) -> Result<Option<Request>, Stop>
         requires going { self.old.is_stopped ≡ false }
         requires free { slice_get self.old.slots at ≡ Some slot.Free }
-        ensures urls { OnOk result (self.new.urls ≡ self.old.urls ++ url.items ∷ []) }
+        ensures urls { self.new.urls ≡ self.old.urls ++ url.items ∷ [] }
         ensures stands { IfOk result (λ asked. MatchOption asked (self.new.slots ≡ self.old.slots) (λ _. StandsAt self.old.slots self.new.slots at url.items)) }
         ensures asked { IfOk result (λ asked. IfSome asked (λ r. Asks self.old.asking url.items r × IsRequest r)) }
         ensures going { OnOk result (self.new.is_stopped ≡ false) }
@@ -186,9 +196,10 @@ impl<F: Folder, W: Write> Book<F, W> {
             Ok(request) => with(self.stand(at, url), Some(request)),
             Err(RequestError::OutOfMemory) => {
                 self.is_stopped = true;
+                self.urls.show(&url);
                 Err(Stop::OutOfMemory)
             }
-            Err(error) => with(self.refuse(url, error.code()), None),
+            Err(why) => with(self.refuse(url, why), None),
         }
     }
 
@@ -232,7 +243,8 @@ impl<F: Folder, W: Write> Book<F, W> {
     // Ends the URL in that slot, which isn't asked for.
     fn pass_over(&mut self, at: usize) -> Result<(), Stop>
         requires going { self.old.is_stopped ≡ false }
-        requires there { IsSome (job_at self.old.slots at) }
+        requires asked { self.old.asking.skip_existing ≡ true }
+        requires found { IsFoundAt self.old.slots at self.old.ledger }
         ensures slots { OnOk result (self.new.slots ≡ slice_set self.old.slots at slot.Free) }
         ensures urls { self.new.urls ≡ self.old.urls }
         ensures going { OnOk result (self.new.is_stopped ≡ false) }
@@ -272,11 +284,14 @@ impl<F: Folder, W: Write> Book<F, W> {
     }
 
     /// Ends the URL in that slot, whose transfer ended so: its body is saved if it should be, and that is reported. Where it is to be tried
-    /// again, it waits, and the milliseconds until then come back: where its transfer failed, or no file could be opened for its body.
+    /// again, it waits, and the milliseconds until then come back: by its code and its status, while it has tries left; or where its body was
+    /// to be saved and the folder refused a call, as after a connection that couldn't be made.
     pub fn close(&mut self, at: usize, outcome: Outcome) -> Result<Option<u64>, Stop>
         requires going { self.old.is_stopped ≡ false }
         requires asked { IsJobFor self.old.asking self.old.slots at outcome.request }
         ensures slots { OnOk result (IsClosed self.old.slots self.new.slots at) }
+        ensures left { IfOk result (LeavesSlot self.old.slots self.new.slots at) }
+        ensures retried { IfOk result (Retries self.old self.new at outcome) }
         ensures urls { self.new.urls ≡ self.old.urls }
         ensures going { OnOk result (self.new.is_stopped ≡ false) }
         ensures stopped { OnErr result (self.new.is_stopped ≡ true) }
@@ -291,7 +306,9 @@ impl<F: Folder, W: Write> Book<F, W> {
     }
 
     // How many milliseconds the URL in that slot waits, where it ended with that code and status and is to be tried again.
-    fn delay(&self, at: usize, code: Code, status: u16) -> Option<u64> {
+    fn delay(&self, at: usize, code: Code, status: u16) -> Option<u64>
+        ensures { Delays self.now.asking self.now.slots at code status result }
+    {
         let job = self.slots.get(at)?.job()?;
         delay_of(&self.asking, job.tries, code, status)
     }
@@ -302,7 +319,10 @@ impl<F: Folder, W: Write> Book<F, W> {
     fn end_with(&mut self, at: usize, outcome: Outcome) -> Result<Option<u64>, Stop>
         requires going { self.old.is_stopped ≡ false }
         requires asked { IsJobFor self.old.asking self.old.slots at outcome.request }
+        requires none { Delays self.old.asking self.old.slots at outcome.code outcome.status None }
         ensures slots { OnOk result (IsClosed self.old.slots self.new.slots at) }
+        ensures left { IfOk result (LeavesSlot self.old.slots self.new.slots at) }
+        ensures retried { IfOk result (Retries self.old self.new at outcome) }
         ensures urls { self.new.urls ≡ self.old.urls }
         ensures going { OnOk result (self.new.is_stopped ≡ false) }
         ensures stopped { OnErr result (self.new.is_stopped ≡ true) }
@@ -392,14 +412,17 @@ impl<F: Folder, W: Write> Book<F, W> {
     pub fn end(self) -> (Ledger<F, WholeBody>, Lines<W>)
         ensures ledger { result.0 ≡ self.ledger }
         ensures lines { result.1 ≡ self.lines }
-        ensures ended { self.is_stopped ≡ false → count_by is_taken self.slots ≡ 0 → HaveEnded self.asking self.urls self.ledger.entries self.lines.told }
+        ensures told { AllByRecursion (IsTold self.asking self.urls self.ledger) self.lines.told }
+        ensures ended { self.is_stopped ≡ false → count_by is_taken self.slots ≡ 0 → HaveEnded self.asking self.urls self.ledger self.lines.told }
     {
         (self.ledger, self.lines)
     }
 }
 
 // How many milliseconds a URL waits after so many tries, if it is to be tried again.
-fn delay_of(asking: &Asking, tries: u32, code: Code, status: u16) -> Option<u64> {
+fn delay_of(asking: &Asking, tries: u32, code: Code, status: u16) -> Option<u64>
+    ensures { result ≡ delay_of asking.now tries code status }
+{
     if tries <= u32::from(asking.retries) && is_retried(asking.method, code, status) {
         return Some(delay_ms(tries.max(1)));
     }
@@ -421,6 +444,7 @@ fn build(alloc: Global, asking: &Asking, url: &[u8]) -> Result<Request, RequestE
     ensures made { IfOk result (λ r. Asks asking.now url.now r × IsRequest r) }
     ensures can { OnOk result (CanAsk asking.now url.now) }
     ensures why { IfErr result (λ e. CanAsk asking.now url.now → e ≡ refusal.OutOfMemory) }
+    ensures refused { IfErr result (λ e. e ≢ refusal.OutOfMemory → Refuses asking.now url.now e) }
 {
     match str::from_utf8(url) {
         Ok(text) => asking.request(alloc, text),
@@ -440,10 +464,12 @@ fn waiting_job(slots: &[Slot], at: usize) -> Option<&Job>
 
 // Whether a regular file has the name of the URL that waits in a slot.
 fn is_there<F: Folder>(ledger: &mut Ledger<F, WholeBody>, slots: &[Slot], at: usize) -> bool
-    ensures there { result ≡ true → IsSome (job_at slots.now at) }
+    ensures found { result ≡ true → IsFoundAt slots.now at ledger.new }
     ensures entries { ledger.new.entries ≡ ledger.old.entries }
-    ensures run { (ledger.new.start ≡ ledger.old.start) × (ledger.new.flush ≡ ledger.old.flush) }
+    ensures run { IsLaterLedger ledger.old ledger.new }
 {
+    // proof: what holds of a ledger
+    ledger.know();
     match waiting_job(slots, at) {
         Some(job) => matches!(ledger.look(&job.name), Ok(Kind::File)),
         None => false,
@@ -501,7 +527,7 @@ fn take_job(slots: &mut Vec<Slot>, at: usize) -> Option<Job>
 
 // The URL before a further try.
 fn again(mut job: Job) -> Job
-    ensures { result ≡ record job { tries = result.tries } }
+    ensures { result ≡ record job { tries = next_try job.tries } }
 {
     job.tries = job.tries.saturating_add(1);
     job

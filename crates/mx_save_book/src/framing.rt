@@ -1,31 +1,89 @@
 //! How the end of a body was found.
+ghost use Rattle.std.specs.Prelude.{◌≡◌, ◌↔◌, IsTrue, length, slice_range};
+ghost use Rattle.mx_head.specs.Reading.{IsStepOn};
+ghost use Rattle.mx_body.specs.Response.{IsInterimStatus};
+ghost use Rattle.mx_body.specs.Steps.{IsBehind};
+ghost use Rattle.mx_save_book.specs.Framings.{IsStepped, TellsFraming, word_of};
 
 use mx_body::MOST_INTERIM;
 use mx_head::{Framing, HeadStep, framing, read_head};
 use mx_save_rules::FramingWord;
 use mx_types::{Code, Method};
 
-fn word(found: Result<Framing, Code>) -> Option<FramingWord> {
+/// The status that would leave HTTP (RFC 9110, section 15.2.2).
+const SWITCHING_PROTOCOLS: u16 = 101;
+
+/// The result of one head.
+#[derive(Clone, Copy)]
+enum Step {
+    /// It is an interim head, which ends there.
+    Passed(usize),
+    /// It is the final head, whose body is found so; or there is none.
+    Stopped(Option<FramingWord>),
+}
+
+fn word(found: Result<Framing, Code>) -> Option<FramingWord>
+    ensures { result ≡ word_of found }
+{
     match found {
+        Ok(Framing::Empty) => None,
         Ok(Framing::Counted(_)) => Some(FramingWord::Length),
         Ok(Framing::Chunked) => Some(FramingWord::Chunked),
         Ok(Framing::Close) => Some(FramingWord::Close),
-        _ => None,
+        Err(_) => None,
     }
 }
 
-/// How the end of a response's body is found, by the request's method and the final head (RFC 9112, section 6.3); `None` where it has no
-/// body, or none is read.
-pub(crate) fn framing_of(method: Method, wire: &[u8]) -> Option<FramingWord> {
-    let mut rest = wire;
-    for _ in 0..=MOST_INTERIM {
-        let HeadStep::Head(head) = read_head(rest) else {
-            return None;
-        };
-        if head.status() >= 200 {
-            return word(framing(method, &head));
+fn is_interim(status: u16) -> bool
+    ensures { IsTrue result ↔ IsInterimStatus status }
+{
+    100 <= status && status < 200
+}
+
+// The result of the head at `start` by the answer on it, after as many interim heads as have passed.
+fn step_by(method: Method, wire: &[u8], start: usize, passed: usize, read: HeadStep) -> Step
+    requires behind { IsBehind wire.now start passed }
+    requires read { IsStepOn (slice_range wire.now start (length wire.now)) read }
+    ensures { IsStepped method wire.now passed result }
+{
+    match read {
+        HeadStep::Head(head) => {
+            let status = head.status();
+            if !is_interim(status) {
+                return Step::Stopped(word(framing(method, &head)));
+            }
+            if status == SWITCHING_PROTOCOLS || passed == MOST_INTERIM {
+                return Step::Stopped(None);
+            }
+            Step::Passed(start + head.len())
         }
-        rest = &rest[head.len().min(rest.len())..];
+        HeadStep::More => Step::Stopped(None),
+        HeadStep::Fault(_) => Step::Stopped(None),
     }
-    None
+}
+
+// The result of the head at `start`.
+fn step_at(method: Method, wire: &[u8], start: usize, passed: usize) -> Step
+    requires { IsBehind wire.now start passed }
+    ensures { IsStepped method wire.now passed result }
+{
+    step_by(method, wire, start, passed, read_head(&wire[start..]))
+}
+
+/// How the end of a response's body is found, by the request's method and the final head (RFC 9112, section 6.3); `None` where it has no
+/// body, its framing is refused, or there is no final head.
+pub(crate) fn framing_of(method: Method, wire: &[u8]) -> Option<FramingWord>
+    ensures { TellsFraming method wire.now result }
+{
+    let mut start = 0;
+    let mut passed = 0;
+    loop {
+        match step_at(method, wire, start, passed) {
+            Step::Passed(end) => {
+                start = end;
+                passed += 1;
+            }
+            Step::Stopped(told) => return told,
+        }
+    }
 }

@@ -7,7 +7,7 @@ ghost use Rattle.mx_save_urls.specs.Works.{IsSameWork};
 ghost use Rattle.mx_save_urls.specs.Asked.{HasTurned};
 ghost use Rattle.mx_fetch.specs.declared.turned.Turned.TheVariants as how;
 ghost use Rattle.mx_save_urls.specs.Plans.{IsPlan};
-ghost use Rattle.mx_save_urls.specs.Runs.{IsOneRun, SavesAll};
+ghost use Rattle.mx_save_urls.specs.Runs.{IsOneRun, SavesAll, TellsTruly};
 
 use crate::feed::Feed;
 use crate::plan::{MOST_PENDING, Plan};
@@ -103,7 +103,7 @@ pub struct Ended<F: Folder, W: Write, V> {
 /// open. It may wait.
 ///
 /// It stops before all URLs have ended where memory is refused, where the output can't be written, where the list of URLs can't be read, or
-/// where the system has no clock, no poll or no thread for it. No clause says that the cause it names is the right one, or which URLs were
+/// where the system has no clock, no poll or no thread for it. What it has reported by then holds all the same. No clause says that the cause it names is the right one, or which URLs were
 /// read of a list whose bytes std doesn't know.
 pub fn save_all<
     'a,
@@ -124,6 +124,7 @@ pub fn save_all<
     requires plan { IsPlan plan }
     requires fresh { (ledger.entries ≡ []) × (lines.told ≡ []) }
     ensures all { OnOk result.stopped (SavesAll asking (left Rd.remaining feed.entry) result.ledger result.lines) }
+    ensures told { TellsTruly asking (left Rd.remaining feed.entry) result.ledger result.lines }
     ensures run { IsOneRun ledger lines result.ledger result.lines }
 {
     let may_fill = plan.may_fill(feed.rest(), asking.retries);

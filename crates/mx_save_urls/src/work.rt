@@ -34,7 +34,6 @@ pub struct Work<'a, F: Folder, W: Write, R: Read + Drop> {
 }
 
 impl<'a, F: Folder, W: Write, R: Read + Drop> Model for Work<'a, F, W, R> {
-    ghost use Rattle.std.specs.Prelude.{◌≡◌, false};
     ghost use Rattle.mx_save_urls.specs.Feeds.{left, IsFed};
     ghost use Rattle.mx_save_urls.specs.Works.{WorkValue};
 
@@ -42,7 +41,7 @@ impl<'a, F: Folder, W: Write, R: Read + Drop> Model for Work<'a, F, W, R> {
 
     ghost view = { λ w. record { book = w.book; first = left R.remaining w.first.value; left = left R.remaining w.feed; is_read = w.is_read } };
 
-    ghost invariant = { λ w. w.book.is_stopped ≡ false → IsFed (left R.remaining w.first.value) w.book.urls (left R.remaining w.feed) w.is_read };
+    ghost invariant = { λ w. IsFed (left R.remaining w.first.value) w.book.urls (left R.remaining w.feed) w.is_read };
 }
 
 // Takes a URL in, which stands in this slot then, if it is to be asked for.
@@ -53,7 +52,7 @@ fn take_in<F: Folder, W: Write>(
 ) -> Result<Option<Request>, Stop>
     requires going { book.old.is_stopped ≡ false }
     requires free { slice_get book.old.slots at ≡ Some slot.Free }
-    ensures urls { OnOk result (book.new.urls ≡ book.old.urls ++ url.items ∷ []) }
+    ensures urls { book.new.urls ≡ book.old.urls ++ url.items ∷ [] }
     ensures asked { IfOk result (λ asked. IfSome asked (λ r. IsJobFor book.new.asking book.new.slots at r × IsRequest r)) }
     ensures added { OnOk result (AddsNone book.old.slots book.new.slots) }
     ensures going { OnOk result (book.new.is_stopped ≡ false) }
@@ -222,7 +221,7 @@ impl<'a, F: Folder, W: Write, R: Read + Drop> Work<'a, F, W, R> {
     /// Ends the work.
     pub fn end(self) -> Book<F, W>
         ensures book { result ≡ self.entry.book }
-        ensures fed { self.entry.book.is_stopped ≡ false → IsFed self.entry.first self.entry.book.urls self.entry.left self.entry.is_read }
+        ensures fed { IsFed self.entry.first self.entry.book.urls self.entry.left self.entry.is_read }
     {
         self.book
     }

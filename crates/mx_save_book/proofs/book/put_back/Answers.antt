@@ -8,4 +8,5 @@ returns c = record {
   place = ap (λ j. j.place) c.again.ensures;
   url = ap (λ j. j.url) c.again.ensures;
   name = ap (λ j. j.name) c.again.ensures;
+  tries = ap (λ j. j.tries) c.again.ensures;
 }

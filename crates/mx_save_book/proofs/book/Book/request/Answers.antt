@@ -6,7 +6,7 @@ use Rattle.mx_save_book.proofs.book.Book.request.Goals as goal
 
 pub unreachable-requires : goal.unreachable-requires
 unreachable-requires g c =
-    let was = c.self.invariant c.if-self.false in
+    let was = c.self.invariant.going c.if-self.false in
     let there = ap (λ l. job_at l c.args.at) (sym c.as_slice.ensures.value) ∙ c.in-Some.ensures in
     let asks = (was.pending c.args.at c.in-Some.job.now there).asks in
     c.in_default-why.not-OutOfMemory (c.in-Err.ensures.why (subst (CanAsk c.self.inside.asking) (sym c.as_slice-2.ensures.value) asks))

@@ -1,21 +1,30 @@
-use Rattle.std.proofs.Common.{◌∙◌, ap, refl, subst, sym, map, ◌++◌, ◌∷◌, []}
+use Rattle.std.proofs.Common.{◌∙◌, ap, refl, false, subst, sym, map, ◌++◌, ◌∷◌, []}
 use Rattle.std.specs.Prelude.{slice_get, slice_set}
 use Rattle.mx_file_name.specs.Names.{base_name, count_of, numbered}
 use Rattle.mx_save_book.specs.Jobs.{CanAsk}
 use Rattle.mx_save_book.specs.declared.job.Job.{Job}
 use Rattle.mx_save_book.specs.declared.job.Slot.TheVariants as slot
-use Rattle.mx_save_book.proofs.Books.{stood_as, texts_push}
+use Rattle.mx_save_book.proofs.Books.{account, stood_as, stopped_more, texts_push}
 use Rattle.mx_save_book.proofs.book.Book.stand.Goals as goal
 
+pub invariant_of-self : goal.invariant_of-self
+invariant_of-self g c =
+    stopped_more _ _ _ _ _ _ _ (c.args.url.items ∷ []) c.self.invariant refl (ap (map (λ u. u.items)) c.show.ensures ∙ texts_push (λ u. u.items) c.self.inside.urls c.args.url) refl refl
+
+pub invariant_of-self-in_err-name : goal.invariant_of-self-in_err-name
+invariant_of-self-in_err-name g c =
+    stopped_more _ _ _ _ _ _ _ (c.args.url.items ∷ []) c.self.invariant refl (ap (map (λ u. u.items)) c.show.ensures ∙ texts_push (λ u. u.items) c.self.inside.urls c.args.url) refl refl
+
 pub invariant_of-self-2 : goal.invariant_of-self-2
-invariant_of-self-2 g c = λ e.
-    let was = c.self.invariant (ap (λ b. b.is_stopped) c.self.view_is ∙ c.requires.going) in
-    stood_as _ c.self.inside.read _ c.self.inside.names _ _ _ c.args.at _ was c.in-Some.ensures.0 c.in-Some.ensures.1
-    (ap (map (λ u. u.items)) c.show-2.ensures ∙ texts_push (λ u. u.items) c.self.inside.urls c.args.url)
-    (ap (map (λ u. u.items)) c.show.ensures ∙ texts_push (λ u. u.items) c.self.inside.named c.args.url)
+invariant_of-self-2 g c =
+    let was = c.self.invariant.going (ap (λ b. b.is_stopped) c.self.view_is ∙ c.requires.going) in
+    account _ false _ _
+    (stood_as _ c.self.inside.read _ c.self.inside.names _ _ _ c.args.at _ was c.in-Some.ensures.0 c.in-Some.ensures.1
+    (ap (map (λ u. u.items)) c.show.ensures ∙ texts_push (λ u. u.items) c.self.inside.urls c.args.url)
+    (ap (map (λ u. u.items)) c.show-2.ensures ∙ texts_push (λ u. u.items) c.self.inside.named c.args.url)
     (c.in_ok-name.ensures.noted ∙ ap (λ x. c.self.inside.names ++ base_name x ∷ []) c.as_slice.ensures.value)
     (subst (λ b. CanAsk b.asking c.args.url.items) (sym c.self.view_is) c.requires.asks) (ap (λ b. slice_get b.slots c.args.at) c.self.view_is ∙ c.requires.free)
-    refl (c.in_ok-name.ensures.name ∙ ap (λ x. numbered (base_name x) (count_of c.self.inside.names (base_name x))) c.as_slice.ensures.value)
+    refl (c.in_ok-name.ensures.name ∙ ap (λ x. numbered (base_name x) (count_of c.self.inside.names (base_name x))) c.as_slice.ensures.value) refl)
 
 pub returns-clause-slots : goal.returns-clause-slots
 returns-clause-slots g c =
