@@ -1,6 +1,7 @@
 mod Bodies
 mod Books
 mod Fails
+mod Holds
 pub mod Later
 mod Names
 mod Slots

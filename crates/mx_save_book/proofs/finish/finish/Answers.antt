@@ -4,7 +4,7 @@ use Rattle.mx_save_rules.specs.declared.decision.Decision.TheVariants as decisio
 use Rattle.mx_save_book.specs.Jobs.{MayName, is_saved}
 use Rattle.mx_save_book.specs.declared.finish.NotEnded.TheVariants as not_ended
 use Rattle.mx_save_book.proofs.Fails.{fail_code}
-use Rattle.mx_save_book.proofs.Books.{done_holds, err_known, failed_holds}
+use Rattle.mx_save_book.proofs.Holds.{done_holds, err_known, failed_holds}
 use Rattle.mx_save_book.proofs.finish.finish.Goals as goal
 
 pub returns-in-Save-clause-decided : goal.returns-in-Save-clause-decided

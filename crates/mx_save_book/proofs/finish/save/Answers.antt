@@ -2,7 +2,7 @@ use Rattle.std.proofs.Common.{◌≡◌, ◌∙◌, ap, sym, subst, inl}
 use Rattle.mx_save_rules.specs.declared.decision.Decision.TheVariants as decision
 use Rattle.mx_save_rules.specs.declared.code.SaveCode.TheVariants as code
 use Rattle.mx_save_book.specs.Jobs.{MayName, is_saved}
-use Rattle.mx_save_book.proofs.Books.{if_err, if_ok, saved_holds, unsaved_holds}
+use Rattle.mx_save_book.proofs.Holds.{if_err, if_ok, saved_holds, unsaved_holds}
 use Rattle.mx_save_book.proofs.finish.save.Goals as goal
 
 pub save_whole-requires-clause-code : goal.save_whole-requires-clause-code

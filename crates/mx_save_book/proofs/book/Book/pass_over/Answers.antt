@@ -1,7 +1,8 @@
 use Rattle.std.proofs.Common.{◌∙◌, ap, sym, refl, inl, false, subst, map}
 use Rattle.mx_save_book.specs.Books.{IsFoundAt}
 use Rattle.mx_save_book.specs.Jobs.{IsBook, MayName, is_saved}
-use Rattle.mx_save_book.proofs.Books.{account, closed, found_here, same_ledger, skipped_holds, stopped_later}
+use Rattle.mx_save_book.proofs.Books.{account, closed, found_here, same_ledger, stopped_later}
+use Rattle.mx_save_book.proofs.Holds.{skipped_holds}
 use Rattle.mx_save_book.proofs.book.Book.pass_over.Goals as goal
 
 pub invariant_of-self : goal.invariant_of-self
