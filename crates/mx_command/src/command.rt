@@ -255,7 +255,7 @@ fn is_save(words: &[String]) -> bool {
 /// Reads a command line, of which the first word is the program's name. An error is help that was asked for,
 /// a refusal in clap's words, or `OutOfMemory`.
 ///
-/// Values are those that clap found under the names of their options. No clause says which words these values come from.
+/// Its clause says that there are values under the names of the options by which it is; no clause says that these are those of the words.
 pub fn read_command<'a>(alloc: Global, words: &'a [String]) -> Result<Asked<'a>, Error>
     ensures asked { IfOk result IsAsked }
     ensures given { IfOk result IsGiven }

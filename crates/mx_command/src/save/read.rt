@@ -212,8 +212,8 @@ fn read_at<'a>(
 /// Reads a command line of `save`, of which the first word is the program's name and the second `save`. An error is help that was asked
 /// for, a refusal in clap's words, or `OutOfMemory`.
 ///
-/// Each part of it, its header fields aside, is by the value that clap found under the name of its option. No clause says which words these
-/// values come from.
+/// Its clause says that there are values under the names of the options by which each part of it is, its header fields aside; no clause says
+/// that these are those of the words.
 pub fn read_save<'a>(alloc: Global, words: &'a [String]) -> Result<Save<'a>, Error>
     ensures asked { IfOk result IsSaveAsked }
     ensures given { IfOk result IsSaveGiven }
