@@ -190,6 +190,17 @@ impl<L: Link> Line<L> {
         unreachable!()
     }
 
+    // The same, with a buffer of this turn. It is apart, since a function clears its buffers at its entry, and most turns need none.
+    fn serve_bufferless(&mut self, request: &Request, decoder: &mut Decoder) -> Halt
+        requires open { IsOpen self.old }
+        requires going { IsGoing self.old.request.method self.old.answers decoder.old }
+        requires about { self.old.request ≡ request.now }
+        ensures line { IsLine L.history L.asked L.token_of self.new }
+        ensures turn { ServesTo self.old self.new result decoder.new }
+    {
+        self.serve_into(request, decoder, &mut [0; READ_BYTES])
+    }
+
     /// One turn: it connects, writes the request and reads the response, as far as the link goes. It uses the kept buffer, which it makes
     /// at first; where memory for that is refused, it uses one of this turn.
     pub(crate) fn serve(
@@ -207,6 +218,6 @@ impl<L: Link> Line<L> {
         if kept.make() {
             return self.serve_into(request, decoder, kept.bytes.as_mut_slice());
         }
-        self.serve_into(request, decoder, &mut [0; READ_BYTES])
+        self.serve_bufferless(request, decoder)
     }
 }
