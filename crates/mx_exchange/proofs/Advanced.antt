@@ -190,6 +190,10 @@ module _ {L : Type 0} (history : L → List Answer) where
     pub Advance-on : (how : How) → Turns history t new how → Turns history (clocked old) new how
     Advance-on how h = clock how h
 
+  -- a turn that may touch the link, where there is none
+  pub Touch-unserved : (t new : ExchangeState L) → MayTouch t → (t.link ≡ None) × (t.needs_probe ≡ false) → new ≡ t → Turns history t new waits
+  Touch-unserved t new may none same = turned may t (inl (none.1, refl)) (unserved none.0 same)
+
   -- a turn that may touch the link, whose exchange was taken out
   pub Touch-refused : (t at mid new : ExchangeState L) → at ≡ t → MayTouch t → ProbeFails history at mid → new ≡ mid → Turns history t new waits
   Touch-refused t at mid new same may f n =

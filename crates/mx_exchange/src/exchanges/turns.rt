@@ -226,13 +226,26 @@ impl<L: Link> Exchange<L> {
         }
     }
 
-    // Probes the link, and asks it.
+    // Whether it has no link.
+    fn lacks_link(&self) -> bool
+        ensures { IsTrue result → (self.now.link ≡ None) × (self.now.needs_probe ≡ false) }
+    {
+        match &self.stage {
+            Stage::Live(live) => live.line.is_none(),
+            Stage::Ended(_) => false,
+        }
+    }
+
+    // Probes the link, and asks it. Where there is none, it is left as it is.
     fn touch(&mut self) -> Turned
         requires going { self.old.code ≡ None }
         requires may { MayTouch self.old }
         ensures turn { Turns L.history self.old self.new (how_of result) }
         ensures token { KeepsToken L.token_of self.old.link self.new.link }
     {
+        if self.lacks_link() {
+            return Turned::Waits;
+        }
         let mut live = self.take();
         if !self.probe(&mut live) {
             self.go_on(live);

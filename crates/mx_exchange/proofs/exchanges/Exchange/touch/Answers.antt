@@ -1,5 +1,12 @@
-use Rattle.mx_exchange.proofs.Advanced.{Touch-refused, Touch-turned, probed_ready, touch_dropped, touch_kept}
+use Rattle.std.proofs.Common.{refl}
+use Rattle.mx_exchange.proofs.Advanced.{Touch-refused, Touch-turned, Touch-unserved, keeps_same, probed_ready, touch_dropped, touch_kept}
 use Rattle.mx_exchange.proofs.exchanges.Exchange.touch.Goals as goal
+
+pub returns-then-lacks_link-clause-turn : goal.returns-then-lacks_link-clause-turn
+returns-then-lacks_link-clause-turn g c = Touch-unserved _ _ _ c.requires.may (c.if-lacks_link.ensures refl) refl
+
+pub returns-then-lacks_link-clause-token : goal.returns-then-lacks_link-clause-token
+returns-then-lacks_link-clause-token g c = keeps_same g.L.Link.history g.L.Link.token_of _ _ refl
 
 pub exchange-requires-clause-probed : goal.exchange-requires-clause-probed
 exchange-requires-clause-probed g c = probed_ready _ _ _ c.if-not-probe.ensures.probe
