@@ -6,6 +6,7 @@ mod dialling;
 mod faults;
 mod gate;
 pub mod laws;
+mod lazy_waker;
 mod ready;
 mod said;
 mod scripted;

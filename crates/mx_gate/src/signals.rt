@@ -16,7 +16,7 @@ pub struct Signals {
 }
 
 fn zeros(alloc: Global) -> Result<Vec<AtomicU64>, AllocError> {
-    let mut counts = Vec::new(alloc);
+    let mut counts = Vec::with_capacity(alloc, COUNTS as usize)?;
     for _ in 0..COUNTS {
         counts.push(AtomicU64::new(0))?;
     }

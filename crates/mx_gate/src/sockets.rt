@@ -12,12 +12,13 @@ use crate::addresses::{Found, addresses_of, at_port};
 use crate::dialling::{Dial, DialLink};
 use crate::faults::{connect_code, meets_file_limit};
 use crate::gate::{Gate, Turn};
+use crate::lazy_waker::LazyWaker;
 use crate::ready::ReadyLink;
 use crate::said::Said;
 use crate::signals::Signals;
 use mio::event::Event;
 use mio::net::TcpStream;
-use mio::{Events, Interest, Poll, Registry, Token, Waker};
+use mio::{Events, Interest, Poll, Registry, Token};
 use mx_link::{Link, TcpLink};
 use mx_request::Endpoint;
 use mx_types::{Code, History};
@@ -128,7 +129,7 @@ impl<R: Net> Dial for SocketDial<'_, R> {
 
 /// Ends a wait of its gate from any thread.
 pub struct Bell {
-    waker: Arc<Waker>,
+    waker: Arc<LazyWaker>,
 }
 
 // Written out, and not derived: a crate that drops a bell cites its proof.
@@ -141,7 +142,7 @@ impl Drop for Bell {
 
 impl Bell {
     /// Ends the wait that is under way, else the next one. It doesn't wait. Several rings may end one wait, and a ring
-    /// is lost where the gate is gone.
+    /// is lost where the gate is gone. It makes no system call where no wait is under way.
     pub fn ring(&self) -> io::Result<()> {
         self.waker.wake()
     }
@@ -177,7 +178,7 @@ pub struct SocketGate<'r, R> {
     poll: Poll,
     shared: Arc<SharedRegistry>,
     events: Events<Global>,
-    bell: Arc<Waker>,
+    bell: Arc<LazyWaker>,
     signals: Arc<Signals>,
     stop: Arc<AtomicBool>,
     start: Instant,
@@ -236,7 +237,7 @@ type Parts = (
     Poll,
     Arc<SharedRegistry>,
     Events<Global>,
-    Arc<Waker>,
+    Arc<LazyWaker>,
     Arc<Signals>,
 );
 
@@ -250,13 +251,24 @@ fn share(alloc: Global, poll: &Poll) -> io::Result<Arc<SharedRegistry>> {
     Ok(Arc::new(alloc, shared)?)
 }
 
+// Opens so many descriptors, each one more of this registry. It owns none of them but the last one, so its exits drop no more.
+fn open_registries(registry: &Registry, count: usize, held: &mut Vec<Registry>) -> io::Result<()> {
+    for _ in 0..count {
+        held.push(registry.try_clone()?)?;
+    }
+    Ok(())
+}
+
 // The bell that ends a wait of this poll.
-fn bell_of(alloc: Global, poll: &Poll) -> io::Result<Arc<Waker>> {
-    Ok(Arc::new(alloc, Waker::new(poll.registry(), BELL)?)?)
+fn bell_of(alloc: Global, poll: &Poll) -> io::Result<Arc<LazyWaker>> {
+    Ok(Arc::new(alloc, LazyWaker::new(poll.registry(), BELL)?)?)
 }
 
 // The events of this poll, the bell that ends its waits, and the signals that its links look at.
-fn tellers(alloc: Global, poll: &Poll) -> io::Result<(Events<Global>, Arc<Waker>, Arc<Signals>)> {
+fn tellers(
+    alloc: Global,
+    poll: &Poll,
+) -> io::Result<(Events<Global>, Arc<LazyWaker>, Arc<Signals>)> {
     let events = Events::with_capacity(alloc, MOST_EVENTS)?;
     let bell = bell_of(alloc, poll)?;
     let signals = Arc::new(alloc, Signals::new(alloc)?)?;
@@ -413,6 +425,16 @@ impl<'r, R: Net + Clock + AllocGlobal> SocketGate<'r, R> {
         })
     }
 
+    /// Whether the system gives so many descriptors beside those that are open: it opens as many at once, and closes them.
+    ///
+    /// No clause says which it answers.
+    pub fn has_descriptors(&self, count: usize) -> bool {
+        let mut held = Vec::new(self.rt.alloc());
+        let are_open = open_registries(&self.shared.registry, count, &mut held).is_ok();
+        drop(held);
+        are_open
+    }
+
     // What opens the connections of a link that has dialled nothing yet.
     fn dialler(&self) -> Result<(SocketDial<'r, R>, Arc<Signals>), AllocError>
         ensures { IfOk result (λ dialler. dialler.0 ≡ []) }
@@ -543,6 +565,19 @@ impl<'r, R: Net + Clock + AllocGlobal> SocketGate<'r, R> {
         }
     }
 
+    // rule gate-no-wait
+    // Waits so long, unless the bell was rung since the last turn. A turn of no wait looks where it may not skip that.
+    fn wait(&mut self, wait_ms: u32)
+        ensures { self.new ≡ self.old }
+    {
+        if self.bell.begin(wait_ms > 0) {
+            self.look(wait_ms);
+        } else if !self.may_skip {
+            self.look(0);
+        }
+        self.bell.end();
+    }
+
     // Counts what the last wait reported of each connection.
     fn tell(&self) {
         for event in self.events.iter() {
@@ -626,10 +661,12 @@ impl<'r, R: Net + Clock + AllocGlobal> Gate for SocketGate<'r, R> {
         lacks
     }
 
-    // rule gate-no-wait, unproved: A turn of no wait asks the system once a millisecond, and where a link was opened since.
+    // rule gate-no-wait, unproved: A turn of no wait, and one whose bell was rung since the last, asks the system once a millisecond, and
+    // where a link was opened since.
     /// Waits until a connection is ready or the bell is rung. Links may call again once something of their connections is reported. A turn
-    /// of no wait looks once a millisecond of the clock, so that it costs a worker that has work at hand no system call each time; and
-    /// where a link was opened since the last, so that a worker that begins many connections finds those that have become free meanwhile.
+    /// of no wait, and one whose bell was rung since the last turn, looks once a millisecond of the clock, so that it costs a worker that
+    /// has work at hand no system call each time; and where a link was opened since the last, so that a worker that begins many connections
+    /// finds those that have become free meanwhile.
     ///
     /// It blocks in the system's poll, though it has no bound `Wait`. No clause says that the system is given this wait, or that the
     /// answer is the flag's value.
@@ -638,9 +675,7 @@ impl<'r, R: Net + Clock + AllocGlobal> Gate for SocketGate<'r, R> {
         ensures others { self.new ≡ record self.old { is_stopped = self.new.is_stopped; said = self.new.said } }
         ensures noted { self.new.said ≡ self.old.said ++ waited wait_ms (is_stop result) ∷ [] }
     {
-        if wait_ms > 0 || !self.may_skip {
-            self.look(wait_ms);
-        }
+        self.wait(wait_ms);
         self.may_skip = false;
         self.is_stopped = self.stop.load(Ordering::SeqCst);
         let turn = turn_of(self.is_stopped);
