@@ -11,41 +11,32 @@ use std::time::Instant;
 /// How many files a run may have open at a time beside its connections, more or less.
 const FILES: usize = 8;
 
-// How many gates take as many descriptors as a run may need at a second multi handle: each takes two at least.
-fn probes(room: Room) -> usize {
+/// How many descriptors a gate takes: its poll, what its connections are registered with, and its bell.
+const GATE_DESCRIPTORS: usize = 3;
+
+// As many descriptors as a run may need at a second multi handle: half as many again as its connections and files.
+fn descriptors(room: Room) -> usize {
     let workers = usize::from(room.limits.workers);
     let idle = workers * usize::from(room.limits.max_connects);
-    workers + room.width.saturating_add(idle).saturating_add(FILES) / 2
+    let pairs = room.width.saturating_add(idle).saturating_add(FILES) / 2;
+    pairs.saturating_add(workers).saturating_mul(GATE_DESCRIPTORS)
 }
 
-// Opens as many gates as that. It owns none of them but the last one, so its exits drop no more.
-fn open_probes<'r, R: Runtime + Net<Listener = TcpListener, Stream = TcpStream>>(
-    rt: &'r R,
-    crew: &Crew,
-    start: Instant,
-    count: usize,
-    probes: &mut Vec<SocketGate<'r, R>>,
-) -> Result<(), Stop> {
-    for _ in 0..count {
-        match SocketGate::starting_at(rt, crew.stop()?, start) {
-            Ok(gate) => probes.push(gate)?,
-            Err(_) => return Err(Stop::NoPoll),
-        }
-    }
-    Ok(())
-}
-
-// Whether as many gates can be open as that, beside what is open.
+// Whether the system gives as many descriptors as that, beside those that are open.
 fn has_descriptors<R: Runtime + Net<Listener = TcpListener, Stream = TcpStream>>(
     rt: &R,
     crew: &Crew,
     start: Instant,
     count: usize,
-) -> bool {
-    let mut probes = Vec::new(rt.alloc());
-    let are_open = open_probes(rt, crew, start, count, &mut probes).is_ok();
-    drop(probes);
-    are_open
+) -> Result<bool, Stop> {
+    match SocketGate::starting_at(rt, crew.stop()?, start) {
+        Ok(gate) => {
+            let has = gate.has_descriptors(count);
+            drop(gate);
+            Ok(has)
+        }
+        Err(_) => Err(Stop::NoPoll),
+    }
 }
 
 // A gate for each worker that this crew wakes and stops, where the system leaves descriptors for what these open.
@@ -55,7 +46,7 @@ fn spare_gates<'r, R: Runtime + Net<Listener = TcpListener, Stream = TcpStream>>
     start: Instant,
     room: Room,
 ) -> Result<Vec<HostGate<'r, R>>, Stop> {
-    if !has_descriptors(rt, crew, start, probes(room)) {
+    if !has_descriptors(rt, crew, start, descriptors(room))? {
         return Err(Stop::NoPoll);
     }
     crew.gates(rt, start, room.limits.workers)
