@@ -1,5 +1,6 @@
 pub mod Keys
 pub mod Leaving
+pub mod Queueing
 pub mod Claims
 pub mod Made
 pub mod Tying

@@ -1,3 +1,4 @@
 pub mod Lock
 pub mod Engine
+pub mod Queues
 pub mod Ties

@@ -6,6 +6,7 @@ ghost use Rattle.mx_types.specs.declared.reply.Reply.{Reply};
 ghost use Rattle.mx_journal.specs.History.{is_maker};
 ghost use Rattle.mx_journal.specs.Receipts.{is_poll};
 ghost use Rattle.mx_lock.specs.Engine.{Makes, lets_polls_return};
+ghost use Rattle.mx_lock.specs.Queues.{Moved, PutsWork, moves_none};
 ghost use Rattle.mx_lock.specs.Ties.{IsTied, Tells, Tie};
 
 use crate::claim::{TiedClaim, tied_again};
@@ -17,7 +18,8 @@ use std::snapshot::Snapshot;
 use std::sync::Wait;
 
 /// A call that is made under the lock: which call of the history it is, the reply of its answer, what comes back, the tie that the answer
-/// shows (a ticket and the request of its addition), and the list of ties of its claim, where it has one.
+/// shows (a ticket and the request of its addition), the work and the endings that it added, read and recorded, and the list of ties of its
+/// claim, where it has one.
 pub trait Deed<Q: Work + Drop, O: Ending + Drop> {
     type Reply;
 
@@ -29,6 +31,8 @@ pub trait Deed<Q: Work + Drop, O: Ending + Drop> {
 
     ghost tie: { Self → Self.Reply → Option Tie } = { λ deed answer. None };
 
+    ghost moved: { Self → Self.Reply → Moved Q O } = { λ deed answer. moves_none };
+
     ghost own: { Self → Book → Type 0 } = { λ deed list. Unit {0} };
 
     /// Makes the core's call for a maker, with the board as its log, and puts in the tie of what it adds.
@@ -39,6 +43,7 @@ pub trait Deed<Q: Work + Drop, O: Ending + Drop> {
         ensures makes { Makes O.origin who (call self) parts.old.core parts.new.core parts.old.log parts.new.log parts.old.ties parts.new.ties (reply result) }
         ensures back { back self result }
         ensures tells { Tells (tie self result) parts.new.ties.entries }
+        ensures work { PutsWork (moved self result) parts.old.core parts.new.core }
         ensures quiet { is_poll (call self) ≡ false };
 
     /// Which call of the history it is, for its receipt.
@@ -61,6 +66,7 @@ impl<Q: Work + Drop, O: Ending + Drop> Deed<Q, O> for Addition<Q> {
     ghost use Rattle.std.specs.Prelude.{◌≡◌};
     ghost use Rattle.mx_types.specs.declared.call.Call.TheVariants as call_of;
     ghost use Rattle.mx_journal.specs.Replies.{handed_back, reply_of_add, work_back};
+    ghost use Rattle.mx_lock.specs.Queues.{moves_added};
     ghost use Rattle.mx_lock.specs.Ties.{tie_added};
 
     type Reply = AddReply<Q>;
@@ -72,6 +78,8 @@ impl<Q: Work + Drop, O: Ending + Drop> Deed<Q, O> for Addition<Q> {
     ghost back = { λ d r. handed_back r ≡ work_back r d.work };
 
     ghost tie = { λ d r. tie_added r (Q.origin d.work) };
+
+    ghost moved = { λ d r. moves_added r d.work };
 
     // rule multi-origins
     fn make<R: Wait>(self, rt: &R, who: Who, parts: &mut Parts<Q, O>) -> AddReply<Q> {
@@ -161,6 +169,7 @@ pub struct Reading;
 impl<Q: Work + Drop, O: Ending + Drop> Deed<Q, O> for Reading {
     ghost use Rattle.mx_types.specs.declared.call.Call.TheVariants as call_of;
     ghost use Rattle.mx_journal.specs.Replies.{reply_of_info};
+    ghost use Rattle.mx_lock.specs.Queues.{moves_read};
     ghost use Rattle.mx_lock.specs.Ties.{tie_read};
 
     type Reply = InfoReply<O>;
@@ -170,6 +179,8 @@ impl<Q: Work + Drop, O: Ending + Drop> Deed<Q, O> for Reading {
     ghost reply = { reply_of_info O.code_of O.size_of };
 
     ghost tie = { λ d r. tie_read O.origin r };
+
+    ghost moved = { λ d r. moves_read r };
 
     fn make<R: Wait>(self, _rt: &R, who: Who, parts: &mut Parts<Q, O>) -> InfoReply<O> {
         parts.core.info_read(&mut parts.log, who)
@@ -223,6 +234,7 @@ impl<Q: Work + Drop, O: Ending + Drop> Deed<Q, O> for Finishing<Q, O> {
     ghost use Rattle.std.specs.Prelude.{◌≡◌};
     ghost use Rattle.mx_types.specs.declared.call.Call.TheVariants as call_of;
     ghost use Rattle.mx_journal.specs.Replies.{IsHandedBack, reply_of_finish};
+    ghost use Rattle.mx_lock.specs.Queues.{moves_recorded};
 
     type Reply = FinishReply<TiedClaim<Q>, O>;
 
@@ -231,6 +243,8 @@ impl<Q: Work + Drop, O: Ending + Drop> Deed<Q, O> for Finishing<Q, O> {
     ghost reply = { reply_of_finish };
 
     ghost back = { λ d r. IsHandedBack d.claim d.ending r };
+
+    ghost moved = { λ d r. moves_recorded r d.claim.ticket d.ending };
 
     ghost own = { λ d b. d.claim.of ≡ b };
 

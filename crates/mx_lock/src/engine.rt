@@ -2,13 +2,14 @@
 ghost use Rattle.std.specs.Prelude.{◌≡◌, [], false, length, nat_lt, true, IfOk, IfSome};
 ghost use mathlib.Core.List.{IsPrefix};
 ghost use Rattle.mx_append_log.specs.Log.{DecidesBeginning};
-ghost use Rattle.mx_journal.specs.Core.{retired};
+ghost use Rattle.mx_journal.specs.Core.{IsSound, retired};
 ghost use Rattle.mx_journal.specs.History.{is_legal, is_maker, made_by, retire};
 ghost use Rattle.mx_journal.specs.Answers.{is_ready};
 ghost use Rattle.mx_journal.specs.Receipts.{is_poll};
 ghost use Rattle.mx_journal.specs.Table.{IsTableOf};
 ghost use Rattle.mx_board.specs.Board.{caught_up, confirmed_of, mark_of};
 ghost use Rattle.mx_lock.specs.Engine.{IsLocked, Leaves};
+ghost use Rattle.mx_lock.specs.Queues.{LeavesWork};
 ghost use Rattle.mx_lock.specs.Ties.{AreOfAdditions, IsTied, Tells};
 ghost use Rattle.mx_types.specs.Limits.{IsHistory};
 
@@ -150,6 +151,7 @@ impl<Q: Work + Drop, O: Ending + Drop> Engine<Q, O> {
         ensures leaves { Leaves who (D.call deed) self (D.reply result.1) result.0 }
         ensures back { D.back deed result.1 }
         ensures tells { Tells (D.tie deed result.1) result.0.ties.entries }
+        ensures work { LeavesWork (D.moved deed result.1) self.core result.0.core }
         ensures quiet { is_poll (D.call deed) ≡ false }
     {
         let Engine { mut parts } = self;
@@ -162,7 +164,7 @@ impl<Q: Work + Drop, O: Ending + Drop> Engine<Q, O> {
     fn publish<R: Wait>(rt: &R, parts: Box<Parts<Q, O>>) -> Engine<Q, O>
         requires { (parts.value.log.events ≡ parts.value.core.journal) × IsTied O.origin parts.value.core parts.value.ties.entries }
         ensures is { result ≡ record { core = parts.value.core; published = parts.value.core.journal; book = parts.value.log.book; ties = parts.value.ties } }
-        ensures legal { is_legal result.core.journal ≡ true }
+        ensures sound { IsSound O.code_of O.size_of result.core.opening.history result.core.journal result.core.queue result.core.endings }
     {
         let mut parts = parts;
         // proof: what holds of a core

@@ -10,6 +10,7 @@ ghost use Rattle.mx_journal.specs.Receipts.{is_poll};
 ghost use Rattle.mx_journal.specs.Slots.{slot_of};
 ghost use Rattle.mx_board.specs.Board.{caught_up};
 ghost use Rattle.mx_lock.specs.Engine.{HasNoOther, Leaves, content};
+ghost use Rattle.mx_lock.specs.Queues.{LeavesWork};
 ghost use Rattle.mx_lock.specs.Ties.{Has, Tells, tie};
 
 use crate::claim::TiedClaim;
@@ -64,6 +65,7 @@ impl<Q: Work + Drop, O: Ending + Drop> Taken<Q, O> {
         ensures leaves { Leaves who (D.call deed) self (D.reply result.1) result.0 }
         ensures back { D.back deed result.1 }
         ensures tells { Tells (D.tie deed result.1) result.0.ties.entries }
+        ensures work { LeavesWork (D.moved deed result.1) self.core result.0.core }
         ensures quiet { is_poll (D.call deed) ≡ false }
     {
         let Taken { engine } = self;

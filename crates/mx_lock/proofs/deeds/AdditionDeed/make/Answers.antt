@@ -7,6 +7,7 @@ use Rattle.mx_lock.specs.Engine.{HasNoOther}
 use Rattle.mx_lock.specs.Ties.{IsTied, Tells, tie_added}
 use Rattle.mx_lock.proofs.Claims.{claims_added}
 use Rattle.mx_lock.proofs.Tying.{tied_added, added_tells}
+use Rattle.mx_lock.proofs.Queueing.{puts_added}
 use Rattle.mx_lock.proofs.deeds.AdditionDeed.make.Goals as goal
 
 pub returns-clause-makes : goal.returns-clause-makes
@@ -33,3 +34,6 @@ returns-clause-tells g c =
     c.tie_addition.ensures.ties ∙ ap (λ (w : g.row.Q.Denot). origins_added c.add-reply.result c.args.parts.now.ties.entries (g.Q.Work.origin w)) c.of-added.ensures in
     subst (Tells (tie_added c.add-reply.result origin)) (sym ties)
     (added_tells g.O.Ending.origin c.args.who c.args.self.handle x c.add-reply.new.self.journal c.args.parts.now.ties.entries c.add-reply.result origin c.requires.tied c.sound.ensures.origins.0 c.add-reply.ensures.called.answers)
+
+pub returns-clause-work : goal.returns-clause-work
+returns-clause-work g c = puts_added _ _ c.add-reply.result c.args.self.work c.add-reply.ensures.queue c.add-reply.ensures.endings

@@ -6,6 +6,7 @@ use Rattle.mx_lock.specs.Engine.{Makes}
 use Rattle.mx_lock.specs.Ties.{TieState}
 use Rattle.mx_lock.proofs.Leaving.{makes_running}
 use Rattle.mx_lock.proofs.Tying.{tied_finished}
+use Rattle.mx_lock.proofs.Queueing.{puts_recorded}
 use Rattle.mx_lock.proofs.deeds.FinishingDeed.make.Goals as goal
 
 pub returns-clause-makes : goal.returns-clause-makes
@@ -26,3 +27,8 @@ returns-clause-makes g c =
     let made = makes_running g.O.Ending.origin c.args.who (call.Finish claim.ticket code size) x y c.args.parts.now.log c.finish-reply.new.log ties answer e.called refl e.queue tied in
     subst (λ r. Makes g.O.Ending.origin c.args.who (call.Finish d.claim.ticket code size) x y c.args.parts.now.log c.finish-reply.new.log ties ties r) (sym c.tied_again.ensures.same)
     (subst (λ t. Makes g.O.Ending.origin c.args.who (call.Finish t code size) x y c.args.parts.now.log c.finish-reply.new.log ties ties answer) c.into_parts-claim.ensures.ticket made)
+
+pub returns-clause-work : goal.returns-clause-work
+returns-clause-work g c =
+    let e = c.finish-reply.ensures in
+    puts_recorded _ _ c.finish-reply.result c.tied_again.result c.into_parts-claim.result.0.ticket c.args.self.claim.ticket c.args.self.ending e.queue e.endings c.tied_again.ensures.same c.into_parts-claim.ensures.ticket

@@ -4,6 +4,7 @@ use Rattle.mx_journal.specs.Core.{AreOwn}
 use Rattle.mx_journal.specs.Replies.{reply_of_info}
 use Rattle.mx_lock.proofs.Leaving.{makes_same}
 use Rattle.mx_lock.proofs.Tying.{read_tells, tied_on}
+use Rattle.mx_lock.proofs.Queueing.{puts_read}
 use Rattle.mx_lock.proofs.deeds.ReadingDeed.make.Goals as goal
 
 pub returns-clause-makes : goal.returns-clause-makes
@@ -17,3 +18,6 @@ returns-clause-tells g c =
     let t = c.requires.tied in
     read_tells g.O.Ending.origin c.args.parts.now.core c.args.parts.now.ties.entries c.info_read.result t
     (c.info_read.ensures.own (subst (λ l. AreOwn g.O.Ending.origin l c.args.parts.now.core.endings) (sym t.same) t.endings)).1
+
+pub returns-clause-work : goal.returns-clause-work
+returns-clause-work g c = puts_read _ _ c.info_read.result c.info_read.ensures.queue c.info_read.ensures.endings
