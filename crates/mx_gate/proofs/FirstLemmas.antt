@@ -14,7 +14,7 @@ use Rattle.mx_request.specs.Endpoint.{HostAndPort}
 use Rattle.mx_names.specs.Addresses.{is_v4, in_order}
 use Rattle.mx_names.specs.Hosts.{unbracketed}
 use Rattle.mx_gate.specs.Addresses.{chosen}
-use Rattle.mx_gate.specs.Gates.{SocketGateState}
+use Rattle.mx_gate.specs.Gates.{FoundState, SocketGateState}
 use Rattle.mx_gate.specs.Dials.{IsAt, AreAt, IsAddressOf, spelled, looked_up, AreAddressesOf, one_spelled, all_looked_up, Dials, NotesFirst}
 
 find_first : (xs : List SocketAddr) → find is_v4 xs ≡ slice_get (filter is_v4 xs) 0
@@ -50,7 +50,7 @@ first_at : (asked : ℕ) (ones : List SocketAddr) (first : SocketAddr) (rest : L
 first_at asked [] first rest all = absurd all
 first_at asked (one ∷ ones) first rest all = record { one = one; first_one = refl; at = all.0 }
 
-first_of : (e : HostAndPort) (first : SocketAddr) (rest all : List SocketAddr) (was is : List (List SocketAddr))
+first_of : (e : HostAndPort) (first : SocketAddr) (rest all : List SocketAddr) (was is : List FoundState)
     → AreAddressesOf e all was is → all ≡ first ∷ rest → IsAddressOf e first was is
 first_of e first rest all was is (one_spelled a one host same) begins =
     spelled (subst (λ b. IsHostAndPort (unbracketed e.host) e.port b) (ap (λ l. get_or l 0 a) (sym one ∙ begins)) host) same
@@ -59,6 +59,7 @@ first_of e first rest all was is (all_looked_up none f) begins =
     looked_up none (record {
       found = f.found;
       more = f.more;
+      gave = f.gave;
       choice = record { one = at.one; first = chosen_first f.found ∙ at.first_one; at = at.at };
     })
 
@@ -85,7 +86,7 @@ all_at_more asked xs ys zs i d y lt all at is =
     (subst (λ l. AreAt asked l (ys ++ y ∷ [])) (sym (take_more xs i d lt)) (AllZip-push (IsAt asked) (take i xs) ys (get_or xs i d) y all at))
 
 -- the one address of a host that spells it
-pub are_spelled : (e : HostAndPort) (all : List SocketAddr) (was is : List (List SocketAddr)) (a : SocketAddr) (ip : IpAddr)
+pub are_spelled : (e : HostAndPort) (all : List SocketAddr) (was is : List FoundState) (a : SocketAddr) (ip : IpAddr)
     → all ≡ a ∷ [] → socket_ip a ≡ ip → socket_port a ≡ e.port → socket_flowinfo a ≡ 0 → socket_scope_id a ≡ 0 → IsIpText (unbracketed e.host) ip → is ≡ was
     → AreAddressesOf e all was is
 are_spelled e all was is a ip one same port flowinfo scope text none =

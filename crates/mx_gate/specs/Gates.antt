@@ -7,13 +7,18 @@ use Rattle.mx_gate.specs.Said.{Said}
 use Rattle.mx_gate.specs.declared.gate.Turn.{Turn}
 use Rattle.mx_gate.specs.declared.gate.Turn.TheVariants as turn
 
--- The latest moment given, the token of the next link, whether the last turn saw the flag set, what each lookup found, each address that
--- was dialled, and all that was said.
+-- a host, and all that one lookup of it found
+pub record FoundState : Type 0 where
+  pub host : List ℕ
+  pub addresses : List SocketAddr
+
+-- The latest moment given, the token of the next link, whether the last turn saw the flag set, what each lookup found and of which host, each
+-- address that was dialled, and all that was said.
 pub record SocketGateState : Type 0 where
   pub latest : ℕ
   pub next_token : ℕ
   pub is_stopped : Bool
-  pub found : List (List SocketAddr)
+  pub found : List FoundState
   pub dialled : List SocketAddr
   pub said : List Said
 

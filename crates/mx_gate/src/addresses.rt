@@ -7,51 +7,52 @@ ghost use Rattle.mx_names.specs.Addresses.{in_order, is_lookup_code};
 ghost use Rattle.mx_names.specs.Hosts.{unbracketed};
 ghost use Rattle.mx_gate.specs.Dials.{IsAt, AreAt, AreFound, AreAddressesOf};
 
-use mx_names::{in_order, lookup_code, spelled, unbracketed};
+use mx_names::{Addresses, Lookup, SystemLookup, in_order, spelled, unbracketed};
 use mx_request::Endpoint;
 use mx_types::{Code, History, OutOfMemory};
 use std::alloc::{AllocGlobal, Global};
 use std::marker::Model;
-use std::net::{Net, SocketAddr, ToSocketAddrs};
+use std::net::{Net, SocketAddr};
 use std::snapshot::Snapshot;
 
-/// The addresses that a lookup found, for contracts alone.
+/// A host that was looked up, and the addresses that its lookup found, for contracts alone.
 #[derive(Drop)]
 pub struct Found {
-    addresses: Snapshot<Vec<SocketAddr>>,
+    endpoint: Snapshot<Endpoint>,
+    addresses: Snapshot<Addresses>,
 }
 
 impl Model for Found {
-    ghost use Rattle.std.specs.Prelude.{List, vec_items};
-    ghost use Rattle.std.specs.declared.net.SocketAddr.{SocketAddr as Address};
+    ghost use Rattle.mx_names.specs.Hosts.{unbracketed};
+    ghost use Rattle.mx_gate.specs.Gates.{FoundState};
 
-    ghost Value = { List Address };
+    ghost Value = { FoundState };
 
-    ghost view = { λ f. vec_items f.addresses.value };
+    ghost view = { λ f. record { host = unbracketed f.endpoint.value.host; addresses = f.addresses.value } };
 }
 
-// The addresses that the lookup of a name gives, which are noted.
-fn look_up<R: Net + AllocGlobal>(
-    rt: &R,
-    name: &str,
-    port: u16,
+// rule gate-own-addresses
+// The addresses that the lookup of the endpoint's host gives, which are noted with the host.
+fn look_up<L: Lookup>(
+    lookup: &L,
+    endpoint: &Endpoint,
     found: &mut History<Found>,
-) -> Result<Vec<SocketAddr>, Code>
-    ensures found { IfOk result (λ addresses. found.new ≡ found.old ++ vec_items addresses ∷ []) }
+) -> Result<Addresses, Code>
+    ensures gives { L.gives (unbracketed endpoint.now.host) result }
+    ensures found { IfOk result (λ addresses. found.new ≡ found.old ++ record { host = unbracketed endpoint.now.host; addresses = addresses } ∷ []) }
     ensures none { OnErr result (found.new ≡ found.old) }
     ensures code { IfErr result (λ code. is_lookup_code code ≡ true) }
 {
-    let answer = match (name, port).to_socket_addrs(rt) {
-        Ok(answer) => answer,
-        Err(error) => return Err(lookup_code(&error)),
-    };
-    let Ok(addresses) = answer.collect::<Vec<SocketAddr>>(rt.alloc()) else {
-        return Err(Code::OutOfMemory);
-    };
-    found.note(Found {
-        addresses: Snapshot::of(&addresses),
-    });
-    Ok(addresses)
+    match lookup.look_up(unbracketed(endpoint.host.as_str())) {
+        Ok(addresses) => {
+            found.note(Found {
+                endpoint: Snapshot::of(endpoint),
+                addresses: Snapshot::of(&addresses),
+            });
+            Ok(addresses)
+        }
+        Err(code) => Err(code),
+    }
 }
 
 // rule gate-first-address
@@ -92,19 +93,19 @@ fn order_at(
     Ok(all)
 }
 
-// What the lookup of a name gives, in the order of dialling, at this port.
-fn find<R: Net + AllocGlobal>(
-    rt: &R,
-    name: &str,
-    port: u16,
+// What the lookup of the endpoint's host gives, in the order of dialling, at its port.
+fn find<L: Lookup>(
+    lookup: &L,
+    alloc: Global,
+    endpoint: &Endpoint,
     found: &mut History<Found>,
 ) -> Result<Vec<SocketAddr>, Code>
-    ensures found { IfOk result (λ all. AreFound found.old found.new port all.items) }
+    ensures found { IfOk result (λ all. AreFound L.gives (unbracketed endpoint.now.host) found.old found.new endpoint.now.port all.items) }
     ensures some { IfOk result (λ all. 0 < length all.items) }
     ensures code { IfErr result (λ code. is_lookup_code code ≡ true) }
 {
-    let addresses = look_up(rt, name, port, found)?;
-    let Ok(all) = order_at(rt.alloc(), addresses.as_slice(), port) else {
+    let addresses = look_up(lookup, endpoint, found)?;
+    let Ok(all) = order_at(alloc, addresses.as_slice(), endpoint.port) else {
         return Err(Code::OutOfMemory);
     };
     if all.is_empty() {
@@ -127,11 +128,10 @@ fn only(alloc: Global, address: SocketAddr) -> Result<Vec<SocketAddr>, Code>
 
 // rule gate-spelled-address
 /// The addresses of an endpoint, at least one, in the order in which they are dialled. A host that spells an address has that one, and
-/// isn't looked up; of any other they are all that the lookup of its name gives, which are added to those found, the IPv4 ones first.
+/// isn't looked up; of any other they are all that the system's lookup of it gives, the IPv4 ones first, and are added to those found, with
+/// the host.
 ///
 /// `CouldntResolveHost` comes where the lookup fails or gives nothing, `OutOfMemory` where memory is refused.
-///
-/// No clause says that the addresses that are added to `found` are what the system answered for this name.
 pub fn addresses_of<R: Net + AllocGlobal>(
     rt: &R,
     endpoint: &Endpoint,
@@ -149,7 +149,7 @@ pub fn addresses_of<R: Net + AllocGlobal>(
             Ok(all) => Ok(all),
             Err(code) => Err(code),
         },
-        None => match find(rt, host, endpoint.port, found) {
+        None => match find(&SystemLookup::new(rt), rt.alloc(), endpoint, found) {
             Ok(all) => Ok(all),
             Err(code) => Err(code),
         },

@@ -9,7 +9,7 @@ use Rattle.mx_names.specs.Names.{Gives, IsTrueOf, SpellsNone}
 use Rattle.mx_names.specs.declared.answer.HostAnswer.{HostAnswer}
 use Rattle.mx_names.specs.declared.answer.HostAnswer.TheVariants as answers
 use Rattle.mx_gate.specs.Said.{Said}
-use Rattle.mx_gate.specs.Gates.{SocketGateState}
+use Rattle.mx_gate.specs.Gates.{FoundState, SocketGateState}
 use Rattle.mx_gate.specs.Dials.{AreAt, AreAddressesOf}
 
 -- What contracts see of it: the gate that opens its links, and all that was said.
@@ -28,7 +28,7 @@ pub record IsToldOf (gives : Gives) (host : List ℕ) (answer : HostAnswer) : Ty
   pub looked_up : SpellsNone (unbracketed host) → IsTrueOf gives (unbracketed host) answer
 
 -- The addresses of a link to an endpoint, where `was` is what the gate's own lookups before found, and `is` what all have since.
-pub data AreOf (gives : Gives) (endpoint : HostAndPort) (addresses : List SocketAddr) (was is : List (List SocketAddr)) : Type 0 where
+pub data AreOf (gives : Gives) (endpoint : HostAndPort) (addresses : List SocketAddr) (was is : List FoundState) : Type 0 where
   -- those of the resolver's answer on the host, at the port; nothing is looked up
   told : (some : List SocketAddr) → IsToldOf gives endpoint.host (answers.Known some) → AreAt endpoint.port some addresses → is ≡ was
       → AreOf gives endpoint addresses was is

@@ -1,3 +1,4 @@
 pub mod Tables
 pub mod Orders
 pub mod BracketLemmas
+mod GivenLemmas

@@ -2,4 +2,5 @@ pub mod Addresses
 pub mod Faults
 pub mod Laws
 pub mod Names
+pub mod System
 pub mod Hosts
