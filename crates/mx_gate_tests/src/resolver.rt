@@ -2,7 +2,7 @@
 
 use crate::fakes::{Hanging, Seen, lookup, says};
 use mx_names::{Resolver, Ring};
-use mx_types::OutOfMemory;
+use mx_types::{History, OutOfMemory};
 use std::alloc::{AllocError, AllocGlobal};
 use std::rt::Clock;
 use std::sync::atomic::Ordering;
@@ -29,7 +29,7 @@ fn tells<R: Threads + Clock + Wait + AllocGlobal + Copy + Send + Sync + Drop + '
     host: &str,
     expected: &[u64],
 ) -> Option<bool> {
-    let answer = resolver.ask(rt, host, 0, 0);
+    let answer = resolver.ask(rt, host, 0, 0, &mut History::new());
     let told = if says(&answer, &[]) {
         None
     } else {
@@ -82,7 +82,7 @@ fn ask<R: Threads + Clock + Wait + AllocGlobal + Copy + Send + Sync + Drop + 'st
     resolver: &Resolver<Hanging<R>, Count>,
     host: &str,
 ) {
-    let answer = resolver.ask(rt, host, 0, 0);
+    let answer = resolver.ask(rt, host, 0, 0, &mut History::new());
     drop(answer);
 }
 

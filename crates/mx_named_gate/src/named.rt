@@ -171,7 +171,8 @@ impl<'r, R: Net + Clock + AllocGlobal + Wait, L: Lookup> NamedGate<'r, R, L> {
     {
         let now = self.gate.latest();
         let since = self.waiting.since(host).unwrap_or(now);
-        self.resolver.look(self.rt, host, since, now)
+        self.resolver
+            .look(self.rt, host, since, now, &mut History::new())
     }
 
     // The resolver's answer on the host: the last one that it gave, if that was on this host.

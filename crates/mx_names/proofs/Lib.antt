@@ -1,4 +1,6 @@
 pub mod Tables
 pub mod Orders
 pub mod BracketLemmas
+mod AskedLemmas
 mod GivenLemmas
+mod LawLemmas

@@ -3,4 +3,5 @@ pub mod Faults
 pub mod Laws
 pub mod Names
 pub mod System
+pub mod Asked
 pub mod Hosts

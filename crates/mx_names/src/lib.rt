@@ -3,6 +3,7 @@
 
 mod addresses;
 mod answer;
+mod asked;
 mod entry;
 mod faults;
 mod finding;
@@ -15,6 +16,7 @@ mod system;
 
 pub use crate::addresses::{Addresses, in_order};
 pub use crate::answer::HostAnswer;
+pub use crate::asked::Asked;
 pub use crate::entry::Learnt;
 pub use crate::faults::{fault_code, lookup_code};
 pub use crate::finding::Finding;

@@ -5,6 +5,7 @@ ghost use Rattle.std.specs.Option.{option_map};
 ghost use Rattle.mx_names.specs.Names.{IsTable, IsTrueOf, SpellsNone, Learns, HasNone, told, may_begin, begun, is_of, is_open, is_under_way, stays};
 
 use crate::answer::HostAnswer;
+use crate::asked::Asked;
 use crate::entry::Entry;
 use crate::finding::Finding;
 use crate::lookup::Lookup;
@@ -91,6 +92,13 @@ impl<L: Lookup> Names<L> {
         ensures table { IsTable L.gives self.now }
     {
         count(self.entries.as_slice())
+    }
+
+    // What is known now, to one who asks since a moment.
+    pub(crate) fn asked(&self, since: u64, now: u64) -> Asked
+        ensures { result ≡ record { since = since; now = now; known = self.now } }
+    {
+        Asked::of(&self.entries, since, now)
     }
 
     // What is known of the host.

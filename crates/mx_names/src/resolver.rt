@@ -1,17 +1,20 @@
 //! Lookups on threads of their own.
-ghost use Rattle.std.specs.Prelude.{◌≡◌, IfOk};
+ghost use Rattle.std.specs.Prelude.{◌≡◌, ◌≤◌, List, IfOk};
+ghost use Rattle.std.specs.List.{find};
 ghost use Rattle.std.specs.declared.net.IpAddr.{IpAddr as Ip};
 ghost use Rattle.std.specs.Net.Grammar.{IsIpText};
 ghost use Rattle.mx_names.specs.Hosts.{unbracketed, IsAddress, IsSpelled};
-ghost use Rattle.mx_names.specs.Names.{IsTrueOf, SpellsNone};
+ghost use Rattle.mx_names.specs.Names.{HostState, IsTrueOf, SpellsNone, told, may_begin, is_of};
+ghost use Rattle.mx_names.specs.Asked.{AsksOf, IsAsked, HasLookupCode};
 
 use crate::addresses::Addresses;
 use crate::answer::HostAnswer;
+use crate::asked::Asked;
 use crate::finding::Finding;
 use crate::hosts::{spelled, unbracketed};
 use crate::lookup::Lookup;
 use crate::names::Names;
-use mx_types::{Code, OutOfMemory};
+use mx_types::{Code, History, OutOfMemory};
 use std::alloc::{AllocGlobal, Global};
 use std::net::{IpAddr, SocketAddr};
 use std::rt::Clock;
@@ -59,7 +62,9 @@ impl<L: Lookup + Drop, B: Drop> Drop for Resolver<L, B> {
 }
 
 // The moment, in milliseconds since the start, and none before the one given.
-fn moment(rt: &impl Clock, start: Instant, least: u64) -> u64 {
+fn moment(rt: &impl Clock, start: Instant, least: u64) -> u64
+    ensures { least ≤ result }
+{
     match start.elapsed(rt) {
         Ok(passed) => u64::try_from(passed.as_millis())
             .unwrap_or(u64::MAX)
@@ -70,7 +75,8 @@ fn moment(rt: &impl Clock, start: Instant, least: u64) -> u64 {
 
 // A host that spells this address.
 fn ask_address<R: AllocGlobal>(rt: &R, ip: IpAddr) -> HostAnswer
-    ensures { IsAddress ip result }
+    ensures is { IsAddress ip result }
+    ensures code { HasLookupCode result }
 {
     match Addresses::one(rt.alloc(), SocketAddr::new(ip, 0)) {
         Ok(addresses) => HostAnswer::Known(addresses),
@@ -111,11 +117,15 @@ impl<L: Lookup, B> Shared<L, B> {
         name: &str,
         since: u64,
         now: u64,
+        asked: &mut History<Asked>,
     ) -> Result<(HostAnswer, bool), OutOfMemory>
         requires { SpellsNone name.now }
-        ensures { IfOk result (λ r. IsTrueOf L.gives name.now r.0) }
+        ensures true_of { IfOk result (λ r. IsTrueOf L.gives name.now r.0) }
+        ensures asks { (known : List HostState) × AsksOf since now known asked.old asked.new
+            × IfOk result (λ r. (r.0 ≡ told since now (find (is_of name.now) known)) × (r.1 ≡ may_begin name.now since now known)) }
     {
         let mut names = self.names.lock(rt);
+        asked.note(names.asked(since, now));
         let answer = names.ask(rt.alloc(), name, since, now)?;
         let begins = names.begin(rt.alloc(), name, since, now)?;
         Ok((answer, begins))
@@ -136,11 +146,14 @@ impl<L: Lookup, B> Shared<L, B> {
         name: &str,
         since: u64,
         now: u64,
+        asked: &mut History<Asked>,
     ) -> Result<HostAnswer, OutOfMemory>
         requires { SpellsNone name.now }
-        ensures { IfOk result (IsTrueOf L.gives name.now) }
+        ensures true_of { IfOk result (IsTrueOf L.gives name.now) }
+        ensures asks { (known : List HostState) × AsksOf since now known asked.old asked.new
+            × IfOk result (λ answer. answer ≡ told since now (find (is_of name.now) known)) }
     {
-        let (answer, begins) = self.look(rt, name, since, now)?;
+        let (answer, begins) = self.look(rt, name, since, now, asked)?;
         if begins && self.want(rt, name, now).is_err() {
             self.names.lock(rt).forget(name);
             return Err(OutOfMemory);
@@ -148,17 +161,21 @@ impl<L: Lookup, B> Shared<L, B> {
         Ok(answer)
     }
 
+    #[tactic(auto, using(crate::proofs::AskedLemmas::answered, crate::proofs::AskedLemmas::without_memory, crate::proofs::AskedLemmas::true_code))]
     fn ask_name<R: Wait + AllocGlobal>(
         &self,
         rt: &R,
         name: &str,
         since: u64,
         now: u64,
+        asked: &mut History<Asked>,
     ) -> HostAnswer
         requires { SpellsNone name.now }
-        ensures { IsTrueOf L.gives name.now result }
+        ensures true_of { IsTrueOf L.gives name.now result }
+        ensures asks { IsAsked name.now since now result asked.old asked.new }
+        ensures code { HasLookupCode result }
     {
-        match self.try_name(rt, name, since, now) {
+        match self.try_name(rt, name, since, now, asked) {
             Ok(answer) => answer,
             Err(_) => HostAnswer::Failed(Code::OutOfMemory),
         }
@@ -170,7 +187,7 @@ impl<L: Lookup, B> Resolver<L, B> {
     /// What is known of the host now, to one who asks since a moment. Where nothing is known of a name, a lookup of it is wanted from then
     /// on, unless one of it is under way or 64 others are. `start_wanted` begins it, and so does `serve`, which waits for that. On `NotYet`
     /// the caller asks again, with the same `since`, when the bell is rung. A host that spells an address, in brackets or not, is that
-    /// address and isn't looked up.
+    /// address and isn't looked up. What the table was asked is added to `asked`.
     ///
     /// Returns `Failed(OutOfMemory)` where memory is refused, too. It starts no thread and waits for no lookup.
     pub fn look<R: Wait + AllocGlobal>(
@@ -179,14 +196,18 @@ impl<L: Lookup, B> Resolver<L, B> {
         host: &str,
         since: u64,
         now: u64,
+        asked: &mut History<Asked>,
     ) -> HostAnswer
         ensures spelled { (ip : Ip) → IsIpText (unbracketed host.now) ip → IsSpelled (unbracketed host.now) result }
         ensures looked_up { SpellsNone (unbracketed host.now) → IsTrueOf L.gives (unbracketed host.now) result }
+        ensures asks { SpellsNone (unbracketed host.now) → IsAsked (unbracketed host.now) since now result asked.old asked.new }
+        ensures unasked { (ip : Ip) → IsIpText (unbracketed host.now) ip → asked.new ≡ asked.old }
+        ensures code { HasLookupCode result }
     {
         let name = unbracketed(host);
         match spelled(name) {
             Some(ip) => ask_address(rt, ip),
-            None => self.shared.ask_name(rt, name, since, now),
+            None => self.shared.ask_name(rt, name, since, now, asked),
         }
     }
 
@@ -286,11 +307,15 @@ impl<L: Lookup + Send + Sync + Drop + 'static, B: Ring + Send + Sync + Drop + 's
         host: &str,
         since: u64,
         now: u64,
+        asked: &mut History<Asked>,
     ) -> HostAnswer
         ensures spelled { (ip : Ip) → IsIpText (unbracketed host.now) ip → IsSpelled (unbracketed host.now) result }
         ensures looked_up { SpellsNone (unbracketed host.now) → IsTrueOf L.gives (unbracketed host.now) result }
+        ensures asks { SpellsNone (unbracketed host.now) → IsAsked (unbracketed host.now) since now result asked.old asked.new }
+        ensures unasked { (ip : Ip) → IsIpText (unbracketed host.now) ip → asked.new ≡ asked.old }
+        ensures code { HasLookupCode result }
     {
-        let answer = self.look(rt, host, since, now);
+        let answer = self.look(rt, host, since, now, asked);
         self.start_wanted(rt);
         answer
     }
