@@ -24,7 +24,7 @@ use Rattle.mx_journal.specs.Receipts.{is_poll, mark, IsPlaced}
 use Rattle.mx_journal.specs.Laws.{HasAtMostOneMore}
 use Rattle.mx_history.proofs.Lists.{same-refl}
 use Rattle.mx_history.proofs.Placing.{call_adds_at_most_one, call_is_placed, placed_stays}
-use Rattle.mx_board.specs.Board.{ReaderState, Reads, caught_up, confirmed_of}
+use Rattle.mx_board.specs.Board.{OneBeginsOther, ReaderState, Reads, caught_up, confirmed_of}
 use Rattle.mx_board.specs.Progress.{NoteState}
 use Rattle.mx_append_log.proofs.Prefixes.{prefix_self, prefix_trans, takes_prefix}
 use Rattle.mx_lock.specs.Engine.{EngineState, EngineId, content, HasNoOther, IsLocked, Leaves, IsLeft}
@@ -36,6 +36,7 @@ use Rattle.mx_types.specs.declared.names.HandleId.{HandleId}
 use Rattle.mx_types.specs.declared.origin.Origin.{Origin}
 use Rattle.mx_lock.specs.declared.key_view.KeyView.{KeyView}
 use Rattle.mx_append_log.specs.Log.{AreOfOneList}
+use Rattle.mx_lock.specs.Queues.{Moved}
 use Rattle.mx_lock.specs.Ties.{Tie, tie, Has, Tells}
 use Rattle.mx_multi.specs.Laws.{AreToldAlike}
 use Rattle.mx_lock.proofs.Tying.{has_more}
@@ -413,8 +414,8 @@ pub received_released : {Q O : Type 0} (v u : KeyView) (r : ReaderState) (of of'
 received_released v u r of of' p n k m back same h =
     record { placed = subst (λ (e : EngineId). IsPlaced e.opening r.who m r.seen) (sym same) h.placed; polled = ap (λ (e : EngineId). mark e.opening.from m) same ∙ h.polled }
 
-pub left_from : {Q O : Type 0} (code : O → Code) (size : O → ℕ) (old s t : SeatView Q O) (reply : Reply) → old ≡ s → LeavesState code size old t reply → LeavesState code size s t reply
-left_from {Q} {O} code size old s t reply e h = subst (λ (z : SeatView Q O). LeavesState code size z t reply) e h
+pub left_from : {Q O : Type 0} (code : O → Code) (size : O → ℕ) (old s t : SeatView Q O) (reply : Reply) (moved : Moved Q O) → old ≡ s → LeavesState code size old t reply moved → LeavesState code size s t reply moved
+left_from {Q} {O} code size old s t reply moved e h = subst (λ (z : SeatView Q O). LeavesState code size z t reply moved) e h
 
 -- what was told of a list is told of each continuation
 pub tells_on : (xs ys : List Origin) (o : Option Tie) → IsPrefix xs ys → Tells o xs → Tells o ys
@@ -423,6 +424,12 @@ tells_on xs ys (Some x) p h = has_more xs ys x.ticket x.origin p h
 
 same_origin : (xs : List Origin) (t : Ticket) (a b : Origin) → Has xs (tie t a) → Has xs (tie t b) → a ≡ b
 same_origin xs t a b h k = ap (λ (o : Option Origin). unwrap_or o a) (sym h ∙ k)
+
+-- two seats all of whose events are confirmed
+pub whole_begins : (xs ys : List Event) (n m : ℕ) → OneBeginsOther (take n xs) (take m ys) → n ≡ length xs → m ≡ length ys → OneBeginsOther xs ys
+whole_begins xs ys n m h e f =
+    subst (λ l. OneBeginsOther l ys) (ap (λ k. take k xs) e ∙ take_all (length xs) xs (omega arith))
+    (subst (OneBeginsOther (take n xs)) (ap (λ k. take k ys) f ∙ take_all (length ys) ys (omega arith)) h)
 
 pub told_alike : (xs ys : List Origin) → AreOfOneList xs ys → AreToldAlike xs ys
 told_alike xs ys (inl p) t a b h k = same_origin ys t a b (has_more xs ys t a p h) k

@@ -24,6 +24,7 @@ use Rattle.mx_board.specs.Board.{ReaderState, ConfirmsAllButLast}
 use Rattle.mx_board.specs.Progress.{NoteState}
 use Rattle.mx_lock.specs.Engine.{EngineState, EngineId, IsLocked, content}
 use Rattle.mx_lock.specs.Lock.{maker, engine_of}
+use Rattle.mx_lock.specs.Queues.{Moved, LeavesWork}
 use Rattle.mx_lock.specs.declared.key_view.KeyView.{KeyView}
 use Rattle.mx_multi.specs.declared.open.Limits.{Limits}
 
@@ -174,9 +175,10 @@ pub record FindsNoneReady {Q O : Type 0} (code : O → Code) (size : O → ℕ) 
   pub none : is_ready s.polled found.core.journal ≡ false
 
 -- A call of a seat left the engine so, with this reply: it found a state whose journal begins with what the seat had seen, and left one
--- with the journal that the seat has then seen. Where the call came with no event, queue and endings are as they were. An end that isn't
--- refused memory spends its claim.
-pub record LeavesState {Q O : Type 0} (code : O → Code) (size : O → ℕ) (s t : SeatView Q O) (reply : Reply) : Type 0 where
+-- with the journal that the seat has then seen. Work left the queue only where it runs no more, and an ending only where it was read or
+-- its message was removed; what the call added or recorded comes last. Where the call came with no event, queue and endings are as they
+-- were. An end that isn't refused memory spends its claim.
+pub record LeavesState {Q O : Type 0} (code : O → Code) (size : O → ℕ) (s t : SeatView Q O) (reply : Reply) (moved : Moved Q O) : Type 0 where
   pub found : EngineState Q O
   pub engine : (content found).engine ≡ s.of.engine
   pub begins : Finds s found.core.journal
@@ -184,6 +186,7 @@ pub record LeavesState {Q O : Type 0} (code : O → Code) (size : O → ℕ) (s 
   pub after : EngineState Q O
   pub left : FoundState code size t after
   pub out : after.core.out ≡ out_after reply found.core.out
+  pub work : LeavesWork moved found.core after.core
   pub unchanged : comes_with_event reply ≡ false → after.core ≡ with_out (out_after reply found.core.out) found.core
 
 -- rule multi-least-ticket: A claim takes the work of the least ticket in the queue.

@@ -130,7 +130,7 @@ impl<Q: Work + Drop, O: Ending + Drop> Multi<Q, O> {
         ensures stands { MatchResult result (λ r. Stands seat.old seat.new (D.call deed) (D.reply r)) (λ w. (seat.new ≡ seat.old) × (w.0 ≡ deed)) }
         ensures back { IfOk result (λ r. D.back deed r) }
         ensures tells { IfOk result (λ r. Tells (D.tie deed r) seat.new.ties) }
-        ensures left { IfOk result (λ r. LeavesState O.code_of O.size_of seat.old seat.new (D.reply r)) }
+        ensures left { IfOk result (λ r. LeavesState O.code_of O.size_of seat.old seat.new (D.reply r) (D.moved deed r)) }
         ensures confirmed { OnOk result (seat.new.confirmed ≡ length seat.new.seen) }
         ensures right { OnErr result (FindsOther O.code_of O.size_of seat.old) }
     {
@@ -224,11 +224,13 @@ impl<Q: Work + Drop, O: Ending + Drop> Multi<Q, O> {
     }
 
     /// What two seats have seen are prefixes of one journal, but for the last event of each, which only a read may have shown; and of their
-    /// confirmed events one list is a prefix of the other.
+    /// confirmed events one list is a prefix of the other. Where all that both have seen is confirmed, as it is after an answered call under
+    /// the lock, that is true of all of it.
     pub fn are_of_one_journal<J, K>(&self, one: &SeatOf<J, Q, O>, two: &SeatOf<K, Q, O>)
         requires own { (one.now.of ≡ self.now) × (two.now.of ≡ self.now) }
         ensures seen { AreOfOneJournal one.now.seen two.now.seen }
         ensures confirmed { OneBeginsOther (take one.now.confirmed one.now.seen) (take two.now.confirmed two.now.seen) }
+        ensures whole { one.now.confirmed ≡ length one.now.seen → two.now.confirmed ≡ length two.now.seen → OneBeginsOther one.now.seen two.now.seen }
     {
         are_of_one_journal(&one.reader, &two.reader)
     }

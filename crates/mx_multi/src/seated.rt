@@ -7,8 +7,11 @@ ghost use Rattle.mx_journal.specs.History.{has_ticket, running};
 ghost use Rattle.mx_journal.specs.Answers.{handle_of};
 ghost use Rattle.mx_journal.specs.Slots.{slot_of};
 ghost use Rattle.mx_journal.specs.Replies.{IsGivenBack, is_back, handed_back, work_back, IsHandedBack, reply_of_add, reply_of_finish, reply_of_info, reply_of_pause, reply_of_remove, reply_of_wakeup};
+ghost use Rattle.mx_lock.specs.Queues.{moves_added, moves_none, moves_read, moves_recorded};
 ghost use Rattle.mx_lock.specs.Ties.{Has, Tells, tie, tie_added, tie_read};
-ghost use Rattle.mx_multi.specs.Laws.{RanScript};
+ghost use Rattle.mx_append_log.specs.Log.{AreOfOneList};
+ghost use Rattle.mx_board.specs.Board.{AreOfOneJournal, OneBeginsOther};
+ghost use Rattle.mx_multi.specs.Laws.{AreToldAlike, RanScript};
 ghost use Rattle.mx_multi.specs.Progress.{IsProgress, noted_by};
 ghost use Rattle.mx_multi.specs.Seats.{FindsNoneReady, FindsOther, MeetsOther, HasReceipts, Stands, Sees, SeesVersion, GivesBack, ClaimsLeast, ClaimsNothing, LeavesState, given_with};
 
@@ -89,6 +92,25 @@ impl<'m, K, Q: Work + Drop, O: Ending + Drop> Seated<'m, K, Q, O> {
     {
         self.seat.is_placed()
     }
+
+    /// What this seat and another of its multi handle have seen are prefixes of one journal, as `Multi::are_of_one_journal` has it.
+    pub fn are_of_one_journal<J>(&self, other: &Seated<'_, J, Q, O>)
+        requires own { other.now.of ≡ self.now.of }
+        ensures seen { AreOfOneJournal self.now.seen other.now.seen }
+        ensures confirmed { OneBeginsOther (take self.now.confirmed self.now.seen) (take other.now.confirmed other.now.seen) }
+        ensures whole { self.now.confirmed ≡ length self.now.seen → other.now.confirmed ≡ length other.now.seen → OneBeginsOther self.now.seen other.now.seen }
+    {
+        self.multi.are_of_one_journal(&self.seat, &other.seat)
+    }
+
+    /// What this seat and another of its multi handle were told of requests is of one list, as `Multi::are_told_alike` has it.
+    pub fn are_told_alike<J>(&self, other: &Seated<'_, J, Q, O>)
+        requires own { other.now.of ≡ self.now.of }
+        ensures list { AreOfOneList self.now.ties other.now.ties }
+        ensures alike { AreToldAlike self.now.ties other.now.ties }
+    {
+        self.multi.are_told_alike(&self.seat, &other.seat)
+    }
 }
 
 impl<'m, K, Q: Work + Drop, O: Ending + Drop> Seated<'m, K, Q, O> {
@@ -101,7 +123,7 @@ impl<'m, K, Q: Work + Drop, O: Ending + Drop> Seated<'m, K, Q, O> {
         requires claim { D.own deed self.old.of.engine.ties }
         ensures stands { MatchResult result (λ r. Stands self.old self.new (D.call deed) (D.reply r)) (λ _. self.new ≡ self.old) }
         ensures tells { IfOk result (λ r. Tells (D.tie deed r) self.new.ties) }
-        ensures left { IfOk result (λ r. LeavesState O.code_of O.size_of self.old self.new (D.reply r)) }
+        ensures left { IfOk result (λ r. LeavesState O.code_of O.size_of self.old self.new (D.reply r) (D.moved deed r)) }
         ensures confirmed { OnOk result (self.new.confirmed ≡ length self.new.seen) }
         ensures right { OnErr result (FindsOther O.code_of O.size_of self.old) }
     {
@@ -170,7 +192,7 @@ impl<'m, Q: Work + Drop, O: Ending + Drop> Seated<'m, Application, Q, O> {
         ensures stands { MatchResult result (λ r. Stands self.old self.new (Call.Add handle) (reply_of_add r)) (λ w. (self.new ≡ self.old) × (w.0 ≡ work)) }
         ensures back { IfOk result (λ r. handed_back r ≡ work_back r work) }
         ensures tells { IfOk result (λ r. Tells (tie_added r (Q.origin work)) self.new.ties) }
-        ensures left { IfOk result (λ r. LeavesState O.code_of O.size_of self.old self.new (reply_of_add r)) }
+        ensures left { IfOk result (λ r. LeavesState O.code_of O.size_of self.old self.new (reply_of_add r) (moves_added r work)) }
         ensures confirmed { OnOk result (self.new.confirmed ≡ length self.new.seen) }
         ensures right { OnErr result (FindsOther O.code_of O.size_of self.old) }
     {
@@ -192,7 +214,7 @@ impl<'m, Q: Work + Drop, O: Ending + Drop> Seated<'m, Application, Q, O> {
         handle: HandleId,
     ) -> Result<RemoveReply, WrongSeat<()>>
         ensures stands { MatchResult result (λ r. Stands self.old self.new (Call.Remove handle) (reply_of_remove r)) (λ _. self.new ≡ self.old) }
-        ensures left { IfOk result (λ r. LeavesState O.code_of O.size_of self.old self.new (reply_of_remove r)) }
+        ensures left { IfOk result (λ r. LeavesState O.code_of O.size_of self.old self.new (reply_of_remove r) moves_none) }
         ensures confirmed { OnOk result (self.new.confirmed ≡ length self.new.seen) }
         ensures right { OnErr result (FindsOther O.code_of O.size_of self.old) }
     {
@@ -207,7 +229,7 @@ impl<'m, Q: Work + Drop, O: Ending + Drop> Seated<'m, Application, Q, O> {
     /// paused), `HistoryFull`, `OutOfMemory`.
     pub fn pause<R: Wait>(&mut self, rt: &R, handle: HandleId) -> Result<PauseReply, WrongSeat<()>>
         ensures stands { MatchResult result (λ r. Stands self.old self.new (Call.Pause handle) (reply_of_pause r)) (λ _. self.new ≡ self.old) }
-        ensures left { IfOk result (λ r. LeavesState O.code_of O.size_of self.old self.new (reply_of_pause r)) }
+        ensures left { IfOk result (λ r. LeavesState O.code_of O.size_of self.old self.new (reply_of_pause r) moves_none) }
         ensures confirmed { OnOk result (self.new.confirmed ≡ length self.new.seen) }
         ensures right { OnErr result (FindsOther O.code_of O.size_of self.old) }
     {
@@ -225,7 +247,7 @@ impl<'m, Q: Work + Drop, O: Ending + Drop> Seated<'m, Application, Q, O> {
         handle: HandleId,
     ) -> Result<PauseReply, WrongSeat<()>>
         ensures stands { MatchResult result (λ r. Stands self.old self.new (Call.Unpause handle) (reply_of_pause r)) (λ _. self.new ≡ self.old) }
-        ensures left { IfOk result (λ r. LeavesState O.code_of O.size_of self.old self.new (reply_of_pause r)) }
+        ensures left { IfOk result (λ r. LeavesState O.code_of O.size_of self.old self.new (reply_of_pause r) moves_none) }
         ensures confirmed { OnOk result (self.new.confirmed ≡ length self.new.seen) }
         ensures right { OnErr result (FindsOther O.code_of O.size_of self.old) }
     {
@@ -241,7 +263,7 @@ impl<'m, Q: Work + Drop, O: Ending + Drop> Seated<'m, Application, Q, O> {
     pub fn info_read<R: Wait>(&mut self, rt: &R) -> Result<InfoReply<O>, WrongSeat<()>>
         ensures stands { MatchResult result (λ r. Stands self.old self.new Call.InfoRead (reply_of_info O.code_of O.size_of r)) (λ _. self.new ≡ self.old) }
         ensures tells { IfOk result (λ r. Tells (tie_read O.origin r) self.new.ties) }
-        ensures left { IfOk result (λ r. LeavesState O.code_of O.size_of self.old self.new (reply_of_info O.code_of O.size_of r)) }
+        ensures left { IfOk result (λ r. LeavesState O.code_of O.size_of self.old self.new (reply_of_info O.code_of O.size_of r) (moves_read r)) }
         ensures confirmed { OnOk result (self.new.confirmed ≡ length self.new.seen) }
         ensures right { OnErr result (FindsOther O.code_of O.size_of self.old) }
     {
@@ -255,7 +277,7 @@ impl<'m, Q: Work + Drop, O: Ending + Drop> Seated<'m, Application, Q, O> {
     /// The first that applies, in this order, as for `add`: `WrongSeat`, `Failure` (the history has no room), `OutOfMemory`.
     pub fn wakeup<R: Wait>(&mut self, rt: &R) -> Result<WakeupReply, WrongSeat<()>>
         ensures stands { MatchResult result (λ r. Stands self.old self.new Call.Wakeup (reply_of_wakeup r)) (λ _. self.new ≡ self.old) }
-        ensures left { IfOk result (λ r. LeavesState O.code_of O.size_of self.old self.new (reply_of_wakeup r)) }
+        ensures left { IfOk result (λ r. LeavesState O.code_of O.size_of self.old self.new (reply_of_wakeup r) moves_none) }
         ensures confirmed { OnOk result (self.new.confirmed ≡ length self.new.seen) }
         ensures right { OnErr result (FindsOther O.code_of O.size_of self.old) }
     {
@@ -557,7 +579,7 @@ impl<'m, Q: Work + Drop, O: Ending + Drop> Seated<'m, AtWork, Q, O> {
         requires origin { O.origin ending ≡ claim.origin }
         ensures stands { MatchResult result (λ r. Stands self.old self.new (Call.Finish claim.ticket (O.code_of ending) (O.size_of ending)) (reply_of_finish r)) (λ w. (self.new ≡ self.old) × (w.0 ≡ (claim, ending))) }
         ensures back { IfOk result (λ r. IsHandedBack claim ending r) }
-        ensures left { IfOk result (λ r. LeavesState O.code_of O.size_of self.old self.new (reply_of_finish r)) }
+        ensures left { IfOk result (λ r. LeavesState O.code_of O.size_of self.old self.new (reply_of_finish r) (moves_recorded r claim.ticket ending)) }
         ensures confirmed { OnOk result (self.new.confirmed ≡ length self.new.seen) }
         ensures right { OnErr result (FindsOther O.code_of O.size_of self.old) }
     {

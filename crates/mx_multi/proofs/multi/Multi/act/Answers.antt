@@ -65,7 +65,7 @@ returns-clause-left g c =
     let x = c.in-Ok.taken in
     let y = c.run-taken.result.0 in
     let leaves = c.run-taken.ensures.leaves in
-    left_from g.O.Ending.code_of g.O.Ending.size_of _ _ _ _ c.seat.view_is
+    left_from g.O.Ending.code_of g.O.Ending.size_of _ _ _ _ _ c.seat.view_is
     (record {
       found = x;
       engine = sym took.engine;
@@ -75,6 +75,7 @@ returns-clause-left g c =
       left = found_left _ _ c.seat.inside.reader x c.seat.invariant.0 took g.O.Ending.code_of g.O.Ending.size_of _ y leaves.book leaves.opening leaves.ties (sym (ap (λ (t : ReaderState). t.seen) c.leave.ensures.reader))
           (engine_kept _ _ c.seat.inside.reader x c.seat.invariant.0 took _ y c.leave.ensures.gave) (locked_as _ _ _ _ c.engine-left.ensures c.know-left.ensures.locked);
       out = leaves.out;
+      work = c.run-taken.ensures.work;
       unchanged = leaves.unchanged;
     })
 
