@@ -1,7 +1,8 @@
 #!/usr/bin/env bash
-# Whether each source and proof is in the layout of `rt fmt`, which `rt ci` asks for, and each statement that is for the prover alone has a
-# comment `// proof: ..` over it (docs/CONTRIBUTING.md). It changes nothing, names each file and line that isn't so, and ends with 1 where
-# there is one, else with 0. Takes some seconds. It needs the Rattle toolchain and python3.
+# Whether each source and proof is in the layout of `rt fmt`, which `rt ci` asks for, each statement that is for the prover alone has a
+# comment `// proof: ..` over it (docs/CONTRIBUTING.md), and the callers that show that contracts suffice have no proof files. It changes
+# nothing, names each file and line that isn't so, and ends with 1 where there is one, else with 0. Takes some seconds. It needs the Rattle
+# toolchain and python3.
 #
 # Use: checks/layout.sh
 set -eu
@@ -11,6 +12,8 @@ rt=$(command -v rt) || { echo 'layout: there is no rt, which comes with the Ratt
 find crates -name out -prune -o \( -name '*.rt' -o -name '*.antt' \) -print0 |
   xargs -0 "$(dirname "$(readlink -f "$rt")")/rattle" fmt --check ||
   { echo 'layout: run rt fmt in the folders of these crates'; exit 1; }
+! ls -d crates/{mx_message_tests,mx_two}/proofs 2> /dev/null | grep . ||
+  { echo 'layout: these callers are to be proved without proof files'; exit 1; }
 python3 -B - <<'PYTHON'
 import glob, re, sys
 
