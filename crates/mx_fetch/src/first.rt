@@ -1,5 +1,5 @@
 //! The multi handles of a run, one after another.
-ghost use Rattle.std.specs.Prelude.{◌≡◌, ◌≢◌, true, List, Option, Err, IfOk, IfSome, Ok, OnOk, min, vec_len};
+ghost use Rattle.std.specs.Prelude.{◌≡◌, ◌≢◌, true, List, Option, Err, IfOk, Ok, OnOk, min, vec_len};
 ghost use Rattle.mx_multi.specs.Opening.{are_within};
 ghost use Rattle.mx_request.specs.Request.{RequestValue};
 ghost use Rattle.mx_fetch.specs.Handles.{IsBack};
@@ -57,24 +57,6 @@ fn refused<E: Fetch + Drop, G>(first: First<E, G>, stop: Stop) -> First<E, G>
     first
 }
 
-// Fetches at the desk that is there.
-fn fetch_at<'m, L: Link, R: Wait + AllocGlobal + Clock, E: Fetch + Drop>(
-    rt: &R,
-    crew: &Crew,
-    second: &mut Second<'m, L, E>,
-    patience: Option<u32>,
-) -> Result<Turned, Stop>
-    requires { IfSome second.old.desk (λ d. E.is_asked second.old.errand.value d.asked) }
-    ensures run { E.is_same second.old.errand.value second.new.errand.value }
-    ensures turned { IfOk result (E.has_turned second.new.errand.value) }
-    ensures asked { OnOk result (IfSome second.new.desk (λ d. E.is_asked second.new.errand.value d.asked)) }
-{
-    match &mut second.desk {
-        Some(desk) => second.errand.fetch(rt, crew, desk, patience),
-        None => Err(Stop::NoMessage),
-    }
-}
-
 // How the run turned once it came back from second multi handles: where there was none it waits at its desk until all has ended there.
 fn after_seconds<'m, L: Link, R: Wait + AllocGlobal + Clock, E: Fetch + Drop>(
     rt: &R,
@@ -85,13 +67,21 @@ fn after_seconds<'m, L: Link, R: Wait + AllocGlobal + Clock, E: Fetch + Drop>(
     ensures run { E.is_same second.entry.errand.value result.0.value }
     ensures turned { IfOk result.1 (E.has_turned result.0.value) }
 {
-    let mut second = second;
-    let turned = second.turned;
-    let turned = match turned {
-        Some(turned) => turned,
-        None => fetch_at(rt, crew, &mut second, None),
+    let Second {
+        mut desk,
+        mut errand,
+        turned,
+    } = second;
+    if let Some(turned) = turned {
+        drop(desk);
+        return (errand, turned);
+    }
+    let turned = match &mut desk {
+        Some(desk) => errand.fetch(rt, crew, desk, None),
+        None => Err(Stop::NoMessage),
     };
-    (second.into_errand(), turned)
+    drop(desk);
+    (errand, turned)
 }
 
 // rule get-width
@@ -112,25 +102,27 @@ fn fetch_first<
     ensures turned { IfOk result.turned (E.has_turned result.errand.value) }
 {
     let First {
-        errand,
+        mut errand,
         spare,
         room,
         turned: _,
     } = first;
-    let mut second = Second {
-        desk: Some(desk),
-        errand,
-        turned: None,
-    };
-    let turned = fetch_at(rt, crew, &mut second, Some(PATIENCE_MS));
+    let mut desk = desk;
+    let turned = errand.fetch(rt, crew, &mut desk, Some(PATIENCE_MS));
     if !matches!(turned, Ok(Turned::Held)) {
+        drop(desk);
         return First {
-            errand: second.into_errand(),
+            errand,
             spare,
             room,
             turned,
         };
     }
+    let second = Second {
+        desk: Some(desk),
+        errand,
+        turned: None,
+    };
     let (second, spare) = fetch_seconds(rt, spare, room.limits, second);
     let (errand, turned) = after_seconds(rt, crew, second);
     First {

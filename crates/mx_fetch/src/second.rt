@@ -1,5 +1,6 @@
 //! A second multi handle, beside one that is held up.
-ghost use Rattle.std.specs.Prelude.{◌≡◌, true, IfSome, Some};
+ghost use Rattle.std.specs.Prelude.{◌≡◌, true, IfSome, None, Some};
+ghost use Rattle.std.proofs.Common.{subst, sym};
 ghost use Rattle.mx_multi.specs.Opening.{are_within};
 ghost use Rattle.mx_fetch.specs.Handles.{IsBack};
 
@@ -24,48 +25,24 @@ use std::thread::Threads;
 
 /// What a run has with it at a second multi handle: its desk, whose first seat is at the first one, and how it came back from there, where
 /// it was there. The desk isn't left where the run stopped with something added at the second one.
+#[derive(Drop)]
 pub(crate) struct Second<'e, L: Link, E> {
     pub desk: Option<Desk<'e, 'e, L>>,
     pub errand: Box<E>,
     pub turned: Option<Result<Turned, Stop>>,
 }
 
-// Written out, and not derived: what hands one on cites its proof.
-impl<'e, L: Link, E: Drop> Drop for Second<'e, L, E> {
-    fn drop(self) {
-        let Second {
-            desk,
-            errand,
-            turned: _,
-        } = self;
-        drop(desk);
-        drop(errand);
-    }
-}
-
-impl<'e, L: Link, E: Drop> Second<'e, L, E> {
-    /// What is left once the desk is dropped.
-    pub fn into_errand(self) -> Box<E>
-        ensures { result ≡ self.entry.errand }
-    {
-        let Second {
-            desk,
-            errand,
-            turned: _,
-        } = self;
-        drop(desk);
-        errand
-    }
-}
-
 /// What fetches at a seat that it is given. It is a type parameter to what runs a crew beside it, so that the closure there captures and
 /// gives back no lifetime: the prover doesn't come to the end of such a closure's contract.
 trait FetchAt<L: Link> {
-    /// It may be given a seat, or none.
+    /// It may be given a seat.
     ghost is_ready: { Self → Type 0 };
 
     /// It is so after it was given a seat, or none.
     ghost is_back: { Self → Self → Type 0 };
+
+    /// Where there is no seat for it, it is back as it was.
+    ghost unseated: { (x : Self) → is_ready x → is_back x x };
 
     /// Fetches at this seat, which it takes out of its place. It may wait.
     fn fetch_at<R: Wait + AllocGlobal + Clock>(
@@ -74,11 +51,6 @@ trait FetchAt<L: Link> {
         crew: &Crew,
         seat: &mut Option<Seated<'_, Application, Queued<L>, Outcome>>,
     )
-        requires { is_ready self.old }
-        ensures { is_back self.old self.new };
-
-    /// There is no seat for it.
-    fn refuse(&mut self)
         requires { is_ready self.old }
         ensures { is_back self.old self.new };
 }
@@ -105,9 +77,12 @@ fn fetch_two<'e, 'm, L: Link, R: Wait + AllocGlobal + Clock, E: Fetch + Drop>(
 }
 
 impl<'e, L: Link, E: Fetch + Drop> FetchAt<L> for Second<'e, L, E> {
-    ghost is_ready = { λ s. IfSome s.desk (λ d. E.is_asked s.errand.value d.asked) };
+    // It has not been there, and is the same run as itself: so it is back where it couldn't be there.
+    ghost is_ready = { λ s. (s.turned ≡ None) × (E.is_same s.errand.value s.errand.value × IfSome s.desk (λ d. E.is_asked s.errand.value d.asked)) };
 
     ghost is_back = { λ s t. E.is_same s.errand.value t.errand.value × IsBack (E.is_asked t.errand.value) (E.has_turned t.errand.value) t.desk t.turned };
+
+    ghost unseated = { λ s ready. (ready.1.0, subst (IsBack (E.is_asked s.errand.value) (E.has_turned s.errand.value) s.desk) (sym ready.0) ready.1.1) };
 
     // Fetches with this seat beside the first one, where there is a desk.
     fn fetch_at<R: Wait + AllocGlobal + Clock>(
@@ -116,7 +91,6 @@ impl<'e, L: Link, E: Fetch + Drop> FetchAt<L> for Second<'e, L, E> {
         crew: &Crew,
         seat: &mut Option<Seated<'_, Application, Queued<L>, Outcome>>,
     ) {
-        self.turned = None;
         let Some(seat) = seat.take() else {
             return;
         };
@@ -126,10 +100,6 @@ impl<'e, L: Link, E: Fetch + Drop> FetchAt<L> for Second<'e, L, E> {
         let (desk, turned) = fetch_two(rt, crew, desk, seat, &mut *self.errand);
         drop(mem::replace(&mut self.desk, desk));
         self.turned = Some(turned);
-    }
-
-    fn refuse(&mut self) {
-        self.turned = None;
     }
 }
 
@@ -166,21 +136,24 @@ fn fetch_opened<
                     ensures { F.is_back fetcher result }
                 {
                     let mut fetcher = fetcher;
-                    let mut seat = Some(seat);
                     match stands {
-                        Ok(()) => fetcher.fetch_at(rt, crew, &mut seat),
-                        Err(_) => fetcher.refuse(),
+                        Ok(()) => {
+                            let mut seat = Some(seat);
+                            fetcher.fetch_at(rt, crew, &mut seat);
+                            drop(seat);
+                            fetcher
+                        }
+                        Err(_) => {
+                            drop(seat);
+                            fetcher
+                        }
                     }
-                    drop(seat);
-                    fetcher
                 },
             );
             multi.close(rt);
             fetched
         }
         Err(_) => {
-            let mut fetcher = fetcher;
-            fetcher.refuse();
             drop(gates);
             (fetcher, Err(Stop::OutOfMemory))
         }
@@ -232,8 +205,8 @@ pub(crate) fn fetch_seconds<
 {
     let (mut spare, mut second) = (spare, second);
     for _ in rt.forever() {
+        second.turned = None;
         let Some(gates) = spare else {
-            second.turned = None;
             return (second, None);
         };
         (second, spare) = fetch_once(rt, gates, limits, second);
