@@ -53,6 +53,25 @@ passed_grows wire before n p le h =
       scanned = scanned_stays b.rest more p.scan h.scanned;
     }
 
+-- the heads that have passed still have when more bytes come
+pub passed_more : (front more : List ℕ) (p : Passed) → HavePassed front p → HavePassed (front ++ more) p
+passed_more front more p h =
+    let b = h.behind in
+    record {
+      behind = record {
+        interim = b.interim;
+        rest = b.rest ++ more;
+        stands = head_stands (front ++ more) front more b.interim b.rest refl b.stands;
+        start_is = b.start_is;
+        passed_is = b.passed_is;
+      };
+      scanned = scanned_stays b.rest more p.scan h.scanned;
+    }
+
+-- before the first head, whatever the bytes
+pub passed_none : (text : List ℕ) (p : Passed) → HavePassed [] p → HavePassed text p
+passed_none text p h = passed_more [] text p h
+
 pub passed_whole : (wire : List ℕ) (n : ℕ) (p : Passed) → n ≤ length wire → HavePassed (take n wire) p → HavePassed wire p
 passed_whole wire n p le h = subst (λ (t : List ℕ). HavePassed t p) (take_all (length wire) wire (omega arith)) (passed_grows wire n (length wire) p le h)
 

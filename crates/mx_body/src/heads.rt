@@ -1,6 +1,6 @@
 //! The final head of a response, after its interim heads.
 
-ghost use Rattle.std.specs.Prelude.{◌≡◌, ◌≤◌, ◌+◌, ◌↔◌, IsTrue, [], length, take, slice_range};
+ghost use Rattle.std.specs.Prelude.{◌≡◌, ◌≤◌, ◌+◌, ◌++◌, ◌↔◌, IsTrue, IfOk, OnErr, [], length, take, slice_range};
 ghost use Rattle.mx_head.specs.Reading.{IsStepOn};
 ghost use Rattle.mx_body.specs.Decision.{HasHeads};
 ghost use Rattle.mx_body.specs.Response.{IsInterimStatus};
@@ -8,14 +8,16 @@ ghost use Rattle.mx_body.specs.Steps.{IsBehind, HavePassed, IsNextOn, IsFinalSte
 
 use crate::limits::MOST_INTERIM;
 use mx_head::{Head, HeadScan, HeadStep, read_head, read_head_on};
-use mx_types::Code;
+use mx_types::{Code, OutOfMemory};
+use std::alloc::Global;
+use std::marker::Model;
 
 /// The status that would leave HTTP: no head with it is passed over (RFC 9110, section 15.2.2).
 const SWITCHING_PROTOCOLS: u16 = 101;
 
 /// The result of the heads at the front of the bytes.
 #[derive(Clone, Copy)]
-pub(crate) enum FinalStep {
+pub enum FinalStep {
     /// The final head, and where it ends in the bytes.
     Head { head: Head, end: usize },
     /// It has not come yet.
@@ -155,5 +157,70 @@ pub fn heads_len(text: &[u8]) -> usize
     match final_head(text) {
         FinalStep::Head { head: _, end } => end,
         _ => 0,
+    }
+}
+
+/// The heads of a response, which are fed in pieces and owned. Contracts see the bytes.
+#[derive(Drop)]
+pub struct Heads {
+    bytes: Vec<u8>,
+    passed: Passed,
+}
+
+impl Model for Heads {
+    ghost use Rattle.std.specs.Prelude.{ℕ, List};
+    ghost use Rattle.mx_body.specs.Steps.{HavePassed};
+
+    ghost Value = { List ℕ };
+
+    ghost view = { λ h. h.bytes.items };
+
+    ghost invariant = { λ h. HavePassed h.bytes.items h.passed };
+}
+
+impl Heads {
+    /// No bytes yet. It takes no memory.
+    pub fn new(alloc: Global) -> Heads
+        ensures { result ≡ [] }
+    {
+        Heads {
+            bytes: Vec::new(alloc),
+            passed: Passed::new(),
+        }
+    }
+
+    /// Takes the next bytes of the response: the result of all of them, however they were cut.
+    ///
+    /// `OutOfMemory` leaves the heads as they were.
+    pub fn read(&mut self, piece: &[u8]) -> Result<FinalStep, OutOfMemory>
+        ensures bytes { IfOk result (λ _. self.new ≡ self.old ++ piece.now) }
+        ensures step { IfOk result (IsFinalStepOn self.new) }
+        ensures refused { OnErr result (self.new ≡ self.old) }
+    {
+        self.bytes.extend_from_slice(piece)?;
+        let step = final_head_from(self.bytes.as_slice(), &mut self.passed);
+        Ok(step)
+    }
+
+    /// Forgets the bytes from `len` on.
+    pub fn truncate(&mut self, len: usize)
+        ensures { self.new ≡ take len self.old }
+    {
+        self.bytes.truncate(len);
+        self.passed = Passed::new();
+    }
+
+    /// The bytes.
+    pub fn as_slice(&self) -> &[u8]
+        ensures { result.now ≡ self.now }
+    {
+        self.bytes.as_slice()
+    }
+
+    /// The bytes, by move.
+    pub fn into_bytes(self) -> Vec<u8>
+        ensures { result.items ≡ self }
+    {
+        self.bytes
     }
 }

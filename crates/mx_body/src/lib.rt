@@ -16,8 +16,9 @@ mod verdict;
 mod whole;
 
 pub use crate::decoder::{Decoder, Stand};
-pub use crate::heads::heads_len;
+pub use crate::heads::{FinalStep, Heads, heads_len};
 pub use crate::limits::{MOST_BYTES, MOST_INTERIM};
 pub use crate::part::Part;
+pub use crate::progress::place_of;
 pub use crate::verdict::Verdict;
 pub use crate::whole::decode_whole;

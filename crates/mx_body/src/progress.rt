@@ -100,8 +100,9 @@ impl Progress {
     }
 }
 
-/// Where the location of a head is that ends at `at`.
-fn place_of(head: &Head, at: usize, wire: &[u8]) -> Option<Part>
+/// Where in the bytes the value of the first Location line of the final head is (RFC 9110, section 10.2.2), which ends at `at`; `None` where
+/// that is empty, or there is no such line. It takes no memory.
+pub fn place_of(head: &Head, at: usize, wire: &[u8]) -> Option<Part>
     requires { HasHeadAt wire.now head.now at }
     ensures { result ≡ place_at head.now at }
 {
