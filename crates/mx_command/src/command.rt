@@ -6,13 +6,13 @@ ghost use Rattle.mx_command.specs.Asked.{IsTask, IsAsked};
 ghost use Rattle.mx_command.specs.Given.{AreOptionsOf, IsGetOf, IsGiven};
 
 use crate::asked::{Asked, Get};
-use crate::options::{METHODS, OptionRow, Takes, with_options};
+use crate::options::{OptionRow, Takes, method_arg, url_arg, with_options};
 use crate::save::options::save_command;
 use crate::save::read::read_save;
 use crate::task::Task;
 use crate::{given, help};
 use clap::error::ErrorKind;
-use clap::{Arg, ArgAction, ArgMatches, Command, Error};
+use clap::{Arg, ArgMatches, Command, Error};
 use mx_run_io::Options;
 use mx_types::{LEAST_HISTORY, MOST_HISTORY, Method};
 use std::alloc::{AllocError, Global};
@@ -83,13 +83,9 @@ fn body_command<'a>(alloc: Global) -> Result<Command<'a>, AllocError> {
         .about(help::BODY)
         .long_about(help::LONG_BODY)
         .after_help(help::MORE_BODY);
-    with_options(alloc, command, &BODY)?.arg(
-        Arg::new(alloc, "METHOD")
-            .required(true)
-            .value_parser(METHODS.as_slice())
-            .hide_possible_values(true)
-            .help("The request's method: GET, HEAD, POST, PUT, DELETE or OPTIONS"),
-    )
+    with_options(alloc, command, &BODY)?.arg(method_arg(Arg::new(alloc, "METHOD").required(
+        true,
+    )).help("The request's method: GET, HEAD, POST, PUT, DELETE or OPTIONS"))
 }
 
 fn play_command<'a>(alloc: Global) -> Result<Command<'a>, AllocError> {
@@ -106,10 +102,8 @@ fn get_command<'a>(alloc: Global) -> Result<Command<'a>, AllocError> {
         .long_about(help::LONG_GET)
         .after_help(help::MORE_GET);
     with_options(alloc, command, &GET)?.arg(
-        Arg::new(alloc, "URL")
+        url_arg(alloc)
             .required(true)
-            .num_args(1..)
-            .action(ArgAction::Append)
             .help("What is fetched, by GET: 1 to 256 URLs of scheme http"),
     )
 }

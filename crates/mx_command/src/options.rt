@@ -2,8 +2,8 @@
 use clap::{Arg, ArgAction, Command, value_parser};
 use std::alloc::{AllocError, Global};
 
-/// The names of the methods.
-pub(crate) static METHODS: [&str; 6] = ["GET", "HEAD", "POST", "PUT", "DELETE", "OPTIONS"];
+// The names of the methods.
+static METHODS: [&str; 6] = ["GET", "HEAD", "POST", "PUT", "DELETE", "OPTIONS"];
 
 /// What an option takes, with the help's name of a text.
 #[derive(Clone, Copy)]
@@ -33,23 +33,39 @@ pub(crate) struct OptionRow {
     pub help: &'static str,
 }
 
+// An argument that takes nothing.
+fn flag_arg<'a>(arg: Arg<'a>) -> Arg<'a> {
+    arg.action(ArgAction::SetTrue)
+}
+
+// An argument that takes a number from the first to the second.
+fn number_arg<'a>(arg: Arg<'a>, least: u32, most: u32) -> Arg<'a> {
+    let numbers = value_parser!(u32).range(i64::from(least)..=i64::from(most));
+    arg.value_name("N").value_parser(numbers)
+}
+
+/// An argument that takes the name of a method.
+pub(crate) fn method_arg<'a>(arg: Arg<'a>) -> Arg<'a> {
+    arg.value_parser(METHODS.as_slice())
+        .hide_possible_values(true)
+}
+
+/// An argument that takes URLs, one or more.
+pub(crate) fn url_arg<'a>(alloc: Global) -> Arg<'a> {
+    Arg::new(alloc, "URL")
+        .num_args(1..)
+        .action(ArgAction::Append)
+}
+
 // An argument that takes this.
 fn taking<'a>(arg: Arg<'a>, takes: Takes) -> Result<Arg<'a>, AllocError> {
     match takes {
-        Takes::Nothing => Ok(arg.action(ArgAction::SetTrue)),
-        Takes::NothingBeside(other) => arg.action(ArgAction::SetTrue).conflicts_with(other),
+        Takes::Nothing => Ok(flag_arg(arg)),
+        Takes::NothingBeside(other) => flag_arg(arg).conflicts_with(other),
         Takes::Word(value) => Ok(arg.value_name(value)),
         Takes::Text(value) => Ok(arg.value_name(value).allow_hyphen_values(true)),
-        Takes::Number(least, most) => Ok(
-            arg.value_name("N").value_parser(value_parser!(u32).range(
-                i64::from(least)..=i64::from(most),
-            )),
-        ),
-        Takes::Method => Ok(
-            arg.value_name("M")
-                .value_parser(METHODS.as_slice())
-                .hide_possible_values(true),
-        ),
+        Takes::Number(least, most) => Ok(number_arg(arg, least, most)),
+        Takes::Method => Ok(method_arg(arg.value_name("M"))),
     }
 }
 

@@ -1,5 +1,5 @@
 //! The options of `save`.
-use crate::options::{OptionRow, Takes, with_arg, with_options};
+use crate::options::{OptionRow, Takes, url_arg, with_arg, with_options};
 use crate::save::help;
 use clap::{Arg, ArgAction, Command};
 use mx_types::{LEAST_HISTORY, MOST_HISTORY};
@@ -127,9 +127,7 @@ fn header<'a>(alloc: Global) -> Result<Arg<'a>, AllocError> {
 }
 
 fn urls<'a>(alloc: Global) -> Result<Arg<'a>, AllocError> {
-    Arg::new(alloc, "URL")
-        .num_args(1..)
-        .action(ArgAction::Append)
+    url_arg(alloc)
         .help("What is saved: URLs of scheme http")
         .required_unless_present("input")
 }
