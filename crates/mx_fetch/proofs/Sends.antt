@@ -1,5 +1,5 @@
--- A link of a socket gate, and a gate of a crew, may go to another thread where threads may share their runtime. `search` doesn't look into
--- them from a call's type, so each step is here.
+-- A link of a socket gate may go to another thread where threads may share their runtime. `search` doesn't look into it from a call's
+-- type, so each step is here.
 use denote.RattleType.{RattleType}
 use denote.Ref.{NamedLft}
 use denote.Param.Send.{IsSend, IsSync, sendable}
@@ -8,15 +8,10 @@ use Rattle.mx_link.specs.declared.links.Link as link
 use Rattle.mx_link.specs.declared.streams.Stream as stream
 use Rattle.mx_link.specs.contracts.sockets.TcpSocket as TcpSocket
 use Rattle.mx_link.specs.contracts.streams.StreamLink as StreamLink
-use Rattle.mx_names.specs.declared.lookup.Lookup as lookup
 use Rattle.mx_gate.specs.declared.dialling.Dial as dial
 use Rattle.mx_gate.specs.contracts.dialling.DialLink as DialLink
 use Rattle.mx_gate.specs.contracts.ready.ReadyLink as ReadyLink
 use Rattle.mx_gate.specs.contracts.sockets.SocketDial as SocketDial
-use Rattle.mx_named_gate.specs.contracts.named.NamedGate as NamedGate
-use Rattle.mx_named_gate.proofs.Sends.{named_send}
-use Rattle.mx_named_gate.specs.contracts.paced.PacedGate as PacedGate
-use Rattle.mx_named_gate.proofs.PacedSends.{paced_send}
 
 tcp_send : (g : stream.Ghosts TcpSocket.the_row.Denot) → IsSend (StreamLink.the_row TcpSocket.the_row g)
 tcp_send g = search (sendable, crosses) depth 40 fits 20000
@@ -38,6 +33,3 @@ pub link_send : (x : NamedLft) (R : RattleType) (s : stream.Ghosts TcpSocket.the
 link_send x R s d l r y =
     ready_send (DialLink.the_row (SocketDial.the_row x R) (StreamLink.the_row TcpSocket.the_row s) d l) r
     (dial_send (SocketDial.the_row x R) (StreamLink.the_row TcpSocket.the_row s) d l (socket_dial_send x R y) (tcp_send s))
-
-pub gate_send : (x : NamedLft) (R L : RattleType) (g : lookup.Ghosts L.Denot) → IsSync R → IsSend L → IsSync L → IsSend (PacedGate.the_row (NamedGate.the_row x R L g))
-gate_send x R L g r s y = paced_send (NamedGate.the_row x R L g) (named_send x R L g r s y)

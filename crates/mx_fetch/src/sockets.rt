@@ -12,6 +12,7 @@ use crate::turned::Turned;
 use mx_crew::{Crew, Runtime};
 use mx_gate::Gate;
 use mx_link::Link;
+use mx_named_gate::PacedGate;
 use mx_run_io::Stop;
 use std::alloc::AllocGlobal;
 use std::net::{Net, TcpListener, TcpStream};
@@ -94,6 +95,28 @@ fn fetch_at_gates<L: Link + Send, R: Runtime, G: Gate<Link = L> + Send + Drop, E
     }
 }
 
+// The same, at gates that open a few links at a time. What calls it with gates over sockets knows nothing of how they do so: it takes the
+// prover half as much to compare the methods of such gates where those of `PacedGate` aren't around them.
+fn fetch_at_paced<R: Runtime, N: Gate + Send + Drop, E: Fetch + Drop>(
+    rt: &R,
+    crew: &Crew,
+    gates: Vec<PacedGate<N>>,
+    spare: Option<Spare<PacedGate<N>>>,
+    room: Room,
+    errand: Box<E>,
+) -> FetchEnd<E>
+where
+    N::Link: Send,
+    requires within { are_within room.limits ≡ true }
+    requires one { room.limits.seats ≡ 1 }
+    requires gates { vec_len gates ≡ room.limits.workers }
+    requires asked { (asked : List (Option RequestValue)) → E.is_asked errand.value asked }
+    ensures run { E.is_same errand.value result.errand.value }
+    ensures ended { OnOk result.stopped (E.has_turned result.errand.value how.AllEnded) }
+{
+    fetch_at_gates(rt, crew, gates, spare, room, errand)
+}
+
 // Fetches with workers over sockets that this crew wakes and stops. It owns no crew, so its exits drop none.
 fn fetch_by<R: Runtime + Net<Listener = TcpListener, Stream = TcpStream>, E: Fetch + Drop>(
     rt: &R,
@@ -112,7 +135,7 @@ fn fetch_by<R: Runtime + Net<Listener = TcpListener, Stream = TcpStream>, E: Fet
     match crew.gates(rt, start, room.limits.workers) {
         Ok(gates) => {
             let spare = made(rt, start, room, may_fill);
-            fetch_at_gates(rt, crew, gates, spare, room, errand)
+            fetch_at_paced(rt, crew, gates, spare, room, errand)
         }
         Err(stop) => unbegun(errand, stop),
     }
