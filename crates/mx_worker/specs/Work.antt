@@ -1,5 +1,5 @@
 -- What a worker did with its seat.
-use Rattle.std.specs.Prelude.{◌≡◌, ◌⊎◌, ℕ, ◌-◌, ◌^◌, min, List, [], ◌∷◌, ◌++◌, length, map, filter_map, Option, Some, None, Result, Ok, Err}
+use Rattle.std.specs.Prelude.{◌≡◌, ◌⊎◌, ℕ, ◌-◌, ◌^◌, min, List, [], ◌∷◌, ◌++◌, All, length, map, filter_map, Option, Some, None, Result, Ok, Err}
 use Rattle.mx_types.specs.declared.code.Code.{Code}
 use Rattle.mx_types.specs.declared.names.Ticket.{Ticket}
 use Rattle.mx_types.specs.declared.call.Call.{Call}
@@ -17,9 +17,11 @@ use Rattle.mx_journal.specs.declared.replies.GiveBackReply.TheVariants as giving
 use Rattle.mx_lock.specs.Ties.{TiedClaimed}
 use Rattle.mx_board.specs.declared.note.Note.{Note}
 use Rattle.mx_board.specs.Progress.{note, word_of}
-use Rattle.mx_multi.specs.Seats.{SeatView, Later, FindsOther}
+use Rattle.mx_journal.specs.Slots.{slot_of}
+use Rattle.mx_multi.specs.Seats.{SeatView, Later, FindsOther, ClaimsLeast}
 use Rattle.mx_gate.specs.Said.{Said}
-use Rattle.mx_turn.specs.Workers.{Deed, looks, notes, finishes, Finish, recorded, stale, lacking, unseated, Return, returned, ended_before, unreturned, Worker, starts, IsOver}
+use Rattle.mx_transfer.specs.Transfers.{TransferState}
+use Rattle.mx_turn.specs.Workers.{Deed, Held, claims, looks, notes, finishes, Finish, recorded, stale, lacking, unseated, Return, returned, ended_before, unreturned, Worker, starts, IsOver}
 use Rattle.mx_turn.specs.Turn.{Runs}
 use Rattle.mx_worker_turns.specs.WorkerSteps.{EndView, HeldView}
 use Rattle.mx_turn.specs.Laws.{claimed_by, recorded_by, stale_by, given_back_by, unseated_by, AreAccounted}
@@ -48,6 +50,25 @@ abbrev pub noted_by_deed : {L : Type 0} → Deed L → Option Note
 noted_by_deed (notes t slot count) = Some (note slot (word_of t count))
 noted_by_deed _ = None
 
+-- the transfer that was claimed by it, as it was then held
+abbrev pub claimed_whole : {L : Type 0} → Deed L → Option (Held L)
+claimed_whole (claims held) = held
+claimed_whole _ = None
+
+-- rule worker-seat
+-- At some moment of what the seat did, from s to t, this transfer came first in the queue that was found in the lock, under the least ticket.
+-- It was claimed there, and held as it lay there, with its deadline, at the slot of its addition.
+pub record WasQueued {L : Type 0} (s t : SeatView (TransferState L) OutcomeValue) (h : Held L) : Type 0 where
+  pub seat : SeatView (TransferState L) OutcomeValue
+  pub before : List Receipt
+  pub since : Later s seat before
+  pub after : List Receipt
+  pub until : Later seat t after
+  pub work : TransferState L
+  pub claimed : ClaimsLeast code_of size_of seat h.ticket work
+  pub same : h.transfer ≡ work.chain
+  pub slot : slot_of h.ticket seat.seen ≡ Some h.slot
+
 -- at some moment of what the seat did, from s to t, the journal in the lock didn't begin with what the seat had seen by then
 pub record FoundOther {Q : Type 0} (s t : SeatView Q OutcomeValue) : Type 0 where
   pub seat : SeatView Q OutcomeValue
@@ -61,8 +82,8 @@ pub record FoundOther {Q : Type 0} (s t : SeatView Q OutcomeValue) : Type 0 wher
 --
 -- What the seat did, from s to t, is these deeds: its further receipts are those of the calls that were answered, in order; its further
 -- claims are what they claimed; likewise what it gave back and the words that it wrote. And nothing was lost for a seat of another handle,
--- unless the journal in the lock was found not to begin with what the seat had seen then.
-pub record IsDone {L Q : Type 0} (s t : SeatView Q OutcomeValue) (did : List (Deed L)) : Type 0 where
+-- unless the journal in the lock was found not to begin with what the seat had seen then. Each transfer that they claimed was queued so.
+pub record IsDone {L : Type 0} (s t : SeatView (TransferState L) OutcomeValue) (did : List (Deed L)) : Type 0 where
   pub more : List Receipt
   pub later : Later s t more
   pub answers : map (λ r. (r.call, r.reply)) more ≡ filter_map answered_by did
@@ -70,6 +91,7 @@ pub record IsDone {L Q : Type 0} (s t : SeatView Q OutcomeValue) (did : List (De
   pub given : t.given ≡ s.given ++ filter_map given_back_by did
   pub noted : t.words.noted ≡ s.words.noted ++ filter_map noted_by_deed did
   pub seated : (filter_map unseated_by did ≡ []) ⊎ FoundOther s t
+  pub queued : All (WasQueued s t) (filter_map claimed_whole did)
 
 -- how many they are, held at the greatest number of 32 bits
 abbrev pub held_count : List Ticket → ℕ
@@ -85,7 +107,7 @@ pub record AreCounted {L : Type 0} (did : List (Deed L)) (recorded_count stale_c
 
 -- A worker ran, with this seat and this gate, before and after: turn after turn, until it was told to stop and had nothing in flight. What
 -- the seat did is what the worker did in those turns, and what the gate said is what it said there. Each claim came to one end.
-pub record WorkerRan {L Q : Type 0} (history : L → List Answer) (token_of : L → ℕ) (s t : SeatView Q OutcomeValue) (was is : List Said) (recorded_count stale_count given_back_count : ℕ) : Type 0 where
+pub record WorkerRan {L : Type 0} (history : L → List Answer) (token_of : L → ℕ) (s t : SeatView (TransferState L) OutcomeValue) (was is : List Said) (recorded_count stale_count given_back_count : ℕ) : Type 0 where
   pub last : Worker L
   pub run : Runs history token_of (record (starts s.of.limits.max_connects) { said = was }) last
   pub over : IsOver last
@@ -130,8 +152,8 @@ return_of (Ok (giving.Stale _)) = ended_before
 return_of (Err _) = unreturned
 
 -- a claim and its transfer, as they are held
-abbrev pub AreHeld : {L X : Type 0} → Option (TiedClaimed × X) → Option (HeldView L) → Type 0
-AreHeld (Some (c, _)) (Some h) = (h.held.ticket ≡ c.ticket) × (h.of ≡ c.of)
+abbrev pub AreHeld : {L : Type 0} → Option (TiedClaimed × TransferState L) → Option (HeldView L) → Type 0
+AreHeld (Some (c, work)) (Some h) = (h.held ≡ record { ticket = c.ticket; slot = c.slot; transfer = work.chain }) × (h.of ≡ c.of)
 AreHeld None None = Unit {0}
 AreHeld _ _ = ⊥
 

@@ -44,6 +44,7 @@ pub fn run_worker<'m, L: Link, R: Wait + RandomSource + AllocGlobal, G: Gate<Lin
 ) -> WorkerEnd<'m, L>
     ensures ran { result.refused ≡ false → WorkerRan L.history L.token_of seat.entry result.seat (G.said gate.old) (G.said gate.new) result.recorded result.stale result.given_back }
     ensures refused { result.refused ≡ true → (result.seat ≡ seat.entry) × (G.said gate.new ≡ G.said gate.old) }
+    ensures none { result.refused ≡ true → (result.recorded ≡ 0) × (result.stale ≡ 0) × (result.given_back ≡ 0) }
 {
     let limit = seat.multi().max_connects();
     match run_at(rt, Tally::new(seat), limit, gate) {
