@@ -1,5 +1,5 @@
 -- What is added under numbers, and how many there are.
-use Rattle.std.proofs.Common.{◌≡◌, ◌∙◌, refl, ap, sym, subst, ℕ, ◌+◌, ◌-◌, ◌<◌, ◌≤◌, suc, zero, List, [], ◌∷◌, map, length, Bool, true, false, cond, unwrap_or, arith}
+use Rattle.std.proofs.Common.{◌≡◌, ◌⊎◌, inl, inr, ◌∙◌, refl, ap, sym, subst, ℕ, ◌+◌, ◌-◌, ◌<◌, ◌≤◌, suc, zero, List, [], ◌∷◌, map, length, Bool, true, false, cond, unwrap_or, arith}
 use Rattle.std.specs.Prelude.{◌==◌, All, Option, Some, None, count_by, is_some, slice_get, slice_set}
 use Rattle.std.proofs.lemmas.Bool.{and_parts, eqb-true, not-true}
 use Rattle.std.proofs.lemmas.List.Elements.{All-cons, All-head, All-nil, All-set, All-tail, All-weaker}
@@ -49,6 +49,23 @@ asked_there [] i o is = absurd (cc)
 asked_there (a ∷ xs) zero o is = let same : a ≡ o = cc in ap (λ p. Some (asked_at p)) same
 asked_there (a ∷ xs) (suc i) o is = asked_there xs i o is
 
+-- a number under which no request is added has no addition
+not_some : (o : Option AdditionView) → asked_at o ≡ None → o ≡ None
+not_some None is = refl
+not_some (Some a) is = absurd (cc)
+
+pub free_there : (xs : List (Option AdditionView)) (i : ℕ) → slice_get (map asked_at xs) i ≡ Some None → slice_get xs i ≡ Some None
+free_there [] i is = absurd (cc)
+free_there (a ∷ xs) zero is = let same : asked_at a ≡ None = cc in ap Some (not_some a same)
+free_there (a ∷ xs) (suc i) is = free_there xs i is
+
+-- why none is added under a number
+pub none_why : {A B C : Type 0} (xs items : List (Option AdditionView)) (i : ℕ) → xs ≡ items → (((slice_get xs i ≡ Some None → ⊥) ⊎ A) × B) ⊎ C
+    → (((slice_get (map asked_at items) i ≡ Some None → ⊥) ⊎ A) × B) ⊎ C
+none_why xs items i same (inr c) = inr c
+none_why xs items i same (inl (inr a, b)) = inl (inr a, b)
+none_why xs items i same (inl (inl taken, b)) = inl (inl (λ free. taken (ap (λ l. slice_get l i) same ∙ free_there items i free)), b)
+
 -- a number under which there is an addition or none is one of the numbers
 pub inside : (xs : List (Option AdditionView)) (i : ℕ) (o : Option AdditionView) → slice_get xs i ≡ Some o → i < length xs
 inside [] i o is = absurd (cc)
@@ -96,14 +113,30 @@ all_at ties (a ∷ xs) (suc i) o all is = all_at ties xs i o (All-tail (IsToldAt
 one_origin : (ties : List Origin) (t u : Ticket) (a b : Origin) → t.0 ≡ u.0 → Has ties (tie t a) → Has ties (tie u b) → a ≡ b
 one_origin ties t u a b same h k = ap (λ (o : Option Origin). unwrap_or o a) (sym h ∙ ap (slice_get ties) same ∙ k)
 
+-- an addition whose end came is the one that was there, of the request that has ended
+same_ticket : (t u : Ticket) → t.0 ≡ u.0 → t ≡ u
+same_ticket t u is = let T : ℕ → Ticket = λ n. record { 0 = n } in ap T is
+
+same_addition : (a : AdditionView) (t : Ticket) (b : Bool) (r : RequestValue) → a.ticket ≡ t → a.beside ≡ b → a.request ≡ r → a ≡ record { ticket = t; beside = b; request = r }
+same_addition a t b r ticket beside request =
+    ap (λ x. record { ticket = x; beside = a.beside; request = a.request }) ticket
+    ∙ ap (λ x. record { ticket = t; beside = x; request = a.request }) beside
+    ∙ ap (λ x. record { ticket = t; beside = b; request = x }) request
+
+pub added_same : OriginIsWholeRequest → (ties : SeatTies) (xs : List (Option AdditionView)) (i : ℕ) (t : Ticket) (b : Bool) (r : RequestValue) → IsRequest r
+    → Has (ties_at ties b) (tie t (request_origin r)) → All (IsToldAt ties) xs → awaits_at xs i t b ≡ true
+    → slice_get xs i ≡ Some (Some (record { ticket = t; beside = b; request = r }))
+added_same law ties xs i t b r is told all at =
+    let w = awaited xs i t b at in
+    let told_here = subst (λ l. IsTold l w.0) (ap (ties_at ties) w.3) (all_at ties xs i (Some w.0) all w.1) in
+    let request = law w.0.request r told_here.request is (one_origin (ties_at ties b) w.0.ticket t (request_origin w.0.request) (request_origin r) w.2 told_here.told told) in
+    w.1 ∙ ap (λ a. Some (Some a)) (same_addition w.0 t b r (same_ticket w.0.ticket t w.2) w.3 request)
+
 -- a request that has ended is the one that was added where its end was awaited
 pub asked_same : OriginIsWholeRequest → (ties : SeatTies) (xs : List (Option AdditionView)) (i : ℕ) (t : Ticket) (b : Bool) (r : RequestValue) → IsRequest r
     → Has (ties_at ties b) (tie t (request_origin r)) → All (IsToldAt ties) xs → awaits_at xs i t b ≡ true → slice_get (map asked_at xs) i ≡ Some (Some r)
 asked_same law ties xs i t b r is told all at =
-    let w = awaited xs i t b at in
-    let told_here = subst (λ l. IsTold l w.0) (ap (ties_at ties) w.3) (all_at ties xs i (Some w.0) all w.1) in
-    asked_there xs i (Some w.0) w.1
-    ∙ ap (λ q. Some (Some q)) (law w.0.request r told_here.request is (one_origin (ties_at ties b) w.0.ticket t (request_origin w.0.request) (request_origin r) w.2 told_here.told told))
+    asked_there xs i (Some (record { ticket = t; beside = b; request = r })) (added_same law ties xs i t b r is told all at)
 
 -- a desk whose seats were told more
 pub desk_on : (ties more : SeatTies) (xs : List (Option AdditionView)) (w n : ℕ) → AreLater ties more → IsDesk ties xs w n → IsDesk more xs w n

@@ -1,2 +1,3 @@
 pub mod Desks
+mod Reading
 mod Ties

@@ -1,3 +1,4 @@
 pub mod Additions
+pub mod Calls
 pub mod Desks
 pub mod Ties

@@ -1,10 +1,14 @@
 //! The requests that were added at a seat, or at two, and what they ended with.
-ghost use Rattle.std.specs.Prelude.{◌≡◌, ◌⊎◌, ◌<◌, false, All, count_by, length, slice_set, is_some, None, Some, IfErr, IfOk, IfSome, MatchOption, OnOk, slice_get, ◌↔◌, IsTrue, OnErr};
+ghost use Rattle.std.specs.Prelude.{◌≡◌, ◌⊎◌, ◌^◌, ◌<◌, ◌≤◌, false, All, count_by, length, slice_set, is_some, None, Some, IfErr, IfNone, IfOk, IfSome, MatchOption, OnOk, slice_get, ◌↔◌, IsTrue, OnErr};
+ghost use Rattle.mx_types.specs.declared.call.Call.{Call};
+ghost use Rattle.mx_types.specs.declared.reply.Reply.{Reply};
 ghost use Rattle.mx_request.specs.Request.{request_origin};
 ghost use Rattle.mx_lock.specs.Ties.{Has, tie};
 ghost use Rattle.mx_desk.specs.Additions.{AreAtFirst, IsTold, awaits_at};
+ghost use Rattle.mx_multi.specs.Seats.{Stands};
+ghost use Rattle.mx_desk.specs.Calls.{AtLast, IsRefused, handle_at};
 ghost use Rattle.mx_desk.specs.Desks.{HasRoom, IsNewDesk};
-ghost use Rattle.mx_desk.specs.Ties.{AreLater, ties_at};
+ghost use Rattle.mx_desk.specs.Ties.{AreLater, ties_at, ties_of};
 ghost use Rattle.mx_run_io.specs.declared.stop.Stop.TheVariants as stop;
 
 use crate::addition::Addition;
@@ -42,7 +46,7 @@ fn awaits(additions: &[Option<Addition>], at: usize, ticket: Ticket, is_beside: 
 
 // The handle of a number under which nothing is added, if there is that number.
 fn free_handle(additions: &[Option<Addition>], at: usize) -> Option<HandleId>
-    ensures { IfSome result (λ _. slice_get additions.now at ≡ Some None) }
+    ensures { MatchOption result ((slice_get additions.now at ≡ Some None → ⊥) ⊎ (2 ^ 32 ≤ at)) (λ handle. (slice_get additions.now at ≡ Some None) × (handle ≡ handle_at at)) }
 {
     let Some(None) = additions.get(at) else {
         return None;
@@ -100,9 +104,12 @@ fn add_at<L: Link, R: Wait + AllocGlobal>(
 ) -> Result<Option<Addition>, Stop>
     ensures free { IfOk result (λ o. IfSome o (λ _. slice_get additions.now at ≡ Some None)) }
     ensures request { IfOk result (λ o. IfSome o (λ a. a.request ≡ request)) }
-    ensures told { IfOk result (λ o. IfSome o (λ a. IsTold (ties_at seats.new a.beside) a)) }
+    ensures told { IfOk result (λ o. IfSome o (λ a. IsTold (ties_at (ties_of seats.new) a.beside) a)) }
+    ensures place { IfOk result (λ o. IfSome o (λ a. a.beside ≡ is_some seats.old.beside)) }
+    ensures stands { IfOk result (λ o. IfSome o (λ a. AtLast (λ s t. Stands s t (Call.Add (handle_at at)) (Reply.Added a.ticket)) seats.old seats.new)) }
+    ensures none { IfOk result (λ o. IfNone o ((((slice_get additions.now at ≡ Some None → ⊥) ⊎ (2 ^ 32 ≤ at)) × (seats.new ≡ seats.old)) ⊎ AtLast (IsRefused (handle_at at)) seats.old seats.new)) }
     ensures why { IfErr result (λ e. e ≡ stop.OutOfMemory) }
-    ensures later { AreLater seats.old seats.new }
+    ensures later { AreLater (ties_of seats.old) (ties_of seats.new) }
 {
     match free_handle(additions, at) {
         Some(handle) => seats.add(rt, handle, request),
@@ -115,7 +122,7 @@ fn add_at<L: Link, R: Wait + AllocGlobal>(
 
 // How many bytes all added transfers have received, as far as that is known.
 fn all_that_came<L: Link>(seats: &mut Seats<'_, '_, L>, additions: &[Option<Addition>]) -> u64
-    ensures ties { seats.new ≡ seats.old }
+    ensures ties { ties_of seats.new ≡ ties_of seats.old }
 {
     let mut sum = 0u64;
     for (at, addition) in additions.iter().enumerate() {
@@ -127,8 +134,8 @@ fn all_that_came<L: Link>(seats: &mut Seats<'_, '_, L>, additions: &[Option<Addi
 }
 
 /// An application's seat, perhaps with one at another multi handle beside it, and the requests that were added at them, each under a number
-/// of the caller's own, which is the number of its handle. Contracts see the request that is added under each number, how many may be added
-/// at a time, and the requests of additions that each seat was told.
+/// of the caller's own, which is the number of its handle. Contracts see the seats, the addition under each number and its request, how many
+/// may be added at a time, and whether the multi handle of the seat that came last takes no more.
 pub struct Desk<'e, 'm, L: Link> {
     seats: Seats<'e, 'm, L>,
     additions: Vec<Option<Addition>>,
@@ -157,17 +164,20 @@ impl<'e, 'm, L: Link> Drop for Desk<'e, 'm, L> {
 
 impl<'e, 'm, L: Link> Model for Desk<'e, 'm, L> {
     ghost use Rattle.std.specs.Prelude.{map};
+    ghost use Rattle.mx_transfer.specs.Transfers.{TransferState};
     ghost use Rattle.mx_desk.specs.Desks.{DeskValue, IsDesk, asked_at};
+    ghost use Rattle.mx_desk.specs.Ties.{ties_of};
 
-    ghost Value = { DeskValue };
+    ghost Value = { DeskValue (TransferState L) };
 
-    ghost view = { λ d. record { ties = d.seats; asked = map asked_at d.additions.items; width = d.width } };
+    ghost view = { λ d. record { seats = d.seats; added = d.additions.items; asked = map asked_at d.additions.items; width = d.width; full = d.is_full } };
 
-    ghost invariant = { λ d. IsDesk d.seats d.additions.items d.width d.waiting };
+    ghost invariant = { λ d. IsDesk (ties_of d.seats) d.additions.items d.width d.waiting };
 }
 
 impl<'e, 'm, L: Link> Desk<'e, 'm, L> {
-    ghost use Rattle.mx_desk.specs.Desks.{Adds, Ends, Stays};
+    ghost use Rattle.mx_desk.specs.Calls.{AtSeat, FreesAt, ReadsMessage, Wait};
+    ghost use Rattle.mx_desk.specs.Desks.{Adds, AddsNone, Ends, IsBeside, StandsAdded, Stays, TakesEnd, TakesOut};
 
     /// Nothing is added. There are so many numbers, from 0 on, and at most `width` requests are added at a time. An error drops the seat.
     pub fn new(
@@ -176,7 +186,7 @@ impl<'e, 'm, L: Link> Desk<'e, 'm, L> {
         count: usize,
         width: usize,
     ) -> Result<Desk<'e, 'm, L>, OutOfMemory>
-        ensures { IfOk result (IsNewDesk count width) }
+        ensures { IfOk result (IsNewDesk seat.entry count width) }
     {
         match none_added(alloc, count) {
             Ok(additions) => Ok(Desk {
@@ -202,7 +212,8 @@ impl<'e, 'm, L: Link> Desk<'e, 'm, L> {
         self,
         seat: Option<Seated<'n, Application, Queued<L>, Outcome>>,
     ) -> Option<Desk<'e, 'n, L>>
-        ensures { IfSome result (Stays self.entry) }
+        ensures stays { IfSome result (Stays self.entry) }
+        ensures beside { IfSome result (IsBeside self.entry seat.entry) }
     {
         let Desk {
             seats,
@@ -261,13 +272,16 @@ impl<'e, 'm, L: Link> Desk<'e, 'm, L> {
 
     /// How many bytes the added transfers have received, as far as that is known.
     pub fn arrived(&mut self) -> u64
-        ensures { Stays self.old self.new }
+        ensures stays { Stays self.old self.new }
+        ensures added { (self.new.added ≡ self.old.added) × (self.new.full ≡ self.old.full) }
     {
         all_that_came(&mut self.seats, self.additions.as_slice())
     }
 
     /// Whether an addition was refused at the seat that came last, for another reason than memory: its multi handle takes no more.
-    pub fn is_full(&self) -> bool {
+    pub fn is_full(&self) -> bool
+        ensures { result ≡ self.now.full }
+    {
         self.is_full
     }
 
@@ -283,7 +297,9 @@ impl<'e, 'm, L: Link> Desk<'e, 'm, L> {
     ) -> Result<Option<Ticket>, Stop>
         requires room { HasRoom self.old }
         ensures added { IfOk result (λ o. MatchOption o (Stays self.old self.new) (λ _. Adds self.old self.new at request)) }
+        ensures stands { IfOk result (λ o. MatchOption o (AddsNone self.old self.new at) (λ ticket. StandsAdded self.old self.new at ticket request)) }
         ensures kept { OnErr result (Stays self.old self.new) }
+        ensures still { OnErr result ((self.new.added ≡ self.old.added) × (self.new.full ≡ self.old.full)) }
         ensures why { IfErr result (λ e. e ≡ stop.OutOfMemory) }
     {
         let added = add_at(rt, &mut self.seats, self.additions.as_slice(), at, request);
@@ -308,9 +324,10 @@ impl<'e, 'm, L: Link> Desk<'e, 'm, L> {
     // rule save-requests
     // Takes out an addition whose end came at that seat: nothing is added under its number then.
     fn take(&mut self, at: usize, told: &Told) -> Result<(), Stop>
-        requires told { Has (ties_at self.old.ties told.now.is_beside) (tie told.now.message.ticket (request_origin told.now.message.outcome.request)) }
+        requires told { Has (ties_at (ties_of self.old.seats) told.now.is_beside) (tie told.now.message.ticket (request_origin told.now.message.outcome.request)) }
         ensures ended { OnOk result (Ends self.old self.new at told.now.message.outcome.request) }
-        ensures ties { self.new.ties ≡ self.old.ties }
+        ensures out { OnOk result (TakesOut self.old self.new at (record { ticket = told.now.message.ticket; beside = told.now.is_beside; request = told.now.message.outcome.request })) }
+        ensures seats { self.new.seats ≡ self.old.seats }
         ensures why { IfErr result (λ e. e ≡ stop.NoMessage) }
     {
         // proof: what holds of a request, and requests of one origin are one
@@ -332,8 +349,10 @@ impl<'e, 'm, L: Link> Desk<'e, 'm, L> {
 
     // Takes out an addition whose end came at that seat, and removes its handle there.
     fn close<R: Wait>(&mut self, rt: &R, at: usize, told: &Told) -> Result<(), Stop>
-        requires told { Has (ties_at self.old.ties told.now.is_beside) (tie told.now.message.ticket (request_origin told.now.message.outcome.request)) }
+        requires told { Has (ties_at (ties_of self.old.seats) told.now.is_beside) (tie told.now.message.ticket (request_origin told.now.message.outcome.request)) }
         ensures ended { OnOk result (Ends self.old self.new at told.now.message.outcome.request) }
+        ensures out { OnOk result (TakesOut self.old self.new at (record { ticket = told.now.message.ticket; beside = told.now.is_beside; request = told.now.message.outcome.request })) }
+        ensures freed { OnOk result (FreesAt told.now.message.handle told.now.is_beside self.old.seats self.new.seats) }
         ensures why { IfErr result (λ e. (e ≡ stop.OutOfMemory) ⊎ (e ≡ stop.NoMessage)) }
     {
         self.take(at, told)?;
@@ -342,8 +361,11 @@ impl<'e, 'm, L: Link> Desk<'e, 'm, L> {
 
     // The end of a request that was added.
     fn end<R: Wait>(&mut self, rt: &R, told: Told) -> Result<Ended, Stop>
-        requires told { Has (ties_at self.old.ties told.is_beside) (tie told.message.ticket (request_origin told.message.outcome.request)) }
+        requires told { Has (ties_at (ties_of self.old.seats) told.is_beside) (tie told.message.ticket (request_origin told.message.outcome.request)) }
         ensures ended { IfOk result (λ e. Ends self.old self.new e.at e.outcome.request) }
+        ensures out { IfOk result (λ e. TakesOut self.old self.new e.at (record { ticket = e.ticket; beside = told.is_beside; request = e.outcome.request })) }
+        ensures freed { IfOk result (λ e. FreesAt (handle_at e.at) told.is_beside self.old.seats self.new.seats) }
+        ensures message { IfOk result (λ e. (handle_at e.at ≡ told.message.handle) × (e.ticket ≡ told.message.ticket) × (e.outcome ≡ told.message.outcome)) }
         ensures why { IfErr result (λ e. (e ≡ stop.OutOfMemory) ⊎ (e ≡ stop.NoMessage)) }
     {
         let at = told.message.handle.0 as usize;
@@ -364,14 +386,16 @@ impl<'e, 'm, L: Link> Desk<'e, 'm, L> {
     /// handle is removed. Where none came it answers None. After an error it isn't known what is added. Where requests are added at both
     /// seats it waits for less, so that a message of neither waits for long.
     ///
-    /// The errors are `OutOfMemory`, where the removal is refused memory, and `NoMessage`, where no message could be read, or one came that is
-    /// of no addition; no clause says which of the two comes. No clause says that the handle is removed.
+    /// The errors are `OutOfMemory`, where the removal is refused memory, and `NoMessage`, where no message could be read, or one came that
+    /// is of no addition; no clause says which of the two comes. The handle stays added only where the seat is answered `WrongSeat`.
     pub fn next<R: Wait + AllocGlobal + Clock>(
         &mut self,
         rt: &R,
         milliseconds: u32,
     ) -> Result<Option<Ended>, Stop>
         ensures ended { IfOk result (λ o. MatchOption o (Stays self.old self.new) (λ e. Ends self.old self.new e.at e.outcome.request)) }
+        ensures taken { IfOk result (λ o. IfSome o (λ e. TakesEnd self.old self.new e.at e.ticket e.outcome)) }
+        ensures none { IfOk result (λ o. IfNone o ((self.new.added ≡ self.old.added) × (self.new.full ≡ self.old.full) × Wait self.old.seats self.new.seats)) }
         ensures why { IfErr result (λ e. (e ≡ stop.OutOfMemory) ⊎ (e ≡ stop.NoMessage)) }
     {
         let first_waits = self.waiting > self.beside;

@@ -1,10 +1,15 @@
 //! The seats of a desk: the first one, and perhaps one of another multi handle beside it.
-ghost use Rattle.std.specs.Prelude.{◌≡◌, IfErr, IfOk, IfSome, Ok, Some};
+ghost use Rattle.std.specs.Prelude.{◌≡◌, false, true, IfErr, IfNone, IfOk, IfSome, MatchOption, None, is_some, Ok, OnOk, Some};
+ghost use Rattle.mx_types.specs.declared.call.Call.{Call};
+ghost use Rattle.mx_types.specs.declared.reply.Reply.{Reply};
 ghost use mathlib.Core.List.{IsPrefix};
 ghost use Rattle.mx_request.specs.Request.{request_origin};
 ghost use Rattle.mx_lock.specs.Ties.{Has, tie};
 ghost use Rattle.mx_desk.specs.Additions.{IsTold};
-ghost use Rattle.mx_desk.specs.Ties.{AreLater, ties_at};
+ghost use Rattle.mx_message.specs.Message.{IsNextMessage, Waited};
+ghost use Rattle.mx_multi.specs.Seats.{Stands};
+ghost use Rattle.mx_desk.specs.Calls.{AtLast, AtSeat, FreesAt, IsFreed, IsRefused, ReadsMessage, Wait, is_refusal};
+ghost use Rattle.mx_desk.specs.Ties.{AreLater, ties_at, ties_of, two};
 ghost use Rattle.mx_run_io.specs.declared.stop.Stop.TheVariants as stop;
 
 use crate::addition::Addition;
@@ -37,6 +42,7 @@ pub(crate) struct Told {
 // handle is added already. It is generic over the work, so that what is handed back is dropped as one value.
 fn added<Q: Drop>(answer: Result<AddReply<Q>, WrongSeat<Q>>) -> Result<Option<Ticket>, Stop>
     ensures ticket { IfOk result (λ o. IfSome o (λ t. answer ≡ Ok (AddReply.Added t))) }
+    ensures none { IfOk result (λ o. IfNone o (is_refusal answer ≡ true)) }
     ensures why { IfErr result (λ e. e ≡ stop.OutOfMemory) }
 {
     match answer {
@@ -57,6 +63,7 @@ fn add_transfer<L: Link, R: Wait + AllocGlobal>(
     ensures request { IfOk result (λ o. IfSome o (λ a. a.request ≡ request)) }
     ensures told { IfOk result (λ o. IfSome o (IsTold seat.new.ties)) }
     ensures place { IfOk result (λ o. IfSome o (λ a. a.beside ≡ is_beside)) }
+    ensures stands { IfOk result (λ o. MatchOption o (IsRefused handle seat.old seat.new) (λ a. Stands seat.old seat.new (Call.Add handle) (Reply.Added a.ticket))) }
     ensures why { IfErr result (λ e. e ≡ stop.OutOfMemory) }
     ensures later { IsPrefix seat.old.ties seat.new.ties }
 {
@@ -78,6 +85,7 @@ fn remove_at<L: Link, R: Wait>(
     seat: &mut Seated<'_, Application, Queued<L>, Outcome>,
     handle: HandleId,
 ) -> Result<(), Stop>
+    ensures freed { OnOk result (IsFreed handle seat.old seat.new) }
     ensures later { IsPrefix seat.old.ties seat.new.ties }
     ensures why { IfErr result (λ e. e ≡ stop.OutOfMemory) }
 {
@@ -107,6 +115,7 @@ fn read<L: Link, R: Wait + Clock>(
     ensures later { IsPrefix seat.old.ties seat.new.ties }
     ensures place { IfOk result (λ o. IfSome o (λ t. t.is_beside ≡ is_beside)) }
     ensures told { IfOk result (λ o. IfSome o (λ t. Has seat.new.ties (tie t.message.ticket (request_origin t.message.outcome.request)))) }
+    ensures read { IfOk result (λ o. MatchOption o (Waited seat.old seat.new) (λ t. ReadsMessage t.message.handle t.message.ticket t.message.outcome seat.old seat.new)) }
 {
     match next_message_within(rt, seat, milliseconds)? {
         Some(message) => Ok(Some(Told { message, is_beside })),
@@ -125,6 +134,8 @@ fn read_both<L: Link, R: Wait + Clock>(
     ensures beside { IsPrefix beside.old.ties beside.new.ties }
     ensures told { IfOk result (λ o. IfSome o (λ t. Has (ties_at (record { first = first.new.ties; beside = beside.new.ties }) t.is_beside)
         (tie t.message.ticket (request_origin t.message.outcome.request)))) }
+    ensures read { IfOk result (λ o. MatchOption o (Wait (two first.old beside.old) (two first.new beside.new))
+        (λ t. AtSeat (ReadsMessage t.message.handle t.message.ticket t.message.outcome) t.is_beside (two first.old beside.old) (two first.new beside.new))) }
 {
     if let Some(told) = read(rt, first, false, 0)? {
         return Ok(Some(told));
@@ -132,7 +143,7 @@ fn read_both<L: Link, R: Wait + Clock>(
     read(rt, beside, true, milliseconds.min(SLICE_MS))
 }
 
-/// An application's seat, and perhaps one at another multi handle beside it. Contracts see the requests of additions that each was told.
+/// An application's seat, and perhaps one at another multi handle beside it. Contracts see both.
 pub(crate) struct Seats<'e, 'm, L: Link> {
     first: Seated<'e, Application, Queued<L>, Outcome>,
     beside: Option<Seated<'m, Application, Queued<L>, Outcome>>,
@@ -148,16 +159,19 @@ impl<'e, 'm, L: Link> Drop for Seats<'e, 'm, L> {
 }
 
 impl<'e, 'm, L: Link> Model for Seats<'e, 'm, L> {
-    ghost use Rattle.mx_desk.specs.Ties.{SeatTies, ties_beside};
+    ghost use Rattle.mx_transfer.specs.Transfers.{TransferState};
+    ghost use Rattle.mx_desk.specs.Ties.{SeatsView};
 
-    ghost Value = { SeatTies };
+    ghost Value = { SeatsView (TransferState L) };
 
-    ghost view = { λ s. record { first = s.first.ties; beside = ties_beside s.beside } };
+    ghost view = { λ s. record { first = s.first; beside = s.beside } };
 }
 
 impl<'e, 'm, L: Link> Seats<'e, 'm, L> {
     /// One seat.
-    pub fn new(first: Seated<'e, Application, Queued<L>, Outcome>) -> Seats<'e, 'm, L> {
+    pub fn new(first: Seated<'e, Application, Queued<L>, Outcome>) -> Seats<'e, 'm, L>
+        ensures { result ≡ record { first = first.entry; beside = None } }
+    {
         Seats {
             first,
             beside: None,
@@ -169,7 +183,7 @@ impl<'e, 'm, L: Link> Seats<'e, 'm, L> {
         self,
         beside: Option<Seated<'n, Application, Queued<L>, Outcome>>,
     ) -> Seats<'e, 'n, L>
-        ensures { result.first ≡ self.entry.first }
+        ensures { result ≡ record { first = self.entry.first; beside = beside.entry } }
     {
         let Seats {
             first,
@@ -192,9 +206,11 @@ impl<'e, 'm, L: Link> Seats<'e, 'm, L> {
         request: Request,
     ) -> Result<Option<Addition>, Stop>
         ensures request { IfOk result (λ o. IfSome o (λ a. a.request ≡ request)) }
-        ensures told { IfOk result (λ o. IfSome o (λ a. IsTold (ties_at self.new a.beside) a)) }
+        ensures told { IfOk result (λ o. IfSome o (λ a. IsTold (ties_at (ties_of self.new) a.beside) a)) }
+        ensures place { IfOk result (λ o. IfSome o (λ a. a.beside ≡ is_some self.old.beside)) }
+        ensures stands { IfOk result (λ o. MatchOption o (AtLast (IsRefused handle) self.old self.new) (λ a. AtLast (λ s t. Stands s t (Call.Add handle) (Reply.Added a.ticket)) self.old self.new)) }
         ensures why { IfErr result (λ e. e ≡ stop.OutOfMemory) }
-        ensures later { AreLater self.old self.new }
+        ensures later { AreLater (ties_of self.old) (ties_of self.new) }
     {
         match &mut self.beside {
             Some(seat) => add_transfer(rt, seat, true, handle, request),
@@ -211,8 +227,9 @@ impl<'e, 'm, L: Link> Seats<'e, 'm, L> {
         beside_waits: bool,
         milliseconds: u32,
     ) -> Result<Option<Told>, NoMessage>
-        ensures told { IfOk result (λ o. IfSome o (λ t. Has (ties_at self.new t.is_beside) (tie t.message.ticket (request_origin t.message.outcome.request)))) }
-        ensures later { AreLater self.old self.new }
+        ensures told { IfOk result (λ o. IfSome o (λ t. Has (ties_at (ties_of self.new) t.is_beside) (tie t.message.ticket (request_origin t.message.outcome.request)))) }
+        ensures read { IfOk result (λ o. MatchOption o (Wait self.old self.new) (λ t. AtSeat (ReadsMessage t.message.handle t.message.ticket t.message.outcome) t.is_beside self.old self.new)) }
+        ensures later { AreLater (ties_of self.old) (ties_of self.new) }
     {
         match &mut self.beside {
             Some(seat) if beside_waits => {
@@ -227,18 +244,25 @@ impl<'e, 'm, L: Link> Seats<'e, 'm, L> {
 
     /// Removes a handle at the seat at which it was added.
     pub fn remove<R: Wait>(&mut self, rt: &R, is_beside: bool, handle: HandleId) -> Result<(), Stop>
-        ensures later { AreLater self.old self.new }
+        ensures freed { OnOk result (FreesAt handle is_beside self.old self.new) }
+        ensures later { AreLater (ties_of self.old) (ties_of self.new) }
         ensures why { IfErr result (λ e. e ≡ stop.OutOfMemory) }
     {
         match &mut self.beside {
-            Some(seat) if is_beside => remove_at(rt, seat, handle),
-            _ => remove_at(rt, &mut self.first, handle),
+            Some(seat) => {
+                if is_beside {
+                    remove_at(rt, seat, handle)
+                } else {
+                    remove_at(rt, &mut self.first, handle)
+                }
+            }
+            None => remove_at(rt, &mut self.first, handle),
         }
     }
 
     /// How many bytes the transfer has received that was added at one of the seats, under this number, as far as that is known.
     pub fn came(&mut self, is_beside: bool, at: usize) -> u64
-        ensures ties { self.new ≡ self.old }
+        ensures ties { ties_of self.new ≡ ties_of self.old }
     {
         let Ok(handle) = u32::try_from(at) else {
             return 0;

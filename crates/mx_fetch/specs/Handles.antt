@@ -14,6 +14,6 @@ pub record IsOpenedAs {Q O : Type 0} (l : Limits) (m : MultiView Q O) : Type 0 w
 
 -- How a run came back from a second multi handle: where it was there it has turned so, and where it stopped nothing is said; where it didn't
 -- stop, and where it couldn't be there, what is added at the desk is what it has asked for, if the desk is left.
-abbrev pub IsBack : (List (Option RequestValue) → Type 0) → (Turned → Type 0) → Option DeskValue → Option (Result Turned Stop) → Type 0
+abbrev pub IsBack : {Q : Type 0} → (List (Option RequestValue) → Type 0) → (Turned → Type 0) → Option (DeskValue Q) → Option (Result Turned Stop) → Type 0
 IsBack is_asked has_turned desk None = IfSome desk (λ d. is_asked d.asked)
 IsBack is_asked has_turned desk (Some turned) = IfOk turned (λ how. has_turned how × IfSome desk (λ d. is_asked d.asked))
