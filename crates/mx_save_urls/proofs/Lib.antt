@@ -1,4 +1,5 @@
 pub mod Asked
 mod Feeds
 mod Runs
+mod Waits
 pub mod Works

@@ -1,7 +1,7 @@
 //! A URL's transfer, from the URL to the desk.
 ghost use Rattle.std.specs.Prelude.{◌≡◌, false, IfErr, OnOk};
 ghost use Rattle.mx_save_book.specs.Books.{IsJobFor};
-ghost use Rattle.mx_save_urls.specs.Works.{IsSameWork};
+ghost use Rattle.mx_save_urls.specs.Works.{AreBroughtOn, IsSameWork, OthersAreBroughtOn};
 ghost use Rattle.mx_desk.specs.Desks.{HasRoom};
 ghost use Rattle.mx_run_io.specs.declared.stop.Stop.TheVariants as stop;
 ghost use Rattle.mx_save_urls.specs.Asked.{AreAsked};
@@ -44,7 +44,9 @@ fn add<'a, L: Link, F: Folder, W: Write, Rd: Read + Drop, R: Wait + AllocGlobal>
     requires room { HasRoom desk.old }
     requires asked { IsJobFor work.old.book.asking work.old.book.slots at request }
     requires all { AreAsked work.old.book.asking work.old.book.slots desk.old.asked }
+    requires waits { OthersAreBroughtOn at work.old.book.slots work.old.waiting }
     ensures all { OnOk result (AreAsked work.new.book.asking work.new.book.slots desk.new.asked) }
+    ensures waits { OnOk result (AreBroughtOn work.new.book.slots work.new.waiting) }
     ensures why { IfErr result (λ e. e ≡ stop.OutOfMemory) }
     ensures going { work.new.book.is_stopped ≡ work.old.book.is_stopped }
     ensures run { IsSameWork work.old work.new }
@@ -73,7 +75,9 @@ fn read<'a, L: Link, F: Folder, W: Write, Rd: Read + Drop, R: Wait + AllocGlobal
     requires room { HasRoom desk.old }
     requires going { work.old.book.is_stopped ≡ false }
     requires all { AreAsked work.old.book.asking work.old.book.slots desk.old.asked }
+    requires waits { AreBroughtOn work.old.book.slots work.old.waiting }
     ensures all { OnOk result (AreAsked work.new.book.asking work.new.book.slots desk.new.asked) }
+    ensures waits { OnOk result (AreBroughtOn work.new.book.slots work.new.waiting) }
     ensures going { OnOk result (work.new.book.is_stopped ≡ false) }
     ensures run { IsSameWork work.old work.new }
 {
@@ -103,7 +107,9 @@ pub fn begin<'a, L: Link, F: Folder, W: Write, Rd: Read + Drop, R: Wait + AllocG
 ) -> Result<Begun, Stop>
     requires going { work.old.book.is_stopped ≡ false }
     requires all { AreAsked work.old.book.asking work.old.book.slots desk.old.asked }
+    requires waits { AreBroughtOn work.old.book.slots work.old.waiting }
     ensures all { OnOk result (AreAsked work.new.book.asking work.new.book.slots desk.new.asked) }
+    ensures waits { OnOk result (AreBroughtOn work.new.book.slots work.new.waiting) }
     ensures going { OnOk result (work.new.book.is_stopped ≡ false) }
     ensures run { IsSameWork work.old work.new }
 {

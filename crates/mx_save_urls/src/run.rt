@@ -1,7 +1,7 @@
 //! A run, which goes from desk to desk.
 ghost use Rattle.std.specs.Prelude.{◌≡◌, false};
 ghost use Rattle.std.proofs.Common.{◌∙◌, refl};
-ghost use Rattle.mx_save_urls.specs.Works.{IsSameWork};
+ghost use Rattle.mx_save_urls.specs.Works.{AreBroughtOn, IsSameWork};
 ghost use Rattle.mx_save_urls.specs.Asked.{AreAsked, HasTurned};
 
 use crate::timer::Timer;
@@ -28,9 +28,10 @@ pub struct Run<'a, F: Folder, W: Write, Rd: Read + Drop, V> {
 }
 
 impl<'a, F: Folder, W: Write, Rd: Read + Drop, V: Watch> Fetch for Run<'a, F, W, Rd, V> {
-    ghost is_asked = { λ r asked. (r.work.book.is_stopped ≡ false) × AreAsked r.work.book.asking r.work.book.slots asked };
+    ghost is_asked = { λ r asked. (r.work.book.is_stopped ≡ false) × AreAsked r.work.book.asking r.work.book.slots asked
+        × AreBroughtOn r.work.book.slots r.work.waiting };
 
-    ghost has_turned = { λ r how. (r.work.book.is_stopped ≡ false) × HasTurned r.work how };
+    ghost has_turned = { λ r how. (r.work.book.is_stopped ≡ false) × HasTurned r.work how × AreBroughtOn r.work.book.slots r.work.waiting };
 
     ghost is_same = { λ r s. IsSameWork r.work s.work };
 
@@ -68,5 +69,5 @@ impl<'a, F: Folder, W: Write, Rd: Read + Drop, V: Watch> Fetch for Run<'a, F, W,
       first = k.first ∙ h.first;
     } };
 
-    ghost none = { λ r h asked. (h.0, λ i job ticket is. absurd (h.1 i job ticket is)) };
+    ghost none = { λ r h asked. (h.0, λ i job ticket is. absurd (h.1 i job ticket is), h.2) };
 }

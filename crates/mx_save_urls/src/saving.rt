@@ -3,7 +3,7 @@ ghost use Rattle.std.specs.Prelude.{◌≡◌, [], false, All, IfOk, OnOk, lengt
 ghost use Rattle.mx_save_book.specs.Books.{HasNoneAdded};
 ghost use Rattle.mx_save_book.specs.declared.job.Slot.TheVariants as slot;
 ghost use Rattle.mx_save_urls.specs.Feeds.{left};
-ghost use Rattle.mx_save_urls.specs.Works.{IsSameWork};
+ghost use Rattle.mx_save_urls.specs.Works.{AreBroughtOn, IsSameWork};
 ghost use Rattle.mx_save_urls.specs.Asked.{HasTurned};
 ghost use Rattle.mx_fetch.specs.declared.turned.Turned.TheVariants as how;
 ghost use Rattle.mx_save_urls.specs.Plans.{IsPlan};
@@ -52,6 +52,7 @@ fn run_boxed<
     requires plan { IsPlan plan }
     requires going { run.work.book.is_stopped ≡ false }
     requires none { HasNoneAdded run.work.book.slots }
+    requires waits { AreBroughtOn run.work.book.slots run.work.waiting }
     ensures ended { OnOk result.1 (HasTurned result.0.work how.AllEnded) }
     ensures going { OnOk result.1 (result.0.work.book.is_stopped ≡ false) }
     ensures run { IsSameWork run.entry.work result.0.work }

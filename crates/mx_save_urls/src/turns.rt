@@ -1,7 +1,7 @@
 //! The turns of a run.
 ghost use Rattle.std.specs.Prelude.{◌≡◌, false, true, IfOk, IfSome, OnOk};
 ghost use Rattle.mx_save_book.specs.Books.{IsClosed, IsJobFor, awaits_at};
-ghost use Rattle.mx_save_urls.specs.Works.{IsSameWork};
+ghost use Rattle.mx_save_urls.specs.Works.{AreBroughtOn, IsSameWork};
 ghost use Rattle.mx_desk.specs.Desks.{Stays};
 ghost use Rattle.mx_save_urls.specs.Asked.{AreAsked, HasTurned};
 
@@ -120,6 +120,8 @@ fn close<'a, F: Folder, W: Write, Rd: Read + Drop, R: Clock>(
 ) -> Result<(), Stop>
     requires going { work.old.book.is_stopped ≡ false }
     requires asked { IsJobFor work.old.book.asking work.old.book.slots ended.at ended.outcome.request }
+    requires waits { AreBroughtOn work.old.book.slots work.old.waiting }
+    ensures waits { OnOk result (AreBroughtOn work.new.book.slots work.new.waiting) }
     ensures closed { OnOk result (IsClosed work.old.book.slots work.new.book.slots ended.at) }
     ensures going { OnOk result (work.new.book.is_stopped ≡ false) }
     ensures run { IsSameWork work.old work.new }
@@ -142,6 +144,8 @@ fn end_one<'a, F: Folder, W: Write, Rd: Read + Drop, R: Clock, V: Watch>(
 ) -> Result<(), Stop>
     requires going { work.old.book.is_stopped ≡ false }
     requires asked { awaits_at work.old.book.slots ended.at ended.ticket ≡ true → IsJobFor work.old.book.asking work.old.book.slots ended.at ended.outcome.request }
+    requires waits { AreBroughtOn work.old.book.slots work.old.waiting }
+    ensures waits { OnOk result (AreBroughtOn work.new.book.slots work.new.waiting) }
     ensures closed { OnOk result (IsClosed work.old.book.slots work.new.book.slots ended.at) }
     ensures going { OnOk result (work.new.book.is_stopped ≡ false) }
     ensures run { IsSameWork work.old work.new }
@@ -173,6 +177,8 @@ fn await_one<
 ) -> Result<(), Stop>
     requires going { work.old.book.is_stopped ≡ false }
     requires all { AreAsked work.old.book.asking work.old.book.slots desk.old.asked }
+    requires waits { AreBroughtOn work.old.book.slots work.old.waiting }
+    ensures waits { OnOk result (AreBroughtOn work.new.book.slots work.new.waiting) }
     ensures all { OnOk result (AreAsked work.new.book.asking work.new.book.slots desk.new.asked) }
     ensures going { OnOk result (work.new.book.is_stopped ≡ false) }
     ensures run { IsSameWork work.old work.new }
@@ -231,6 +237,8 @@ pub(crate) fn take_turns<
 ) -> Result<Turned, Stop>
     requires going { work.old.book.is_stopped ≡ false }
     requires all { AreAsked work.old.book.asking work.old.book.slots desk.old.asked }
+    requires waits { AreBroughtOn work.old.book.slots work.old.waiting }
+    ensures waits { OnOk result (AreBroughtOn work.new.book.slots work.new.waiting) }
     ensures turned { IfOk result (HasTurned work.new) }
     ensures all { OnOk result (AreAsked work.new.book.asking work.new.book.slots desk.new.asked) }
     ensures going { OnOk result (work.new.book.is_stopped ≡ false) }

@@ -1,12 +1,13 @@
 //! The work of a run: its URLs, from their reading to their ends.
-ghost use Rattle.std.specs.Prelude.{◌≡◌, ◌++◌, ◌∷◌, [], true, false, count_by, IfErr, IfOk, IfSome, IsSome, OnErr, OnOk, Some, slice_get};
+ghost use Rattle.std.specs.Prelude.{◌≡◌, ◌++◌, ◌∷◌, [], true, false, count_by, List, IfErr, IfNone, IfOk, IfSome, IsSome, OnErr, OnOk, Some, slice_get};
 ghost use Rattle.mx_request.specs.Request.{IsRequest};
 ghost use Rattle.mx_save_book.specs.Books.{HasNoneAdded, IsAdded, IsClosed, IsJobFor, IsSameRun, awaits_at};
 ghost use Rattle.mx_save_book.specs.Jobs.{is_taken, job_at};
 ghost use Rattle.mx_save_book.specs.declared.job.Slot.TheVariants as slot;
 ghost use Rattle.mx_run_io.specs.declared.stop.Stop.TheVariants as stop;
 ghost use Rattle.mx_save_urls.specs.Feeds.{left, IsFed};
-ghost use Rattle.mx_save_urls.specs.Works.{AddsNone, IsSameWork};
+ghost use Rattle.mx_save_urls.specs.Works.{AddsNone, AreBroughtOn, IsSameWork, OthersAreBroughtOn};
+ghost use Rattle.mx_save_rules.specs.declared.waiting.Wait.{Wait};
 
 use crate::feed::{Ahead, Feed};
 use mx_chain::Outcome;
@@ -22,8 +23,8 @@ use std::marker::Model;
 use std::snapshot::Snapshot;
 
 /// The work of a run: the URLs that are to be read, those that were read, and which of these wait to be tried again, by their slots and the
-/// moments until which they wait. Contracts see the book of the URLs, which URLs there were at first and which are left, where that is
-/// known, and whether all were read.
+/// moments until which they wait. Contracts see the book of the URLs, who waits until when, which URLs there were at first and which are left,
+/// where that is known, and whether all were read.
 #[derive(Drop)]
 pub struct Work<'a, F: Folder, W: Write, R: Read + Drop> {
     book: Book<F, W>,
@@ -39,7 +40,7 @@ impl<'a, F: Folder, W: Write, R: Read + Drop> Model for Work<'a, F, W, R> {
 
     ghost Value = { WorkValue W };
 
-    ghost view = { λ w. record { book = w.book; first = left R.remaining w.first.value; left = left R.remaining w.feed; is_read = w.is_read } };
+    ghost view = { λ w. record { book = w.book; waiting = w.waiting; first = left R.remaining w.first.value; left = left R.remaining w.feed; is_read = w.is_read } };
 
     ghost invariant = { λ w. IsFed (left R.remaining w.first.value) w.book.urls (left R.remaining w.feed) w.is_read };
 }
@@ -52,6 +53,8 @@ fn take_in<F: Folder, W: Write>(
 ) -> Result<Option<Request>, Stop>
     requires going { book.old.is_stopped ≡ false }
     requires free { slice_get book.old.slots at ≡ Some slot.Free }
+    ensures others { (waiting : List Wait) → AreBroughtOn book.old.slots waiting → OnOk result (OthersAreBroughtOn at book.new.slots waiting) }
+    ensures none { (waiting : List Wait) → AreBroughtOn book.old.slots waiting → IfOk result (λ asked. IfNone asked (AreBroughtOn book.new.slots waiting)) }
     ensures urls { book.new.urls ≡ book.old.urls ++ url.items ∷ [] }
     ensures asked { IfOk result (λ asked. IfSome asked (λ r. IsJobFor book.new.asking book.new.slots at r × IsRequest r)) }
     ensures added { OnOk result (AddsNone book.old.slots book.new.slots) }
@@ -72,7 +75,7 @@ impl<'a, F: Folder, W: Write, R: Read + Drop> Work<'a, F, W, R> {
     /// No URL was read yet.
     pub fn new(alloc: Global, book: Book<F, W>, feed: Feed<'a, R>) -> Work<'a, F, W, R>
         requires { book.urls ≡ [] }
-        ensures { result ≡ record { book = book; first = left R.remaining feed.entry; left = left R.remaining feed.entry; is_read = false } }
+        ensures { result ≡ record { book = book; waiting = []; first = left R.remaining feed.entry; left = left R.remaining feed.entry; is_read = false } }
     {
         Work {
             book,
@@ -87,6 +90,7 @@ impl<'a, F: Folder, W: Write, R: Read + Drop> Work<'a, F, W, R> {
     /// any more.
     pub fn look_ahead(&mut self) -> Result<Ahead, Stop>
         ensures book { self.new.book ≡ self.old.book }
+        ensures waiting { self.new.waiting ≡ self.old.waiting }
         ensures run { IsSameWork self.old self.new }
     {
         if self.is_read {
@@ -104,6 +108,9 @@ impl<'a, F: Folder, W: Write, R: Read + Drop> Work<'a, F, W, R> {
     pub fn read(&mut self, at: usize) -> Result<Option<Request>, Stop>
         requires going { self.old.book.is_stopped ≡ false }
         requires free { slice_get self.old.book.slots at ≡ Some slot.Free }
+        requires waits { AreBroughtOn self.old.book.slots self.old.waiting }
+        ensures others { OnOk result (OthersAreBroughtOn at self.new.book.slots self.new.waiting) }
+        ensures none { IfOk result (λ asked. IfNone asked (AreBroughtOn self.new.book.slots self.new.waiting)) }
         ensures asked { IfOk result (λ asked. IfSome asked (λ r. IsJobFor self.new.book.asking self.new.book.slots at r × IsRequest r)) }
         ensures added { OnOk result (AddsNone self.old.book.slots self.new.book.slots) }
         ensures going { OnOk result (self.new.book.is_stopped ≡ false) }
@@ -125,6 +132,8 @@ impl<'a, F: Folder, W: Write, R: Read + Drop> Work<'a, F, W, R> {
     /// Notes that the transfer of the URL in that slot is added under this ticket.
     pub fn add(&mut self, at: usize, ticket: Ticket)
         requires there { IsSome (job_at self.old.book.slots at) }
+        requires waits { OthersAreBroughtOn at self.old.book.slots self.old.waiting }
+        ensures waits { AreBroughtOn self.new.book.slots self.new.waiting }
         ensures added { IsAdded self.old.book.slots self.new.book.slots at ticket }
         ensures going { self.new.book.is_stopped ≡ self.old.book.is_stopped }
         ensures run { IsSameWork self.old self.new }
@@ -150,6 +159,9 @@ impl<'a, F: Folder, W: Write, R: Read + Drop> Work<'a, F, W, R> {
     pub fn close(&mut self, at: usize, outcome: Outcome) -> Result<Option<u64>, Stop>
         requires going { self.old.book.is_stopped ≡ false }
         requires asked { IsJobFor self.old.book.asking self.old.book.slots at outcome.request }
+        requires waits { AreBroughtOn self.old.book.slots self.old.waiting }
+        ensures others { OnOk result (OthersAreBroughtOn at self.new.book.slots self.new.waiting) }
+        ensures none { IfOk result (λ delay. IfNone delay (AreBroughtOn self.new.book.slots self.new.waiting)) }
         ensures closed { OnOk result (IsClosed self.old.book.slots self.new.book.slots at) }
         ensures going { OnOk result (self.new.book.is_stopped ≡ false) }
         ensures stopped { OnErr result (self.new.book.is_stopped ≡ true) }
@@ -160,6 +172,9 @@ impl<'a, F: Folder, W: Write, R: Read + Drop> Work<'a, F, W, R> {
 
     /// The slot of a URL whose wait is over, and its request. `OutOfMemory` alone is an error.
     pub fn again(&mut self, now: u64) -> Result<Option<(usize, Request)>, Stop>
+        requires waits { AreBroughtOn self.old.book.slots self.old.waiting }
+        ensures others { IfOk result (λ due. IfSome due (λ d. OthersAreBroughtOn d.0 self.new.book.slots self.new.waiting)) }
+        ensures none { IfOk result (λ due. IfNone due (AreBroughtOn self.new.book.slots self.new.waiting)) }
         ensures asked { IfOk result (λ due. IfSome due (λ d. IsJobFor self.new.book.asking self.new.book.slots d.0 d.1 × IsRequest d.1)) }
         ensures why { IfErr result (λ e. e ≡ stop.OutOfMemory) }
         ensures book { self.new.book ≡ self.old.book }
@@ -176,6 +191,8 @@ impl<'a, F: Folder, W: Write, R: Read + Drop> Work<'a, F, W, R> {
     // rule save-waiting
     /// Has the URL in this slot wait until that moment. `OutOfMemory` alone is an error: however many wait, one more may.
     pub fn wait(&mut self, at: usize, moment: u64) -> Result<(), Stop>
+        requires waits { OthersAreBroughtOn at self.old.book.slots self.old.waiting }
+        ensures waits { OnOk result (AreBroughtOn self.new.book.slots self.new.waiting) }
         ensures book { self.new.book ≡ self.old.book }
         ensures run { IsSameWork self.old self.new }
         ensures why { IfErr result (λ e. e ≡ stop.OutOfMemory) }

@@ -2,14 +2,16 @@ use Rattle.std.proofs.Common.{◌≡◌, false, subst, sym}
 use Rattle.std.specs.Prelude.{OnOk}
 use Rattle.mx_fetch.specs.declared.turned.Turned.TheVariants as how
 use Rattle.mx_save_urls.specs.Asked.{AreAsked, HasTurned}
+use Rattle.mx_save_urls.specs.Works.{AreBroughtOn}
 use Rattle.mx_save_urls.proofs.Asked.{asked_none}
 use Rattle.mx_fetch.proofs.Lists.{on_ok}
 use Rattle.mx_save_urls.proofs.saving.run_boxed.Goals as goal
 
 pub fetch_over_sockets-end-requires-clause-asked : goal.fetch_over_sockets-end-requires-clause-asked
 fetch_over_sockets-end-requires-clause-asked g c κs within = λ asked.
-    subst (λ r. (r.work.book.is_stopped ≡ false) × AreAsked r.work.book.asking r.work.book.slots asked) (sym c.in-Ok.ensures.ok)
-    (c.requires.going, asked_none c.args.run.work.book.asking c.args.run.work.book.slots asked c.requires.none)
+    subst (λ r. (r.work.book.is_stopped ≡ false) × AreAsked r.work.book.asking r.work.book.slots asked × AreBroughtOn r.work.book.slots r.work.waiting)
+    (sym c.in-Ok.ensures.ok)
+    (c.requires.going, asked_none c.args.run.work.book.asking c.args.run.work.book.slots asked c.requires.none, c.requires.waits)
 
 pub returns-in-Ok-clause-ended : goal.returns-in-Ok-clause-ended
 returns-in-Ok-clause-ended g c =

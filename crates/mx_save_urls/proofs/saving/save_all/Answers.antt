@@ -2,12 +2,20 @@ use Rattle.std.proofs.Common.{◌∙◌, ap, refl, subst, sym, [], ◌++◌}
 use Rattle.std.specs.List.{AllByRecursion}
 use Rattle.mx_save_book.specs.Books.{HasNoneAdded}
 use Rattle.mx_save_book.specs.Jobs.{IsTold}
+use Rattle.mx_save_urls.specs.Works.{AreBroughtOn}
 use Rattle.mx_save_urls.proofs.Runs.{none_added}
+use Rattle.mx_save_urls.proofs.Waits.{none_waiting}
 use Rattle.mx_save_urls.proofs.saving.save_all.Goals as goal
 
 pub run_boxed-run-requires-clause-none : goal.run_boxed-run-requires-clause-none
 run_boxed-run-requires-clause-none g c κs within =
     subst HasNoneAdded (sym (ap (λ w. w.book.slots) c.new-work.ensures ∙ c.new-book.ensures.slots)) (none_added c.in-Ok.both.1.items c.in-Ok.ensures.free)
+
+pub run_boxed-run-requires-clause-waits : goal.run_boxed-run-requires-clause-waits
+run_boxed-run-requires-clause-waits g c κs within =
+    let slots = ap (λ w. w.book.slots) c.new-work.ensures ∙ c.new-book.ensures.slots in
+    subst (λ ss. AreBroughtOn ss c.new-work.result.waiting) (sym slots)
+    (subst (AreBroughtOn c.in-Ok.both.1.items) (sym (ap (λ w. w.waiting) c.new-work.ensures)) (none_waiting c.in-Ok.both.1.items c.in-Ok.ensures.free))
 
 pub returns-in-Err-clause-told : goal.returns-in-Err-clause-told
 returns-in-Err-clause-told g c = record {

@@ -1,11 +1,12 @@
 use Rattle.std.proofs.Common.{◌≡◌, false}
-use Rattle.mx_save_urls.specs.Works.{IsSameWork}
+use Rattle.mx_save_urls.specs.Works.{AreBroughtOn, IsSameWork}
 use Rattle.mx_save_urls.specs.Asked.{AreAsked}
 use Rattle.mx_save_urls.proofs.turns.take_turns.Given as goal
 
 abbrev pub invariant-loop : goal.invariant-loop
 invariant-loop g l = record {
   all : AreAsked l.work.book.asking l.work.book.slots l.desk.asked;
+  waits : AreBroughtOn l.work.book.slots l.work.waiting;
   going : l.work.book.is_stopped ≡ false;
   run : IsSameWork l.fn.work l.work;
 }
