@@ -32,4 +32,4 @@ file found (Removed part ∷ before) name =
     if bytes_eq name part then None else file found before name
 file found (Looked _ _ ∷ before) name = file found before name
 file found (FolderFlushed ∷ before) name = file found before name
-file found (Refused _ ∷ before) name = file found before name
+file found (Refused _ _ _ ∷ before) name = file found before name

@@ -13,5 +13,5 @@ pub use crate::errors::FolderError;
 pub use crate::folders::Folder;
 pub use crate::memory::MemoryFolder;
 pub use crate::past::{Past, bytes_of};
-pub use crate::steps::{Kind, Step};
+pub use crate::steps::{FolderCall, Kind, Step};
 pub use crate::system::SystemFolder;

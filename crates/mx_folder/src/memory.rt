@@ -3,12 +3,11 @@ ghost use Rattle.std.specs.Prelude.{◌≡◌, ℕ, ◌<◌, ◌≤◌, List, []
 ghost use Rattle.mx_folder.specs.Files.{file};
 ghost use Rattle.mx_folder.specs.Memory.{step_of, steps_of, none, kind_of, ChangesNone};
 ghost use Rattle.mx_folder.specs.Steps as spec;
-ghost use Rattle.mx_folder.specs.declared.steps.Step.TheVariants as steps;
 
 use crate::errors::FolderError;
 use crate::folders::Folder;
 use crate::past::{Past, bytes_of};
-use crate::steps::{Kind, Step};
+use crate::steps::{Kind, Step, refused};
 use mx_file_name::{FileName, PartName};
 use mx_types::OutOfMemory;
 use std::alloc::{AllocError, Global};
@@ -190,24 +189,24 @@ impl MemoryFolder {
         refused
     }
 
-    fn refuse(&mut self, error: FolderError) -> FolderError
+    fn refuse(&mut self, step: Step, error: FolderError) -> FolderError
         ensures error { result ≡ error }
-        ensures told { self.new ≡ steps.Refused error ∷ self.old }
+        ensures told { self.new ≡ spec.refused step error ∷ self.old }
     {
-        self.steps.note(Step::Refused(error));
+        self.steps.note(refused(step, error));
         error
     }
 
     fn act(&mut self, next: Done) -> Result<(), FolderError>
         ensures { self.new ≡ spec.done result (step_of next) ∷ self.old }
     {
+        let step = step_of(&next);
         if self.is_refused() {
             let error = self.error;
-            return Err(self.refuse(error));
+            return Err(self.refuse(step, error));
         }
-        let step = step_of(&next);
         if self.done.push(next).is_err() {
-            return Err(self.refuse(FolderError::OutOfMemory));
+            return Err(self.refuse(step, FolderError::OutOfMemory));
         }
         self.steps.note(step);
         Ok(())
@@ -220,7 +219,7 @@ impl MemoryFolder {
     {
         if self.is_refused() {
             let error = self.error;
-            return Err(self.refuse(error));
+            return Err(self.refuse(step, error));
         }
         self.steps.note(step);
         Ok(())
@@ -243,19 +242,23 @@ impl Folder for MemoryFolder {
     fn create(&mut self, part: &PartName) -> Result<(), FolderError> {
         match self.vacant(part.as_str()) {
             Ok(part) => self.act(Done::Created(part)),
-            Err(error) => Err(self.refuse(error)),
+            Err(error) => Err(self.refuse(
+                Step::Created(bytes_of(part.as_str().as_bytes())),
+                error,
+            )),
         }
     }
 
     fn append(&mut self, part: &PartName, bytes: &[u8]) -> Result<usize, FolderError> {
         let n = bytes.len().min(self.most);
-        let (Ok(part), Ok(more)) = (
+        let (Ok(name), Ok(more)) = (
             copied(self.alloc, part.as_str()),
             Vec::from_slice(self.alloc, &bytes[..n]),
         ) else {
-            return Err(self.refuse(FolderError::OutOfMemory));
+            let step = Step::Appended(bytes_of(part.as_str().as_bytes()), Past::new());
+            return Err(self.refuse(step, FolderError::OutOfMemory));
         };
-        match self.act(Done::Appended(part, more)) {
+        match self.act(Done::Appended(name, more)) {
             Ok(()) => Ok(n),
             Err(error) => Err(error),
         }
@@ -264,24 +267,31 @@ impl Folder for MemoryFolder {
     fn flush(&mut self, part: &PartName) -> Result<(), FolderError> {
         match copied(self.alloc, part.as_str()) {
             Ok(part) => self.act(Done::Flushed(part)),
-            Err(error) => Err(self.refuse(error)),
+            Err(error) => Err(self.refuse(
+                Step::Flushed(bytes_of(part.as_str().as_bytes())),
+                error,
+            )),
         }
     }
 
     fn place(&mut self, part: &PartName, name: &FileName) -> Result<(), FolderError> {
-        let (Ok(part), Ok(name)) = (
+        let (Ok(from), Ok(to)) = (
             copied(self.alloc, part.as_str()),
             copied(self.alloc, name.as_str()),
         ) else {
-            return Err(self.refuse(FolderError::OutOfMemory));
+            let step = Step::Placed(bytes_of(part.as_str().as_bytes()), Past::new());
+            return Err(self.refuse(step, FolderError::OutOfMemory));
         };
-        self.act(Done::Placed(part, name))
+        self.act(Done::Placed(from, to))
     }
 
     fn remove(&mut self, part: &PartName) -> Result<(), FolderError> {
         match copied(self.alloc, part.as_str()) {
             Ok(part) => self.act(Done::Removed(part)),
-            Err(error) => Err(self.refuse(error)),
+            Err(error) => Err(self.refuse(
+                Step::Removed(bytes_of(part.as_str().as_bytes())),
+                error,
+            )),
         }
     }
 
@@ -292,7 +302,10 @@ impl Folder for MemoryFolder {
         let kind = match self.held(self.alloc, name.as_str()) {
             Ok(None) => Kind::Absent,
             Ok(Some(_)) => Kind::File,
-            Err(OutOfMemory) => return Err(self.refuse(FolderError::OutOfMemory)),
+            Err(OutOfMemory) => {
+                let step = Step::Looked(bytes_of(name.as_str().as_bytes()), Kind::Absent);
+                return Err(self.refuse(step, FolderError::OutOfMemory));
+            }
         };
         match self.pass(Step::Looked(bytes_of(name.as_str().as_bytes()), kind)) {
             Ok(()) => Ok(kind),

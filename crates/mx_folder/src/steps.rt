@@ -22,8 +22,27 @@ pub enum Step {
     Looked(Past<u8>, Kind),
     /// The names that the folder has are on the disk.
     FolderFlushed,
-    /// The call failed, and changed nothing that a name holds.
-    Refused(FolderError),
+    /// This call, of this name, failed, and changed nothing that a name holds. The flush of a folder has no name.
+    Refused(FolderCall, Past<u8>, FolderError),
+}
+
+/// What a folder is asked to do.
+#[derive(Clone, Copy, PartialEq, Eq)]
+pub enum FolderCall {
+    /// To make a part.
+    Create,
+    /// To write at the end of a part.
+    Append,
+    /// To flush a part.
+    Flush,
+    /// To give a part its final name.
+    Place,
+    /// To remove a part.
+    Remove,
+    /// To look up what is under a name.
+    Look,
+    /// To flush the names of the folder.
+    FlushFolder,
 }
 
 /// What is under a name. A link isn't followed: it is `Other`.
@@ -37,13 +56,29 @@ pub enum Kind {
     Other,
 }
 
+// The refusal of a step.
+pub(crate) fn refused(step: Step, error: FolderError) -> Step
+    ensures { result ≡ spec.refused step error }
+{
+    match step {
+        Step::Created(part) => Step::Refused(FolderCall::Create, part, error),
+        Step::Appended(part, _) => Step::Refused(FolderCall::Append, part, error),
+        Step::Flushed(part) => Step::Refused(FolderCall::Flush, part, error),
+        Step::Placed(part, _) => Step::Refused(FolderCall::Place, part, error),
+        Step::Removed(part) => Step::Refused(FolderCall::Remove, part, error),
+        Step::Looked(name, _) => Step::Refused(FolderCall::Look, name, error),
+        Step::FolderFlushed => Step::Refused(FolderCall::FlushFolder, Past::new(), error),
+        Step::Refused(call, name, _) => Step::Refused(call, name, error),
+    }
+}
+
 // What a look did.
 pub(crate) fn looked(answer: &Result<Kind, FolderError>, name: Past<u8>) -> Step
     ensures { result ≡ spec.looked answer.now name }
 {
     match answer {
         Ok(kind) => Step::Looked(name, *kind),
-        Err(error) => Step::Refused(*error),
+        Err(error) => Step::Refused(FolderCall::Look, name, *error),
     }
 }
 
@@ -53,6 +88,6 @@ pub(crate) fn done<T>(answer: &Result<T, FolderError>, step: Step) -> Step
 {
     match answer {
         Ok(_) => step,
-        Err(error) => Step::Refused(*error),
+        Err(error) => refused(step, *error),
     }
 }

@@ -5,7 +5,7 @@ use crate::errors::FolderError;
 use crate::folders::Folder;
 use crate::limit::{front, most_bytes};
 use crate::past::{Past, bytes_of};
-use crate::steps::{Kind, Step, done, looked};
+use crate::steps::{FolderCall, Kind, Step, done, looked};
 use mx_file_name::{FileName, PartName};
 use std::alloc::Global;
 use std::fs::{File, OpenFile};
@@ -282,7 +282,11 @@ impl<'a, R: Files> Folder for SystemFolder<'a, R> {
         let written = append_some(&mut self.last, part.as_str(), bytes);
         self.steps.note(match written {
             Ok(n) => Step::Appended(bytes_of(part.as_str().as_bytes()), bytes_of(&bytes[..n])),
-            Err(error) => Step::Refused(error),
+            Err(error) => Step::Refused(
+                FolderCall::Append,
+                bytes_of(part.as_str().as_bytes()),
+                error,
+            ),
         });
         written
     }

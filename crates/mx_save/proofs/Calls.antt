@@ -7,6 +7,7 @@ use Rattle.std.proofs.lemmas.Option.{get_or_from_slice_get}
 use Rattle.std.proofs.Math.Seq.{take-add}
 use Rattle.mx_file_name.specs.Safe.{IsPartName}
 use Rattle.mx_folder.specs.declared.errors.FolderError.{FolderError}
+use Rattle.mx_folder.specs.declared.steps.FolderCall.{FolderCall}
 use Rattle.mx_folder.specs.declared.steps.Step.{Step}
 use Rattle.mx_folder.specs.declared.steps.Step.TheVariants.{Created, Appended, Flushed, Placed, Removed, Refused}
 use Rattle.mx_folder.specs.Steps.{done, appended, refusals}
@@ -51,8 +52,9 @@ pub part_removed : {T : Type 0} (result : Result T FolderError) (part : List ℕ
 part_removed result part old new e =
     part_step part old old new (done result (Removed part)) (part_at_once part old) e (λ h. only_done result (Removed part) part old old h (only_removed part old old h))
 
-pub part_refused : (error : FolderError) (part : List ℕ) (old between new : List Step) → PartMoments part old between → new ≡ Refused error ∷ between → PartMoments part old new
-part_refused error part old between new before e = part_step part old between new (Refused error) before e (λ h. h)
+pub part_refused : (asked : FolderCall) (name : List ℕ) (error : FolderError) (part : List ℕ) (old between new : List Step) → PartMoments part old between
+    → new ≡ Refused asked name error ∷ between → PartMoments part old new
+part_refused asked name error part old between new before e = part_step part old between new (Refused asked name error) before e (λ h. h)
 
 -- bytes after a prefix of the bytes
 pub front_on : (part bytes rest : List ℕ) (w n : ℕ) (old between new : List Step) → Appends part (take w bytes) old between → new ≡ Appended part (take n rest) ∷ between → rest ≡ drop w bytes

@@ -22,8 +22,9 @@ use Rattle.mx_save.proofs.Steps.{done_grows, not_part}
 use Rattle.mx_save.proofs.Calls.{at_end}
 
 -- a run begins
-pub begun : {B : Type 0} (parts : B → List (List ℕ)) (flush : Bool) (start : List Step) → IsLedger parts (record { start = start; steps = start; entries = []; flush = flush; left = [] })
-begun parts flush start = record {
+pub begun : {B : Type 0} (parts : B → List (List ℕ)) (flush : Bool) (start : List Step) (process number : ℕ)
+    → IsLedger parts (record { start = start; steps = start; entries = []; flush = flush; left = []; process = process; number = number })
+begun parts flush start process number = record {
   since = at_once (HasOnly parts flush [] start) start (λ found name safe. inl refl);
   holds = tt;
   safe = tt;
@@ -68,11 +69,11 @@ all_kept parts flush (entry ∷ entries) old new safe holds kept =
     (λ found. kept found entry.0 safe.0 ∙ holds.0 found, all_kept parts flush entries old new safe.1 holds.1 kept)
 
 -- no file was changed
-pub kept_on : {B : Type 0} (parts : B → List (List ℕ)) (flush : Bool) (entries : List (List ℕ × B)) (left more : List (List ℕ)) (start old new : List Step)
-    → IsLedger parts (record { start = start; steps = old; entries = entries; flush = flush; left = left }) → AtEachMoment (FilesAreKept old) old new
-    → LeavesOnly more old new → refusals old + 2 * length more ≤ refusals new
-    → IsLedger parts (record { start = start; steps = new; entries = entries; flush = flush; left = more ++ left })
-kept_on parts flush entries left more start old new ledger moments leaves counted =
+pub kept_on : {B : Type 0} (parts : B → List (List ℕ)) (flush : Bool) (entries : List (List ℕ × B)) (left more : List (List ℕ)) (start old new : List Step) (process number next : ℕ)
+    → IsLedger parts (record { start = start; steps = old; entries = entries; flush = flush; left = left; process = process; number = number })
+    → AtEachMoment (FilesAreKept old) old new → LeavesOnly more old new → refusals old + 2 * length more ≤ refusals new
+    → IsLedger parts (record { start = start; steps = new; entries = entries; flush = flush; left = more ++ left; process = process; number = next })
+kept_on parts flush entries left more start old new process number next ledger moments leaves counted =
     let before = at_end (HasOnly parts flush entries start) start old ledger.since in
     record {
       since = join (HasOnly parts flush entries start) (FilesAreKept old) start old new ledger.since moments
@@ -154,12 +155,13 @@ fresh_names name [] fresh = tt
 fresh_names name (entry ∷ entries) fresh = (fresh.0, fresh_names name entries fresh.1)
 
 -- a body was saved
-pub saved_on : {B : Type 0} (parts : B → List (List ℕ)) (flush : Bool) (part name : List ℕ) (body : B) (entries : List (List ℕ × B)) (left : List (List ℕ)) (start old new : List Step)
-    → IsLedger parts (record { start = start; steps = old; entries = entries; flush = flush; left = left }) → IsPartName part → IsSafeName name → IsFresh name entries
+pub saved_on : {B : Type 0} (parts : B → List (List ℕ)) (flush : Bool) (part name : List ℕ) (body : B) (entries : List (List ℕ × B)) (left : List (List ℕ)) (start old new : List Step) (process number next : ℕ)
+    → IsLedger parts (record { start = start; steps = old; entries = entries; flush = flush; left = left; process = process; number = number })
+    → IsPartName part → IsSafeName name → IsFresh name entries
     → AtEachMoment (IsBeforeOrAfter part name (content_of (parts body)) flush old) old new → Holds name (content_of (parts body)) flush new
     → LeavesOnly [] old new → refusals old ≤ refusals new
-    → IsLedger parts (record { start = start; steps = new; entries = (name, body) ∷ entries; flush = flush; left = left })
-saved_on parts flush part name body entries left start old new ledger hidden safe fresh moments holds leaves grows =
+    → IsLedger parts (record { start = start; steps = new; entries = (name, body) ∷ entries; flush = flush; left = left; process = process; number = next })
+saved_on parts flush part name body entries left start old new process number next ledger hidden safe fresh moments holds leaves grows =
     let content = content_of (parts body) in
     let before = at_end (HasOnly parts flush entries start) start old ledger.since in
     let until = weaker (HasOnly parts flush ((name, body) ∷ entries) start) (HasOnly parts flush entries start) start old

@@ -8,6 +8,7 @@ use Rattle.std.proofs.lemmas.List.{append-nil}
 use Rattle.std.proofs.lemmas.Slice.Eq.{bytes_eq-Decides}
 use Rattle.mx_file_name.specs.Safe.{IsSafeName, IsPartName}
 use Rattle.mx_folder.specs.declared.errors.FolderError.{FolderError}
+use Rattle.mx_folder.specs.declared.steps.FolderCall.{FolderCall}
 use Rattle.mx_folder.specs.declared.steps.Step.{Step}
 use Rattle.mx_folder.specs.declared.steps.Step.TheVariants.{Created, Appended, Flushed, Placed, Removed, Refused}
 use Rattle.mx_folder.specs.Steps.{done, appended, refusals}
@@ -114,8 +115,8 @@ name_cases name part =
 pub gone_removed : (part : List ℕ) (old : List Step) → IsGone part (Removed part ∷ old)
 gone_removed part old found = cond-true (bytes_eq part part) None (file found old part) (same_name part)
 
-pub none_left_refused : (error : FolderError) (old new : List Step) → new ≡ Refused error ∷ old → LeavesOnly [] old new
-none_left_refused error old new e found name hidden = inl (ap (λ l. file found l name) e)
+pub none_left_refused : (asked : FolderCall) (part : List ℕ) (error : FolderError) (old new : List Step) → new ≡ Refused asked part error ∷ old → LeavesOnly [] old new
+none_left_refused asked part error old new e found name hidden = inl (ap (λ l. file found l name) e)
 
 pub leaves : (part : List ℕ) (left : Option FolderError) (old new : List Step) → IsOnlyPart part old new → (left ≡ None → IsGone part new) → LeavesOnly (left_of part left) old new
 leaves part None old new only gone found name hidden =

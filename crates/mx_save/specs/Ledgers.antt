@@ -14,13 +14,16 @@ use Rattle.mx_save.specs.declared.error.SaveError.TheVariants as error
 use Rattle.mx_save.specs.Bodies.{content_of, Holds, LeavesOnly}
 
 -- what had been done to the folder when the run began, and what has been done by now; the bodies that were saved, with their names, the
--- newest first; whether they are flushed; and the names of the parts that the folder refused to remove, the newest first
+-- newest first; whether they are flushed; the names of the parts that the folder refused to remove, the newest first; and the process for which
+-- parts are named, with the number of the next
 pub record LedgerValue (B : Type 0) : Type 0 where
   pub start : List Step
   pub steps : List Step
   pub entries : List (List ℕ × B)
   pub flush : Bool
   pub left : List (List ℕ)
+  pub process : ℕ
+  pub number : ℕ
 
 -- each name of a file holds what it held, or, whole, a body that was saved under it
 abbrev pub HasOnly : {B : Type 0} → (B → List (List ℕ)) → Bool → List (List ℕ × B) → List Step → List Step → Type 0

@@ -1,10 +1,12 @@
 //! The saves of a run.
-ghost use Rattle.std.specs.Prelude.{◌≡◌, ◌≢◌, ◌<◌, ◌≤◌, ◌+◌, false, true, [], ◌∷◌, ◌++◌, map, Ok, IsOk, IfErr, OnOk, OnErr};
-ghost use Rattle.mx_folder.specs.Steps.{refusals, done, looked};
+ghost use Rattle.std.specs.Prelude.{◌≡◌, ◌≢◌, ◌<◌, ◌≤◌, ◌+◌, false, true, [], ◌∷◌, ◌++◌, map, Ok, IsOk, IfOk, IfErr, OnOk, OnErr};
+ghost use Rattle.mx_file_name.specs.Names.{part_of};
+ghost use Rattle.mx_folder.specs.Steps.{refusals, refused_calls, done, looked};
 ghost use Rattle.mx_folder.specs.Moments.{IsLater};
 ghost use Rattle.mx_folder.specs.declared.steps.Step.TheVariants as steps;
 ghost use Rattle.mx_save.specs.Bodies.{FilesAreKept, left_of};
 ghost use Rattle.mx_save.specs.Ledgers.{LedgerValue, IsLedger, IsFresh, is_taken, left_names, most_parts};
+ghost use Rattle.mx_save.specs.Tries.{IsRefusedBy, IsRefusedOnce, IsSavedBy, next_number};
 ghost use Rattle.mx_save.specs.declared.error.SaveError.TheVariants as errors;
 
 use crate::body::Body;
@@ -41,8 +43,8 @@ struct Entry<B> {
 }
 
 /// A folder, and what a run saved in it. Contracts see what had been done to the folder when the run began, and what has been done to it
-/// by now, the newest first; the bodies that were saved, each with its name, the newest first; whether they are flushed; and the names of
-/// the parts that are left, the newest first.
+/// by now, the newest first; the bodies that were saved, each with its name, the newest first; whether they are flushed; the names of the
+/// parts that are left, the newest first; and the process for which parts are named, with the number of the next.
 ///
 /// Since the run began, each file of the folder was at each moment what it was before the run, or the whole body that was saved under its
 /// name. Each body that was saved is under its name now, and no two have the same name. The name of each part holds what it held before
@@ -73,6 +75,8 @@ impl<F: Folder, B: Body> Model for Ledger<F, B> {
       entries = map (λ e. (e.name.value, e.body.value)) l.saved;
       flush = l.flush;
       left = map (λ p. p.value) l.left;
+      process = l.process;
+      number = l.number;
     } };
 
     ghost invariant = { λ l. IsLedger B.parts (record {
@@ -81,13 +85,23 @@ impl<F: Folder, B: Body> Model for Ledger<F, B> {
       entries = map (λ e. (e.name.value, e.body.value)) l.saved;
       flush = l.flush;
       left = map (λ p. p.value) l.left;
+      process = l.process;
+      number = l.number;
     }) };
 }
 
 impl<F: Folder, B: Body> Ledger<F, B> {
     /// A run that begins: nothing was saved yet. Its parts are named for this process, and their bodies are flushed where `flush` says so.
     pub fn new(alloc: Global, process: u32, folder: F, flush: bool) -> Ledger<F, B>
-        ensures { result ≡ record { start = F.steps folder; steps = F.steps folder; entries = []; flush = flush; left = [] } }
+        ensures { result ≡ record {
+          start = F.steps folder;
+          steps = F.steps folder;
+          entries = [];
+          flush = flush;
+          left = [];
+          process = process;
+          number = 0;
+        } }
     {
         let start = Snapshot::of(&folder);
         Ledger {
@@ -113,7 +127,8 @@ impl<F: Folder, B: Body> Ledger<F, B> {
 
     // The name of the next part.
     fn next_part(&mut self) -> Result<PartName, OutOfMemory>
-        ensures { self.new ≡ self.old }
+        ensures next { self.new ≡ record self.old { number = next_number self.old.number } }
+        ensures name { IfOk result (λ name. name ≡ part_of self.old.process self.old.number) }
     {
         let number = self.number;
         self.number = number.wrapping_add(1);
@@ -144,6 +159,9 @@ impl<F: Folder, B: Body> Ledger<F, B> {
         ensures cause { IfErr result (λ u. u.error ≢ errors.OutOfMemory → refusals self.old.steps < refusals self.new.steps) }
         ensures whole { OnOk result (self.new.left ≡ self.old.left) }
         ensures left { IfErr result (λ u. self.new.left ≡ left_names u.part u.left ++ self.old.left) }
+        ensures next { (self.new.process ≡ self.old.process) × (self.new.number ≡ next_number self.old.number) }
+        ensures saved_by { OnOk result (refused_calls self.new.steps ≡ refused_calls self.old.steps) }
+        ensures refused_by { IfErr result (λ u. IsRefusedOnce self.old self.new u.error u.part u.left) }
     {
         let Ok(part) = self.next_part() else {
             return Err(Unsaved {
@@ -187,8 +205,9 @@ impl<F: Folder, B: Body> Ledger<F, B> {
     /// where something else has that name, the next number is taken, and it fails for that only once 2^32 - 1 names in a row were taken.
     /// The numbers go on from one save to the next, so all saves of a run together make one call more for each part that was there.
     ///
-    /// An error says at which call it came, and that the folder refused it, or that memory was refused. It leaves each file as it was,
-    /// and the part stays behind only where the folder refused to remove it, which the error says.
+    /// An error says at which call it came, and that the folder refused it, with its answer, or that memory was refused. Besides that call, and
+    /// the parts that were there, the folder refused none but the removal of the part. An error leaves each file as it was, and the part stays
+    /// behind only where the folder refused to remove it, which the error says.
     pub fn save(&mut self, name: &FileName, body: &B) -> Result<(), Unsaved>
         requires { IsFresh name.now self.old.entries }
         ensures saved { OnOk result (self.new.entries ≡ (name.now, body.now) ∷ self.old.entries) }
@@ -201,6 +220,8 @@ impl<F: Folder, B: Body> Ledger<F, B> {
         ensures tried { IfErr result (λ u. is_taken u.error u.left ≡ true → refusals self.old.steps + most_parts ≤ refusals self.new.steps) }
         ensures whole { OnOk result (self.new.left ≡ self.old.left) }
         ensures left { IfErr result (λ u. self.new.left ≡ left_names u.part u.left ++ self.old.left) }
+        ensures saved_by { OnOk result (IsSavedBy self.old self.new) }
+        ensures refused_by { IfErr result (λ u. IsRefusedBy self.old self.new u.error u.part u.left) }
     {
         for tried in 1..PART_TRIES {
             match self.save_once(name, body) {

@@ -1,8 +1,10 @@
 //! One body.
-ghost use Rattle.std.specs.Prelude.{◌≡◌, ◌<◌, ◌≤◌, ◌+◌, ◌*◌, ◌++◌, false, [], length, take, IfErr, IfOk, IsErr, IsSome, MatchResult, None, OnOk, OnErr};
-ghost use Rattle.mx_folder.specs.Steps.{refusals};
+ghost use Rattle.std.specs.Prelude.{◌≡◌, ◌≢◌, ◌<◌, ◌≤◌, ◌+◌, ◌*◌, ◌++◌, false, [], length, take, IfErr, IfOk, IsErr, IsSome, MatchResult, None, OnOk, OnErr};
+ghost use Rattle.mx_folder.specs.Steps.{refusals, refused_calls};
 ghost use Rattle.mx_folder.specs.Moments.{AtEachMoment};
 ghost use Rattle.mx_save.specs.Bodies.{content_of, Holds, Appends, AppendsFront, Flushes, FilesAreKept, IsGone, IsOnlyPart, IsBeforeOrAfter, LeavesOnly, left_of};
+ghost use Rattle.mx_save.specs.declared.error.SaveError.TheVariants as errors;
+ghost use Rattle.mx_save.specs.Tries.{refusal_of, refused_filling, removal_of};
 
 use crate::body::Body;
 use crate::error::{PartError, SaveError};
@@ -15,6 +17,8 @@ fn append_all<F: Folder>(folder: &mut F, part: &PartName, bytes: &[u8]) -> Resul
     ensures any_moment { AtEachMoment (IsOnlyPart part.now (F.steps folder.old)) (F.steps folder.old) (F.steps folder.new) }
     ensures grows { refusals (F.steps folder.old) ≤ refusals (F.steps folder.new) }
     ensures cause { IsErr result → refusals (F.steps folder.old) < refusals (F.steps folder.new) }
+    ensures calls { refused_calls (F.steps folder.new) ≡ refused_filling part.now result ++ refused_calls (F.steps folder.old) }
+    ensures known { IfErr result (λ e. e ≢ errors.OutOfMemory) }
 {
     let mut written = 0;
     while written < bytes.len() {
@@ -54,6 +58,9 @@ fn gather<F: Folder>(
     ensures any_moment { AtEachMoment (IsOnlyPart part.now (F.steps folder.old)) (F.steps folder.old) (F.steps folder.new) }
     ensures grows { refusals (F.steps folder.old) ≤ refusals (F.steps folder.new) }
     ensures cause { IsErr result → refusals (F.steps folder.old) < refusals (F.steps folder.new) }
+    ensures none { OnOk result (refused_calls (F.steps folder.new) ≡ refused_calls (F.steps folder.old)) }
+    ensures calls { refused_calls (F.steps folder.new) ≡ refused_filling part.now result ++ refused_calls (F.steps folder.old) }
+    ensures known { IfErr result (λ e. e ≢ errors.OutOfMemory) }
 {
     if piece.len() <= buffer.len() - held {
         return Ok(hold(buffer, held, piece));
@@ -77,6 +84,8 @@ fn append_gathered<F: Folder, B: Body>(
     ensures any_moment { AtEachMoment (IsOnlyPart part.now (F.steps folder.old)) (F.steps folder.old) (F.steps folder.new) }
     ensures grows { refusals (F.steps folder.old) ≤ refusals (F.steps folder.new) }
     ensures cause { IsErr result → refusals (F.steps folder.old) < refusals (F.steps folder.new) }
+    ensures calls { refused_calls (F.steps folder.new) ≡ refused_filling part.now result ++ refused_calls (F.steps folder.old) }
+    ensures known { IfErr result (λ e. e ≢ errors.OutOfMemory) }
 {
     let mut held = 0;
     for i in 0..body.part_count() {
@@ -99,6 +108,8 @@ fn append_parts<F: Folder, B: Body>(
     ensures any_moment { AtEachMoment (IsOnlyPart part.now (F.steps folder.old)) (F.steps folder.old) (F.steps folder.new) }
     ensures grows { refusals (F.steps folder.old) ≤ refusals (F.steps folder.new) }
     ensures cause { IsErr result → refusals (F.steps folder.old) < refusals (F.steps folder.new) }
+    ensures calls { refused_calls (F.steps folder.new) ≡ refused_filling part.now result ++ refused_calls (F.steps folder.old) }
+    ensures known { IfErr result (λ e. e ≢ errors.OutOfMemory) }
 {
     if body.part_count() > 1 {
         append_gathered(folder, part, body, buffer)
@@ -113,6 +124,8 @@ fn flush_part<F: Folder>(folder: &mut F, part: &PartName, flush: bool) -> Result
     ensures any_moment { AtEachMoment (IsOnlyPart part.now (F.steps folder.old)) (F.steps folder.old) (F.steps folder.new) }
     ensures grows { refusals (F.steps folder.old) ≤ refusals (F.steps folder.new) }
     ensures cause { IsErr result → refusals (F.steps folder.old) < refusals (F.steps folder.new) }
+    ensures calls { refused_calls (F.steps folder.new) ≡ refused_filling part.now result ++ refused_calls (F.steps folder.old) }
+    ensures known { IfErr result (λ e. e ≢ errors.OutOfMemory) }
 {
     if !flush {
         return Ok(());
@@ -136,6 +149,8 @@ fn fill_part<F: Folder, B: Body>(
     ensures any_moment { AtEachMoment (IsOnlyPart part.now (F.steps folder.old)) (F.steps folder.old) (F.steps folder.new) }
     ensures grows { refusals (F.steps folder.old) ≤ refusals (F.steps folder.new) }
     ensures cause { IsErr result → refusals (F.steps folder.old) < refusals (F.steps folder.new) }
+    ensures calls { refused_calls (F.steps folder.new) ≡ refused_filling part.now result ++ refused_calls (F.steps folder.old) }
+    ensures known { IfErr result (λ e. e ≢ errors.OutOfMemory) }
 {
     append_parts(folder, part, body, buffer)?;
     flush_part(folder, part, flush)
@@ -148,6 +163,7 @@ fn discard<F: Folder>(folder: &mut F, part: &PartName) -> Option<FolderError>
     ensures grows { refusals (F.steps folder.old) ≤ refusals (F.steps folder.new) }
     ensures gone { result ≡ None → IsGone part.now (F.steps folder.new) }
     ensures refused { IsSome result → refusals (F.steps folder.old) < refusals (F.steps folder.new) }
+    ensures calls { refused_calls (F.steps folder.new) ≡ removal_of part.now result ++ refused_calls (F.steps folder.old) }
 {
     match folder.remove(part) {
         Ok(()) => None,
@@ -161,8 +177,8 @@ fn discard<F: Folder>(folder: &mut F, part: &PartName) -> Option<FolderError>
 /// What was under that name before stays until that moment. The parts of a body that has several are gathered in the buffer for a write,
 /// as many as it has room for; it may be empty, and what it holds before and afterwards has no meaning.
 ///
-/// An error comes only where the folder refused a call. It leaves each file as it was, at each moment; the part stays behind only where
-/// the folder refused to remove it, and then the error says why.
+/// An error comes only where the folder refused the call that it names, with this answer. It leaves each file as it was, at each moment; the
+/// part stays behind only where the folder refused to remove it, and then the error says why. No other call is refused.
 pub fn save_body<F: Folder, B: Body>(
     folder: &mut F,
     part: &PartName,
@@ -180,6 +196,10 @@ pub fn save_body<F: Folder, B: Body>(
         (λ e. LeavesOnly (left_of part.now e.left) (F.steps folder.old) (F.steps folder.new)) }
     ensures grows { refusals (F.steps folder.old) ≤ refusals (F.steps folder.new) }
     ensures refused { IfErr result (λ e. refusals (F.steps folder.old) + 2 * length (left_of part.now e.left) ≤ refusals (F.steps folder.new)) }
+    ensures none { OnOk result (refused_calls (F.steps folder.new) ≡ refused_calls (F.steps folder.old)) }
+    ensures calls { IfErr result (λ e. refused_calls (F.steps folder.new)
+        ≡ (removal_of part.now e.left ++ refusal_of part.now e.error) ++ refused_calls (F.steps folder.old)) }
+    ensures known { IfErr result (λ e. e.error ≢ errors.OutOfMemory) }
 {
     // proof: what holds of both names
     part.know();

@@ -32,7 +32,8 @@ use Rattle.mx_save_book.specs.declared.finish.NotEnded.TheVariants as not_ended
 use Rattle.mx_save_book.specs.declared.job.Job.{Job}
 use Rattle.mx_save_book.specs.declared.job.Slot.{Slot}
 use Rattle.mx_save_book.specs.declared.job.Slot.TheVariants as slot
-use Rattle.mx_save_book.specs.Jobs.{AreNamed, BookValue, CanAsk, GrowsBy, GrowsFor, HandsBack, HasEnded, HasFound, HoldsOf, IsAccount, IsBook, IsFailedEnd, IsLaterLedger, IsNameAt, IsTold, IsTry, MayName, Pends, Refuses, Saves, State, is_saved, is_taken, is_told_saved, job_at, job_of, refused_end, state_of}
+use Rattle.mx_save_book.proofs.Calls.{calls_later}
+use Rattle.mx_save_book.specs.Jobs.{told_refusals, AreNamed, BookValue, CanAsk, GrowsBy, GrowsFor, HandsBack, HasEnded, HasFound, HoldsOf, IsAccount, IsBook, IsFailedEnd, IsLaterLedger, IsNameAt, IsTold, IsTry, MayName, Pends, Refuses, Saves, State, is_saved, is_taken, is_told_saved, job_at, job_of, refused_end, state_of}
 use Rattle.mx_save_book.specs.Lines.{PrintedEndValue}
 use Rattle.mx_save_book.specs.Books.{Delays, HaveEnded, IsFoundAt, LeavesSlot, WaitsAgain, delay_of, next_try}
 use Rattle.mx_save_book.proofs.Names.{all_given_more, fresh_on, given_more, given_new, given_on, is_fresh, is_new, saved_on}
@@ -133,7 +134,7 @@ refusals_step (steps.Placed part final) old = omega arith
 refusals_step (steps.Removed part) old = omega arith
 refusals_step (steps.Looked name found) old = omega arith
 refusals_step steps.FolderFlushed old = omega arith
-refusals_step (steps.Refused why) old = omega arith
+refusals_step (steps.Refused asked name why) old = omega arith
 
 refusals_more : (more old : List Step) → refusals old ≤ refusals (more ++ old)
 refusals_more [] old = omega arith
@@ -181,6 +182,7 @@ failed_on asking old new e later h =
           code = u.code;
           words = u.words;
           refused = λ known. omega (arith, u.refused known, refusals_later old.steps new.steps later.later, ap refusals later.start);
+          calls = calls_later (told_refusals u.why u.part u.left) old.steps new.steps later.later u.calls;
         }))
       ]
     ]

@@ -1,10 +1,10 @@
 -- What is reported of a URL holds, by how it ended.
 use Rattle.std.proofs.Common.{◌≡◌, ◌≢◌, ◌∙◌, refl, ap, sym, subst, ℕ, ◌<◌, ◌≤◌, List, ◌∷◌, true, inl, inr, arith}
 use Rattle.std.specs.Prelude.{Option, Some, IfOk, IfErr, Result, Ok, Err}
-use Rattle.std.specs.List.{Contains}
+use Rattle.std.specs.List.{AllByRecursion, Contains}
 use Rattle.mx_chain.specs.Outcomes.{OutcomeValue, IsOutcome}
 use Rattle.mx_folder.specs.declared.errors.FolderError.{FolderError}
-use Rattle.mx_folder.specs.Steps.{refusals}
+use Rattle.mx_folder.specs.Steps.{refusals, refused_calls}
 use Rattle.mx_save.specs.Ledgers.{LedgerValue}
 use Rattle.mx_save.specs.Words.{unsaved_text}
 use Rattle.mx_save.specs.declared.error.SaveError.{SaveError}
@@ -18,7 +18,7 @@ use Rattle.mx_save_book.specs.Bodies.{IsWholeBody}
 use Rattle.mx_save_book.specs.Framings.{TellsFraming}
 use Rattle.mx_save_book.specs.Said.{unsaved_code}
 use Rattle.mx_save_book.specs.declared.asking.Asking.{Asking}
-use Rattle.mx_save_book.specs.Jobs.{Asks, HasFound, HoldsOf, IsMadeOf, IsMadeWithWords, IsReported, IsTransferred, IsTry, Saves}
+use Rattle.mx_save_book.specs.Jobs.{Asks, HasFound, HoldsOf, IsMadeOf, IsMadeWithWords, IsReported, IsTransferred, IsTry, Saves, told_refusals}
 
 -- what is reported of an outcome
 reported : (asking : Asking) (o : OutcomeValue) (tries : ℕ) (t : Transferred) (e : EndValue) → IsTransferred o tries t → IsTry asking tries
@@ -52,9 +52,9 @@ saved_holds asking l old url file name tries t o e is named whole asked decided 
 pub unsaved_holds : (asking : Asking) (old l : LedgerValue OutcomeValue) (url : List ℕ) (tries : ℕ) (t : Transferred) (o : OutcomeValue) (why : SaveError) (part : Option (List ℕ)) (left : Option FolderError) (e : EndValue)
     → IsWholeBody o → Asks asking url o.request → IsDecision o.code o.last.request.method o.status asking.content_on_error decision.Save
     → IsTransferred o tries t → IsTry asking tries → refusals old.start ≤ refusals old.steps → l.start ≡ old.start
-    → (why ≢ unsaved.OutOfMemory → refusals old.steps < refusals l.steps)
+    → (why ≢ unsaved.OutOfMemory → refusals old.steps < refusals l.steps) → AllByRecursion (Contains (refused_calls l.steps)) (told_refusals why part left)
     → e ≡ failed_end url (unsaved_code why) t (Some (unsaved_text why part left)) → HoldsOf asking l e e.verdict
-unsaved_holds asking old l url tries t o why part left e whole asked decided told once before start cause same =
+unsaved_holds asking old l url tries t o why part left e whole asked decided told once before start cause calls same =
     subst (λ x. HoldsOf asking l x x.verdict) (sym same) (inr (inr (record {
       outcome = o;
       whole = whole;
@@ -67,6 +67,7 @@ unsaved_holds asking old l url tries t o why part left e whole asked decided tol
       code = refl;
       words = refl;
       refused = λ known. omega (arith, cause known, before, ap refusals start);
+      calls = calls;
     })))
 
 -- of a response that has nothing to save

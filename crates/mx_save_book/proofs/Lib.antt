@@ -1,5 +1,6 @@
 mod Bodies
 mod Books
+mod Calls
 mod Fails
 mod Holds
 pub mod Later

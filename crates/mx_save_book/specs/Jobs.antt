@@ -14,8 +14,9 @@ use Rattle.mx_folder.specs.declared.steps.Kind.TheVariants as kind
 use Rattle.mx_folder.specs.declared.steps.Step.{Step}
 use Rattle.mx_folder.specs.declared.steps.Step.TheVariants.{Looked}
 use Rattle.mx_folder.specs.Moments.{IsLater}
-use Rattle.mx_folder.specs.Steps.{refusals}
+use Rattle.mx_folder.specs.Steps.{refusals, refused_calls}
 use Rattle.mx_save.specs.Ledgers.{LedgerValue, IsFresh}
+use Rattle.mx_save.specs.Tries.{refusal_of, removal_of}
 use Rattle.mx_save.specs.Words.{unsaved_text}
 use Rattle.mx_save.specs.declared.error.SaveError.{SaveError}
 use Rattle.mx_save.specs.declared.error.SaveError.TheVariants as unsaved
@@ -164,8 +165,13 @@ pub record IsFailedTransfer (asking : Asking) (e : EndValue) : Type 0 where
   pub said : IsSaid outcome text
   pub words : e.error ≡ Some text
 
--- A URL that failed, since a whole body that is to be saved wasn't: the folder has refused a call since the run began, or memory was
--- refused.
+-- the calls that the folder refused, by what is said of a body that wasn't saved: the one that failed, and the removal of a part that is left
+abbrev pub told_refusals : SaveError → Option (List ℕ) → Option FolderError → List Step
+told_refusals why None left = []
+told_refusals why (Some part) left = removal_of part left ++ refusal_of part why
+
+-- A URL that failed, since a whole body that is to be saved wasn't: the folder has refused a call since the run began, and of that part the very
+-- call that the words are of, with that answer; or memory was refused.
 pub record IsUnsavedEnd (asking : Asking) (l : LedgerValue OutcomeValue) (e : EndValue) : Type 0 where
   pub outcome : OutcomeValue
   pub whole : IsWholeBody outcome
@@ -178,6 +184,7 @@ pub record IsUnsavedEnd (asking : Asking) (l : LedgerValue OutcomeValue) (e : En
   pub code : e.code ≡ unsaved_code why
   pub words : e.error ≡ Some (unsaved_text why part left)
   pub refused : why ≢ unsaved.OutOfMemory → refusals l.start < refusals l.steps
+  pub calls : AllByRecursion (Contains (refused_calls l.steps)) (told_refusals why part left)
 
 -- rule save-failures: Of each URL that failed it is said why: of a transfer what its bytes show, of a whole response that its status isn't
 -- 2xx.

@@ -2,7 +2,8 @@
 ghost use Rattle.std.specs.Prelude.{◌≡◌, ◌≢◌, ◌-◌, ◌^◌, ◌<◌, ◌≤◌, ◌∷◌, min, IfErr, IfOk, OnErr, OnOk, Some, length};
 ghost use Rattle.mx_types.specs.declared.code.Code.TheVariants as code;
 ghost use Rattle.mx_chain.specs.Outcomes.{hops_of};
-ghost use Rattle.mx_folder.specs.Steps.{refusals};
+ghost use Rattle.std.specs.List.{AllByRecursion, Contains};
+ghost use Rattle.mx_folder.specs.Steps.{refusals, refused_calls};
 ghost use Rattle.mx_save.specs.Ledgers.{IsFresh};
 ghost use Rattle.mx_save.specs.Words.{unsaved_text};
 ghost use Rattle.mx_save.specs.declared.error.SaveError.TheVariants as errors;
@@ -11,7 +12,7 @@ ghost use Rattle.mx_save_rules.specs.Decisions.{IsDecision};
 ghost use Rattle.mx_save_rules.specs.Ends.{done_end, failed_end};
 ghost use Rattle.mx_save_rules.specs.declared.decision.Decision.TheVariants as decision;
 ghost use Rattle.mx_save_book.specs.Bodies.{IsWholeBody};
-ghost use Rattle.mx_save_book.specs.Jobs.{Asks, GrowsFor, HandsBack, HoldsOf, IsLaterLedger, IsMadeOf, IsMadeWithWords, IsTransferred, IsTry, MayName};
+ghost use Rattle.mx_save_book.specs.Jobs.{Asks, GrowsFor, HandsBack, HoldsOf, IsLaterLedger, IsMadeOf, IsMadeWithWords, IsTransferred, IsTry, MayName, told_refusals};
 ghost use Rattle.mx_save_book.specs.Said.{folder_code, unsaved_code};
 ghost use Rattle.mx_save_book.specs.declared.finish.NotEnded.TheVariants as not_ended;
 
@@ -122,6 +123,7 @@ fn save_whole<F: Folder>(
     ensures whole { IsWholeBody outcome }
     ensures kept { OnErr result (ledger.new.entries ≡ ledger.old.entries) }
     ensures cause { IfErr result (λ u. u.error ≢ errors.OutOfMemory → refusals ledger.old.steps < refusals ledger.new.steps) }
+    ensures calls { IfErr result (λ u. AllByRecursion (Contains (refused_calls ledger.new.steps)) (told_refusals u.error u.part u.left)) }
     ensures since { refusals ledger.old.start ≤ refusals ledger.old.steps }
     ensures run { IsLaterLedger ledger.old ledger.new }
 {

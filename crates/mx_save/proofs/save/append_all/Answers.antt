@@ -1,6 +1,7 @@
-use Rattle.std.proofs.Common.{arith}
+use Rattle.std.proofs.Common.{◌∙◌, arith, refl}
 use Rattle.std.proofs.lemmas.List.{take_rest}
 use Rattle.mx_save.proofs.Calls.{part_at_once, part_appended, write_on, write_within, write_counted}
+use Rattle.mx_save.proofs.Tries.{write_calls}
 use Rattle.mx_save.proofs.Steps.{appends_none}
 use Rattle.mx_save.proofs.save.append_all.Goals as goal
 
@@ -12,6 +13,7 @@ loop-written-init g c =
       so_far = appends_none c.args.part.now old;
       any_moment = part_at_once c.args.part.now old;
       grows = omega arith;
+      calls = refl;
     }
 
 pub loop-written-preserved : goal.loop-written-preserved
@@ -26,6 +28,7 @@ loop-written-preserved g c =
       so_far = write_on c.append.result c.args.part.now bytes w _ (steps c.args.folder.now) (steps c.loop-written.folder) (steps c.append.new.self) inv.so_far told c.in-Ok.is (take_rest bytes w);
       any_moment = part_appended c.append.result c.args.part.now _ (steps c.args.folder.now) (steps c.loop-written.folder) (steps c.append.new.self) inv.any_moment told;
       grows = omega (arith, inv.grows, write_counted c.append.result c.args.part.now _ (steps c.loop-written.folder) (steps c.append.new.self) told c.in-Ok.is);
+      calls = write_calls c.append.result c.args.part.now _ (steps c.loop-written.folder) (steps c.append.new.self) told c.in-Ok.is ∙ inv.calls;
     }
 
 pub returns-in-Err-clause-any_moment : goal.returns-in-Err-clause-any_moment

@@ -1,5 +1,5 @@
-use Rattle.std.proofs.Common.{◌≤◌, ◌-◌, take, length}
-use Rattle.mx_folder.specs.Steps.{refusals}
+use Rattle.std.proofs.Common.{◌≡◌, ◌≤◌, ◌-◌, take, length}
+use Rattle.mx_folder.specs.Steps.{refusals, refused_calls}
 use Rattle.mx_folder.specs.Moments.{AtEachMoment}
 use Rattle.mx_save.specs.Bodies.{Appends, IsOnlyPart}
 use Rattle.mx_save.proofs.save.append_all.Given as goal
@@ -13,6 +13,7 @@ invariant-loop-written g l =
       so_far : Appends l.part (take l.written l.bytes) (steps l.fn.folder) (steps l.folder);
       any_moment : AtEachMoment (IsOnlyPart l.part (steps l.fn.folder)) (steps l.fn.folder) (steps l.folder);
       grows : refusals (steps l.fn.folder) ≤ refusals (steps l.folder);
+      calls : refused_calls (steps l.folder) ≡ refused_calls (steps l.fn.folder);
     }
 
 abbrev pub decreases-loop-written : goal.decreases-loop-written

@@ -1,4 +1,4 @@
-use Rattle.std.proofs.Common.{◌≡◌, ◌<◌, take, length, arith, rules, subst}
+use Rattle.std.proofs.Common.{◌≡◌, ◌<◌, ◌∙◌, take, length, arith, refl, rules, subst}
 use Rattle.std.proofs.Math.Seq.{take_all}
 use Rattle.std.proofs.lemmas.Result.{on_ok_weaker}
 use Rattle.mx_save.specs.Bodies.{content_of, Appends, AppendsFront}
@@ -13,6 +13,7 @@ loop-i-init g c =
       so_far = front_none c.args.part.now old;
       any_moment = part_at_once c.args.part.now old;
       grows = omega arith;
+      calls = refl;
     }
 
 pub returns-in_err-held-clause-any_moment : goal.returns-in_err-held-clause-any_moment
@@ -32,6 +33,7 @@ loop-i-preserved g c =
           (steps c.args.folder.now) (steps c.loop-i.folder) (steps c.gather.new.folder) small c.in-Some.ensures.some inv.so_far c.in_ok-held.ensures.bytes;
       any_moment = parts_join c.args.part.now (steps c.args.folder.now) (steps c.loop-i.folder) (steps c.gather.new.folder) inv.any_moment c.gather.ensures.any_moment;
       grows = omega (arith, inv.grows, c.gather.ensures.grows);
+      calls = c.in_ok-held.ensures.none ∙ inv.calls;
     }
 
 pub returns-clause-written : goal.returns-clause-written

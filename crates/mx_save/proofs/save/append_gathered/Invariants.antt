@@ -1,5 +1,5 @@
-use Rattle.std.proofs.Common.{◌≤◌, length, take}
-use Rattle.mx_folder.specs.Steps.{refusals}
+use Rattle.std.proofs.Common.{◌≡◌, ◌≤◌, length, take}
+use Rattle.mx_folder.specs.Steps.{refusals, refused_calls}
 use Rattle.mx_folder.specs.Moments.{AtEachMoment}
 use Rattle.mx_save.specs.Bodies.{content_of, AppendsFront, IsOnlyPart}
 use Rattle.mx_save.proofs.save.append_gathered.Given as goal
@@ -13,4 +13,5 @@ invariant-loop-i g l =
       so_far : AppendsFront l.part (content_of (take l.i (g.B.Body.parts l.body))) (take l.held l.buffer) (steps l.fn.folder) (steps l.folder);
       any_moment : AtEachMoment (IsOnlyPart l.part (steps l.fn.folder)) (steps l.fn.folder) (steps l.folder);
       grows : refusals (steps l.fn.folder) ≤ refusals (steps l.folder);
+      calls : refused_calls (steps l.folder) ≡ refused_calls (steps l.fn.folder);
     }

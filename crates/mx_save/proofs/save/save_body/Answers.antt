@@ -42,7 +42,7 @@ returns-in-Err-place-clause-kept g c =
     let old = steps c.args.folder.now in
     let made = part_created c.create.result part old (steps c.create.new.self) c.create.ensures in
     let filled = parts_join part old (steps c.create.new.self) (steps c.fill_part.new.folder) made c.fill_part.ensures.any_moment in
-    let refused = part_refused c.in-Err-place.error part old (steps c.fill_part.new.folder) (steps c.place.new.self) filled c.in-Err-place.ensures in
+    let refused = part_refused _ _ c.in-Err-place.error part old (steps c.fill_part.new.folder) (steps c.place.new.self) filled c.in-Err-place.ensures in
     unplaced_kept part old (steps c.discard-left-in-Err-place.new.folder) c.know.ensures (parts_join part old (steps c.place.new.self) (steps c.discard-left-in-Err-place.new.folder) refused c.discard-left-in-Err-place.ensures.any_moment)
 
 pub returns-in-Err-place-clause-any_moment : goal.returns-in-Err-place-clause-any_moment
@@ -53,7 +53,7 @@ returns-in-Err-place-clause-any_moment g c =
     let old = steps c.args.folder.now in
     let made = part_created c.create.result part old (steps c.create.new.self) c.create.ensures in
     let filled = parts_join part old (steps c.create.new.self) (steps c.fill_part.new.folder) made c.fill_part.ensures.any_moment in
-    let refused = part_refused c.in-Err-place.error part old (steps c.fill_part.new.folder) (steps c.place.new.self) filled c.in-Err-place.ensures in
+    let refused = part_refused _ _ c.in-Err-place.error part old (steps c.fill_part.new.folder) (steps c.place.new.self) filled c.in-Err-place.ensures in
     unplaced part c.args.name.now body c.args.flush old (steps c.discard-left-in-Err-place.new.folder) (parts_join part old (steps c.place.new.self) (steps c.discard-left-in-Err-place.new.folder) refused c.discard-left-in-Err-place.ensures.any_moment)
 
 pub returns-in-Ok-place-clause-any_moment : goal.returns-in-Ok-place-clause-any_moment
@@ -68,7 +68,7 @@ returns-in-Ok-place-clause-any_moment g c =
 
 pub returns-in-Err-clause-parts : goal.returns-in-Err-clause-parts
 returns-in-Err-clause-parts g c =
-    none_left_refused c.in-Err.error (g.F.Folder.steps c.args.folder.now) (g.F.Folder.steps c.create.new.self) c.in-Err.ensures
+    none_left_refused _ _ c.in-Err.error (g.F.Folder.steps c.args.folder.now) (g.F.Folder.steps c.create.new.self) c.in-Err.ensures
 
 pub returns-in-Err-fill_part-clause-parts : goal.returns-in-Err-fill_part-clause-parts
 returns-in-Err-fill_part-clause-parts g c =
@@ -89,7 +89,7 @@ returns-in-Err-place-clause-parts g c =
     let new = steps c.discard-left-in-Err-place.new.folder in
     let made = part_created c.create.result part old (steps c.create.new.self) c.create.ensures in
     let filled = parts_join part old (steps c.create.new.self) (steps c.fill_part.new.folder) made c.fill_part.ensures.any_moment in
-    let refused = part_refused c.in-Err-place.error part old (steps c.fill_part.new.folder) (steps c.place.new.self) filled c.in-Err-place.ensures in
+    let refused = part_refused _ _ c.in-Err-place.error part old (steps c.fill_part.new.folder) (steps c.place.new.self) filled c.in-Err-place.ensures in
     let gone = parts_join part old (steps c.place.new.self) new refused c.discard-left-in-Err-place.ensures.any_moment in
     leaves part c.discard-left-in-Err-place.result old new (at_end (IsOnlyPart part old) old new gone) c.discard-left-in-Err-place.ensures.gone
 

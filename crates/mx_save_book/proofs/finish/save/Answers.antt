@@ -22,7 +22,7 @@ returns-in-Err-clause-holds g c =
     if_ok _ _ c.fail.result
     (λ e same. unsaved_holds c.args.asking.now c.args.ledger.now c.save_whole.new.ledger c.args.job.url.items c.args.job.tries c.transferred-told.result c.args.outcome u.error u.part u.left e
     c.save_whole.ensures.whole c.requires.asked c.requires.decided c.transferred-told.ensures c.requires.tries c.save_whole.ensures.since c.save_whole.ensures.run.start
-    c.in-Err.ensures.cause same)
+    c.in-Err.ensures.cause c.in-Err.ensures.calls same)
     c.fail.ensures.failed
 
 pub returns-in-Err-clause-grows : goal.returns-in-Err-clause-grows

@@ -11,9 +11,9 @@ returns-clause-run g c =
     let parts = g.B.Body.parts in
     let inside = c.self.inside in
     let new = steps c.flush_folder-flushed.new.self in
-    let P : LedgerValue g.row.B.Denot → Type 0 = λ l. IsLedger parts (record { start = l.start; steps = new; entries = l.entries; flush = l.flush; left = l.left }) in
+    let P : LedgerValue g.row.B.Denot → Type 0 = λ l. IsLedger parts (record { start = l.start; steps = new; entries = l.entries; flush = l.flush; left = l.left; process = l.process; number = l.number }) in
     subst P c.self.view_is
-    (kept_on parts inside.flush _ _ [] (steps inside.start.value) (steps inside.folder) new c.self.invariant
+    (kept_on parts inside.flush _ _ [] (steps inside.start.value) (steps inside.folder) new _ _ _ c.self.invariant
     (kept_step c.flush_folder-flushed.result FolderFlushed (steps inside.folder) new c.flush_folder-flushed.ensures (λ found name safe. refl))
     (no_part c.flush_folder-flushed.result FolderFlushed (steps inside.folder) new c.flush_folder-flushed.ensures (λ found name hidden. inl refl))
     (more_refused c.flush_folder-flushed.result FolderFlushed (steps inside.folder) new c.flush_folder-flushed.ensures (omega arith)))

@@ -1,7 +1,9 @@
-use Rattle.std.proofs.Common.{◌≡◌, ◌+◌, ◌≤◌}
+use Rattle.std.proofs.Common.{◌≡◌, ℕ, ◌+◌, ◌≤◌}
 use Rattle.mx_folder.specs.Moments.{IsLater}
 use Rattle.mx_folder.specs.Steps.{refusals}
 use Rattle.mx_save.specs.Bodies.{FilesAreKept}
+use Rattle.mx_save.specs.Ledgers.{most_parts}
+use Rattle.mx_save.proofs.Tries.{AreTaken}
 use Rattle.mx_save.proofs.ledger.Ledger.save.Given as goal
 
 -- nothing was saved so far, no file was changed, and each try was refused
@@ -14,4 +16,8 @@ invariant-loop-tried g l = record {
   left : l.self.left ≡ l.fn.self.left;
   later : IsLater l.fn.self.steps l.self.steps;
   grows : refusals l.fn.self.steps + l.tried ≤ refusals l.self.steps + 1;
+  within : l.tried ≤ most_parts;
+  taken : ℕ;
+  counted : taken + 1 ≡ l.tried;
+  tries : AreTaken l.fn.self l.self taken;
 }

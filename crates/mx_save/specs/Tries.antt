@@ -1,0 +1,70 @@
+-- What the folder refuses of a save, and by which parts it is tried.
+use Rattle.std.specs.Prelude.{◌≡◌, ◌≢◌, ℕ, zero, suc, ◌+◌, ◌^◌, ◌%◌, ◌<◌, List, [], ◌∷◌, ◌++◌, Option, Some, None, Result, Ok, Err}
+use Rattle.mx_file_name.specs.Names.{part_of}
+use Rattle.mx_folder.specs.Steps.{refused_calls}
+use Rattle.mx_folder.specs.declared.errors.FolderError.{FolderError}
+use Rattle.mx_folder.specs.declared.errors.FolderError.TheVariants as why
+use Rattle.mx_folder.specs.declared.steps.FolderCall.TheVariants as call
+use Rattle.mx_folder.specs.declared.steps.Step.{Step}
+use Rattle.mx_folder.specs.declared.steps.Step.TheVariants.{Refused}
+use Rattle.mx_save.specs.declared.error.SaveError.{SaveError}
+use Rattle.mx_save.specs.declared.error.SaveError.TheVariants as error
+use Rattle.mx_save.specs.Ledgers.{LedgerValue, most_parts}
+
+-- the call of this part that was refused, by the error that is answered: with the folder's answer
+abbrev pub refusal_of : List ℕ → SaveError → List Step
+refusal_of part (error.Create e) = Refused call.Create part e ∷ []
+refusal_of part (error.Write e) = Refused call.Append part e ∷ []
+refusal_of part (error.Flush e) = Refused call.Flush part e ∷ []
+refusal_of part (error.Place e) = Refused call.Place part e ∷ []
+refusal_of part error.OutOfMemory = []
+
+-- and its removal, where that was refused
+abbrev pub removal_of : List ℕ → Option FolderError → List Step
+removal_of part None = []
+removal_of part (Some e) = Refused call.Remove part e ∷ []
+
+-- Private: all that was refused while the part was filled
+abbrev pub refused_filling : {T : Type 0} → List ℕ → Result T SaveError → List Step
+refused_filling part (Ok _) = []
+refused_filling part (Err e) = refusal_of part e
+
+-- the number after this one, and that after so many
+abbrev pub next_number : ℕ → ℕ
+next_number n = (n + 1) % 2 ^ 64
+
+abbrev pub number_after : ℕ → ℕ → ℕ
+number_after zero first = first
+number_after (suc n) first = next_number (number_after n first)
+
+-- so many parts from the first number on couldn't be made, since something had their names: the newest first
+abbrev pub taken_parts : ℕ → ℕ → ℕ → List Step
+taken_parts process first zero = []
+taken_parts process first (suc n) = Refused call.Create (part_of process (number_after n first)) why.AlreadyThere ∷ taken_parts process first n
+
+-- rule file-part-that-exists
+-- A body was tried by one part after the other, each with the next number: something had the names of all but the last, which is this one.
+-- Besides these the folder refused no call but those of the last.
+pub record AreTried {B : Type 0} (old new : LedgerValue B) (last : List ℕ) (refused : List Step) : Type 0 where
+  pub taken : ℕ
+  pub few : taken < most_parts
+  pub process : new.process ≡ old.process
+  pub number : new.number ≡ next_number (number_after taken old.number)
+  pub part : last ≡ part_of old.process (number_after taken old.number)
+  pub calls : refused_calls new.steps ≡ refused ++ (taken_parts old.process old.number taken ++ refused_calls old.steps)
+
+-- A body that was saved: by the last part.
+abbrev pub IsSavedBy : {B : Type 0} → LedgerValue B → LedgerValue B → Type 0
+IsSavedBy old new = (part : List ℕ) × AreTried old new part []
+
+-- A body that wasn't saved: the folder refused the very call that the error names, with its answer, and the removal of a part that is left;
+-- or memory for the name of the part was refused.
+abbrev pub IsRefusedBy : {B : Type 0} → LedgerValue B → LedgerValue B → SaveError → Option (List ℕ) → Option FolderError → Type 0
+IsRefusedBy old new e None left = (e ≡ error.OutOfMemory) × (left ≡ None) × (part : List ℕ) × AreTried old new part []
+IsRefusedBy old new e (Some part) left = (e ≢ error.OutOfMemory) × AreTried old new part (removal_of part left ++ refusal_of part e)
+
+-- Private: the same of one part.
+abbrev pub IsRefusedOnce : {B : Type 0} → LedgerValue B → LedgerValue B → SaveError → Option (List ℕ) → Option FolderError → Type 0
+IsRefusedOnce old new e None left = (e ≡ error.OutOfMemory) × (left ≡ None) × (refused_calls new.steps ≡ refused_calls old.steps)
+IsRefusedOnce old new e (Some part) left =
+    (e ≢ error.OutOfMemory) × (part ≡ part_of old.process old.number) × (refused_calls new.steps ≡ (removal_of part left ++ refusal_of part e) ++ refused_calls old.steps)
