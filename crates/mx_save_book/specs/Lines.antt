@@ -1,13 +1,14 @@
 -- What is printed of URLs, as they end.
-use Rattle.std.specs.Prelude.{◌≡◌, ◌≢◌, ℕ, Bool, true, false, if◌then◌else◌, List, [], ◌∷◌, ◌++◌, map, None, Option}
+use Rattle.std.specs.Prelude.{◌≡◌, ◌≢◌, ℕ, Bool, true, false, if◌then◌else◌, List, [], ◌∷◌, ◌++◌, length, map, min, count_by, sum_by, None, Some, Option}
 use Rattle.mx_run_io.specs.Ends.{Wrote, has_failed_write, is_pending}
 use Rattle.mx_run_io.specs.declared.output.Output.{Output}
 use Rattle.mx_save_rules.specs.Codes.{save_number}
-use Rattle.mx_save_rules.specs.Ends.{EndValue}
+use Rattle.mx_save_rules.specs.Ends.{EndValue, is_failure}
 use Rattle.mx_save_rules.specs.Status.{after_notes, first_of}
 use Rattle.mx_save_rules.specs.Texts.{end_line, json_line}
 use Rattle.mx_save_rules.specs.declared.status.ExitStatus.{ExitStatus}
 use Rattle.mx_save_rules.specs.declared.status.PlacedCode.{PlacedCode}
+use Rattle.mx_save_book.specs.declared.tally.Tally.{Tally}
 
 -- an end that was printed, with the place of its URL
 pub record PrintedEndValue : Type 0 where
@@ -32,12 +33,35 @@ pub record LinesValue (W : Type 0) : Type 0 where
   pub output : Output W
   pub start : Output W
   pub told : List PrintedEndValue
+  pub tally : Tally
+  pub last : Option EndValue
 
--- The output since is the text of these ends, and it is flushed; and the status is that of their codes.
+-- a count of 64 bits, which stops at the greatest
+abbrev pub counted : ℕ → ℕ
+counted n = min n 18446744073709551615
+
+-- of these ends: how many there are, how many of them are failures, and how many bytes the bodies have
+abbrev pub tally_of : List PrintedEndValue → Tally
+tally_of ts = record {
+  ended = counted (length ts);
+  failed = counted (count_by (λ t. is_failure t.end.verdict) ts);
+  bytes = counted (sum_by (λ t. t.end.length) ts);
+}
+
+-- the last of them, if there is one
+abbrev pub last_of : List PrintedEndValue → Option EndValue
+last_of [] = None
+last_of (t ∷ []) = Some t.end
+last_of (_ ∷ t ∷ ts) = last_of (t ∷ ts)
+
+-- The output since is the text of these ends, and it is flushed; the status is that of their codes; and they are counted, and the last of
+-- them is kept.
 pub record AreLines {W : Type 0} (contents : W → Option (List ℕ)) (l : LinesValue W) : Type 0 where
   pub written : has_failed_write l.output ≢ true → Wrote contents l.start l.output (text_of l.json l.told)
   pub flushed : has_failed_write l.output ≢ true → is_pending l.output ≡ false
   pub status : first_of l.status ≡ after_notes None (map note_of l.told)
+  pub tally : l.tally ≡ tally_of l.told
+  pub last : l.last ≡ last_of l.told
 
 -- nothing was printed yet
 pub record IsFreshLines {W : Type 0} (j : Bool) (o : Output W) (l : LinesValue W) : Type 0 where

@@ -1,11 +1,12 @@
 //! The URLs of a run, from their reading to their ends.
-ghost use Rattle.std.specs.Prelude.{◌≡◌, ◌≢◌, ◌+◌, ◌<◌, ◌^◌, All, ◌++◌, ◌∷◌, [], true, false, if◌then◌else◌, count_by, IfErr, IfOk, OnErr, OnOk, Some, None, IsSome, IfSome, MatchOption, MatchResult, Ok, Err, length, slice_get, slice_set};
+ghost use Rattle.std.specs.Prelude.{◌≡◌, ◌≢◌, ◌+◌, ◌<◌, ◌^◌, All, ◌++◌, ◌∷◌, [], true, false, if◌then◌else◌, count_by, IfErr, IfOk, OnErr, OnOk, Some, None, IsSome, IfSome, MatchOption, MatchResult, Ok, Err, length, option_map, slice_get, slice_set};
 ghost use Rattle.std.specs.List.{AllByRecursion};
 ghost use Rattle.mx_request.specs.Request.{IsRequest};
 ghost use Rattle.mx_save_rules.specs.Ends.{skipped_end};
 ghost use Rattle.mx_request.specs.declared.error.RequestError.TheVariants as refusal;
 ghost use Rattle.mx_save_book.specs.Jobs.{Asks, CanAsk, IsLaterLedger, IsTold, Refuses, is_taken, job_at, refused_end};
 ghost use Rattle.mx_save_book.specs.Books.{Delays, HasNoneAdded, HaveEnded, IsAdded, IsClosed, IsFoundAt, IsFreshBook, IsJobFor, IsPutBack, IsSameRun, LeavesSlot, Retries, StandsAt, WaitsAgain, awaits_at, delay_of, next_try};
+ghost use Rattle.mx_save_book.specs.Lines.{last_of, tally_of};
 ghost use Rattle.mx_save_book.specs.declared.job.Slot.TheVariants as slot;
 
 use crate::asking::Asking;
@@ -358,17 +359,23 @@ impl<F: Folder, W: Write> Book<F, W> {
     }
 
     /// How many URLs were read.
-    pub fn read(&self) -> u64 {
+    pub fn read(&self) -> u64
+        ensures { self.now.is_stopped ≡ false → result ≡ length self.now.urls }
+    {
         self.read
     }
 
-    /// How far the run is. No clause says what it counts: only what is shown to who watches depends on it.
-    pub fn tally(&self) -> Tally {
+    /// How far the run is: the counts of what was printed.
+    pub fn tally(&self) -> Tally
+        ensures { result ≡ tally_of self.now.lines.told }
+    {
         self.lines.tally()
     }
 
-    /// What was printed last, if anything was. No clause says which end it is: only what is shown to who watches depends on it.
-    pub fn last(&self) -> Option<&End> {
+    /// What was printed last, if anything was.
+    pub fn last(&self) -> Option<&End>
+        ensures { option_map (λ end. end.now) result ≡ last_of self.now.lines.told }
+    {
         self.lines.last()
     }
 

@@ -1,9 +1,9 @@
 //! What is printed of URLs, as they end.
-ghost use Rattle.std.specs.Prelude.{◌≡◌, ◌≢◌, ◌⊎◌, ◌++◌, ◌∷◌, [], true, false, map, None, OnOk, OnErr};
+ghost use Rattle.std.specs.Prelude.{◌≡◌, ◌≢◌, ◌⊎◌, ◌++◌, ◌∷◌, [], true, false, map, option_map, None, OnOk, OnErr};
 ghost use Rattle.mx_run_io.specs.Ends.{has_failed_write, is_pending, Wrote};
 ghost use Rattle.mx_save_rules.specs.Ends.{IsEnd};
 ghost use Rattle.mx_save_rules.specs.Status.{after_notes, status_of};
-ghost use Rattle.mx_save_book.specs.Lines.{note_of, line_of, AreLines, IsFreshLines};
+ghost use Rattle.mx_save_book.specs.Lines.{note_of, line_of, AreLines, IsFreshLines, last_of, tally_of};
 
 use crate::tally::Tally;
 use mx_run_io::{Output, Stop};
@@ -30,7 +30,7 @@ impl Model for PrintedEnd {
 }
 
 /// What was printed of the URLs that have ended, in the order in which they ended: a line each, or an object in JSON. Contracts see the
-/// ends, and the output before the first was printed, and now.
+/// ends, their tally and the last of them, and the output before the first was printed, and now.
 #[derive(Drop)]
 pub struct Lines<W: Write> {
     alloc: Global,
@@ -48,9 +48,9 @@ impl<W: Write> Model for Lines<W> {
 
     ghost Value = { LinesValue W };
 
-    ghost view = { λ l. record { json = l.json; status = l.status; output = l.output; start = l.start.value; told = l.told } };
+    ghost view = { λ l. record { json = l.json; status = l.status; output = l.output; start = l.start.value; told = l.told; tally = l.tally; last = l.last } };
 
-    ghost invariant = { λ l. AreLines W.contents (record { json = l.json; status = l.status; output = l.output; start = l.start.value; told = l.told }) };
+    ghost invariant = { λ l. AreLines W.contents (record { json = l.json; status = l.status; output = l.output; start = l.start.value; told = l.told; tally = l.tally; last = l.last }) };
 }
 
 // Prints a line, or an object.
@@ -147,13 +147,17 @@ impl<W: Write> Lines<W> {
         Ok(())
     }
 
-    /// The progress of the run.
-    pub fn tally(&self) -> Tally {
+    /// The progress of the run: the counts of what was printed.
+    pub fn tally(&self) -> Tally
+        ensures { result ≡ tally_of self.now.told }
+    {
         self.tally
     }
 
     /// What was printed last, if anything was.
-    pub fn last(&self) -> Option<&End> {
+    pub fn last(&self) -> Option<&End>
+        ensures { option_map (λ end. end.now) result ≡ last_of self.now.told }
+    {
         self.last.as_ref()
     }
 

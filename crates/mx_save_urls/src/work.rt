@@ -1,5 +1,5 @@
 //! The work of a run: its URLs, from their reading to their ends.
-ghost use Rattle.std.specs.Prelude.{◌≡◌, ◌++◌, ◌∷◌, [], true, false, count_by, List, IfErr, IfNone, IfOk, IfSome, IsSome, OnErr, OnOk, Some, slice_get};
+ghost use Rattle.std.specs.Prelude.{◌≡◌, ◌++◌, ◌∷◌, [], true, false, count_by, List, IfErr, IfNone, IfOk, IfSome, IsSome, OnErr, OnOk, Some, option_map, slice_get};
 ghost use Rattle.mx_request.specs.Request.{IsRequest};
 ghost use Rattle.mx_save_book.specs.Books.{HasNoneAdded, IsAdded, IsClosed, IsJobFor, IsSameRun, awaits_at};
 ghost use Rattle.mx_save_book.specs.Jobs.{is_taken, job_at};
@@ -7,6 +7,7 @@ ghost use Rattle.mx_save_book.specs.declared.job.Slot.TheVariants as slot;
 ghost use Rattle.mx_run_io.specs.declared.stop.Stop.TheVariants as stop;
 ghost use Rattle.mx_save_urls.specs.Feeds.{left, IsFed};
 ghost use Rattle.mx_save_urls.specs.Works.{AddsNone, AreBroughtOn, IsSameWork, OthersAreBroughtOn};
+ghost use Rattle.mx_save_book.specs.Lines.{last_of, tally_of};
 ghost use Rattle.mx_save_rules.specs.declared.waiting.Wait.{Wait};
 
 use crate::feed::{Ahead, Feed};
@@ -218,13 +219,17 @@ impl<'a, F: Folder, W: Write, R: Read + Drop> Work<'a, F, W, R> {
         }
     }
 
-    /// The progress of the run.
-    pub fn tally(&self) -> Tally {
+    /// The progress of the run: the counts of what was printed.
+    pub fn tally(&self) -> Tally
+        ensures { result ≡ tally_of self.now.book.lines.told }
+    {
         self.book.tally()
     }
 
     /// What was printed last, if anything was.
-    pub fn last(&self) -> Option<&End> {
+    pub fn last(&self) -> Option<&End>
+        ensures { option_map (λ end. end.now) result ≡ last_of self.now.book.lines.told }
+    {
         self.book.last()
     }
 
