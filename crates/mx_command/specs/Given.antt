@@ -1,5 +1,7 @@
 -- Which option's value each part of what a command line asks for is. A value is found by the id of its option, which is the option's name.
-use Rattle.std.specs.Prelude.{◌≡◌, ◌≢◌, ◌⊎◌, ℕ, Bool, true, false, List, [], ◌∷◌, codes, map, Option, Some, None, option_map, unwrap_or, is_some, MatchOption}
+use Rattle.std.specs.Prelude.{◌≡◌, ◌≢◌, ◌⊎◌, ℕ, ◌<◌, ◌==◌, length, Bool, true, false, List, [], ◌∷◌, codes, map, Option, Some, None, option_map, unwrap_or, is_some, MatchOption}
+use Rattle.std.specs.List.{after_first, before_first, position_or_len}
+use Rattle.std.specs.Str.{IsTrimAscii}
 use Rattle.std.specs.Str.Parse.{digits_value, without_leading_plus}
 use Rattle.clap.specs.Words.{first_value, matched_of, one_text, raw_values}
 use Rattle.clap.specs.declared.parser.matches.Found.{Found}
@@ -12,6 +14,7 @@ use Rattle.mx_command.specs.declared.asked.Asked.TheVariants as asked
 use Rattle.mx_command.specs.declared.asked.Get.{Get}
 use Rattle.mx_command.specs.declared.save.BodySource.{BodySource}
 use Rattle.mx_command.specs.declared.save.BodySource.TheVariants as body
+use Rattle.mx_command.specs.declared.save.Header.{Header}
 use Rattle.mx_command.specs.declared.save.ListSource.{ListSource}
 use Rattle.mx_command.specs.declared.save.ListSource.TheVariants.{File, Standard}
 use Rattle.mx_command.specs.declared.save.Save.{Save}
@@ -102,7 +105,21 @@ pub record IsMethodBy (text : Option (List ℕ)) (other is : Method) : Type 0 wh
   pub absent : text ≡ None → is ≡ other
   pub named : (t : List ℕ) → text ≡ Some t → (t ≡ method_name is) ⊎ (((m : Method) → t ≢ method_name m) × (is ≡ other))
 
--- What `save` is asked for, but for its header fields.
+-- The header field of a text, by RFC 9112, section 5: its name is what stands before the first colon (58), and its value what follows that,
+-- without white space around it.
+pub record IsHeaderBy (text : List ℕ) (h : Header) : Type 0 where
+  pub colon : position_or_len (λ b. b == 58) text < length text
+  pub name : h.name.now ≡ before_first (λ b. b == 58) text
+  pub value : IsTrimAscii (after_first (λ b. b == 58) text) h.value.now
+
+-- one of each text, in their order
+abbrev pub AreHeadersBy : List (List ℕ) → List Header → Type 0
+AreHeadersBy [] [] = Unit {0}
+AreHeadersBy (text ∷ texts) (h ∷ hs) = IsHeaderBy text h × AreHeadersBy texts hs
+AreHeadersBy [] (h ∷ hs) = ⊥
+AreHeadersBy (text ∷ texts) [] = ⊥
+
+-- What `save` is asked for.
 pub record IsSaveOf (given : Found) (save : Save) : Type 0 where
   pub numbers : AreNumbersOf given save.numbers
   pub flags : AreFlagsOf given save.flags
@@ -110,6 +127,7 @@ pub record IsSaveOf (given : Found) (save : Save) : Type 0 where
   pub input : IsInputOf given save.input
   pub urls : map (λ u. u.now) save.urls.items ≡ texts_of given (codes "URL")
   pub method : IsMethodBy (one_text given (codes "method")) (default_method (is_some (matched_of given (codes "data")))) save.method
+  pub headers : AreHeadersBy (texts_of given (codes "header")) save.headers.items
   pub body : IsBodyOf given save.body
   pub user_agent : option_map (λ t. t.now) save.user_agent ≡ first_value given (codes "user-agent")
 

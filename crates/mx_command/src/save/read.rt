@@ -1,8 +1,9 @@
 //! What a command line of `save` asks for.
-ghost use Rattle.std.specs.Prelude.{◌≡◌, IfOk, IfSome, codes, is_some};
+ghost use Rattle.std.specs.Prelude.{◌≡◌, IfOk, IfSome, codes, is_some, map};
 ghost use Rattle.clap.specs.Words.{found_of, matched_of, one_text};
 ghost use Rattle.mx_command.specs.Given.{AreFlagsOf, AreNumbersOf, IsProgressOf, default_method, progress_by};
-ghost use Rattle.mx_command.specs.Given.{IsBodyBy, IsBodyOf, IsInputOf, IsMethodBy, IsSaveGiven, IsSaveOf, IsSourceOf};
+ghost use Rattle.mx_command.specs.Given.{AreHeadersBy, IsBodyBy, IsBodyOf, IsHeaderBy, IsInputOf, IsMethodBy, IsSaveGiven, IsSaveOf, IsSourceOf};
+ghost use Rattle.mx_command.specs.Given.{texts_of as given_texts};
 ghost use Rattle.mx_command.specs.Saving.{AreSaveNumbers, IsSaveAsked};
 
 use crate::given::{byte_of, flag_of, options_of, texts_of, word_of};
@@ -114,7 +115,10 @@ fn method_of(save: &ArgMatches<'_>) -> Method
         .unwrap_or(default_method(save.contains_id("data")))
 }
 
-fn header_of(text: &str) -> Option<Header<'_>> {
+// The header field of a text, if it has a colon.
+fn header_of(text: &str) -> Option<Header<'_>>
+    ensures { IfSome result (IsHeaderBy text.now) }
+{
     let (name, value) = text.split_once(':')?;
     Some(Header {
         name,
@@ -126,15 +130,23 @@ fn header_of(text: &str) -> Option<Header<'_>> {
 fn headers_of<'a>(
     alloc: Global,
     save: &ArgMatches<'a>,
-) -> Result<Option<Vec<Header<'a>>>, AllocError> {
+) -> Result<Option<Vec<Header<'a>>>, AllocError>
+    ensures { IfOk result (λ o. IfSome o (λ headers. AreHeadersBy (given_texts (found_of save.now) (codes "header")) headers.items)) }
+{
+    let texts = texts_of(alloc, save, "header")?;
+    headers_by(alloc, texts.as_slice())
+}
+
+// The header fields of these texts, in their order, if each has a colon.
+fn headers_by<'a>(alloc: Global, texts: &[&'a str]) -> Result<Option<Vec<Header<'a>>>, AllocError>
+    ensures { IfOk result (λ o. IfSome o (λ headers. AreHeadersBy (map (λ t. t.now) texts.now) headers.items)) }
+{
     let mut headers = Vec::new(alloc);
-    if let Some(given) = save.get_strs("header") {
-        for text in given {
-            let Some(header) = header_of(*text) else {
-                return Ok(None);
-            };
-            headers.push(header)?;
-        }
+    for text in texts {
+        let Some(header) = header_of(*text) else {
+            return Ok(None);
+        };
+        headers.push(header)?;
     }
     Ok(Some(headers))
 }
@@ -212,8 +224,8 @@ fn read_at<'a>(
 /// Reads a command line of `save`, of which the first word is the program's name and the second `save`. An error is help that was asked
 /// for, a refusal in clap's words, or `OutOfMemory`.
 ///
-/// Its clause says that there are values under the names of the options by which each part of it is, its header fields aside; no clause says
-/// that these are those of the words.
+/// Its clause says that there are values under the names of the options by which each part of it is; no clause says that these are those of the
+/// words: clap's says so of a command none of whose arguments takes a value that begins with a hyphen, as `--data` does.
 pub fn read_save<'a>(alloc: Global, words: &'a [String]) -> Result<Save<'a>, Error>
     ensures asked { IfOk result IsSaveAsked }
     ensures given { IfOk result IsSaveGiven }
