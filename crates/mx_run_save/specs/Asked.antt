@@ -1,5 +1,5 @@
 -- What is asked of each URL, by what `save` is asked for.
-use Rattle.std.specs.Prelude.{◌≡◌, ℕ, ◌<◌, true, false, not, List, length, map, codes, Option, Some, None, option_map, if◌then◌else◌}
+use Rattle.std.specs.Prelude.{◌≡◌, ◌≢◌, ⊤, ℕ, ◌<◌, true, false, not, List, length, map, codes, Option, Some, None, option_map, if◌then◌else◌}
 use Rattle.mx_types.specs.Settings.{Field, SettingsValue}
 use Rattle.mx_request.specs.Fields.{are_fields}
 use Rattle.mx_request.specs.Request.{is_body_too_large, refusal_of}
@@ -30,6 +30,15 @@ abbrev pub IsBodyOf : Option BodySource → Option (List ℕ) → Type 0
 IsBodyOf None body = body ≡ None
 IsBodyOf (Some (Text text)) body = body ≡ Some text.now
 IsBodyOf (Some (File path)) body = (bytes : List ℕ) × (body ≡ Some bytes)
+
+-- the body is that of a file
+abbrev pub IsBodyFile : Option BodySource → Type 0
+IsBodyFile (Some (File path)) = ⊤
+IsBodyFile _ = ⊥
+
+-- no request may have what is asked for, whatever its URL
+abbrev pub IsRefusedAlways : Save → Type 0
+IsRefusedAlways save = (body : Option (List ℕ)) × IsBodyOf save.body body × (refusal_of (settings_given save body) ≢ None)
 
 -- rule save-settings: Header fields, a user agent and a body that no request may have are refused once, before anything is fetched, with 120
 -- and the option that gave them.

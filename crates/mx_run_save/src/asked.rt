@@ -2,7 +2,7 @@
 ghost use Rattle.std.specs.Prelude.{◌≡◌, ◌≢◌, ◌⊎◌, IfErr, IfOk, None, Some, map, option_map, string_bytes};
 ghost use Rattle.mx_types.specs.Settings.{field_of};
 ghost use Rattle.mx_request.specs.Request.{refusal_of};
-ghost use Rattle.mx_run_save.specs.Asked.{IsAskedBy, IsBodyOf, IsOneTooMany, field_given, option_name, refused_option, settings_given};
+ghost use Rattle.mx_run_save.specs.Asked.{IsAskedBy, IsBodyFile, IsBodyOf, IsOneTooMany, IsRefusedAlways, field_given, option_name, refused_option, settings_given};
 
 use crate::status::{OUT_OF_MEMORY, REFUSED, UNREAD};
 use crate::unbegun::tell_out_of_memory;
@@ -148,6 +148,7 @@ fn body_of<R: Files + AllocGlobal + Eprint>(
 ) -> Result<Option<Vec<u8>>, u8>
     ensures body { IfOk result (λ bytes. IsBodyOf body.entry (option_map (λ b. b.items) bytes)) }
     ensures status { IfErr result (λ status. (status ≡ UNREAD) ⊎ (status ≡ OUT_OF_MEMORY)) }
+    ensures unread { IfErr result (λ status. status ≡ UNREAD → IsBodyFile body.entry) }
 {
     match body {
         None => Ok(None),
@@ -163,6 +164,8 @@ fn body_of<R: Files + AllocGlobal + Eprint>(
 pub fn asking_of<R: Files + AllocGlobal + Eprint>(rt: &R, save: &Save<'_>) -> Result<Asking, u8>
     ensures asked { IfOk result (IsAskedBy save.now) }
     ensures status { IfErr result (λ status. (status ≡ UNREAD) ⊎ ((status ≡ REFUSED) ⊎ (status ≡ OUT_OF_MEMORY))) }
+    ensures unread { IfErr result (λ status. status ≡ UNREAD → IsBodyFile save.now.body) }
+    ensures refused { IfErr result (λ status. status ≡ REFUSED → IsRefusedAlways save.now) }
 {
     let body = body_of(rt, save.body)?;
     match settings_of(rt.alloc(), save, body) {

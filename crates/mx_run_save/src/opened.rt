@@ -1,5 +1,5 @@
 //! What a run reads its URLs from, and what it saves in.
-ghost use Rattle.std.specs.Prelude.{◌≡◌, ◌⊎◌, [], IfErr, IfOk, is_some};
+ghost use Rattle.std.specs.Prelude.{◌≡◌, ◌⊎◌, [], IfErr, IfOk, IsErr, IsSome, is_some};
 
 use crate::polled::Polled;
 use crate::status::{OUT_OF_MEMORY, UNMADE, UNREAD};
@@ -54,6 +54,7 @@ pub fn list_of<R: Files<File = File> + Input<Reader = StdinLock<'static>> + Allo
     input: Option<ListSource<'_>>,
 ) -> Result<Option<Box<UrlList<ListReader>>>, u8>
     ensures asked { IfOk result (λ list. is_some list ≡ is_some input.entry) }
+    ensures opened { IsErr result → IsSome input.entry }
     ensures status { IfErr result (λ status. (status ≡ UNREAD) ⊎ (status ≡ OUT_OF_MEMORY)) }
 {
     match input {

@@ -3,9 +3,9 @@ ghost use Rattle.std.specs.Prelude.{◌≡◌, ◌≢◌, [], IfErr, OnOk, IsErr
 ghost use Rattle.mx_command.specs.Saving.{AreSaveNumbers};
 ghost use Rattle.mx_save_urls.specs.Feeds.{list_left};
 ghost use Rattle.mx_run_save.specs.Asked.{IsAskedBy};
-ghost use Rattle.mx_run_save.specs.Runs.{EndsSave};
+ghost use Rattle.mx_run_save.specs.Runs.{EndsSave, IsUnbegunBy};
 ghost use Rattle.mx_run_save.specs.Saved.{SavesIn, TellsOfFolder, urls_of};
-ghost use Rattle.mx_run_save.specs.Status.{IsUnbegun, codes_number, stop_number};
+ghost use Rattle.mx_run_save.specs.Status.{codes_number, stop_number};
 
 use crate::asked::asking_of;
 use crate::opened::{folder_of, list_of};
@@ -135,8 +135,8 @@ fn save_aloud<
 
 // The exit status of a run that can't begin, which was told: where it is out of memory, objects are told so, too.
 fn unbegun(rt: &impl Print, save: &Save<'_>, status: u8) -> u8
-    requires { IsUnbegun status }
-    ensures { IsUnbegun result }
+    requires { IsUnbegunBy save.now status }
+    ensures { IsUnbegunBy save.now result }
 {
     if status == OUT_OF_MEMORY {
         return end_unbegun(rt, save.flags.json);
@@ -149,8 +149,9 @@ fn unbegun(rt: &impl Print, save: &Save<'_>, status: u8) -> u8
 /// shown if that is asked for, or if it is a terminal and that isn't forbidden. The answer is the exit status. The files that hold a part
 /// of a body are named for this process. It may wait.
 ///
-/// Where the run began, [`save_in`] has the promise of it, over a folder where nothing was done yet. What is printed on standard error, and
-/// which URLs a list has, is left to tests.
+/// Where the run began, [`save_in`] has the promise of it, over a folder where nothing was done yet. Where it couldn't begin, the exit status
+/// says why; but no clause says that memory was refused, or that the folder couldn't be made. What is printed on standard error, and which
+/// URLs a list has, is left to tests.
 pub fn run_save<
     R: Runtime
         + Net<Listener = TcpListener, Stream = TcpStream>

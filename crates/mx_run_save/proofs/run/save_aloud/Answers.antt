@@ -23,4 +23,4 @@ returns-in-Ok g c = inr (record {
 })
 
 pub returns-in-Err : goal.returns-in-Err
-returns-in-Err g c = inl (out_of_memory c.end_unbegun.result c.end_unbegun.ensures.any)
+returns-in-Err g c = inl (out_of_memory c.args.save.now c.end_unbegun.result c.end_unbegun.ensures.any c.end_unbegun.ensures.lines)
