@@ -19,7 +19,9 @@ fn descriptors(room: Room) -> usize {
     let workers = usize::from(room.limits.workers);
     let idle = workers * usize::from(room.limits.max_connects);
     let pairs = room.width.saturating_add(idle).saturating_add(FILES) / 2;
-    pairs.saturating_add(workers).saturating_mul(GATE_DESCRIPTORS)
+    pairs
+        .saturating_add(workers)
+        .saturating_mul(GATE_DESCRIPTORS)
 }
 
 // Whether the system gives as many descriptors as that, beside those that are open.
