@@ -43,7 +43,7 @@ def options(path, table):
 def others(path, command):
     body = re.search(rf"fn {command}<.*?\n}}\n", source(path), re.S).group(0)
     found = []
-    for part in body.split("Arg::new(alloc, ")[1:]:
+    for part in body.replace("url_arg(alloc)", 'Arg::new(alloc, "URL")').split("Arg::new(alloc, ")[1:]:
         name, text = re.match(TEXT, part), re.search(r"\.help\(" + TEXT, part)
         short, value = re.search(r"\.short\('(.)'\)", part), re.search(r"\.value_name\(" + TEXT, part)
         found.append((name.group(1), short and short.group(1), value and value.group(1), text.group(1)))
