@@ -2,8 +2,16 @@ use Rattle.std.proofs.Common.{◌∙◌, subst, sym}
 use Rattle.std.specs.Prelude.{MatchOption}
 use Rattle.mx_desk.specs.Desks.{Ends, Stays}
 use Rattle.mx_fetch.proofs.Lists.{on_ok}
-use Rattle.mx_run_get.proofs.Gets.{awaited_less}
+use Rattle.mx_run_get.proofs.Gets.{awaited_less, ended_for}
 use Rattle.mx_run_get.proofs.getting.Getting.await_one.Goals as goal
+
+pub note-requires : goal.note-requires
+note-requires g c =
+    let old = c.args.desk.now in
+    let new = c.next.new.self in
+    let e = c.in-Some.ended in
+    let ends = subst (λ o. MatchOption o (Stays old new) (λ f. Ends old new f.at f.outcome.request)) c.in-Some.is c.in_ok-ended.ensures.ended in
+    record { asked = ended_for c.args.self.now.places old.asked e.at e.outcome.request ends.added c.requires.all }
 
 pub returns-in-Some-clause-all : goal.returns-in-Some-clause-all
 returns-in-Some-clause-all g c =
