@@ -168,6 +168,7 @@ static HOSTS: [&'static str; 5] = ["good", "late", "two", "localhost", "127.0.0.
 
 static IPV6_HOSTS: [&'static str; 2] = ["localhost", "[::1]"];
 
+// rule name-no-second-lookup
 /// Whether a host without addresses is refused, after one lookup.
 fn is_refused<R: Net + Clock + AllocGlobal + Threads + Wait + Copy + Send + Sync + Drop + 'static>(
     rt: &R,

@@ -55,7 +55,7 @@ opt_told L g s = search (sendable, crosses) depth 40 fits 20000
 inside_field : (x : NamedLft) (R L : RattleType) (g : lookup.Ghosts L.Denot) → IsSync R → IsSend L → IsSync L → IsSend (Inside.the_field x R L g).row
 inside_field x R L g r s y = struct_send (shape (Inside.the_type x R L g)) (
   shr_send x.mir x.lft R r,
-  (gate_send x R r, (resolver_field L g s y, (search (sendable, crosses) depth 40, (opt_told L g s, (search (sendable, crosses) depth 40, tt))))),
+  (gate_send x R r, (resolver_field L g s y, (search (sendable, crosses) depth 40, (opt_told L g s, (search (sendable, crosses) depth 40, (search (sendable, crosses) depth 40, tt)))))),
 )
 
 pub named_send : (x : NamedLft) (R L : RattleType) (g : lookup.Ghosts L.Denot) → IsSync R → IsSend L → IsSync L → IsSend (NamedGate.the_row x R L g)

@@ -1,16 +1,17 @@
 //! A gate to the network that waits for no name.
-ghost use Rattle.std.specs.Prelude.{◌≡◌, ◌≤◌, ◌<◌, true, [], ◌∷◌, ◌++◌, length, IfOk, IfErr, IfSome};
+ghost use Rattle.std.specs.Prelude.{◌≡◌, ◌≤◌, ◌<◌, true, [], ◌∷◌, ◌++◌, length, None, Some, IfOk, IfErr};
 ghost use Rattle.mx_types.specs.Code.{is_link_code};
 ghost use Rattle.mx_names.specs.Addresses.{is_lookup_code};
+ghost use Rattle.mx_names.specs.Asked.{HasLookupCode};
 ghost use Rattle.mx_gate.specs.Said.{told, asked, opened, lacked, waited, numbered, is_stop};
 ghost use Rattle.mx_gate.specs.Gates.{next_token};
 ghost use Rattle.mx_gate.specs.Dialling.{addresses_of};
-ghost use Rattle.mx_named_gate.specs.Named.{IsToldOf, AreOf};
+ghost use Rattle.mx_named_gate.specs.Named.{IsToldOf, IsKept, IsKeptOn, IsNoted, IsTold, Hears, Asks, OpensBy, AreOf};
 
 use crate::bell::NameBell;
 use crate::waiting::Waiting;
 use mx_gate::{Gate, Said, SocketGate, SocketLink, Turn, number_of};
-use mx_names::{HostAnswer, Lookup, Resolver};
+use mx_names::{Asked, HostAnswer, Lookup, Resolver};
 use mx_request::Endpoint;
 use mx_types::{Code, History, OutOfMemory};
 use std::alloc::{AllocGlobal, Global};
@@ -19,7 +20,7 @@ use std::net::Net;
 use std::rt::Clock;
 use std::sync::Wait;
 
-// A resolver's answer on a host.
+// A resolver's answer on a host that is kept.
 #[derive(Drop)]
 struct Told<L: Lookup> {
     host: String,
@@ -29,18 +30,18 @@ struct Told<L: Lookup> {
 
 impl<L: Lookup> Model for Told<L> {
     ghost use Rattle.std.specs.Prelude.{string_bytes};
-    ghost use Rattle.mx_named_gate.specs.Named.{ToldState, IsToldOf};
+    ghost use Rattle.mx_named_gate.specs.Named.{ToldState, IsKept};
 
     ghost Value = { ToldState };
 
     ghost view = { λ t. record { host = string_bytes t.host; answer = t.answer } };
 
-    ghost invariant = { λ t. IsToldOf L.gives (string_bytes t.host) t.answer };
+    ghost invariant = { λ t. IsKept L.gives (string_bytes t.host) t.answer };
 }
 
-// The answer on this host, if there was one.
+// The answer that is kept, where it is on this host.
 fn answer_to<L: Lookup>(told: Option<Told<L>>, host: &str) -> Option<HostAnswer>
-    ensures { IfSome result (IsToldOf L.gives host.now) }
+    ensures { IsKeptOn L.gives host.now told result }
 {
     match told {
         Some(told) => told.answer_to(host),
@@ -50,9 +51,9 @@ fn answer_to<L: Lookup>(told: Option<Told<L>>, host: &str) -> Option<HostAnswer>
 
 impl<L: Lookup> Told<L> {
     // The answer, where it is on this host.
-    #[tactic(auto, using(crate::proofs::NamedLemmas::told_alike))]
+    #[tactic(auto, using(crate::proofs::NamedLemmas::kept_alike, crate::proofs::NamedLemmas::kept_elsewhere))]
     fn answer_to(self, host: &str) -> Option<HostAnswer>
-        ensures { IfSome result (IsToldOf L.gives host.now) }
+        ensures { IsKeptOn L.gives host.now (Some self) result }
     {
         if self.host.as_str() == host {
             Some(self.answer)
@@ -63,7 +64,8 @@ impl<L: Lookup> Told<L> {
 
     // What is known of the host, unless memory is refused.
     fn of(alloc: Global, host: &str, answer: HostAnswer) -> Option<Told<L>>
-        requires { IsToldOf L.gives host.now answer }
+        requires { IsKept L.gives host.now answer }
+        ensures { IsNoted host.now answer result }
     {
         match String::from_str(alloc, host) {
             Ok(host) => Some(Told {
@@ -77,7 +79,7 @@ impl<L: Lookup> Told<L> {
 }
 
 /// A gate that opens TCP connections as a `SocketGate`, and has names looked up by a resolver, so that it waits for none. Contracts see
-/// the gate within, and all that was said.
+/// the gate within, the answer that is kept, what the resolver's table was asked, and all that was said.
 ///
 /// Its `now` and `turn` have the bound `Wait` since the other methods of `Gate` need it. They take no lock, but `turn` blocks as that of
 /// the gate within.
@@ -87,6 +89,7 @@ pub struct NamedGate<'r, R, L: Lookup> {
     resolver: Resolver<L, NameBell>,
     waiting: Waiting,
     told: Option<Told<L>>,
+    asked: History<Asked>,
     said: History<Said>,
 }
 
@@ -99,12 +102,14 @@ impl<'r, R, L: Lookup + Drop> Drop for NamedGate<'r, R, L> {
             resolver,
             waiting,
             told,
+            asked,
             said,
         } = self;
         drop(gate);
         drop(resolver);
         drop(waiting);
         drop(told);
+        drop(asked);
         drop(said);
     }
 }
@@ -114,7 +119,7 @@ impl<'r, R, L: Lookup> Model for NamedGate<'r, R, L> {
 
     ghost Value = { NamedGateState };
 
-    ghost view = { λ g. record { gate = g.gate; said = g.said } };
+    ghost view = { λ g. record { gate = g.gate; kept = g.told; asked = g.asked; said = g.said } };
 }
 
 // The code of a lookup that failed.
@@ -149,7 +154,8 @@ impl<'r, R: Net + Clock + AllocGlobal + Wait, L: Lookup> NamedGate<'r, R, L> {
         gate: SocketGate<'r, R>,
         resolver: &Resolver<L, NameBell>,
     ) -> Result<NamedGate<'r, R, L>, OutOfMemory>
-        ensures { IfOk result (λ named. named.said ≡ []) }
+        ensures said { IfOk result (λ named. named.said ≡ []) }
+        ensures fresh { IfOk result (λ named. (named.kept ≡ None) × (named.asked ≡ [])) }
     {
         match listening(rt, &gate, resolver) {
             Ok(resolver) => Ok(NamedGate {
@@ -158,6 +164,7 @@ impl<'r, R: Net + Clock + AllocGlobal + Wait, L: Lookup> NamedGate<'r, R, L> {
                 resolver,
                 waiting: Waiting::new(rt.alloc()),
                 told: None,
+                asked: History::new(),
                 said: History::new(),
             }),
             Err(error) => Err(error),
@@ -166,19 +173,23 @@ impl<'r, R: Net + Clock + AllocGlobal + Wait, L: Lookup> NamedGate<'r, R, L> {
 
     // The resolver's answer on the host now.
     #[tactic(auto, using(crate::proofs::NamedLemmas::is_told))]
-    fn ask(&self, host: &str) -> HostAnswer
-        ensures { IsToldOf L.gives host.now result }
+    fn ask(&mut self, host: &str) -> HostAnswer
+        ensures told { IsTold L.gives host.now self.old.gate.latest result self.old.asked self.new.asked }
+        ensures same { self.new ≡ record self.old { asked = self.new.asked } }
     {
         let now = self.gate.latest();
         let since = self.waiting.since(host).unwrap_or(now);
         self.resolver
-            .look(self.rt, host, since, now, &mut History::new())
+            .look(self.rt, host, since, now, &mut self.asked)
     }
 
-    // The resolver's answer on the host: the last one that it gave, if that was on this host.
+    // The resolver's answer on the host: the one that is kept, if that is on this host.
+    #[tactic(auto, using(crate::proofs::NamedLemmas::hears_kept, crate::proofs::NamedLemmas::hears_anew))]
     fn answer_of(&mut self, host: &str) -> HostAnswer
+        ensures heard { Hears L.gives host.now self.old self.new result }
         ensures told { IsToldOf L.gives host.now result }
-        ensures same { self.new ≡ self.old }
+        ensures code { HasLookupCode result }
+        ensures same { self.new ≡ record self.old { kept = None; asked = self.new.asked } }
     {
         match answer_to(self.told.take(), host) {
             Some(answer) => answer,
@@ -186,9 +197,21 @@ impl<'r, R: Net + Clock + AllocGlobal + Wait, L: Lookup> NamedGate<'r, R, L> {
         }
     }
 
+    // Keeps the resolver's answer on the host.
+    fn keep(&mut self, host: &str, answer: HostAnswer)
+        requires { IsKept L.gives host.now answer }
+        ensures kept { IsNoted host.now answer self.new.kept }
+        ensures same { self.new ≡ record self.old { kept = self.new.kept } }
+    {
+        self.waiting.end(host);
+        self.told = Told::of(self.rt.alloc(), host, answer);
+    }
+
     // Asks the resolver about the host, and keeps its answer. True where there is one.
+    #[tactic(auto, using(crate::proofs::NamedLemmas::is_kept))]
     fn hear(&mut self, host: &str) -> bool
-        ensures { self.new ≡ self.old }
+        ensures asks { Asks L.gives host.now self.old self.new result }
+        ensures same { self.new ≡ record self.old { kept = self.new.kept; asked = self.new.asked } }
     {
         let answer = self.ask(host);
         if matches!(answer, HostAnswer::NotYet) {
@@ -197,11 +220,11 @@ impl<'r, R: Net + Clock + AllocGlobal + Wait, L: Lookup> NamedGate<'r, R, L> {
             let _ = self.waiting.begin(self.rt.alloc(), host, now);
             return false;
         }
-        self.waiting.end(host);
-        self.told = Told::of(self.rt.alloc(), host, answer);
+        self.keep(host, answer);
         true
     }
 
+    // rule name-no-second-lookup
     // Opens a link by the answer on the endpoint's host.
     #[tactic(auto, using(crate::proofs::NamedLemmas::are_told, crate::proofs::NamedLemmas::are_own))]
     fn begin(&mut self, endpoint: &Endpoint) -> Result<SocketLink<'r, R>, Code>
@@ -210,6 +233,7 @@ impl<'r, R: Net + Clock + AllocGlobal + Wait, L: Lookup> NamedGate<'r, R, L> {
         ensures moment { self.new.gate.latest ≡ self.old.gate.latest }
         ensures addresses { IfOk result (λ link. AreOf L.gives endpoint.now (addresses_of link.link) self.old.gate.found self.new.gate.found) }
         ensures some { IfOk result (λ link. 0 < length link.link.dialled) }
+        ensures by { OpensBy L.gives endpoint.now (λ link. addresses_of link.link) self.old self.new result }
         ensures said { self.new.said ≡ self.old.said }
     {
         match self.answer_of(endpoint.host.as_str()) {
@@ -243,10 +267,12 @@ impl<'r, R: Net + Clock + AllocGlobal + Wait, L: Lookup> Gate for NamedGate<'r, 
     }
 
     /// It can where the resolver has an answer on the host: its addresses, or why it has none. Else a lookup of it is wanted or under way,
-    /// and the resolver rings the bell of the gate where that has ended. No clause says which it answers, nor that the bell is rung.
+    /// and the resolver rings the bell of the gate where that has ended. No clause says that the bell is rung. It keeps the answer for
+    /// `open`, unless memory is refused.
     fn can_open(&mut self, endpoint: &Endpoint) -> bool
         ensures moment { self.new.gate.latest ≡ self.old.gate.latest }
-        ensures others { self.new ≡ record self.old { said = self.new.said } }
+        ensures asks { Asks L.gives endpoint.now.host self.old self.new result }
+        ensures others { self.new ≡ record self.old { kept = self.new.kept; asked = self.new.asked; said = self.new.said } }
         ensures noted { self.new.said ≡ self.old.said ++ asked endpoint.now result ∷ [] }
     {
         let can = self.hear(endpoint.host.as_str());
@@ -255,9 +281,7 @@ impl<'r, R: Net + Clock + AllocGlobal + Wait, L: Lookup> Gate for NamedGate<'r, 
     }
 
     /// Begins to connect to the addresses that the resolver gives for the host, or answers why it has none. It uses the answer that
-    /// `can_open` got just before, and else asks now; where nothing is known yet it looks the name up itself, and waits for that.
-    ///
-    /// No clause says that an error is the resolver's, or that the gate within keeps its next token on an error.
+    /// `can_open` has kept, and else asks now; where nothing is known yet, and only there, it looks the name up itself, and waits for that.
     fn open(&mut self, endpoint: &Endpoint) -> Result<SocketLink<'r, R>, Code>
         ensures fresh { IfOk result (λ link. link.history ≡ []) }
         ensures code { IfErr result (λ code. is_link_code code ≡ true) }
@@ -265,6 +289,7 @@ impl<'r, R: Net + Clock + AllocGlobal + Wait, L: Lookup> Gate for NamedGate<'r, 
         ensures token { IfOk result (λ link. link.link.token ≡ self.old.gate.next_token) }
         ensures addresses { IfOk result (λ link. AreOf L.gives endpoint.now (addresses_of link.link) self.old.gate.found self.new.gate.found) }
         ensures some { IfOk result (λ link. 0 < length link.link.dialled) }
+        ensures by { OpensBy L.gives endpoint.now (λ link. addresses_of link.link) self.old self.new result }
         ensures noted { self.new.said ≡ self.old.said ++ opened endpoint.now (numbered (λ link. link.link.token) result) ∷ [] }
     {
         let answer = self.begin(endpoint);
