@@ -7,7 +7,7 @@ ghost use Rattle.mx_crew.specs.Stops.{is_crew_stop};
 
 use crate::crew::Crew;
 use crate::gate::Common;
-use crate::post::{Post, Worked};
+use crate::slot::{Worked, WorkerSlot};
 use mx_gate::Gate;
 use mx_link::Link;
 use mx_run_io::Stop;
@@ -105,7 +105,7 @@ fn start_all<
     Ok(())
 }
 
-// Waits until a worker has started, where all threads were started. Where there is no crew, those that have started are dismissed.
+// Waits until a worker has started, where all threads were started. Where there is no crew, those that have started are stopped.
 fn stand<R: Wait>(
     rt: &R,
     crew: &Crew,
@@ -122,7 +122,7 @@ fn stand<R: Wait>(
         Err(error) => Err(error),
     };
     if stands.is_err() {
-        crew.dismiss();
+        crew.stop();
     }
     stands
 }
@@ -196,7 +196,7 @@ fn run_all<
             let started = start_all(scope, rt, common, &mut jobs, &mut handles);
             let stands = stand(rt, crew, common, started, count);
             let told = application(stands);
-            crew.dismiss();
+            crew.stop();
             drop(jobs);
             (told, done_if(stands, join_all(rt, handles, done)))
         },
@@ -220,19 +220,19 @@ fn rooms<D: Drop>(alloc: Global, count: usize) -> Result<(Vec<JoinHandle<D>>, Ve
 }
 
 // rule worker-threads, unproved: Workers on threads run at the same time.
-/// Runs a worker at each post, on a thread of its own, while the application runs on this one, once one of them has started. The application
+/// Runs a worker at each slot, on a thread of its own, while the application runs on this one, once one of them has started. The application
 /// is told that there is a crew, or why there is none: then it runs without workers. A worker whose start is refused memory tries again after
-/// 20 milliseconds. Once the application has returned the crew is dismissed. It answers what the application returned, and for each post what
+/// 20 milliseconds. Once the application has returned the crew is stopped. It answers what the application returned, and for each slot what
 /// its worker did, with its gate; all workers have ended then. Seats don't come back. It may wait.
 ///
 /// # Errors
 ///
 /// `OutOfMemory` where memory for the threads' handles, or five times for the start of each worker, was refused, and `NoThread` where a
-/// thread couldn't be started: the workers that had started are dismissed then, and have ended. Posts and gates don't come back.
+/// thread couldn't be started: the workers that had started are stopped then, and have ended. Slots and gates don't come back.
 ///
 /// Of all this the clauses say that what it answers first is what the application may return as it was told, that it counts as many workers
-/// as there were posts, and that the errors are `OutOfMemory`, `NoPoll` and `NoThread` alone, of which the application is told no other. They
-/// don't say on which thread a worker runs, that it ends, or that its gate is that of its post.
+/// as there were slots, and that the errors are `OutOfMemory`, `NoPoll` and `NoThread` alone, of which the application is told no other. They
+/// don't say on which thread a worker runs, that it ends, or that its gate is that of its slot.
 pub fn run_beside<
     'm,
     L: Link + Send,
@@ -243,21 +243,21 @@ pub fn run_beside<
 >(
     rt: &'m R,
     crew: &'m Crew,
-    posts: Vec<Post<'m, L, G>>,
+    slots: Vec<WorkerSlot<'m, L, G>>,
     application: F,
 ) -> (T, Result<Vec<Worked<G>>, Stop>)
     requires { (stands : Result Unit WhyNone) → IfErr stands (λ e. is_crew_stop e ≡ true) → F.pre application stands }
-    ensures told { MatchResult result.1 (λ worked. F.post application (Ok tt) result.0 × (vec_len worked ≡ vec_len posts.entry)) (λ e. F.post application (Err e) result.0) }
+    ensures told { MatchResult result.1 (λ worked. F.post application (Ok tt) result.0 × (vec_len worked ≡ vec_len slots.entry)) (λ e. F.post application (Err e) result.0) }
     ensures why { IfErr result.1 (λ e. is_crew_stop e ≡ true) }
 {
-    match rooms(rt.alloc(), posts.len()) {
+    match rooms(rt.alloc(), slots.len()) {
         Ok(rooms) => {
             let common = Common::new();
-            run_all(rt, crew, &common, posts, rooms, application)
+            run_all(rt, crew, &common, slots, rooms, application)
         }
         Err(error) => {
             let told = application(Err(error));
-            drop(posts);
+            drop(slots);
             (told, Err(error))
         }
     }

@@ -99,18 +99,18 @@ impl Crew {
     }
 
     /// Stops all workers: each ends once what it holds has ended.
-    pub fn dismiss(&self) {
+    pub fn stop(&self) {
         self.stop.store(true, Ordering::SeqCst);
         self.ring();
     }
 
-    /// Clears the flag that stops its workers, once those that were dismissed have ended: others may then use their gates.
-    pub fn summon(&self) {
+    /// Clears the flag that stops its workers, once those that were stopped have ended: others may then use their gates.
+    pub fn resume(&self) {
         self.stop.store(false, Ordering::SeqCst);
     }
 
-    /// Whether it is dismissed.
-    pub fn is_dismissed(&self) -> bool {
+    /// Whether it is stopped.
+    pub fn is_stopped(&self) -> bool {
         self.stop.load(Ordering::SeqCst)
     }
 
@@ -124,8 +124,8 @@ impl Crew {
         false
     }
 
-    /// The flag that stops its workers, for a gate of one's own: true once it is dismissed, until it is summoned.
-    pub fn stop(&self) -> Result<Arc<AtomicBool>, AllocError> {
+    /// The flag that stops its workers, for a gate of one's own: true once it is stopped, until it is resumed.
+    pub fn stop_flag(&self) -> Result<Arc<AtomicBool>, AllocError> {
         Arc::try_clone(&self.stop)
     }
 
@@ -137,7 +137,7 @@ impl Crew {
     ) -> Result<SocketGate<'r, R>, Stop>
         ensures why { IfErr result (λ e. is_crew_stop e ≡ true) }
     {
-        match SocketGate::starting_at(rt, self.stop()?, start) {
+        match SocketGate::starting_at(rt, self.stop_flag()?, start) {
             Ok(gate) => self.register(gate),
             Err(code) => Err(no_gate(code)),
         }

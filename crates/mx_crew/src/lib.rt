@@ -5,14 +5,14 @@ mod beside;
 mod crew;
 mod gate;
 mod opening;
-mod post;
 mod runtime;
 mod shortage;
+mod slot;
 mod starts;
 
 pub use crate::beside::run_beside;
 pub use crate::crew::{Crew, HostGate};
 pub use crate::opening::{Opened, open_one};
-pub use crate::post::{Counts, NoPosts, Post, Worked, posts};
 pub use crate::runtime::Runtime;
+pub use crate::slot::{Counts, NoWorkerSlots, Worked, WorkerSlot, worker_slots};
 pub use mx_run_io::Stop;

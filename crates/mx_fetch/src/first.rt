@@ -237,7 +237,7 @@ pub(crate) fn run_on<
 {
     let (mut gates, mut first) = (gates, first);
     for _ in rt.forever() {
-        crew.summon();
+        crew.resume();
         let (back, free) = fetch_once(rt, crew, gates, first);
         first = back;
         if !matches!(first.turned, Ok(Turned::HistoryFull)) {

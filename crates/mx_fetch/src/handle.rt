@@ -3,7 +3,7 @@ ghost use Rattle.std.specs.Prelude.{◌≡◌, All, IfOk, IsOkAnd, min, vec_len}
 ghost use Rattle.mx_fetch.specs.Handles.{IsOpenedAs};
 
 use mx_chain::Outcome;
-use mx_crew::{Crew, Worked, posts, run_beside};
+use mx_crew::{Crew, Worked, run_beside, worker_slots};
 use mx_gate::Gate;
 use mx_link::Link;
 use mx_multi::{Limits, Multi, WorkerSeat};
@@ -62,9 +62,9 @@ pub(crate) fn beside_gates<
     ensures told { (stands : _) × A.post application stands result.0 }
     ensures gates { IfOk result.1 (λ back. vec_len back ≡ min limits.workers (vec_len gates)) }
 {
-    match posts(rt.alloc(), multi, workers, gates) {
-        Ok(posts) => {
-            let (told, worked) = run_beside(rt, crew, posts, application);
+    match worker_slots(rt.alloc(), multi, workers, gates) {
+        Ok(slots) => {
+            let (told, worked) = run_beside(rt, crew, slots, application);
             (told, free(rt.alloc(), worked))
         }
         Err(refused) => {

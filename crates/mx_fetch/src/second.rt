@@ -173,7 +173,7 @@ fn fetch_once<
     ensures { F.is_back fetcher result.0 }
 {
     let Spare { crew, gates } = spare;
-    crew.summon();
+    crew.resume();
     let (fetcher, free) = fetch_opened(rt, &crew, gates, limits, fetcher);
     match free {
         Ok(gates) => (fetcher, Some(Spare { crew, gates })),

@@ -7,7 +7,7 @@ use crate::open::{Parts, open};
 use crate::play::AGAIN;
 use crate::runs::{added, work_of};
 use crate::trouble::{Trouble, holds};
-use mx_crew::{Post, Worked, posts, run_beside};
+use mx_crew::{Worked, WorkerSlot, run_beside, worker_slots};
 use mx_gate::Gate;
 use mx_journal::InfoReply;
 use mx_link::Link;
@@ -162,8 +162,8 @@ fn check_recorded<G>(worked: &[Worked<G>], plan: &Plan) -> Result<(), Trouble> {
     holds(all == 2 && most <= plan.most)
 }
 
-// Runs a worker at each post, and reads beside them.
-fn serve_posts<
+// Runs a worker at each slot, and reads beside them.
+fn serve_slots<
     'm,
     L: Link + Send,
     R: Threads + Wait + RandomSource + AllocGlobal + Clock + Sync,
@@ -171,11 +171,11 @@ fn serve_posts<
 >(
     rt: &R,
     seat: Seated<'m, Application, Queued<L>, Outcome>,
-    posts: Vec<Post<'m, L, G>>,
+    slots: Vec<WorkerSlot<'m, L, G>>,
     flags: &Flags,
     plan: &Plan,
 ) -> Result<(), Trouble> {
-    let (answers, counted) = run_beside(rt, &flags.crew, posts, move |stands| match stands {
+    let (answers, counted) = run_beside(rt, &flags.crew, slots, move |stands| match stands {
         Ok(()) => read_both(rt, seat, flags, plan),
         Err(_) => Err(Trouble::Refused),
     });
@@ -216,8 +216,8 @@ fn serve_at<
 {
     let mut seat = multi.at(seat);
     add_both(rt, &mut seat, plan)?;
-    match posts(rt.alloc(), multi, workers, gates) {
-        Ok(posts) => serve_posts(rt, seat, posts, flags, plan),
+    match worker_slots(rt.alloc(), multi, workers, gates) {
+        Ok(slots) => serve_slots(rt, seat, slots, flags, plan),
         Err(_) => Err(Trouble::NoMemory),
     }
 }

@@ -131,7 +131,7 @@ impl<'a, R: Clock + AllocGlobal> Gate for HoldingGate<'a, R> {
         ensures noted { self.new.said ≡ self.old.said ++ waited wait_ms (is_stop result) ∷ [] }
     {
         thread::sleep(self.rt, Duration::from_millis(u64::from(wait_ms.min(1))));
-        let turn = if self.flags.crew.is_dismissed() {
+        let turn = if self.flags.crew.is_stopped() {
             Turn::Stop
         } else {
             Turn::Continue

@@ -1,4 +1,4 @@
-//! A worker's post.
+//! A worker's slot.
 ghost use Rattle.std.specs.Prelude.{◌≡◌, ◌≤◌, All, IfErr, IfOk, min, vec_capacity, vec_len};
 
 use crate::beside::Job;
@@ -17,14 +17,14 @@ const START_AGAIN: u32 = 20;
 
 /// A worker's seat and its gate.
 #[derive(Drop)]
-pub struct Post<'m, L: Link, G> {
+pub struct WorkerSlot<'m, L: Link, G> {
     pub seat: Seated<'m, AtWork, Queued<L>, Outcome>,
     pub gate: G,
 }
 
-/// Memory for posts was refused: seats and gates come back.
+/// Memory for slots was refused: seats and gates come back.
 #[derive(Drop)]
-pub struct NoPosts<L: Link, G> {
+pub struct NoWorkerSlots<L: Link, G> {
     pub seats: Vec<WorkerSeat<Queued<L>, Outcome>>,
     pub gates: Vec<G>,
 }
@@ -44,46 +44,46 @@ pub struct Worked<G> {
     pub gate: G,
 }
 
-/// A post for each seat, as far as there are gates. Seats or gates left over are dropped. Where memory is refused, seats and gates are
+/// A slot for each seat, as far as there are gates. Seats or gates left over are dropped. Where memory is refused, seats and gates are
 /// handed back.
-pub fn posts<'m, L: Link, G: Gate<Link = L> + Drop>(
+pub fn worker_slots<'m, L: Link, G: Gate<Link = L> + Drop>(
     alloc: Global,
     multi: &'m Multi<Queued<L>, Outcome>,
     seats: Vec<WorkerSeat<Queued<L>, Outcome>>,
     gates: Vec<G>,
-) -> Result<Vec<Post<'m, L, G>>, NoPosts<L, G>>
+) -> Result<Vec<WorkerSlot<'m, L, G>>, NoWorkerSlots<L, G>>
     requires { All (λ s. s.of ≡ multi.now) seats.items }
-    ensures count { IfOk result (λ posts. vec_len posts ≡ min (vec_len seats) (vec_len gates)) }
+    ensures count { IfOk result (λ slots. vec_len slots ≡ min (vec_len seats) (vec_len gates)) }
     ensures back { IfErr result (λ e. (e.seats ≡ seats) × (e.gates ≡ gates)) }
 {
-    let Ok(mut posts) = Vec::with_capacity(alloc, seats.len()) else {
-        return Err(NoPosts { seats, gates });
+    let Ok(mut slots) = Vec::with_capacity(alloc, seats.len()) else {
+        return Err(NoWorkerSlots { seats, gates });
     };
     let (mut seats, mut gates) = (seats, gates);
-    fill(multi, &mut seats, &mut gates, &mut posts);
+    fill(multi, &mut seats, &mut gates, &mut slots);
     drop(seats);
     drop(gates);
-    Ok(posts)
+    Ok(slots)
 }
 
-// Makes a post of each gate, as far as there are seats: there is room for them. It owns none of these, so its exits drop none but a gate.
+// Makes a slot of each gate, as far as there are seats: there is room for them. It owns none of these, so its exits drop none but a gate.
 fn fill<'m, L: Link, G: Gate<Link = L> + Drop>(
     multi: &'m Multi<Queued<L>, Outcome>,
     seats: &mut Vec<WorkerSeat<Queued<L>, Outcome>>,
     gates: &mut Vec<G>,
-    posts: &mut Vec<Post<'m, L, G>>,
+    slots: &mut Vec<WorkerSlot<'m, L, G>>,
 )
     requires own { All (λ s. s.of ≡ multi.now) seats.old.items }
-    requires none { vec_len posts.old ≡ 0 }
-    requires room { vec_len seats.old ≤ vec_capacity posts.old }
-    ensures { vec_len posts.new ≡ min (vec_len seats.old) (vec_len gates.old) }
+    requires none { vec_len slots.old ≡ 0 }
+    requires room { vec_len seats.old ≤ vec_capacity slots.old }
+    ensures { vec_len slots.new ≡ min (vec_len seats.old) (vec_len gates.old) }
 {
     while let Some(gate) = gates.pop() {
         let Some(seat) = seats.pop() else {
             drop(gate);
             return;
         };
-        posts.push_reserved(Post {
+        slots.push_reserved(WorkerSlot {
             seat: multi.at(seat),
             gate,
         });
@@ -139,14 +139,14 @@ fn work_on<'m, L: Link, R: Wait + RandomSource + AllocGlobal, G: Gate<Link = L>>
     unreachable!()
 }
 
-impl<'m, L: Link, G: Gate<Link = L> + Drop> Job for Post<'m, L, G> {
+impl<'m, L: Link, G: Gate<Link = L> + Drop> Job for WorkerSlot<'m, L, G> {
     type Done = Worked<G>;
 
     // Works until the gate stops it, and says what it did: the gate comes back. Where memory for its start is refused, it tries again after a
     // while, and the gate tells so. It has no clause, since nobody has the seat afterwards: `run_worker` has them. Tests show that it ends only
     // where its gate stops it.
     fn work<R: Wait + RandomSource + AllocGlobal>(self, rt: &R, common: &Common) -> Worked<G> {
-        let Post { seat, gate } = self;
+        let WorkerSlot { seat, gate } = self;
         let mut gate = RunGate::new(common, gate);
         let counts = work_on(rt, seat, &mut gate);
         Worked {

@@ -2,7 +2,7 @@ use Rattle.std.proofs.Common.{◌≡◌, arith}
 use Rattle.std.specs.Prelude.{Some}
 use Rattle.std.proofs.lemmas.List.Elements.{All-pop}
 use Rattle.mx_multi.specs.Seats.{SeatView}
-use Rattle.mx_crew.proofs.post.fill.Goals as goal
+use Rattle.mx_crew.proofs.slot.fill.Goals as goal
 
 pub loop-gate-preserved : goal.loop-gate-preserved
 loop-gate-preserved g c =
