@@ -13,7 +13,7 @@ use Rattle.mx_body.specs.declared.chunked.place.ChunkedPlace.TheVariants.{Start,
 use Rattle.mx_body.specs.Chunked.{ChunkedBody, chunked_bytes, chunk_parts, IsChunked}
 use Rattle.mx_body.specs.ChunkedPlace.{sized, after_digits, in_line, expect, next_place, place_after, data_left, begun, parts_begun}
 use Rattle.mx_body.specs.Parts.{joined}
-use Rattle.mx_body.proofs.ChunkedRun.{place_after-nil, place_after-append, data_more, data_part, data_all, first_byte, parts_begun-nil, parts_begun-cons}
+use Rattle.mx_body.proofs.ChunkedRun.{place_after-nil, place_after-append, data_more, data_part, data_all, parts_begun-nil, parts_begun-cons}
 use Rattle.mx_body.proofs.ChunkedLemmas.{done_reads}
 use Rattle.mx_body.proofs.ChunkedComplete.{run_body}
 use Rattle.mx_body.proofs.ChunkedUnique.{body_unique}

@@ -1,16 +1,14 @@
 -- Bodies that were fed.
-use Rattle.std.proofs.Common.{◌≡◌, ℕ, Bool, true, false, ◌+◌, ◌-◌, ◌<◌, ◌≤◌, ◌⊎◌, inl, inr, List, [], ◌∷◌, ◌++◌, length, get_or, take, drop, refl, sym, ap, subst, ◌∙◌, arith, length-append}
+use Rattle.std.proofs.Common.{◌≡◌, ℕ, Bool, true, false, ◌+◌, ◌<◌, ◌≤◌, inr, List, [], ◌∷◌, ◌++◌, length, get_or, take, drop, refl, sym, ap, subst, ◌∙◌, arith, length-append}
 use Rattle.std.proofs.lemmas.List.{append_assoc, take_all, take_at, drop_at, take_more, length-take-le}
-use Rattle.std.proofs.lemmas.Bool.{cases_lt}
 use Rattle.std.proofs.Math.Seq.{take-add}
 use Rattle.mx_head.specs.declared.types.Framing.{Framing}
 use Rattle.mx_head.specs.declared.types.Framing.TheVariants.{Empty, Counted, Chunked, Close}
-use Rattle.mx_body.specs.declared.chunked.place.ChunkedPlace.{ChunkedPlace}
 use Rattle.mx_body.specs.declared.chunked.place.ChunkedPlace.TheVariants.{Start}
 use Rattle.mx_body.specs.ChunkedPlace.{place_after, is_settled}
 use Rattle.mx_body.proofs.ChunkedRun.{place_after-append}
 use Rattle.mx_flow.specs.Data.{data_from}
-use Rattle.mx_flow.specs.Flows.{IsBodyOf, data_so_far, content_so_far, IsNone, IsOpen, IsOpenBefore, HasState}
+use Rattle.mx_flow.specs.Flows.{IsBodyOf, content_so_far, IsOpen, IsOpenBefore, HasState}
 use Rattle.mx_flow.specs.Steps.{place_of, state_at, IsAt}
 use Rattle.mx_flow.specs.Runs.{WasGoing, run_data, HasRun}
 use Rattle.mx_flow.specs.declared.chunks.Run.{Run}

@@ -1,9 +1,8 @@
 -- The laws of bodies that come in pieces.
-use Rattle.std.proofs.Common.{◌≡◌, ℕ, suc, zero, Bool, true, false, ◌≢◌, ◌+◌, ◌-◌, ◌<◌, ◌≤◌, eqb, inl, inr, List, [], ◌∷◌, ◌++◌, length, take, drop, refl, sym, ap, subst, ◌∙◌, arith, length-append}
+use Rattle.std.proofs.Common.{◌≡◌, ℕ, suc, zero, Bool, true, false, ◌≢◌, ◌<◌, ◌≤◌, inl, List, [], ◌∷◌, ◌++◌, length, take, refl, sym, ap, subst, ◌∙◌, arith, length-append}
 use Rattle.std.proofs.lemmas.List.{append-nil, take_all}
 use Rattle.mx_head.specs.declared.types.Framing.{Framing}
 use Rattle.mx_head.specs.declared.types.Framing.TheVariants.{Empty, Counted, Chunked, Close}
-use Rattle.mx_body.specs.declared.chunked.place.ChunkedPlace.{ChunkedPlace}
 use Rattle.mx_body.specs.declared.chunked.place.ChunkedPlace.TheVariants as place
 use Rattle.mx_body.specs.Chunked.{IsChunked, chunked_bytes, EndsInLargeSize}
 use Rattle.mx_body.specs.ChunkedPlace.{place_after, is_settled, parts_begun}
@@ -16,7 +15,6 @@ use Rattle.mx_flow.specs.Flows.{IsFramed, IsBodyOf, data_so_far, content_so_far,
 use Rattle.mx_flow.specs.Steps.{place_of, state_at, IsAt, first_left}
 use Rattle.mx_flow.specs.declared.place.WidePlace.{WidePlace}
 use Rattle.mx_flow.specs.declared.place.WidePlace.TheVariants as wide
-use Rattle.mx_flow.specs.declared.flow.BodyState.{BodyState}
 use Rattle.mx_flow.specs.declared.flow.BodyState.TheVariants as state
 use Rattle.mx_flow.specs.Laws.{WholeHasAll, OnlyGrows, IsFrontOfEach}
 use Rattle.mx_flow.proofs.DataLemmas.{data_from-nil, data_from-append, data_short, whole_data}

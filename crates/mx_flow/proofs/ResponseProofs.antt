@@ -1,9 +1,8 @@
 -- Whole responses by the bodies that are handed on.
-use Rattle.std.proofs.Common.{◌≡◌, ℕ, ◌≤◌, Bool, true, List, [], ◌++◌, length, refl, sym, ap, subst, ◌∙◌, ◌+◌, arith, length-append}
-use Rattle.std.specs.Prelude.{Ok, Result}
+use Rattle.std.proofs.Common.{◌≡◌, ℕ, ◌≤◌, Bool, List, [], ◌++◌, length, refl, sym, ap, subst, ◌∙◌, arith, length-append}
+use Rattle.std.specs.Prelude.{Ok}
 use Rattle.std.proofs.lemmas.List.{append-nil}
 use Rattle.httparse.specs.Grammar.{ResponseHead, print_response}
-use Rattle.mx_types.specs.declared.code.Code.{Code}
 use Rattle.mx_types.specs.declared.method.Method.{Method}
 use Rattle.mx_head.specs.declared.types.Framing.{Framing}
 use Rattle.mx_head.specs.declared.types.Framing.TheVariants.{Empty, Counted, Chunked, Close}
@@ -11,9 +10,9 @@ use Rattle.mx_head.specs.Framing.{framing_of}
 use Rattle.mx_head.specs.Limits.{most_bytes}
 use Rattle.mx_body.specs.declared.part.Part.{Part}
 use Rattle.mx_body.specs.Chunked.{chunk_parts}
-use Rattle.mx_body.specs.Response.{IsBody, one_part, StandsAtBody, Response, IsResponse, print_heads}
+use Rattle.mx_body.specs.Response.{IsBody, one_part, StandsAtBody, print_heads}
 use Rattle.mx_body.proofs.HeadsLemmas.{body_stands, same_body}
-use Rattle.mx_flow.specs.Flows.{IsFramed, IsBodyOf, content_so_far}
+use Rattle.mx_flow.specs.Flows.{IsFramed, IsBodyOf}
 use Rattle.mx_flow.specs.Responses.{IsResponseOf, HasCome, IsFrontOfEachResponse, IsAllOfOne, MakesResponse, AreTheResponses}
 use Rattle.mx_flow.proofs.LawProofs.{is_front_of_each, whole_has_all, framed_short}
 

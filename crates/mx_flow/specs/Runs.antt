@@ -1,5 +1,5 @@
 -- Private: how far a reader of a chunked body came in a piece.
-use Rattle.std.specs.Prelude.{◌≡◌, ℕ, ◌+◌, ◌<◌, ◌≤◌, ◌⊎◌, ◌++◌, Bool, false, true, List, length, take}
+use Rattle.std.specs.Prelude.{◌≡◌, ℕ, ◌+◌, ◌<◌, ◌≤◌, ◌++◌, false, true, List, length, take}
 use Rattle.mx_body.specs.declared.chunked.place.ChunkedPlace.{ChunkedPlace}
 use Rattle.mx_body.specs.ChunkedPlace.{place_after, is_settled}
 use Rattle.mx_flow.specs.Data.{data_from}

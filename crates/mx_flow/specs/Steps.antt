@@ -1,10 +1,10 @@
 -- Private: the place in a body while more of it is to come.
-use Rattle.std.specs.Prelude.{◌≡◌, ℕ, ◌+◌, ◌<◌, ◌≤◌, ◌⊎◌, ◌++◌, Bool, false, true, List, length, take}
+use Rattle.std.specs.Prelude.{◌≡◌, ℕ, ◌+◌, ◌<◌, ◌≤◌, List, length}
 use Rattle.mx_head.specs.declared.types.Framing.{Framing}
 use Rattle.mx_head.specs.declared.types.Framing.TheVariants.{Empty, Counted, Chunked, Close}
 use Rattle.mx_body.specs.declared.chunked.place.ChunkedPlace.{ChunkedPlace}
 use Rattle.mx_body.specs.declared.chunked.place.ChunkedPlace.TheVariants as place
-use Rattle.mx_body.specs.ChunkedPlace.{place_after, is_settled}
+use Rattle.mx_body.specs.ChunkedPlace.{place_after}
 use Rattle.mx_flow.specs.Data.{data_from}
 use Rattle.mx_flow.specs.Flows.{FlowValue}
 use Rattle.mx_flow.specs.declared.place.WidePlace.{WidePlace}

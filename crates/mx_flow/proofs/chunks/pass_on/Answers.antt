@@ -1,6 +1,6 @@
-use Rattle.std.proofs.Common.{◌≡◌, ◌+◌, ◌<◌, ◌≤◌, ◌++◌, ℕ, true, false, length, take, sym, ap, subst, ◌∙◌, arith, rules}
+use Rattle.std.proofs.Common.{◌≡◌, ◌+◌, ◌++◌, ℕ, true, false, length, sym, ap, subst, ◌∙◌, arith, rules}
 use Rattle.std.proofs.lemmas.List.{append-nil, take_rest, length-drop}
-use Rattle.mx_body.specs.ChunkedPlace.{is_settled, data_left}
+use Rattle.mx_body.specs.ChunkedPlace.{is_settled}
 use Rattle.mx_body.proofs.ChunkedRun.{place_after-nil}
 use Rattle.mx_flow.specs.Steps.{place_of}
 use Rattle.mx_flow.specs.Runs.{WasGoing}

@@ -1,10 +1,10 @@
-use Rattle.std.proofs.Common.{◌≡◌, take, sym, ap, ◌∙◌, refl}
+use Rattle.std.proofs.Common.{◌≡◌, take, ap, ◌∙◌, refl}
 use Rattle.mx_head.specs.declared.types.Framing.TheVariants.{Chunked}
 use Rattle.mx_flow.specs.Flows.{FlowValue}
 use Rattle.mx_flow.specs.Steps.{place_of}
 use Rattle.mx_flow.specs.Runs.{run_data}
 use Rattle.mx_flow.specs.declared.flow.BodyState.TheVariants as state
-use Rattle.mx_flow.proofs.FedProofs.{chunks_are_fed, chunks_add, going_chunks}
+use Rattle.mx_flow.proofs.FedProofs.{chunks_are_fed, chunks_add}
 use Rattle.mx_flow.proofs.flow.Flow.feed_chunks.Goals as goal
 
 pub invariant_of-self : goal.invariant_of-self

@@ -1,4 +1,4 @@
-use Rattle.std.proofs.Common.{◌≡◌, ◌<◌, ◌+◌, take, length, sym, ap, ◌∙◌, refl, arith}
+use Rattle.std.proofs.Common.{◌≡◌, ◌<◌, take, length, ap, ◌∙◌, refl, arith}
 use Rattle.mx_head.specs.declared.types.Framing.TheVariants.{Close}
 use Rattle.mx_flow.specs.Flows.{FlowValue}
 use Rattle.mx_flow.specs.declared.flow.BodyState.TheVariants as state
