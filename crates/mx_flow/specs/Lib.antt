@@ -3,6 +3,8 @@ pub mod Data
 pub mod Flows
 pub mod Laws
 pub mod Responses
+pub mod Streams
 -- Private: what the private functions promise one another.
 pub mod Steps
 pub mod Runs
+pub mod Stages

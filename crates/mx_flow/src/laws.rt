@@ -2,6 +2,7 @@
 
 ghost use Rattle.mx_flow.specs.Laws.{WholeHasAll, OnlyGrows, IsFrontOfEach};
 ghost use Rattle.mx_flow.specs.Responses.{IsFrontOfEachResponse, IsAllOfOne, MakesResponse, AreTheResponses};
+ghost use Rattle.mx_flow.specs.Streams.{HasOneStream};
 
 /// The content of a body that has come so far is a prefix of its content, and all of it once the body is whole.
 pub fn content_comes_in_order()
@@ -17,4 +18,10 @@ pub fn content_of_responses()
     ensures all { IsAllOfOne }
     ensures makes { MakesResponse }
     ensures same { AreTheResponses }
+{}
+
+/// Two streams of one method and limit to which the same bytes came have the same heads, content and state, however the bytes were cut into
+/// pieces.
+pub fn bytes_decide()
+    ensures { HasOneStream }
 {}
